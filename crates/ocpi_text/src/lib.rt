@@ -1,0 +1,18 @@
+//! Texts, parties, moments and numbers of OCPI 2.2.1.
+#![tactic(auto)]
+
+mod ci_text;
+mod decimal;
+mod fault;
+mod free_text;
+mod moment;
+mod party;
+mod whole;
+
+pub use ci_text::CiText;
+pub use decimal::E4;
+pub use fault::TextFault;
+pub use free_text::FreeText;
+pub use moment::Moment;
+pub use party::Party;
+pub use whole::Whole;

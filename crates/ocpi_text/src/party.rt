@@ -1,0 +1,80 @@
+//! Parties (OCPI 2.2.1, Credentials: country_code and party_id).
+
+ghost use Rattle.std.specs.Prelude.{◌≡◌, ◌↔◌, ◌==◌, ◌&&◌, slice_index, length, IfOk, IsTrue, Ok, string_bytes};
+ghost use Rattle.std.specs.Str.{chars};
+ghost use Rattle.ocpi_text.specs.Fault.{Gives};
+ghost use Rattle.ocpi_text.specs.Text.{key};
+ghost use Rattle.ocpi_text.specs.Party.{party_at, is_party_shape};
+
+use crate::ci_text::{CiText, char_count};
+use crate::fault::TextFault;
+use std::alloc::{AllocError, Global};
+use std::marker::Model;
+
+/// A party, as it was spelled: a country of two characters, a stroke, and a party id of three, as `BE/BEC`.
+#[derive(Drop)]
+pub struct Party {
+    text: CiText,
+}
+
+impl Model for Party {
+    ghost use Rattle.std.specs.Prelude.{◌≡◌, List, ℕ, Ok};
+    ghost use Rattle.ocpi_text.specs.Party.{party_at};
+
+    ghost Value = { List ℕ };
+
+    ghost view = { λ p. p.text };
+
+    ghost invariant = { λ p. party_at p.text ≡ Ok p.text };
+}
+
+fn has_party_shape(text: &str) -> bool
+    ensures { result ≡ is_party_shape text.now }
+{
+    char_count(text) == 6 && text.chars().nth(2) == Some('/')
+}
+
+impl Party {
+    /// The party that a text spells. Refused are a text of another shape (`TooLong`) and one with
+    /// another character than printable ASCII (`NotPrintable`).
+    pub fn read(alloc: Global, text: &str) -> Result<Party, TextFault>
+        ensures { Gives result (party_at text.now) }
+    {
+        if !has_party_shape(text) {
+            return Err(TextFault::TooLong);
+        }
+        let text = CiText::new(alloc, text, 6)?;
+        Ok(Party { text })
+    }
+
+    /// The party's text.
+    pub fn as_str(&self) -> &str
+        ensures value { result.now ≡ self.now }
+        ensures party { party_at self.now ≡ Ok self.now }
+    {
+        self.text.as_str()
+    }
+
+    /// The party's text, which `read` takes for the same party.
+    pub fn write(&self, alloc: Global) -> Result<String, AllocError>
+        ensures value { IfOk result (λ s. string_bytes s ≡ self.now) }
+        ensures again { IfOk result (λ s. party_at (string_bytes s) ≡ Ok self.now) }
+    {
+        String::from_str(alloc, self.as_str())
+    }
+
+    /// Whether the two are the same party, compared without case.
+    pub fn is_same(&self, other: &Party) -> bool
+        ensures { IsTrue result ↔ (key self.now ≡ key other.now) }
+    {
+        self.text.is_same(&other.text)
+    }
+
+    /// An equal party.
+    pub fn copy(&self) -> Result<Party, AllocError>
+        ensures { IfOk result (λ t. t ≡ self.now) }
+    {
+        let text = self.text.copy()?;
+        Ok(Party { text })
+    }
+}
