@@ -1,5 +1,5 @@
 -- What `parse` gives for digits.
-use Rattle.std.proofs.Common.{Ok, Err, ◌≤◌, false, ◌≡◌, ℕ, ◌<◌, ◌&&◌, ◌^◌, true, List, length, Result, refl, sym, ◌∙◌, arith}
+use Rattle.std.proofs.Common.{Ok, Err, ◌≤◌, false, ◌≡◌, ℕ, ◌<◌, ◌&&◌, ◌^◌, true, List, [], ◌∷◌, get_or, length, Result, refl, sym, ◌∙◌, arith}
 use Rattle.std.specs.Prelude.{nat_le, nat_lt, decimal}
 use Rattle.std.proofs.lemmas.Fmt.{digits_decimal, digits_value-decimal, decimal_nonempty}
 use Rattle.std.specs.Char.{is_ascii_digit}
@@ -15,7 +15,7 @@ use borrow.Author.Tests.{ltb-true}
 use Rattle.ocpi_text.specs.Whole.{is_whole, whole_at}
 use Rattle.ocpi_text.specs.declared.fault.TextFault.TheVariants.{NumberTooLarge}
 
-own : IsNumeralModel (λ ds. all_ascii_digits ds ≡ true) (digits_value 10)
+pub own : IsNumeralModel (λ ds. all_ascii_digits ds ≡ true) (digits_value 10)
 own = numerals_by_value _ tells_all_ascii_digits
 
 digits_same : (s : List ℕ) → all_ascii_digits s ≡ list_all is_ascii_digit s
@@ -35,7 +35,7 @@ within s n w e le = let le2 : nat_le n 999999999999999999 ≡ true = grind (arit
 pub beyond : (s : List ℕ) → is_whole s ≡ true → 999999999999999999 < digits_value 10 s → whole_at s ≡ Err NumberTooLarge
 beyond s w gt = let le2 : nat_le (digits_value 10 s) 999999999999999999 ≡ false = grind (arith, nat_tests) in rw (w, le2) refl
 
-whole_from : (s : List ℕ) → all_ascii_digits s ≡ true → 0 < length s → is_whole s ≡ true
+pub whole_from : (s : List ℕ) → all_ascii_digits s ≡ true → 0 < length s → is_whole s ≡ true
 unfolding is_whole
 whole_from s d some = let more : nat_lt 0 (length s) ≡ true = grind (arith, nat_tests) in and_from (nat_lt 0 (length s)) (list_all is_ascii_digit s) more (sym (digits_same s) ∙ d)
 
@@ -43,3 +43,13 @@ whole_from s d some = let more : nat_lt 0 (length s) ≡ true = grind (arith, na
 pub whole_again : (n : ℕ) → n ≤ 999999999999999999 → whole_at (decimal n) ≡ Ok n
 whole_again n le =
     within (decimal n) n (whole_from (decimal n) (digits_decimal own n (omega arith)) (decimal_nonempty n (omega arith))) (sym (digits_value-decimal own n (omega arith))) le
+
+low_digit : (c : ℕ) → is_ascii_digit c ≡ true → 48 ≤ c
+low_digit c h = grind (arith, nat_tests)
+
+pub first_digit : (s : List ℕ) → is_whole s ≡ true → 48 ≤ get_or s 0 0
+unfolding is_whole
+first_digit [] w = cc
+first_digit (c ∷ s) w =
+    let digit = (and_parts (is_ascii_digit c) (list_all is_ascii_digit s) (and_parts (nat_lt 0 (length (c ∷ s))) (list_all is_ascii_digit (c ∷ s)) w).1).0 in
+    low_digit c digit

@@ -1,9 +1,9 @@
 //! Texts that are compared without case (OCPI 2.2.1, Types: CiString).
 
-ghost use Rattle.std.specs.Prelude.{◌≡◌, ◌↔◌, ◌≤◌, length, true, IfOk, Ok, IsTrue};
+ghost use Rattle.std.specs.Prelude.{◌≡◌, ◌↔◌, ◌≤◌, length, true, IfOk, Ok, IsTrue, string_bytes};
 ghost use Rattle.std.specs.Str.{chars};
 ghost use Rattle.ocpi_text.specs.Fault.{Gives};
-ghost use Rattle.ocpi_text.specs.Text.{ci_text, is_ascii_text, key};
+ghost use Rattle.ocpi_text.specs.Text.{ci_text, exact_text, is_ascii_text, key};
 
 use crate::fault::TextFault;
 use std::alloc::{AllocError, Global};
@@ -55,6 +55,26 @@ impl CiText {
         }
         let text = String::from_str(alloc, text)?;
         Ok(CiText { text })
+    }
+
+    /// The text, of exactly `count` characters. Refused are one of another length (`TooLong`) and one with
+    /// another character than printable ASCII (`NotPrintable`).
+    pub fn exact(alloc: Global, text: &str, count: usize) -> Result<CiText, TextFault>
+        ensures exact { Gives result (exact_text count text.now) }
+        ensures again { IfOk result (λ t. exact_text count t ≡ Ok t) }
+    {
+        if char_count(text) != count {
+            return Err(TextFault::TooLong);
+        }
+        CiText::new(alloc, text, count)
+    }
+
+    /// The text that a printable one is.
+    pub fn of_printable(text: String) -> CiText
+        requires { is_ascii_text (string_bytes text) ≡ true }
+        ensures { result ≡ string_bytes text }
+    {
+        CiText { text }
     }
 
     /// The text as it is spelled.

@@ -63,6 +63,7 @@ impl Moment {
     }
 
     /// The moment's text, which `read` takes for the same moment.
+    #[tactic(auto, unfolding(crate::specs::Moment::moment_text))]
     pub fn write(self, alloc: Global) -> Result<String, AllocError>
         ensures value { IfOk result (λ s. string_bytes s ≡ moment_text self) }
         ensures again { IfOk result (λ s. moment_at (string_bytes s) ≡ Ok self) }

@@ -4,7 +4,7 @@ ghost use Rattle.std.specs.Prelude.{◌≡◌, ◌↔◌, ◌==◌, ◌&&◌, sl
 ghost use Rattle.std.specs.Str.{chars};
 ghost use Rattle.ocpi_text.specs.Fault.{Gives};
 ghost use Rattle.ocpi_text.specs.Text.{key};
-ghost use Rattle.ocpi_text.specs.Party.{party_at, is_party_shape};
+ghost use Rattle.ocpi_text.specs.Party.{party_at, is_party_shape, country_at, party_id_at, country_of, party_id_of, party_of};
 
 use crate::ci_text::{CiText, char_count};
 use crate::fault::TextFault;
@@ -45,6 +45,36 @@ impl Party {
         }
         let text = CiText::new(alloc, text, 6)?;
         Ok(Party { text })
+    }
+
+    /// The party of a country and a party id.
+    pub fn join(alloc: Global, country: &CiText, party_id: &CiText) -> Result<Party, AllocError>
+        requires country { country_at country.now ≡ Ok country.now }
+        requires party_id { party_id_at party_id.now ≡ Ok party_id.now }
+        ensures { IfOk result (λ p. p ≡ party_of country.now party_id.now) }
+    {
+        let mut text = String::with_capacity(alloc, 6)?;
+        text.push_str(country.as_str())?;
+        text.push('/')?;
+        text.push_str(party_id.as_str())?;
+        let text = CiText::of_printable(text);
+        Ok(Party { text })
+    }
+
+    /// The country, of two characters.
+    pub fn country(&self) -> &str
+        ensures value { result.now ≡ country_of self.now }
+        ensures country { country_at result.now ≡ Ok result.now }
+    {
+        &self.text.as_str()[..2]
+    }
+
+    /// The party id, of three characters.
+    pub fn party_id(&self) -> &str
+        ensures value { result.now ≡ party_id_of self.now }
+        ensures party_id { party_id_at result.now ≡ Ok result.now }
+    {
+        &self.text.as_str()[3..]
     }
 
     /// The party's text.
