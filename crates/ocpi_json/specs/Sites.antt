@@ -1,0 +1,119 @@
+-- Reading the site line: each record, member by member, in the order in which faults are told
+-- (OCPI 2.2.1, Locations: Location, EVSE and Connector objects).
+use Rattle.std.specs.Prelude.{ℕ, ℤ, pos, List, [], ◌∷◌, ◌++◌, map, Bool, nat_le, int_le, ◌&&◌, Ok, Err, if◌then◌else◌}
+use Rattle.std.specs.List.{list_any}
+use Rattle.std.specs.Str.{bytes_eq}
+use Rattle.serde_json.specs.Data.{Data}
+use Rattle.serde_json.specs.Events.{items_len}
+use Rattle.ocpi_text.specs.Text.{key}
+use Rattle.ocpi_text.specs.Party.{party_at}
+use Rattle.ocpi_types.specs.Connectors.{connector_keys}
+use Rattle.ocpi_types.specs.Locations.{evse_keys, location_keys, site_evse_keys}
+use Rattle.ocpi_types.specs.declared.field.Field.{Field}
+use Rattle.ocpi_types.specs.declared.field.Field.TheVariants as field
+use Rattle.ocpi_types.specs.declared.site.Connector.{Connector}
+use Rattle.ocpi_types.specs.declared.site.Evse.{Evse}
+use Rattle.ocpi_types.specs.declared.site.Location.{Location}
+use Rattle.ocpi_types.specs.declared.site.Site.{Site}
+use Rattle.ocpi_types.specs.declared.site.SiteLine.{SiteLine}
+use Rattle.ocpi_json.specs.declared.fault.JsonFault.TheVariants.{WrongForm}
+use Rattle.ocpi_json.specs.Fault.{Read, ◌>>=◌}
+use Rattle.ocpi_json.specs.Fields.{as_record, as_text, formed, ci_in, free_in, moment_in, party_in, e4_in, record_in, list_in, each_after}
+
+-- the text stands among these
+abbrev pub is_among : List (List ℕ) → List ℕ → Bool
+is_among earlier s = list_any (λ t. bytes_eq t s) earlier
+
+-- a text whose key differs from the earlier ones
+abbrev pub new_among : Field → List (List ℕ) → List ℕ → Read (List ℕ)
+new_among f earlier s = if is_among earlier (key s) then Err (WrongForm f) else Ok s
+
+-- an id that differs from the earlier ones
+unfoldable pub new_ci_in : ℕ → Field → List (List ℕ) → Data → Read (List ℕ)
+new_ci_in max f earlier d = do
+  s ← ci_in max f d
+  new_among f earlier s
+
+-- how many elements a list has is tried before them
+abbrev pub counted : {X : Type 0} → Field → ℕ → ℕ → ℕ → Read X → Read X
+counted f least most n read = if nat_le least n && nat_le n most then read else Err (WrongForm f)
+
+unfoldable pub connector_at : List Connector → Data → Read Connector
+connector_at before d = do
+  id ← new_ci_in 36 field.Id (connector_keys before) d
+  standard ← free_in 64 field.Standard d
+  format ← free_in 64 field.Format d
+  power_type ← free_in 64 field.PowerType d
+  Ok (record { id = id; standard = standard; format = format; power_type = power_type })
+
+unfoldable pub connectors_in : Data → Read (List Connector)
+connectors_in d = do
+  items ← list_in field.Connectors d
+  counted field.Connectors 1 10 (items_len items) (each_after (λ before e. as_record field.Connectors e >>= connector_at before) [] items)
+
+-- an EVSE, beside those of earlier locations and those before it at its own
+unfoldable pub evse_at : List Location → List Evse → Data → Read Evse
+evse_at earlier before d = do
+  uid ← new_ci_in 36 field.Uid (site_evse_keys earlier ++ evse_keys before) d
+  evse_id ← ci_in 48 field.EvseId d
+  connectors ← connectors_in d
+  Ok (record { uid = uid; evse_id = evse_id; connectors = connectors })
+
+unfoldable pub evses_in : List Location → Data → Read (List Evse)
+evses_in earlier d = do
+  items ← list_in field.Evses d
+  counted field.Evses 1 1000 (items_len items) (each_after (λ before e. as_record field.Evses e >>= evse_at earlier before) [] items)
+
+unfoldable pub location_at : List Location → Data → Read Location
+location_at before d = do
+  id ← new_ci_in 36 field.Id (location_keys before) d
+  address ← free_in 45 field.Address d
+  city ← free_in 45 field.City d
+  country ← free_in 3 field.Country d
+  latitude ← free_in 10 field.Latitude d
+  longitude ← free_in 11 field.Longitude d
+  evses ← evses_in before d
+  Ok (record { id = id; address = address; city = city; country = country; latitude = latitude; longitude = longitude; evses = evses })
+
+unfoldable pub locations_in : Data → Read (List Location)
+locations_in d = do
+  items ← list_in field.Locations d
+  counted field.Locations 1 1000 (items_len items) (each_after (λ before e. as_record field.Locations e >>= location_at before) [] items)
+
+-- a price from 0.0000 to 10,000.0000
+unfoldable pub price_in : Data → Read ℤ
+price_in d = do
+  z ← e4_in field.Price d
+  if int_le (pos 0) z && int_le z (pos 100000000) then Ok z else Err (WrongForm field.Price)
+
+unfoldable pub site_at : Data → Read Site
+site_at d = do
+  currency ← free_in 3 field.Currency d
+  price ← price_in d
+  locations ← locations_in d
+  Ok (record { currency = currency; price = price; locations = locations })
+
+-- a provider, which differs from the operator and from the providers before it
+unfoldable pub provider_at : List ℕ → List (List ℕ) → Data → Read (List ℕ)
+provider_at operator before d = do
+  s ← as_text field.Providers d
+  party ← formed field.Providers (party_at s)
+  new_among field.Providers (key operator ∷ map key before) party
+
+unfoldable pub providers_in : List ℕ → Data → Read (List (List ℕ))
+providers_in operator d = do
+  items ← list_in field.Providers d
+  counted field.Providers 0 63 (items_len items) (each_after (provider_at operator) [] items)
+
+unfoldable pub site_line_at : Data → Read SiteLine
+site_line_at d = do
+  at ← moment_in field.At d
+  operator ← party_in field.Party d
+  providers ← providers_in operator d
+  inner ← record_in field.Site d
+  site ← site_at inner
+  Ok (record { at = at; parties = record { operator = operator; providers = providers }; site = site })
+
+-- a line that is no object is told as such
+unfoldable pub site_of_line : Data → Read SiteLine
+site_of_line d = as_record field.Line d >>= site_line_at
