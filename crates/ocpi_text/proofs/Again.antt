@@ -9,6 +9,7 @@ use Rattle.ocpi_text.specs.Text.{is_printable, is_free, is_ascii_text, is_free_t
 use Rattle.ocpi_text.specs.Moment.{last_moment, moment_at, moment_text}
 use Rattle.ocpi_text.specs.Decimal.{e4_limit, e4_at, e4_text}
 pub use Rattle.ocpi_text.proofs.Digits.{whole_again}
+pub use Rattle.ocpi_text.proofs.Moments.{moment_again, moment_begins}
 pub use Rattle.ocpi_text.proofs.Parties.{exact_from_parts, party_of_halves, country_passes, party_id_passes, party_passes}
 use Rattle.ocpi_text.proofs.Text.{printable_length}
 use Rattle.ocpi_text.proofs.Digits.{own, whole_from, first_digit}
@@ -47,19 +48,6 @@ decimal_first n mark small low =
     let w = whole_from (decimal n) (digits_decimal own n small) (decimal_nonempty n small) in
     let digit = first_digit (decimal n) w in
     ne_eqb _ _ (omega arith)
-
-pub moment_again : (n : ℕ) → n ≤ last_moment → moment_at (moment_text n) ≡ Ok n
-unfolding moment_at moment_text
-moment_again n le =
-    let small : n < 2 ^ 64 = omega arith in
-    let w = whole_from (decimal n) (digits_decimal own n small) (decimal_nonempty n small) in
-    let same = digits_value-decimal own n small in
-    let fits : nat_le n last_moment ≡ true = le-leb _ _ le in
-    rw (same, w, fits) refl
-
-pub moment_begins : (n : ℕ) → n ≤ last_moment → (slice_index (moment_text n) 0 == 1) ≡ false
-unfolding moment_text
-moment_begins n le = decimal_first n 1 (omega arith) (omega arith)
 
 e4_whole : (n : ℕ) → n < e4_limit → (is_whole (decimal n) && nat_lt (digits_value 10 (decimal n)) e4_limit) ≡ true
 e4_whole n less =

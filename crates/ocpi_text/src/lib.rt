@@ -1,8 +1,11 @@
 //! Texts, parties, moments and numbers of OCPI 2.2.1.
 #![tactic(auto)]
 
+mod calendar;
 mod ci_text;
+mod clock;
 mod decimal;
+mod numeral;
 mod fault;
 mod free_text;
 mod moment;
