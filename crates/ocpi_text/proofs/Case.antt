@@ -6,7 +6,6 @@ use Rattle.std.proofs.lemmas.Bool.{and_parts, and_from}
 use Rattle.std.proofs.lemmas.Bool.Decides.{nat_tests}
 use Rattle.ocpi_text.specs.Text.{is_printable, is_ascii_text, key}
 
-
 upper-lower : (x : ℕ) → to_ascii_uppercase (to_ascii_lowercase x) ≡ to_ascii_uppercase x
 upper-lower x = grind (arith, nat_tests)
 
@@ -22,9 +21,10 @@ lower-key [] = refl
 lower-key (x ∷ s) = rw (lower-upper x, lower-key s) refl
 
 pub same_key : (a b : List ℕ) → (map to_ascii_lowercase a ≡ map to_ascii_lowercase b) ↔ (key a ≡ key b)
-same_key a b =
-    (λ e. sym (key-lower a) ∙ ap key e ∙ key-lower b,
-     λ e. sym (lower-key a) ∙ ap (map to_ascii_lowercase) e ∙ lower-key b)
+same_key a b = (
+  λ e. sym (key-lower a) ∙ ap key e ∙ key-lower b,
+  λ e. sym (lower-key a) ∙ ap (map to_ascii_lowercase) e ∙ lower-key b,
+)
 
 printable_upper : (x : ℕ) → is_printable x ≡ true → is_printable (to_ascii_uppercase x) ≡ true
 printable_upper x h = grind (arith, nat_tests)

@@ -54,9 +54,9 @@ party_parts p h =
     let shape = and_parts _ _ tests.0 in
     let same = printable_chars p tests.1 in
     record {
-        printable = tests.1;
-        characters = sym (printable_length p tests.1) ∙ eqb-true _ _ shape.0;
-        stroke = ap (λ (l : List ℕ). get_or l 2 0) (sym same) ∙ eqb-true _ _ shape.1
+      printable = tests.1;
+      characters = sym (printable_length p tests.1) ∙ eqb-true _ _ shape.0;
+      stroke = ap (λ (l : List ℕ). get_or l 2 0) (sym same) ∙ eqb-true _ _ shape.1;
     }
 
 pub party_from_parts : (p : List ℕ) → is_ascii_text p ≡ true → length p ≡ 6 → get_or p 2 0 ≡ 47 → party_at p ≡ Ok p

@@ -1,6 +1,7 @@
 //! The records of OCPI 2.2.1: tokens, commands, packets, and the sites that operators configure.
 #![tactic(auto)]
 
+mod copies;
 mod field;
 mod limits;
 mod packet;
@@ -12,8 +13,8 @@ mod token;
 mod words;
 
 pub use field::Field;
-pub use packet::{Body, CommandResponse, Packet, ResponseData, StartSession};
 pub use limits::RefusalCode;
+pub use packet::{Body, CommandResponse, Packet, ResponseData, StartSession};
 pub use parties::Parties;
 pub use price::PricePerKwh;
 pub use site::{Connector, Connectors, Evse, Evses, Location, Locations, Site, SiteLine};

@@ -3,6 +3,7 @@
 
 ghost use Rattle.std.specs.Prelude.{◌≡◌, IfOk};
 
+use crate::copies::{ListItem, copy_all};
 use crate::parties::Parties;
 use crate::price::PricePerKwh;
 use crate::texts::{Ci, Free};
@@ -17,6 +18,12 @@ pub struct Connector {
     pub standard: Free<64>,
     pub format: Free<64>,
     pub power_type: Free<64>,
+}
+
+impl ListItem for Connector {
+    fn item_copy(&self) -> Result<Connector, AllocError> {
+        self.copy()
+    }
 }
 
 impl Connector {
@@ -74,10 +81,7 @@ impl Connectors {
     pub fn copy(&self) -> Result<Connectors, AllocError>
         ensures { IfOk result (λ t. t ≡ self.now) }
     {
-        let mut items = Vec::new(*self.items.allocator());
-        for connector in &self.items {
-            items.push(connector.copy()?)?;
-        }
+        let items = copy_all(*self.items.allocator(), self.items.as_slice())?;
         Ok(Connectors { items })
     }
 }
@@ -88,6 +92,12 @@ pub struct Evse {
     pub uid: Ci<36>,
     pub evse_id: Ci<48>,
     pub connectors: Connectors,
+}
+
+impl ListItem for Evse {
+    fn item_copy(&self) -> Result<Evse, AllocError> {
+        self.copy()
+    }
 }
 
 impl Evse {
@@ -145,10 +155,7 @@ impl Evses {
     pub fn copy(&self) -> Result<Evses, AllocError>
         ensures { IfOk result (λ t. t ≡ self.now) }
     {
-        let mut items = Vec::new(*self.items.allocator());
-        for evse in &self.items {
-            items.push(evse.copy()?)?;
-        }
+        let items = copy_all(*self.items.allocator(), self.items.as_slice())?;
         Ok(Evses { items })
     }
 }
@@ -163,6 +170,12 @@ pub struct Location {
     pub latitude: Free<10>,
     pub longitude: Free<11>,
     pub evses: Evses,
+}
+
+impl ListItem for Location {
+    fn item_copy(&self) -> Result<Location, AllocError> {
+        self.copy()
+    }
 }
 
 impl Location {
@@ -224,10 +237,7 @@ impl Locations {
     pub fn copy(&self) -> Result<Locations, AllocError>
         ensures { IfOk result (λ t. t ≡ self.now) }
     {
-        let mut items = Vec::new(*self.items.allocator());
-        for location in &self.items {
-            items.push(location.copy()?)?;
-        }
+        let items = copy_all(*self.items.allocator(), self.items.as_slice())?;
         Ok(Locations { items })
     }
 }

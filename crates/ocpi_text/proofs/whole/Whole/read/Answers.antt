@@ -17,11 +17,11 @@ returns-in_default c =
     let s = c.args.text.now in
     let is : is_whole s ≡ true = grind arith in
     elim c.in_default.branch [
-      in_default-via-in-Ok+else-number-le-MAX w ↦
-        let p = OkIff-at_ok _ _ _ _ (parsed s c.parse.result c.parse.ensures.value.0 is) w.in-Ok.is in
-        beyond s is (omega (arith, p.1))
-    | in_default-via-in_default w ↦
-        let no = OkIff-at_err _ _ _ _ (parsed s c.parse.result c.parse.ensures.value.0 is) w.in_default.is in
-        let some = has_digits s is in
-        beyond s is (omega (arith, λ (h : digits_value 10 s < 18446744073709551616). no (some, h)))
+      | in_default-via-in-Ok+else-number-le-MAX w ↦
+          let p = OkIff-at_ok _ _ _ _ (parsed s c.parse.result c.parse.ensures.value.0 is) w.in-Ok.is in
+          beyond s is (omega (arith, p.1))
+      | in_default-via-in_default w ↦
+          let no = OkIff-at_err _ _ _ _ (parsed s c.parse.result c.parse.ensures.value.0 is) w.in_default.is in
+          let some = has_digits s is in
+          beyond s is (omega (arith, λ (h : digits_value 10 s < 18446744073709551616). no (some, h)))
     ]
