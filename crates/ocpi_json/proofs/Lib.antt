@@ -1,5 +1,5 @@
+pub mod Again
+pub mod Gets
 pub mod Members
 pub mod Numbers
 pub mod Shape
-pub mod Gets
-pub mod Again

@@ -1,8 +1,7 @@
 -- Trees whose numbers are tagged texts, as writers make them: none of this depends on the order of members.
-use Rattle.std.proofs.Common.{◌≡◌, ℕ, ◌≤◌, suc, List, [], ◌∷◌, Bool, true, false, Option, Some, None, Ordering, Less, Equal, Greater, nat_cmp, refl, arith}
+use Rattle.std.proofs.Common.{◌≡◌, ℕ, ◌≤◌, suc, List, [], ◌∷◌, Bool, false, Option, Some, None, Ordering, Less, Equal, Greater, nat_cmp, refl, arith}
 use Rattle.std.specs.Cmp.Lexicographic.{slice_cmp}
 use Rattle.std.specs.Ordering.{match_ordering}
-use Rattle.std.specs.Prelude.{◌==◌}
 use Rattle.std.proofs.lemmas.Bool.{or_parts}
 use Rattle.serde_json.specs.Data.{Data, boolean, string, object, Members, no_members, member, put, depth, members_depth}
 use Rattle.serde_json.specs.Written.{has_float, members_have_float}

@@ -1,11 +1,10 @@
 -- The tree of a packet has its numbers behind the tag alone, no float, and four levels at most.
-use Rattle.std.proofs.Common.{◌≡◌, ℕ, ◌<◌, ◌≤◌, ◌^◌, List, false, Option, Some, None, Ok, decimal, refl, arith}
-use Rattle.serde_json.specs.Data.{Data, string, boolean, object, no_members, depth}
+use Rattle.std.proofs.Common.{◌≡◌, ℕ, ◌≤◌, List, false, Option, Some, None, Ok, decimal, refl, arith}
+use Rattle.serde_json.specs.Data.{string, depth}
 use Rattle.serde_json.specs.Read.{max_depth}
 use Rattle.serde_json.specs.Written.{has_float}
 use Rattle.ocpi_text.specs.Moment.{last_moment}
 use Rattle.ocpi_text.specs.Party.{party_at, country_of, party_id_of}
-use Rattle.ocpi_text.specs.Text.{is_ascii_text}
 use Rattle.ocpi_text.specs.Whole.{max_whole}
 use Rattle.ocpi_text.proofs.Again.{ci_begins, free_begins, moment_begins}
 use Rattle.ocpi_text.proofs.Parties.{party_parts, exact_parts, country_passes, party_id_passes}
@@ -29,7 +28,7 @@ use Rattle.ocpi_json.specs.Fields.{is_tagged}
 use Rattle.ocpi_json.specs.Fits.{FitsCi, FitsFree, FitsOption, TokenFits, StartSessionFits, CommandResponseFits, BodyFits, PacketFits, RefusedFits, DoneFits}
 use Rattle.ocpi_json.specs.Plain.{IsTagged}
 use Rattle.ocpi_json.specs.Trees.{token_tree, start_session_tree, response_data_tree, done_tree, refused_tree, command_response_tree, body_tree, kind_word, packet_tree, whole_tree, moment_tree}
-use Rattle.ocpi_json.proofs.Members.{IsPlain, ArePlain, IsUntagged, none_plain, with_plain, with_text_plain, object_plain, boolean_plain, text_plain, token_plain}
+use Rattle.ocpi_json.proofs.Members.{IsPlain, IsUntagged, none_plain, with_plain, with_text_plain, object_plain, boolean_plain, text_plain, token_plain}
 use Rattle.ocpi_json.proofs.Numbers.{whole_token}
 
 -- ---- no text begins with the tag

@@ -96,7 +96,20 @@ fn put_word<W: Word>(
     put_text(alloc, members, field, word.word())
 }
 
-/// Adds a whole number, behind its tag.
+/// Adds a number in digits, behind its tag.
+fn put_number(
+    alloc: Global,
+    members: &mut Map<String, Value>,
+    field: Field,
+    number: u64,
+) -> Result<(), AllocError>
+    ensures { OnOk result (members_view members.new.entries ≡ with field (whole_tree number) (members_view members.old.entries)) }
+{
+    let text = format!(in alloc; "\u{1}{number}")?;
+    put(alloc, members, field, Value::String(text))
+}
+
+/// Adds a whole number.
 fn put_whole(
     alloc: Global,
     members: &mut Map<String, Value>,
@@ -106,16 +119,7 @@ fn put_whole(
     ensures member { OnOk result (members_view members.new.entries ≡ with field (whole_tree number) (members_view members.old.entries)) }
     ensures fits { number ≤ max_whole }
 {
-    let digits = number.value();
-    let text = format!(in alloc; "\u{1}{digits}")?;
-    put(alloc, members, field, Value::String(text))
-}
-
-/// Adds the code of a success.
-fn put_success(alloc: Global, members: &mut Map<String, Value>) -> Result<(), AllocError>
-    ensures { OnOk result (members_view members.new.entries ≡ with field.StatusCode (whole_tree 1000) (members_view members.old.entries)) }
-{
-    put_text(alloc, members, Field::StatusCode, "\u{1}1000")
+    put_number(alloc, members, field, number.value())
 }
 
 /// Adds a moment.
@@ -233,7 +237,7 @@ fn done_value(
     ensures fits { IfOk result (λ _. DoneFits timestamp response.now.timeout) }
 {
     let mut members = Map::new(alloc);
-    put_success(alloc, &mut members)?;
+    put_number(alloc, &mut members, Field::StatusCode, 1000)?;
     put_moment(alloc, &mut members, Field::Timestamp, timestamp)?;
     let data = response_data_value(alloc, response)?;
     put(alloc, &mut members, Field::Data, data)?;
