@@ -111,16 +111,18 @@ token_again t fits =
     let d = token_tree t in
     let m = token_members t in
     let c = fits.contract in
-    rw (country_in_again field.CountryCode d t.party m.country_code c.party,
-        party_id_in_again field.PartyId d t.party m.party_id c.party,
-        ci_in_again 36 field.Uid d t.uid m.uid c.uid,
-        word_in_again token_type_of field.TypeOf d (token_type_word t.token_type) t.token_type m.token_type (token_type_begins t.token_type) (token_type_again t.token_type),
-        ci_in_again 36 field.ContractId d t.contract_id m.contract_id c.contract_id,
-        free_in_again 64 field.Issuer d t.issuer m.issuer c.issuer,
-        truth_in_again field.Valid d t.valid m.valid,
-        word_in_again whitelist_of field.Whitelist d (whitelist_word t.whitelist) t.whitelist m.whitelist (whitelist_begins t.whitelist) (whitelist_again t.whitelist),
-        moment_in_again field.LastUpdated d t.last_updated m.last_updated fits.last_updated,
-        party_of_halves t.party c.party) refl
+    rw (
+      country_in_again field.CountryCode d t.party m.country_code c.party,
+      party_id_in_again field.PartyId d t.party m.party_id c.party,
+      ci_in_again 36 field.Uid d t.uid m.uid c.uid,
+      word_in_again token_type_of field.TypeOf d (token_type_word t.token_type) t.token_type m.token_type (token_type_begins t.token_type) (token_type_again t.token_type),
+      ci_in_again 36 field.ContractId d t.contract_id m.contract_id c.contract_id,
+      free_in_again 64 field.Issuer d t.issuer m.issuer c.issuer,
+      truth_in_again field.Valid d t.valid m.valid,
+      word_in_again whitelist_of field.Whitelist d (whitelist_word t.whitelist) t.whitelist m.whitelist (whitelist_begins t.whitelist) (whitelist_again t.whitelist),
+      moment_in_again field.LastUpdated d t.last_updated m.last_updated fits.last_updated,
+      party_of_halves t.party c.party,
+    ) refl
 
 token_record : (f : Field) (d : Data) (t : Token) → member_of d f ≡ Some (token_tree t) → record_in f d ≡ Ok (token_tree t)
 unfolding token_tree
@@ -132,21 +134,25 @@ start_session_again b fits =
     let d = start_session_tree b in
     let m = start_members b.response_url (token_tree b.token) b.location_id b.evse_uid b.connector_id b.authorization_reference in
     let p = fits.place in
-    rw (free_in_again 255 field.ResponseUrl d b.response_url m.response_url p.response_url,
-        token_record field.Token d b.token m.token,
-        token_again b.token p.token,
-        ci_in_again 36 field.LocationId d b.location_id m.location_id p.location_id,
-        optional_again 36 field.EvseUid d b.evse_uid m.evse_uid fits.evse_uid,
-        optional_again 36 field.ConnectorId d b.connector_id m.connector_id fits.connector_id,
-        optional_again 36 field.AuthorizationReference d b.authorization_reference m.authorization_reference fits.authorization_reference) refl
+    rw (
+      free_in_again 255 field.ResponseUrl d b.response_url m.response_url p.response_url,
+      token_record field.Token d b.token m.token,
+      token_again b.token p.token,
+      ci_in_again 36 field.LocationId d b.location_id m.location_id p.location_id,
+      optional_again 36 field.EvseUid d b.evse_uid m.evse_uid fits.evse_uid,
+      optional_again 36 field.ConnectorId d b.connector_id m.connector_id fits.connector_id,
+      optional_again 36 field.AuthorizationReference d b.authorization_reference m.authorization_reference fits.authorization_reference,
+    ) refl
 
 pub response_data_again : (r : ResponseData) → r.timeout ≤ max_whole → response_data_at (response_data_tree r) ≡ Ok r
 unfolding response_data_at
 response_data_again r le =
     let d = response_data_tree r in
     let m = response_members r in
-    rw (word_in_again response_of field.Result d (response_word r.result) r.result m.result (response_begins r.result) (response_again r.result),
-        whole_in_again field.Timeout d r.timeout m.timeout le) refl
+    rw (
+      word_in_again response_of field.Result d (response_word r.result) r.result m.result (response_begins r.result) (response_again r.result),
+      whole_in_again field.Timeout d r.timeout m.timeout le,
+    ) refl
 
 data_record : (f : Field) (d : Data) (r : ResponseData) → member_of d f ≡ Some (response_data_tree r) → record_in f d ≡ Ok (response_data_tree r)
 unfolding response_data_tree
@@ -164,10 +170,12 @@ unfolding command_response_at response_at
 done_again at r fits =
     let d = done_tree at r in
     let m = done_members at r in
-    rw (status_again d 1000 m.status_code (omega arith) (omega arith),
-        moment_in_again field.Timestamp d at m.timestamp fits.timestamp,
-        data_record field.Data d r (done_data at r),
-        response_data_again r fits.timeout) refl
+    rw (
+      status_again d 1000 m.status_code (omega arith) (omega arith),
+      moment_in_again field.Timestamp d at m.timestamp fits.timestamp,
+      data_record field.Data d r (done_data at r),
+      response_data_again r fits.timeout,
+    ) refl
 
 pub refused_again : (at code : ℕ) → RefusedFits at code → command_response_at (refused_tree at code) ≡ Ok (response.Refused at code)
 unfolding command_response_at response_at
@@ -175,9 +183,11 @@ refused_again at code fits =
     let d = refused_tree at code in
     let m = refused_members at code in
     let other : (code == 1000) ≡ false = grind (arith, nat_tests) in
-    rw (status_again d code m.status_code (omega arith) fits.below,
-        moment_in_again field.Timestamp d at m.timestamp fits.timestamp,
-        other) refl
+    rw (
+      status_again d code m.status_code (omega arith) fits.below,
+      moment_in_again field.Timestamp d at m.timestamp fits.timestamp,
+      other,
+    ) refl
 
 pub command_response_again : (b : CommandResponse) → CommandResponseFits b → command_response_at (command_response_tree b) ≡ Ok b
 unfolding command_response_tree
@@ -206,12 +216,14 @@ packet_at_again p fits =
     let d = packet_tree p in
     let m = packet_members p in
     let e = fits.envelope in
-    rw (party_in_again field.From d p.from m.from e.from,
-        party_in_again field.To d p.to m.to e.to,
-        whole_in_again field.Serial d p.serial m.serial e.serial,
-        whole_in_again field.Request d p.request m.request e.request,
-        text_again field.Kind d (kind_word p.body) m.kind (kind_begins p.body),
-        body_again p.body d m.body fits.body) refl
+    rw (
+      party_in_again field.From d p.from m.from e.from,
+      party_in_again field.To d p.to m.to e.to,
+      whole_in_again field.Serial d p.serial m.serial e.serial,
+      whole_in_again field.Request d p.request m.request e.request,
+      text_again field.Kind d (kind_word p.body) m.kind (kind_begins p.body),
+      body_again p.body d m.body fits.body,
+    ) refl
 
 line_is : (p : Packet) → packet_of_line (packet_tree p) ≡ packet_at (packet_tree p)
 unfolding packet_of_line packet_tree

@@ -2,25 +2,22 @@
 use Rattle.std.proofs.Common.{◌≡◌, ℕ, ◌≤◌, suc, List, [], ◌∷◌, Bool, false, Option, Some, None, Ordering, Less, Equal, Greater, nat_cmp, refl, arith}
 use Rattle.std.specs.Cmp.Lexicographic.{slice_cmp}
 use Rattle.std.specs.Ordering.{match_ordering}
-use Rattle.std.proofs.lemmas.Bool.{or_parts}
 use Rattle.serde_json.specs.Data.{Data, boolean, string, object, Members, no_members, member, put, depth, members_depth}
-use Rattle.serde_json.specs.Written.{has_float, members_have_float}
 use Rattle.ocpi_types.specs.declared.field.Field.{Field}
 use Rattle.ocpi_types.specs.declared.field.Field.TheVariants.{Line}
 use Rattle.ocpi_types.specs.Fields.{name_of}
 use Rattle.ocpi_json.specs.Fields.{is_tagged}
-use Rattle.ocpi_json.specs.Plain.{IsName, IsTagged, IsTaggedText, IsTokenText, AreTaggedMembers}
+use Rattle.ocpi_json.specs.Numbers.{IsJsonNumber}
+use Rattle.ocpi_json.specs.Plain.{IsName, IsTagged, IsTaggedText, AreTaggedMembers}
 use Rattle.ocpi_json.specs.Trees.{with, with_text}
 
 -- no deeper than most, with no number but behind its tag
 pub record IsPlain (most : ℕ) (d : Data) : Type 0 where
   pub tagged : IsTagged d
-  pub whole : has_float d ≡ false
   pub shallow : depth d ≤ most
 
 pub record ArePlain (most : ℕ) (ms : Members) : Type 0 where
   pub tagged : AreTaggedMembers ms
-  pub whole : members_have_float ms ≡ false
   pub shallow : members_depth ms ≤ most
 
 -- a member's name is no number
@@ -30,19 +27,17 @@ named Line = refl
 named f = refl
 
 pub none_plain : (most : ℕ) → ArePlain most no_members
-none_plain most = record { tagged = tt; whole = refl; shallow = omega arith }
+none_plain most = record { tagged = tt; shallow = omega arith }
 
 first_plain : (most : ℕ) (k : List ℕ) (d : Data) (ms : Members) → IsName k → IsPlain most d → ArePlain most ms → ArePlain most (member k d ms)
 first_plain most k d ms n p all = record {
   tagged = (n, p.tagged, all.tagged);
-  whole = rw (p.whole, all.whole) refl;
   shallow = grind arith;
 }
 
 rest_plain : (most : ℕ) (k : List ℕ) (d : Data) (ms : Members) → ArePlain most (member k d ms) → IsName k × (IsPlain most d × ArePlain most ms)
 rest_plain most k d ms all =
-    let whole = or_parts (has_float d) (members_have_float ms) all.whole in
-    (all.tagged.0, (record { tagged = all.tagged.1; whole = whole.0; shallow = grind arith }, record { tagged = all.tagged.2; whole = whole.1; shallow = grind arith }))
+    (all.tagged.0, (record { tagged = all.tagged.1; shallow = grind arith }, record { tagged = all.tagged.2; shallow = grind arith }))
 
 placed : (most : ℕ) (o : Ordering) (a b c : Members) → ArePlain most a → ArePlain most b → ArePlain most c → ArePlain most (match_ordering o a b c)
 placed most Less a b c pa pb pc = pa
@@ -54,19 +49,19 @@ put_plain most k d no_members n p all = first_plain most k d no_members n p all
 put_plain most k d (member l e ms) n p all =
     let parts = rest_plain most l e ms all in
     placed most (slice_cmp nat_cmp k l) (member k d (member l e ms)) (member l d ms) (member l e (put k d ms))
-        (first_plain most k d (member l e ms) n p all)
-        (first_plain most l d ms parts.0 p parts.1.1)
-        (first_plain most l e (put k d ms) parts.0 parts.1.0 (put_plain most k d ms n p parts.1.1))
+    (first_plain most k d (member l e ms) n p all)
+    (first_plain most l d ms parts.0 p parts.1.1)
+    (first_plain most l e (put k d ms) parts.0 parts.1.0 (put_plain most k d ms n p parts.1.1))
 
 -- one more member
 pub with_plain : (most : ℕ) (f : Field) (d : Data) (ms : Members) → IsPlain most d → ArePlain most ms → ArePlain most (with f d ms)
 with_plain most f d ms p all = put_plain most (name_of f) d ms (named f) p all
 
 pub object_plain : (most : ℕ) (ms : Members) → ArePlain most ms → IsPlain (suc most) (object ms)
-object_plain most ms all = record { tagged = all.tagged; whole = all.whole; shallow = omega arith }
+object_plain most ms all = record { tagged = all.tagged; shallow = omega arith }
 
 pub boolean_plain : (most : ℕ) (b : Bool) → IsPlain most (boolean b)
-boolean_plain most b = record { tagged = tt; whole = refl; shallow = omega arith }
+boolean_plain most b = record { tagged = tt; shallow = omega arith }
 
 -- a text that does not begin with the tag
 text_tagged : (s : List ℕ) → is_tagged s ≡ false → IsTaggedText s
@@ -74,11 +69,11 @@ text_tagged [] begins = tt
 text_tagged (x ∷ s) begins = λ e. cc
 
 pub text_plain : (most : ℕ) (s : List ℕ) → is_tagged s ≡ false → IsPlain most (string s)
-text_plain most s begins = record { tagged = text_tagged s begins; whole = refl; shallow = omega arith }
+text_plain most s begins = record { tagged = text_tagged s begins; shallow = omega arith }
 
 -- a number behind its tag
-pub token_plain : (most : ℕ) (s : List ℕ) → IsTokenText s → IsPlain most (string (1 ∷ s))
-token_plain most s is = record { tagged = λ _. is; whole = refl; shallow = omega arith }
+pub number_plain : (most : ℕ) (s : List ℕ) → IsJsonNumber s → IsPlain most (string (1 ∷ s))
+number_plain most s is = record { tagged = λ _. is; shallow = omega arith }
 
 -- no text, or one that does not begin with the tag
 abbrev pub IsUntagged : Option (List ℕ) → Type 0

@@ -1,8 +1,7 @@
--- The tree of a packet has its numbers behind the tag alone, no float, and four levels at most.
+-- The tree of a packet has its numbers behind the tag alone, and three levels of objects.
 use Rattle.std.proofs.Common.{◌≡◌, ℕ, ◌≤◌, List, false, Option, Some, None, Ok, decimal, refl, arith}
 use Rattle.serde_json.specs.Data.{string, depth}
 use Rattle.serde_json.specs.Read.{max_depth}
-use Rattle.serde_json.specs.Written.{has_float}
 use Rattle.ocpi_text.specs.Moment.{last_moment}
 use Rattle.ocpi_text.specs.Party.{party_at, country_of, party_id_of}
 use Rattle.ocpi_text.specs.Whole.{max_whole}
@@ -28,8 +27,8 @@ use Rattle.ocpi_json.specs.Fields.{is_tagged}
 use Rattle.ocpi_json.specs.Fits.{FitsCi, FitsFree, FitsOption, TokenFits, StartSessionFits, CommandResponseFits, BodyFits, PacketFits, RefusedFits, DoneFits}
 use Rattle.ocpi_json.specs.Plain.{IsTagged}
 use Rattle.ocpi_json.specs.Trees.{token_tree, start_session_tree, response_data_tree, done_tree, refused_tree, command_response_tree, body_tree, kind_word, packet_tree, whole_tree, moment_tree}
-use Rattle.ocpi_json.proofs.Members.{IsPlain, IsUntagged, none_plain, with_plain, with_text_plain, object_plain, boolean_plain, text_plain, token_plain}
-use Rattle.ocpi_json.proofs.Numbers.{whole_token}
+use Rattle.ocpi_json.proofs.Members.{IsPlain, IsUntagged, none_plain, with_plain, with_text_plain, object_plain, boolean_plain, text_plain, number_plain}
+use Rattle.ocpi_json.proofs.Digits.{whole_number}
 
 -- ---- no text begins with the tag
 
@@ -80,7 +79,7 @@ moment_plain : (most n : ℕ) → n ≤ last_moment → IsPlain most (moment_tre
 moment_plain most n le = text_plain most _ (moment_begins n le)
 
 whole_plain : (most n : ℕ) → n ≤ max_whole → IsPlain most (whole_tree n)
-whole_plain most n le = token_plain most (decimal n) (whole_token n le)
+whole_plain most n le = number_plain most (decimal n) (whole_number n le)
 
 pub token_tree_plain : (t : Token) → TokenFits t → IsPlain 1 (token_tree t)
 unfolding token_tree
@@ -153,9 +152,6 @@ packet_plain p fits =
 
 pub packet_tagged : (p : Packet) → PacketFits p → IsTagged (packet_tree p)
 packet_tagged p fits = (packet_plain p fits).tagged
-
-pub packet_whole : (p : Packet) → PacketFits p → has_float (packet_tree p) ≡ false
-packet_whole p fits = (packet_plain p fits).whole
 
 pub packet_shallow : (p : Packet) → PacketFits p → depth (packet_tree p) ≤ max_depth
 packet_shallow p fits = let three = (packet_plain p fits).shallow in omega arith

@@ -11,8 +11,8 @@ ghost use Rattle.ocpi_json.specs.Trees.{whole_tree, moment_tree, with, with_text
 
 use ocpi_text::{Moment, Whole};
 use ocpi_types::{
-    Body, Ci, CommandResponse, Field, Free, Packet, RefusalCode, ResponseData, StartSession,
-    Token, Word,
+    Body, Ci, CommandResponse, Field, Free, Packet, RefusalCode, ResponseData, StartSession, Token,
+    Word,
 };
 use serde_json::{Map, Value};
 use std::alloc::{AllocError, Global};
