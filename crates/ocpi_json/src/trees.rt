@@ -132,6 +132,7 @@ fn put_moment(
     ensures member { OnOk result (members_view members.new.entries ≡ with field (moment_tree moment) (members_view members.old.entries)) }
     ensures fits { moment ≤ last_moment }
 {
+    // The type keeps the bound, and `millis` tells it.
     let _millis = moment.millis();
     let text = moment.write(alloc)?;
     put(alloc, members, field, Value::String(text))
@@ -146,6 +147,7 @@ fn put_contract(
     ensures members { OnOk result (members_view members.new.entries ≡ contract_members token.now (members_view members.old.entries)) }
     ensures fits { OnOk result (ContractFits token.now) }
 {
+    // The type keeps the party's form, and `as_str` tells it.
     let _party = token.party.as_str();
     put_text(alloc, members, Field::CountryCode, token.party.country())?;
     put_text(alloc, members, Field::PartyId, token.party.party_id())?;
