@@ -1,0 +1,13 @@
+pub mod Fault
+pub mod Fields
+pub mod Fits
+pub mod Forms
+pub mod Line
+pub mod Names
+pub mod Numbers
+pub mod Packets
+pub mod Pieces
+pub mod Plain
+pub mod Quote
+pub mod Trees
+pub mod Unquote
