@@ -1,0 +1,5 @@
+pub mod Fault
+pub mod Fields
+pub mod Forms
+pub mod Sites
+pub mod Trees

@@ -1,0 +1,7 @@
+//! The JSON of OCPI 2.2.1: its records, read from trees and written.
+#![tactic(auto)]
+
+mod fault;
+mod fields;
+
+pub use fault::JsonFault;
