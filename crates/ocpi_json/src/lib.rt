@@ -3,5 +3,6 @@
 
 mod fault;
 mod fields;
+mod records;
 
 pub use fault::JsonFault;
