@@ -1,2 +1,4 @@
 pub mod Fails
 pub mod Tags
+pub mod Exact
+pub mod PacketForm

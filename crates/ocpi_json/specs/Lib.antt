@@ -1,5 +1,6 @@
 pub mod Fault
 pub mod Fields
+pub mod Form
 pub mod Forms
 pub mod Sites
 pub mod Trees
