@@ -2,3 +2,5 @@ pub mod Fails
 pub mod Tags
 pub mod Exact
 pub mod PacketForm
+pub mod Listing
+pub mod Among

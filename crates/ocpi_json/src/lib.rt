@@ -3,6 +3,8 @@
 
 mod fault;
 mod fields;
+mod lists;
 mod records;
+mod sites;
 
 pub use fault::JsonFault;
