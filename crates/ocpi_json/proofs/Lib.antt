@@ -7,6 +7,7 @@ pub mod Fails
 pub mod Gets
 pub mod HighBytes
 pub mod JsonNumbers
+pub mod LineTrees
 pub mod Listing
 pub mod Members
 pub mod NumberNames
@@ -14,6 +15,7 @@ pub mod PacketForm
 pub mod PieceQuoting
 pub mod PlainQuoting
 pub mod Quoting
+pub mod ReadPackets
 pub mod Shape
 pub mod Steps
 pub mod Tags

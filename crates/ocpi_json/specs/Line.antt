@@ -1,6 +1,6 @@
 -- The tree of a line of bytes.
-use Rattle.std.specs.Prelude.{ℕ, List, length, nat_lt, Option, Some, None, Ok, Err, if◌then◌else◌}
-use Rattle.std.specs.Str.{is_utf8}
+use Rattle.std.specs.Prelude.{◌≡◌, ◌≤◌, ℕ, List, length, nat_lt, false, Option, Some, None, Ok, Err, if◌then◌else◌}
+use Rattle.std.specs.Str.{IsUtf8, is_utf8}
 use Rattle.serde_json.specs.Data.{Data}
 use Rattle.serde_json.specs.Read.{read}
 use Rattle.ocpi_json.specs.declared.fault.JsonFault.TheVariants.{Syntax}
@@ -29,3 +29,13 @@ tree_at line = do
   text ← text_of line
   quoted ← quote text
   tree_of quoted
+
+-- a line within the limit, of UTF-8, whose numbers are those of JSON, whose names are none of them, and that is JSON of
+-- depth 127 at most: with its tree
+pub record HasTree (line : List ℕ) (tree : Data) : Type 0 where
+  pub short : length line ≤ max_line
+  pub utf8 : IsUtf8 line
+  pub quoted : List ℕ
+  pub numbers : quote line ≡ Ok quoted
+  pub names : has_number_name quoted ≡ false
+  pub json : read quoted ≡ Some tree

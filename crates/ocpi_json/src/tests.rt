@@ -1,4 +1,5 @@
 use super::*;
+use crate::lines::{line_tree, tree_line};
 use std::alloc::Global;
 use std::test::*;
 
