@@ -5,10 +5,10 @@ mod calendar;
 mod ci_text;
 mod clock;
 mod decimal;
-mod numeral;
 mod fault;
 mod free_text;
 mod moment;
+mod numeral;
 mod party;
 mod whole;
 
