@@ -1,10 +1,8 @@
 -- The days from 1970 on: which exist, and the number of each.
-use Rattle.std.proofs.Common.{◌≡◌, ℕ, ◌+◌, ◌<◌, ◌≤◌, true, false, Bool, refl, sym, ◌∙◌, ap, arith, rules, inl, inr}
-use Rattle.std.specs.Prelude.{ℤ, pos, negsuc, suc, zero, ◌+ℤ◌, ◌<ℤ◌, ◌≤ℤ◌, ◌&&◌, nat_lt, nat_le, if◌then◌else◌, Option, Some, None, unsigned_abs}
-use Rattle.std.specs.Int.{IsInRange}
+use Rattle.std.proofs.Common.{◌≡◌, ℕ, ◌+◌, ◌<◌, ◌≤◌, true, false, Bool, refl, sym, ◌∙◌, arith, rules, inl, inr}
+use Rattle.std.specs.Prelude.{ℤ, pos, negsuc, suc, zero, ◌<ℤ◌, ◌≤ℤ◌, nat_lt, if◌then◌else◌, Option, Some, None, unsigned_abs}
 use Rattle.std.proofs.lemmas.Bool.{cases_lt, and_parts, and_from, cond_both, lt-ltb, le-leb, ltb-true, ltb-false, leb-true, false_from_ne_true}
-use Rattle.std.proofs.lemmas.Bool.Decides.{nat_tests}
-use Rattle.jiff_core.specs.Calendar.{IsYear, IsDate, IsCivilDate, IsBetween, days_in_month, days_from_civil}
+use Rattle.jiff_core.specs.Calendar.{IsYear, IsDate, IsCivilDate, days_in_month, days_from_civil}
 use Rattle.jiff_core.specs.Date.{epoch_day}
 use Rattle.jiff_core.specs.declared.civil.date.Date.{Date}
 use Rattle.jiff_core.proofs.SignedLemmas.{signed_arith}
@@ -78,8 +76,8 @@ next_in_month y m d n h lt =
     let low = h.on_calendar.2.0 in
     let e = h.numbered in
     record {
-        on_calendar = (h.on_calendar.0, h.on_calendar.1, omega arith);
-        numbered = omega (arith, signed_arith, days_from_civil-day (pos y) m d (d + 1) low (omega arith))
+      on_calendar = (h.on_calendar.0, h.on_calendar.1, omega arith);
+      numbered = omega (arith, signed_arith, days_from_civil-day (pos y) m d (d + 1) low (omega arith));
     }
 
 next_month : (y m d n : ℕ) → IsNamed y m d n → days_in_month (pos y) m ≤ d → m < 12 → IsNamed y (m + 1) 1 (n + 1)
@@ -89,8 +87,8 @@ next_month y m d n h last early =
     let same : d ≡ days_in_month (pos y) m = omega arith in
     let long = days_in_month_bounds (pos y) (m + 1) in
     record {
-        on_calendar = (h.on_calendar.0, (omega arith, omega arith), (omega arith, omega arith));
-        numbered = omega (arith, signed_arith, days_from_civil-next_month (pos y) m d h.on_calendar.1.0 same)
+      on_calendar = (h.on_calendar.0, (omega arith, omega arith), (omega arith, omega arith));
+      numbered = omega (arith, signed_arith, days_from_civil-next_month (pos y) m d h.on_calendar.1.0 same);
     }
 
 december : (y : ℤ) (m d : ℕ) → m ≡ 12 → days_in_month y m ≤ d → d ≤ days_in_month y m → d ≡ 31
@@ -103,9 +101,9 @@ year_before y n year e small =
     elim (cases_lt y 9999) [
       | inl lt ↦ lt
       | inr ge ↦
-        let e9999 : y ≡ 9999 = omega (arith, signed_arith) in
-        let there : days_from_civil (pos 9999) 12 31 ≡ pos n = rw e9999 at e in
-        absurd (omega (arith, signed_arith, days_from_civil-max))
+          let e9999 : y ≡ 9999 = omega (arith, signed_arith) in
+          let there : days_from_civil (pos 9999) 12 31 ≡ pos n = rw e9999 at e in
+          absurd (omega (arith, signed_arith, days_from_civil-max))
     ]
 
 next_year : (y m d n : ℕ) → IsNamed y m d n → days_in_month (pos y) m ≤ d → 12 ≤ m → n < 2932896 → IsNamed (y + 1) 1 1 (n + 1)
@@ -120,8 +118,8 @@ next_year y m d n h last late small =
     let later : IsYear (pos (y + 1)) = (omega (arith, signed_arith), omega (arith, signed_arith)) in
     let long = days_in_month_bounds (pos (y + 1)) 1 in
     record {
-        on_calendar = (later, (omega arith, omega arith), (omega arith, omega arith));
-        numbered = omega (arith, signed_arith)
+      on_calendar = (later, (omega arith, omega arith), (omega arith, omega arith));
+      numbered = omega (arith, signed_arith);
     }
 
 next_is : (date : CalendarDate) (n : ℕ) → IsDay date n → n < 2932896 → IsDay (next_day date) (n + 1)
@@ -129,10 +127,10 @@ next_is date n h small =
     let inside = nat_lt date.day (days_in_month (pos date.year) date.month) in
     let early = nat_lt date.month 12 in
     cond_both inside _ _ (λ (d : CalendarDate). IsDay d (n + 1))
-      (λ t. next_in_month date.year date.month date.day n h (ltb-true _ _ t))
-      (λ f. cond_both early _ _ (λ (d : CalendarDate). IsDay d (n + 1))
-        (λ t. next_month date.year date.month date.day n h (ltb-false _ _ f) (ltb-true _ _ t))
-        (λ g. next_year date.year date.month date.day n h (ltb-false _ _ f) (ltb-false _ _ g) small))
+    (λ t. next_in_month date.year date.month date.day n h (ltb-true _ _ t))
+    (λ f. cond_both early _ _ (λ (d : CalendarDate). IsDay d (n + 1))
+    (λ t. next_month date.year date.month date.day n h (ltb-false _ _ f) (ltb-true _ _ t))
+    (λ g. next_year date.year date.month date.day n h (ltb-false _ _ f) (ltb-false _ _ g) small))
 
 pub date_of_day_is : (n : ℕ) → n ≤ 2932896 → IsDay (date_of_day n) n
 unfolding date_of_day

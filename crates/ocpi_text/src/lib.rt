@@ -5,17 +5,21 @@ mod calendar;
 mod ci_text;
 mod clock;
 mod decimal;
-mod numeral;
 mod fault;
 mod free_text;
+mod laws;
 mod moment;
+mod numeral;
 mod party;
+#[cfg(test)]
+mod tests;
 mod whole;
 
 pub use ci_text::CiText;
 pub use decimal::E4;
 pub use fault::TextFault;
 pub use free_text::FreeText;
+pub use laws::{keys_are_texts, parties_are_their_halves, texts_are_read_back};
 pub use moment::Moment;
 pub use party::Party;
 pub use whole::Whole;

@@ -7,8 +7,8 @@ ghost use Rattle.ocpi_text.specs.declared.fault.TextFault.TheVariants.{BadMoment
 
 use crate::calendar::{CalendarDate, date_of_day, day_number};
 use crate::clock::{is_tail, thousandths};
-use crate::numeral::{digit, has_two, push_two, two_at};
 use crate::fault::TextFault;
+use crate::numeral::{digit, has_two, push_two, two_at};
 use std::alloc::{AllocError, Global};
 use std::marker::Model;
 
