@@ -4,3 +4,5 @@ pub mod Exact
 pub mod PacketForm
 pub mod Listing
 pub mod Among
+pub mod Elements
+pub mod SiteForm
