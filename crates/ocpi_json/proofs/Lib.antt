@@ -1,5 +1,6 @@
 pub mod Again
 pub mod Among
+<<<<<<< HEAD
 pub mod Cutting
 pub mod Digits
 pub mod Exact
@@ -24,3 +25,7 @@ pub mod Unquoting
 pub mod WayBytes
 pub mod Written
 pub mod WrittenPackets
+=======
+pub mod Elements
+pub mod SiteForm
+>>>>>>> reading

@@ -3,6 +3,7 @@ pub mod Fields
 pub mod Fits
 pub mod Form
 pub mod Forms
+<<<<<<< HEAD
 pub mod Line
 pub mod Names
 pub mod Numbers
@@ -10,6 +11,9 @@ pub mod Packets
 pub mod Pieces
 pub mod Plain
 pub mod Quote
+=======
+pub mod SiteForm
+>>>>>>> reading
 pub mod Sites
 pub mod Trees
 pub mod Unquote
