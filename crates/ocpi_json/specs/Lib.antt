@@ -1,6 +1,7 @@
 pub mod Fault
 pub mod Fields
 pub mod Fits
+pub mod Form
 pub mod Forms
 pub mod Line
 pub mod Names
@@ -9,5 +10,6 @@ pub mod Packets
 pub mod Pieces
 pub mod Plain
 pub mod Quote
+pub mod Sites
 pub mod Trees
 pub mod Unquote
