@@ -133,7 +133,7 @@ unfolding start_session_at start_session_tree
 start_session_again b fits =
     let d = start_session_tree b in
     let m = start_members b.response_url (token_tree b.token) b.location_id b.evse_uid b.connector_id b.authorization_reference in
-    let p = fits.place in
+    let p = fits.required in
     rw (
       free_in_again 255 field.ResponseUrl d b.response_url m.response_url p.response_url,
       token_record field.Token d b.token m.token,

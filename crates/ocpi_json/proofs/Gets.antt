@@ -31,33 +31,33 @@ unfolding token_tree name_of
 token_members t = record { country_code = refl; party_id = refl; uid = refl; token_type = refl; contract_id = refl; issuer = refl; valid = refl; whitelist = refl; last_updated = refl }
 
 -- the members of a start of these texts
-pub record StartMembers (url : List ℕ) (tree : Data) (place : List ℕ) (evse connector reference : Option (List ℕ)) (d : Data) : Type 0 where
+pub record StartMembers (url : List ℕ) (tree : Data) (location : List ℕ) (evse connector reference : Option (List ℕ)) (d : Data) : Type 0 where
   pub response_url : member_of d field.ResponseUrl ≡ Some (string url)
   pub token : member_of d field.Token ≡ Some tree
-  pub location_id : member_of d field.LocationId ≡ Some (string place)
+  pub location_id : member_of d field.LocationId ≡ Some (string location)
   pub evse_uid : member_of d field.EvseUid ≡ option_map string evse
   pub connector_id : member_of d field.ConnectorId ≡ option_map string connector
   pub authorization_reference : member_of d field.AuthorizationReference ≡ option_map string reference
 
 abbrev pub start_tree : List ℕ → Data → List ℕ → Option (List ℕ) → Option (List ℕ) → Option (List ℕ) → Data
-start_tree url tree place evse connector reference = object
+start_tree url tree location evse connector reference = object
     (with_text field.AuthorizationReference reference
     (with_text field.ConnectorId connector
     (with_text field.EvseUid evse
-    (with field.LocationId (string place)
+    (with field.LocationId (string location)
     (with field.Token tree
     (with field.ResponseUrl (string url) no_members))))))
 
-pub start_members : (url : List ℕ) (tree : Data) (place : List ℕ) (evse connector reference : Option (List ℕ)) → StartMembers url tree place evse connector reference (start_tree url tree place evse connector reference)
+pub start_members : (url : List ℕ) (tree : Data) (location : List ℕ) (evse connector reference : Option (List ℕ)) → StartMembers url tree location evse connector reference (start_tree url tree location evse connector reference)
 unfolding name_of
-start_members url tree place None None None = record { response_url = refl; token = refl; location_id = refl; evse_uid = refl; connector_id = refl; authorization_reference = refl }
-start_members url tree place None None (Some r) = record { response_url = refl; token = refl; location_id = refl; evse_uid = refl; connector_id = refl; authorization_reference = refl }
-start_members url tree place None (Some c) None = record { response_url = refl; token = refl; location_id = refl; evse_uid = refl; connector_id = refl; authorization_reference = refl }
-start_members url tree place None (Some c) (Some r) = record { response_url = refl; token = refl; location_id = refl; evse_uid = refl; connector_id = refl; authorization_reference = refl }
-start_members url tree place (Some e) None None = record { response_url = refl; token = refl; location_id = refl; evse_uid = refl; connector_id = refl; authorization_reference = refl }
-start_members url tree place (Some e) None (Some r) = record { response_url = refl; token = refl; location_id = refl; evse_uid = refl; connector_id = refl; authorization_reference = refl }
-start_members url tree place (Some e) (Some c) None = record { response_url = refl; token = refl; location_id = refl; evse_uid = refl; connector_id = refl; authorization_reference = refl }
-start_members url tree place (Some e) (Some c) (Some r) = record { response_url = refl; token = refl; location_id = refl; evse_uid = refl; connector_id = refl; authorization_reference = refl }
+start_members url tree location None None None = record { response_url = refl; token = refl; location_id = refl; evse_uid = refl; connector_id = refl; authorization_reference = refl }
+start_members url tree location None None (Some r) = record { response_url = refl; token = refl; location_id = refl; evse_uid = refl; connector_id = refl; authorization_reference = refl }
+start_members url tree location None (Some c) None = record { response_url = refl; token = refl; location_id = refl; evse_uid = refl; connector_id = refl; authorization_reference = refl }
+start_members url tree location None (Some c) (Some r) = record { response_url = refl; token = refl; location_id = refl; evse_uid = refl; connector_id = refl; authorization_reference = refl }
+start_members url tree location (Some e) None None = record { response_url = refl; token = refl; location_id = refl; evse_uid = refl; connector_id = refl; authorization_reference = refl }
+start_members url tree location (Some e) None (Some r) = record { response_url = refl; token = refl; location_id = refl; evse_uid = refl; connector_id = refl; authorization_reference = refl }
+start_members url tree location (Some e) (Some c) None = record { response_url = refl; token = refl; location_id = refl; evse_uid = refl; connector_id = refl; authorization_reference = refl }
+start_members url tree location (Some e) (Some c) (Some r) = record { response_url = refl; token = refl; location_id = refl; evse_uid = refl; connector_id = refl; authorization_reference = refl }
 
 pub record ResponseMembers (r : ResponseData) (d : Data) : Type 0 where
   pub result : member_of d field.Result ≡ Some (string (response_word r.result))

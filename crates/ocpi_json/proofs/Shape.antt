@@ -99,7 +99,7 @@ token_tree_plain t fits =
 start_session_plain : (b : StartSession) → StartSessionFits b → IsPlain 2 (start_session_tree b)
 unfolding start_session_tree
 start_session_plain b fits =
-    let p = fits.place in
+    let p = fits.required in
     object_plain 1 _
     (with_text_plain 1 field.AuthorizationReference b.authorization_reference _ (optional_begins 36 b.authorization_reference fits.authorization_reference)
     (with_text_plain 1 field.ConnectorId b.connector_id _ (optional_begins 36 b.connector_id fits.connector_id)

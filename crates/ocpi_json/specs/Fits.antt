@@ -40,13 +40,13 @@ pub record TokenFits (t : Token) : Type 0 where
   pub last_updated : t.last_updated ≤ last_moment
 
 -- of the members of a start that are always there
-pub record PlaceFits (b : StartSession) : Type 0 where
+pub record RequiredFits (b : StartSession) : Type 0 where
   pub response_url : FitsFree 255 b.response_url
   pub token : TokenFits b.token
   pub location_id : FitsCi 36 b.location_id
 
 pub record StartSessionFits (b : StartSession) : Type 0 where
-  pub place : PlaceFits b
+  pub required : RequiredFits b
   pub evse_uid : FitsOption 36 b.evse_uid
   pub connector_id : FitsOption 36 b.connector_id
   pub authorization_reference : FitsOption 36 b.authorization_reference

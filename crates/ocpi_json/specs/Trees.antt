@@ -53,8 +53,8 @@ unfoldable pub token_tree : Token → Data
 token_tree t = object (allowed_members t (contract_members t no_members))
 
 -- the members of a start that are always there
-abbrev pub place_members : start.StartSession → Members → Members
-place_members b ms =
+abbrev pub required_members : start.StartSession → Members → Members
+required_members b ms =
     with field.LocationId (string b.location_id)
     (with field.Token (token_tree b.token)
     (with field.ResponseUrl (string b.response_url) ms))
@@ -63,7 +63,7 @@ unfoldable pub start_session_tree : start.StartSession → Data
 start_session_tree b = object
     (with_text field.AuthorizationReference b.authorization_reference
     (with_text field.ConnectorId b.connector_id
-    (with_text field.EvseUid b.evse_uid (place_members b no_members))))
+    (with_text field.EvseUid b.evse_uid (required_members b no_members))))
 
 unfoldable pub response_data_tree : ResponseData → Data
 response_data_tree r = object (with field.Timeout (whole_tree r.timeout) (with field.Result (string (response_word r.result)) no_members))

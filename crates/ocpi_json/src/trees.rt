@@ -6,8 +6,8 @@ ghost use Rattle.serde_json.specs.View.{view, members_view};
 ghost use Rattle.ocpi_text.specs.Whole.{max_whole};
 ghost use Rattle.ocpi_text.specs.Moment.{last_moment};
 ghost use Rattle.ocpi_types.specs.declared.field.Field.TheVariants as field;
-ghost use Rattle.ocpi_json.specs.Fits.{FitsCi, FitsFree, FitsOption, ContractFits, TokenFits, PlaceFits, StartSessionFits, DoneFits, RefusedFits, CommandResponseFits, BodyFits, EnvelopeFits, PacketFits};
-ghost use Rattle.ocpi_json.specs.Trees.{whole_tree, moment_tree, with, with_text, contract_members, allowed_members, token_tree, place_members, start_session_tree, response_data_tree, done_tree, refused_tree, command_response_tree, body_tree, kind_word, envelope_members, packet_tree};
+ghost use Rattle.ocpi_json.specs.Fits.{FitsCi, FitsFree, FitsOption, ContractFits, TokenFits, RequiredFits, StartSessionFits, DoneFits, RefusedFits, CommandResponseFits, BodyFits, EnvelopeFits, PacketFits};
+ghost use Rattle.ocpi_json.specs.Trees.{whole_tree, moment_tree, with, with_text, contract_members, allowed_members, token_tree, required_members, start_session_tree, response_data_tree, done_tree, refused_tree, command_response_tree, body_tree, kind_word, envelope_members, packet_tree};
 
 use ocpi_text::{Moment, Whole};
 use ocpi_types::{
@@ -184,13 +184,13 @@ fn token_value(alloc: Global, token: &Token) -> Result<Value, AllocError>
 }
 
 /// Adds the members of a START_SESSION that are always there.
-fn put_place(
+fn put_required(
     alloc: Global,
     members: &mut Map<String, Value>,
     start: &StartSession,
 ) -> Result<(), AllocError>
-    ensures members { OnOk result (members_view members.new.entries ≡ place_members start.now (members_view members.old.entries)) }
-    ensures fits { OnOk result (PlaceFits start.now) }
+    ensures members { OnOk result (members_view members.new.entries ≡ required_members start.now (members_view members.old.entries)) }
+    ensures fits { OnOk result (RequiredFits start.now) }
 {
     put_free(alloc, members, Field::ResponseUrl, &start.response_url)?;
     let token = token_value(alloc, &start.token)?;
@@ -205,7 +205,7 @@ fn start_session_value(alloc: Global, start: &StartSession) -> Result<Value, All
     ensures fits { IfOk result (λ _. StartSessionFits start.now) }
 {
     let mut members = Map::new(alloc);
-    put_place(alloc, &mut members, start)?;
+    put_required(alloc, &mut members, start)?;
     put_optional(alloc, &mut members, Field::EvseUid, &start.evse_uid)?;
     put_optional(alloc, &mut members, Field::ConnectorId, &start.connector_id)?;
     put_optional(
