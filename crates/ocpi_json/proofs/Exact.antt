@@ -16,20 +16,11 @@ use Rattle.ocpi_json.specs.Fault.{Read, ◌>>=◌}
 use Rattle.ocpi_json.specs.Fields.{required, present, optional, is_absent, is_none_or_null, some_of, as_text, as_number, as_truth, as_record, text_in, number_in, ci_in, free_in, moment_in, truth_in, word_in, whole_in, e4_in, party_in, country_in, party_id_in, record_in, formed, listed, is_tagged}
 use Rattle.ocpi_json.specs.Form.{Has, Required, Lacks, Optional, IsText, IsNumber, TextOf, NumberOf, IsCi, IsFree, IsParty, IsMoment, IsWhole, IsE4, IsWord, IsTruth, IsRecord}
 
+pub use Rattle.ocpi_json.proofs.Steps.{done, ok_is, bind_ok}
+
 pub record Exact {X : Type 0} (reader : Data → Read X) (P : Data → X → Type 0) : Type 0 where
   pub sound : (d : Data) (x : X) → reader d ≡ Ok x → P d x
   pub complete : (d : Data) (x : X) → P d x → reader d ≡ Ok x
-
-abbrev pub done : {A : Type 0} → A → Read A
-done x = Ok x
-
-pub ok_is : {A : Type 0} (x y : A) → done x ≡ done y → x ≡ y
-ok_is x y e = cc
-
--- the value of a step that did not fail
-pub bind_ok : {A B : Type 0} (r : Read A) (f : A → Read B) (y : B) → (r >>= f) ≡ Ok y → (x : A) × (r ≡ Ok x) × (f x ≡ Ok y)
-bind_ok (Ok x) f y e = (x, refl, e)
-bind_ok (Err d) f y e = absurd cc
 
 -- ---- members
 

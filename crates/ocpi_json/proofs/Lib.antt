@@ -1,8 +1,8 @@
 pub mod Again
 pub mod Among
-<<<<<<< HEAD
 pub mod Cutting
 pub mod Digits
+pub mod Elements
 pub mod Exact
 pub mod Fails
 pub mod Gets
@@ -17,7 +17,9 @@ pub mod PieceQuoting
 pub mod PlainQuoting
 pub mod Quoting
 pub mod ReadPackets
+pub mod ReadSites
 pub mod Shape
+pub mod SiteForm
 pub mod Steps
 pub mod Tags
 pub mod TextBytes
@@ -25,7 +27,3 @@ pub mod Unquoting
 pub mod WayBytes
 pub mod Written
 pub mod WrittenPackets
-=======
-pub mod Elements
-pub mod SiteForm
->>>>>>> reading

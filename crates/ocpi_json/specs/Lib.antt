@@ -3,7 +3,6 @@ pub mod Fields
 pub mod Fits
 pub mod Form
 pub mod Forms
-<<<<<<< HEAD
 pub mod Line
 pub mod Names
 pub mod Numbers
@@ -11,9 +10,8 @@ pub mod Packets
 pub mod Pieces
 pub mod Plain
 pub mod Quote
-=======
 pub mod SiteForm
->>>>>>> reading
+pub mod SiteLines
 pub mod Sites
 pub mod Trees
 pub mod Unquote
