@@ -136,7 +136,7 @@ truth_sound f (array b) s e = absurd cc
 truth_sound f (object b) s e = absurd cc
 truth_sound f (boolean t) s e = ap boolean (ok_is t s e)
 
-formed_ok : {X : Type 0} (f : Field) (r : Result X TextFault) (x : X) → formed f r ≡ Ok x → r ≡ Ok x
+pub formed_ok : {X : Type 0} (f : Field) (r : Result X TextFault) (x : X) → formed f r ≡ Ok x → r ≡ Ok x
 formed_ok f (Ok y) x e = ap (λ (z : _). Ok z) (ok_is y x e)
 formed_ok f (Err y) x e = absurd cc
 

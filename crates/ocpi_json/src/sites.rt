@@ -315,7 +315,7 @@ fn provider_of(
 }
 
 /// The operator of a site line and its providers, at most 63, all of them different parties.
-#[tactic(auto, using(crate::proofs::SiteForm::parties_are), unfolding(crate::specs::Sites::parties_at, crate::specs::Sites::providers_in))]
+#[tactic(auto, unfolding(crate::specs::Sites::parties_at, crate::specs::Sites::providers_in))]
 fn parties_of(alloc: Global, object: &Value) -> Result<Parties, JsonFault>
     ensures { Gives result (parties_at (view object.now)) }
 {
