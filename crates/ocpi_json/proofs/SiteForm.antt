@@ -1,14 +1,15 @@
 -- A site line is read just where the tree has its form.
 use Rattle.std.proofs.Common.{◌≡◌, ℕ, ℤ, ◌≤◌, Bool, true, false, cond, List, [], ◌∷◌, ◌++◌, length, map, Ok, Err, refl, sym, subst, ap, ◌∙◌, arith}
-use Rattle.std.specs.Prelude.{Contains}
+use Rattle.std.specs.Prelude.{◌≤ℤ◌, T, int_le}
 use Rattle.std.specs.List.{flat_map}
+use Rattle.std.proofs.lemmas.Bool.{and_parts}
 use Rattle.std.proofs.lemmas.List.{append_assoc, append-nil}
 use Rattle.std.proofs.lemmas.Grind.{flat_map-append}
 use Rattle.serde_json.specs.Data.{Data, Items}
 use Rattle.ocpi_text.specs.Text.{key}
 use Rattle.ocpi_text.specs.Party.{party_at}
 use Rattle.ocpi_types.specs.Apart.{DifferFrom, AllDiffer}
-use Rattle.ocpi_types.specs.Limits.{IsCount}
+use Rattle.ocpi_types.specs.Limits.{IsCount, IsPrice}
 use Rattle.ocpi_types.specs.Connectors.{connector_keys, AreConnectors}
 use Rattle.ocpi_types.specs.Locations.{evse_keys, location_keys, site_evse_keys, AreLocations}
 use Rattle.ocpi_types.specs.Parties.{SiteParties, AreParties}
@@ -19,12 +20,13 @@ use Rattle.ocpi_types.specs.declared.site.Location.{Location}
 use Rattle.ocpi_types.specs.declared.site.Site.{Site}
 use Rattle.ocpi_types.specs.declared.site.SiteLine.{SiteLine}
 use Rattle.ocpi_json.specs.declared.sites.LocationPlace.{LocationPlace}
+use Rattle.ocpi_json.specs.declared.fault.JsonFault.TheVariants.{WrongForm}
 use Rattle.ocpi_json.specs.Fault.{Read, ◌>>=◌}
 use Rattle.ocpi_json.specs.Fields.{as_record, as_text, formed, ci_in, free_in, moment_in, party_in, e4_in, record_in, each_after}
 use Rattle.ocpi_json.specs.Sites.{new_ci_in, new_among, counted_in, connector_at, connector_element, connectors_in, evse_at, evse_element, evses_in, location_place_at, location_at, location_element, locations_in, price_in, site_at, provider_at, providers_in, parties_at, site_line_at, site_of_line}
 use Rattle.ocpi_json.specs.Form.{Required, IsCi, IsFree, IsParty, IsE4, IsRecord, TextOf}
 use Rattle.ocpi_json.specs.SiteForm.{IsList, IsConnector, IsEvse, IsLocation, IsSite, HasParties, IsSiteLine, IsSiteLineTree}
-use Rattle.ocpi_json.proofs.Exact.{Exact, done, ok_is, bind_ok, both_steps, ci_exact, free_exact, moment_exact, party_exact, e4_exact, inner_exact, as_record_exact}
+use Rattle.ocpi_json.proofs.Exact.{Exact, done, ok_is, bind_ok, both_steps, text_exact, formed_ok, ci_exact, free_exact, moment_exact, party_exact, e4_exact, inner_exact, as_record_exact}
 use Rattle.ocpi_json.proofs.Elements.{record_beside, beside, AllNew, ExactBeside, IsListing, listing_exact, IsNewCi, new_ci_exact, new_among_sound, new_among_complete, Apart, differ_from_new, new_from_differ}
 
 -- ---- connectors
@@ -289,3 +291,147 @@ locations_exact = record {
     apart = new_locations [] xs (new_from_differ (λ (x : Location). key x.id) [] [] xs p.are.apart) p.are.evses_apart;
   });
 }
+
+-- ---- parties
+
+abbrev NewProvider : List ℕ → List (List ℕ) → List ℕ → Type 0
+NewProvider operator = Apart key (key operator ∷ [])
+
+provider_exact : (operator : List ℕ) (before : List (List ℕ)) → Exact (provider_at operator before) (λ d p. IsParty d p × NewProvider operator before p)
+unfolding provider_at
+provider_exact operator before = record {
+  sound = λ d x e.
+      let a = bind_ok (as_text field.Providers d) _ x e in
+      let b = bind_ok (formed field.Providers (party_at a.0)) _ x a.2 in
+      let new = new_among_sound field.Providers (key operator ∷ map key before) b.0 x b.2 in
+      let is = formed_ok field.Providers (party_at a.0) b.0 b.1 in
+      (subst (IsParty d) new.0 (a.0, (text_exact field.Providers).sound d a.0 a.1, is), new.1);
+  complete = λ d x p. rw (
+    (text_exact field.Providers).complete d p.0.0 p.0.1,
+    p.0.2,
+  ) (new_among_complete field.Providers (key operator ∷ map key before) x p.1);
+}
+
+provider_beside : (operator : List ℕ) → ExactBeside (provider_at operator) IsParty (NewProvider operator)
+provider_beside operator = beside (provider_exact operator)
+
+providers_listing : (operator : List ℕ) → Exact (providers_in operator) (IsListing IsParty (NewProvider operator) 0 63 field.Providers)
+unfolding providers_in
+providers_listing operator = listing_exact (provider_beside operator) 0 63 field.Providers
+
+listed_parties : (operator : List ℕ) (d : Data) (xs : List (List ℕ)) → IsListing IsParty (NewProvider operator) 0 63 field.Providers d xs → AreParties (record { operator = operator; providers = xs })
+listed_parties operator d xs l = record { few = l.high; apart = differ_from_new key (key operator ∷ []) [] xs l.apart }
+
+pub parties_are : (operator : List ℕ) (d : Data) (items : Items) (xs : List (List ℕ)) → counted_in 0 63 field.Providers d ≡ Ok items → each_after (provider_at operator) [] items ≡ Ok xs → AreParties (record { operator = operator; providers = xs })
+unfolding providers_in
+parties_are operator d items xs c e = listed_parties operator d xs ((providers_listing operator).sound d xs (both_steps (counted_in 0 63 field.Providers d) (each_after (provider_at operator) []) items xs c e))
+
+parties_exact : Exact parties_at HasParties
+unfolding parties_at
+parties_exact = record {
+  sound = λ d p e.
+      let a = bind_ok (party_in field.Party d) _ p e in
+      let b = bind_ok (providers_in a.0 d) _ p a.2 in
+      let l = (providers_listing a.0).sound d b.0 b.1 in
+      subst (HasParties d) (ok_is _ p b.2) (record {
+        operator = (party_exact field.Party).sound d a.0 a.1;
+        providers = l.elements;
+        are = listed_parties a.0 d b.0 l;
+      });
+  complete = λ d p h. rw (
+    (party_exact field.Party).complete d p.operator h.operator,
+    (providers_listing p.operator).complete d p.providers (record {
+      elements = h.providers;
+      low = omega arith;
+      high = h.are.few;
+      apart = new_from_differ key (key p.operator ∷ []) [] p.providers h.are.apart;
+    }),
+  ) refl;
+}
+
+-- ---- the site and its line
+
+record HasPrice (d : Data) (z : ℤ) : Type 0 where
+  form : Required IsE4 field.Price d z
+  bound : IsPrice z
+
+price_cond : (z y : ℤ) (b : Bool) → cond b (done z) (Err (WrongForm field.Price)) ≡ Ok y → (b ≡ true) × (z ≡ y)
+price_cond z y true e = (refl, ok_is z y e)
+price_cond z y false e = absurd cc
+
+passed : (b : Bool) → T b → b ≡ true
+passed true t = refl
+passed false t = absurd t
+
+at_most : (a b : ℤ) → int_le a b ≡ true → a ≤ℤ b
+at_most a b e = record { le = subst T (sym e) tt }
+
+price_exact : Exact price_in HasPrice
+unfolding price_in
+price_exact = record {
+  sound = λ d z e.
+      let a = bind_ok (e4_in field.Price d) _ z e in
+      let c = price_cond a.0 z _ a.2 in
+      let both = and_parts _ _ c.0 in
+      subst (HasPrice d) c.1 (record {
+        form = (e4_exact field.Price).sound d a.0 a.1;
+        bound = record { low = at_most _ _ both.0; high = at_most _ _ both.1 };
+      });
+  complete = λ d z p. rw (
+    (e4_exact field.Price).complete d z p.form,
+    passed _ p.bound.low.le,
+    passed _ p.bound.high.le,
+  ) refl;
+}
+
+pub site_exact : Exact site_at IsSite
+unfolding site_at
+site_exact = record {
+  sound = λ d s e.
+      let a = bind_ok (free_in 3 field.Currency d) _ s e in
+      let b = bind_ok (price_in d) _ s a.2 in
+      let g = bind_ok (locations_in d) _ s b.2 in
+      let price = price_exact.sound d b.0 b.1 in
+      let locations = locations_exact.sound d g.0 g.1 in
+      subst (IsSite d) (ok_is _ s g.2) (record {
+        currency = (free_exact 3 field.Currency).sound d a.0 a.1;
+        price = price.form;
+        bound = price.bound;
+        locations = locations.listed;
+        are = locations.are;
+      });
+  complete = λ d s p. rw (
+    (free_exact 3 field.Currency).complete d s.currency p.currency,
+    price_exact.complete d s.price (record { form = p.price; bound = p.bound }),
+    locations_exact.complete d s.locations (record { listed = p.locations; are = p.are }),
+  ) refl;
+}
+
+pub site_line_exact : Exact site_line_at IsSiteLine
+unfolding site_line_at
+site_line_exact = record {
+  sound = λ d s e.
+      let a = bind_ok (moment_in field.At d) _ s e in
+      let b = bind_ok (parties_at d) _ s a.2 in
+      let g = bind_ok (record_in field.Site d) _ s b.2 in
+      let h = bind_ok (site_at g.0) _ s g.2 in
+      let site = both_steps (record_in field.Site d) site_at g.0 h.0 g.1 h.1 in
+      subst (IsSiteLine d) (ok_is _ s h.2) (record {
+        at = (moment_exact field.At).sound d a.0 a.1;
+        parties = parties_exact.sound d b.0 b.1;
+        site = (inner_exact field.Site site_at IsSite site_exact).sound d h.0 site;
+      });
+  complete = λ d s p.
+      let inner = bind_ok (record_in field.Site d) site_at s.site ((inner_exact field.Site site_at IsSite site_exact).complete d s.site p.site) in
+      rw (
+        (moment_exact field.At).complete d s.at p.at,
+        parties_exact.complete d s.parties p.parties,
+        inner.1,
+        inner.2,
+      ) refl;
+}
+
+-- a line's tree is read just where it is a site line
+pub site_of_line_exact : Exact site_of_line IsSiteLineTree
+unfolding site_of_line
+site_of_line_exact = as_record_exact field.Line site_line_at IsSiteLine site_line_exact

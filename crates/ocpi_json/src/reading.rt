@@ -29,7 +29,6 @@ fn packet_in(alloc: Global, line: &[u8]) -> Result<Packet, JsonFault>
 /// JSON, nests deeper than 127 or has a number as a name (`Syntax`); then the members in the order `from`, `to`,
 /// `serial`, `request`, `kind`, `body` and its own: one that is absent or null (`Missing`), of another kind, length or
 /// range (`WrongForm`), or no word of its list (`UnknownWord`); a kind that is not known (`UnknownKind`).
-#[tactic(auto, using(crate::proofs::ReadPackets::packet_found, crate::proofs::ReadPackets::packet_only))]
 pub fn read_packet(alloc: Global, line: &[u8]) -> Result<Packet, JsonFault>
     // What is read is spelled so.
     ensures found { IfOk result (SpellsPacket line.now) }
@@ -54,7 +53,6 @@ fn site_in(alloc: Global, line: &[u8]) -> Result<SiteLine, JsonFault>
 /// Refused as [`read_packet`] refuses, with the members `at`, `party`, `providers` and `site`, and those of the site's
 /// records. The number of a list's elements is tried before them (`WrongForm` of the list's name), and a text that is
 /// equal but for case to an earlier one from which it must differ is refused where it is read (`WrongForm`).
-#[tactic(auto, using(crate::proofs::ReadSites::site_found, crate::proofs::ReadSites::site_only))]
 pub fn read_site(alloc: Global, line: &[u8]) -> Result<SiteLine, JsonFault>
     // What is read is spelled so.
     ensures found { IfOk result (SpellsSiteLine line.now) }

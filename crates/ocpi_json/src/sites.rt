@@ -1,12 +1,13 @@
 //! The site line, member by member. Each reader gives the first fault in the order of the members.
 
-ghost use Rattle.std.specs.Prelude.{◌≡◌, ◌∷◌, map, Ok};
+ghost use Rattle.std.specs.Prelude.{◌≡◌, ◌∷◌, map, IfOk, Ok};
 ghost use Rattle.std.specs.Str.{bytes_eq};
 ghost use Rattle.serde_json.specs.View.{view};
 ghost use Rattle.ocpi_text.specs.Text.{key};
 ghost use Rattle.ocpi_types.specs.Connectors.{connector_keys};
 ghost use Rattle.ocpi_types.specs.Locations.{evse_keys, location_keys, site_evse_keys};
 ghost use Rattle.ocpi_json.specs.Fault.{Gives};
+ghost use Rattle.ocpi_json.specs.SiteForm.{IsSiteLineTree};
 ghost use Rattle.ocpi_json.specs.Sites.{is_among, connector_at, connector_element, connectors_in, evse_at, evse_element, evses_in, location_place_at, location_at, location_element, locations_in, price_in, site_at, provider_at, providers_in, parties_at, site_line_at, site_of_line};
 
 use crate::fault::JsonFault;
@@ -315,7 +316,7 @@ fn provider_of(
 }
 
 /// The operator of a site line and its providers, at most 63, all of them different parties.
-#[tactic(auto, using(crate::proofs::SiteForm::parties_are), unfolding(crate::specs::Sites::parties_at, crate::specs::Sites::providers_in))]
+#[tactic(auto, unfolding(crate::specs::Sites::parties_at, crate::specs::Sites::providers_in))]
 fn parties_of(alloc: Global, object: &Value) -> Result<Parties, JsonFault>
     ensures { Gives result (parties_at (view object.now)) }
 {
@@ -338,10 +339,21 @@ fn site_line_of(alloc: Global, object: &Value) -> Result<SiteLine, JsonFault>
     Ok(SiteLine { at, parties, site })
 }
 
-/// The site line that the tree of a line spells. A line that is no object is told as such.
 #[tactic(auto, unfolding(crate::specs::Sites::site_of_line))]
-pub fn site_of_line(alloc: Global, tree: &Value) -> Result<SiteLine, JsonFault>
+fn line_site(alloc: Global, tree: &Value) -> Result<SiteLine, JsonFault>
     ensures { Gives result (site_of_line (view tree.now)) }
 {
     site_line_of(alloc, as_record(tree, Field::Line)?)
+}
+
+/// The site line that the tree of a line spells. A line that is no object is told as such.
+pub fn site_of_line(alloc: Global, tree: &Value) -> Result<SiteLine, JsonFault>
+    // What is read has the form of a site line.
+    ensures found { IfOk result (λ l. IsSiteLineTree (view tree.now) l) }
+    // What has the form of a site line is read, unless memory runs out.
+    ensures only { (l : _) → IsSiteLineTree (view tree.now) l → Gives result (Ok l) }
+    // Which fault it is.
+    ensures exact { Gives result (site_of_line (view tree.now)) }
+{
+    line_site(alloc, tree)
 }
