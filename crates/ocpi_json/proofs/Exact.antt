@@ -1,6 +1,6 @@
 -- A reader of a member succeeds just where the member's form holds.
-use Rattle.std.proofs.Common.{◌≡◌, ◌≢◌, ℕ, ℤ, Bool, true, false, cond, List, [], ◌∷◌, drop, Option, Some, None, Result, Ok, Err, refl, sym, ap, ◌∙◌, inl, inr, eqb-true}
-use Rattle.std.specs.Prelude.{◌⊎◌}
+use Rattle.std.proofs.Common.{◌≡◌, ◌≢◌, ℕ, ℤ, Bool, true, false, cond, List, [], ◌∷◌, drop, Option, Some, None, Result, Ok, Err, refl, sym, subst, ap, ◌∙◌, inl, inr, eqb-true}
+use Rattle.std.specs.Prelude.{◌⊎◌, IfOk}
 use Rattle.serde_json.specs.Data.{Data, null, boolean, number, string, array, object, Members}
 use Rattle.serde_json.specs.Find.{get}
 use Rattle.ocpi_text.specs.declared.fault.TextFault.{TextFault}
@@ -12,24 +12,24 @@ use Rattle.ocpi_text.specs.Decimal.{e4_at}
 use Rattle.ocpi_types.specs.declared.field.Field.{Field}
 use Rattle.ocpi_types.specs.Fields.{name_of}
 use Rattle.ocpi_json.specs.declared.fault.JsonFault.TheVariants.{WrongForm}
-use Rattle.ocpi_json.specs.Fault.{Read, ◌>>=◌}
+use Rattle.ocpi_json.specs.Fault.{Fails, Gives, Read, ◌>>=◌}
 use Rattle.ocpi_json.specs.Fields.{required, present, optional, is_absent, is_none_or_null, some_of, as_text, as_number, as_truth, as_record, text_in, number_in, ci_in, free_in, moment_in, truth_in, word_in, whole_in, e4_in, party_in, country_in, party_id_in, record_in, formed, listed, is_tagged}
 use Rattle.ocpi_json.specs.Form.{Has, Required, Lacks, Optional, IsText, IsNumber, TextOf, NumberOf, IsCi, IsFree, IsParty, IsMoment, IsWhole, IsE4, IsWord, IsTruth, IsRecord}
+
+pub use Rattle.ocpi_json.proofs.Steps.{done, ok_is, bind_ok}
 
 pub record Exact {X : Type 0} (reader : Data → Read X) (P : Data → X → Type 0) : Type 0 where
   pub sound : (d : Data) (x : X) → reader d ≡ Ok x → P d x
   pub complete : (d : Data) (x : X) → P d x → reader d ≡ Ok x
 
-abbrev pub done : {A : Type 0} → A → Read A
-done x = Ok x
+-- what an exact reader's answer says of the form
+pub found_from : {X : Type 0} {reader : Data → Read X} {P : Data → X → Type 0} → Exact reader P → (d : Data) (r : Read X) → Gives r (reader d) → IfOk r (λ x. P d x)
+found_from h d (Ok x) g = h.sound d x g
+found_from h d (Err e) g = tt
 
-pub ok_is : {A : Type 0} (x y : A) → done x ≡ done y → x ≡ y
-ok_is x y e = cc
-
--- the value of a step that did not fail
-pub bind_ok : {A B : Type 0} (r : Read A) (f : A → Read B) (y : B) → (r >>= f) ≡ Ok y → (x : A) × (r ≡ Ok x) × (f x ≡ Ok y)
-bind_ok (Ok x) f y e = (x, refl, e)
-bind_ok (Err d) f y e = absurd cc
+pub only_from : {X : Type 0} {reader : Data → Read X} {P : Data → X → Type 0} → Exact reader P → (d : Data) (r : Read X) → Gives r (reader d) → (x : X) → P d x → Gives r (Ok x)
+only_from {X = X} h d (Ok y) g x p = sym (h.complete d x p) ∙ g
+only_from {X = X} h d (Err e) g x p = subst (λ (read : Read X). Fails e read) (h.complete d x p) g
 
 -- ---- members
 
@@ -136,7 +136,7 @@ truth_sound f (array b) s e = absurd cc
 truth_sound f (object b) s e = absurd cc
 truth_sound f (boolean t) s e = ap boolean (ok_is t s e)
 
-formed_ok : {X : Type 0} (f : Field) (r : Result X TextFault) (x : X) → formed f r ≡ Ok x → r ≡ Ok x
+pub formed_ok : {X : Type 0} (f : Field) (r : Result X TextFault) (x : X) → formed f r ≡ Ok x → r ≡ Ok x
 formed_ok f (Ok y) x e = ap (λ (z : _). Ok z) (ok_is y x e)
 formed_ok f (Err y) x e = absurd cc
 

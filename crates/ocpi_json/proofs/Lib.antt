@@ -2,6 +2,7 @@ pub mod Again
 pub mod Among
 pub mod Cutting
 pub mod Digits
+pub mod Elements
 pub mod Exact
 pub mod Fails
 pub mod Gets
@@ -16,7 +17,9 @@ pub mod PieceQuoting
 pub mod PlainQuoting
 pub mod Quoting
 pub mod ReadPackets
+pub mod ReadSites
 pub mod Shape
+pub mod SiteForm
 pub mod Steps
 pub mod Tags
 pub mod TextBytes

@@ -1,5 +1,5 @@
 -- A line is read just where it has a tree, and the tree the form.
-use Rattle.std.proofs.Common.{◌≡◌, ℕ, ◌≤◌, Bool, true, false, cond, List, length, Option, Some, None, Ok, Err, refl, arith}
+use Rattle.std.proofs.Common.{◌≡◌, ℕ, ◌≤◌, Bool, true, false, cond, List, length, Option, Some, None, Ok, Err, IfOk, refl, sym, subst, ◌∙◌, arith}
 use Rattle.std.specs.Prelude.{nat_lt}
 use Rattle.std.specs.Str.{IsUtf8, is_utf8}
 use Rattle.std.proofs.lemmas.Bool.Decides.{nat_tests}
@@ -7,7 +7,7 @@ use Rattle.std.proofs.lemmas.Str.{is_utf8-from_IsUtf8, IsUtf8-from_is_utf8}
 use Rattle.serde_json.specs.Data.{Data}
 use Rattle.serde_json.specs.Read.{read}
 use Rattle.ocpi_json.specs.declared.fault.JsonFault.TheVariants.{Syntax}
-use Rattle.ocpi_json.specs.Fault.{Read, ◌>>=◌}
+use Rattle.ocpi_json.specs.Fault.{Read, Gives, Fails, ◌>>=◌}
 use Rattle.ocpi_json.specs.Line.{max_line, text_of, tree_or, tree_of, tree_at, HasTree}
 use Rattle.ocpi_json.specs.Names.{has_number_name}
 use Rattle.ocpi_json.specs.Quote.{quote}
@@ -75,3 +75,12 @@ line_sound reader P exact line x e =
 pub line_complete : {X : Type 0} (reader : Data → Read X) (P : Data → X → Type 0) → Exact reader P → (line : List ℕ) (x : X) (d : Data)
     → HasTree line d → P d x → (tree_at line >>= reader) ≡ Ok x
 line_complete reader P exact line x d h p = rw (tree_complete line d h) (exact.complete d x p)
+
+-- what an answer says, where reading succeeds just where P holds
+pub found_in : {X : Type 0} {read : Read X} {P : X → Type 0} → ((x : X) → read ≡ Ok x → P x) → (r : Read X) → Gives r read → IfOk r P
+found_in sound (Ok x) g = sound x g
+found_in sound (Err e) g = tt
+
+pub only_in : {X : Type 0} {read : Read X} {P : X → Type 0} → ((x : X) → P x → read ≡ Ok x) → (r : Read X) → Gives r read → (x : X) → P x → Gives r (Ok x)
+only_in complete (Ok y) g x p = sym (complete x p) ∙ g
+only_in complete (Err e) g x p = subst (λ (read : Read _). Fails e read) (complete x p) g

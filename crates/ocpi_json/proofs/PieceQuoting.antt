@@ -1,7 +1,6 @@
 -- Quoting goes piece by piece.
-use Rattle.std.proofs.Common.{◌≡◌, ◌≢◌, suc, ℕ, Bool, true, false, List, [], ◌∷◌, ◌++◌, Ok, Err, refl, sym, ap, subst, ◌∙◌, append_assoc, arith}
+use Rattle.std.proofs.Common.{◌≡◌, ◌≢◌, suc, ℕ, Bool, true, false, List, [], ◌∷◌, ◌++◌, Ok, Err, refl, sym, ap, subst, ◌∙◌, append_assoc}
 use Rattle.std.specs.Prelude.{codes, nat_le, ◌==◌}
-use Rattle.std.proofs.lemmas.Bool.Decides.{nat_tests}
 use Rattle.ocpi_json.specs.declared.fault.JsonFault.TheVariants.{BadNumberToken, TaggedText}
 use Rattle.ocpi_json.specs.declared.quote.Mode.{Mode}
 use Rattle.ocpi_json.specs.declared.quote.Mode.TheVariants.{Between, Number, Opening, Inside, Escaped}

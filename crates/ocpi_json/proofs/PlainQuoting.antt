@@ -1,5 +1,5 @@
 -- Quoting a written text gives the text of its tree.
-use Rattle.std.proofs.Common.{◌≡◌, ℕ, ◌/◌, ◌%◌, ◌<◌, Bool, true, false, cond, List, [], ◌∷◌, ◌++◌, Ok, Err, refl, sym, ap, ◌∙◌, append_assoc, arith}
+use Rattle.std.proofs.Common.{◌≡◌, ℕ, ◌/◌, ◌%◌, ◌<◌, Bool, true, false, cond, List, [], ◌∷◌, ◌++◌, Ok, refl, sym, ap, ◌∙◌, append_assoc, arith}
 use Rattle.std.specs.Prelude.{nat_lt, ◌||◌, ◌==◌}
 use Rattle.std.specs.Char.{digit_char}
 use Rattle.std.specs.List.{list_all}
@@ -12,7 +12,6 @@ use Rattle.serde_json.specs.Written.{comma_if, compact_text, items_text, members
 use Rattle.ocpi_json.specs.declared.quote.Mode.{Mode}
 use Rattle.ocpi_json.specs.declared.quote.Mode.TheVariants.{Between, Number, Opening, Inside, Escaped}
 use Rattle.ocpi_json.specs.declared.quote.Place.{Place}
-use Rattle.ocpi_json.specs.Fault.{Read}
 use Rattle.ocpi_json.specs.Quote.{quote_from, next_mode, mark, ending, before, in_number, outside, is_digit, is_number_char, first_place, next_place, place_after, is_whole}
 use Rattle.ocpi_json.specs.Numbers.{IsJsonNumber}
 use Rattle.ocpi_json.specs.Pieces.{Stops}

@@ -10,6 +10,8 @@ pub mod Packets
 pub mod Pieces
 pub mod Plain
 pub mod Quote
+pub mod SiteForm
+pub mod SiteLines
 pub mod Sites
 pub mod Trees
 pub mod Unquote

@@ -16,7 +16,7 @@ mod writing;
 
 pub use fault::JsonFault;
 pub use quote::{quote_numbers, quoted_numbers_are_json_numbers, quoting_goes_by_pieces};
-pub use reading::read_packet;
+pub use reading::{read_packet, read_site};
 pub use unquote::{unquote_numbers, unquoting_undoes_quoting};
 pub use writing::write_packet;
 

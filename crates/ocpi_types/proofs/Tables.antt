@@ -62,6 +62,23 @@ module _ {X K : Type 0} (R : K → K → Ordering) (o : IsTotalOrder R) (exact :
         | false ↦ λ f. data_at es k (i + 1) j n d (omega arith) f
       ] e
 
+  key_from : (es : List (K × X)) (k : K) (i j n : ℕ) (d : K × X) → j ≡ i + n → position_from (is R k) i es ≡ Some j → (get_or es n d).0 ≡ k
+  key_from [] k i j n d a e = absurd (cc)
+  key_from (x ∷ es) k i j zero d a e =
+      elim (is R k x) as (λ b. is R k x ≡ b → cond b (Some i) (position_from (is R k) (i + 1) es) ≡ Some j → x.0 ≡ k) [
+        | true ↦ λ t f. sym (same_key o exact k x.0 t)
+        | false ↦ λ t f. absurd (let l : i + 1 ≤ j = shift es (is R k) (i + 1) j f in omega arith)
+      ] refl e
+  key_from (x ∷ es) k i j (suc n) d a e =
+      elim (is R k x) as (λ b. cond b (Some i) (position_from (is R k) (i + 1) es) ≡ Some j → (get_or es n d).0 ≡ k) [
+        | true ↦ λ f. absurd (let same : i ≡ j = cc in omega arith)
+        | false ↦ λ f. key_from es k (i + 1) j n d (omega arith) f
+      ] e
+
+  -- the key at the place of a key
+  pub key_at : (es : List (K × X)) (k : K) (i : ℕ) (d : K × X) → position (is R k) es ≡ Some i → (get_or es i d).0 ≡ k
+  key_at es k i d e = key_from es k 0 i i d (omega arith) (sym (position_from-zero (is R k) es) ∙ e)
+
   absent : (es : List (K × X)) (k : K) (i : ℕ) → position_from (is R k) i es ≡ None → find R k es ≡ None
   absent [] k i e = refl
   absent (x ∷ es) k i e =

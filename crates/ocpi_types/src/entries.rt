@@ -1,6 +1,7 @@
-//! Lists of entries that are searched from end to end, read as finite maps. Proved once for every kind of key.
+//! Lists of entries that are searched from end to end, each seen as a finite map: what the tables of every kind of key
+//! stand on.
 
-ghost use Rattle.std.specs.Prelude.{◌≡◌, OnOk, OnErr, IsOk, IsTrue, option_copied, position, string_bytes};
+ghost use Rattle.std.specs.Prelude.{◌≡◌, Some, OnOk, OnErr, IsOk, IsTrue, option_copied, position, string_bytes};
 ghost use Rattle.std.specs.FinMap as map;
 ghost use Rattle.std.specs.FinMap.{IsAntisymmetric};
 ghost use Rattle.std.specs.Ordering.{eq_by_cmp};
@@ -11,6 +12,7 @@ ghost use Rattle.std.specs.declared.cmp.Ordering.{Ordering as Order};
 
 use std::alloc::AllocError;
 use std::marker::Model;
+use std::mem::replace;
 
 /// A text in a key of a table, seen as its bytes.
 #[derive(Drop)]
@@ -153,6 +155,20 @@ pub(crate) fn put<Q: Lookup, V: Drop>(
         None => entries.push((key, value))?,
     }
     Ok(())
+}
+
+/// Writes the value of a key that has one, and answers the one before.
+pub(crate) fn exchange<Q: Lookup, V: Drop>(entries: &mut Vec<(Q::Stored, V)>, key: Q, value: V) -> V
+    requires once { OneEach Q.order entries.old.items }
+    requires there { IsTrue (map.contains_key (map.from_entries {R = Q.order} entries.old.items) (Q.wanted key)) }
+    ensures before { Some result ≡ map.get (map.from_entries {R = Q.order} entries.old.items) (Q.wanted key) }
+    ensures after { map.from_entries {R = Q.order} entries.new.items ≡ map.insert (map.from_entries entries.old.items) (Q.wanted key) value }
+    ensures once { OneEach Q.order entries.new.items }
+{
+    let Some(place) = place_of(entries.as_slice(), key) else {
+        unreachable!()
+    };
+    replace(&mut entries[place].1, value)
 }
 
 /// Takes the entry of the key out, and answers its value.

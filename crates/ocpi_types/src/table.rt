@@ -3,12 +3,12 @@
 //! A search takes no memory, and its time grows with the entries. An insert of a new key may want memory, and all else
 //! takes none: so what was inserted can be removed again where a later step fails.
 
-ghost use Rattle.std.specs.Prelude.{◌≡◌, OnOk, OnErr, IsOk, IsTrue, option_copied, string_bytes};
+ghost use Rattle.std.specs.Prelude.{◌≡◌, Some, OnOk, OnErr, IsOk, IsTrue, option_copied, string_bytes};
 ghost use Rattle.std.specs.FinMap as map;
 ghost use Rattle.ocpi_types.specs.Entries.{OneEach};
 ghost use Rattle.ocpi_types.specs.Keys.{text_cmp, text_number_cmp, text_pair_cmp};
 
-use crate::entries::{KeyText, place_of, put, take_out, value_of};
+use crate::entries::{KeyText, exchange, place_of, put, take_out, value_of};
 use std::alloc::{AllocError, Global};
 use std::marker::Model;
 
@@ -76,6 +76,15 @@ impl<V: Drop> TextTable<V> {
     {
         let place = place_of(self.entries.as_slice(), key.as_str());
         put::<&str, V>(&mut self.entries, place, KeyText::new(key), value)
+    }
+
+    /// Sets the value of a key that has one, and answers the one before. It takes no memory.
+    pub fn replace(&mut self, key: &str, value: V) -> V
+        requires { IsTrue (map.contains_key self.old key.now) }
+        ensures before { Some result ≡ map.get self.old key.now }
+        ensures after { self.new ≡ map.insert self.old key.now value }
+    {
+        exchange(&mut self.entries, key, value)
     }
 
     /// Takes the entry of a key out, and answers its value. It takes no memory.
@@ -158,6 +167,15 @@ impl<V: Drop> TextNumberTable<V> {
         )
     }
 
+    /// Sets the value of a key that has one, and answers the one before. It takes no memory.
+    pub fn replace(&mut self, text: &str, number: u64, value: V) -> V
+        requires { IsTrue (map.contains_key self.old (text.now, number)) }
+        ensures before { Some result ≡ map.get self.old (text.now, number) }
+        ensures after { self.new ≡ map.insert self.old (text.now, number) value }
+    {
+        exchange(&mut self.entries, (text, number), value)
+    }
+
     /// Takes the entry of a key out, and answers its value. It takes no memory.
     pub fn remove(&mut self, text: &str, number: u64) -> Option<V>
         ensures value { result ≡ map.get self.old (text.now, number) }
@@ -238,90 +256,20 @@ impl<V: Drop> TextPairTable<V> {
         )
     }
 
+    /// Sets the value of a key that has one, and answers the one before. It takes no memory.
+    pub fn replace(&mut self, first: &str, second: &str, value: V) -> V
+        requires { IsTrue (map.contains_key self.old (first.now, second.now)) }
+        ensures before { Some result ≡ map.get self.old (first.now, second.now) }
+        ensures after { self.new ≡ map.insert self.old (first.now, second.now) value }
+    {
+        exchange(&mut self.entries, (first, second), value)
+    }
+
     /// Takes the entry of a key out, and answers its value. It takes no memory.
     pub fn remove(&mut self, first: &str, second: &str) -> Option<V>
         ensures value { result ≡ map.get self.old (first.now, second.now) }
         ensures rest { self.new ≡ map.remove self.old (first.now, second.now) }
     {
         take_out(&mut self.entries, (first, second))
-    }
-}
-
-#[cfg(test)]
-mod tests {
-    use super::*;
-    use std::test::Fail;
-
-    fn text(alloc: Global, text: &str) -> Result<String, AllocError> {
-        String::from_str(alloc, text)
-    }
-
-    #[test]
-    fn text_table(rt: HostRuntime) -> Result<(), Fail> {
-        let alloc = rt.alloc();
-        let mut table = TextTable::new(alloc);
-        assert!(rt; !table.contains("EVSE1"));
-        table.insert(text(alloc, "EVSE1")?, text(alloc, "first")?)?;
-        table.insert(text(alloc, "EVSE2")?, text(alloc, "second")?)?;
-        table.insert(text(alloc, "EVSE1")?, text(alloc, "third")?)?;
-        assert!(rt; table.contains("EVSE1"));
-        assert_eq!(rt; table.get("EVSE1").map(|t| t.as_str()), Some("third"));
-        assert_eq!(rt; table.entries().len(), 2);
-        assert!(rt; table.remove("EVSE1").is_some());
-        assert!(rt; table.remove("EVSE1").is_none());
-        assert_eq!(rt; table.get("EVSE1").map(|t| t.as_str()), None);
-        assert_eq!(rt; table.get("EVSE2").map(|t| t.as_str()), Some("second"));
-        assert_eq!(rt; table.entries()[0].0.as_str(), "EVSE2");
-        Ok(())
-    }
-
-    #[test]
-    fn text_number_table(rt: HostRuntime) -> Result<(), Fail> {
-        let alloc = rt.alloc();
-        let mut table = TextNumberTable::new(alloc);
-        table.insert(text(alloc, "NLPRV")?, 7, text(alloc, "first")?)?;
-        table.insert(text(alloc, "NLPRV")?, 8, text(alloc, "second")?)?;
-        table.insert(text(alloc, "NLPRV")?, 7, text(alloc, "third")?)?;
-        assert!(rt; table.contains("NLPRV", 8));
-        assert!(rt; !table.contains("NLPRW", 8));
-        assert_eq!(rt; table.get("NLPRV", 7).map(|t| t.as_str()), Some("third"));
-        assert!(rt; table.remove("NLPRV", 7).is_some());
-        assert!(rt; table.remove("NLPRV", 7).is_none());
-        assert_eq!(rt; table.entries().len(), 1);
-        Ok(())
-    }
-
-    #[test]
-    fn text_pair_table(rt: HostRuntime) -> Result<(), Fail> {
-        let alloc = rt.alloc();
-        let mut table = TextPairTable::new(alloc);
-        table.insert(text(alloc, "NLPRV")?, text(alloc, "A1")?, 1)?;
-        table.insert(text(alloc, "NLPRV")?, text(alloc, "A2")?, 2)?;
-        table.insert(text(alloc, "NLPRV")?, text(alloc, "A1")?, 3)?;
-        assert!(rt; table.contains("NLPRV", "A2"));
-        assert!(rt; !table.contains("NLPRVA", "2"));
-        assert_eq!(rt; table.get("NLPRV", "A1").copied(), Some(3));
-        assert_eq!(rt; table.remove("NLPRV", "A1"), Some(3));
-        assert_eq!(rt; table.remove("NLPRV", "A1"), None);
-        assert_eq!(rt; table.entries().len(), 1);
-        Ok(())
-    }
-
-    /// Where there is no memory for a new key, the table keeps its entries and has no other.
-    #[test]
-    fn want_of_memory(rt: HostRuntime) -> Result<(), Fail> {
-        let alloc = rt.alloc();
-        let mut table = TextTable::new(alloc);
-        for key in ["A", "B", "C", "D", "E"] {
-            let before = table.entries().len();
-            let owned = text(alloc, key)?;
-            if table.insert(owned, before).is_err() {
-                assert!(rt; !table.contains(key));
-                assert_eq!(rt; table.entries().len(), before);
-            } else {
-                assert_eq!(rt; table.get(key).copied(), Some(before));
-            }
-        }
-        Ok(())
     }
 }
