@@ -28,7 +28,7 @@ unfoldable pub required : Field → Data → Read Data
 required f d = present f (get (name_of f) d)
 
 -- an optional member
-abbrev is_none_or_null : Option Data → Bool
+abbrev pub is_none_or_null : Option Data → Bool
 is_none_or_null None = true
 is_none_or_null (Some null) = true
 is_none_or_null (Some (boolean b)) = false
@@ -157,7 +157,7 @@ e4_in f d = do
 
 -- ---- lists
 
-abbrev as_list : Field → Data → Read Items
+abbrev pub as_list : Field → Data → Read Items
 as_list f (array ds) = Ok ds
 as_list f null = Err (WrongForm f)
 as_list f (boolean b) = Err (WrongForm f)

@@ -3,12 +3,13 @@
 use Rattle.std.specs.Prelude.{ℕ, ℤ, pos, List, [], ◌∷◌, ◌++◌, map, Bool, nat_le, int_le, ◌&&◌, Ok, Err, if◌then◌else◌}
 use Rattle.std.specs.List.{list_any}
 use Rattle.std.specs.Str.{bytes_eq}
-use Rattle.serde_json.specs.Data.{Data}
+use Rattle.serde_json.specs.Data.{Data, Items}
 use Rattle.serde_json.specs.Events.{items_len}
 use Rattle.ocpi_text.specs.Text.{key}
 use Rattle.ocpi_text.specs.Party.{party_at}
 use Rattle.ocpi_types.specs.Connectors.{connector_keys}
 use Rattle.ocpi_types.specs.Locations.{evse_keys, location_keys, site_evse_keys}
+use Rattle.ocpi_types.specs.Parties.{SiteParties}
 use Rattle.ocpi_types.specs.declared.field.Field.{Field}
 use Rattle.ocpi_types.specs.declared.field.Field.TheVariants as field
 use Rattle.ocpi_types.specs.declared.site.Connector.{Connector}
@@ -17,12 +18,13 @@ use Rattle.ocpi_types.specs.declared.site.Location.{Location}
 use Rattle.ocpi_types.specs.declared.site.Site.{Site}
 use Rattle.ocpi_types.specs.declared.site.SiteLine.{SiteLine}
 use Rattle.ocpi_json.specs.declared.fault.JsonFault.TheVariants.{WrongForm}
+use Rattle.ocpi_json.specs.declared.sites.LocationPlace.{LocationPlace}
 use Rattle.ocpi_json.specs.Fault.{Read, ◌>>=◌}
 use Rattle.ocpi_json.specs.Fields.{as_record, as_text, formed, ci_in, free_in, moment_in, party_in, e4_in, record_in, list_in, each_after}
 
 -- the text stands among these
 abbrev pub is_among : List (List ℕ) → List ℕ → Bool
-is_among earlier s = list_any (λ t. bytes_eq t s) earlier
+is_among earlier s = list_any (bytes_eq s) earlier
 
 -- a text whose key differs from the earlier ones
 abbrev pub new_among : Field → List (List ℕ) → List ℕ → Read (List ℕ)
@@ -34,9 +36,12 @@ new_ci_in max f earlier d = do
   s ← ci_in max f d
   new_among f earlier s
 
--- how many elements a list has is tried before them
-abbrev pub counted : {X : Type 0} → Field → ℕ → ℕ → ℕ → Read X → Read X
-counted f least most n read = if nat_le least n && nat_le n most then read else Err (WrongForm f)
+-- the elements of a list, of which there are so many
+abbrev pub counted : ℕ → ℕ → Field → Items → Read Items
+counted least most f items = if nat_le least (items_len items) && nat_le (items_len items) most then Ok items else Err (WrongForm f)
+
+unfoldable pub counted_in : ℕ → ℕ → Field → Data → Read Items
+counted_in least most f d = list_in f d >>= counted least most f
 
 unfoldable pub connector_at : List Connector → Data → Read Connector
 connector_at before d = do
@@ -46,10 +51,12 @@ connector_at before d = do
   power_type ← free_in 64 field.PowerType d
   Ok (record { id = id; standard = standard; format = format; power_type = power_type })
 
+-- one of a list, beside those before it
+abbrev pub connector_element : List Connector → Data → Read Connector
+connector_element before e = as_record field.Connectors e >>= connector_at before
+
 unfoldable pub connectors_in : Data → Read (List Connector)
-connectors_in d = do
-  items ← list_in field.Connectors d
-  counted field.Connectors 1 10 (items_len items) (each_after (λ before e. as_record field.Connectors e >>= connector_at before) [] items)
+connectors_in d = counted_in 1 10 field.Connectors d >>= each_after connector_element []
 
 -- an EVSE, beside those of earlier locations and those before it at its own
 unfoldable pub evse_at : List Location → List Evse → Data → Read Evse
@@ -59,26 +66,34 @@ evse_at earlier before d = do
   connectors ← connectors_in d
   Ok (record { uid = uid; evse_id = evse_id; connectors = connectors })
 
-unfoldable pub evses_in : List Location → Data → Read (List Evse)
-evses_in earlier d = do
-  items ← list_in field.Evses d
-  counted field.Evses 1 1000 (items_len items) (each_after (λ before e. as_record field.Evses e >>= evse_at earlier before) [] items)
+abbrev pub evse_element : List Location → List Evse → Data → Read Evse
+evse_element earlier before e = as_record field.Evses e >>= evse_at earlier before
 
-unfoldable pub location_at : List Location → Data → Read Location
-location_at before d = do
+unfoldable pub evses_in : List Location → Data → Read (List Evse)
+evses_in earlier d = counted_in 1 1000 field.Evses d >>= each_after (evse_element earlier) []
+
+-- a location up to its EVSEs
+unfoldable pub location_place_at : List Location → Data → Read LocationPlace
+location_place_at before d = do
   id ← new_ci_in 36 field.Id (location_keys before) d
   address ← free_in 45 field.Address d
   city ← free_in 45 field.City d
   country ← free_in 3 field.Country d
   latitude ← free_in 10 field.Latitude d
   longitude ← free_in 11 field.Longitude d
+  Ok (record { id = id; address = address; city = city; country = country; latitude = latitude; longitude = longitude })
+
+unfoldable pub location_at : List Location → Data → Read Location
+location_at before d = do
+  place ← location_place_at before d
   evses ← evses_in before d
-  Ok (record { id = id; address = address; city = city; country = country; latitude = latitude; longitude = longitude; evses = evses })
+  Ok (record { id = place.id; address = place.address; city = place.city; country = place.country; latitude = place.latitude; longitude = place.longitude; evses = evses })
+
+abbrev pub location_element : List Location → Data → Read Location
+location_element before e = as_record field.Locations e >>= location_at before
 
 unfoldable pub locations_in : Data → Read (List Location)
-locations_in d = do
-  items ← list_in field.Locations d
-  counted field.Locations 1 1000 (items_len items) (each_after (λ before e. as_record field.Locations e >>= location_at before) [] items)
+locations_in d = counted_in 1 1000 field.Locations d >>= each_after location_element []
 
 -- a price from 0.0000 to 10,000.0000
 unfoldable pub price_in : Data → Read ℤ
@@ -101,18 +116,21 @@ provider_at operator before d = do
   new_among field.Providers (key operator ∷ map key before) party
 
 unfoldable pub providers_in : List ℕ → Data → Read (List (List ℕ))
-providers_in operator d = do
-  items ← list_in field.Providers d
-  counted field.Providers 0 63 (items_len items) (each_after (provider_at operator) [] items)
+providers_in operator d = counted_in 0 63 field.Providers d >>= each_after (provider_at operator) []
+
+unfoldable pub parties_at : Data → Read SiteParties
+parties_at d = do
+  operator ← party_in field.Party d
+  providers ← providers_in operator d
+  Ok (record { operator = operator; providers = providers })
 
 unfoldable pub site_line_at : Data → Read SiteLine
 site_line_at d = do
   at ← moment_in field.At d
-  operator ← party_in field.Party d
-  providers ← providers_in operator d
+  parties ← parties_at d
   inner ← record_in field.Site d
   site ← site_at inner
-  Ok (record { at = at; parties = record { operator = operator; providers = providers }; site = site })
+  Ok (record { at = at; parties = parties; site = site })
 
 -- a line that is no object is told as such
 unfoldable pub site_of_line : Data → Read SiteLine

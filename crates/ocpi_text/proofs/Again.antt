@@ -1,20 +1,18 @@
 -- What is written is read again as the same value, and no such text begins with the byte 1.
-use Rattle.std.proofs.Common.{◌≡◌, ℕ, ℤ, ◌<◌, ◌≤◌, true, false, List, [], ◌∷◌, length, Result, Ok, Err, refl, sym, ◌∙◌, arith, decimal}
-use Rattle.std.specs.Prelude.{unsigned_abs, pos, negsuc, suc, slice_index, ◌==◌, nat_lt, nat_le, ◌^◌, ◌&&◌}
+use Rattle.std.proofs.Common.{◌≡◌, ℕ, ◌<◌, ◌≤◌, true, false, List, [], ◌∷◌, length, Ok, refl, arith, decimal}
+use Rattle.std.specs.Prelude.{slice_index, ◌==◌, nat_lt, ◌^◌}
 use Rattle.std.specs.List.{list_all}
 use Rattle.std.specs.Str.{chars}
-use Rattle.std.proofs.lemmas.Bool.{and_parts, and_from, ne_eqb, le-ltb, le-leb, lt-ltb}
+use Rattle.std.proofs.lemmas.Bool.{and_parts, ne_eqb, le-ltb}
 use Rattle.std.proofs.lemmas.Bool.Decides.{nat_tests}
-use Rattle.ocpi_text.specs.Text.{is_printable, is_free, is_ascii_text, is_free_text, ci_text, free_text, exact_text}
-use Rattle.ocpi_text.specs.Moment.{last_moment, moment_at, moment_text}
-use Rattle.ocpi_text.specs.Decimal.{e4_limit, e4_at, e4_text}
+use Rattle.ocpi_text.specs.Text.{is_printable, is_ascii_text, is_free_text, ci_text, free_text}
 pub use Rattle.ocpi_text.proofs.Digits.{whole_again}
+pub use Rattle.ocpi_text.proofs.Moments.{moment_again, moment_begins}
+pub use Rattle.ocpi_text.proofs.Decimals.{e4_again}
 pub use Rattle.ocpi_text.proofs.Parties.{exact_from_parts, party_of_halves, country_passes, party_id_passes, party_passes}
 use Rattle.ocpi_text.proofs.Text.{printable_length}
 use Rattle.ocpi_text.proofs.Digits.{own, whole_from, first_digit}
-use Rattle.ocpi_text.specs.Whole.{is_whole}
-use Rattle.std.specs.Str.Parse.{digits_value}
-use Rattle.std.proofs.lemmas.Fmt.{digits_decimal, digits_value-decimal, decimal_nonempty}
+use Rattle.std.proofs.lemmas.Fmt.{digits_decimal, decimal_nonempty}
 
 pub ci_again : (max : ℕ) (s : List ℕ) → is_ascii_text s ≡ true → length s ≤ max → ci_text max s ≡ Ok s
 ci_again max s p le =
@@ -47,32 +45,3 @@ decimal_first n mark small low =
     let w = whole_from (decimal n) (digits_decimal own n small) (decimal_nonempty n small) in
     let digit = first_digit (decimal n) w in
     ne_eqb _ _ (omega arith)
-
-pub moment_again : (n : ℕ) → n ≤ last_moment → moment_at (moment_text n) ≡ Ok n
-unfolding moment_at moment_text
-moment_again n le =
-    let small : n < 2 ^ 64 = omega arith in
-    let w = whole_from (decimal n) (digits_decimal own n small) (decimal_nonempty n small) in
-    let same = digits_value-decimal own n small in
-    let fits : nat_le n last_moment ≡ true = le-leb _ _ le in
-    rw (same, w, fits) refl
-
-pub moment_begins : (n : ℕ) → n ≤ last_moment → (slice_index (moment_text n) 0 == 1) ≡ false
-unfolding moment_text
-moment_begins n le = decimal_first n 1 (omega arith) (omega arith)
-
-e4_whole : (n : ℕ) → n < e4_limit → (is_whole (decimal n) && nat_lt (digits_value 10 (decimal n)) e4_limit) ≡ true
-e4_whole n less =
-    let small : n < 2 ^ 64 = omega arith in
-    let w = whole_from (decimal n) (digits_decimal own n small) (decimal_nonempty n small) in
-    let same = digits_value-decimal own n small in
-    and_from _ _ w (rw same (lt-ltb _ _ less))
-
-pub e4_again : (z : ℤ) → unsigned_abs z < e4_limit → e4_at (e4_text z) ≡ Ok z
-unfolding e4_at e4_text
-e4_again (pos n) less =
-    let small : n < 2 ^ 64 = omega arith in
-    rw (decimal_first n 45 small (omega arith), e4_whole n less, digits_value-decimal own n small) refl
-e4_again (negsuc n) less =
-    let small : suc n < 2 ^ 64 = omega arith in
-    rw (e4_whole (suc n) less, digits_value-decimal own (suc n) small) refl

@@ -35,3 +35,11 @@ key_printable [] h = refl
 key_printable (x ∷ s) h =
     let p = and_parts (is_printable x) (list_all is_printable s) h in
     and_from _ _ (printable_upper x p.0) (key_printable s p.1)
+
+-- a key is its own key
+upper-upper : (x : ℕ) → to_ascii_uppercase (to_ascii_uppercase x) ≡ to_ascii_uppercase x
+upper-upper x = grind (arith, nat_tests)
+
+pub key_key : (s : List ℕ) → key (key s) ≡ key s
+key_key [] = refl
+key_key (x ∷ s) = rw (upper-upper x, key_key s) refl

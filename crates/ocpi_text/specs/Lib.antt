@@ -1,6 +1,9 @@
 pub mod Fault
 pub mod Text
 pub mod Party
+pub mod Digits
+pub mod Calendar
+pub mod Clock
 pub mod Moment
 pub mod Decimal
 pub mod Whole

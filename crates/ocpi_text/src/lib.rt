@@ -1,18 +1,25 @@
 //! Texts, parties, moments and numbers of OCPI 2.2.1.
 #![tactic(auto)]
 
+mod calendar;
 mod ci_text;
+mod clock;
 mod decimal;
 mod fault;
 mod free_text;
+mod laws;
 mod moment;
+mod numeral;
 mod party;
+#[cfg(test)]
+mod tests;
 mod whole;
 
 pub use ci_text::CiText;
 pub use decimal::E4;
 pub use fault::TextFault;
 pub use free_text::FreeText;
+pub use laws::{keys_are_texts, parties_are_their_halves, texts_are_read_back};
 pub use moment::Moment;
 pub use party::Party;
 pub use whole::Whole;

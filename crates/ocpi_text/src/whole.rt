@@ -1,12 +1,11 @@
 //! Whole numbers.
 
 ghost use Rattle.std.specs.Prelude.{◌≡◌, ◌+◌, ◌≤◌, SomeIff, IfOk, Ok, string_bytes, decimal};
-ghost use Rattle.std.specs.List.{list_all};
-ghost use Rattle.std.specs.Char.{is_ascii_digit};
 ghost use Rattle.ocpi_text.specs.Fault.{Gives};
 ghost use Rattle.ocpi_text.specs.Whole.{is_whole, whole_at, max_whole};
 
 use crate::fault::TextFault;
+use crate::numeral::is_digits;
 use std::alloc::{AllocError, Global};
 use std::marker::Model;
 
@@ -34,12 +33,6 @@ fn is_whole(text: &str) -> bool
     ensures { result ≡ is_whole text.now }
 {
     !text.is_empty() && is_digits(text.as_bytes())
-}
-
-fn is_digits(bytes: &[u8]) -> bool
-    ensures { result ≡ list_all is_ascii_digit bytes.now }
-{
-    bytes.iter().all(|b| b.is_ascii_digit())
 }
 
 impl Whole {

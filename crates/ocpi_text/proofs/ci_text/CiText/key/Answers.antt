@@ -1,4 +1,3 @@
-use Rattle.std.proofs.Common.{rules}
 use Rattle.ocpi_text.proofs.Case.{key_printable}
 use Rattle.ocpi_text.proofs.ci_text.CiText.key.Goals as goal
 

@@ -1,6 +1,5 @@
-use Rattle.std.proofs.Common.{rules, ◌≡◌, ◌∙◌, ◌++◌, ◌∷◌, [], ℕ, List, Ok, ap, append_assoc}
+use Rattle.std.proofs.Common.{rules, ◌≡◌, ◌++◌, ◌∷◌, [], append_assoc}
 use Rattle.std.specs.Prelude.{string_bytes}
-use Rattle.ocpi_text.specs.Party.{party_at, party_of}
 use Rattle.ocpi_text.proofs.Parties.{party_parts, party_passes}
 use Rattle.ocpi_text.proofs.party.Party.join.Goals as goal
 

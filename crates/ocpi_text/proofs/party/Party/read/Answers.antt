@@ -1,4 +1,4 @@
-use Rattle.std.proofs.Common.{rules, arith, ◌≡◌, ◌∙◌, true, Ok}
+use Rattle.std.proofs.Common.{rules, arith, ◌≡◌, ◌∙◌, true}
 use Rattle.std.proofs.lemmas.Result.{err_from_is_err_and}
 use Rattle.ocpi_text.specs.Party.{party_at, is_party_shape}
 use Rattle.ocpi_text.proofs.Parties.{party_by_shape, ci_text_is}

@@ -1,0 +1,26 @@
+//! OCPI 2.2.1 as lines of JSON: packets and site lines, read with the first fault told, and packets written.
+#![tactic(auto)]
+
+mod fault;
+mod fields;
+mod lines;
+mod lists;
+mod names;
+mod quote;
+mod reading;
+mod records;
+mod sites;
+mod trees;
+mod unquote;
+mod writing;
+
+pub use fault::JsonFault;
+pub use quote::{quote_numbers, quoted_numbers_are_json_numbers, quoting_goes_by_pieces};
+pub use reading::{read_packet, read_site};
+pub use unquote::{unquote_numbers, unquoting_undoes_quoting};
+pub use writing::write_packet;
+
+#[cfg(test)]
+mod packet_tests;
+#[cfg(test)]
+mod tests;

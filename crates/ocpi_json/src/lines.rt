@@ -1,0 +1,73 @@
+//! Lines of bytes to trees, and back.
+
+ghost use Rattle.std.specs.Prelude.{◌≡◌, ◌≤◌, length, IfOk, Ok, string_bytes};
+ghost use Rattle.ocpi_json.specs.Fault.{GivesBy};
+ghost use Rattle.ocpi_json.specs.Line.{max_line, text_of, tree_of, tree_at};
+ghost use Rattle.ocpi_json.specs.Plain.{IsTagged, plain_text};
+ghost use Rattle.serde_json.specs.Data.{depth};
+ghost use Rattle.serde_json.specs.Read.{max_depth};
+ghost use Rattle.serde_json.specs.View.{view};
+
+use crate::fault::JsonFault;
+use crate::names::has_number_name;
+use crate::quote::quote_numbers;
+use crate::unquote::unquote_numbers;
+use serde_json::Value;
+use std::alloc::{AllocError, Global};
+
+/// The bytes of the longest line.
+const MAX_LINE: usize = 1_048_576;
+
+#[tactic(auto, unfolding(crate::specs::Line::text_of))]
+fn text_of(line: &[u8]) -> Result<&str, JsonFault>
+    ensures { GivesBy (λ s. s.now) result (text_of line.now) }
+{
+    if line.len() > MAX_LINE {
+        return Err(JsonFault::Syntax);
+    }
+    match str::from_utf8(line) {
+        Ok(text) => Ok(text),
+        Err(_) => Err(JsonFault::Syntax),
+    }
+}
+
+/// The tree of a text whose numbers are quoted.
+#[tactic(auto, unfolding(crate::specs::Line::tree_of))]
+fn tree_of(alloc: Global, quoted: &str) -> Result<Value, JsonFault>
+    ensures { GivesBy view result (tree_of quoted.now) }
+{
+    if has_number_name(alloc, quoted)? {
+        return Err(JsonFault::Syntax);
+    }
+    match Value::from_str(alloc, quoted) {
+        Ok(value) => Ok(value),
+        Err(e) if e.is_memory() => Err(JsonFault::Memory),
+        Err(_) => Err(JsonFault::Syntax),
+    }
+}
+
+/// The JSON tree of a line. Each number is a text there, as written, behind U+0001, so none is
+/// read as floating point.
+///
+/// Refused, in this order: a line of more than 1,048,576 bytes or that is no UTF-8 (`Syntax`);
+/// what [`quote_numbers`] refuses; a text that is no JSON, that nests deeper than 127 arrays and
+/// objects, or in which a name of an object is a number (`Syntax`).
+#[tactic(auto, unfolding(crate::specs::Line::tree_at))]
+pub fn line_tree(alloc: Global, line: &[u8]) -> Result<Value, JsonFault>
+    ensures { GivesBy view result (tree_at line.now) }
+{
+    let text = text_of(line)?;
+    let quoted = quote_numbers(alloc, text)?;
+    tree_of(alloc, &quoted)
+}
+
+/// The line of a tree whose numbers are texts behind U+0001: no spaces, the members of each object
+/// in the byte order of their names, numbers as they were given.
+pub fn tree_line(alloc: Global, tree: &Value) -> Result<String, AllocError>
+    ensures text { IfOk result (λ s. IsTagged (view tree.now) → string_bytes s ≡ plain_text (view tree.now)) }
+    ensures again { IfOk result (λ s. IsTagged (view tree.now) → depth (view tree.now) ≤ max_depth
+        → length (string_bytes s) ≤ max_line → tree_at (string_bytes s) ≡ Ok (view tree.now)) }
+{
+    let text = tree.to_string(alloc)?;
+    unquote_numbers(alloc, &text)
+}

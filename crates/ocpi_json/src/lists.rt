@@ -1,0 +1,62 @@
+//! Lists, element by element.
+
+ghost use Rattle.std.specs.Prelude.{◌≡◌, ◌≤◌, [], length, IfOk, Ok};
+ghost use Rattle.serde_json.specs.View.{view, items_view};
+ghost use Rattle.ocpi_json.specs.Fault.{Gives, GivesBy};
+ghost use Rattle.ocpi_json.specs.Fields.{each_after};
+ghost use Rattle.ocpi_json.specs.Sites.{counted_in};
+
+use crate::fault::JsonFault;
+use crate::fields::list_in;
+use ocpi_types::Field;
+use serde_json::Value;
+use std::alloc::Global;
+
+/// How an element of a list is read.
+pub trait ElementReader<T> {
+    ghost use Rattle.std.specs.Prelude.{List};
+    ghost use Rattle.serde_json.specs.Data.{Data};
+    ghost use Rattle.ocpi_json.specs.Fault.{Read};
+
+    /// What an element is read as, beside those before it.
+    ghost at: { Self → List T → Data → Read T };
+
+    /// One element, beside those before it.
+    fn element(&self, alloc: Global, before: &[T], value: &Value) -> Result<T, JsonFault>
+        ensures { Gives result (Self.at self.now before.now (view value.now)) };
+}
+
+/// Each element in turn.
+pub fn elements<T: Drop, R: ElementReader<T>>(
+    alloc: Global,
+    reader: &R,
+    values: &[Value],
+) -> Result<Vec<T>, JsonFault>
+    ensures { GivesBy (λ v. v.items) result (each_after (R.at reader.now) [] (items_view values.now)) }
+{
+    let mut out = Vec::new(alloc);
+    for value in values {
+        let element = reader.element(alloc, out.as_slice(), value)?;
+        out.push(element)?;
+    }
+    Ok(out)
+}
+
+/// The elements of a list of `least` to `most` elements. Another number is `WrongForm` of the list's name.
+#[tactic(auto, unfolding(crate::specs::Sites::counted_in))]
+pub fn counted_in(
+    object: &Value,
+    field: Field,
+    least: usize,
+    most: usize,
+) -> Result<&[Value], JsonFault>
+    ensures exact { GivesBy (λ v. items_view v.now) result (counted_in least most field (view object.now)) }
+    ensures count { IfOk result (λ v. (least ≤ length v.now) × (length v.now ≤ most)) }
+{
+    let items = list_in(object, field)?;
+    if least <= items.len() && items.len() <= most {
+        Ok(items)
+    } else {
+        Err(JsonFault::WrongForm(field))
+    }
+}
