@@ -1,6 +1,6 @@
-use Rattle.std.proofs.Common.{◌≡◌, ◌∙◌, ap, sym, subst, true, false, get_or, set, List}
+use Rattle.std.proofs.Common.{◌≡◌, ◌∙◌, ap, sym, subst, true, false, set}
 use Rattle.std.specs.FinMap as map
-use Rattle.std.specs.Prelude.{position, Some, is_some}
+use Rattle.std.specs.Prelude.{Some, is_some}
 use Rattle.ocpi_types.specs.Entries.{OneEach}
 use Rattle.ocpi_types.proofs.Tables.{place_in, found_value, no_value, set_value, set_keeps, key_at}
 use Rattle.ocpi_types.proofs.entries.exchange.Goals as goal

@@ -1,6 +1,6 @@
 use Rattle.std.proofs.Common.{◌∙◌, ap, sym, subst}
 use Rattle.std.specs.FinMap as map
-use Rattle.std.specs.Prelude.{position, Some}
+use Rattle.std.specs.Prelude.{Some}
 use Rattle.ocpi_types.specs.Entries.{OneEach}
 use Rattle.ocpi_types.proofs.Tables.{place_in, found_value, no_value, remove_value, remove_nothing, remove_keeps}
 use Rattle.ocpi_types.proofs.entries.take_out.Goals as goal
