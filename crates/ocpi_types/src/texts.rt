@@ -44,7 +44,7 @@ impl<const MAX: usize> Ci<MAX> {
 
     /// The text with `a` to `z` made `A` to `Z`, by which it is compared. It takes no memory.
     pub fn key(self) -> Ci<MAX>
-        ensures { result ≡ key self }
+        ensures { result ≡ key self.entry }
     {
         let Ci { text } = self;
         Ci { text: text.key() }
