@@ -1,0 +1,12 @@
+//! The operator: it owns charge points at a site, and answers the START_SESSION of the site's providers
+//! (OCPI 2.2.1, Commands).
+#![tactic(auto)]
+
+mod decision;
+mod fault;
+mod open_start;
+mod places;
+
+pub use decision::Decision;
+pub use fault::OperatorFault;
+pub use open_start::OpenStart;
