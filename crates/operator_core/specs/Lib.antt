@@ -5,3 +5,4 @@ pub mod Moves
 pub mod Steps
 pub mod Faults
 pub mod FaultText
+pub mod Books

@@ -2,6 +2,7 @@
 //! (OCPI 2.2.1, Commands).
 #![tactic(auto)]
 
+mod books;
 mod decision;
 mod fault;
 mod open_start;
