@@ -6,3 +6,4 @@ pub mod Steps
 pub mod Faults
 pub mod FaultText
 pub mod Books
+pub mod Requests

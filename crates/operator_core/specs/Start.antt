@@ -2,6 +2,7 @@
 use Rattle.std.specs.Prelude.{◌≡◌, ◌≢◌, ℕ, Bool, true, false, List, Option, Some, None, IsSome, IsNone, ◌⊎◌}
 use Rattle.std.specs.FinMap.{get}
 use Rattle.ocpi_text.specs.Text.{key}
+use Rattle.ocpi_types.specs.declared.site.Site.{Site}
 use Rattle.ocpi_types.specs.declared.site.Location.{Location}
 use Rattle.ocpi_types.specs.declared.site.Evse.{Evse}
 use Rattle.ocpi_types.specs.declared.site.Connector.{Connector}
@@ -9,7 +10,7 @@ use Rattle.ocpi_types.specs.declared.packet.StartSession.{StartSession}
 use Rattle.operator_core.specs.declared.decision.Decision.{Decision}
 use Rattle.operator_core.specs.declared.decision.Decision.TheVariants.{Refused, Rejected, Accepted}
 use Rattle.operator_core.specs.Places.{IsLocation, Fits}
-use Rattle.operator_core.specs.State.{State, Spent, IsFree}
+use Rattle.operator_core.specs.State.{Spent, OpenStarts, IsFree}
 
 -- the token is another provider's, or a connector is named without its EVSE
 abbrev pub IsMismatched : List ℕ → StartSession → Type 0
@@ -21,24 +22,25 @@ IsSpent spent provider (Some reference) = get spent (provider, key reference) �
 
 -- the token is not valid, or its reference was used before
 abbrev pub IsBarred : Spent → List ℕ → StartSession → Type 0
-IsBarred spent sender c = (c.token.valid ≡ false) ⊎ IsSpent spent (key sender) c.authorization_reference
+IsBarred spent provider c = (c.token.valid ≡ false) ⊎ IsSpent spent provider c.authorization_reference
 
 -- the EVSE and connector that a start at this location may be about
 abbrev pub IsPlace : Location → StartSession → Evse → Connector → Type 0
 IsPlace l c e k = Fits l.evses c.evse_uid c.connector_id e k
 
 -- the command got as far as its place
-pub record IsPlaced (s : State) (sender : List ℕ) (c : StartSession) (l : Location) : Type 0 where
+pub record IsPlaced (site : Site) (sender : List ℕ) (c : StartSession) (l : Location) : Type 0 where
   pub matched : ¬ IsMismatched sender c
-  pub location : IsLocation s.site.locations c.location_id l
+  pub location : IsLocation site.locations c.location_id l
 
 -- the lines of the table: the first that applies decides
-pub data StartLine (s : State) (sender : List ℕ) (c : StartSession) (d : Decision) : Type 0 where
-  Mismatched : IsMismatched sender c → d ≡ Refused 2001 → StartLine s sender c d
-  UnknownLocation : ¬ IsMismatched sender c → ((l : Location) → IsLocation s.site.locations c.location_id l → ⊥) → d ≡ Refused 2003 → StartLine s sender c d
-  NoPlace : (l : Location) → IsPlaced s sender c l → ((e : Evse) (k : Connector) → IsPlace l c e k → ⊥) → d ≡ Rejected → StartLine s sender c d
-  Barred : (l : Location) → IsPlaced s sender c l → (e : Evse) (k : Connector) → IsPlace l c e k → IsBarred s.spent sender c → d ≡ Rejected → StartLine s sender c d
-  Occupied : (l : Location) → IsPlaced s sender c l → (e : Evse) (k : Connector) → IsPlace l c e k → ¬ IsBarred s.spent sender c →
-      ((f : Evse) (j : Connector) → IsPlace l c f j → IsFree s.open_starts (key f.uid) → ⊥) → d ≡ Rejected → StartLine s sender c d
-  Taken : (l : Location) → IsPlaced s sender c l → (e : Evse) (k : Connector) → IsPlace l c e k → ¬ IsBarred s.spent sender c →
-      IsFree s.open_starts (key e.uid) → d ≡ Accepted (record { evse_uid = e.uid; connector_id = k.id }) → StartLine s sender c d
+pub data StartLine (site : Site) (spent : Spent) (starts : OpenStarts) (sender : List ℕ) (c : StartSession) (d : Decision) : Type 0 where
+  Mismatched : IsMismatched sender c → d ≡ Refused 2001 → StartLine site spent starts sender c d
+  UnknownLocation : ¬ IsMismatched sender c → ((l : Location) → IsLocation site.locations c.location_id l → ⊥) → d ≡ Refused 2003 → StartLine site spent starts sender c d
+  NoPlace : (l : Location) → IsPlaced site sender c l → ((e : Evse) (k : Connector) → IsPlace l c e k → ⊥) → d ≡ Rejected → StartLine site spent starts sender c d
+  Barred : (l : Location) → IsPlaced site sender c l → (e : Evse) (k : Connector) → IsPlace l c e k → IsBarred spent (key sender) c → d ≡ Rejected →
+      StartLine site spent starts sender c d
+  Occupied : (l : Location) → IsPlaced site sender c l → (e : Evse) (k : Connector) → IsPlace l c e k → ¬ IsBarred spent (key sender) c →
+      ((f : Evse) (j : Connector) → IsPlace l c f j → IsFree starts (key f.uid) → ⊥) → d ≡ Rejected → StartLine site spent starts sender c d
+  Taken : (l : Location) → IsPlaced site sender c l → (e : Evse) (k : Connector) → IsPlace l c e k → ¬ IsBarred spent (key sender) c →
+      IsFree starts (key e.uid) → d ≡ Accepted (record { evse_uid = e.uid; connector_id = k.id }) → StartLine site spent starts sender c d

@@ -42,26 +42,32 @@ responded at (Refused status) = response.Refused at status
 responded at Rejected = response.Done at (record { result = result.Rejected; timeout = timeout })
 responded at (Accepted place) = response.Done at (record { result = result.Accepted; timeout = timeout })
 
--- what follows from the decision beside the reply
-abbrev pub carried_out : ℕ → Packet → StartSession → Decision → Out → Out
-carried_out at q c (Refused status) o = o
-carried_out at q c Rejected o = o
-carried_out at q c (Accepted place) o = spend (key q.from) c.authorization_reference (open_start (key q.from) q.request (record { command = c; place = place; deadline = deadline at }) o)
+-- a reply to the request of that number is sent
+abbrev pub answer : List ℕ → ℕ → CommandResponse → State → Out
+answer to n reply s = numbered (say to n (body.CommandResponse reply) (begin s))
 
--- a reply is sent, to the provider as the site spells it
-abbrev pub answer : List ℕ → Packet → CommandResponse → State → Out
-answer p q reply s = numbered (say p q.request (body.CommandResponse reply) (begin s))
+-- what follows from the decision, beside the reply, at the provider of that key
+abbrev pub carried_out : ℕ → List ℕ → ℕ → StartSession → Decision → Out → Out
+carried_out at p n c (Refused status) o = o
+carried_out at p n c Rejected o = o
+carried_out at p n c (Accepted place) o = spend p c.authorization_reference (open_start p n (record { command = c; place = place; deadline = deadline at }) o)
 
--- a request that has a kept reply gets that reply again; another is decided, and its reply is kept
-pub data RequestLine (s : State) (at : ℕ) (q : Packet) (p : List ℕ) (out : Out) : Type 0 where
-  Again : (reply : CommandResponse) → get s.replies (key q.from, q.request) ≡ Some reply → out ≡ answer p q reply s → RequestLine s at q p out
-  Started : get s.replies (key q.from, q.request) ≡ None → (c : StartSession) → q.body ≡ body.StartSession c → (d : Decision) → StartLine s q.from c d →
-      out ≡ carried_out at q c d (keep_reply (key q.from) q.request (responded at d) (answer p q (responded at d) s)) → RequestLine s at q p out
+-- a START_SESSION is decided: its reply is sent and kept
+abbrev pub started : ℕ → List ℕ → List ℕ → ℕ → StartSession → Decision → State → Out
+started at to p n c d s = carried_out at p n c d (keep_reply p n (responded at d) (answer to n (responded at d) s))
+
+-- a request that has a kept reply gets that reply again; another is decided. Replies go to the provider as the
+-- site spells it
+pub data RequestLine (s : State) (at : ℕ) (q : Packet) (to : List ℕ) (out : Out) : Type 0 where
+  Again : (reply : CommandResponse) → get s.replies (key q.from, q.request) ≡ Some reply → out ≡ answer to q.request reply s → RequestLine s at q to out
+  Started : get s.replies (key q.from, q.request) ≡ None → (c : StartSession) → q.body ≡ body.StartSession c →
+      (d : Decision) → StartLine s.site s.spent s.open_starts q.from c d → out ≡ started at to (key q.from) q.request c d s → RequestLine s at q to out
 
 -- one step of an operator: a packet comes at a moment
 pub record OperatorStep (s : State) (at : ℕ) (q : Packet) (out : Out) : Type 0 where
-  pub for_me : IsForMe s q
+  pub to : key q.to ≡ key s.party
+  pub kind : IsTaken q.body
   pub room : s.serial < max_whole
   pub provider : List ℕ
-  pub peer : IsProvider s.providers q.from provider
+  pub from : IsProvider s.providers q.from provider
   pub line : RequestLine s at q provider out

@@ -6,8 +6,15 @@ mod books;
 mod decision;
 mod fault;
 mod open_start;
+mod operator;
 mod places;
+mod request;
+mod rows;
+mod start;
+mod stepped;
 
 pub use decision::Decision;
 pub use fault::OperatorFault;
 pub use open_start::OpenStart;
+pub use operator::Operator;
+pub use stepped::Stepped;
