@@ -3,7 +3,8 @@
 ghost use Rattle.std.specs.Prelude.{◌≡◌, IfOk};
 
 use crate::limits::RefusalCode;
-use crate::texts::{Ci, Free, copy_some};
+use crate::free::Free;
+use crate::texts::{Ci, copy_some};
 use crate::token::Token;
 use crate::words::CommandResponseType;
 use ocpi_text::{Moment, Party, Whole};

@@ -3,9 +3,16 @@
 ghost use Rattle.std.specs.Prelude.{◌≡◌, IfOk};
 ghost use Rattle.ocpi_types.specs.Parties.{SiteParties, AreParties};
 
+use crate::copies::{ListItem, copy_all};
 use ocpi_text::Party;
 use std::alloc::AllocError;
 use std::marker::Model;
+
+impl ListItem for Party {
+    fn item_copy(&self) -> Result<Party, AllocError> {
+        self.copy()
+    }
+}
 
 /// An operator, and the at most 63 providers that it deals with, in order. No two of all these are the same party.
 #[derive(Drop)]
@@ -56,10 +63,7 @@ impl Parties {
         ensures { IfOk result (λ t. t ≡ self.now) }
     {
         let operator = self.operator.copy()?;
-        let mut providers = Vec::new(*self.providers.allocator());
-        for provider in &self.providers {
-            providers.push(provider.copy()?)?;
-        }
+        let providers = copy_all(*self.providers.allocator(), self.providers.as_slice())?;
         Ok(Parties {
             operator,
             providers,

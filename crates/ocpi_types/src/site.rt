@@ -3,9 +3,11 @@
 
 ghost use Rattle.std.specs.Prelude.{◌≡◌, IfOk};
 
+use crate::copies::{ListItem, copy_all};
 use crate::parties::Parties;
 use crate::price::PricePerKwh;
-use crate::texts::{Ci, Free};
+use crate::free::Free;
+use crate::texts::Ci;
 use ocpi_text::Moment;
 use std::alloc::AllocError;
 use std::marker::Model;
@@ -17,6 +19,12 @@ pub struct Connector {
     pub standard: Free<64>,
     pub format: Free<64>,
     pub power_type: Free<64>,
+}
+
+impl ListItem for Connector {
+    fn item_copy(&self) -> Result<Connector, AllocError> {
+        self.copy()
+    }
 }
 
 impl Connector {
@@ -36,7 +44,7 @@ impl Connector {
 /// One to ten connectors, whose ids differ but for case.
 #[derive(Drop)]
 pub struct Connectors {
-    items: Vec<Connector>,
+    connectors: Vec<Connector>,
 }
 
 impl Model for Connectors {
@@ -46,20 +54,20 @@ impl Model for Connectors {
 
     ghost Value = { List Connector };
 
-    ghost view = { λ c. c.items.items };
+    ghost view = { λ c. c.connectors.items };
 
-    ghost invariant = { λ c. AreConnectors c.items.items };
+    ghost invariant = { λ c. AreConnectors c.connectors.items };
 }
 
 impl Connectors {
     ghost use Rattle.ocpi_types.specs.Connectors.{AreConnectors};
 
     /// The connectors of a list.
-    pub fn new(items: Vec<Connector>) -> Connectors
-        requires { AreConnectors items.items }
-        ensures { result ≡ items.items }
+    pub fn new(connectors: Vec<Connector>) -> Connectors
+        requires { AreConnectors connectors.items }
+        ensures { result ≡ connectors.items }
     {
-        Connectors { items }
+        Connectors { connectors }
     }
 
     /// The connectors, in order.
@@ -67,18 +75,15 @@ impl Connectors {
         ensures value { result.now ≡ self.now }
         ensures are { AreConnectors self.now }
     {
-        self.items.as_slice()
+        self.connectors.as_slice()
     }
 
     /// Equal connectors.
     pub fn copy(&self) -> Result<Connectors, AllocError>
         ensures { IfOk result (λ t. t ≡ self.now) }
     {
-        let mut items = Vec::new(*self.items.allocator());
-        for connector in &self.items {
-            items.push(connector.copy()?)?;
-        }
-        Ok(Connectors { items })
+        let connectors = copy_all(*self.connectors.allocator(), self.connectors.as_slice())?;
+        Ok(Connectors { connectors })
     }
 }
 
@@ -88,6 +93,12 @@ pub struct Evse {
     pub uid: Ci<36>,
     pub evse_id: Ci<48>,
     pub connectors: Connectors,
+}
+
+impl ListItem for Evse {
+    fn item_copy(&self) -> Result<Evse, AllocError> {
+        self.copy()
+    }
 }
 
 impl Evse {
@@ -106,7 +117,7 @@ impl Evse {
 /// One to a thousand EVSEs.
 #[derive(Drop)]
 pub struct Evses {
-    items: Vec<Evse>,
+    evses: Vec<Evse>,
 }
 
 impl Model for Evses {
@@ -116,9 +127,9 @@ impl Model for Evses {
 
     ghost Value = { List Evse };
 
-    ghost view = { λ e. e.items.items };
+    ghost view = { λ e. e.evses.items };
 
-    ghost invariant = { λ e. IsCount 1000 (length e.items.items) };
+    ghost invariant = { λ e. IsCount 1000 (length e.evses.items) };
 }
 
 impl Evses {
@@ -126,11 +137,11 @@ impl Evses {
     ghost use Rattle.ocpi_types.specs.Limits.{IsCount};
 
     /// The EVSEs of a list.
-    pub fn new(items: Vec<Evse>) -> Evses
-        requires { IsCount 1000 (length items.items) }
-        ensures { result ≡ items.items }
+    pub fn new(evses: Vec<Evse>) -> Evses
+        requires { IsCount 1000 (length evses.items) }
+        ensures { result ≡ evses.items }
     {
-        Evses { items }
+        Evses { evses }
     }
 
     /// The EVSEs, in order.
@@ -138,18 +149,15 @@ impl Evses {
         ensures value { result.now ≡ self.now }
         ensures count { IsCount 1000 (length self.now) }
     {
-        self.items.as_slice()
+        self.evses.as_slice()
     }
 
     /// Equal EVSEs.
     pub fn copy(&self) -> Result<Evses, AllocError>
         ensures { IfOk result (λ t. t ≡ self.now) }
     {
-        let mut items = Vec::new(*self.items.allocator());
-        for evse in &self.items {
-            items.push(evse.copy()?)?;
-        }
-        Ok(Evses { items })
+        let evses = copy_all(*self.evses.allocator(), self.evses.as_slice())?;
+        Ok(Evses { evses })
     }
 }
 
@@ -163,6 +171,12 @@ pub struct Location {
     pub latitude: Free<10>,
     pub longitude: Free<11>,
     pub evses: Evses,
+}
+
+impl ListItem for Location {
+    fn item_copy(&self) -> Result<Location, AllocError> {
+        self.copy()
+    }
 }
 
 impl Location {
@@ -186,7 +200,7 @@ impl Location {
 /// One to a thousand locations, whose ids differ but for case, as do the uids of all their EVSEs.
 #[derive(Drop)]
 pub struct Locations {
-    items: Vec<Location>,
+    locations: Vec<Location>,
 }
 
 impl Model for Locations {
@@ -196,20 +210,20 @@ impl Model for Locations {
 
     ghost Value = { List Location };
 
-    ghost view = { λ l. l.items.items };
+    ghost view = { λ l. l.locations.items };
 
-    ghost invariant = { λ l. AreLocations l.items.items };
+    ghost invariant = { λ l. AreLocations l.locations.items };
 }
 
 impl Locations {
     ghost use Rattle.ocpi_types.specs.Locations.{AreLocations};
 
     /// The locations of a list.
-    pub fn new(items: Vec<Location>) -> Locations
-        requires { AreLocations items.items }
-        ensures { result ≡ items.items }
+    pub fn new(locations: Vec<Location>) -> Locations
+        requires { AreLocations locations.items }
+        ensures { result ≡ locations.items }
     {
-        Locations { items }
+        Locations { locations }
     }
 
     /// The locations, in order.
@@ -217,18 +231,15 @@ impl Locations {
         ensures value { result.now ≡ self.now }
         ensures are { AreLocations self.now }
     {
-        self.items.as_slice()
+        self.locations.as_slice()
     }
 
     /// Equal locations.
     pub fn copy(&self) -> Result<Locations, AllocError>
         ensures { IfOk result (λ t. t ≡ self.now) }
     {
-        let mut items = Vec::new(*self.items.allocator());
-        for location in &self.items {
-            items.push(location.copy()?)?;
-        }
-        Ok(Locations { items })
+        let locations = copy_all(*self.locations.allocator(), self.locations.as_slice())?;
+        Ok(Locations { locations })
     }
 }
 

@@ -2,7 +2,8 @@
 
 ghost use Rattle.std.specs.Prelude.{◌≡◌, IfOk};
 
-use crate::texts::{Ci, Free};
+use crate::free::Free;
+use crate::texts::Ci;
 use crate::words::{TokenType, WhitelistType};
 use ocpi_text::{Moment, Party};
 use std::alloc::AllocError;
