@@ -1,0 +1,6 @@
+pub mod Indexes
+pub mod Spending
+pub mod StepFacts
+pub mod Runs
+pub mod RowChanges
+pub mod ClaimChanges

@@ -1,0 +1,12 @@
+pub mod Places
+pub mod State
+pub mod Start
+pub mod Moves
+pub mod Steps
+pub mod Faults
+pub mod FaultText
+pub mod Books
+pub mod Requests
+pub mod Rows
+pub mod Claims
+pub mod Laws
