@@ -90,10 +90,7 @@ fn starts_are_refused(rt: HostRuntime) -> Result<(), Fail> {
     let stepped = operator.on_packet(at, &start(alloc, 3, foreign)?)?;
     assert_eq!(rt; answer(&stepped), Some((3, 0, 2001)));
 
-    let misled = Named {
-        to: "FR/FRC",
-        ..E1
-    };
+    let misled = Named { to: "FR/FRC", ..E1 };
     match operator.on_packet(at, &start(alloc, 4, misled)?) {
         Ok(_) => assert!(rt; false),
         Err(fault) => assert_eq!(rt; fault, OperatorFault::NotForMe),

@@ -55,7 +55,7 @@ fn parties(rt: &impl Abort, alloc: Global) -> Result<Parties, Fail> {
 
 /// The site line of BE/BEC, with one EVSE.
 pub fn site_line(rt: &impl Abort, alloc: Global) -> Result<SiteLine, Fail> {
-    let price = ocpi_text::E4::read("2500")?;
+    let price = ocpi_text::E4::read("0.25")?;
     let site = Site {
         currency: Free::new(alloc, "EUR")?,
         price: PricePerKwh::new(price).ok_or("price")?,
