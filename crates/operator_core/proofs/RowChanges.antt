@@ -51,10 +51,13 @@ and_put s t u changes x before puts new r = (there, back)
       | inl same ↦ inl (subst (λ z. Contains (changes ++ Put x ∷ []) (Put z)) (sym same) (Contains-push changes (Put x)))
       | inr (stood, apart) ↦ elim ((before r).0 stood) [
         | inl i ↦ inl (Contains-append_left changes (Put x ∷ []) (Put r) i)
-        | inr (first, untouched) ↦ inr (first, λ i. elim (Contains-push_cases (map change_key changes) (row_key x) (row_key r) (subst (λ l. Contains l (row_key r)) all i)) [
-          | inl j ↦ untouched j
-          | inr j ↦ apart (sym j)
-        ])
+        | inr (first, untouched) ↦ inr (
+          first,
+          λ i. elim (Contains-push_cases (map change_key changes) (row_key x) (row_key r) (subst (λ l. Contains l (row_key r)) all i)) [
+            | inl j ↦ untouched j
+            | inr j ↦ apart (sym j)
+          ],
+        )
       ]
     ]
 
@@ -71,9 +74,9 @@ other A B x r f g apart = (λ h. inr (f h, apart), λ y. elim y [ inl e ↦ absu
 
 told : {K : Type 0} {R : K → K → Ordering} (o : IsTotalOrder R) (exact : IsAntisymmetric R) (q k : K) → (q ≡ k) ⊎ (q ≢ k)
 told {R = R} o exact q k = elim (eq_by_cmp R q k) as (λ b. eq_by_cmp R q k ≡ b → (q ≡ k) ⊎ (q ≢ k)) [
-    | true ↦ λ e. inl (exact q k (equal_of_is_eq (R q k) e))
-    | false ↦ λ e. inr (λ same. let t : eq_by_cmp R q k ≡ true = subst (λ z. eq_by_cmp R q z ≡ true) same ((eq_by_cmp_equiv o).refl q) in cc)
-  ] refl
+  | true ↦ λ e. inl (exact q k (equal_of_is_eq (R q k) e))
+  | false ↦ λ e. inr (λ same. let t : eq_by_cmp R q k ≡ true = subst (λ z. eq_by_cmp R q z ≡ true) same ((eq_by_cmp_equiv o).refl q) in cc)
+] refl
 
 module _ {K X : Type 0} {R : K → K → Ordering} (o : IsTotalOrder R) (exact : IsAntisymmetric R) where
   -- the key's own value, or what another key had
@@ -89,7 +92,8 @@ puts_serial s (row.Count Serial n) = (
   λ y. elim y [
     | inl e ↦ let is : n ≡ s.serial + 1 = cc in (sym is, λ zero. omega arith)
     | inr h ↦ absurd (h.1 refl)
-  ])
+  ],
+)
 puts_serial s (row.Count Request n) = other _ _ _ _ (λ h. h) (λ h. h) (λ e. cc)
 puts_serial s (row.Count Session n) = other _ _ _ _ (λ h. h) (λ h. h) (λ e. cc)
 puts_serial s (row.Count Cdr n) = other _ _ _ _ (λ h. h) (λ h. h) (λ e. cc)
@@ -108,7 +112,8 @@ puts_reply s p n b (row.Reply q m c) = (
     | inl e ↦ let a : q ≡ p = cc in let d : m ≡ n = cc in let f : b ≡ c = cc in
         ap (get (insert s.replies (p, n) b)) (λ j. (a j, d j)) ∙ get-insert_same text_number_total text_number_exact s.replies (p, n) b ∙ ap Some f
     | inr h ↦ get-insert_other text_number_total text_number_exact s.replies (p, n) b (q, m) (λ same. h.1 (let a : q ≡ p = ap (λ (k : List ℕ × ℕ). k.0) same in let d : m ≡ n = ap (λ (k : List ℕ × ℕ). k.1) same in cc)) ∙ h.0
-  ])
+  ],
+)
 puts_reply s p n b (row.Count Serial m) = other _ _ _ _ (λ h. h) (λ h. h) (λ e. cc)
 puts_reply s p n b (row.Count Request m) = other _ _ _ _ (λ h. h) (λ h. h) (λ e. cc)
 puts_reply s p n b (row.Count Session m) = other _ _ _ _ (λ h. h) (λ h. h) (λ e. cc)
@@ -128,7 +133,8 @@ puts_start s p n o (row.Pending q m c place d) = (
         let a : q ≡ p = cc in let b : m ≡ n = cc in let f : o.command ≡ c = cc in let g : o.place ≡ place = cc in let h : o.deadline ≡ d = cc in
         ap (get (insert s.open_starts (p, n) o)) (λ j. (a j, b j)) ∙ get-insert_same text_number_total text_number_exact s.open_starts (p, n) o ∙ ap Some (λ j. record { command = f j; place = g j; deadline = h j })
     | inr h ↦ get-insert_other text_number_total text_number_exact s.open_starts (p, n) o (q, m) (λ same. h.1 (let a : q ≡ p = ap (λ (k : List ℕ × ℕ). k.0) same in let b : m ≡ n = ap (λ (k : List ℕ × ℕ). k.1) same in cc)) ∙ h.0
-  ])
+  ],
+)
 puts_start s p n o (row.Count Serial m) = other _ _ _ _ (λ h. h) (λ h. h) (λ e. cc)
 puts_start s p n o (row.Count Request m) = other _ _ _ _ (λ h. h) (λ h. h) (λ e. cc)
 puts_start s p n o (row.Count Session m) = other _ _ _ _ (λ h. h) (λ h. h) (λ e. cc)
@@ -147,7 +153,8 @@ puts_spent s p r (row.Spent q x) = (
     | inl e ↦ let a : q ≡ p = cc in let b : x ≡ r = cc in
         ap (get (insert s.spent (p, r) tt)) (λ j. (a j, b j)) ∙ get-insert_same text_pair_total text_pair_exact s.spent (p, r) tt
     | inr h ↦ get-insert_other text_pair_total text_pair_exact s.spent (p, r) tt (q, x) (λ same. h.1 (let a : q ≡ p = ap (λ (k : List ℕ × List ℕ). k.0) same in let b : x ≡ r = ap (λ (k : List ℕ × List ℕ). k.1) same in cc)) ∙ h.0
-  ])
+  ],
+)
 puts_spent s p r (row.Count Serial m) = other _ _ _ _ (λ h. h) (λ h. h) (λ e. cc)
 puts_spent s p r (row.Count Request m) = other _ _ _ _ (λ h. h) (λ h. h) (λ e. cc)
 puts_spent s p r (row.Count Session m) = other _ _ _ _ (λ h. h) (λ h. h) (λ e. cc)

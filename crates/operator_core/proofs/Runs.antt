@@ -85,7 +85,7 @@ spent_happens s t e (Refused f due same c p) k h = ap (λ (z : State). get z.spe
 opens_happens : (s t : State) (e : Event) → Happens s e t → (p reference : List ℕ) → Opens e p reference → (get s.spent (p, reference) ≡ Some tt → ⊥) × (get t.spent (p, reference) ≡ Some tt)
 opens_happens s t e (Stepped step) p reference (n, c, place, deadline, spelled, stores, named, is) =
     subst (λ z. (get s.spent (p, z) ≡ Some tt → ⊥) × (get t.spent (p, z) ≡ Some tt)) is
-      ((step_facts s e.at e.packet (out_of e t) step).opens p n c place deadline spelled stores named)
+    ((step_facts s e.at e.packet (out_of e t) step).opens p n c place deadline spelled stores named)
 opens_happens s t e (Refused f due same none packets) p reference (n, c, place, deadline, spelled, stores, named, is) =
     absurd (in_none (Put (row.Pending p n c place deadline)) (subst (λ (l : List Change). Contains l (Put (row.Pending p n c place deadline))) none stores))
 

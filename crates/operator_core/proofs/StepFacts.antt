@@ -172,7 +172,7 @@ module _ (s : State) (to p : List ℕ) (n : ℕ) (r : CommandResponse) (at : key
             let what : start.command ≡ c = cc in
             let named : start.command.authorization_reference ≡ Some spelled = ap (λ (z : StartSession). z.authorization_reference) what ∙ e in
             subst (λ z. (get s.spent (z, key spelled) ≡ Some tt → ⊥) × (get (spent_after p start.command.authorization_reference s.spent) (z, key spelled) ≡ Some tt)) who
-              (not_spent start.command.authorization_reference spelled named may.fresh, now_spent start.command.authorization_reference spelled named);
+            (not_spent start.command.authorization_reference spelled named may.fresh, now_spent start.command.authorization_reference spelled named);
         one = λ h. one_opened s.open_starts p n start h may.free;
       }
 

@@ -10,7 +10,6 @@ ghost use Rattle.operator_core.specs.State.{IsFree};
 
 use crate::open_start::OpenStart;
 use ocpi_text::{Party, Whole};
-
 use ocpi_types::{Ci, CommandResponse, TextNumberTable, TextPairTable, TextTable};
 use std::alloc::{AllocError, Global};
 use std::marker::Model;
@@ -154,17 +153,11 @@ impl Books {
         ensures reply { result ≡ map.get self.now.replies (provider.now, number) }
         ensures unopened { map.get self.now.replies (provider.now, number) ≡ None → map.get self.now.open_starts (provider.now, number) ≡ None }
     {
-        self.replies
-            .get(provider.as_str(), number.value())
-            .copied()
+        self.replies.get(provider.as_str(), number.value()).copied()
     }
 
     /// Whether there is a reference, and the provider used it before.
-    pub fn is_spent(
-        &self,
-        provider: &Party,
-        reference: &Option<Ci<36>>,
-    ) -> Result<bool, AllocError>
+    pub fn is_spent(&self, provider: &Party, reference: &Option<Ci<36>>) -> Result<bool, AllocError>
         ensures yes { IfOk result (λ b. IsTrue b → IsSpent self.now.spent provider.now reference.now) }
         ensures no { IfOk result (λ b. b ≡ false → IsSpent self.now.spent provider.now reference.now → ⊥) }
     {
@@ -172,11 +165,12 @@ impl Books {
             None => Ok(false),
             Some(reference) => {
                 let key = reference.copy()?.key();
-                Ok(self
-                    .starts
-                    .spent
-                    .get(provider.as_str(), key.as_str())
-                    .is_some())
+                Ok(
+                    self.starts
+                        .spent
+                        .get(provider.as_str(), key.as_str())
+                        .is_some(),
+                )
             }
         }
     }

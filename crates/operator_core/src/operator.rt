@@ -152,7 +152,12 @@ impl Operator {
             body: Body::CommandResponse(reply),
         };
         let packets = vec![in self.alloc; packet]?;
-        let rows = vec![in self.alloc; Change::Put(Row::Count { counter: Counter::Serial, last: request.serial })]?;
+        let rows = vec![in self.alloc;
+            Change::Put(Row::Count {
+                counter: Counter::Serial,
+                last: request.serial
+            }),
+        ]?;
         Ok(Stepped { rows, packets })
     }
 

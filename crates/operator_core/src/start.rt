@@ -9,7 +9,6 @@ ghost use Rattle.operator_core.specs.State.{IsFree};
 ghost use Rattle.operator_core.specs.Start.{IsMismatched, IsBarred, StartLine};
 
 use crate::books::Books;
-
 use crate::decision::Decision;
 use crate::places::{connector_at, find_location, find_place};
 use ocpi_text::Party;
@@ -40,11 +39,7 @@ fn is_mismatched(sender: &Party, command: &StartSession) -> bool
 }
 
 /// Whether the token is not valid, or its reference was used before. The provider is the sender in key form.
-fn is_barred(
-    books: &Books,
-    provider: &Party,
-    command: &StartSession,
-) -> Result<bool, AllocError>
+fn is_barred(books: &Books, provider: &Party, command: &StartSession) -> Result<bool, AllocError>
     ensures yes { IfOk result (λ b. IsTrue b → IsBarred books.now.spent provider.now command.now) }
     ensures no { IfOk result (λ b. b ≡ false → ¬ IsBarred books.now.spent provider.now command.now) }
 {
