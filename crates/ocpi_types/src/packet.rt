@@ -2,8 +2,8 @@
 
 ghost use Rattle.std.specs.Prelude.{◌≡◌, IfOk};
 
-use crate::limits::RefusalCode;
 use crate::free::Free;
+use crate::limits::RefusalCode;
 use crate::texts::{Ci, copy_some};
 use crate::token::Token;
 use crate::words::CommandResponseType;

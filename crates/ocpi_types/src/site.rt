@@ -4,9 +4,9 @@
 ghost use Rattle.std.specs.Prelude.{◌≡◌, IfOk};
 
 use crate::copies::{ListItem, copy_all};
+use crate::free::Free;
 use crate::parties::Parties;
 use crate::price::PricePerKwh;
-use crate::free::Free;
 use crate::texts::Ci;
 use ocpi_text::Moment;
 use std::alloc::AllocError;

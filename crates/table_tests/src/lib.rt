@@ -3,9 +3,9 @@
 
 #[cfg(test)]
 mod tests {
+    use ocpi_types::{TextNumberTable, TextPairTable, TextTable};
     use std::alloc::{AllocError, Global};
     use std::test::Fail;
-    use ocpi_types::{TextNumberTable, TextPairTable, TextTable};
 
     fn text(alloc: Global, text: &str) -> Result<String, AllocError> {
         String::from_str(alloc, text)
