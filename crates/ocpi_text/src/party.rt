@@ -93,6 +93,14 @@ impl Party {
         String::from_str(alloc, self.as_str())
     }
 
+    /// The party with `a` to `z` made `A` to `Z`, by which it is compared. It takes no memory.
+    pub fn key(self) -> Party
+        ensures { result ≡ key self }
+    {
+        let Party { text } = self;
+        Party { text: text.key() }
+    }
+
     /// Whether the two are the same party, compared without case.
     pub fn is_same(&self, other: &Party) -> bool
         ensures { IsTrue result ↔ (key self.now ≡ key other.now) }

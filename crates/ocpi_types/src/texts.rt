@@ -42,6 +42,14 @@ impl<const MAX: usize> Ci<MAX> {
         self.text.as_str()
     }
 
+    /// The text with `a` to `z` made `A` to `Z`, by which it is compared. It takes no memory.
+    pub fn key(self) -> Ci<MAX>
+        ensures { result ≡ key self.entry }
+    {
+        let Ci { text } = self;
+        Ci { text: text.key() }
+    }
+
     /// Whether the two are the same text but for case.
     pub fn is_same(&self, other: &Ci<MAX>) -> bool
         ensures { IsTrue result ↔ (key self.now ≡ key other.now) }

@@ -1,0 +1,104 @@
+-- The claims that are kept stay those of the open starts.
+use Rattle.std.proofs.Common.{◌≡◌, ℕ, Bool, true, false, cond, List, ◌⊎◌, inl, inr, refl, sym, ap, subst, ◌∙◌}
+use Rattle.std.specs.Prelude.{Option, Some, None, is_some, not}
+use Rattle.std.specs.declared.cmp.Ordering.{Ordering}
+use Rattle.std.specs.Ordering.{eq_by_cmp}
+use Rattle.std.specs.Cmp.{IsTotalOrder}
+use Rattle.std.specs.FinMap.{FinMap, get, insert, empty, get-empty, get-insert}
+use Rattle.ocpi_text.specs.Text.{key}
+use Rattle.ocpi_types.specs.Keys.{text_cmp, text_total, text_exact, text_number_cmp, text_number_total, text_number_exact}
+use Rattle.ocpi_types.specs.Maps.{of_insert, get-insert_same, get-insert_other}
+use Rattle.ocpi_types.specs.declared.packet.CommandResponse.{CommandResponse}
+use Rattle.operator_core.specs.declared.open_start.OpenStart.{OpenStart}
+use Rattle.operator_core.specs.State.{Replies, OpenStarts, Claim, ByStart, Claims, IsFree}
+use Rattle.operator_core.specs.Books.{Claimed, IsIndexed}
+
+pub none_some : {X : Type 0} (x : X) (o : Option X) → o ≡ None → o ≡ Some x → ⊥
+none_some x o a b = cc
+
+module _ {K X : Type 0} {R : K → K → Ordering} (o : IsTotalOrder R) (m : FinMap R X) (k j : K) (x : X) where
+  -- what has no value after one was put in had none before
+  pub none_before : get (insert m k x) j ≡ None → get m j ≡ None
+  none_before none = go (eq_by_cmp R j k) (sym (get-insert o m k x j) ∙ none)
+    where
+      go : (t : Bool) → cond t (Some x) (get m j) ≡ None → get m j ≡ None
+      go true e = absurd (cc)
+      go false e = e
+
+  -- a value that is put in again stands wherever it stood
+  pub stays : get m j ≡ Some x → get (insert m k x) j ≡ Some x
+  stays has = get-insert o m k x j ∙ go (eq_by_cmp R j k)
+    where
+      go : (t : Bool) → cond t (Some x) (get m j) ≡ Some x
+      go true = refl
+      go false = has
+
+unclaimed : (evse : List ℕ) (c : Claim) → Claims empty evse c → ⊥
+unclaimed evse (ByStart p n) (o, has, at) = none_some o _ (get-empty text_number_cmp (p, n)) has
+
+pub indexed_empty : IsIndexed empty empty empty
+indexed_empty = record {
+  sound = λ e h. absurd (none_some tt _ (get-empty text_cmp e) h);
+  complete = λ e c h. absurd (unclaimed e c h);
+  replied = λ k o h n. none_some o _ (get-empty text_number_cmp k) h;
+}
+
+-- the claims after a start is opened
+pub claims_opened : (starts : OpenStarts) (p : List ℕ) (n : ℕ) (o : OpenStart) (evse : List ℕ) (c : Claim) → Claims (insert starts (p, n) o) evse c →
+    ((c ≡ ByStart p n) × (key o.place.evse_uid ≡ evse)) ⊎ Claims starts evse c
+claims_opened starts p n o evse (ByStart q m) (x, has, at) =
+    elim (of_insert text_number_total text_number_exact starts (p, n) o (q, m) x has) [
+      | inl i ↦ inl (ap (λ (k : List ℕ × ℕ). ByStart k.0 k.1) i.0, ap (λ (y : OpenStart). key y.place.evse_uid) i.1 ∙ at)
+      | inr i ↦ inr (x, i, at)
+    ]
+
+-- a claim still stands once a new start is opened
+pub claims_kept : (starts : OpenStarts) (p : List ℕ) (n : ℕ) (o : OpenStart) → get starts (p, n) ≡ None → (evse : List ℕ) (c : Claim) → Claims starts evse c → Claims (insert starts (p, n) o) evse c
+claims_kept starts p n o none evse (ByStart q m) (x, has, at) =
+    (x, get-insert_other text_number_total text_number_exact starts (p, n) o (q, m) (λ same. none_some x _ none (ap (get starts) (sym same) ∙ has)) ∙ has, at)
+
+module _ (claimed : Claimed) (starts : OpenStarts) (replies : Replies) (h : IsIndexed claimed starts replies) where
+  pub indexed_reply : (k : List ℕ × ℕ) (r : CommandResponse) → IsIndexed claimed starts (insert replies k r)
+  indexed_reply k r = record {
+    sound = h.sound;
+    complete = h.complete;
+    replied = λ j o has none. h.replied j o has (none_before text_number_total replies k j r none);
+  }
+
+  pub unopened : (k : List ℕ × ℕ) → get replies k ≡ None → get starts k ≡ None
+  unopened k none = go (get starts k) refl
+    where
+      go : (o : Option OpenStart) → get starts k ≡ o → o ≡ None
+      go None e = refl
+      go (Some o) e = absurd (h.replied k o e none)
+
+  pub indexed_start : (p : List ℕ) (n : ℕ) (r : CommandResponse) (o : OpenStart) → get replies (p, n) ≡ None →
+      IsIndexed (insert claimed (key o.place.evse_uid) tt) (insert starts (p, n) o) (insert replies (p, n) r)
+  indexed_start p n r o none = record {
+    sound = λ e has. elim (of_insert text_total text_exact claimed (key o.place.evse_uid) tt e tt has) [
+      | inl i ↦ (ByStart p n, (o, get-insert_same text_number_total text_number_exact starts (p, n) o, sym i.0))
+      | inr i ↦ let c = h.sound e i in (c.0, claims_kept starts p n o (unopened (p, n) none) e c.0 c.1)
+    ];
+    complete = λ e c x. elim (claims_opened starts p n o e c x) [
+      | inl i ↦ subst (λ z. get (insert claimed (key o.place.evse_uid) tt) z ≡ Some tt) i.1 (get-insert_same text_total text_exact claimed (key o.place.evse_uid) tt)
+      | inr i ↦ stays text_total claimed (key o.place.evse_uid) e tt (h.complete e c i)
+    ];
+    replied = λ j x has gone. elim (of_insert text_number_total text_number_exact starts (p, n) o j x has) [
+      | inl i ↦ none_some r _ gone (ap (get (insert replies (p, n) r)) i.0 ∙ get-insert_same text_number_total text_number_exact replies (p, n) r)
+      | inr i ↦ h.replied j x i (none_before text_number_total replies (p, n) j r gone)
+    ];
+  }
+
+  pub claimed_key : (evse : List ℕ) (contained : Bool) → contained ≡ is_some (get claimed evse) → not contained ≡ false → IsFree starts evse → ⊥
+  claimed_key evse contained same is free = go (get claimed evse) refl (ap not (sym same) ∙ is)
+    where
+      go : (o : Option (Unit {0})) → get claimed evse ≡ o → not (is_some o) ≡ false → ⊥
+      go None e is = cc
+      go (Some x) e is = let c = h.sound evse e in free c.0 c.1
+
+  pub unclaimed_key : (evse : List ℕ) → IsFree starts evse → get claimed evse ≡ None
+  unclaimed_key evse free = go (get claimed evse) refl
+    where
+      go : (o : Option (Unit {0})) → get claimed evse ≡ o → o ≡ None
+      go None e = refl
+      go (Some x) e = let c = h.sound evse (e ∙ refl) in absurd (free c.0 c.1)

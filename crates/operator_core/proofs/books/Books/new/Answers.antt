@@ -1,0 +1,5 @@
+use Rattle.operator_core.proofs.Indexes.{indexed_empty}
+use Rattle.operator_core.proofs.books.Books.new.Goals as goal
+
+pub invariant_of-result : goal.invariant_of-result
+invariant_of-result c = rw (c.new.ensures, c.new-3.ensures, c.new-4.ensures) indexed_empty

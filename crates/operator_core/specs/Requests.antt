@@ -1,0 +1,23 @@
+-- A request as the operator handles it, and what a step answers.
+use Rattle.std.specs.Prelude.{◌≡◌, ℕ, ◌+◌, ◌<◌, ◌≤◌, List}
+use Rattle.ocpi_text.specs.Text.{key}
+use Rattle.ocpi_text.specs.Whole.{max_whole}
+use Rattle.ocpi_types.specs.declared.packet.Packet.{Packet}
+use Rattle.operator_core.specs.declared.request.Request.{Request}
+use Rattle.operator_core.specs.declared.stepped.Stepped.{Stepped}
+use Rattle.operator_core.specs.Places.{IsProvider}
+use Rattle.operator_core.specs.State.{State}
+use Rattle.operator_core.specs.Moves.{Out}
+
+-- the request that came to this operator in a packet
+pub record IsRequest (s : State) (at : ℕ) (q : Packet) (r : Request) : Type 0 where
+  pub to : key q.to ≡ key s.party
+  pub from : IsProvider s.providers q.from r.from
+  pub provider : r.provider ≡ key q.from
+  pub number : r.number ≡ q.request
+  pub at : r.at ≡ at
+  pub room : s.serial < max_whole
+  pub serial : r.serial ≡ s.serial + 1
+
+abbrev pub out_of : State → Stepped → Out
+out_of s x = record { state = s; changes = x.rows.items; packets = x.packets.items }

@@ -1,0 +1,49 @@
+-- What an operator stores, and the claims that follow from it. Keys are in the form by which texts are compared.
+use Rattle.std.specs.Prelude.{◌≡◌, ℕ, List, Option, Some, None}
+use Rattle.std.specs.FinMap.{FinMap, get, empty}
+use Rattle.ocpi_text.specs.Text.{key}
+use Rattle.ocpi_types.specs.Keys.{text_number_cmp, text_pair_cmp}
+use Rattle.ocpi_types.specs.declared.site.Site.{Site}
+use Rattle.ocpi_types.specs.declared.site.SiteLine.{SiteLine}
+use Rattle.ocpi_types.specs.declared.packet.CommandResponse.{CommandResponse}
+use Rattle.operator_core.specs.declared.open_start.OpenStart.{OpenStart}
+
+-- the reply to each request, by sender and request number
+abbrev pub Replies : Type 0
+Replies = FinMap text_number_cmp CommandResponse
+
+-- the authorization references that were used, by provider and reference
+abbrev pub Spent : Type 0
+Spent = FinMap text_pair_cmp (Unit {0})
+
+-- the starts whose result is awaited, by provider and request number
+abbrev pub OpenStarts : Type 0
+OpenStarts = FinMap text_number_cmp OpenStart
+
+pub record State : Type 0 where
+  pub party : List ℕ
+  pub providers : List (List ℕ)
+  pub site : Site
+  -- the number of the last packet that was sent
+  pub serial : ℕ
+  pub replies : Replies
+  pub spent : Spent
+  pub open_starts : OpenStarts
+
+-- before the first event
+abbrev pub opening : SiteLine → State
+opening line = record { party = line.parties.operator; providers = line.parties.providers; site = line.site; serial = 0; replies = empty; spent = empty; open_starts = empty }
+
+-- what an EVSE is claimed by
+pub data Claim : Type 0 where
+  ByStart : (provider : List ℕ) (number : ℕ) → Claim
+
+-- the claims on the EVSE of a key, gathered from the open starts
+abbrev pub Claims : OpenStarts → List ℕ → Claim → Type 0
+Claims starts evse (ByStart p n) = (o : OpenStart) × (get starts (p, n) ≡ Some o) × (key o.place.evse_uid ≡ evse)
+
+abbrev pub HasClaim : State → List ℕ → Claim → Type 0
+HasClaim s evse c = Claims s.open_starts evse c
+
+abbrev pub IsFree : OpenStarts → List ℕ → Type 0
+IsFree starts evse = (c : Claim) → Claims starts evse c → ⊥

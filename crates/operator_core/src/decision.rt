@@ -1,0 +1,14 @@
+//! What a START_SESSION is decided to be.
+
+use ocpi_types::{Place, RefusalCode};
+
+/// The decision on a START_SESSION.
+#[derive(Drop)]
+pub enum Decision {
+    /// A response of that status, without data.
+    Refused(RefusalCode),
+    /// The response REJECTED.
+    Rejected,
+    /// The response ACCEPTED; this place is taken.
+    Accepted(Place),
+}

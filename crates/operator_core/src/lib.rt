@@ -1,0 +1,20 @@
+//! The operator: it owns charge points at a site, and answers the START_SESSION of the site's providers
+//! (OCPI 2.2.1, Commands).
+#![tactic(auto)]
+
+mod books;
+mod decision;
+mod fault;
+mod open_start;
+mod operator;
+mod places;
+mod request;
+mod rows;
+mod start;
+mod stepped;
+
+pub use decision::Decision;
+pub use fault::OperatorFault;
+pub use open_start::OpenStart;
+pub use operator::Operator;
+pub use stepped::Stepped;

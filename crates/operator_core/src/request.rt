@@ -1,0 +1,17 @@
+//! Requests that came to this operator.
+
+use ocpi_text::{Moment, Party, Whole};
+
+/// A request of a provider, and the number of the packet that answers it.
+#[derive(Drop)]
+pub struct Request {
+    pub at: Moment,
+    /// The provider, as the site spells it.
+    pub from: Party,
+    /// The provider in key form.
+    pub provider: Party,
+    /// The provider's number of the request.
+    pub number: Whole,
+    /// The number of the next packet.
+    pub serial: Whole,
+}
