@@ -1,8 +1,6 @@
 -- A list is read just where its elements have their form, each beside those before it.
-use Rattle.std.proofs.Common.{◌≡◌, ◌≢◌, ℕ, ◌+◌, ◌≤◌, suc, Bool, true, false, cond, List, [], ◌∷◌, ◌++◌, length, map, Result, Ok, Err, refl, sym, subst, ap, ◌∙◌, arith}
-use Rattle.std.specs.Prelude.{nat_le, ◌&&◌, Contains}
-use Rattle.std.specs.List.{list_any}
-use Rattle.std.specs.Str.{bytes_eq}
+use Rattle.std.proofs.Common.{◌≡◌, ℕ, ◌≤◌, suc, Bool, true, false, cond, List, [], ◌∷◌, ◌++◌, length, map, Ok, Err, refl, sym, subst, ap, ◌∙◌, arith}
+use Rattle.std.specs.Prelude.{Contains}
 use Rattle.std.proofs.lemmas.Bool.{and_parts, and_from, leb-true, le-leb}
 use Rattle.std.proofs.lemmas.List.{append_assoc, append-nil, map-append}
 use Rattle.std.specs.Cmp.Lexicographic.{on_texts_equal}
@@ -16,8 +14,8 @@ use Rattle.ocpi_types.specs.Apart.{DifferFrom}
 use Rattle.ocpi_types.specs.declared.field.Field.{Field}
 use Rattle.ocpi_json.specs.declared.fault.JsonFault.TheVariants.{WrongForm}
 use Rattle.ocpi_json.specs.Fault.{Read, ◌>>=◌}
-use Rattle.ocpi_json.specs.Fields.{as_record, as_list, list_in, required, each_after, ci_in}
-use Rattle.ocpi_json.specs.Sites.{is_among, new_among, new_ci_in, counted, counted_in}
+use Rattle.ocpi_json.specs.Fields.{as_record, as_list, list_in, each_after, ci_in}
+use Rattle.ocpi_json.specs.Sites.{is_among, new_among, new_ci_in, counted_in}
 use Rattle.ocpi_json.specs.Form.{Required, IsCi, IsRecord}
 use Rattle.ocpi_json.specs.SiteForm.{AreItems, IsList}
 use Rattle.ocpi_json.proofs.Exact.{Exact, done, ok_is, bind_ok, member_exact, as_record_exact, ci_exact}

@@ -1,5 +1,5 @@
 -- A reader of a member succeeds just where the member's form holds.
-use Rattle.std.proofs.Common.{◌≡◌, ◌≢◌, ℕ, ℤ, Bool, true, false, cond, List, [], ◌∷◌, drop, Option, Some, None, Result, Ok, Err, refl, sym, subst, ap, ◌∙◌, inl, inr, eqb-true}
+use Rattle.std.proofs.Common.{◌≡◌, ◌≢◌, ℕ, Bool, true, false, cond, List, [], ◌∷◌, drop, Option, Some, None, Result, Ok, Err, refl, sym, subst, ap, ◌∙◌, inl, inr, eqb-true}
 use Rattle.std.specs.Prelude.{◌⊎◌, IfOk}
 use Rattle.serde_json.specs.Data.{Data, null, boolean, number, string, array, object, Members}
 use Rattle.serde_json.specs.Find.{get}
@@ -14,7 +14,7 @@ use Rattle.ocpi_types.specs.Fields.{name_of}
 use Rattle.ocpi_json.specs.declared.fault.JsonFault.TheVariants.{WrongForm}
 use Rattle.ocpi_json.specs.Fault.{Fails, Gives, Read, ◌>>=◌}
 use Rattle.ocpi_json.specs.Fields.{required, present, optional, is_absent, is_none_or_null, some_of, as_text, as_number, as_truth, as_record, text_in, number_in, ci_in, free_in, moment_in, truth_in, word_in, whole_in, e4_in, party_in, country_in, party_id_in, record_in, formed, listed, is_tagged}
-use Rattle.ocpi_json.specs.Form.{Has, Required, Lacks, Optional, IsText, IsNumber, TextOf, NumberOf, IsCi, IsFree, IsParty, IsMoment, IsWhole, IsE4, IsWord, IsTruth, IsRecord}
+use Rattle.ocpi_json.specs.Form.{Has, Required, Optional, IsText, IsNumber, TextOf, NumberOf, IsCi, IsFree, IsParty, IsMoment, IsWhole, IsE4, IsWord, IsTruth, IsRecord}
 
 pub use Rattle.ocpi_json.proofs.Steps.{done, ok_is, bind_ok}
 

@@ -59,7 +59,7 @@ tree_sound line d e =
     let text = text_sound line a.0 a.1 in
     let b = bind_ok (quote a.0) tree_of d a.2 in
     let tree = named_sound b.0 d b.2 in
-    record { short = text.short; utf8 = text.utf8; quoted = b.0; numbers = rw text.same at b.1; names = tree.names; json = tree.json }
+    record { short = text.short; utf8 = text.utf8; quoted = b.0; numbers = subst (λ (t : List ℕ). quote t ≡ Ok b.0) text.same b.1; names = tree.names; json = tree.json }
 
 pub tree_complete : (line : List ℕ) (d : Data) → HasTree line d → tree_at line ≡ Ok d
 unfolding tree_at

@@ -1,18 +1,19 @@
 -- Reading elements one after the other, each beside those before it.
-use Rattle.std.proofs.Common.{◌≡◌, ℕ, ◌+◌, ◌<◌, ◌≤◌, Bool, true, false, List, [], ◌∷◌, ◌++◌, length, get_or, drop, Result, Ok, Err, refl, sym, ap, ◌∙◌, arith}
+use Rattle.std.proofs.Common.{◌≡◌, ℕ, ◌+◌, ◌<◌, ◌≤◌, Bool, true, false, List, [], ◌∷◌, ◌++◌, length, get_or, drop, Ok, Err, refl, sym, ap, ◌∙◌}
 use Rattle.std.specs.Prelude.{nat_le, ◌&&◌}
 use Rattle.std.proofs.lemmas.Bool.{le-leb, lt-leb}
 use Rattle.std.proofs.lemmas.List.{at_drop_more, at_drop_all}
-use Rattle.serde_json.specs.Data.{Data, Items}
+use Rattle.serde_json.specs.Data.{Data}
 use Rattle.serde_json.specs.View.{view, items_view}
 use Rattle.serde_json.specs.declared.value.Value.{Value}
 use Rattle.serde_json.proofs.Views.{items_len-items_view}
 use Rattle.ocpi_types.specs.declared.field.Field.{Field}
 use Rattle.ocpi_json.specs.declared.fault.JsonFault.{JsonFault}
 use Rattle.ocpi_json.specs.declared.fault.JsonFault.TheVariants.{WrongForm}
-use Rattle.ocpi_json.specs.Fault.{Read, ◌>>=◌}
+use Rattle.ocpi_json.specs.Fault.{Fails, Read}
 use Rattle.ocpi_json.specs.Fields.{each_after, list_in}
-use Rattle.ocpi_json.specs.Sites.{counted, counted_in}
+use Rattle.ocpi_json.specs.Sites.{counted_in}
+use Rattle.ocpi_json.proofs.Fails.{Fails-through}
 
 turn : {X : Type 0} (reader : List X → Data → Read X) (front : List X) (vs : List Value) (i : ℕ) (v : Value) → i < length vs → v ≡ get_or vs i v
     → each_after reader front (items_view (drop i vs)) ≡ each_after reader front (items_view (v ∷ drop (i + 1) vs))
@@ -25,12 +26,16 @@ goes_on reader front vs i v before x total lt is same h so_far =
     let one : each_after reader front (items_view (drop i vs)) ≡ each_after reader (front ++ x ∷ []) (items_view (drop (i + 1) vs)) = rw (turn reader front vs i v lt is, sym same, h) refl in
     sym one ∙ so_far
 
-pub stops : {X : Type 0} (reader : List X → Data → Read X) (front : List X) (vs : List Value) (i : ℕ) (v : Value) (before : List X) (f : JsonFault) (total : Read (List X)) → i < length vs → v ≡ get_or vs i v → before ≡ front → reader before (view v) ≡ Err f
+stops : {X : Type 0} (reader : List X → Data → Read X) (front : List X) (vs : List Value) (i : ℕ) (v : Value) (before : List X) (f : JsonFault) (total : Read (List X)) → i < length vs → v ≡ get_or vs i v → before ≡ front → reader before (view v) ≡ Err f
     → each_after reader front (items_view (drop i vs)) ≡ total → total ≡ Err f
 unfolding each_after
 stops reader front vs i v before f total lt is same h so_far =
     let one : each_after reader front (items_view (drop i vs)) ≡ Err f = rw (turn reader front vs i v lt is, sym same, h) refl in
     sym so_far ∙ one
+
+pub fails : {X : Type 0} (reader : List X → Data → Read X) (front : List X) (vs : List Value) (i : ℕ) (v : Value) (before : List X) (e : JsonFault) (total : Read (List X)) → i < length vs → v ≡ get_or vs i v → before ≡ front → Fails e (reader before (view v))
+    → each_after reader front (items_view (drop i vs)) ≡ total → Fails e total
+fails reader front vs i v before e total lt is same h so_far = Fails-through e (reader before (view v)) total h (λ f k. stops reader front vs i v before f total lt is same k so_far)
 
 pub is_done : {X : Type 0} (reader : List X → Data → Read X) (front : List X) (vs : List Value) (i : ℕ) (total : Read (List X)) → length vs ≤ i → each_after reader front (items_view (drop i vs)) ≡ total → total ≡ Ok front
 unfolding each_after

@@ -1,26 +1,24 @@
 -- A packet is read just where the tree has a packet's form.
-use Rattle.std.proofs.Common.{◌≡◌, ℕ, ◌≤◌, ◌<◌, Bool, true, false, cond, List, Option, Some, None, Ok, Err, codes, refl, sym, subst, ap, ◌∙◌, arith}
+use Rattle.std.proofs.Common.{◌≡◌, ℕ, ◌≤◌, ◌<◌, Bool, true, false, cond, List, Ok, Err, codes, refl, subst, arith}
 use Rattle.std.specs.Prelude.{nat_le, ◌&&◌, ◌==◌}
 use Rattle.std.specs.Str.{bytes_eq}
 use Rattle.std.proofs.lemmas.Bool.{and_parts, and_from, leb-true, le-leb, eqb-true, eqb-false, ne_eqb}
 use Rattle.std.proofs.lemmas.Slice.Eq.{bytes_eq-Decides}
 use Rattle.serde_json.specs.Data.{Data}
-use Rattle.ocpi_text.specs.Party.{party_of}
 use Rattle.ocpi_types.specs.declared.field.Field.TheVariants as field
 use Rattle.ocpi_types.specs.declared.token.Token.{Token}
 use Rattle.ocpi_json.specs.declared.records.TokenContract.{TokenContract}
 use Rattle.ocpi_json.specs.declared.records.TokenUse.{TokenUse}
-use Rattle.ocpi_types.specs.declared.packet.ResponseData.{ResponseData}
 use Rattle.ocpi_types.specs.declared.packet.CommandResponse.{CommandResponse}
 use Rattle.ocpi_types.specs.declared.packet.CommandResponse.TheVariants as response
 use Rattle.ocpi_types.specs.declared.packet.Body.{Body}
 use Rattle.ocpi_types.specs.declared.packet.Body.TheVariants as body
 use Rattle.ocpi_types.specs.Words.{token_type_of, whitelist_of, response_of}
 use Rattle.ocpi_json.specs.declared.fault.JsonFault.TheVariants.{WrongForm, UnknownKind}
-use Rattle.ocpi_json.specs.Fault.{Read, ◌>>=◌}
-use Rattle.ocpi_json.specs.Fields.{ci_in, free_in, moment_in, truth_in, word_in, whole_in, party_in, country_in, party_id_in, record_in, text_in, optional, as_record}
+use Rattle.ocpi_json.specs.Fault.{◌>>=◌}
+use Rattle.ocpi_json.specs.Fields.{ci_in, free_in, moment_in, truth_in, word_in, whole_in, party_in, country_in, party_id_in, record_in, text_in, optional}
 use Rattle.ocpi_json.specs.Forms.{token_contract_at, token_use_at, token_at, start_session_at, status_in, response_data_at, response_at, command_response_at, body_at, packet_at, packet_of_line}
-use Rattle.ocpi_json.specs.Form.{Required, IsCi, IsFree, IsMoment, IsWord, IsTruth, IsWhole, IsRecord, HasParty, IsText, IsToken, IsStartSession, IsResponseData, IsDone, IsRefused, IsCommandResponse, IsKind, HasBody, IsPacket, IsPacketLine}
+use Rattle.ocpi_json.specs.Form.{Required, IsCi, IsFree, IsMoment, IsWord, IsTruth, IsWhole, IsRecord, HasParty, IsText, IsToken, IsStartSession, IsResponseData, IsCommandResponse, HasBody, IsPacket, IsPacketLine}
 use Rattle.ocpi_json.proofs.Exact.{Exact, done, ok_is, bind_ok, both_steps, ci_exact, free_exact, moment_exact, truth_exact, word_exact, whole_exact, party_exact, country_exact, party_id_exact, kind_exact, optional_ci_exact, inner_exact, as_record_exact}
 
 -- the halves of a token
@@ -253,7 +251,7 @@ same_text s t e = (bytes_eq-Decides s t).0 e
 
 by_kind : (d : Data) (kind : List ℕ) (b : Body) (is_start is_reply : Bool) → bytes_eq kind (codes "start_session") ≡ is_start → bytes_eq kind (codes "command_response") ≡ is_reply → Required IsText field.Kind d kind
     → cond is_start (record_in field.Body d >>= λ inner. start_session_at inner >>= λ x. done (body.StartSession x))
-        (cond is_reply (record_in field.Body d >>= λ inner. command_response_at inner >>= λ x. done (body.CommandResponse x)) (Err UnknownKind)) ≡ Ok b
+    (cond is_reply (record_in field.Body d >>= λ inner. command_response_at inner >>= λ x. done (body.CommandResponse x)) (Err UnknownKind)) ≡ Ok b
     → HasBody d b
 by_kind d kind b true reply is unused word e =
     let i = bind_ok (record_in field.Body d) _ b e in

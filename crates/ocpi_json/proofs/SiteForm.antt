@@ -1,30 +1,26 @@
 -- A site line is read just where the tree has its form.
-use Rattle.std.proofs.Common.{◌≡◌, ℕ, ℤ, ◌≤◌, Bool, true, false, cond, List, [], ◌∷◌, ◌++◌, length, map, Ok, Err, refl, sym, subst, ap, ◌∙◌, arith}
+use Rattle.std.proofs.Common.{◌≡◌, ℕ, ℤ, Bool, true, false, cond, List, [], ◌∷◌, ◌++◌, length, map, Ok, Err, refl, sym, subst, ap, ◌∙◌, arith}
 use Rattle.std.specs.Prelude.{◌≤ℤ◌, T, int_le}
-use Rattle.std.specs.List.{flat_map}
 use Rattle.std.proofs.lemmas.Bool.{and_parts}
 use Rattle.std.proofs.lemmas.List.{append_assoc, append-nil}
 use Rattle.std.proofs.lemmas.Grind.{flat_map-append}
 use Rattle.serde_json.specs.Data.{Data, Items}
 use Rattle.ocpi_text.specs.Text.{key}
 use Rattle.ocpi_text.specs.Party.{party_at}
-use Rattle.ocpi_types.specs.Apart.{DifferFrom, AllDiffer}
+use Rattle.ocpi_types.specs.Apart.{DifferFrom}
 use Rattle.ocpi_types.specs.Limits.{IsCount, IsPrice}
 use Rattle.ocpi_types.specs.Connectors.{connector_keys, AreConnectors}
 use Rattle.ocpi_types.specs.Locations.{evse_keys, location_keys, site_evse_keys, AreLocations}
-use Rattle.ocpi_types.specs.Parties.{SiteParties, AreParties}
+use Rattle.ocpi_types.specs.Parties.{AreParties}
 use Rattle.ocpi_types.specs.declared.field.Field.TheVariants as field
 use Rattle.ocpi_types.specs.declared.site.Connector.{Connector}
 use Rattle.ocpi_types.specs.declared.site.Evse.{Evse}
 use Rattle.ocpi_types.specs.declared.site.Location.{Location}
-use Rattle.ocpi_types.specs.declared.site.Site.{Site}
-use Rattle.ocpi_types.specs.declared.site.SiteLine.{SiteLine}
 use Rattle.ocpi_json.specs.declared.sites.LocationPlace.{LocationPlace}
 use Rattle.ocpi_json.specs.declared.fault.JsonFault.TheVariants.{WrongForm}
-use Rattle.ocpi_json.specs.Fault.{Read, ◌>>=◌}
-use Rattle.ocpi_json.specs.Fields.{as_record, as_text, formed, ci_in, free_in, moment_in, party_in, e4_in, record_in, each_after}
-use Rattle.ocpi_json.specs.Sites.{new_ci_in, new_among, counted_in, connector_at, connector_element, connectors_in, evse_at, evse_element, evses_in, location_place_at, location_at, location_element, locations_in, price_in, site_at, provider_at, providers_in, parties_at, site_line_at, site_of_line}
-use Rattle.ocpi_json.specs.Form.{Required, IsCi, IsFree, IsParty, IsE4, IsRecord, TextOf}
+use Rattle.ocpi_json.specs.Fields.{as_text, formed, ci_in, free_in, moment_in, party_in, e4_in, record_in, each_after}
+use Rattle.ocpi_json.specs.Sites.{new_ci_in, counted_in, connector_at, connector_element, connectors_in, evse_at, evse_element, evses_in, location_place_at, location_at, location_element, locations_in, price_in, site_at, provider_at, providers_in, parties_at, site_line_at, site_of_line}
+use Rattle.ocpi_json.specs.Form.{Required, IsFree, IsParty, IsE4, IsRecord}
 use Rattle.ocpi_json.specs.SiteForm.{IsList, IsConnector, IsEvse, IsLocation, IsSite, HasParties, IsSiteLine, IsSiteLineTree}
 use Rattle.ocpi_json.proofs.Exact.{Exact, done, ok_is, bind_ok, both_steps, text_exact, formed_ok, ci_exact, free_exact, moment_exact, party_exact, e4_exact, inner_exact, as_record_exact}
 use Rattle.ocpi_json.proofs.Elements.{record_beside, beside, AllNew, ExactBeside, IsListing, listing_exact, IsNewCi, new_ci_exact, new_among_sound, new_among_complete, Apart, differ_from_new, new_from_differ}
@@ -43,12 +39,15 @@ connector_exact before = record {
       let g = bind_ok (free_in 64 field.Format d) _ x b.2 in
       let h = bind_ok (free_in 64 field.PowerType d) _ x g.2 in
       let id = (new_ci_exact 36 field.Id (connector_keys before)).sound d a.0 a.1 in
-      subst (λ c. IsConnector d c × NewConnector before c) (ok_is _ x h.2) (record {
-        id = id.form;
-        standard = (free_exact 64 field.Standard).sound d b.0 b.1;
-        format = (free_exact 64 field.Format).sound d g.0 g.1;
-        power_type = (free_exact 64 field.PowerType).sound d h.0 h.1;
-      }, id.apart);
+      subst (λ c. IsConnector d c × NewConnector before c) (ok_is _ x h.2) (
+        record {
+          id = id.form;
+          standard = (free_exact 64 field.Standard).sound d b.0 b.1;
+          format = (free_exact 64 field.Format).sound d g.0 g.1;
+          power_type = (free_exact 64 field.PowerType).sound d h.0 h.1;
+        },
+        id.apart,
+      );
   complete = λ d x p. rw (
     (new_ci_exact 36 field.Id (connector_keys before)).complete d x.id (record { form = p.0.id; apart = p.1 }),
     (free_exact 64 field.Standard).complete d x.standard p.0.standard,
@@ -101,12 +100,15 @@ evse_exact earlier before = record {
       let g = bind_ok (connectors_in d) _ x b.2 in
       let uid = (new_ci_exact 36 field.Uid (site_evse_keys earlier ++ evse_keys before)).sound d a.0 a.1 in
       let connectors = connectors_exact.sound d g.0 g.1 in
-      subst (λ c. IsEvse d c × NewEvse earlier before c) (ok_is _ x g.2) (record {
-        uid = uid.form;
-        evse_id = (ci_exact 48 field.EvseId).sound d b.0 b.1;
-        connectors = connectors.listed;
-        are = connectors.are;
-      }, uid.apart);
+      subst (λ c. IsEvse d c × NewEvse earlier before c) (ok_is _ x g.2) (
+        record {
+          uid = uid.form;
+          evse_id = (ci_exact 48 field.EvseId).sound d b.0 b.1;
+          connectors = connectors.listed;
+          are = connectors.are;
+        },
+        uid.apart,
+      );
   complete = λ d x p. rw (
     (new_ci_exact 36 field.Uid (site_evse_keys earlier ++ evse_keys before)).complete d x.uid (record { form = p.0.uid; apart = p.1 }),
     (ci_exact 48 field.EvseId).complete d x.evse_id p.0.evse_id,
@@ -206,16 +208,19 @@ location_exact before = record {
       let b = bind_ok (evses_in before d) _ x a.2 in
       let place = (place_exact before).sound d a.0 a.1 in
       let evses = (evses_exact before).sound d b.0 b.1 in
-      subst (λ l. IsLocation d l × NewLocation before l) (ok_is _ x b.2) (record {
-        id = place.id.form;
-        address = place.address;
-        city = place.city;
-        country = place.country;
-        latitude = place.latitude;
-        longitude = place.longitude;
-        evses = evses.listed;
-        count = evses.count;
-      }, record { id = place.id.apart; evses = evses.apart });
+      subst (λ l. IsLocation d l × NewLocation before l) (ok_is _ x b.2) (
+        record {
+          id = place.id.form;
+          address = place.address;
+          city = place.city;
+          country = place.country;
+          latitude = place.latitude;
+          longitude = place.longitude;
+          evses = evses.listed;
+          count = evses.count;
+        },
+        record { id = place.id.apart; evses = evses.apart },
+      );
   complete = λ d x p. rw (
     (place_exact before).complete d (place_part x) (record {
       id = record { form = p.0.id; apart = p.1.id };
@@ -258,7 +263,7 @@ evses_of_new : (before ls : List Location) → AllNew NewLocation before ls → 
 evses_of_new before [] h = tt
 evses_of_new before (l ∷ ls) h =
     differ_join (site_evse_keys before) (evse_keys l.evses) (site_evse_keys ls) h.0.evses
-      (subst (λ front. DifferFrom front (site_evse_keys ls)) (sym (evses_then before l)) (evses_of_new (before ++ l ∷ []) ls h.1))
+    (subst (λ front. DifferFrom front (site_evse_keys ls)) (sym (evses_then before l)) (evses_of_new (before ++ l ∷ []) ls h.1))
 
 new_locations : (before ls : List Location) → AllNew (Apart (λ (x : Location). key x.id) []) before ls → DifferFrom (site_evse_keys before) (site_evse_keys ls) → AllNew NewLocation before ls
 new_locations before [] h k = tt

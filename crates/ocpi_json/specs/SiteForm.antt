@@ -1,6 +1,6 @@
 -- What a tree has to do with a site line: each record, member by member
 -- (OCPI 2.2.1, Locations: Location, EVSE and Connector objects).
-use Rattle.std.specs.Prelude.{◌≡◌, ℕ, List, [], ◌∷◌, length}
+use Rattle.std.specs.Prelude.{◌≡◌, List, [], ◌∷◌, length}
 use Rattle.serde_json.specs.Data.{Data, array, Items, no_items, item}
 use Rattle.ocpi_types.specs.Connectors.{AreConnectors}
 use Rattle.ocpi_types.specs.Limits.{IsCount, IsPrice}

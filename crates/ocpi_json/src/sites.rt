@@ -88,11 +88,7 @@ impl ElementReader<Connector> for ConnectorReader {
 }
 
 #[tactic(auto, unfolding(crate::specs::Sites::connector_at, crate::specs::Sites::new_ci_in))]
-fn connector_of(
-    alloc: Global,
-    before: &[Connector],
-    object: &Value,
-) -> Result<Connector, JsonFault>
+fn connector_of(alloc: Global, before: &[Connector], object: &Value) -> Result<Connector, JsonFault>
     ensures { Gives result (connector_at before.now (view object.now)) }
 {
     let id = ci_in(alloc, object, Field::Id)?;
@@ -130,12 +126,7 @@ impl ElementReader<Evse> for EvseReader<'_> {
     ghost at = { λ r. evse_element r.earlier.now };
 
     fn element(&self, alloc: Global, before: &[Evse], value: &Value) -> Result<Evse, JsonFault> {
-        evse_of(
-            alloc,
-            self.earlier,
-            before,
-            as_record(value, Field::Evses)?,
-        )
+        evse_of(alloc, self.earlier, before, as_record(value, Field::Evses)?)
     }
 }
 
@@ -210,11 +201,7 @@ fn location_place_of(
 }
 
 #[tactic(auto, unfolding(crate::specs::Sites::location_at))]
-fn location_of(
-    alloc: Global,
-    before: &[Location],
-    object: &Value,
-) -> Result<Location, JsonFault>
+fn location_of(alloc: Global, before: &[Location], object: &Value) -> Result<Location, JsonFault>
     ensures { Gives result (location_at before.now (view object.now)) }
 {
     let place = location_place_of(alloc, before, object)?;

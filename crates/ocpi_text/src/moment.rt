@@ -191,11 +191,12 @@ impl Moment {
         ensures value { IfOk result (λ s. string_bytes s ≡ moment_text self) }
         ensures again { IfOk result (λ s. moment_at (string_bytes s) ≡ Ok self) }
     {
+        let millis = self.millis;
         let mut text = String::with_capacity(alloc, 24)?;
-        push_date(&mut text, date_of_day((self.millis / 86_400_000) as u32))?;
+        push_date(&mut text, date_of_day((millis / 86_400_000) as u32))?;
         text.push('T')?;
-        push_clock(&mut text, self.millis / 1_000 % 86_400)?;
-        push_fraction(&mut text, self.millis % 1_000)?;
+        push_clock(&mut text, millis / 1_000 % 86_400)?;
+        push_fraction(&mut text, millis % 1_000)?;
         text.push('Z')?;
         Ok(text)
     }

@@ -1,6 +1,6 @@
 -- Lists of entries that are searched from the front, read as maps.
 use Rattle.std.proofs.Common.{◌≡◌, ℕ, zero, suc, ◌+◌, ◌≤◌, Bool, true, false, cond, List, [], ◌∷◌, ◌++◌, refl, sym, ap, subst, ◌∙◌, arith, take, drop, get_or, set}
-use Rattle.std.specs.Prelude.{Some, None, position}
+use Rattle.std.specs.Prelude.{Option, Some, None, position}
 use Rattle.std.specs.List.{position_from}
 use Rattle.std.specs.List as lists
 use Rattle.std.specs.Ordering.{eq_by_cmp}
@@ -11,6 +11,10 @@ use Rattle.std.specs.FinMap.Entries.{find-append}
 use Rattle.std.proofs.lemmas.Iterator.Adapters.{position_from-zero}
 use Rattle.ocpi_types.specs.Entries.{OneEach}
 use Rattle.ocpi_types.proofs.Maps.{equal_of_is_eq}
+
+-- the place that a search of a slice gave, in the list that the slice shows
+pub place_in : {X : Type 0} (test : X → Bool) {es seen : List X} {found place : Option ℕ} → seen ≡ es → found ≡ position test seen → found ≡ place → position test es ≡ place
+place_in test shows ran was = ap (position test) (sym shows) ∙ sym ran ∙ was
 
 -- a test that is repeated
 shadow : {A : Type 0} (b : Bool) (x y z : A) → cond b x z ≡ cond b x (cond b y z)
@@ -47,7 +51,7 @@ module _ {K : Type 0} {R : K → K → Ordering} (o : IsTotalOrder R) (exact : I
 abbrev is : {K X : Type 0} (R : K → K → Ordering) → K → K × X → Bool
 is R k e = eq_by_cmp R k e.0
 
-module _ {X K : Type 0} (R : K → K → Ordering) (o : IsTotalOrder R) (exact : IsAntisymmetric R) where
+module _ {X K : Type 0} {R : K → K → Ordering} (o : IsTotalOrder R) (exact : IsAntisymmetric R) where
   -- ---- where the key stands first
   data_at : (es : List (K × X)) (k : K) (i j n : ℕ) (d : K × X) → j ≡ i + n → position_from (is R k) i es ≡ Some j → find R k es ≡ Some (get_or es n d).1
   data_at [] k i j n d a e = absurd (cc)

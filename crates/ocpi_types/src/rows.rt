@@ -94,7 +94,7 @@ pub enum Row {
         number: Whole,
         command: StartSession,
         place: Place,
-        /// From then on the start has failed.
+        /// The first tick at this moment or later ends the start by a timeout.
         deadline: Moment,
     },
 }

@@ -7,6 +7,6 @@ returns-then-items-most-clause-exact c = enough _ _ _ _ _ c.in_ok-items.ensures 
 
 pub returns-else-least-items-clause-exact : goal.returns-else-least-items-clause-exact
 returns-else-least-items-clause-exact c = elim c.else-least-items.either [
-  inl w ↦ too_many _ _ _ _ _ c.in_ok-items.ensures w.1
+  | inl w ↦ too_many _ _ _ _ _ c.in_ok-items.ensures w.1
   | inr w ↦ too_few _ _ _ _ _ c.in_ok-items.ensures w
 ]

@@ -4,8 +4,8 @@ use Rattle.ocpi_types.proofs.entries.value_of.Goals as goal
 
 pub returns-in_err-place : goal.returns-in_err-place
 returns-in_err-place g c =
-    let h = no_value _ g.met.Q.Lookup.total g.met.Q.Lookup.exact c.args.entries.now (g.Q.Lookup.wanted c.args.key) (sym c.place_of.ensures ∙ c.in_err-place.was) in
+    let h = no_value g.met.Q.Lookup.total g.met.Q.Lookup.exact c.args.entries.now (g.Q.Lookup.wanted c.args.key) (sym c.place_of.ensures ∙ c.in_err-place.was) in
     search (rules, h)
 
 pub returns : goal.returns
-returns g c = sym (found_value _ g.met.Q.Lookup.total g.met.Q.Lookup.exact c.args.entries.now (g.Q.Lookup.wanted c.args.key) c.in_ok-place.place c.index-entries-place.result (sym c.place_of.ensures ∙ c.in_ok-place.was))
+returns g c = sym (found_value g.met.Q.Lookup.total g.met.Q.Lookup.exact c.args.entries.now (g.Q.Lookup.wanted c.args.key) c.in_ok-place.place c.index-entries-place.result (sym c.place_of.ensures ∙ c.in_ok-place.was))
