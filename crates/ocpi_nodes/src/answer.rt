@@ -30,10 +30,14 @@ struct Answering {
 }
 
 impl Model for Answering {
+    ghost use Rattle.std.specs.Coded.{codes};
+    ghost use Rattle.std.specs.FinMap as map;
     ghost use Rattle.std.specs.Prelude.{Option};
     ghost use Rattle.ocpi_nodes.specs.declared.answer.Running.{Running};
 
     ghost Value = { Option Running };
+
+    ghost coded = { Prim.hlevel (codes, map.code) };
 
     ghost view = { λ a. a.running };
 }
