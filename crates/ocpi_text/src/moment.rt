@@ -157,7 +157,10 @@ fn push_fraction(text: &mut String, millis: u64) -> Result<(), AllocError>
 }
 
 impl Moment {
-    /// The moment that a text spells, as `2025-01-01T10:00:00.123Z`. Refused is any other (`BadMoment`).
+    /// The moment that a text spells: `YYYY-MM-DDTHH:MM:SS`, where `t` may stand for `T`; then a point and a
+    /// digit or more, of which those after the third are cut, or nothing; then nothing, `Z`, `z`, `+00:00` or
+    /// `-00:00`. Refused are any other text, a day that the calendar lacks or that lies before 1970, hour 24
+    /// and second 60 (`BadMoment`).
     pub fn read(text: &str) -> Result<Moment, TextFault>
         ensures exact { Gives result (moment_at text.now) }
         ensures found { IfOk result (λ m. SpellsMoment text.now m) }
@@ -185,7 +188,8 @@ impl Moment {
         }
     }
 
-    /// The moment's text, which `read` takes for the same moment.
+    /// The moment's text, which `read` takes for the same moment: as `2025-01-01T10:00:00.123Z`, without a
+    /// fraction where the second is whole.
     #[tactic(auto, unfolding(crate::specs::Moment::moment_text))]
     pub fn write(self, alloc: Global) -> Result<String, AllocError>
         ensures value { IfOk result (λ s. string_bytes s ≡ moment_text self) }
