@@ -7,7 +7,7 @@ use Rattle.std.specs.Cmp.{IsTotalOrder}
 use Rattle.std.specs.FinMap.{FinMap, get, insert, empty, get-empty, get-insert}
 use Rattle.ocpi_text.specs.Text.{key}
 use Rattle.ocpi_types.specs.Keys.{text_cmp, text_total, text_exact, text_number_cmp, text_number_total, text_number_exact}
-use Rattle.ocpi_types.specs.Maps.{of_insert, get-insert_same, get-insert_other}
+use Rattle.ocpi_types.proofs.Maps.{of_insert, get-insert_same, get-insert_other}
 use Rattle.ocpi_types.specs.declared.packet.CommandResponse.{CommandResponse}
 use Rattle.operator_core.specs.declared.open_start.OpenStart.{OpenStart}
 use Rattle.operator_core.specs.State.{Replies, OpenStarts, Claim, ByStart, Claims, IsFree}

@@ -1,2 +1,5 @@
 pub mod Indexes
 pub mod Spending
+pub mod StepFacts
+pub mod Runs
+pub mod RowChanges

@@ -7,3 +7,6 @@ pub mod Faults
 pub mod FaultText
 pub mod Books
 pub mod Requests
+pub mod Rows
+pub mod Claims
+pub mod Laws

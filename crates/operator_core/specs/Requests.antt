@@ -15,7 +15,7 @@ pub record IsRequest (s : State) (at : ℕ) (q : Packet) (r : Request) : Type 0 
   pub from : IsProvider s.providers q.from r.from
   pub provider : r.provider ≡ key q.from
   pub number : r.number ≡ q.request
-  pub at : r.at ≡ at
+  pub moment : r.at ≡ at
   pub room : s.serial < max_whole
   pub serial : r.serial ≡ s.serial + 1
 

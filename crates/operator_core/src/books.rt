@@ -10,8 +10,8 @@ ghost use Rattle.operator_core.specs.State.{IsFree};
 
 use crate::open_start::OpenStart;
 use ocpi_text::{Party, Whole};
-use ocpi_types::table::{TextNumberTable, TextPairTable, TextTable};
-use ocpi_types::{Ci, CommandResponse};
+
+use ocpi_types::{Ci, CommandResponse, TextNumberTable, TextPairTable, TextTable};
 use std::alloc::{AllocError, Global};
 use std::marker::Model;
 

@@ -5,6 +5,7 @@
 mod books;
 mod decision;
 mod fault;
+pub mod laws;
 mod open_start;
 mod operator;
 mod places;

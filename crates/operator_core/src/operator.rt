@@ -4,7 +4,6 @@ ghost use Rattle.std.specs.Prelude.{◌≡◌, ◌++◌, ◌∷◌, [], ◌+◌,
 ghost use Rattle.std.specs.FinMap as map;
 ghost use Rattle.ocpi_text.specs.Text.{key};
 ghost use Rattle.ocpi_types.specs.declared.rows.Counter.{Counter};
-ghost use Rattle.ocpi_types.specs.declared.packet.StartSession.{StartSession};
 ghost use Rattle.operator_core.specs.Places.{IsProvider};
 ghost use Rattle.operator_core.specs.Steps.{responded};
 
@@ -20,7 +19,7 @@ use crate::stepped::Stepped;
 use ocpi_text::{Moment, Party, Whole};
 use ocpi_types::{
     Body, Change, CommandResponse, CommandResponseType, Counter, Packet, Parties, ResponseData,
-    Row, Site, SiteLine, StartSession, Place,
+    Row, Site, SiteLine, StartSession,
 };
 use std::alloc::{AllocError, Global};
 use std::marker::Model;
@@ -78,10 +77,10 @@ impl Model for Operator {
 }
 
 impl Operator {
-    ghost use Rattle.operator_core.specs.State.{State, opening};
-    ghost use Rattle.operator_core.specs.Start.{StartLine};
-    ghost use Rattle.operator_core.specs.Steps.{answer, started, OperatorStep};
-    ghost use Rattle.operator_core.specs.Moves.{keep_reply};
+    ghost use Rattle.operator_core.specs.State.{opening, IsFree};
+    ghost use Rattle.operator_core.specs.Start.{StartLine, IsSpent};
+    ghost use Rattle.operator_core.specs.Steps.{answer, started, IsTaken, OperatorStep};
+    ghost use Rattle.operator_core.specs.Moves.{keep_reply, open_start, spend};
     ghost use Rattle.operator_core.specs.Requests.{IsRequest, out_of};
     ghost use Rattle.operator_core.specs.Faults.{IsDue};
     ghost use Rattle.operator_core.specs.declared.decision.Decision.{Decision};
@@ -117,8 +116,9 @@ impl Operator {
 
     /// The request that a packet to this operator makes.
     fn request(&self, at: Moment, packet: &Packet) -> Result<Request, OperatorFault>
+        requires kind { IsTaken packet.now.body }
         ensures request { IfOk result (λ r. IsRequest self.now at packet.now r) }
-        ensures fault { IfErr result (λ e. IsRefused self.now packet.now e) }
+        ensures fault { IfErr result (λ e. IsDue self.now packet.now e) }
     {
         let Some(peer) = self.peer(packet) else {
             return Err(OperatorFault::NotForMe);
@@ -177,5 +177,79 @@ impl Operator {
             .keep_reply(&request.provider, request.number, reply)?;
         self.serial = request.serial;
         Ok(stepped)
+    }
+
+    /// Sends the reply to a START_SESSION that takes a place, keeps it, and opens the start.
+    fn accept(
+        &mut self,
+        request: &Request,
+        reply: CommandResponse,
+        start: OpenStart,
+    ) -> Result<Stepped, AllocError>
+        requires serial { request.now.serial ≡ self.old.serial + 1 }
+        requires new { map.get self.old.replies (request.now.provider, request.now.number) ≡ None }
+        requires fresh { IsSpent self.old.spent request.now.provider start.command.authorization_reference → ⊥ }
+        requires free { IsFree self.old.open_starts (key start.place.evse_uid) }
+        ensures step { IfOk result (λ x. out_of self.new x ≡ spend request.now.provider start.command.authorization_reference (open_start request.now.provider request.now.number start (keep_reply request.now.provider request.now.number reply (answer request.now.from request.now.number reply self.old)))) }
+        ensures err { OnErr result (self.new ≡ self.old) }
+    {
+        let mut stepped = self.answer(request, reply)?;
+        stepped.rows.push(reply_row(request, reply)?)?;
+        push_start_rows(&mut stepped.rows, request, &start)?;
+        self.books
+            .take(&request.provider, request.number, reply, start)?;
+        self.serial = request.serial;
+        Ok(stepped)
+    }
+
+    /// Decides a START_SESSION.
+    fn start(
+        &mut self,
+        request: &Request,
+        sender: &Party,
+        command: &StartSession,
+    ) -> Result<Stepped, AllocError>
+        requires serial { request.now.serial ≡ self.old.serial + 1 }
+        requires provider { request.now.provider ≡ key sender.now }
+        requires new { map.get self.old.replies (request.now.provider, request.now.number) ≡ None }
+        ensures step { IfOk result (λ x. (d : Decision) × StartLine self.old.site self.old.spent self.old.open_starts sender.now command.now d × (out_of self.new x ≡ started request.now.at request.now.from request.now.provider request.now.number command.now d self.old)) }
+        ensures err { OnErr result (self.new ≡ self.old) }
+    {
+        let decision = decide(&self.site, &self.books, sender, &request.provider, command)?;
+        let reply = respond(&decision, request.at);
+        match decision {
+            Decision::Refused(_) => self.refuse(request, reply),
+            Decision::Rejected => self.refuse(request, reply),
+            Decision::Accepted(place) => {
+                let start = OpenStart {
+                    command: command.copy()?,
+                    place,
+                    deadline: request.at.after(1000 * TIMEOUT),
+                };
+                let stepped = self.accept(request, reply, start)?;
+                Ok(stepped)
+            }
+        }
+    }
+
+    /// A packet comes at a moment. It is refused (`NotForMe`) where it is to another party, from a party that is
+    /// no provider of the site, or of a kind that an operator does not take; and else (`NumbersUsedUp`) where the
+    /// last number of a packet was used. A refusal, want of memory included, changes nothing and sends nothing.
+    ///
+    /// A request that was answered before gets the same reply again, under a new serial. A START_SESSION that was
+    /// not is decided, and its reply is kept for good (OCPI 2.2.1, Commands: StartSession).
+    pub fn on_packet(&mut self, at: Moment, packet: &Packet) -> Result<Stepped, OperatorFault>
+        ensures step { IfOk result (λ x. OperatorStep self.old at packet.now (out_of self.new x)) }
+        ensures fault { IfErr result (λ e. IsDue self.old packet.now e) }
+        ensures err { OnErr result (self.new ≡ self.old) }
+    {
+        let Body::StartSession(command) = &packet.body else {
+            return Err(OperatorFault::NotForMe);
+        };
+        let request = self.request(at, packet)?;
+        match self.books.reply(&request.provider, request.number) {
+            Some(reply) => Ok(self.again(&request, reply)?),
+            None => Ok(self.start(&request, &packet.from, command)?),
+        }
     }
 }

@@ -1,7 +1,7 @@
 use Rattle.std.proofs.Common.{◌≡◌, None}
 use Rattle.std.specs.FinMap.{get}
 use Rattle.ocpi_types.specs.Keys.{text_number_total, text_number_exact}
-use Rattle.ocpi_types.specs.Maps.{undone}
+use Rattle.ocpi_types.proofs.Maps.{undone}
 use Rattle.operator_core.proofs.Indexes.{unclaimed_key, indexed_start}
 use Rattle.operator_core.proofs.books.Books.take.Goals as goal
 

@@ -1,7 +1,7 @@
 use Rattle.std.proofs.Common.{◌≡◌}
 use Rattle.ocpi_text.specs.Text.{key}
 use Rattle.ocpi_types.specs.Keys.{text_total, text_exact}
-use Rattle.ocpi_types.specs.Maps.{undone}
+use Rattle.ocpi_types.proofs.Maps.{undone}
 use Rattle.operator_core.proofs.books.Starts.claim.Goals as goal
 
 pub returns-clause-err : goal.returns-clause-err

@@ -4,7 +4,7 @@ use Rattle.std.specs.Prelude.{Some}
 use Rattle.std.specs.Option.{option_map}
 use Rattle.ocpi_text.specs.Text.{key}
 use Rattle.ocpi_types.specs.Keys.{text_pair_total, text_pair_exact}
-use Rattle.ocpi_types.specs.Maps.{undone}
+use Rattle.ocpi_types.proofs.Maps.{undone}
 use Rattle.operator_core.proofs.Spending.{fresh_key}
 use Rattle.operator_core.proofs.books.Starts.open.Goals as goal
 
