@@ -3,3 +3,4 @@ pub mod Spending
 pub mod StepFacts
 pub mod Runs
 pub mod RowChanges
+pub mod ClaimChanges

@@ -65,19 +65,20 @@ and_put s t u changes x before puts new r = (there, back)
     ]
     back (inr (first, untouched)) = (puts r).1 (inr ((before r).1 (inr (first, λ i. untouched (subst (λ l. Contains l (row_key r)) (sym all) (Contains-append_left (map change_key changes) (row_key x ∷ []) (row_key r) i)))), λ same. untouched (subst (λ l. Contains l (row_key r)) (sym all) (subst (λ k. Contains (map change_key changes ++ row_key x ∷ []) k) (sym same) (Contains-push (map change_key changes) (row_key x))))))
 
-other : (s t : State) (x r : Row) → (HasRow t r → HasRow s r) → (HasRow s r → HasRow t r) → (row_key r ≢ row_key x) → HasRow t r ↔ ((r ≡ x) ⊎ (HasRow s r × (row_key r ≢ row_key x)))
-other s t x r f g apart = (λ h. inr (f h, apart), λ y. elim y [ inl e ↦ absurd (apart (ap row_key e)) | inr h ↦ g h.0 ])
+-- a row of another key stands as it stood
+other : (A B : Type 0) (x r : Row) → (A → B) → (B → A) → (row_key r ≢ row_key x) → A ↔ ((r ≡ x) ⊎ (B × (row_key r ≢ row_key x)))
+other A B x r f g apart = (λ h. inr (f h, apart), λ y. elim y [ inl e ↦ absurd (apart (ap row_key e)) | inr h ↦ g h.0 ])
+
+told : {K : Type 0} {R : K → K → Ordering} (o : IsTotalOrder R) (exact : IsAntisymmetric R) (q k : K) → (q ≡ k) ⊎ (q ≢ k)
+told {R = R} o exact q k = elim (eq_by_cmp R q k) as (λ b. eq_by_cmp R q k ≡ b → (q ≡ k) ⊎ (q ≢ k)) [
+    | true ↦ λ e. inl (exact q k (equal_of_is_eq (R q k) e))
+    | false ↦ λ e. inr (λ same. let t : eq_by_cmp R q k ≡ true = subst (λ z. eq_by_cmp R q z ≡ true) same ((eq_by_cmp_equiv o).refl q) in cc)
+  ] refl
 
 module _ {K X : Type 0} {R : K → K → Ordering} (o : IsTotalOrder R) (exact : IsAntisymmetric R) where
-  told : (q k : K) → (q ≡ k) ⊎ (q ≢ k)
-  told q k = elim (eq_by_cmp R q k) as (λ b. eq_by_cmp R q k ≡ b → (q ≡ k) ⊎ (q ≢ k)) [
-      | true ↦ λ e. inl (exact q k (equal_of_is_eq (R q k) e))
-      | false ↦ λ e. inr (λ same. let t : eq_by_cmp R q k ≡ true = subst (λ z. eq_by_cmp R q z ≡ true) same ((eq_by_cmp_equiv o).refl q) in cc)
-    ] refl
-
   -- the key's own value, or what another key had
   inserted : (m : FinMap R X) (k : K) (v : X) (q : K) (x : X) → get (insert m k v) q ≡ Some x → ((q ≡ k) × (v ≡ x)) ⊎ ((q ≢ k) × (get m q ≡ Some x))
-  inserted m k v q x e = elim (told q k) [
+  inserted m k v q x e = elim (told o exact q k) [
     | inl same ↦ inl (same, let is : Some v ≡ Some x = sym (get-insert_same o exact m k v) ∙ ap (get (insert m k v)) (sym same) ∙ e in cc)
     | inr apart ↦ inr (apart, sym (get-insert_other o exact m k v q apart) ∙ e)
   ]
@@ -89,13 +90,13 @@ puts_serial s (row.Count Serial n) = (
     | inl e ↦ let is : n ≡ s.serial + 1 = cc in (sym is, λ zero. omega arith)
     | inr h ↦ absurd (h.1 refl)
   ])
-puts_serial s (row.Count Request n) = other s _ _ _ (λ h. h) (λ h. h) (λ e. cc)
-puts_serial s (row.Count Session n) = other s _ _ _ (λ h. h) (λ h. h) (λ e. cc)
-puts_serial s (row.Count Cdr n) = other s _ _ _ (λ h. h) (λ h. h) (λ e. cc)
-puts_serial s (row.Count Reference n) = other s _ _ _ (λ h. h) (λ h. h) (λ e. cc)
-puts_serial s (row.Reply q m c) = other s _ _ _ (λ h. h) (λ h. h) (λ e. cc)
-puts_serial s (row.Spent q r) = other s _ _ _ (λ h. h) (λ h. h) (λ e. cc)
-puts_serial s (row.Pending q m c place d) = other s _ _ _ (λ h. h) (λ h. h) (λ e. cc)
+puts_serial s (row.Count Request n) = other _ _ _ _ (λ h. h) (λ h. h) (λ e. cc)
+puts_serial s (row.Count Session n) = other _ _ _ _ (λ h. h) (λ h. h) (λ e. cc)
+puts_serial s (row.Count Cdr n) = other _ _ _ _ (λ h. h) (λ h. h) (λ e. cc)
+puts_serial s (row.Count Reference n) = other _ _ _ _ (λ h. h) (λ h. h) (λ e. cc)
+puts_serial s (row.Reply q m c) = other _ _ _ _ (λ h. h) (λ h. h) (λ e. cc)
+puts_serial s (row.Spent q r) = other _ _ _ _ (λ h. h) (λ h. h) (λ e. cc)
+puts_serial s (row.Pending q m c place d) = other _ _ _ _ (λ h. h) (λ h. h) (λ e. cc)
 
 puts_reply : (s : State) (p : List ℕ) (n : ℕ) (b : CommandResponse) → Puts s (row.Reply p n b) (record s { replies = insert s.replies (p, n) b })
 puts_reply s p n b (row.Reply q m c) = (
@@ -108,13 +109,13 @@ puts_reply s p n b (row.Reply q m c) = (
         ap (get (insert s.replies (p, n) b)) (λ j. (a j, d j)) ∙ get-insert_same text_number_total text_number_exact s.replies (p, n) b ∙ ap Some f
     | inr h ↦ get-insert_other text_number_total text_number_exact s.replies (p, n) b (q, m) (λ same. h.1 (let a : q ≡ p = ap (λ (k : List ℕ × ℕ). k.0) same in let d : m ≡ n = ap (λ (k : List ℕ × ℕ). k.1) same in cc)) ∙ h.0
   ])
-puts_reply s p n b (row.Count Serial m) = other s _ _ _ (λ h. h) (λ h. h) (λ e. cc)
-puts_reply s p n b (row.Count Request m) = other s _ _ _ (λ h. h) (λ h. h) (λ e. cc)
-puts_reply s p n b (row.Count Session m) = other s _ _ _ (λ h. h) (λ h. h) (λ e. cc)
-puts_reply s p n b (row.Count Cdr m) = other s _ _ _ (λ h. h) (λ h. h) (λ e. cc)
-puts_reply s p n b (row.Count Reference m) = other s _ _ _ (λ h. h) (λ h. h) (λ e. cc)
-puts_reply s p n b (row.Spent q r) = other s _ _ _ (λ h. h) (λ h. h) (λ e. cc)
-puts_reply s p n b (row.Pending q m c place d) = other s _ _ _ (λ h. h) (λ h. h) (λ e. cc)
+puts_reply s p n b (row.Count Serial m) = other _ _ _ _ (λ h. h) (λ h. h) (λ e. cc)
+puts_reply s p n b (row.Count Request m) = other _ _ _ _ (λ h. h) (λ h. h) (λ e. cc)
+puts_reply s p n b (row.Count Session m) = other _ _ _ _ (λ h. h) (λ h. h) (λ e. cc)
+puts_reply s p n b (row.Count Cdr m) = other _ _ _ _ (λ h. h) (λ h. h) (λ e. cc)
+puts_reply s p n b (row.Count Reference m) = other _ _ _ _ (λ h. h) (λ h. h) (λ e. cc)
+puts_reply s p n b (row.Spent q r) = other _ _ _ _ (λ h. h) (λ h. h) (λ e. cc)
+puts_reply s p n b (row.Pending q m c place d) = other _ _ _ _ (λ h. h) (λ h. h) (λ e. cc)
 
 puts_start : (s : State) (p : List ℕ) (n : ℕ) (o : OpenStart) → Puts s (row.Pending p n o.command o.place o.deadline) (record s { open_starts = insert s.open_starts (p, n) o })
 puts_start s p n o (row.Pending q m c place d) = (
@@ -128,13 +129,13 @@ puts_start s p n o (row.Pending q m c place d) = (
         ap (get (insert s.open_starts (p, n) o)) (λ j. (a j, b j)) ∙ get-insert_same text_number_total text_number_exact s.open_starts (p, n) o ∙ ap Some (λ j. record { command = f j; place = g j; deadline = h j })
     | inr h ↦ get-insert_other text_number_total text_number_exact s.open_starts (p, n) o (q, m) (λ same. h.1 (let a : q ≡ p = ap (λ (k : List ℕ × ℕ). k.0) same in let b : m ≡ n = ap (λ (k : List ℕ × ℕ). k.1) same in cc)) ∙ h.0
   ])
-puts_start s p n o (row.Count Serial m) = other s _ _ _ (λ h. h) (λ h. h) (λ e. cc)
-puts_start s p n o (row.Count Request m) = other s _ _ _ (λ h. h) (λ h. h) (λ e. cc)
-puts_start s p n o (row.Count Session m) = other s _ _ _ (λ h. h) (λ h. h) (λ e. cc)
-puts_start s p n o (row.Count Cdr m) = other s _ _ _ (λ h. h) (λ h. h) (λ e. cc)
-puts_start s p n o (row.Count Reference m) = other s _ _ _ (λ h. h) (λ h. h) (λ e. cc)
-puts_start s p n o (row.Spent q r) = other s _ _ _ (λ h. h) (λ h. h) (λ e. cc)
-puts_start s p n o (row.Reply q m c) = other s _ _ _ (λ h. h) (λ h. h) (λ e. cc)
+puts_start s p n o (row.Count Serial m) = other _ _ _ _ (λ h. h) (λ h. h) (λ e. cc)
+puts_start s p n o (row.Count Request m) = other _ _ _ _ (λ h. h) (λ h. h) (λ e. cc)
+puts_start s p n o (row.Count Session m) = other _ _ _ _ (λ h. h) (λ h. h) (λ e. cc)
+puts_start s p n o (row.Count Cdr m) = other _ _ _ _ (λ h. h) (λ h. h) (λ e. cc)
+puts_start s p n o (row.Count Reference m) = other _ _ _ _ (λ h. h) (λ h. h) (λ e. cc)
+puts_start s p n o (row.Spent q r) = other _ _ _ _ (λ h. h) (λ h. h) (λ e. cc)
+puts_start s p n o (row.Reply q m c) = other _ _ _ _ (λ h. h) (λ h. h) (λ e. cc)
 
 puts_spent : (s : State) (p r : List ℕ) → Puts s (row.Spent p r) (record s { spent = insert s.spent (p, r) tt })
 puts_spent s p r (row.Spent q x) = (
@@ -147,13 +148,13 @@ puts_spent s p r (row.Spent q x) = (
         ap (get (insert s.spent (p, r) tt)) (λ j. (a j, b j)) ∙ get-insert_same text_pair_total text_pair_exact s.spent (p, r) tt
     | inr h ↦ get-insert_other text_pair_total text_pair_exact s.spent (p, r) tt (q, x) (λ same. h.1 (let a : q ≡ p = ap (λ (k : List ℕ × List ℕ). k.0) same in let b : x ≡ r = ap (λ (k : List ℕ × List ℕ). k.1) same in cc)) ∙ h.0
   ])
-puts_spent s p r (row.Count Serial m) = other s _ _ _ (λ h. h) (λ h. h) (λ e. cc)
-puts_spent s p r (row.Count Request m) = other s _ _ _ (λ h. h) (λ h. h) (λ e. cc)
-puts_spent s p r (row.Count Session m) = other s _ _ _ (λ h. h) (λ h. h) (λ e. cc)
-puts_spent s p r (row.Count Cdr m) = other s _ _ _ (λ h. h) (λ h. h) (λ e. cc)
-puts_spent s p r (row.Count Reference m) = other s _ _ _ (λ h. h) (λ h. h) (λ e. cc)
-puts_spent s p r (row.Reply q m c) = other s _ _ _ (λ h. h) (λ h. h) (λ e. cc)
-puts_spent s p r (row.Pending q m c place d) = other s _ _ _ (λ h. h) (λ h. h) (λ e. cc)
+puts_spent s p r (row.Count Serial m) = other _ _ _ _ (λ h. h) (λ h. h) (λ e. cc)
+puts_spent s p r (row.Count Request m) = other _ _ _ _ (λ h. h) (λ h. h) (λ e. cc)
+puts_spent s p r (row.Count Session m) = other _ _ _ _ (λ h. h) (λ h. h) (λ e. cc)
+puts_spent s p r (row.Count Cdr m) = other _ _ _ _ (λ h. h) (λ h. h) (λ e. cc)
+puts_spent s p r (row.Count Reference m) = other _ _ _ _ (λ h. h) (λ h. h) (λ e. cc)
+puts_spent s p r (row.Reply q m c) = other _ _ _ _ (λ h. h) (λ h. h) (λ e. cc)
+puts_spent s p r (row.Pending q m c place d) = other _ _ _ _ (λ h. h) (λ h. h) (λ e. cc)
 
 module _ (s : State) (to p : List ℕ) (n : ℕ) (r : CommandResponse) where
   abbrev counted : State

@@ -1,5 +1,5 @@
 -- The laws of an operator, over every list of packets.
-use Rattle.std.proofs.Common.{◌≡◌, ℕ, ◌+◌, List, [], ◌∷◌, ◌++◌, ◌⊎◌, inl, inr, refl, sym, ap, subst, ◌∙◌, arith, add-one}
+use Rattle.std.proofs.Common.{zero, suc, ◌≡◌, ℕ, ◌+◌, List, [], ◌∷◌, ◌++◌, ◌⊎◌, inl, inr, refl, sym, ap, subst, ◌∙◌, arith, add-one}
 use Rattle.std.specs.Prelude.{Option, Some, None, Contains, slice_get}
 use Rattle.std.specs.FinMap.{get, empty, get-empty}
 use Rattle.std.proofs.lemmas.List.Elements.{Contains-append_cases}
@@ -9,6 +9,8 @@ use Rattle.ocpi_types.specs.declared.packet.Packet.{Packet}
 use Rattle.ocpi_types.specs.declared.packet.Body.TheVariants as body
 use Rattle.ocpi_types.specs.declared.packet.CommandResponse.{CommandResponse}
 use Rattle.ocpi_types.specs.declared.rows.Change.{Change}
+use Rattle.ocpi_types.specs.declared.rows.Change.TheVariants.{Put}
+use Rattle.ocpi_types.specs.declared.rows.Row.TheVariants as row
 use Rattle.operator_core.specs.State.{State, Claim, ByStart, Claims}
 use Rattle.operator_core.specs.Moves.{Out}
 use Rattle.operator_core.specs.Laws.{Event, Happens, Stepped, Refused, Run, sent, Opens, OneClaim, OneStart, OneAnswer, RepliesStay, Numbered}
@@ -85,7 +87,7 @@ opens_happens s t e (Stepped step) p reference (n, c, place, deadline, spelled, 
     subst (λ z. (get s.spent (p, z) ≡ Some tt → ⊥) × (get t.spent (p, z) ≡ Some tt)) is
       ((step_facts s e.at e.packet (out_of e t) step).opens p n c place deadline spelled stores named)
 opens_happens s t e (Refused f due same none packets) p reference (n, c, place, deadline, spelled, stores, named, is) =
-    absurd (in_none _ (subst (λ l. Contains l _) none stores))
+    absurd (in_none (Put (row.Pending p n c place deadline)) (subst (λ (l : List Change). Contains l (Put (row.Pending p n c place deadline))) none stores))
 
 no_more : (es : List Event) (s t : State) → Run s es t → (p reference : List ℕ) → get s.spent (p, reference) ≡ Some tt → (i : ℕ) (e : Event) → slice_get es i ≡ Some e → Opens e p reference → ⊥
 no_more [] s t run p reference spent i e at opens = cc
@@ -118,14 +120,14 @@ numbered_runs (e ∷ es) s t (u, Refused f due same none silent, rest) i x at =
 numbered_runs (e ∷ es) s t (u, Stepped step, rest) i x at =
     let facts = step_facts s e.at e.packet (out_of e u) step in
     let here : slice_get (facts.packet ∷ sent es) i ≡ Some x = subst (λ l. slice_get (l ++ sent es) i ≡ Some x) facts.sends at in
-    go facts i here
+    go (λ j h. numbered_runs es u t rest j x h) facts i here
   where
-    go : (facts : StepFacts s (out_of e u)) (i : ℕ) → slice_get (facts.packet ∷ sent es) i ≡ Some x → x.serial ≡ s.serial + (i + 1)
-    go facts zero h = let same : facts.packet ≡ x = cc in ap (λ (z : Packet). z.serial) (sym same) ∙ facts.number
-    go facts (suc j) h =
-        let later = numbered_runs es u t rest j x h in
+    go : ((j : ℕ) → slice_get (sent es) j ≡ Some x → x.serial ≡ u.serial + (j + 1)) → (facts : StepFacts s (out_of e u)) (i : ℕ) → slice_get (facts.packet ∷ sent es) i ≡ Some x → x.serial ≡ s.serial + (i + 1)
+    go later facts zero h = let same : facts.packet ≡ x = cc in ap (λ (z : Packet). z.serial) (sym same) ∙ facts.number
+    go later facts (suc j) h =
+        let there = later j h in
         let next = facts.serial in
-        omega (arith, later, next, add-one j)
+        omega (arith, there, next, add-one j)
 
 pub numbered : Numbered
 numbered line es t run i x at = omega (arith, numbered_runs es _ t run i x at)

@@ -82,10 +82,10 @@ in_spent_rows p None q n c place deadline h = in_none _ h
 in_spent_rows p (Some r) q n c place deadline h = let e = in_single _ _ h in cc
 
 module _ (s : State) (to p : List ℕ) (n : ℕ) (r : CommandResponse) (at : key to ≡ p) where
-  in_answer : (q : List ℕ) (m : ℕ) (c : StartSession) (place : Place) (deadline : ℕ) → Stores (answer to n r s).changes q m c place deadline → ⊥
+  pub in_answer : (q : List ℕ) (m : ℕ) (c : StartSession) (place : Place) (deadline : ℕ) → Stores (answer to n r s).changes q m c place deadline → ⊥
   in_answer q m c place deadline h = let e = in_single _ _ h in cc
 
-  in_kept : (q : List ℕ) (m : ℕ) (c : StartSession) (place : Place) (deadline : ℕ) → Stores (keep_reply p n r (answer to n r s)).changes q m c place deadline → ⊥
+  pub in_kept : (q : List ℕ) (m : ℕ) (c : StartSession) (place : Place) (deadline : ℕ) → Stores (keep_reply p n r (answer to n r s)).changes q m c place deadline → ⊥
   in_kept q m c place deadline h = elim (Contains-push_cases (answer to n r s).changes (Put (row.Reply p n r)) (Put (row.Pending q m c place deadline)) h) [
     | inl i ↦ in_answer q m c place deadline i
     | inr i ↦ (cc)

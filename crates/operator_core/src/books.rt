@@ -149,9 +149,10 @@ impl Books {
         }
     }
 
-    /// The reply that a request got.
+    /// The reply that a request got. A request without one has no open start.
     pub fn reply(&self, provider: &Party, number: Whole) -> Option<CommandResponse>
-        ensures { result ≡ map.get self.now.replies (provider.now, number) }
+        ensures reply { result ≡ map.get self.now.replies (provider.now, number) }
+        ensures unopened { map.get self.now.replies (provider.now, number) ≡ None → map.get self.now.open_starts (provider.now, number) ≡ None }
     {
         self.replies
             .get(provider.as_str(), number.value())

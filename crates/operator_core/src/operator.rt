@@ -1,6 +1,6 @@
 //! The operator.
 
-ghost use Rattle.std.specs.Prelude.{◌≡◌, ◌++◌, ◌∷◌, [], ◌+◌, IfOk, IfSome, IfNone, IfErr, OnErr, None, List, ℕ};
+ghost use Rattle.std.specs.Prelude.{◌≡◌, ◌++◌, ◌∷◌, [], ◌+◌, IfOk, IfSome, IfNone, IfErr, OnOk, OnErr, None, List, ℕ};
 ghost use Rattle.std.specs.FinMap as map;
 ghost use Rattle.ocpi_text.specs.Text.{key};
 ghost use Rattle.ocpi_types.specs.declared.rows.Counter.{Counter};
@@ -83,6 +83,8 @@ impl Operator {
     ghost use Rattle.operator_core.specs.Moves.{keep_reply, open_start, spend};
     ghost use Rattle.operator_core.specs.Requests.{IsRequest, out_of};
     ghost use Rattle.operator_core.specs.Faults.{IsDue};
+    ghost use Rattle.operator_core.specs.Claims.{KeepsClaims};
+    ghost use Rattle.operator_core.specs.Rows.{AreChanges};
     ghost use Rattle.operator_core.specs.declared.decision.Decision.{Decision};
 
     /// The operator of a site before its first event.
@@ -232,6 +234,23 @@ impl Operator {
         }
     }
 
+    /// The step of a packet.
+    fn step(&mut self, at: Moment, packet: &Packet) -> Result<Stepped, OperatorFault>
+        ensures step { IfOk result (λ x. OperatorStep self.old at packet.now (out_of self.new x)) }
+        ensures fault { IfErr result (λ e. IsDue self.old packet.now e) }
+        ensures err { OnErr result (self.new ≡ self.old) }
+        ensures unopened { OnOk result (map.get self.old.replies (key packet.now.from, packet.now.request) ≡ None → map.get self.old.open_starts (key packet.now.from, packet.now.request) ≡ None) }
+    {
+        let Body::StartSession(command) = &packet.body else {
+            return Err(OperatorFault::NotForMe);
+        };
+        let request = self.request(at, packet)?;
+        match self.books.reply(&request.provider, request.number) {
+            Some(reply) => Ok(self.again(&request, reply)?),
+            None => Ok(self.start(&request, &packet.from, command)?),
+        }
+    }
+
     /// A packet comes at a moment. It is refused (`NotForMe`) where it is to another party, from a party that is
     /// no provider of the site, or of a kind that an operator does not take; and else (`NumbersUsedUp`) where the
     /// last number of a packet was used. A refusal, want of memory included, changes nothing and sends nothing.
@@ -242,14 +261,10 @@ impl Operator {
         ensures step { IfOk result (λ x. OperatorStep self.old at packet.now (out_of self.new x)) }
         ensures fault { IfErr result (λ e. IsDue self.old packet.now e) }
         ensures err { OnErr result (self.new ≡ self.old) }
+        ensures claims { IfOk result (λ x. KeepsClaims self.old (out_of self.new x)) }
+        ensures rows { IfOk result (λ x. AreChanges self.old x.rows.items self.new) }
     {
-        let Body::StartSession(command) = &packet.body else {
-            return Err(OperatorFault::NotForMe);
-        };
-        let request = self.request(at, packet)?;
-        match self.books.reply(&request.provider, request.number) {
-            Some(reply) => Ok(self.again(&request, reply)?),
-            None => Ok(self.start(&request, &packet.from, command)?),
-        }
+        let stepped = self.step(at, packet)?;
+        Ok(stepped)
     }
 }
