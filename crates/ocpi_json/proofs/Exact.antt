@@ -15,7 +15,6 @@ use Rattle.ocpi_json.specs.declared.fault.JsonFault.TheVariants.{WrongForm}
 use Rattle.ocpi_json.specs.Fault.{Fails, Gives, Read, ◌>>=◌}
 use Rattle.ocpi_json.specs.Fields.{required, present, optional, is_absent, is_none_or_null, some_of, as_text, as_number, as_truth, as_record, text_in, number_in, ci_in, free_in, moment_in, truth_in, word_in, whole_in, e4_in, party_in, country_in, party_id_in, record_in, formed, listed, is_tagged}
 use Rattle.ocpi_json.specs.Form.{Has, Required, Optional, IsText, IsNumber, TextOf, NumberOf, IsCi, IsFree, IsParty, IsMoment, IsWhole, IsE4, IsWord, IsTruth, IsRecord}
-
 pub use Rattle.ocpi_json.proofs.Steps.{done, ok_is, bind_ok}
 
 pub record Exact {X : Type 0} (reader : Data → Read X) (P : Data → X → Type 0) : Type 0 where

@@ -23,4 +23,6 @@ pub use writing::write_packet;
 #[cfg(test)]
 mod packet_tests;
 #[cfg(test)]
+mod reading_tests;
+#[cfg(test)]
 mod tests;
