@@ -1,0 +1,61 @@
+-- What the program `answer` writes for what it reads: the site line, and then packets at that line's moment.
+use Rattle.std.specs.Prelude.{◌≡◌, ℕ, List, [], ◌∷◌, ◌++◌, Option, None, Some, Ok, codes, flat_map}
+use Rattle.ocpi_types.specs.declared.packet.Packet.{Packet}
+use Rattle.ocpi_types.specs.declared.site.SiteLine.{SiteLine}
+use Rattle.ocpi_json.specs.declared.fault.JsonFault.{JsonFault}
+use Rattle.ocpi_json.specs.declared.fault.JsonFault.TheVariants.{Syntax}
+use Rattle.ocpi_json.specs.Fault.{Fails, fault_text as json_fault_text}
+use Rattle.ocpi_json.specs.Packets.{packet_in, packet_text}
+use Rattle.ocpi_json.specs.SiteLines.{site_in}
+use Rattle.operator_core.specs.declared.fault.OperatorFault.{OperatorFault}
+use Rattle.operator_core.specs.FaultText.{fault_text as operator_fault_text}
+use Rattle.operator_core.specs.Faults.{IsDue}
+use Rattle.operator_core.specs.Moves.{Out}
+use Rattle.operator_core.specs.State.{opening}
+use Rattle.operator_core.specs.Steps.{OperatorStep}
+use Rattle.ocpi_nodes.specs.declared.answer.Running.{Running}
+use Rattle.ocpi_nodes.specs.declared.run.Ran.{Ran}
+use Rattle.ocpi_nodes.specs.declared.run.Ran.TheVariants.{Whole, WithRefusals}
+use Rattle.ocpi_nodes.specs.declared.run.Turn.{Turn}
+use Rattle.ocpi_nodes.specs.declared.run.Turn.TheVariants.{Taken, Refused, Ended}
+use Rattle.ocpi_nodes.specs.Lines.{lines_of}
+use Rattle.ocpi_nodes.specs.Run.{IsRun, IsBegun}
+
+-- the line of a refusal: its number and its name
+abbrev pub refusal_line : List ℕ → List ℕ
+refusal_line fault = codes "refused " ++ fault ++ 10 ∷ []
+
+-- a line for each packet
+abbrev pub packet_lines : List Packet → List ℕ
+packet_lines packets = flat_map (λ p. packet_text p ++ 10 ∷ []) packets
+
+-- The first line makes the operator. Where it is no site line, that is all.
+pub data SiteTurn (line : List ℕ) (turn : Turn) (out : List ℕ) (next : Option Running) : Type 0 where
+  Opened : (site : SiteLine) → site_in line ≡ Ok site → turn ≡ Taken → out ≡ [] → next ≡ Some (record { at = site.at; operator = opening site }) → SiteTurn line turn out next
+  NoSite : (fault : JsonFault) → Fails fault (site_in line) → turn ≡ Ended → out ≡ refusal_line (json_fault_text fault) → next ≡ None → SiteTurn line turn out next
+
+-- Each other line is a packet that comes to the operator at the site line's moment. A refused one changes nothing.
+pub data PacketTurn (now : Running) (line : List ℕ) (turn : Turn) (out : List ℕ) (next : Option Running) : Type 0 where
+  Answered : (packet : Packet) → packet_in line ≡ Ok packet → (step : Out) → OperatorStep now.operator now.at packet step
+      → turn ≡ Taken → out ≡ packet_lines step.packets → next ≡ Some (record { at = now.at; operator = step.state }) → PacketTurn now line turn out next
+  Unanswered : (packet : Packet) → packet_in line ≡ Ok packet → (fault : OperatorFault) → IsDue now.operator packet fault
+      → turn ≡ Refused → out ≡ refusal_line (operator_fault_text fault) → next ≡ Some now → PacketTurn now line turn out next
+  Unread : (fault : JsonFault) → Fails fault (packet_in line) → turn ≡ Refused → out ≡ refusal_line (json_fault_text fault) → next ≡ Some now → PacketTurn now line turn out next
+
+-- one line, with no operator before the first
+abbrev pub LineGives : Option Running → List ℕ → Turn → List ℕ → Option Running → Type 0
+LineGives None line turn out next = SiteTurn line turn out next
+LineGives (Some now) line turn out next = PacketTurn now line turn out next
+
+-- An input with no line is refused as one with a line that is no JSON. Otherwise nothing is written at the end.
+abbrev pub EndGives : Option Running → Ran → List ℕ → Type 0
+EndGives None ran out = (ran ≡ WithRefusals) × (out ≡ refusal_line (json_fault_text Syntax))
+EndGives (Some now) ran out = (ran ≡ Whole) × (out ≡ [])
+
+-- these bytes may be written for that input
+abbrev pub IsOutput : List ℕ → Ran → List ℕ → Type 0
+IsOutput input ran out = IsRun LineGives EndGives None (lines_of input) ran out
+
+-- these bytes may have been written for the first of that input's lines
+abbrev pub IsOutputBegun : List ℕ → List ℕ → Type 0
+IsOutputBegun input out = IsBegun LineGives None (lines_of input) out

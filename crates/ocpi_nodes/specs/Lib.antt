@@ -1,0 +1,4 @@
+pub mod Answer
+pub mod Cut
+pub mod Lines
+pub mod Run

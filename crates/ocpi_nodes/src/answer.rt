@@ -1,0 +1,180 @@
+//! The program `answer`: one operator, which the first line makes and each other line sends a packet.
+
+ghost use Rattle.std.specs.Prelude.{◌≡◌, ◌≢◌, ◌≤◌, ◌++◌, ◌∷◌, ℕ, List, [], Option, None, Some, length, IfOk, IfErr, IfSome, OnOk, codes, string_bytes};
+ghost use Rattle.std.specs.Str.Lines.{lines};
+ghost use Rattle.ocpi_nodes.specs.declared.run.TheConstants.{MOST_READS};
+ghost use Rattle.ocpi_nodes.specs.Answer.{IsOutput, IsOutputBegun, LineGives, PacketTurn, SiteTurn, packet_lines, refusal_line};
+
+use crate::run::{AnswerLines, Ran, RunFault, Turn, run_lines};
+use ocpi_json::{JsonFault, read_packet, read_site, write_packet};
+use ocpi_text::Moment;
+use ocpi_types::Packet;
+use operator_core::Operator;
+use std::alloc::{AllocError, Global};
+use std::fmt::Display;
+use std::io::{BufRead, Write};
+use std::marker::Model;
+
+/// The operator, and the moment at which each packet comes.
+#[derive(Drop)]
+pub struct Running {
+    at: Moment,
+    operator: Operator,
+}
+
+/// What the lines so far have made: an operator, from the first on.
+#[derive(Drop)]
+struct Answering {
+    alloc: Global,
+    running: Option<Running>,
+}
+
+impl Model for Answering {
+    ghost use Rattle.std.specs.Coded.{codes};
+    ghost use Rattle.std.specs.FinMap as map;
+    ghost use Rattle.std.specs.Prelude.{Option};
+    ghost use Rattle.ocpi_nodes.specs.declared.answer.Running.{Running};
+
+    ghost Value = { Option Running };
+
+    ghost coded = { Prim.hlevel (codes, map.code) };
+
+    ghost view = { λ a. a.running };
+}
+
+impl Answering {
+    fn new(alloc: Global) -> Answering
+        ensures { result ≡ None }
+    {
+        Answering {
+            alloc,
+            running: None,
+        }
+    }
+}
+
+impl AnswerLines for Answering {
+    ghost use Rattle.ocpi_nodes.specs.Answer.{EndGives};
+    ghost use Rattle.ocpi_nodes.specs.Cut.{cut_alike};
+
+    ghost line_gives = { LineGives };
+
+    ghost end_gives = { EndGives };
+
+    fn answer_line(&mut self, line: &[u8], output: &mut String) -> Result<Turn, AllocError> {
+        match &mut self.running {
+            None => {
+                let (turn, running) = answer_site(self.alloc, line, output)?;
+                self.running = running;
+                Ok(turn)
+            }
+            Some(running) => answer_packet(self.alloc, running, line, output),
+        }
+    }
+
+    fn answer_end(&mut self, output: &mut String) -> Result<Ran, AllocError> {
+        match &self.running {
+            None => {
+                refuse(output, JsonFault::Syntax)?;
+                Ok(Ran::WithRefusals)
+            }
+            Some(_) => Ok(Ran::Whole),
+        }
+    }
+
+    ghost cut_alike = { cut_alike };
+}
+
+/// Makes the operator of a site line.
+fn answer_site(
+    alloc: Global,
+    line: &[u8],
+    output: &mut String,
+) -> Result<(Turn, Option<Running>), AllocError>
+    ensures { IfOk result (λ r. (out : List ℕ) × (string_bytes output.new ≡ string_bytes output.old ++ out)
+        × SiteTurn line.now r.0 out r.1) }
+{
+    match read_site(alloc, line) {
+        Ok(site) => {
+            let at = site.at;
+            let operator = Operator::new(alloc, site);
+            Ok((Turn::Taken, Some(Running { at, operator })))
+        }
+        Err(fault) => {
+            refuse(output, fault)?;
+            Ok((Turn::Ended, None))
+        }
+    }
+}
+
+/// Hands a packet to the operator, and writes what it sends.
+fn answer_packet(
+    alloc: Global,
+    running: &mut Running,
+    line: &[u8],
+    output: &mut String,
+) -> Result<Turn, AllocError>
+    ensures { IfOk result (λ turn. (out : List ℕ) × (string_bytes output.new ≡ string_bytes output.old ++ out)
+        × PacketTurn running.old line.now turn out (Some running.new)) }
+{
+    let packet = match read_packet(alloc, line) {
+        Ok(packet) => packet,
+        Err(fault) => {
+            refuse(output, fault)?;
+            return Ok(Turn::Refused);
+        }
+    };
+    match running.operator.on_packet(running.at, &packet) {
+        Ok(stepped) => {
+            write_packets(alloc, stepped.packets.as_slice(), output)?;
+            Ok(Turn::Taken)
+        }
+        Err(fault) => {
+            refuse(output, fault)?;
+            Ok(Turn::Refused)
+        }
+    }
+}
+
+/// Adds a line for each packet.
+fn write_packets(alloc: Global, packets: &[Packet], output: &mut String) -> Result<(), AllocError>
+    ensures { OnOk result (string_bytes output.new ≡ string_bytes output.old ++ packet_lines packets.now) }
+{
+    for packet in packets {
+        let text = write_packet(alloc, packet)?;
+        output.push_str(text.as_str())?;
+        output.push('\n')?;
+    }
+    Ok(())
+}
+
+/// Adds the line of a refusal.
+fn refuse<F: Display + Drop>(output: &mut String, fault: F) -> Result<(), AllocError>
+    ensures { OnOk result (IfSome (F.output fault) (λ text.
+        string_bytes output.new ≡ string_bytes output.old ++ refusal_line text)) }
+{
+    writeln!(output, "refused {fault}")
+}
+
+/// Answers the packets of a reader as one operator. The first line that holds something is a site line, and each
+/// other a packet at its moment; each packet that the operator sends is one line. A line that is refused is written as
+/// `refused`, its number and its name, changes nothing, and the next follows; a refused or absent site line ends the run.
+///
+/// Where no read, write or growth was refused, what is written is the output of what was read. After a failed read, what
+/// was written is the output of the first of the lines. After a failed write nothing is said of what went out.
+pub fn run_answer<R: BufRead, W: Write>(
+    alloc: Global,
+    reader: &mut R,
+    writer: &mut W,
+) -> Result<Ran, RunFault>
+    ensures output { IfOk result (λ ran. IfSome (R.Read.remaining reader.old) (λ input. IfSome (W.contents writer.old) (λ before.
+        (out : List ℕ) × IsOutput input ran out × (W.contents writer.new ≡ Some (before ++ out))))) }
+    ensures begun { IfErr result (λ fault. fault ≢ RunFault.WriteFailed →
+        IfSome (R.Read.remaining reader.old) (λ input. IfSome (W.contents writer.old) (λ before.
+        (out : List ℕ) × IsOutputBegun input out × (W.contents writer.new ≡ Some (before ++ out))))) }
+    ensures too_many { result ≡ Err RunFault.TooManyReads →
+        IfSome (R.Read.remaining reader.old) (λ input. MOST_READS ≤ length (lines input)) }
+{
+    let mut answering = Answering::new(alloc);
+    run_lines(alloc, &mut answering, reader, writer)
+}
