@@ -2,3 +2,4 @@ pub mod Answer
 pub mod Cut
 pub mod Lines
 pub mod Run
+pub mod FaultText

@@ -1,4 +1,5 @@
 pub mod Fault
+pub mod FaultText
 pub mod Text
 pub mod Party
 pub mod Digits

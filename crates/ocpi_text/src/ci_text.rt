@@ -70,7 +70,7 @@ impl CiText {
     }
 
     /// The text that a printable one is.
-    pub fn of_printable(text: String) -> CiText
+    pub(crate) fn of_printable(text: String) -> CiText
         requires { is_ascii_text (string_bytes text) ≡ true }
         ensures { result ≡ string_bytes text }
     {

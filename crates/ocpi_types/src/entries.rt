@@ -96,7 +96,7 @@ impl Lookup for (&str, u64) {
 
     #[tactic(auto, using(crate::specs::Keys::tied_pair))]
     fn is(self, stored: &(KeyText, u64)) -> bool {
-        stored.0.is(self.0) && self.1 == stored.1
+        self.1 == stored.1 && stored.0.is(self.0)
     }
 
     ghost total = { text_number_total };
@@ -113,7 +113,7 @@ impl Lookup for (&str, &str) {
 
     #[tactic(auto, using(crate::specs::Keys::tied_pair))]
     fn is(self, stored: &(KeyText, KeyText)) -> bool {
-        stored.0.is(self.0) && stored.1.is(self.1)
+        stored.1.is(self.1) && stored.0.is(self.0)
     }
 
     ghost total = { text_pair_total };
