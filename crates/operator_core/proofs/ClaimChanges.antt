@@ -1,6 +1,6 @@
 -- What a step makes of the claims.
-use Rattle.std.proofs.Common.{◌≡◌, ℕ, List, ◌⊎◌, inl, inr, refl, sym, ap, subst, ◌∙◌}
-use Rattle.std.specs.Prelude.{Option, Some, None}
+use Rattle.std.proofs.Common.{◌≡◌, ℕ, List, inl, inr, refl, sym, ap, subst, ◌∙◌}
+use Rattle.std.specs.Prelude.{None}
 use Rattle.std.specs.FinMap.{get}
 use Rattle.ocpi_text.specs.Text.{key}
 use Rattle.ocpi_types.specs.Keys.{text_number_total, text_number_exact}
@@ -12,7 +12,7 @@ use Rattle.ocpi_types.specs.declared.rows.Place.{Place}
 use Rattle.operator_core.specs.declared.open_start.OpenStart.{OpenStart}
 use Rattle.operator_core.specs.declared.decision.Decision.{Decision}
 use Rattle.operator_core.specs.declared.decision.Decision.TheVariants.{Refused, Rejected, Accepted}
-use Rattle.operator_core.specs.State.{State, Claim, ByStart, Claims}
+use Rattle.operator_core.specs.State.{State, Claims}
 use Rattle.operator_core.specs.Moves.{Out, keep_reply}
 use Rattle.operator_core.specs.Steps.{OperatorStep, RequestLine, Again, Started, answer, started, responded, deadline}
 use Rattle.operator_core.specs.Claims.{KeepsClaims}

@@ -8,9 +8,8 @@ use Rattle.std.specs.FinMap.{FinMap, get, insert, empty, get-empty, get-insert}
 use Rattle.ocpi_text.specs.Text.{key}
 use Rattle.ocpi_types.specs.Keys.{text_cmp, text_total, text_exact, text_number_cmp, text_number_total, text_number_exact}
 use Rattle.ocpi_types.proofs.Maps.{of_insert, get-insert_same, get-insert_other}
-use Rattle.ocpi_types.specs.declared.packet.CommandResponse.{CommandResponse}
 use Rattle.operator_core.specs.declared.open_start.OpenStart.{OpenStart}
-use Rattle.operator_core.specs.State.{Replies, OpenStarts, Claim, ByStart, Claims, IsFree}
+use Rattle.operator_core.specs.State.{OpenStarts, Claim, ByStart, Claims, IsFree}
 use Rattle.operator_core.specs.Books.{Claimed, IsIndexed}
 
 pub none_some : {X : Type 0} (x : X) (o : Option X) → o ≡ None → o ≡ Some x → ⊥
@@ -33,15 +32,11 @@ module _ {K X : Type 0} {R : K → K → Ordering} (o : IsTotalOrder R) (m : Fin
       go true = refl
       go false = has
 
-unclaimed : (evse : List ℕ) (c : Claim) → Claims empty evse c → ⊥
+pub unclaimed : (evse : List ℕ) (c : Claim) → Claims empty evse c → ⊥
 unclaimed evse (ByStart p n) (o, has, at) = none_some o _ (get-empty text_number_cmp (p, n)) has
 
-pub indexed_empty : IsIndexed empty empty empty
-indexed_empty = record {
-  sound = λ e h. absurd (none_some tt _ (get-empty text_cmp e) h);
-  complete = λ e c h. absurd (unclaimed e c h);
-  replied = λ k o h n. none_some o _ (get-empty text_number_cmp k) h;
-}
+pub indexed_empty : IsIndexed empty empty
+indexed_empty = record { sound = λ e h. absurd (none_some tt _ (get-empty text_cmp e) h); complete = λ e c h. absurd (unclaimed e c h) }
 
 -- the claims after a start is opened
 pub claims_opened : (starts : OpenStarts) (p : List ℕ) (n : ℕ) (o : OpenStart) (evse : List ℕ) (c : Claim) → Claims (insert starts (p, n) o) evse c →
@@ -57,35 +52,16 @@ pub claims_kept : (starts : OpenStarts) (p : List ℕ) (n : ℕ) (o : OpenStart)
 claims_kept starts p n o none evse (ByStart q m) (x, has, at) =
     (x, get-insert_other text_number_total text_number_exact starts (p, n) o (q, m) (λ same. none_some x _ none (ap (get starts) (sym same) ∙ has)) ∙ has, at)
 
-module _ (claimed : Claimed) (starts : OpenStarts) (replies : Replies) (h : IsIndexed claimed starts replies) where
-  pub indexed_reply : (k : List ℕ × ℕ) (r : CommandResponse) → IsIndexed claimed starts (insert replies k r)
-  indexed_reply k r = record {
-    sound = h.sound;
-    complete = h.complete;
-    replied = λ j o has none. h.replied j o has (none_before text_number_total replies k j r none);
-  }
-
-  pub unopened : (k : List ℕ × ℕ) → get replies k ≡ None → get starts k ≡ None
-  unopened k none = go (get starts k) refl
-    where
-      go : (o : Option OpenStart) → get starts k ≡ o → o ≡ None
-      go None e = refl
-      go (Some o) e = absurd (h.replied k o e none)
-
-  pub indexed_start : (p : List ℕ) (n : ℕ) (r : CommandResponse) (o : OpenStart) → get replies (p, n) ≡ None →
-      IsIndexed (insert claimed (key o.place.evse_uid) tt) (insert starts (p, n) o) (insert replies (p, n) r)
-  indexed_start p n r o none = record {
+module _ (claimed : Claimed) (starts : OpenStarts) (h : IsIndexed claimed starts) where
+  pub indexed_start : (p : List ℕ) (n : ℕ) (o : OpenStart) → get starts (p, n) ≡ None → IsIndexed (insert claimed (key o.place.evse_uid) tt) (insert starts (p, n) o)
+  indexed_start p n o none = record {
     sound = λ e has. elim (of_insert text_total text_exact claimed (key o.place.evse_uid) tt e tt has) [
       | inl i ↦ (ByStart p n, (o, get-insert_same text_number_total text_number_exact starts (p, n) o, sym i.0))
-      | inr i ↦ let c = h.sound e i in (c.0, claims_kept starts p n o (unopened (p, n) none) e c.0 c.1)
+      | inr i ↦ let c = h.sound e i in (c.0, claims_kept starts p n o none e c.0 c.1)
     ];
     complete = λ e c x. elim (claims_opened starts p n o e c x) [
       | inl i ↦ subst (λ z. get (insert claimed (key o.place.evse_uid) tt) z ≡ Some tt) i.1 (get-insert_same text_total text_exact claimed (key o.place.evse_uid) tt)
       | inr i ↦ stays text_total claimed (key o.place.evse_uid) e tt (h.complete e c i)
-    ];
-    replied = λ j x has gone. elim (of_insert text_number_total text_number_exact starts (p, n) o j x has) [
-      | inl i ↦ none_some r _ gone (ap (get (insert replies (p, n) r)) i.0 ∙ get-insert_same text_number_total text_number_exact replies (p, n) r)
-      | inr i ↦ h.replied j x i (none_before text_number_total replies (p, n) j r gone)
     ];
   }
 

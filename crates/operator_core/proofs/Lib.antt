@@ -1,5 +1,6 @@
 pub mod Indexes
 pub mod Spending
+pub mod Consistency
 pub mod StepFacts
 pub mod Runs
 pub mod RowChanges

@@ -1,5 +1,5 @@
 -- The changes of a step lead from the rows before it to those after it.
-use Rattle.std.proofs.Common.{Bool, true, false, ◌≡◌, ◌≢◌, ◌↔◌, ℕ, ◌+◌, List, [], ◌∷◌, ◌++◌, map, ◌⊎◌, inl, inr, refl, sym, ap, subst, ◌∙◌, arith}
+use Rattle.std.proofs.Common.{true, false, ◌≡◌, ◌≢◌, ◌↔◌, ℕ, ◌+◌, List, [], ◌∷◌, ◌++◌, map, ◌⊎◌, inl, inr, refl, sym, ap, subst, ◌∙◌, arith}
 use Rattle.std.specs.Prelude.{Option, Some, None, Contains}
 use Rattle.std.specs.FinMap.{FinMap, IsAntisymmetric, get, insert}
 use Rattle.std.specs.declared.cmp.Ordering.{Ordering}
@@ -15,7 +15,6 @@ use Rattle.ocpi_types.specs.declared.packet.StartSession.{StartSession}
 use Rattle.ocpi_types.specs.declared.packet.CommandResponse.{CommandResponse}
 use Rattle.ocpi_types.specs.declared.rows.Row.{Row}
 use Rattle.ocpi_types.specs.declared.rows.Row.TheVariants as row
-use Rattle.ocpi_types.specs.declared.rows.RowKey.{RowKey}
 use Rattle.ocpi_types.specs.declared.rows.RowKey.TheVariants as keys
 use Rattle.ocpi_types.specs.declared.rows.Change.{Change}
 use Rattle.ocpi_types.specs.declared.rows.Change.TheVariants.{Put}
@@ -24,7 +23,7 @@ use Rattle.operator_core.specs.declared.open_start.OpenStart.{OpenStart}
 use Rattle.operator_core.specs.declared.decision.Decision.{Decision}
 use Rattle.operator_core.specs.declared.decision.Decision.TheVariants.{Refused, Rejected, Accepted}
 use Rattle.operator_core.specs.State.{State}
-use Rattle.operator_core.specs.Moves.{Out, begin, keep_reply, open_start, spend}
+use Rattle.operator_core.specs.Moves.{Out, keep_reply, open_start, spend}
 use Rattle.operator_core.specs.Steps.{OperatorStep, RequestLine, Again, Started, answer, started, responded, deadline}
 use Rattle.operator_core.specs.Rows.{HasRow, row_key, change_key, AreChanges}
 use Rattle.operator_core.proofs.StepFacts.{in_none, in_single}

@@ -1,6 +1,6 @@
 -- The laws of an operator, over every list of packets.
-use Rattle.std.proofs.Common.{zero, suc, ◌≡◌, ℕ, ◌+◌, List, [], ◌∷◌, ◌++◌, ◌⊎◌, inl, inr, refl, sym, ap, subst, ◌∙◌, arith, add-one}
-use Rattle.std.specs.Prelude.{Option, Some, None, Contains, slice_get}
+use Rattle.std.proofs.Common.{zero, suc, ◌≡◌, ℕ, ◌+◌, List, [], ◌∷◌, ◌++◌, inl, inr, refl, sym, ap, subst, ◌∙◌, arith, add-one}
+use Rattle.std.specs.Prelude.{Some, Contains, slice_get}
 use Rattle.std.specs.FinMap.{get, empty, get-empty}
 use Rattle.std.proofs.lemmas.List.Elements.{Contains-append_cases}
 use Rattle.ocpi_text.specs.Text.{key}
@@ -15,7 +15,8 @@ use Rattle.operator_core.specs.State.{State, Claim, ByStart, Claims}
 use Rattle.operator_core.specs.Moves.{Out}
 use Rattle.operator_core.specs.Laws.{Event, Happens, Stepped, Refused, Run, sent, Opens, OneClaim, OneStart, OneAnswer, RepliesStay, Numbered}
 use Rattle.operator_core.proofs.Indexes.{none_some}
-use Rattle.operator_core.proofs.StepFacts.{StepFacts, step_facts, One, in_none, in_single}
+use Rattle.operator_core.proofs.Consistency.{One}
+use Rattle.operator_core.proofs.StepFacts.{StepFacts, step_facts, in_none, in_single}
 
 abbrev out_of : Event → State → Out
 out_of e t = record { state = t; changes = e.changes; packets = e.packets }

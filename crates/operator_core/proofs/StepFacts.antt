@@ -1,10 +1,10 @@
 -- What one step makes of the state, and what it sends.
-use Rattle.std.proofs.Common.{◌≡◌, ℕ, ◌+◌, List, [], ◌∷◌, ◌++◌, ◌⊎◌, inl, inr, refl, sym, ap, subst, ◌∙◌, arith}
+use Rattle.std.proofs.Common.{◌≡◌, ℕ, ◌+◌, List, [], ◌∷◌, ◌++◌, inl, inr, refl, sym, ap, subst, ◌∙◌, arith}
 use Rattle.std.specs.Prelude.{Option, Some, None, Contains}
-use Rattle.std.specs.FinMap.{FinMap, get, insert}
+use Rattle.std.specs.FinMap.{get, insert}
 use Rattle.std.proofs.lemmas.List.Elements.{Contains-push_cases, Contains-append_cases}
 use Rattle.ocpi_text.specs.Text.{key}
-use Rattle.ocpi_types.specs.Keys.{text_number_cmp, text_number_total, text_number_exact, text_pair_cmp, text_pair_total, text_pair_exact}
+use Rattle.ocpi_types.specs.Keys.{text_number_total, text_number_exact}
 use Rattle.ocpi_types.proofs.Maps.{get-insert_same, get-insert_other}
 use Rattle.ocpi_types.specs.declared.site.Site.{Site}
 use Rattle.ocpi_types.specs.declared.packet.Packet.{Packet}
@@ -15,16 +15,17 @@ use Rattle.ocpi_types.specs.declared.rows.Place.{Place}
 use Rattle.ocpi_types.specs.declared.rows.Change.{Change}
 use Rattle.ocpi_types.specs.declared.rows.Change.TheVariants.{Put}
 use Rattle.ocpi_types.specs.declared.rows.Row.TheVariants as row
-use Rattle.ocpi_types.specs.declared.rows.Counter.TheVariants.{Serial}
 use Rattle.operator_core.specs.declared.open_start.OpenStart.{OpenStart}
 use Rattle.operator_core.specs.declared.decision.Decision.{Decision}
 use Rattle.operator_core.specs.declared.decision.Decision.TheVariants.{Refused, Rejected, Accepted}
-use Rattle.operator_core.specs.State.{State, Replies, Spent, OpenStarts, Claim, ByStart, Claims, HasClaim, IsFree}
+use Rattle.operator_core.specs.State.{State, Spent, OpenStarts, IsFree}
 use Rattle.operator_core.specs.Start.{StartLine, IsSpent}
 use Rattle.operator_core.specs.Start as lines
 use Rattle.operator_core.specs.Moves.{Out, keep_reply, open_start, spend, spent_after, spent_rows}
 use Rattle.operator_core.specs.Steps.{OperatorStep, RequestLine, Again, Started, answer, started, responded, deadline}
-use Rattle.operator_core.proofs.Indexes.{none_some, stays, claims_opened}
+use Rattle.operator_core.proofs.Indexes.{none_some}
+use Rattle.operator_core.proofs.Spending.{spent_stays, now_spent, not_spent}
+use Rattle.operator_core.proofs.Consistency.{One, one_opened}
 
 -- a start that takes a place may
 pub record MayOpen (spent : Spent) (starts : OpenStarts) (p : List ℕ) (c : StartSession) (place : Place) : Type 0 where
@@ -42,16 +43,6 @@ accepted_may_open site spent starts sender c d place (lines.Taken l a f j i b fr
   fresh = λ spent. b (inr spent);
   free = let same : record { evse_uid = f.uid; connector_id = j.id } ≡ place = cc in subst (λ (z : Place). IsFree starts (key z.evse_uid)) same free;
 }
-
--- no EVSE has two claims
-abbrev pub One : OpenStarts → Type 0
-One starts = (evse : List ℕ) (c d : Claim) → Claims starts evse c → Claims starts evse d → c ≡ d
-
-pub one_opened : (starts : OpenStarts) (p : List ℕ) (n : ℕ) (o : OpenStart) → One starts → IsFree starts (key o.place.evse_uid) → One (insert starts (p, n) o)
-one_opened starts p n o one free evse c d x y = elim (claims_opened starts p n o evse c x) [
-  | inl i ↦ elim (claims_opened starts p n o evse d y) [ inl j ↦ i.0 ∙ sym j.0 | inr j ↦ absurd (free d (subst (λ z. Claims starts z d) (sym i.1) j)) ]
-  | inr i ↦ elim (claims_opened starts p n o evse d y) [ inl j ↦ absurd (free c (subst (λ z. Claims starts z c) (sym j.1) i)) | inr j ↦ one evse c d i j ]
-]
 
 -- the row of an open start, among the changes of a step
 abbrev pub Stores : List Change → List ℕ → ℕ → StartSession → Place → ℕ → Type 0
@@ -143,18 +134,6 @@ module _ (s : State) (to p : List ℕ) (n : ℕ) (r : CommandResponse) (at : key
         | inr i ↦ absurd (in_spent_rows p start.command.authorization_reference q m c place deadline i)
       ]
 
-      spent_stays : (reference : Option (List ℕ)) (k : List ℕ × List ℕ) → get s.spent k ≡ Some tt → get (spent_after p reference s.spent) k ≡ Some tt
-      spent_stays None k h = h
-      spent_stays (Some x) k h = stays text_pair_total s.spent (p, key x) k tt h
-
-      now_spent : (reference : Option (List ℕ)) (x : List ℕ) → reference ≡ Some x → get (spent_after p reference s.spent) (p, key x) ≡ Some tt
-      now_spent None x e = cc
-      now_spent (Some y) x e = let same : y ≡ x = cc in subst (λ z. get (insert s.spent (p, key y) tt) (p, key z) ≡ Some tt) same (get-insert_same text_pair_total text_pair_exact s.spent (p, key y) tt)
-
-      not_spent : (reference : Option (List ℕ)) (x : List ℕ) → reference ≡ Some x → (IsSpent s.spent p reference → ⊥) → get s.spent (p, key x) ≡ Some tt → ⊥
-      not_spent None x e fresh has = cc
-      not_spent (Some y) x e fresh has = let same : x ≡ y = cc in fresh (subst (λ z. get s.spent (p, key z) ≡ Some tt) same has)
-
       pub accept_facts : StepFacts s opened
       accept_facts = record {
         serial = refl;
@@ -165,14 +144,14 @@ module _ (s : State) (to p : List ℕ) (n : ℕ) (r : CommandResponse) (at : key
         is_reply = refl;
         kept = kept_after;
         stay = stay_after;
-        spent = λ k h. spent_stays start.command.authorization_reference k h;
+        spent = λ k h. spent_stays s.spent p start.command.authorization_reference k h;
         opens = λ q m c place deadline spelled h e.
             let is = stored_is q m c place deadline h in
             let who : p ≡ q = cc in
             let what : start.command ≡ c = cc in
             let named : start.command.authorization_reference ≡ Some spelled = ap (λ (z : StartSession). z.authorization_reference) what ∙ e in
             subst (λ z. (get s.spent (z, key spelled) ≡ Some tt → ⊥) × (get (spent_after p start.command.authorization_reference s.spent) (z, key spelled) ≡ Some tt)) who
-            (not_spent start.command.authorization_reference spelled named may.fresh, now_spent start.command.authorization_reference spelled named);
+            (not_spent s.spent p start.command.authorization_reference spelled named may.fresh, now_spent s.spent p start.command.authorization_reference spelled named);
         one = λ h. one_opened s.open_starts p n start h may.free;
       }
 

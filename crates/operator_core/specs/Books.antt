@@ -1,7 +1,6 @@
 -- What is answered, spent and open, and the claims that are kept beside it.
-use Rattle.std.specs.Prelude.{◌≡◌, ℕ, List, Some, None}
-use Rattle.std.specs.FinMap.{FinMap, get, insert, empty}
-use Rattle.ocpi_text.specs.Text.{key}
+use Rattle.std.specs.Prelude.{◌≡◌, ℕ, List, Some}
+use Rattle.std.specs.FinMap.{FinMap, get, insert}
 use Rattle.ocpi_types.specs.Keys.{text_cmp}
 use Rattle.ocpi_types.specs.declared.packet.CommandResponse.{CommandResponse}
 use Rattle.operator_core.specs.declared.open_start.OpenStart.{OpenStart}
@@ -12,11 +11,10 @@ use Rattle.operator_core.specs.Moves.{spent_after}
 abbrev pub Claimed : Type 0
 Claimed = FinMap text_cmp (Unit {0})
 
--- the kept claims are those of the open starts; each open start was answered
-pub record IsIndexed (claimed : Claimed) (starts : OpenStarts) (replies : Replies) : Type 0 where
+-- the kept claims are those of the open starts
+pub record IsIndexed (claimed : Claimed) (starts : OpenStarts) : Type 0 where
   pub sound : (evse : List ℕ) → get claimed evse ≡ Some tt → (c : Claim) × Claims starts evse c
   pub complete : (evse : List ℕ) (c : Claim) → Claims starts evse c → get claimed evse ≡ Some tt
-  pub replied : (k : List ℕ × ℕ) (o : OpenStart) → get starts k ≡ Some o → get replies k ≡ None → ⊥
 
 pub record Held : Type 0 where
   pub replies : Replies

@@ -1,5 +1,5 @@
 -- When an operator refuses an event.
-use Rattle.std.specs.Prelude.{ℕ, ◌≤◌}
+use Rattle.std.specs.Prelude.{◌≤◌}
 use Rattle.ocpi_text.specs.Whole.{max_whole}
 use Rattle.ocpi_types.specs.declared.packet.Packet.{Packet}
 use Rattle.operator_core.specs.declared.fault.OperatorFault.{OperatorFault}

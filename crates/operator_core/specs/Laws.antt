@@ -1,5 +1,5 @@
 -- The laws of an operator over every list of packets.
-use Rattle.std.specs.Prelude.{◌≡◌, ℕ, ◌+◌, List, [], ◌∷◌, Option, Some, Contains, slice_get, length}
+use Rattle.std.specs.Prelude.{◌≡◌, ℕ, ◌+◌, List, [], ◌∷◌, Some, Contains, slice_get}
 use Rattle.std.specs.List.{flat_map}
 use Rattle.std.specs.FinMap.{get}
 use Rattle.ocpi_text.specs.Text.{key}
@@ -13,7 +13,6 @@ use Rattle.ocpi_types.specs.declared.rows.Change.TheVariants.{Put}
 use Rattle.ocpi_types.specs.declared.rows.Row.TheVariants as row
 use Rattle.operator_core.specs.declared.fault.OperatorFault.{OperatorFault}
 use Rattle.operator_core.specs.State.{State, opening, Claim, HasClaim}
-use Rattle.operator_core.specs.Moves.{Out}
 use Rattle.operator_core.specs.Steps.{OperatorStep}
 use Rattle.operator_core.specs.Faults.{IsDue}
 

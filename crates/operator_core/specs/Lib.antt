@@ -1,5 +1,6 @@
 pub mod Places
 pub mod State
+pub mod Consistent
 pub mod Start
 pub mod Moves
 pub mod Steps

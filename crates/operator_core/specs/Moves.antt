@@ -1,14 +1,12 @@
 -- What the lines of the tables do: each move changes what is stored, with the row that says so, or sends a packet.
-use Rattle.std.specs.Prelude.{◌≡◌, ℕ, ◌+◌, min, Option, Some, None, List, [], ◌∷◌, ◌++◌}
+use Rattle.std.specs.Prelude.{ℕ, ◌+◌, Option, Some, None, List, [], ◌∷◌, ◌++◌}
 use Rattle.std.specs.FinMap.{insert}
 use Rattle.ocpi_text.specs.Text.{key}
-use Rattle.ocpi_text.specs.Moment.{last_moment}
 use Rattle.ocpi_types.specs.declared.packet.Packet.{Packet}
 use Rattle.ocpi_types.specs.declared.packet.Body.{Body}
 use Rattle.ocpi_types.specs.declared.packet.CommandResponse.{CommandResponse}
 use Rattle.ocpi_types.specs.declared.rows.Change.{Change}
 use Rattle.ocpi_types.specs.declared.rows.Change.TheVariants.{Put}
-use Rattle.ocpi_types.specs.declared.rows.Row as rows
 use Rattle.ocpi_types.specs.declared.rows.Row.TheVariants as row
 use Rattle.ocpi_types.specs.declared.rows.Counter.TheVariants.{Serial}
 use Rattle.operator_core.specs.declared.open_start.OpenStart.{OpenStart}

@@ -1,5 +1,5 @@
 -- How a START_SESSION is decided (OCPI 2.2.1, Commands: StartSession; Status codes: 2001 and 2003).
-use Rattle.std.specs.Prelude.{◌≡◌, ◌≢◌, ℕ, Bool, true, false, List, Option, Some, None, IsSome, IsNone, ◌⊎◌}
+use Rattle.std.specs.Prelude.{◌≡◌, ◌≢◌, ℕ, false, List, Option, Some, None, IsSome, IsNone, ◌⊎◌}
 use Rattle.std.specs.FinMap.{get}
 use Rattle.ocpi_text.specs.Text.{key}
 use Rattle.ocpi_types.specs.declared.site.Site.{Site}

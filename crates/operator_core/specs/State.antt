@@ -1,5 +1,5 @@
 -- What an operator stores, and the claims that follow from it. Keys are in the form by which texts are compared.
-use Rattle.std.specs.Prelude.{◌≡◌, ℕ, List, Option, Some, None}
+use Rattle.std.specs.Prelude.{◌≡◌, ℕ, List, Some}
 use Rattle.std.specs.FinMap.{FinMap, get, empty}
 use Rattle.ocpi_text.specs.Text.{key}
 use Rattle.ocpi_types.specs.Keys.{text_number_cmp, text_pair_cmp}

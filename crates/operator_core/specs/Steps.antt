@@ -1,5 +1,5 @@
 -- The steps of an operator.
-use Rattle.std.specs.Prelude.{◌≡◌, ℕ, ◌+◌, ◌*◌, ◌<◌, min, List, Option, Some, None}
+use Rattle.std.specs.Prelude.{◌≡◌, ℕ, ◌+◌, ◌*◌, ◌<◌, min, List, Some, None}
 use Rattle.std.specs.FinMap.{get}
 use Rattle.ocpi_text.specs.Text.{key}
 use Rattle.ocpi_text.specs.Moment.{last_moment}
@@ -13,7 +13,6 @@ use Rattle.ocpi_types.specs.declared.packet.CommandResponse.TheVariants as respo
 use Rattle.ocpi_types.specs.declared.words.CommandResponseType.TheVariants as result
 use Rattle.operator_core.specs.declared.decision.Decision.{Decision}
 use Rattle.operator_core.specs.declared.decision.Decision.TheVariants.{Refused, Rejected, Accepted}
-use Rattle.operator_core.specs.declared.open_start.OpenStart.{OpenStart}
 use Rattle.operator_core.specs.Places.{IsProvider}
 use Rattle.operator_core.specs.State.{State}
 use Rattle.operator_core.specs.Start.{StartLine}

@@ -120,6 +120,7 @@ impl Model for Books {
     ghost use Rattle.std.specs.FinMap as map;
     ghost use Rattle.std.specs.Coded.{codes};
     ghost use Rattle.operator_core.specs.Books.{Held, IsIndexed};
+    ghost use Rattle.operator_core.specs.Consistent.{IsConsistent};
 
     ghost Value = { Held };
 
@@ -127,11 +128,12 @@ impl Model for Books {
 
     ghost view = { λ b. record { replies = b.replies; spent = b.starts.spent; open_starts = b.starts.open_starts } };
 
-    ghost invariant = { λ b. IsIndexed b.starts.claimed b.starts.open_starts b.replies };
+    ghost invariant = { λ b. IsIndexed b.starts.claimed b.starts.open_starts × IsConsistent b.replies b.starts.spent b.starts.open_starts };
 }
 
 impl Books {
     ghost use Rattle.operator_core.specs.Books.{with_reply, with_start};
+    ghost use Rattle.operator_core.specs.Consistent.{IsConsistent};
 
     /// Nothing is answered, and nothing is open.
     pub fn new(alloc: Global) -> Books
@@ -146,6 +148,14 @@ impl Books {
                 claimed: TextTable::new(alloc),
             },
         }
+    }
+
+    /// What holds of the books at any time, which their type keeps.
+    pub fn consistency(&self)
+        ensures { IsConsistent self.now.replies self.now.spent self.now.open_starts }
+    {
+        // The invariant is known once a field is looked at.
+        let _replies = &self.replies;
     }
 
     /// The reply that a request got. A request without one has no open start.

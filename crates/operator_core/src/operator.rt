@@ -84,6 +84,7 @@ impl Operator {
     ghost use Rattle.operator_core.specs.Requests.{IsRequest, out_of};
     ghost use Rattle.operator_core.specs.Faults.{IsDue};
     ghost use Rattle.operator_core.specs.Claims.{KeepsClaims};
+    ghost use Rattle.operator_core.specs.Consistent.{IsConsistent};
     ghost use Rattle.operator_core.specs.Rows.{AreChanges};
     ghost use Rattle.operator_core.specs.declared.decision.Decision.{Decision};
 
@@ -103,6 +104,14 @@ impl Operator {
             serial: Whole::new(0).unwrap(),
             books: Books::new(alloc),
         }
+    }
+
+    /// What holds of every operator at any time, which its type keeps: each EVSE has at most one claim; each reference of
+    /// a provider is carried by at most one open start, and is spent; each open start was answered.
+    pub fn consistency(&self)
+        ensures { IsConsistent self.now.replies self.now.spent self.now.open_starts }
+    {
+        self.books.consistency();
     }
 
     /// The provider that sent a packet to this operator, as the site spells it.
