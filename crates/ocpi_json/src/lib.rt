@@ -19,10 +19,3 @@ pub use quote::{quote_numbers, quoted_numbers_are_json_numbers, quoting_goes_by_
 pub use reading::{read_packet, read_site};
 pub use unquote::{unquote_numbers, unquoting_undoes_quoting};
 pub use writing::write_packet;
-
-#[cfg(test)]
-mod packet_tests;
-#[cfg(test)]
-mod reading_tests;
-#[cfg(test)]
-mod tests;

@@ -3,6 +3,7 @@
 use crate::answer::run_answer;
 use crate::lines::KEPT_BYTES;
 use crate::run::{Ran, RunFault};
+use crate::take_words;
 use std::alloc::{AllocError, Global};
 use std::io::{self, BufReader, ErrorKind, Read, Write};
 use std::test::Fail;
@@ -234,6 +235,11 @@ fn lines_end_as_they_may(rt: HostRuntime) -> Result<(), Fail> {
             Ran::Whole,
         ),
         (
+            format!(in alloc; "{SITE}\n  \n{START}\n")?,
+            format!(in alloc; "refused 1 Syntax\n{ACCEPTED}\n")?,
+            Ran::WithRefusals,
+        ),
+        (
             format!(in alloc; "{SITE}\n\r")?,
             String::from_str(alloc, "refused 1 Syntax\n")?,
             Ran::WithRefusals,
@@ -347,5 +353,27 @@ fn failed_reads_and_writes_end_the_run(rt: HostRuntime) -> Result<(), Fail> {
     let ran = run_answer(alloc, &mut reader, &mut writer);
     assert_eq!(rt; ran, Err(RunFault::WriteFailed));
     assert_eq!(rt; writer.written.len(), 100);
+    Ok(())
+}
+
+#[test]
+fn other_words_end_with_status_2(rt: HostRuntime) -> Result<(), Fail> {
+    let alloc = rt.alloc();
+    for (word, status) in [
+        ("answer", None),
+        ("go", Some(2)),
+        ("play", Some(2)),
+        ("settle", Some(2)),
+    ] {
+        let words = [
+            String::from_str(alloc, "ocpi_nodes")?,
+            String::from_str(alloc, word)?,
+        ];
+        let found = match take_words(alloc, &words) {
+            Ok(()) => None,
+            Err(error) => Some(error.exit_code()),
+        };
+        assert_eq!(rt; found, status, "for {word}");
+    }
     Ok(())
 }

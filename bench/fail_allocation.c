@@ -1,0 +1,21 @@
+/* Loaded before the C library: the allocation of the number that FAIL_ALLOCATION names fails, counted from 1, and
+   standard error says so. */
+#include <stdlib.h>
+#include <unistd.h>
+
+extern void *__libc_malloc(size_t);
+extern void *__libc_realloc(void *, size_t);
+
+static int fails(void) {
+    static long count, wanted = -1;
+    if (wanted < 0) {
+        const char *text = getenv("FAIL_ALLOCATION");
+        wanted = text ? atol(text) : 0;
+    }
+    if (++count != wanted) return 0;
+    static const char said[] = "an allocation failed\n";
+    return write(2, said, sizeof said - 1) > 0;
+}
+
+void *malloc(size_t size) { return fails() ? NULL : __libc_malloc(size); }
+void *realloc(void *old, size_t size) { return fails() ? NULL : __libc_realloc(old, size); }
