@@ -11,7 +11,7 @@ use Rattle.ocpi_json.specs.Fault.{Read, Gives, Fails, ◌>>=◌}
 use Rattle.ocpi_json.specs.Line.{max_line, text_of, tree_or, tree_of, tree_at, HasTree}
 use Rattle.ocpi_json.specs.Names.{has_number_name}
 use Rattle.ocpi_json.specs.Quote.{quote}
-use Rattle.ocpi_json.proofs.Exact.{Exact, bind_ok, done, ok_is}
+use Rattle.ocpi_json.proofs.Exact.{Exact, bind_ok, done}
 
 record IsTextLine (line text : List ℕ) : Type 0 where
   same : text ≡ line

@@ -1,6 +1,5 @@
 -- A packet is read just where its line spells it.
 use Rattle.std.proofs.Common.{◌≡◌, ℕ, List, Ok}
-use Rattle.serde_json.specs.Data.{Data}
 use Rattle.ocpi_types.specs.declared.packet.Packet.{Packet}
 use Rattle.ocpi_json.specs.Form.{IsPacketLine}
 use Rattle.ocpi_json.specs.Forms.{packet_of_line}

@@ -1,10 +1,10 @@
 -- A run as far as it has come.
-use Rattle.std.proofs.Common.{◌≡◌, ℕ, ◌+◌, ◌<◌, ◌≤◌, Bool, true, false, List, [], ◌∷◌, ◌++◌, Option, None, Some, IfSome, length, take, refl, sym, ap, subst, ◌∙◌, arith, append_assoc}
+use Rattle.std.proofs.Common.{◌≡◌, ℕ, ◌+◌, ◌<◌, ◌≤◌, true, false, List, [], ◌∷◌, ◌++◌, Option, None, Some, IfSome, length, take, refl, sym, ap, subst, ◌∙◌, arith, append_assoc}
 use Rattle.std.specs.Prelude.{⊤}
 use Rattle.std.proofs.lemmas.List.{append-nil, length-take}
 use Rattle.std.specs.Str.Lines.{lines}
 use Rattle.std.specs.Io.KnownBytes.{Appends}
-use Rattle.std.specs.Io.BufRead.{first_line, drop_through}
+use Rattle.std.specs.Io.BufRead.{first_line}
 use Rattle.ocpi_nodes.specs.Lines.{lines_of, ReadsLine, ReadsLineOf}
 use Rattle.ocpi_nodes.specs.Run.{IsRun, at_end, taken, refused, stopped, both_ran, IsBegun, none_yet, took, refused_one}
 use Rattle.ocpi_nodes.specs.declared.run.Ran.{Ran}

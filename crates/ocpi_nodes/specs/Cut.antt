@@ -1,12 +1,10 @@
 -- A line that is too long is refused whatever comes after its first bytes.
-use Rattle.std.specs.Prelude.{◌≡◌, ℕ, ◌<◌, ◌≤◌, ◌⊎◌, Bool, true, false, cond, nat_lt, List, Option, None, Some, Result, Ok, Err, length, take, refl}
+use Rattle.std.specs.Prelude.{◌≡◌, ℕ, ◌<◌, ◌≤◌, ◌⊎◌, cond, List, Option, None, Some, Ok, Err, length, take}
 use Rattle.std.proofs.Common.{inl, inr, sym, ap, subst, ◌∙◌, arith, lt-ltb, take_all}
 use Rattle.std.proofs.lemmas.Bool.{cases_lt}
 use Rattle.std.proofs.lemmas.List.{length-take}
-use Rattle.ocpi_types.specs.declared.packet.Packet.{Packet}
-use Rattle.ocpi_types.specs.declared.site.SiteLine.{SiteLine}
 use Rattle.ocpi_json.specs.declared.fault.JsonFault.TheVariants.{Syntax}
-use Rattle.ocpi_json.specs.Fault.{Read, ◌>>=◌, Fails}
+use Rattle.ocpi_json.specs.Fault.{◌>>=◌, Fails}
 use Rattle.ocpi_json.specs.Forms.{packet_of_line}
 use Rattle.ocpi_json.specs.Line.{max_line, text_of, tree_of, tree_at}
 use Rattle.ocpi_json.specs.Packets.{packet_in}
@@ -17,7 +15,7 @@ use Rattle.std.specs.Str.{is_utf8}
 use Rattle.ocpi_nodes.specs.declared.answer.Running.{Running}
 use Rattle.ocpi_nodes.specs.declared.run.Turn.{Turn}
 use Rattle.ocpi_nodes.specs.declared.lines.TheConstants.{KEPT_BYTES}
-use Rattle.ocpi_nodes.specs.Answer.{LineGives, SiteTurn, Opened, NoSite, PacketTurn, Answered, Unanswered, Unread}
+use Rattle.ocpi_nodes.specs.Answer.{LineGives, Opened, NoSite, Answered, Unanswered, Unread}
 
 -- a text of a line that is too long
 too_long : (line : List ℕ) → max_line < length line → text_of line ≡ Err Syntax

@@ -1,4 +1,4 @@
-use Rattle.std.proofs.Common.{◌≡◌, ◌++◌, ◌∙◌, Some, refl, ap, string_bytes}
+use Rattle.std.proofs.Common.{◌++◌, ◌∙◌, Some, refl, ap, string_bytes}
 use Rattle.ocpi_json.specs.Fault.{fault_text as json_fault_text}
 use Rattle.operator_core.specs.FaultText.{fault_text as operator_fault_text}
 use Rattle.operator_core.specs.Requests.{out_of}

@@ -1,6 +1,6 @@
-use Rattle.std.proofs.Common.{rules, ◌≡◌, ◌<◌, Bool, List, ℕ, cond, length, take, sym, ap, ◌∙◌, arith}
+use Rattle.std.proofs.Common.{rules, ◌≡◌, ◌<◌, Bool, cond, length, take, sym, ap, ◌∙◌, arith}
 use Rattle.std.proofs.lemmas.Bool.{eqb-false}
-use Rattle.std.specs.Io.BufRead.{ends_with_byte, strip_last}
+use Rattle.std.specs.Io.BufRead.{strip_last}
 use Rattle.ocpi_nodes.specs.declared.lines.TheConstants.{KEPT_BYTES}
 use Rattle.ocpi_nodes.proofs.LineLemmas.{none_left, one_read, without_end}
 use Rattle.ocpi_nodes.proofs.lines.next_line.Goals.{then-drop_last, else-drop_last}

@@ -1,11 +1,11 @@
-use Rattle.std.proofs.Common.{rules, true, false, ◌≡◌, ◌<◌, sym, ap, subst, length, arith}
+use Rattle.std.proofs.Common.{rules, true, false, ◌≡◌, ◌<◌, sym, subst, length, arith}
 use Rattle.std.proofs.lemmas.Result.{err_from_is_err_and}
 use Rattle.ocpi_nodes.specs.Lines.{ReadsLineOf}
 use Rattle.ocpi_nodes.specs.declared.lines.TheConstants.{KEPT_BYTES}
 use Rattle.ocpi_nodes.specs.declared.run.Ran.{Ran}
 use Rattle.ocpi_nodes.specs.declared.run.Turn.{Turn}
 use Rattle.ocpi_nodes.specs.declared.run.Turn.TheVariants.{Taken, Refused, Ended}
-use Rattle.ocpi_nodes.proofs.RunLemmas.{begins, began, none_counted, one_counted, all_counted, passes, ends, takes, refuses, stops, LeadsOf, Wrote}
+use Rattle.ocpi_nodes.proofs.RunLemmas.{begins, began, none_counted, one_counted, passes, ends, takes, refuses, stops, LeadsOf, Wrote}
 use Rattle.ocpi_nodes.proofs.run.run_lines.Goals.{in-Taken, in-Refused}
 use Rattle.ocpi_nodes.proofs.run.run_lines.Goals as goal
 

@@ -1,4 +1,3 @@
-use Rattle.std.proofs.Common.{rules}
 use Rattle.ocpi_text.proofs.Case.{key_party}
 use Rattle.ocpi_text.proofs.party.Party.key.Goals as goal
 
