@@ -1,7 +1,8 @@
 //! The worked rows of START_SESSION.
 //!
-//! Each call that may run out of memory is made again where it did. So under `rt try --test --fail-alloc N`, for each
-//! N, the answers and rows are the same as with ample memory: a step that finds no memory leaves the operator as it was.
+//! A call that runs out of memory is made again. So where one allocation fails, whichever it is, the answers and rows
+//! are the same as with ample memory: a step that finds no memory leaves the operator as it was.
+//! `bench/fail_allocations.sh` lets each of them fail in turn.
 
 use ocpi_json::{JsonFault, read_packet, read_site, write_packet};
 use ocpi_text::Moment;
@@ -15,7 +16,7 @@ use std::test::Fail;
 const SITE: &str =
     r#"{"at":"2025-01-01T10:00:00Z","party":"BE/BEC","providers":["NL/TNM","DE/EMP"],"site":{"currency":"EUR","locations":[{"address":"Korenmarkt 1","city":"Gent","country":"BEL","evses":[{"connectors":[{"format":"SOCKET","id":"1","power_type":"AC_3_PHASE","standard":"IEC_62196_T2"}],"evse_id":"BE*BEC*E1","uid":"E1"},{"connectors":[{"format":"SOCKET","id":"1","power_type":"AC_3_PHASE","standard":"IEC_62196_T2"}],"evse_id":"BE*BEC*E2","uid":"E2"}],"id":"LOC1","latitude":"51.05421","longitude":"3.72180"}],"price":0.25}}"#;
 
-/// A START_SESSION with the token AA01 of NL/TNM, or DD01 of DE/EMP.
+/// What tells one START_SESSION from another here.
 #[derive(Clone, Copy)]
 struct Start {
     /// The second of 10:00 at which it comes.
@@ -27,6 +28,7 @@ struct Start {
     reference: u8,
     location: &'static str,
     evse: &'static str,
+    /// The country and the party id of its token.
     token: (&'static str, &'static str),
 }
 
