@@ -7,25 +7,21 @@ use Rattle.ocpi_types.specs.Keys.{text_number_cmp, text_number_total, text_numbe
 use Rattle.ocpi_types.proofs.Maps.{of_insert, get-insert_same}
 use Rattle.ocpi_types.specs.declared.packet.CommandResponse.{CommandResponse}
 use Rattle.operator_core.specs.declared.open_start.OpenStart.{OpenStart}
-use Rattle.operator_core.specs.State.{Replies, Spent, OpenStarts, Claim, Claims, IsFree}
-use Rattle.operator_core.specs.Start.{IsSpent}
+use Rattle.operator_core.specs.State.{Replies, Spent, OpenStarts, Claims, IsFree, OneClaimEach}
+use Rattle.operator_core.specs.Start.{IsSpent, Names}
 use Rattle.operator_core.specs.Moves.{spent_after}
 use Rattle.operator_core.specs.Consistent.{Carries, IsConsistent}
 use Rattle.operator_core.proofs.Indexes.{none_some, none_before, unclaimed, claims_opened}
 use Rattle.operator_core.proofs.Spending.{spent_stays, now_spent, not_spent}
 
--- no EVSE has two claims
-abbrev pub One : OpenStarts → Type 0
-One starts = (evse : List ℕ) (c d : Claim) → Claims starts evse c → Claims starts evse d → c ≡ d
-
-pub one_opened : (starts : OpenStarts) (p : List ℕ) (n : ℕ) (o : OpenStart) → One starts → IsFree starts (key o.place.evse_uid) → One (insert starts (p, n) o)
+pub one_opened : (starts : OpenStarts) (p : List ℕ) (n : ℕ) (o : OpenStart) → OneClaimEach starts → IsFree starts (key o.place.evse_uid) → OneClaimEach (insert starts (p, n) o)
 one_opened starts p n o one free evse c d x y = elim (claims_opened starts p n o evse c x) [
   | inl i ↦ elim (claims_opened starts p n o evse d y) [ inl j ↦ i.0 ∙ sym j.0 | inr j ↦ absurd (free d (subst (λ z. Claims starts z d) (sym i.1) j)) ]
   | inr i ↦ elim (claims_opened starts p n o evse d y) [ inl j ↦ absurd (free c (subst (λ z. Claims starts z c) (sym j.1) i)) | inr j ↦ one evse c d i j ]
 ]
 
 uncarried : (p : List ℕ) (n : ℕ) (reference : List ℕ) → Carries empty p n reference → ⊥
-uncarried p n reference (o, spelled, has, named, same) = none_some o _ (get-empty text_number_cmp (p, n)) has
+uncarried p n reference (o, has, names) = none_some o _ (get-empty text_number_cmp (p, n)) has
 
 pub consistent_empty : IsConsistent empty empty empty
 consistent_empty = record {
@@ -35,17 +31,13 @@ consistent_empty = record {
   answered = λ k o h none. none_some o _ (get-empty text_number_cmp k) h;
 }
 
--- the start names the reference
-abbrev Names : OpenStart → List ℕ → Type 0
-Names o reference = (spelled : List ℕ) × (o.command.authorization_reference ≡ Some spelled) × (key spelled ≡ reference)
-
 -- the open starts that carry a reference once one more is open
 carries_opened : (starts : OpenStarts) (p : List ℕ) (n : ℕ) (o : OpenStart) (q : List ℕ) (m : ℕ) (reference : List ℕ) → Carries (insert starts (p, n) o) q m reference →
-    ((q ≡ p) × (m ≡ n) × Names o reference) ⊎ Carries starts q m reference
-carries_opened starts p n o q m reference (x, spelled, has, named, same) =
+    ((q ≡ p) × (m ≡ n) × Names o.command reference) ⊎ Carries starts q m reference
+carries_opened starts p n o q m reference (x, has, (spelled, named, same)) =
     elim (of_insert text_number_total text_number_exact starts (p, n) o (q, m) x has) [
       | inl i ↦ inl (ap (λ (k : List ℕ × ℕ). k.0) i.0, ap (λ (k : List ℕ × ℕ). k.1) i.0, (spelled, ap (λ (y : OpenStart). y.command.authorization_reference) i.1 ∙ named, same))
-      | inr i ↦ inr (x, spelled, i, named, same)
+      | inr i ↦ inr (x, i, (spelled, named, same))
     ]
 
 module _ (replies : Replies) (spent : Spent) (starts : OpenStarts) (h : IsConsistent replies spent starts) where
@@ -66,7 +58,7 @@ module _ (replies : Replies) (spent : Spent) (starts : OpenStarts) (h : IsConsis
 
   module _ (p : List ℕ) (n : ℕ) (r : CommandResponse) (o : OpenStart) (fresh : IsSpent spent p o.command.authorization_reference → ⊥) where
     -- what the new start carries, no start that was open carries
-    uncarried_before : (q : List ℕ) (m : ℕ) (reference : List ℕ) → q ≡ p → Names o reference → Carries starts q m reference → ⊥
+    uncarried_before : (q : List ℕ) (m : ℕ) (reference : List ℕ) → q ≡ p → Names o.command reference → Carries starts q m reference → ⊥
     uncarried_before q m reference same (spelled, named, is) has =
         not_spent spent p o.command.authorization_reference spelled named fresh (ap (get spent) (λ i. (sym same i, is i)) ∙ h.carried q m reference has)
 

@@ -1,40 +1,35 @@
 -- The laws of an operator, over every list of packets.
 use Rattle.std.proofs.Common.{zero, suc, ◌≡◌, ℕ, ◌+◌, List, [], ◌∷◌, ◌++◌, inl, inr, refl, sym, ap, subst, ◌∙◌, arith, add-one}
 use Rattle.std.specs.Prelude.{Some, Contains, slice_get}
-use Rattle.std.specs.FinMap.{get, empty, get-empty}
+use Rattle.std.specs.FinMap.{get}
 use Rattle.std.proofs.lemmas.List.Elements.{Contains-append_cases}
 use Rattle.ocpi_text.specs.Text.{key}
-use Rattle.ocpi_types.specs.Keys.{text_number_cmp}
 use Rattle.ocpi_types.specs.declared.packet.Packet.{Packet}
 use Rattle.ocpi_types.specs.declared.packet.Body.TheVariants as body
 use Rattle.ocpi_types.specs.declared.packet.CommandResponse.{CommandResponse}
 use Rattle.ocpi_types.specs.declared.rows.Change.{Change}
 use Rattle.ocpi_types.specs.declared.rows.Change.TheVariants.{Put}
 use Rattle.ocpi_types.specs.declared.rows.Row.TheVariants as row
-use Rattle.operator_core.specs.State.{State, Claim, ByStart, Claims}
+use Rattle.operator_core.specs.State.{State, OneClaimEach}
 use Rattle.operator_core.specs.Moves.{Out}
 use Rattle.operator_core.specs.Laws.{Event, Happens, Stepped, Refused, Run, sent, Opens, OneClaim, OneStart, OneAnswer, RepliesStay, Numbered}
-use Rattle.operator_core.proofs.Indexes.{none_some}
-use Rattle.operator_core.proofs.Consistency.{One}
+use Rattle.operator_core.proofs.Consistency.{consistent_empty}
 use Rattle.operator_core.proofs.StepFacts.{StepFacts, step_facts, in_none, in_single}
 
 abbrev out_of : Event → State → Out
 out_of e t = record { state = t; changes = e.changes; packets = e.packets }
 
 -- at most one claim on each EVSE
-one_happens : (s t : State) (e : Event) → Happens s e t → One s.open_starts → One t.open_starts
+one_happens : (s t : State) (e : Event) → Happens s e t → OneClaimEach s.open_starts → OneClaimEach t.open_starts
 one_happens s t e (Stepped step) one = (step_facts s e.at e.packet (out_of e t) step).one one
-one_happens s t e (Refused f due same c p) one = subst (λ (z : State). One z.open_starts) (sym same) one
+one_happens s t e (Refused f due same c p) one = subst (λ (z : State). OneClaimEach z.open_starts) (sym same) one
 
-one_runs : (es : List Event) (s t : State) → Run s es t → One s.open_starts → One t.open_starts
-one_runs [] s t run one = subst (λ (z : State). One z.open_starts) (sym run) one
+one_runs : (es : List Event) (s t : State) → Run s es t → OneClaimEach s.open_starts → OneClaimEach t.open_starts
+one_runs [] s t run one = subst (λ (z : State). OneClaimEach z.open_starts) (sym run) one
 one_runs (e ∷ es) s t (u, first, rest) one = one_runs es u t rest (one_happens s u e first one)
 
-unclaimed : (evse : List ℕ) (c : Claim) → Claims empty evse c → ⊥
-unclaimed evse (ByStart p n) (o, has, at) = none_some o _ (get-empty text_number_cmp (p, n)) has
-
 pub one_claim : OneClaim
-one_claim line es t run evse c d x y = one_runs es _ t run (λ e a b h i. absurd (unclaimed e a h)) evse c d x y
+one_claim line es t run = one_runs es _ t run consistent_empty.one_claim
 
 -- replies are kept for good
 stay_happens : (s t : State) (e : Event) → Happens s e t → (k : List ℕ × ℕ) (r : CommandResponse) → get s.replies k ≡ Some r → get t.replies k ≡ Some r
@@ -84,10 +79,10 @@ spent_happens s t e (Stepped step) k h = (step_facts s e.at e.packet (out_of e t
 spent_happens s t e (Refused f due same c p) k h = ap (λ (z : State). get z.spent k) same ∙ h
 
 opens_happens : (s t : State) (e : Event) → Happens s e t → (p reference : List ℕ) → Opens e p reference → (get s.spent (p, reference) ≡ Some tt → ⊥) × (get t.spent (p, reference) ≡ Some tt)
-opens_happens s t e (Stepped step) p reference (n, c, place, deadline, spelled, stores, named, is) =
+opens_happens s t e (Stepped step) p reference (n, c, place, deadline, stores, (spelled, named, is)) =
     subst (λ z. (get s.spent (p, z) ≡ Some tt → ⊥) × (get t.spent (p, z) ≡ Some tt)) is
     ((step_facts s e.at e.packet (out_of e t) step).opens p n c place deadline spelled stores named)
-opens_happens s t e (Refused f due same none packets) p reference (n, c, place, deadline, spelled, stores, named, is) =
+opens_happens s t e (Refused f due same none packets) p reference (n, c, place, deadline, stores, (spelled, named, is)) =
     absurd (in_none (Put (row.Pending p n c place deadline)) (subst (λ (l : List Change). Contains l (Put (row.Pending p n c place deadline))) none stores))
 
 no_more : (es : List Event) (s t : State) → Run s es t → (p reference : List ℕ) → get s.spent (p, reference) ≡ Some tt → (i : ℕ) (e : Event) → slice_get es i ≡ Some e → Opens e p reference → ⊥

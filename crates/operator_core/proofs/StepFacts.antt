@@ -18,14 +18,14 @@ use Rattle.ocpi_types.specs.declared.rows.Row.TheVariants as row
 use Rattle.operator_core.specs.declared.open_start.OpenStart.{OpenStart}
 use Rattle.operator_core.specs.declared.decision.Decision.{Decision}
 use Rattle.operator_core.specs.declared.decision.Decision.TheVariants.{Refused, Rejected, Accepted}
-use Rattle.operator_core.specs.State.{State, Spent, OpenStarts, IsFree}
+use Rattle.operator_core.specs.State.{State, Spent, OpenStarts, IsFree, OneClaimEach}
 use Rattle.operator_core.specs.Start.{StartLine, IsSpent}
 use Rattle.operator_core.specs.Start as lines
 use Rattle.operator_core.specs.Moves.{Out, keep_reply, open_start, spend, spent_after, spent_rows}
 use Rattle.operator_core.specs.Steps.{OperatorStep, RequestLine, Again, Started, answer, started, responded, deadline}
 use Rattle.operator_core.proofs.Indexes.{none_some}
 use Rattle.operator_core.proofs.Spending.{spent_stays, now_spent, not_spent}
-use Rattle.operator_core.proofs.Consistency.{One, one_opened}
+use Rattle.operator_core.proofs.Consistency.{one_opened}
 
 -- a start that takes a place may
 pub record MayOpen (spent : Spent) (starts : OpenStarts) (p : List ℕ) (c : StartSession) (place : Place) : Type 0 where
@@ -60,7 +60,7 @@ pub record StepFacts (s : State) (out : Out) : Type 0 where
   pub spent : (k : List ℕ × List ℕ) → get s.spent k ≡ Some tt → get out.state.spent k ≡ Some tt
   pub opens : (p : List ℕ) (n : ℕ) (c : StartSession) (place : Place) (deadline : ℕ) (spelled : List ℕ) → Stores out.changes p n c place deadline →
       c.authorization_reference ≡ Some spelled → (get s.spent (p, key spelled) ≡ Some tt → ⊥) × (get out.state.spent (p, key spelled) ≡ Some tt)
-  pub one : One s.open_starts → One out.state.open_starts
+  pub one : OneClaimEach s.open_starts → OneClaimEach out.state.open_starts
 
 pub in_none : {X : Type 0} (x : X) → Contains {X = X} [] x → ⊥
 in_none x h = omega (arith, h.1)

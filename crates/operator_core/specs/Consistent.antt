@@ -1,17 +1,17 @@
 -- What holds of an operator at any time.
 use Rattle.std.specs.Prelude.{◌≡◌, ℕ, List, Some, None}
 use Rattle.std.specs.FinMap.{get}
-use Rattle.ocpi_text.specs.Text.{key}
 use Rattle.operator_core.specs.declared.open_start.OpenStart.{OpenStart}
-use Rattle.operator_core.specs.State.{Replies, Spent, OpenStarts, Claim, Claims}
+use Rattle.operator_core.specs.State.{Replies, Spent, OpenStarts, OneClaimEach}
+use Rattle.operator_core.specs.Start.{Names}
 
 -- the open start of that provider and number carries the reference, in key form (OCPI 2.2.1, Commands: StartSession)
 abbrev pub Carries : OpenStarts → List ℕ → ℕ → List ℕ → Type 0
-Carries starts p n reference = (o : OpenStart) × (spelled : List ℕ) × (get starts (p, n) ≡ Some o) × (o.command.authorization_reference ≡ Some spelled) × (key spelled ≡ reference)
+Carries starts p n reference = (o : OpenStart) × (get starts (p, n) ≡ Some o) × Names o.command reference
 
 pub record IsConsistent (replies : Replies) (spent : Spent) (starts : OpenStarts) : Type 0 where
   -- each EVSE has at most one claim
-  pub one_claim : (evse : List ℕ) (c d : Claim) → Claims starts evse c → Claims starts evse d → c ≡ d
+  pub one_claim : OneClaimEach starts
   -- each reference of a provider is carried by at most one of its open starts
   pub one_carrier : (p : List ℕ) (m n : ℕ) (reference : List ℕ) → Carries starts p m reference → Carries starts p n reference → m ≡ n
   -- a reference that is carried is spent

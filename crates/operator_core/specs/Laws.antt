@@ -12,7 +12,8 @@ use Rattle.ocpi_types.specs.declared.rows.Change.{Change}
 use Rattle.ocpi_types.specs.declared.rows.Change.TheVariants.{Put}
 use Rattle.ocpi_types.specs.declared.rows.Row.TheVariants as row
 use Rattle.operator_core.specs.declared.fault.OperatorFault.{OperatorFault}
-use Rattle.operator_core.specs.State.{State, opening, Claim, HasClaim}
+use Rattle.operator_core.specs.State.{State, opening, OneClaimEach}
+use Rattle.operator_core.specs.Start.{Names}
 use Rattle.operator_core.specs.Steps.{OperatorStep}
 use Rattle.operator_core.specs.Faults.{IsDue}
 
@@ -39,11 +40,11 @@ sent es = flat_map (λ e. e.packets) es
 
 -- the event opens a start of a provider, both in key form, with a reference in key form
 abbrev pub Opens : Event → List ℕ → List ℕ → Type 0
-Opens e p reference = (n : ℕ) × (c : StartSession) × (place : Place) × (deadline : ℕ) × (spelled : List ℕ) × Contains e.changes (Put (row.Pending p n c place deadline)) × (c.authorization_reference ≡ Some spelled) × (key spelled ≡ reference)
+Opens e p reference = (n : ℕ) × (c : StartSession) × (place : Place) × (deadline : ℕ) × Contains e.changes (Put (row.Pending p n c place deadline)) × Names c reference
 
 -- each EVSE has at most one claim
 abbrev pub OneClaim : Type 0
-OneClaim = (line : SiteLine) (es : List Event) (t : State) → Run (opening line) es t → (evse : List ℕ) (c d : Claim) → HasClaim t evse c → HasClaim t evse d → c ≡ d
+OneClaim = (line : SiteLine) (es : List Event) (t : State) → Run (opening line) es t → OneClaimEach t.open_starts
 
 -- each reference of a provider opens at most one start, in all the time of an operator
 abbrev pub OneStart : Type 0

@@ -20,6 +20,10 @@ abbrev pub IsSpent : Spent → List ℕ → Option (List ℕ) → Type 0
 IsSpent spent provider None = ⊥
 IsSpent spent provider (Some reference) = get spent (provider, key reference) ≡ Some tt
 
+-- the command has that authorization reference, in key form
+abbrev pub Names : StartSession → List ℕ → Type 0
+Names c reference = (spelled : List ℕ) × (c.authorization_reference ≡ Some spelled) × (key spelled ≡ reference)
+
 -- the token is not valid, or its reference was used before
 abbrev pub IsBarred : Spent → List ℕ → StartSession → Type 0
 IsBarred spent provider c = (c.token.valid ≡ false) ⊎ IsSpent spent provider c.authorization_reference

@@ -47,3 +47,7 @@ HasClaim s evse c = Claims s.open_starts evse c
 
 abbrev pub IsFree : OpenStarts → List ℕ → Type 0
 IsFree starts evse = (c : Claim) → Claims starts evse c → ⊥
+
+-- no EVSE has two claims
+abbrev pub OneClaimEach : OpenStarts → Type 0
+OneClaimEach starts = (evse : List ℕ) (c d : Claim) → Claims starts evse c → Claims starts evse d → c ≡ d

@@ -1,5 +1,5 @@
-//! The operator on worked rows: the packets that come, what each is answered and which rows it puts, also where an
-//! allocation fails in the middle of a step.
+//! An operator and the packets that come to it: what each is answered and which rows it puts, also where an allocation
+//! fails in the middle of a step.
 #![tactic(auto)]
 
 #[cfg(test)]

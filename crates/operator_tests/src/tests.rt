@@ -1,4 +1,5 @@
-//! The worked rows of START_SESSION.
+//! START_SESSION packets, one after another: a request that comes again has the same reply, a reference opens one start,
+//! and an unknown place, another party's token or another addressee has the answer that OCPI and our rules give.
 //!
 //! A call that runs out of memory is made again. So where one allocation fails, whichever it is, the answers and rows
 //! are the same as with ample memory: a step that finds no memory leaves the operator as it was.
