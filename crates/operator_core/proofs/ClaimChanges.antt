@@ -3,8 +3,8 @@ use Rattle.std.proofs.Common.{◌≡◌, ℕ, List, inl, inr, refl, sym, ap, sub
 use Rattle.std.specs.Prelude.{None}
 use Rattle.std.specs.FinMap.{get}
 use Rattle.ocpi_text.specs.Text.{key}
-use Rattle.ocpi_types.specs.Keys.{text_number_total, text_number_exact}
-use Rattle.ocpi_types.proofs.Maps.{get-insert_same}
+use Rattle.tables.specs.Keys.{text_number_total, text_number_exact}
+use Rattle.tables.proofs.Maps.{get-insert_same}
 use Rattle.ocpi_types.specs.declared.packet.Packet.{Packet}
 use Rattle.ocpi_types.specs.declared.packet.StartSession.{StartSession}
 use Rattle.ocpi_types.specs.declared.packet.CommandResponse.{CommandResponse}

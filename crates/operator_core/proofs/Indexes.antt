@@ -1,16 +1,17 @@
 -- The claims that are kept stay those of the open starts.
 use Rattle.std.proofs.Common.{◌≡◌, ℕ, Bool, true, false, cond, List, ◌⊎◌, inl, inr, refl, sym, ap, subst, ◌∙◌}
-use Rattle.std.specs.Prelude.{Option, Some, None, is_some, not}
+use Rattle.std.specs.Prelude.{Option, Some, None}
 use Rattle.std.specs.declared.cmp.Ordering.{Ordering}
 use Rattle.std.specs.Ordering.{eq_by_cmp}
 use Rattle.std.specs.Cmp.{IsTotalOrder}
 use Rattle.std.specs.FinMap.{FinMap, get, insert, empty, get-empty, get-insert}
 use Rattle.ocpi_text.specs.Text.{key}
-use Rattle.ocpi_types.specs.Keys.{text_cmp, text_total, text_exact, text_number_cmp, text_number_total, text_number_exact}
-use Rattle.ocpi_types.proofs.Maps.{of_insert, get-insert_same, get-insert_other}
+use Rattle.tables.specs.Keys.{text_cmp, text_total, text_exact, text_number_cmp, text_number_total, text_number_exact}
+use Rattle.tables.proofs.Maps.{of_insert, get-insert_same, get-insert_other}
 use Rattle.operator_core.specs.declared.open_start.OpenStart.{OpenStart}
 use Rattle.operator_core.specs.State.{OpenStarts, Claim, ByStart, Claims, IsFree}
-use Rattle.operator_core.specs.Books.{Claimed, IsIndexed}
+use Rattle.site.specs.Placed.{Claimed}
+use Rattle.operator_core.specs.Claimed.{IsIndexed}
 
 pub none_some : {X : Type 0} (x : X) (o : Option X) → o ≡ None → o ≡ Some x → ⊥
 none_some x o a b = cc
@@ -65,15 +66,11 @@ module _ (claimed : Claimed) (starts : OpenStarts) (h : IsIndexed claimed starts
     ];
   }
 
-  pub claimed_key : (evse : List ℕ) (contained : Bool) → contained ≡ is_some (get claimed evse) → not contained ≡ false → IsFree starts evse → ⊥
-  claimed_key evse contained same is free = go (get claimed evse) refl (ap not (sym same) ∙ is)
-    where
-      go : (o : Option (Unit {0})) → get claimed evse ≡ o → not (is_some o) ≡ false → ⊥
-      go None e is = cc
-      go (Some x) e is = let c = h.sound evse e in free c.0 c.1
+  pub unclaimed_free : (evse : List ℕ) → get claimed evse ≡ None → IsFree starts evse
+  unclaimed_free evse none c has = none_some tt _ none (h.complete evse c has)
 
-  pub unclaimed_key : (evse : List ℕ) → IsFree starts evse → get claimed evse ≡ None
-  unclaimed_key evse free = go (get claimed evse) refl
+  pub free_unclaimed : (evse : List ℕ) → IsFree starts evse → get claimed evse ≡ None
+  free_unclaimed evse free = go (get claimed evse) refl
     where
       go : (o : Option (Unit {0})) → get claimed evse ≡ o → o ≡ None
       go None e = refl

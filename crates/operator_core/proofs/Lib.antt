@@ -5,3 +5,4 @@ pub mod StepFacts
 pub mod Runs
 pub mod RowChanges
 pub mod ClaimChanges
+pub mod Applied

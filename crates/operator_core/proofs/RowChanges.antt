@@ -8,8 +8,8 @@ use Rattle.std.specs.Cmp.{IsTotalOrder, eq_by_cmp_equiv}
 use Rattle.std.proofs.lemmas.List.{map-append, length-map, get_or-map, append-nil}
 use Rattle.std.proofs.lemmas.List.Elements.{Contains-push_cases, Contains-push, Contains-append_left}
 use Rattle.ocpi_text.specs.Text.{key}
-use Rattle.ocpi_types.specs.Keys.{text_number_total, text_number_exact, text_pair_total, text_pair_exact}
-use Rattle.ocpi_types.proofs.Maps.{equal_of_is_eq, get-insert_same, get-insert_other}
+use Rattle.tables.specs.Keys.{text_number_total, text_number_exact, text_pair_total, text_pair_exact}
+use Rattle.tables.proofs.Maps.{equal_of_is_eq, get-insert_same, get-insert_other}
 use Rattle.ocpi_types.specs.declared.packet.Packet.{Packet}
 use Rattle.ocpi_types.specs.declared.packet.StartSession.{StartSession}
 use Rattle.ocpi_types.specs.declared.packet.CommandResponse.{CommandResponse}

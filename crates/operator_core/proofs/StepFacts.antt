@@ -4,8 +4,8 @@ use Rattle.std.specs.Prelude.{Option, Some, None, Contains}
 use Rattle.std.specs.FinMap.{get, insert}
 use Rattle.std.proofs.lemmas.List.Elements.{Contains-push_cases, Contains-append_cases}
 use Rattle.ocpi_text.specs.Text.{key}
-use Rattle.ocpi_types.specs.Keys.{text_number_total, text_number_exact}
-use Rattle.ocpi_types.proofs.Maps.{get-insert_same, get-insert_other}
+use Rattle.tables.specs.Keys.{text_number_total, text_number_exact}
+use Rattle.tables.proofs.Maps.{get-insert_same, get-insert_other}
 use Rattle.ocpi_types.specs.declared.site.Site.{Site}
 use Rattle.ocpi_types.specs.declared.packet.Packet.{Packet}
 use Rattle.ocpi_types.specs.declared.packet.Body.TheVariants as body

@@ -1,4 +1,4 @@
-pub mod Places
+pub mod Providers
 pub mod State
 pub mod Consistent
 pub mod Start
@@ -6,7 +6,8 @@ pub mod Moves
 pub mod Steps
 pub mod Faults
 pub mod FaultText
-pub mod Books
+pub mod Stored
+pub mod Claimed
 pub mod Requests
 pub mod Rows
 pub mod Claims

@@ -5,9 +5,10 @@ use Rattle.ocpi_text.specs.Whole.{max_whole}
 use Rattle.ocpi_types.specs.declared.packet.Packet.{Packet}
 use Rattle.operator_core.specs.declared.request.Request.{Request}
 use Rattle.operator_core.specs.declared.stepped.Stepped.{Stepped}
-use Rattle.operator_core.specs.Places.{IsProvider}
+use Rattle.operator_core.specs.Providers.{IsProvider}
 use Rattle.operator_core.specs.State.{State}
 use Rattle.operator_core.specs.Moves.{Out}
+use Rattle.operator_core.specs.Stored.{rows_of, with_rows, changed_all}
 
 -- the request that came to this operator in a packet
 pub record IsRequest (s : State) (at : ℕ) (q : Packet) (r : Request) : Type 0 where
@@ -21,3 +22,7 @@ pub record IsRequest (s : State) (at : ℕ) (q : Packet) (r : Request) : Type 0 
 
 abbrev pub out_of : State → Stepped → Out
 out_of s x = record { state = s; changes = x.rows.items; packets = x.packets.items }
+
+-- what a step comes to once its changes of rows are carried out
+abbrev pub planned : State → Stepped → Out
+planned s x = record { state = with_rows (changed_all x.rows.items (rows_of s)) s; changes = x.rows.items; packets = x.packets.items }

@@ -9,7 +9,7 @@ use Rattle.ocpi_types.specs.declared.site.Connector.{Connector}
 use Rattle.ocpi_types.specs.declared.packet.StartSession.{StartSession}
 use Rattle.operator_core.specs.declared.decision.Decision.{Decision}
 use Rattle.operator_core.specs.declared.decision.Decision.TheVariants.{Refused, Rejected, Accepted}
-use Rattle.operator_core.specs.Places.{IsLocation, Fits}
+use Rattle.site.specs.Places.{IsLocation, Fits}
 use Rattle.operator_core.specs.State.{Spent, OpenStarts, IsFree}
 
 -- the token is another provider's, or a connector is named without its EVSE

@@ -2,7 +2,7 @@
 use Rattle.std.specs.Prelude.{◌≡◌, ℕ, List, Some}
 use Rattle.std.specs.FinMap.{FinMap, get, empty}
 use Rattle.ocpi_text.specs.Text.{key}
-use Rattle.ocpi_types.specs.Keys.{text_number_cmp, text_pair_cmp}
+use Rattle.tables.specs.Keys.{text_number_cmp, text_pair_cmp}
 use Rattle.ocpi_types.specs.declared.site.Site.{Site}
 use Rattle.ocpi_types.specs.declared.site.SiteLine.{SiteLine}
 use Rattle.ocpi_types.specs.declared.packet.CommandResponse.{CommandResponse}

@@ -13,7 +13,7 @@ use Rattle.ocpi_types.specs.declared.packet.CommandResponse.TheVariants as respo
 use Rattle.ocpi_types.specs.declared.words.CommandResponseType.TheVariants as result
 use Rattle.operator_core.specs.declared.decision.Decision.{Decision}
 use Rattle.operator_core.specs.declared.decision.Decision.TheVariants.{Refused, Rejected, Accepted}
-use Rattle.operator_core.specs.Places.{IsProvider}
+use Rattle.operator_core.specs.Providers.{IsProvider}
 use Rattle.operator_core.specs.State.{State}
 use Rattle.operator_core.specs.Start.{StartLine}
 use Rattle.operator_core.specs.Moves.{Out, begin, say, numbered, keep_reply, open_start, spend}

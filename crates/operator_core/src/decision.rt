@@ -3,7 +3,7 @@
 use ocpi_types::{Place, RefusalCode};
 
 /// The decision on a START_SESSION.
-#[derive(Drop)]
+#[derive(Clone, Copy)]
 pub enum Decision {
     /// A response of that status, without data.
     Refused(RefusalCode),

@@ -3,12 +3,13 @@
 #![tactic(auto)]
 
 mod books;
+mod claims;
 mod decision;
 mod fault;
 pub mod laws;
 mod open_start;
 mod operator;
-mod places;
+mod providers;
 mod request;
 mod rows;
 mod start;

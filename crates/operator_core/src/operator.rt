@@ -1,26 +1,27 @@
 //! The operator.
 
-ghost use Rattle.std.specs.Prelude.{◌≡◌, ◌++◌, ◌∷◌, [], ◌+◌, IfOk, IfSome, IfNone, IfErr, OnOk, OnErr, None, List, ℕ};
+ghost use Rattle.std.specs.Prelude.{◌≡◌, ◌∷◌, [], ◌+◌, IfOk, IfSome, IfNone, IfErr, OnErr, None, List, ℕ};
 ghost use Rattle.std.specs.FinMap as map;
 ghost use Rattle.ocpi_text.specs.Text.{key};
-ghost use Rattle.ocpi_types.specs.declared.rows.Counter.{Counter};
-ghost use Rattle.operator_core.specs.Places.{IsProvider};
+ghost use Rattle.operator_core.specs.Providers.{IsProvider};
 ghost use Rattle.operator_core.specs.Steps.{responded};
 
 use crate::books::Books;
+use crate::claims::claim_all;
 use crate::decision::Decision;
 use crate::fault::OperatorFault;
 use crate::open_start::OpenStart;
-use crate::places::find_provider;
+use crate::providers::find_provider;
 use crate::request::Request;
-use crate::rows::{push_start_rows, reply_row};
+use crate::rows::{copies, count_row, pending_row, push_spent_row, reply_row};
 use crate::start::decide;
 use crate::stepped::Stepped;
 use ocpi_text::{Moment, Party, Whole};
 use ocpi_types::{
-    Body, Change, CommandResponse, CommandResponseType, Counter, Packet, Parties, ResponseData,
-    Row, Site, SiteLine, StartSession,
+    Body, CommandResponse, CommandResponseType, Packet, Parties, ResponseData, SiteLine,
+    StartSession,
 };
+use site::Places;
 use std::alloc::{AllocError, Global};
 use std::marker::Model;
 
@@ -41,13 +42,13 @@ fn done(at: Moment, result_word: CommandResponseType) -> CommandResponse
 }
 
 /// The reply that a decision gives.
-fn respond(decision: &Decision, at: Moment) -> CommandResponse
-    ensures { result ≡ responded at decision.now }
+fn respond(decision: Decision, at: Moment) -> CommandResponse
+    ensures { result ≡ responded at decision }
 {
     match decision {
         Decision::Refused(status) => CommandResponse::Refused {
             timestamp: at,
-            status_code: *status,
+            status_code: status,
         },
         Decision::Rejected => done(at, CommandResponseType::Rejected),
         Decision::Accepted(_) => done(at, CommandResponseType::Accepted),
@@ -59,8 +60,7 @@ fn respond(decision: &Decision, at: Moment) -> CommandResponse
 pub struct Operator {
     alloc: Global,
     parties: Parties,
-    site: Site,
-    serial: Whole,
+    places: Places,
     books: Books,
 }
 
@@ -68,20 +68,33 @@ impl Model for Operator {
     ghost use Rattle.std.specs.FinMap as map;
     ghost use Rattle.std.specs.Coded.{codes};
     ghost use Rattle.operator_core.specs.State.{State};
+    ghost use Rattle.operator_core.specs.Claimed.{IsIndexed};
+    ghost use Rattle.operator_core.specs.Consistent.{IsConsistent};
 
     ghost Value = { State };
 
     ghost coded = { Prim.hlevel (codes, map.code) };
 
-    ghost view = { λ o. record { party = o.parties.operator; providers = o.parties.providers; site = o.site; serial = o.serial; replies = o.books.replies; spent = o.books.spent; open_starts = o.books.open_starts } };
+    ghost view = { λ o. record {
+      party = o.parties.operator;
+      providers = o.parties.providers;
+      site = o.places.site;
+      serial = o.books.rows.serial;
+      replies = o.books.rows.replies;
+      spent = o.books.rows.spent;
+      open_starts = o.books.rows.open_starts;
+    } };
+
+    ghost invariant = { λ o. IsIndexed o.places.claimed o.books.rows.open_starts
+      × IsConsistent o.books.rows.replies o.books.rows.spent o.books.rows.open_starts };
 }
 
 impl Operator {
-    ghost use Rattle.operator_core.specs.State.{opening, IsFree};
-    ghost use Rattle.operator_core.specs.Start.{StartLine, IsSpent};
+    ghost use Rattle.operator_core.specs.State.{opening};
+    ghost use Rattle.operator_core.specs.Start.{StartLine};
     ghost use Rattle.operator_core.specs.Steps.{answer, started, IsTaken, OperatorStep};
     ghost use Rattle.operator_core.specs.Moves.{keep_reply, open_start, spend};
-    ghost use Rattle.operator_core.specs.Requests.{IsRequest, out_of};
+    ghost use Rattle.operator_core.specs.Requests.{IsRequest, out_of, planned};
     ghost use Rattle.operator_core.specs.Faults.{IsDue};
     ghost use Rattle.operator_core.specs.Claims.{KeepsClaims};
     ghost use Rattle.operator_core.specs.Consistent.{IsConsistent};
@@ -89,21 +102,21 @@ impl Operator {
     ghost use Rattle.operator_core.specs.declared.decision.Decision.{Decision};
 
     /// The operator of a site before its first event.
-    pub fn new(alloc: Global, line: SiteLine) -> Operator
-        ensures { result ≡ opening line }
+    pub fn new(alloc: Global, line: SiteLine) -> Result<Operator, AllocError>
+        ensures { IfOk result (λ o. o ≡ opening line) }
     {
         let SiteLine {
             at: _,
             parties,
             site,
         } = line;
-        Operator {
+        let places = Places::new(alloc, site)?;
+        Ok(Operator {
             alloc,
             parties,
-            site,
-            serial: Whole::new(0).unwrap(),
+            places,
             books: Books::new(alloc),
-        }
+        })
     }
 
     /// What holds of every operator at any time, which its type keeps: each EVSE has at most one claim; each reference of
@@ -111,7 +124,8 @@ impl Operator {
     pub fn consistency(&self)
         ensures { IsConsistent self.now.replies self.now.spent self.now.open_starts }
     {
-        self.books.consistency();
+        // The invariant is known once a field is looked at.
+        let _books = &self.books;
     }
 
     /// The provider that sent a packet to this operator, as the site spells it.
@@ -125,7 +139,7 @@ impl Operator {
         find_provider(self.parties.providers(), &packet.from)
     }
 
-    /// The request that a packet to this operator makes.
+    /// The request that a packet to this operator makes. It takes no memory.
     fn request(&self, at: Moment, packet: &Packet) -> Result<Request, OperatorFault>
         requires kind { IsTaken packet.now.body }
         ensures request { IfOk result (λ r. IsRequest self.now at packet.now r) }
@@ -134,105 +148,90 @@ impl Operator {
         let Some(peer) = self.peer(packet) else {
             return Err(OperatorFault::NotForMe);
         };
-        let Some(serial) = self.serial.next() else {
+        let Some(serial) = self.books.serial().next() else {
             return Err(OperatorFault::NumbersUsedUp);
         };
-        let provider = packet.from.copy()?.key();
         Ok(Request {
             at,
-            from: peer.copy()?,
-            provider,
+            from: *peer,
+            provider: packet.from.key(),
             number: packet.request,
             serial,
         })
     }
 
-    /// The packet that answers a request, and the row of the counter of packets.
-    fn answer(&self, request: &Request, reply: CommandResponse) -> Result<Stepped, AllocError>
-        ensures rows { IfOk result (λ x. x.rows.items ≡ Change.Put (Row.Count Counter.Serial request.now.serial) ∷ []) }
-        ensures packets { IfOk result (λ x. x.packets.items ≡ record { from = self.now.party; to = request.now.from; serial = request.now.serial; request = request.now.number; body = Body.CommandResponse reply } ∷ []) }
+    /// The packet that answers a request.
+    fn answer(&self, request: &Request, reply: CommandResponse) -> Result<Vec<Packet>, AllocError>
+        ensures { IfOk result (λ x. x.items ≡ record { from = self.now.party; to = request.now.from; serial = request.now.serial; request = request.now.number; body = Body.CommandResponse reply } ∷ []) }
     {
-        let from = self.parties.operator().copy()?;
         let packet = Packet {
-            from,
-            to: request.from.copy()?,
+            from: *self.parties.operator(),
+            to: request.from,
             serial: request.serial,
             request: request.number,
             body: Body::CommandResponse(reply),
         };
-        let packets = vec![in self.alloc; packet]?;
-        let rows = vec![in self.alloc;
-            Change::Put(Row::Count {
-                counter: Counter::Serial,
-                last: request.serial
-            }),
-        ]?;
+        vec![in self.alloc; packet]
+    }
+
+    /// The step that sends a kept reply again.
+    fn again(&self, request: &Request, reply: CommandResponse) -> Result<Stepped, AllocError>
+        requires { request.now.serial ≡ self.now.serial + 1 }
+        ensures { IfOk result (λ x. planned self.now x ≡ answer request.now.from request.now.number reply self.now) }
+    {
+        let packets = self.answer(request, reply)?;
+        let rows = vec![in self.alloc; count_row(request)]?;
         Ok(Stepped { rows, packets })
     }
 
-    /// Sends a kept reply again.
-    fn again(&mut self, request: &Request, reply: CommandResponse) -> Result<Stepped, AllocError>
-        requires { request.now.serial ≡ self.old.serial + 1 }
-        ensures step { IfOk result (λ x. out_of self.new x ≡ answer request.now.from request.now.number reply self.old) }
-        ensures err { OnErr result (self.new ≡ self.old) }
+    /// The step that sends a reply, and keeps it.
+    fn refuse(&self, request: &Request, reply: CommandResponse) -> Result<Stepped, AllocError>
+        requires { request.now.serial ≡ self.now.serial + 1 }
+        ensures { IfOk result (λ x. planned self.now x ≡ keep_reply request.now.provider request.now.number reply (answer request.now.from request.now.number reply self.now)) }
     {
-        let stepped = self.answer(request, reply)?;
-        self.serial = request.serial;
-        Ok(stepped)
+        let packets = self.answer(request, reply)?;
+        let rows = vec![in self.alloc; count_row(request), reply_row(request, reply)]?;
+        Ok(Stepped { rows, packets })
     }
 
-    /// Sends a reply, and keeps it.
-    fn refuse(&mut self, request: &Request, reply: CommandResponse) -> Result<Stepped, AllocError>
-        requires { request.now.serial ≡ self.old.serial + 1 }
-        ensures step { IfOk result (λ x. out_of self.new x ≡ keep_reply request.now.provider request.now.number reply (answer request.now.from request.now.number reply self.old)) }
-        ensures err { OnErr result (self.new ≡ self.old) }
-    {
-        let mut stepped = self.answer(request, reply)?;
-        stepped.rows.push(reply_row(request, reply)?)?;
-        self.books
-            .keep_reply(&request.provider, request.number, reply)?;
-        self.serial = request.serial;
-        Ok(stepped)
-    }
-
-    /// Sends the reply to a START_SESSION that takes a place, keeps it, and opens the start.
+    /// The step that sends the reply to a START_SESSION that takes a place, keeps it, and opens the start.
     fn accept(
-        &mut self,
+        &self,
         request: &Request,
         reply: CommandResponse,
         start: OpenStart,
     ) -> Result<Stepped, AllocError>
-        requires serial { request.now.serial ≡ self.old.serial + 1 }
-        requires new { map.get self.old.replies (request.now.provider, request.now.number) ≡ None }
-        requires fresh { IsSpent self.old.spent request.now.provider start.command.authorization_reference → ⊥ }
-        requires free { IsFree self.old.open_starts (key start.place.evse_uid) }
-        ensures step { IfOk result (λ x. out_of self.new x ≡ spend request.now.provider start.command.authorization_reference (open_start request.now.provider request.now.number start (keep_reply request.now.provider request.now.number reply (answer request.now.from request.now.number reply self.old)))) }
-        ensures err { OnErr result (self.new ≡ self.old) }
+        requires { request.now.serial ≡ self.now.serial + 1 }
+        ensures { IfOk result (λ x. planned self.now x ≡ spend request.now.provider start.command.authorization_reference (open_start request.now.provider request.now.number start (keep_reply request.now.provider request.now.number reply (answer request.now.from request.now.number reply self.now)))) }
     {
-        let mut stepped = self.answer(request, reply)?;
-        stepped.rows.push(reply_row(request, reply)?)?;
-        push_start_rows(&mut stepped.rows, request, &start)?;
-        self.books
-            .take(&request.provider, request.number, reply, start)?;
-        self.serial = request.serial;
-        Ok(stepped)
+        let reference = start.command.authorization_reference;
+        let pending = pending_row(request, start);
+        let mut rows =
+            vec![in self.alloc; count_row(request), reply_row(request, reply), pending]?;
+        push_spent_row(&mut rows, request, reference)?;
+        let packets = self.answer(request, reply)?;
+        Ok(Stepped { rows, packets })
     }
 
-    /// Decides a START_SESSION.
+    /// What becomes of a START_SESSION. It changes nothing.
     fn start(
-        &mut self,
+        &self,
         request: &Request,
         sender: &Party,
         command: &StartSession,
     ) -> Result<Stepped, AllocError>
-        requires serial { request.now.serial ≡ self.old.serial + 1 }
+        requires serial { request.now.serial ≡ self.now.serial + 1 }
         requires provider { request.now.provider ≡ key sender.now }
-        requires new { map.get self.old.replies (request.now.provider, request.now.number) ≡ None }
-        ensures step { IfOk result (λ x. (d : Decision) × StartLine self.old.site self.old.spent self.old.open_starts sender.now command.now d × (out_of self.new x ≡ started request.now.at request.now.from request.now.provider request.now.number command.now d self.old)) }
-        ensures err { OnErr result (self.new ≡ self.old) }
+        ensures { IfOk result (λ x. (d : Decision) × StartLine self.now.site self.now.spent self.now.open_starts sender.now command.now d × (planned self.now x ≡ started request.now.at request.now.from request.now.provider request.now.number command.now d self.now)) }
     {
-        let decision = decide(&self.site, &self.books, sender, &request.provider, command)?;
-        let reply = respond(&decision, request.at);
+        let decision = decide(
+            &self.places,
+            &self.books,
+            sender,
+            request.provider,
+            command,
+        );
+        let reply = respond(decision, request.at);
         match decision {
             Decision::Refused(_) => self.refuse(request, reply),
             Decision::Rejected => self.refuse(request, reply),
@@ -242,24 +241,21 @@ impl Operator {
                     place,
                     deadline: request.at.after(1000 * TIMEOUT),
                 };
-                let stepped = self.accept(request, reply, start)?;
-                Ok(stepped)
+                self.accept(request, reply, start)
             }
         }
     }
 
-    /// The step of a packet.
-    fn step(&mut self, at: Moment, packet: &Packet) -> Result<Stepped, OperatorFault>
-        ensures step { IfOk result (λ x. OperatorStep self.old at packet.now (out_of self.new x)) }
-        ensures fault { IfErr result (λ e. IsDue self.old packet.now e) }
-        ensures err { OnErr result (self.new ≡ self.old) }
-        ensures unopened { OnOk result (map.get self.old.replies (key packet.now.from, packet.now.request) ≡ None → map.get self.old.open_starts (key packet.now.from, packet.now.request) ≡ None) }
+    /// What becomes of a packet. It changes nothing.
+    fn decide(&self, at: Moment, packet: &Packet) -> Result<Stepped, OperatorFault>
+        ensures step { IfOk result (λ x. OperatorStep self.now at packet.now (planned self.now x)) }
+        ensures fault { IfErr result (λ e. IsDue self.now packet.now e) }
     {
         let Body::StartSession(command) = &packet.body else {
             return Err(OperatorFault::NotForMe);
         };
         let request = self.request(at, packet)?;
-        match self.books.reply(&request.provider, request.number) {
+        match self.books.reply(request.provider, request.number) {
             Some(reply) => Ok(self.again(&request, reply)?),
             None => Ok(self.start(&request, &packet.from, command)?),
         }
@@ -278,7 +274,11 @@ impl Operator {
         ensures claims { IfOk result (λ x. KeepsClaims self.old (out_of self.new x)) }
         ensures rows { IfOk result (λ x. AreChanges self.old x.rows.items self.new) }
     {
-        let stepped = self.step(at, packet)?;
+        let stepped = self.decide(at, packet)?;
+        let stored = copies(self.alloc, stepped.rows.as_slice())?;
+        self.books.make_room(stepped.rows.as_slice())?;
+        self.books.apply(stored);
+        claim_all(&mut self.places, stepped.rows.as_slice());
         Ok(stepped)
     }
 }

@@ -3,7 +3,7 @@
 use ocpi_text::{Moment, Party, Whole};
 
 /// A request of a provider, and the number of the packet that answers it.
-#[derive(Drop)]
+#[derive(Clone, Copy)]
 pub struct Request {
     pub at: Moment,
     /// The provider, as the site spells it.

@@ -1,75 +1,74 @@
 //! The rows that a step puts.
 
-ghost use Rattle.std.specs.Prelude.{◌≡◌, ◌++◌, ◌∷◌, [], IfOk, OnOk};
+ghost use Rattle.std.specs.Prelude.{◌≡◌, ◌++◌, IfOk, OnOk};
+ghost use Rattle.ocpi_types.specs.declared.rows.Counter.{Counter as CounterOf};
 ghost use Rattle.operator_core.specs.Moves.{spent_rows};
 
 use crate::open_start::OpenStart;
 use crate::request::Request;
-use ocpi_text::Party;
-use ocpi_types::{Change, Ci, CommandResponse, Row};
-use std::alloc::AllocError;
+use ocpi_text::CiText;
+use ocpi_types::{Change, CommandResponse, Counter, Row};
+use std::alloc::{AllocError, Global};
+
+/// The row of the counter of packets.
+pub fn count_row(request: &Request) -> Change
+    ensures { result ≡ Change.Put (Row.Count CounterOf.Serial request.now.serial) }
+{
+    Change::Put(Row::Count {
+        counter: Counter::Serial,
+        last: request.serial,
+    })
+}
 
 /// The row of a kept reply.
-pub fn reply_row(request: &Request, reply: CommandResponse) -> Result<Change, AllocError>
-    ensures { IfOk result (λ x. x ≡ Change.Put (Row.Reply request.now.provider request.now.number reply)) }
+pub fn reply_row(request: &Request, reply: CommandResponse) -> Change
+    ensures { result ≡ Change.Put (Row.Reply request.now.provider request.now.number reply) }
 {
-    let provider = request.provider.copy()?;
-    Ok(Change::Put(Row::Reply {
-        provider,
+    Change::Put(Row::Reply {
+        provider: request.provider,
         number: request.number,
         body: reply,
-    }))
+    })
 }
 
 /// The row of an open start.
-fn pending_row(request: &Request, start: &OpenStart) -> Result<Change, AllocError>
-    ensures { IfOk result (λ x. x ≡ Change.Put (Row.Pending request.now.provider request.now.number start.now.command start.now.place start.now.deadline)) }
+pub fn pending_row(request: &Request, start: OpenStart) -> Change
+    ensures { result ≡ Change.Put (Row.Pending request.now.provider request.now.number start.command start.place start.deadline) }
 {
-    let provider = request.provider.copy()?;
-    let place = start.place.copy()?;
-    let command = start.command.copy()?;
-    Ok(Change::Put(Row::Pending {
-        provider,
+    Change::Put(Row::Pending {
+        provider: request.provider,
         number: request.number,
-        command,
-        place,
+        command: start.command,
+        place: start.place,
         deadline: start.deadline,
-    }))
+    })
 }
 
-/// The row of a reference that is spent, where there is one.
-fn push_spent_row(
+/// Adds the row of a reference that is spent, where there is one.
+pub fn push_spent_row(
     rows: &mut Vec<Change>,
-    provider: &Party,
-    reference: &Option<Ci<36>>,
+    request: &Request,
+    reference: Option<CiText<36>>,
 ) -> Result<(), AllocError>
-    ensures { OnOk result (rows.new.items ≡ rows.old.items ++ spent_rows provider.now reference.now) }
+    ensures { OnOk result (rows.new.items ≡ rows.old.items ++ spent_rows request.now.provider reference) }
 {
     let Some(reference) = reference else {
         return Ok(());
     };
-    let provider = provider.copy()?;
-    let reference = reference.copy()?.key();
     rows.push(Change::Put(Row::Spent {
-        provider,
-        reference,
+        provider: request.provider,
+        reference: reference.key(),
     }))?;
     Ok(())
 }
 
-/// The rows of a start that is opened.
-pub fn push_start_rows(
-    rows: &mut Vec<Change>,
-    request: &Request,
-    start: &OpenStart,
-) -> Result<(), AllocError>
-    ensures { OnOk result (rows.new.items ≡ (rows.old.items ++ Change.Put (Row.Pending request.now.provider request.now.number start.now.command start.now.place start.now.deadline) ∷ []) ++ spent_rows request.now.provider start.now.command.authorization_reference) }
+/// Equal changes, in order.
+pub fn copies(alloc: Global, changes: &[Change]) -> Result<Vec<Change>, AllocError>
+    ensures { IfOk result (λ v. v.items ≡ changes.now) }
 {
-    let row = pending_row(request, start)?;
-    rows.push(row)?;
-    push_spent_row(
-        rows,
-        &request.provider,
-        &start.command.authorization_reference,
-    )
+    let mut copies = Vec::with_capacity(alloc, changes.len())?;
+    for change in changes {
+        copies.push(change.copy()?)?;
+    }
+    Ok(copies)
 }
