@@ -4,21 +4,19 @@
 ghost use Rattle.std.specs.Prelude.{◌≡◌, IfOk};
 
 use crate::copies::{ListItem, copy_all};
-use crate::free::Free;
 use crate::parties::Parties;
 use crate::price::PricePerKwh;
-use crate::texts::Ci;
-use ocpi_text::Moment;
+use ocpi_text::{CiText, FreeText, Moment};
 use std::alloc::AllocError;
 use std::marker::Model;
 
 /// A connector of an EVSE.
 #[derive(Drop)]
 pub struct Connector {
-    pub id: Ci<36>,
-    pub standard: Free<64>,
-    pub format: Free<64>,
-    pub power_type: Free<64>,
+    pub id: CiText<36>,
+    pub standard: FreeText<64>,
+    pub format: FreeText<64>,
+    pub power_type: FreeText<64>,
 }
 
 impl ListItem for Connector {
@@ -33,7 +31,7 @@ impl Connector {
         ensures { IfOk result (λ t. t ≡ self.now) }
     {
         Ok(Connector {
-            id: self.id.copy()?,
+            id: self.id,
             standard: self.standard.copy()?,
             format: self.format.copy()?,
             power_type: self.power_type.copy()?,
@@ -90,8 +88,8 @@ impl Connectors {
 /// An EVSE: what serves one session at a time.
 #[derive(Drop)]
 pub struct Evse {
-    pub uid: Ci<36>,
-    pub evse_id: Ci<48>,
+    pub uid: CiText<36>,
+    pub evse_id: CiText<48>,
     pub connectors: Connectors,
 }
 
@@ -107,8 +105,8 @@ impl Evse {
         ensures { IfOk result (λ t. t ≡ self.now) }
     {
         Ok(Evse {
-            uid: self.uid.copy()?,
-            evse_id: self.evse_id.copy()?,
+            uid: self.uid,
+            evse_id: self.evse_id,
             connectors: self.connectors.copy()?,
         })
     }
@@ -164,12 +162,12 @@ impl Evses {
 /// A location: EVSEs at one address.
 #[derive(Drop)]
 pub struct Location {
-    pub id: Ci<36>,
-    pub address: Free<45>,
-    pub city: Free<45>,
-    pub country: Free<3>,
-    pub latitude: Free<10>,
-    pub longitude: Free<11>,
+    pub id: CiText<36>,
+    pub address: FreeText<45>,
+    pub city: FreeText<45>,
+    pub country: FreeText<3>,
+    pub latitude: FreeText<10>,
+    pub longitude: FreeText<11>,
     pub evses: Evses,
 }
 
@@ -246,7 +244,7 @@ impl Locations {
 /// What an operator configures: the currency and price of its sessions, and its locations.
 #[derive(Drop)]
 pub struct Site {
-    pub currency: Free<3>,
+    pub currency: FreeText<3>,
     pub price: PricePerKwh,
     pub locations: Locations,
 }
