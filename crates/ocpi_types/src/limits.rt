@@ -6,7 +6,7 @@ use ocpi_text::Whole;
 use std::marker::Model;
 
 /// A status code from 1001 to 9999: of a reply without data (OCPI 2.2.1, Transport and format: Status codes).
-#[derive(Clone, Copy, Debug, PartialEq, Eq)]
+#[derive(Clone, Copy)]
 pub struct RefusalCode {
     code: u64,
 }

@@ -2,24 +2,22 @@
 
 ghost use Rattle.std.specs.Prelude.{◌≡◌, IfOk};
 
-use crate::free::Free;
 use crate::limits::RefusalCode;
-use crate::texts::{Ci, copy_some};
 use crate::token::Token;
 use crate::words::CommandResponseType;
-use ocpi_text::{Moment, Party, Whole};
+use ocpi_text::{CiText, FreeText, Moment, Party, Whole};
 use std::alloc::AllocError;
 
 /// A START_SESSION: a provider asks an operator to start a session for a token.
 #[derive(Drop)]
 pub struct StartSession {
-    pub response_url: Free<255>,
+    pub response_url: FreeText<255>,
     pub token: Token,
-    pub location_id: Ci<36>,
+    pub location_id: CiText<36>,
     /// Where it is absent, the operator picks an EVSE of the location.
-    pub evse_uid: Option<Ci<36>>,
-    pub connector_id: Option<Ci<36>>,
-    pub authorization_reference: Option<Ci<36>>,
+    pub evse_uid: Option<CiText<36>>,
+    pub connector_id: Option<CiText<36>>,
+    pub authorization_reference: Option<CiText<36>>,
 }
 
 impl StartSession {
@@ -29,24 +27,24 @@ impl StartSession {
     {
         Ok(StartSession {
             response_url: self.response_url.copy()?,
-            token: self.token.copy()?,
-            location_id: self.location_id.copy()?,
-            evse_uid: copy_some(&self.evse_uid)?,
-            connector_id: copy_some(&self.connector_id)?,
-            authorization_reference: copy_some(&self.authorization_reference)?,
+            token: self.token,
+            location_id: self.location_id,
+            evse_uid: self.evse_uid,
+            connector_id: self.connector_id,
+            authorization_reference: self.authorization_reference,
         })
     }
 }
 
 /// What a command is answered: whether it is taken up, and within how many seconds its result follows.
-#[derive(Clone, Copy, Debug, PartialEq, Eq)]
+#[derive(Clone, Copy)]
 pub struct ResponseData {
     pub result: CommandResponseType,
     pub timeout: Whole,
 }
 
 /// The reply to a command.
-#[derive(Clone, Copy, Debug, PartialEq, Eq)]
+#[derive(Clone, Copy)]
 pub enum CommandResponse {
     /// Status 1000.
     Done {
@@ -97,8 +95,8 @@ impl Packet {
         ensures { IfOk result (λ t. t ≡ self.now) }
     {
         Ok(Packet {
-            from: self.from.copy()?,
-            to: self.to.copy()?,
+            from: self.from,
+            to: self.to,
             serial: self.serial,
             request: self.request,
             body: self.body.copy()?,

@@ -1,8 +1,10 @@
 //! The parties of a site.
 
-ghost use Rattle.std.specs.Prelude.{◌≡◌, IfOk};
+ghost use Rattle.std.specs.Prelude.{◌≡◌, IfOk, SomeIff};
+ghost use Rattle.ocpi_text.specs.Text.{key};
 ghost use Rattle.ocpi_types.specs.Parties.{SiteParties, AreParties};
 
+use crate::apart::{Identified, differ_from};
 use crate::copies::{ListItem, copy_all};
 use ocpi_text::Party;
 use std::alloc::AllocError;
@@ -10,7 +12,15 @@ use std::marker::Model;
 
 impl ListItem for Party {
     fn item_copy(&self) -> Result<Party, AllocError> {
-        self.copy()
+        Ok(*self)
+    }
+}
+
+impl Identified for Party {
+    ghost id_key = { key };
+
+    fn is_same(&self, other: &Party) -> bool {
+        self.is_same(other)
     }
 }
 
@@ -32,14 +42,17 @@ impl Model for Parties {
 }
 
 impl Parties {
-    /// The operator and its providers.
-    pub fn new(operator: Party, providers: Vec<Party>) -> Parties
-        requires { AreParties (record { operator = operator; providers = providers.items }) }
-        ensures { result ≡ record { operator = operator; providers = providers.items } }
+    /// The operator and its providers. None, where the providers are more than 63, or two of all these are the same party.
+    pub fn new(operator: Party, providers: Vec<Party>) -> Option<Parties>
+        ensures { SomeIff result (AreParties (record { operator = operator; providers = providers.items })) (record { operator = operator; providers = providers.items }) }
     {
-        Parties {
-            operator,
-            providers,
+        if providers.len() <= 63 && differ_from(&[operator], providers.as_slice()) {
+            Some(Parties {
+                operator,
+                providers,
+            })
+        } else {
+            None
         }
     }
 
@@ -62,10 +75,9 @@ impl Parties {
     pub fn copy(&self) -> Result<Parties, AllocError>
         ensures { IfOk result (λ t. t ≡ self.now) }
     {
-        let operator = self.operator.copy()?;
         let providers = copy_all(*self.providers.allocator(), self.providers.as_slice())?;
         Ok(Parties {
-            operator,
+            operator: self.operator,
             providers,
         })
     }

@@ -7,7 +7,7 @@ use ocpi_text::E4;
 use std::marker::Model;
 
 /// A price per kWh without tax, from 0.0000 to 10,000.0000.
-#[derive(Clone, Copy, Debug, PartialEq, Eq)]
+#[derive(Clone, Copy)]
 pub struct PricePerKwh {
     price: E4,
 }

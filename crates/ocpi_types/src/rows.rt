@@ -9,12 +9,11 @@ ghost use Rattle.std.specs.Prelude.{◌≡◌, IfOk};
 ghost use Rattle.ocpi_types.specs.Rows.{counter_name};
 
 use crate::packet::{CommandResponse, StartSession};
-use crate::texts::Ci;
-use ocpi_text::{Moment, Party, Whole};
+use ocpi_text::{CiText, Moment, Party, Whole};
 use std::alloc::AllocError;
 
 /// What a node numbers, each kind by a counter of its own.
-#[derive(Clone, Copy, Debug, PartialEq, Eq)]
+#[derive(Clone, Copy)]
 pub enum Counter {
     /// The packets that it sends.
     Serial,
@@ -44,22 +43,10 @@ impl Counter {
 }
 
 /// The EVSE and the connector that a start took.
-#[derive(Drop)]
+#[derive(Clone, Copy)]
 pub struct Place {
-    pub evse_uid: Ci<36>,
-    pub connector_id: Ci<36>,
-}
-
-impl Place {
-    /// An equal place.
-    pub fn copy(&self) -> Result<Place, AllocError>
-        ensures { IfOk result (λ t. t ≡ self.now) }
-    {
-        Ok(Place {
-            evse_uid: self.evse_uid.copy()?,
-            connector_id: self.connector_id.copy()?,
-        })
-    }
+    pub evse_uid: CiText<36>,
+    pub connector_id: CiText<36>,
 }
 
 /// A row.
@@ -84,7 +71,7 @@ pub enum Row {
         /// In key form.
         provider: Party,
         /// In key form.
-        reference: Ci<36>,
+        reference: CiText<36>,
     },
     /// Kind `pending`, under `PARTY/NUMBER`: a start of that number of that provider that was taken up and has no result
     /// yet (OCPI 2.2.1, Commands: StartSession).
@@ -114,7 +101,7 @@ impl Row {
                 number,
                 body,
             } => Ok(Row::Reply {
-                provider: provider.copy()?,
+                provider: *provider,
                 number: *number,
                 body: *body,
             }),
@@ -122,8 +109,8 @@ impl Row {
                 provider,
                 reference,
             } => Ok(Row::Spent {
-                provider: provider.copy()?,
-                reference: reference.copy()?,
+                provider: *provider,
+                reference: *reference,
             }),
             Row::Pending {
                 provider,
@@ -132,10 +119,10 @@ impl Row {
                 place,
                 deadline,
             } => Ok(Row::Pending {
-                provider: provider.copy()?,
+                provider: *provider,
                 number: *number,
                 command: command.copy()?,
-                place: place.copy()?,
+                place: *place,
                 deadline: *deadline,
             }),
         }
@@ -143,7 +130,7 @@ impl Row {
 }
 
 /// The kind and the key of a row.
-#[derive(Drop)]
+#[derive(Clone, Copy)]
 pub enum RowKey {
     Count {
         counter: Counter,
@@ -157,39 +144,13 @@ pub enum RowKey {
         /// In key form.
         provider: Party,
         /// In key form.
-        reference: Ci<36>,
+        reference: CiText<36>,
     },
     Pending {
         /// In key form.
         provider: Party,
         number: Whole,
     },
-}
-
-impl RowKey {
-    /// An equal key.
-    pub fn copy(&self) -> Result<RowKey, AllocError>
-        ensures { IfOk result (λ t. t ≡ self.now) }
-    {
-        match self {
-            RowKey::Count { counter } => Ok(RowKey::Count { counter: *counter }),
-            RowKey::Reply { provider, number } => Ok(RowKey::Reply {
-                provider: provider.copy()?,
-                number: *number,
-            }),
-            RowKey::Spent {
-                provider,
-                reference,
-            } => Ok(RowKey::Spent {
-                provider: provider.copy()?,
-                reference: reference.copy()?,
-            }),
-            RowKey::Pending { provider, number } => Ok(RowKey::Pending {
-                provider: provider.copy()?,
-                number: *number,
-            }),
-        }
-    }
 }
 
 /// A change of what is stored.
@@ -208,7 +169,7 @@ impl Change {
     {
         match self {
             Change::Put(row) => Ok(Change::Put(row.copy()?)),
-            Change::Drop(key) => Ok(Change::Drop(key.copy()?)),
+            Change::Drop(key) => Ok(Change::Drop(*key)),
         }
     }
 }

@@ -21,7 +21,7 @@ pub trait Word: Drop {
 }
 
 /// The type of a token.
-#[derive(Clone, Copy, Debug, PartialEq, Eq)]
+#[derive(Clone, Copy)]
 pub enum TokenType {
     AdHocUser,
     AppUser,
@@ -55,7 +55,7 @@ impl Word for TokenType {
 }
 
 /// When a token may be used without asking the provider.
-#[derive(Clone, Copy, Debug, PartialEq, Eq)]
+#[derive(Clone, Copy)]
 pub enum WhitelistType {
     Always,
     Allowed,
@@ -89,7 +89,7 @@ impl Word for WhitelistType {
 }
 
 /// What an operator answers to a command, before it is carried out.
-#[derive(Clone, Copy, Debug, PartialEq, Eq)]
+#[derive(Clone, Copy)]
 pub enum CommandResponseType {
     NotSupported,
     Rejected,

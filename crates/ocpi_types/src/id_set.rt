@@ -1,0 +1,57 @@
+//! Sets of ids.
+
+ghost use Rattle.std.specs.Prelude.{◌≡◌, false, not, IfOk, OnOk, OnErr};
+ghost use Rattle.std.specs.FinSet as set;
+ghost use Rattle.ocpi_text.specs.Text.{key};
+
+use ocpi_text::CiText;
+use std::alloc::{AllocError, Global};
+use std::collections::BTreeSet;
+use std::marker::Model;
+
+/// A set of ids of at most `MAX` characters, which are compared without case.
+#[derive(Drop)]
+pub struct IdSet<const MAX: usize> {
+    keys: BTreeSet<CiText<MAX>>,
+}
+
+impl<const MAX: usize> Model for IdSet<MAX> {
+    ghost use Rattle.std.specs.FinSet as set;
+    ghost use Rattle.std.specs.Coded.{coded_ℕ, coded_list};
+    ghost use Rattle.std.specs.Ordering.{nat_cmp};
+    ghost use Rattle.std.specs.Cmp.Lexicographic.{slice_cmp};
+
+    ghost Value = { set.FinSet (slice_cmp nat_cmp) };
+
+    ghost coded = { set.code (coded_list coded_ℕ) };
+
+    ghost view = { λ s. set.from_list s.keys.keys };
+}
+
+impl<const MAX: usize> IdSet<MAX> {
+    /// A set without ids. It takes no memory.
+    pub fn new(alloc: Global) -> IdSet<MAX>
+        ensures { result ≡ set.empty }
+    {
+        IdSet {
+            keys: BTreeSet::new(alloc),
+        }
+    }
+
+    /// Whether the set has an id.
+    pub fn contains(&self, id: &CiText<MAX>) -> bool
+        ensures { result ≡ set.contains self.now (key id.now) }
+    {
+        self.keys.contains(&id.key())
+    }
+
+    /// Adds an id, and answers whether it is new. An error is want of memory for a new id, and leaves the set as it was.
+    pub fn insert(&mut self, id: &CiText<MAX>) -> Result<bool, AllocError>
+        ensures added { IfOk result (λ added. added ≡ not (set.contains self.old (key id.now))) }
+        ensures after { OnOk result (self.new ≡ set.insert self.old (key id.now)) }
+        ensures err { OnErr result (self.new ≡ self.old) }
+        ensures absent { OnErr result (set.contains self.old (key id.now) ≡ false) }
+    {
+        Ok(self.keys.insert(id.key())?)
+    }
+}
