@@ -1,6 +1,7 @@
 pub mod Fault
 pub mod FaultText
 pub mod Text
+pub mod Cells
 pub mod Party
 pub mod Digits
 pub mod Calendar

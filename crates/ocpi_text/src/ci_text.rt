@@ -1,110 +1,149 @@
-//! Texts that are compared without case (OCPI 2.2.1, Types: CiString).
+//! Texts of a limited length that are compared without case (OCPI 2.2.1, Types: CiString).
 
-ghost use Rattle.std.specs.Prelude.{◌≡◌, ◌↔◌, ◌≤◌, length, true, IfOk, Ok, IsTrue, string_bytes};
-ghost use Rattle.std.specs.Str.{chars};
-ghost use Rattle.ocpi_text.specs.Fault.{Gives};
+ghost use Rattle.std.specs.Prelude.{◌≡◌, ◌↔◌, ◌≤◌, length, true, IfOk, IsTrue, Ok, Some, nat_eq, refl};
+ghost use Rattle.std.specs.Ordering.{nat_cmp};
+ghost use Rattle.std.specs.Cmp.{on_equiv, on_total, on_po, on_per, partial_equiv_from_equiv};
+ghost use Rattle.std.specs.Cmp.Lexicographic.{pointwise, slice_cmp, nat_list_eq_equiv, nat_list_cmp_total, texts_po, texts_ties};
 ghost use Rattle.ocpi_text.specs.Text.{ci_text, exact_text, is_ascii_text, key};
 
+use crate::cells::printable_cells;
+use crate::characters::char_count;
 use crate::fault::TextFault;
-use std::alloc::{AllocError, Global};
+use std::cmp::Ordering;
 use std::marker::Model;
+use std::str;
 
-/// A text of printable ASCII, from space to `~`, as it was spelled. It may be empty.
-#[derive(Drop)]
-pub struct CiText {
-    text: String,
+/// A text of at most `MAX` characters of printable ASCII, from space to `~`, as it was spelled: OCPI's CiString(MAX).
+/// It may be empty. It lies in the value itself and owns no memory.
+#[derive(Clone, Copy)]
+pub struct CiText<const MAX: usize> {
+    cells: [u8; MAX],
+    len: usize,
 }
 
-impl Model for CiText {
-    ghost use Rattle.std.specs.Prelude.{◌≡◌, List, ℕ, true, string_bytes};
-    ghost use Rattle.ocpi_text.specs.Text.{is_ascii_text};
+impl<const MAX: usize> Model for CiText<MAX> {
+    ghost use Rattle.std.specs.Prelude.{List, ℕ, length, take};
+    ghost use Rattle.ocpi_text.specs.Cells.{padded, IsCiText, given_back};
 
     ghost Value = { List ℕ };
 
-    ghost view = { λ t. string_bytes t.text };
+    ghost view = { λ t. take t.len t.cells };
 
-    ghost invariant = { λ t. is_ascii_text (string_bytes t.text) ≡ true };
+    ghost invariant = { λ t. IsCiText MAX t.cells t.len };
+
+    ghost inverse = { λ s. record { cells = padded MAX s; len = length s } };
+
+    ghost inverse_ok = { λ t h i. record {
+      cells = (given_back MAX t.cells t.len h.fits h.whole h.rest).0 i;
+      len = (given_back MAX t.cells t.len h.fits h.whole h.rest).1 i;
+    } };
 }
 
-#[tactic(auto, unfolding(crate::specs::Text::is_ascii_text))]
-fn is_printable_text(text: &str) -> bool
-    ensures { result ≡ is_ascii_text text.now }
-{
-    text.as_bytes().iter().all(|b| 32 <= *b && *b <= 126)
-}
-
-/// How many characters a text has.
-pub fn char_count(text: &str) -> usize
-    ensures { result ≡ length (chars text.now) }
-{
-    text.chars().count()
-}
-
-impl CiText {
-    /// The text, of at most `max` characters. Refused are a longer one (`TooLong`) and one with
-    /// another character than printable ASCII (`NotPrintable`).
-    pub fn new(alloc: Global, text: &str, max: usize) -> Result<CiText, TextFault>
-        ensures exact { Gives result (ci_text max text.now) }
-        ensures short { IfOk result (λ t. length t ≤ max) }
+impl<const MAX: usize> CiText<MAX> {
+    /// The text. Refused are one of more than `MAX` characters (`TooLong`) and one with another character than
+    /// printable ASCII (`NotPrintable`).
+    pub fn new(text: &str) -> Result<CiText<MAX>, TextFault>
+        ensures exact { result ≡ ci_text MAX text.now }
     {
-        if char_count(text) > max {
-            return Err(TextFault::TooLong);
-        }
-        if !is_printable_text(text) {
-            return Err(TextFault::NotPrintable);
-        }
-        let text = String::from_str(alloc, text)?;
-        Ok(CiText { text })
+        let Some(cells) = printable_cells(text) else {
+            return Err(if char_count(text) > MAX {
+                TextFault::TooLong
+            } else {
+                TextFault::NotPrintable
+            });
+        };
+        Ok(CiText {
+            cells,
+            len: text.len(),
+        })
     }
 
-    /// The text, of exactly `count` characters. Refused are one of another length (`TooLong`) and one with
+    /// The text, of exactly `MAX` characters. Refused are one of another length (`TooLong`) and one with
     /// another character than printable ASCII (`NotPrintable`).
-    pub fn exact(alloc: Global, text: &str, count: usize) -> Result<CiText, TextFault>
-        ensures exact { Gives result (exact_text count text.now) }
-        ensures again { IfOk result (λ t. exact_text count t ≡ Ok t) }
+    pub fn exact(text: &str) -> Result<CiText<MAX>, TextFault>
+        ensures exact { result ≡ exact_text MAX text.now }
+        ensures again { IfOk result (λ t. exact_text MAX t ≡ Ok t) }
     {
-        if char_count(text) != count {
+        if char_count(text) != MAX {
             return Err(TextFault::TooLong);
         }
-        CiText::new(alloc, text, count)
+        CiText::new(text)
     }
 
-    /// The text that a printable one is.
-    pub(crate) fn of_printable(text: String) -> CiText
-        requires { is_ascii_text (string_bytes text) ≡ true }
-        ensures { result ≡ string_bytes text }
+    /// The text that fills its cells.
+    pub(crate) fn of_cells(cells: [u8; MAX]) -> CiText<MAX>
+        requires full { length cells ≡ MAX }
+        requires printable { is_ascii_text cells ≡ true }
+        ensures { result ≡ cells.entry }
     {
-        CiText { text }
+        CiText { cells, len: MAX }
     }
 
     /// The text as it is spelled.
     pub fn as_str(&self) -> &str
         ensures value { result.now ≡ self.now }
         ensures printable { is_ascii_text self.now ≡ true }
+        ensures short { length self.now ≤ MAX }
     {
-        self.text.as_str()
+        unsafe { str::from_utf8_unchecked(&self.cells[..self.len]) }
     }
 
-    /// The text with `a` to `z` made `A` to `Z`, by which it is compared. It takes no memory.
-    pub fn key(mut self) -> CiText
-        ensures { result ≡ key self }
+    /// The text with `a` to `z` made `A` to `Z`, by which it is compared.
+    pub fn key(&self) -> CiText<MAX>
+        ensures { result ≡ key self.now }
     {
-        self.text.make_ascii_uppercase();
-        self
+        let mut cells = self.cells;
+        cells.make_ascii_uppercase();
+        CiText {
+            cells,
+            len: self.len,
+        }
     }
 
     /// Whether the two are the same text but for case.
-    pub fn is_same(&self, other: &CiText) -> bool
+    pub fn is_same(&self, other: &CiText<MAX>) -> bool
         ensures { IsTrue result ↔ (key self.now ≡ key other.now) }
     {
-        self.text.as_str().eq_ignore_ascii_case(other.as_str())
+        self.as_str().eq_ignore_ascii_case(other.as_str())
     }
+}
 
-    /// An equal text.
-    pub fn copy(&self) -> Result<CiText, AllocError>
-        ensures { IfOk result (λ t. t ≡ self.now) }
-    {
-        let text = self.text.clone()?;
-        Ok(CiText { text })
+/// As spelled.
+impl<const MAX: usize> PartialEq for CiText<MAX> {
+    ghost eq = { λ s t. pointwise nat_eq s t };
+
+    ghost laws = { partial_equiv_from_equiv nat_list_eq_equiv };
+
+    fn eq(&self, other: &Self) -> bool {
+        self.as_str() == other.as_str()
+    }
+}
+
+impl<const MAX: usize> Eq for CiText<MAX> {
+    ghost laws = { nat_list_eq_equiv };
+}
+
+impl<const MAX: usize> PartialOrd for CiText<MAX> {
+    ghost partial_cmp = { λ s t. Some (slice_cmp nat_cmp s t) };
+
+    ghost laws = { texts_po };
+
+    fn partial_cmp(&self, other: &Self) -> Option<Ordering> {
+        Some(self.cmp(other))
+    }
+}
+
+/// By bytes, as spelled.
+impl<const MAX: usize> Ord for CiText<MAX> {
+    ghost cmp = { λ s t. slice_cmp nat_cmp s t };
+
+    ghost total = { nat_list_cmp_total };
+
+    ghost matches_partial_cmp = { λ s t. refl };
+
+    ghost matches_eq = { λ s t. texts_ties s t };
+
+    fn cmp(&self, other: &Self) -> Ordering {
+        self.as_str().cmp(other.as_str())
     }
 }

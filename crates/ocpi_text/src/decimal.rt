@@ -5,7 +5,6 @@ ghost use Rattle.std.specs.Char.{is_ascii_digit};
 ghost use Rattle.std.specs.Int.{is_negative};
 ghost use Rattle.std.specs.List.{list_all};
 ghost use Rattle.std.specs.Str.Parse.{digits_value};
-ghost use Rattle.ocpi_text.specs.Fault.{Gives};
 ghost use Rattle.ocpi_text.specs.Decimal.{SpellsE4, e4_at, e4_text, e4_limit, without_sign, whole_part, after_whole, is_whole_part, is_fraction_part, is_number, has_minus, sign_text, four_decimals, magnitude};
 ghost use Rattle.ocpi_text.specs.declared.fault.TextFault.TheVariants.{BadNumber, NumberTooLarge};
 
@@ -166,7 +165,7 @@ impl E4 {
     /// The number that a JSON number token without exponent spells; decimals after the fourth are cut
     /// towards zero. Refused are another text (`BadNumber`) and a number beyond the limit (`NumberTooLarge`).
     pub fn read(text: &str) -> Result<E4, TextFault>
-        ensures exact { Gives result (e4_at text.now) }
+        ensures exact { result ≡ e4_at text.now }
         ensures found { IfOk result (λ e. SpellsE4 text.now e) }
         ensures only { (z : ℤ) → SpellsE4 text.now z → unsigned_abs z < e4_limit → result ≡ Ok z }
         ensures large { (z : ℤ) → SpellsE4 text.now z → e4_limit ≤ unsigned_abs z → result ≡ Err NumberTooLarge }
@@ -186,7 +185,7 @@ impl E4 {
         }
     }
 
-    /// The number with four decimals, which `read` takes for the same number.
+    /// The number with four decimals, which `read` takes for the same number. Fails for want of memory alone.
     #[tactic(auto, unfolding(crate::specs::Decimal::e4_text, crate::specs::Decimal::unsigned_text))]
     pub fn write(self, alloc: Global) -> Result<String, AllocError>
         ensures value { IfOk result (λ s. string_bytes s ≡ e4_text self) }

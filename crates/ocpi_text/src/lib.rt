@@ -2,6 +2,8 @@
 #![tactic(auto)]
 
 mod calendar;
+mod cells;
+mod characters;
 mod ci_text;
 mod clock;
 mod decimal;
@@ -11,14 +13,12 @@ mod laws;
 mod moment;
 mod numeral;
 mod party;
-#[cfg(test)]
-mod tests;
 mod whole;
 
 pub use ci_text::CiText;
 pub use decimal::E4;
 pub use fault::TextFault;
-pub use free_text::FreeText;
+pub use free_text::{FreeText, ShortText};
 pub use laws::{keys_are_texts, parties_are_their_halves, texts_are_read_back};
 pub use moment::Moment;
 pub use party::Party;

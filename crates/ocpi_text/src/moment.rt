@@ -1,7 +1,6 @@
 //! Moments (OCPI 2.2.1, Types: DateTime).
 
 ghost use Rattle.std.specs.Prelude.{◌≡◌, ℕ, ◌+◌, ◌++◌, ◌<◌, ◌≤◌, length, min, true, IfOk, IfErr, IfSome, Ok, OnOk, string_bytes};
-ghost use Rattle.ocpi_text.specs.Fault.{Gives};
 ghost use Rattle.ocpi_text.specs.Moment.{is_date_form, is_clock_form, is_on_clock, is_moment_form, day_at, clock_at, moment_at, moment_text, SpellsMoment, date_text, clock_text, fraction_text, last_moment};
 ghost use Rattle.ocpi_text.specs.declared.fault.TextFault.TheVariants.{BadMoment};
 
@@ -13,7 +12,7 @@ use std::alloc::{AllocError, Global};
 use std::marker::Model;
 
 /// Milliseconds from 1970-01-01 to 9999-12-31T23:59:59.999 UTC.
-#[derive(Clone, Copy, Debug, PartialEq, Eq)]
+#[derive(Clone, Copy, Debug, PartialEq, Eq, PartialOrd, Ord)]
 pub struct Moment {
     millis: u64,
 }
@@ -162,7 +161,7 @@ impl Moment {
     /// `-00:00`. Refused are any other text, a day that the calendar lacks or that lies before 1970, hour 24
     /// and second 60 (`BadMoment`).
     pub fn read(text: &str) -> Result<Moment, TextFault>
-        ensures exact { Gives result (moment_at text.now) }
+        ensures exact { result ≡ moment_at text.now }
         ensures found { IfOk result (λ m. SpellsMoment text.now m) }
         ensures only { (n : ℕ) → SpellsMoment text.now n → result ≡ Ok n }
         ensures fault { IfErr result (λ e. e ≡ BadMoment) }
@@ -189,7 +188,7 @@ impl Moment {
     }
 
     /// The moment's text, which `read` takes for the same moment: as `2025-01-01T10:00:00.123Z`, without a
-    /// fraction where the second is whole.
+    /// fraction where the second is whole. Fails for want of memory alone.
     #[tactic(auto, unfolding(crate::specs::Moment::moment_text))]
     pub fn write(self, alloc: Global) -> Result<String, AllocError>
         ensures value { IfOk result (λ s. string_bytes s ≡ moment_text self) }

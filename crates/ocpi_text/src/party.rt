@@ -1,20 +1,23 @@
 //! Parties (OCPI 2.2.1, Credentials: country_code and party_id).
 
-ghost use Rattle.std.specs.Prelude.{◌≡◌, ◌↔◌, ◌==◌, ◌&&◌, slice_index, length, IfOk, IsTrue, Ok, string_bytes};
-ghost use Rattle.std.specs.Str.{chars};
-ghost use Rattle.ocpi_text.specs.Fault.{Gives};
+ghost use Rattle.std.specs.Prelude.{◌≡◌, ◌↔◌, length, IfOk, IsTrue, Ok, Some, nat_eq, refl, string_bytes};
+ghost use Rattle.std.specs.Ordering.{nat_cmp};
+ghost use Rattle.std.specs.Cmp.{partial_equiv_from_equiv};
+ghost use Rattle.std.specs.Cmp.Lexicographic.{pointwise, slice_cmp, nat_list_eq_equiv, nat_list_cmp_total, texts_po, texts_ties};
 ghost use Rattle.ocpi_text.specs.Text.{key};
 ghost use Rattle.ocpi_text.specs.Party.{party_at, is_party_shape, country_at, party_id_at, country_of, party_id_of, party_of};
 
-use crate::ci_text::{CiText, char_count};
+use crate::characters::char_count;
+use crate::ci_text::CiText;
 use crate::fault::TextFault;
 use std::alloc::{AllocError, Global};
+use std::cmp::Ordering;
 use std::marker::Model;
 
 /// A party, as it was spelled: a country of two characters, a stroke, and a party id of three, as `BE/BEC`.
-#[derive(Drop)]
+#[derive(Clone, Copy)]
 pub struct Party {
-    text: CiText,
+    text: CiText<6>,
 }
 
 impl Model for Party {
@@ -26,6 +29,8 @@ impl Model for Party {
     ghost view = { λ p. p.text };
 
     ghost invariant = { λ p. party_at p.text ≡ Ok p.text };
+
+    ghost inverse = { λ s. record { text = s } };
 }
 
 fn has_party_shape(text: &str) -> bool
@@ -37,28 +42,25 @@ fn has_party_shape(text: &str) -> bool
 impl Party {
     /// The party that a text spells. Refused are a text of another shape (`TooLong`) and one with
     /// another character than printable ASCII (`NotPrintable`).
-    pub fn read(alloc: Global, text: &str) -> Result<Party, TextFault>
-        ensures { Gives result (party_at text.now) }
+    pub fn read(text: &str) -> Result<Party, TextFault>
+        ensures { result ≡ party_at text.now }
     {
         if !has_party_shape(text) {
             return Err(TextFault::TooLong);
         }
-        let text = CiText::new(alloc, text, 6)?;
+        let text = CiText::new(text)?;
         Ok(Party { text })
     }
 
     /// The party of a country and a party id.
-    pub fn join(alloc: Global, country: &CiText, party_id: &CiText) -> Result<Party, AllocError>
-        requires country { country_at country.now ≡ Ok country.now }
-        requires party_id { party_id_at party_id.now ≡ Ok party_id.now }
-        ensures { IfOk result (λ p. p ≡ party_of country.now party_id.now) }
+    pub fn join(country: CiText<2>, party_id: CiText<3>) -> Party
+        requires country { country_at country ≡ Ok country }
+        requires party_id { party_id_at party_id ≡ Ok party_id }
+        ensures { result ≡ party_of country party_id }
     {
-        let mut text = String::with_capacity(alloc, 6)?;
-        text.push_str(country.as_str())?;
-        text.push('/')?;
-        text.push_str(party_id.as_str())?;
-        let text = CiText::of_printable(text);
-        Ok(Party { text })
+        let cells = joined(country.as_str().as_bytes(), party_id.as_str().as_bytes());
+        let text = CiText::of_cells(cells);
+        Party { text }
     }
 
     /// The country, of two characters.
@@ -85,7 +87,7 @@ impl Party {
         self.text.as_str()
     }
 
-    /// The party's text, which `read` takes for the same party.
+    /// The party's text, which `read` takes for the same party. Fails for want of memory alone.
     pub fn write(&self, alloc: Global) -> Result<String, AllocError>
         ensures value { IfOk result (λ s. string_bytes s ≡ self.now) }
         ensures again { IfOk result (λ s. party_at (string_bytes s) ≡ Ok self.now) }
@@ -93,12 +95,13 @@ impl Party {
         String::from_str(alloc, self.as_str())
     }
 
-    /// The party with `a` to `z` made `A` to `Z`, by which it is compared. It takes no memory.
-    pub fn key(self) -> Party
-        ensures { result ≡ key self }
+    /// The party with `a` to `z` made `A` to `Z`, by which it is compared.
+    pub fn key(&self) -> Party
+        ensures { result ≡ key self.now }
     {
-        let Party { text } = self;
-        Party { text: text.key() }
+        Party {
+            text: self.text.key(),
+        }
     }
 
     /// Whether the two are the same party, compared without case.
@@ -107,12 +110,60 @@ impl Party {
     {
         self.text.is_same(&other.text)
     }
+}
 
-    /// An equal party.
-    pub fn copy(&self) -> Result<Party, AllocError>
-        ensures { IfOk result (λ t. t ≡ self.now) }
-    {
-        let text = self.text.copy()?;
-        Ok(Party { text })
+/// The bytes of a party by those of its halves.
+fn joined(country: &[u8], party_id: &[u8]) -> [u8; 6]
+    requires country { length country.now ≡ 2 }
+    requires party_id { length party_id.now ≡ 3 }
+    ensures { result ≡ party_of country.now party_id.now }
+{
+    [
+        country[0],
+        country[1],
+        b'/',
+        party_id[0],
+        party_id[1],
+        party_id[2],
+    ]
+}
+
+/// As spelled.
+impl PartialEq for Party {
+    ghost eq = { λ s t. pointwise nat_eq s t };
+
+    ghost laws = { partial_equiv_from_equiv nat_list_eq_equiv };
+
+    fn eq(&self, other: &Self) -> bool {
+        self.text == other.text
+    }
+}
+
+impl Eq for Party {
+    ghost laws = { nat_list_eq_equiv };
+}
+
+impl PartialOrd for Party {
+    ghost partial_cmp = { λ s t. Some (slice_cmp nat_cmp s t) };
+
+    ghost laws = { texts_po };
+
+    fn partial_cmp(&self, other: &Self) -> Option<Ordering> {
+        Some(self.cmp(other))
+    }
+}
+
+/// By bytes, as spelled.
+impl Ord for Party {
+    ghost cmp = { λ s t. slice_cmp nat_cmp s t };
+
+    ghost total = { nat_list_cmp_total };
+
+    ghost matches_partial_cmp = { λ s t. refl };
+
+    ghost matches_eq = { λ s t. texts_ties s t };
+
+    fn cmp(&self, other: &Self) -> Ordering {
+        self.text.cmp(&other.text)
     }
 }
