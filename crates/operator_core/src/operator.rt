@@ -10,7 +10,6 @@ use crate::books::Books;
 use crate::claims::claim_all;
 use crate::decision::Decision;
 use crate::fault::OperatorFault;
-use crate::open_start::OpenStart;
 use crate::providers::find_provider;
 use crate::request::Request;
 use crate::rows::{copies, count_row, pending_row, push_spent_row, reply_row};
@@ -18,7 +17,7 @@ use crate::start::decide;
 use crate::stepped::Stepped;
 use ocpi_text::{Moment, Party, Whole};
 use ocpi_types::{
-    Body, CommandResponse, CommandResponseType, Packet, Parties, ResponseData, SiteLine,
+    Body, CommandResponse, CommandResponseType, Packet, Parties, Place, ResponseData, SiteLine,
     StartSession,
 };
 use site::Places;
@@ -92,8 +91,8 @@ impl Model for Operator {
 impl Operator {
     ghost use Rattle.operator_core.specs.State.{opening};
     ghost use Rattle.operator_core.specs.Start.{StartLine};
-    ghost use Rattle.operator_core.specs.Steps.{answer, started, IsTaken, OperatorStep};
-    ghost use Rattle.operator_core.specs.Moves.{keep_reply, open_start, spend};
+    ghost use Rattle.operator_core.specs.Steps.{answer, started, carried_out, IsTaken, OperatorStep};
+    ghost use Rattle.operator_core.specs.Moves.{keep_reply};
     ghost use Rattle.operator_core.specs.Requests.{IsRequest, out_of, planned};
     ghost use Rattle.operator_core.specs.Faults.{IsDue};
     ghost use Rattle.operator_core.specs.Claims.{KeepsClaims};
@@ -171,7 +170,7 @@ impl Operator {
             request: request.number,
             body: Body::CommandResponse(reply),
         };
-        vec![in self.alloc; packet]
+        Ok(vec![in self.alloc; packet]?)
     }
 
     /// The step that sends a kept reply again.
@@ -190,7 +189,8 @@ impl Operator {
         ensures { IfOk result (λ x. planned self.now x ≡ keep_reply request.now.provider request.now.number reply (answer request.now.from request.now.number reply self.now)) }
     {
         let packets = self.answer(request, reply)?;
-        let rows = vec![in self.alloc; count_row(request), reply_row(request, reply)]?;
+        let (count, kept) = (count_row(request), reply_row(request, reply));
+        let rows = vec![in self.alloc; count, kept]?;
         Ok(Stepped { rows, packets })
     }
 
@@ -199,16 +199,17 @@ impl Operator {
         &self,
         request: &Request,
         reply: CommandResponse,
-        start: OpenStart,
+        command: &StartSession,
+        place: Place,
     ) -> Result<Stepped, AllocError>
         requires { request.now.serial ≡ self.now.serial + 1 }
-        ensures { IfOk result (λ x. planned self.now x ≡ spend request.now.provider start.command.authorization_reference (open_start request.now.provider request.now.number start (keep_reply request.now.provider request.now.number reply (answer request.now.from request.now.number reply self.now)))) }
+        ensures { IfOk result (λ x. planned self.now x ≡ carried_out request.now.at request.now.provider request.now.number command.now (Decision.Accepted place) (keep_reply request.now.provider request.now.number reply (answer request.now.from request.now.number reply self.now))) }
     {
-        let reference = start.command.authorization_reference;
-        let pending = pending_row(request, start);
-        let mut rows =
-            vec![in self.alloc; count_row(request), reply_row(request, reply), pending]?;
-        push_spent_row(&mut rows, request, reference)?;
+        let deadline = request.at.after(1000 * TIMEOUT);
+        let pending = pending_row(request, command, place, deadline)?;
+        let (count, kept) = (count_row(request), reply_row(request, reply));
+        let mut rows = vec![in self.alloc; count, kept, pending]?;
+        push_spent_row(&mut rows, request, command.authorization_reference)?;
         let packets = self.answer(request, reply)?;
         Ok(Stepped { rows, packets })
     }
@@ -235,14 +236,7 @@ impl Operator {
         match decision {
             Decision::Refused(_) => self.refuse(request, reply),
             Decision::Rejected => self.refuse(request, reply),
-            Decision::Accepted(place) => {
-                let start = OpenStart {
-                    command: command.copy()?,
-                    place,
-                    deadline: request.at.after(1000 * TIMEOUT),
-                };
-                self.accept(request, reply, start)
-            }
+            Decision::Accepted(place) => self.accept(request, reply, command, place),
         }
     }
 

@@ -4,10 +4,9 @@ ghost use Rattle.std.specs.Prelude.{◌≡◌, ◌++◌, IfOk, OnOk};
 ghost use Rattle.ocpi_types.specs.declared.rows.Counter.{Counter as CounterOf};
 ghost use Rattle.operator_core.specs.Moves.{spent_rows};
 
-use crate::open_start::OpenStart;
 use crate::request::Request;
-use ocpi_text::CiText;
-use ocpi_types::{Change, CommandResponse, Counter, Row};
+use ocpi_text::{CiText, Moment};
+use ocpi_types::{Change, CommandResponse, Counter, Place, Row, StartSession};
 use std::alloc::{AllocError, Global};
 
 /// The row of the counter of packets.
@@ -31,17 +30,23 @@ pub fn reply_row(request: &Request, reply: CommandResponse) -> Change
     })
 }
 
-/// The row of an open start.
-pub fn pending_row(request: &Request, start: OpenStart) -> Change
-    ensures { result ≡ Change.Put (Row.Pending request.now.provider request.now.number start.command start.place start.deadline) }
+/// The row of a start that takes a place until a deadline.
+pub fn pending_row(
+    request: &Request,
+    command: &StartSession,
+    place: Place,
+    deadline: Moment,
+) -> Result<Change, AllocError>
+    ensures { IfOk result (λ x. x ≡ Change.Put (Row.Pending request.now.provider request.now.number command.now place deadline)) }
 {
-    Change::Put(Row::Pending {
+    let command = command.copy()?;
+    Ok(Change::Put(Row::Pending {
         provider: request.provider,
         number: request.number,
-        command: start.command,
-        place: start.place,
-        deadline: start.deadline,
-    })
+        command,
+        place,
+        deadline,
+    }))
 }
 
 /// Adds the row of a reference that is spent, where there is one.
