@@ -1,5 +1,5 @@
 -- A step whose changes of rows are carried out keeps what holds of an operator at any time.
-use Rattle.std.proofs.Common.{zero, suc, ◌≡◌, ℕ, List, [], ◌∷◌, ◌++◌, refl, sym, ap, subst, ◌∙◌}
+use Rattle.std.proofs.Common.{zero, suc, ◌≡◌, ℕ, ◌+◌, List, [], ◌∷◌, ◌++◌, refl, sym, ap, subst, ◌∙◌}
 use Rattle.std.specs.Prelude.{Option, Some, None, slice_get}
 use Rattle.std.specs.FinMap.{get}
 use Rattle.ocpi_text.specs.Text.{key}
@@ -12,8 +12,7 @@ use Rattle.ocpi_types.specs.declared.rows.Row.TheVariants as row
 use Rattle.ocpi_types.specs.declared.rows.Counter.TheVariants.{Serial}
 use Rattle.ocpi_types.specs.declared.rows.Change.{Change}
 use Rattle.ocpi_types.specs.declared.rows.Change.TheVariants.{Put}
-use Rattle.site.specs.Placed.{Claimed}
-use Rattle.site.specs.Places.{IsEvse}
+use Rattle.site.specs.Places.{Claimed, IsEvse}
 use Rattle.operator_core.specs.declared.open_start.OpenStart.{OpenStart}
 use Rattle.operator_core.specs.declared.decision.Decision.{Decision}
 use Rattle.operator_core.specs.declared.decision.Decision.TheVariants.{Refused, Rejected, Accepted}
@@ -84,6 +83,13 @@ spent_at_site : (site : Site) (p : List ℕ) (reference : Option (List ℕ)) →
 spent_at_site site p None = none_at_site site
 spent_at_site site p (Some x) = more_at_site site (Put (row.Spent p (key x))) [] tt (none_at_site site)
 
+-- the rows of the counter and of the reply, which come first
+counted_at_site : (site : Site) (n : ℕ) (cs : List Change) → AreAtSite site cs → AreAtSite site (Put (row.Count Serial n) ∷ cs)
+counted_at_site site n cs h = more_at_site site (Put (row.Count Serial n)) cs tt h
+
+replied_at_site : (site : Site) (p : List ℕ) (n : ℕ) (r : CommandResponse) (cs : List Change) → AreAtSite site cs → AreAtSite site (Put (row.Reply p n r) ∷ cs)
+replied_at_site site p n r cs h = more_at_site site (Put (row.Reply p n r)) cs tt h
+
 -- the place that a start takes is one of the site
 accepted_at_site : (site : Site) (spent : Spent) (starts : OpenStarts) (sender : List ℕ) (c : StartSession) (d : Decision) (place : Place) →
     StartLine site spent starts sender c d → d ≡ Accepted place → IsEvse site.locations (key place.evse_uid)
@@ -94,17 +100,21 @@ accepted_at_site site spent starts sender c d place (lines.Barred l a f j i b x)
 accepted_at_site site spent starts sender c d place (lines.Occupied l a f j i b n x) e = absurd (cc)
 accepted_at_site site spent starts sender c d place (lines.Taken l a f j i b free x) e =
     let same : record { evse_uid = f.uid; connector_id = j.id } ≡ place = cc in
-    subst (λ (z : Place). IsEvse site.locations (key z.evse_uid)) same ?evse
+    subst (λ (z : Place). IsEvse site.locations (key z.evse_uid)) same (record { location = l; evse = f; listed = a.location.listed; within = i.listed; same = refl })
 
 started_at_site : (s : State) (at : ℕ) (to p : List ℕ) (n : ℕ) (c : StartSession) (d : Decision) → ((place : Place) → d ≡ Accepted place → IsEvse s.site.locations (key place.evse_uid)) →
     AreAtSite s.site (started at to p n c d s).changes
-started_at_site s at to p n c (Refused status) h = more_at_site s.site _ _ tt (more_at_site s.site _ _ tt (none_at_site s.site))
-started_at_site s at to p n c Rejected h = more_at_site s.site _ _ tt (more_at_site s.site _ _ tt (none_at_site s.site))
+started_at_site s at to p n c (Refused status) h =
+    counted_at_site s.site (s.serial + 1) (Put (row.Reply p n (responded at (Refused status))) ∷ []) (replied_at_site s.site p n (responded at (Refused status)) [] (none_at_site s.site))
+started_at_site s at to p n c Rejected h =
+    counted_at_site s.site (s.serial + 1) (Put (row.Reply p n (responded at Rejected)) ∷ []) (replied_at_site s.site p n (responded at Rejected) [] (none_at_site s.site))
 started_at_site s at to p n c (Accepted place) h =
-    more_at_site s.site _ _ tt (more_at_site s.site _ _ tt (more_at_site s.site _ _ (h place refl) (spent_at_site s.site p c.authorization_reference)))
+    let opened : List Change = Put (row.Pending p n c place (deadline at)) ∷ spent_rows p c.authorization_reference in
+    counted_at_site s.site (s.serial + 1) (Put (row.Reply p n (responded at (Accepted place))) ∷ opened) (replied_at_site s.site p n (responded at (Accepted place)) opened
+    (more_at_site s.site (Put (row.Pending p n c place (deadline at))) (spent_rows p c.authorization_reference) (h place refl) (spent_at_site s.site p c.authorization_reference)))
 
 line_at_site : (s : State) (at : ℕ) (q : Packet) (to : List ℕ) (out : Out) → RequestLine s at q to out → AreAtSite s.site out.changes
-line_at_site s at q to out (Again reply has x) = rw x (more_at_site s.site _ _ tt (none_at_site s.site))
+line_at_site s at q to out (Again reply has x) = rw x (counted_at_site s.site (s.serial + 1) [] (none_at_site s.site))
 line_at_site s at q to out (Started none c is d line x) =
     rw x (started_at_site s at to (key q.from) q.request c d (λ place e. accepted_at_site s.site s.spent s.open_starts q.from c d place line e))
 

@@ -10,7 +10,7 @@ use Rattle.tables.specs.Keys.{text_cmp, text_total, text_exact, text_number_cmp,
 use Rattle.tables.proofs.Maps.{of_insert, get-insert_same, get-insert_other}
 use Rattle.operator_core.specs.declared.open_start.OpenStart.{OpenStart}
 use Rattle.operator_core.specs.State.{OpenStarts, Claim, ByStart, Claims, IsFree}
-use Rattle.site.specs.Placed.{Claimed}
+use Rattle.site.specs.Places.{Claimed}
 use Rattle.operator_core.specs.Claimed.{IsIndexed}
 
 pub none_some : {X : Type 0} (x : X) (o : Option X) → o ≡ None → o ≡ Some x → ⊥

@@ -5,4 +5,5 @@ pub mod StepFacts
 pub mod Runs
 pub mod RowChanges
 pub mod ClaimChanges
+pub mod Room
 pub mod Applied

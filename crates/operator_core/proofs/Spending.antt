@@ -1,6 +1,6 @@
 -- What is spent is spent by its key.
 use Rattle.std.proofs.Common.{◌≡◌, ℕ, List, refl, sym, ap, subst, ◌∙◌}
-use Rattle.std.specs.Prelude.{Option, Some, None}
+use Rattle.std.specs.Prelude.{Option, Some, None, Bool, true, false, IsTrue, is_some}
 use Rattle.std.specs.FinMap.{get, insert}
 use Rattle.ocpi_text.specs.Text.{key}
 use Rattle.tables.specs.Keys.{text_pair_total, text_pair_exact}
@@ -22,3 +22,8 @@ module _ (spent : Spent) (p : List ℕ) where
   pub not_spent : (reference : Option (List ℕ)) (x : List ℕ) → reference ≡ Some x → (IsSpent spent p reference → ⊥) → get spent (p, key x) ≡ Some tt → ⊥
   not_spent None x e fresh has = cc
   not_spent (Some y) x e fresh has = let same : x ≡ y = cc in fresh (subst (λ z. get spent (p, key z) ≡ Some tt) same has)
+
+-- a reference that the kept ones contain is spent
+pub contained : (o : Option (Unit {0})) (b : Bool) → b ≡ is_some o → IsTrue b → o ≡ Some tt
+contained None b same is = absurd (let never : false ≡ true = sym same ∙ is in cc)
+contained (Some x) b same is = refl

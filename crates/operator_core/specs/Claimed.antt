@@ -6,8 +6,7 @@ use Rattle.ocpi_types.specs.declared.rows.Row.TheVariants as row
 use Rattle.ocpi_types.specs.declared.rows.Change.{Change}
 use Rattle.ocpi_types.specs.declared.rows.Change.TheVariants.{Put, Drop}
 use Rattle.ocpi_types.specs.declared.site.Site.{Site}
-use Rattle.site.specs.Placed.{Claimed}
-use Rattle.site.specs.Places.{IsEvse}
+use Rattle.site.specs.Places.{Claimed, IsEvse}
 use Rattle.operator_core.specs.State.{OpenStarts, Claim, Claims}
 
 -- the kept claims are those of the open starts

@@ -6,13 +6,27 @@ ghost use Rattle.operator_core.specs.Claimed.{AreAtSite, IsAtSite, claimed_after
 use ocpi_types::{Change, Row};
 use site::Places;
 
+/// Claims the EVSE of a start that a row opens. It takes no memory.
+fn claim_row(places: &mut Places, row: &Row)
+    requires { IsAtSite places.old.site (Change.Put row.now) }
+    ensures { places.new ≡ record places.old { claimed = claimed_after (Change.Put row.now) places.old.claimed } }
+{
+    match row {
+        Row::Count { .. } => {}
+        Row::Reply { .. } => {}
+        Row::Spent { .. } => {}
+        Row::Pending { place, .. } => places.claim(&place.evse_uid),
+    }
+}
+
 /// Claims the EVSE of a start that a change opens. It takes no memory.
 fn claim(places: &mut Places, change: &Change)
     requires { IsAtSite places.old.site change.now }
     ensures { places.new ≡ record places.old { claimed = claimed_after change.now places.old.claimed } }
 {
-    if let Change::Put(Row::Pending { place, .. }) = change {
-        places.claim(&place.evse_uid);
+    match change {
+        Change::Put(row) => claim_row(places, row),
+        Change::Drop(_) => {}
     }
 }
 

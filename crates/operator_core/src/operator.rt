@@ -41,13 +41,13 @@ fn done(at: Moment, result_word: CommandResponseType) -> CommandResponse
 }
 
 /// The reply that a decision gives.
-fn respond(decision: Decision, at: Moment) -> CommandResponse
-    ensures { result ≡ responded at decision }
+fn respond(decision: &Decision, at: Moment) -> CommandResponse
+    ensures { result ≡ responded at decision.now }
 {
     match decision {
         Decision::Refused(status) => CommandResponse::Refused {
             timestamp: at,
-            status_code: status,
+            status_code: *status,
         },
         Decision::Rejected => done(at, CommandResponseType::Rejected),
         Decision::Accepted(_) => done(at, CommandResponseType::Accepted),
@@ -160,37 +160,37 @@ impl Operator {
     }
 
     /// The packet that answers a request.
-    fn answer(&self, request: &Request, reply: CommandResponse) -> Result<Vec<Packet>, AllocError>
-        ensures { IfOk result (λ x. x.items ≡ record { from = self.now.party; to = request.now.from; serial = request.now.serial; request = request.now.number; body = Body.CommandResponse reply } ∷ []) }
+    fn answer(&self, request: &Request, reply: &CommandResponse) -> Result<Vec<Packet>, AllocError>
+        ensures { IfOk result (λ x. x.items ≡ record { from = self.now.party; to = request.now.from; serial = request.now.serial; request = request.now.number; body = Body.CommandResponse reply.now } ∷ []) }
     {
         let packet = Packet {
             from: *self.parties.operator(),
             to: request.from,
             serial: request.serial,
             request: request.number,
-            body: Body::CommandResponse(reply),
+            body: Body::CommandResponse(*reply),
         };
         Ok(vec![in self.alloc; packet]?)
     }
 
     /// The step that sends a kept reply again.
-    fn again(&self, request: &Request, reply: CommandResponse) -> Result<Stepped, AllocError>
+    fn again(&self, request: &Request, reply: &CommandResponse) -> Result<Stepped, AllocError>
         requires { request.now.serial ≡ self.now.serial + 1 }
-        ensures { IfOk result (λ x. planned self.now x ≡ answer request.now.from request.now.number reply self.now) }
+        ensures { IfOk result (λ x. planned self.now x ≡ answer request.now.from request.now.number reply.now self.now) }
     {
-        let packets = self.answer(request, reply)?;
         let rows = vec![in self.alloc; count_row(request)]?;
+        let packets = self.answer(request, reply)?;
         Ok(Stepped { rows, packets })
     }
 
     /// The step that sends a reply, and keeps it.
-    fn refuse(&self, request: &Request, reply: CommandResponse) -> Result<Stepped, AllocError>
+    fn refuse(&self, request: &Request, reply: &CommandResponse) -> Result<Stepped, AllocError>
         requires { request.now.serial ≡ self.now.serial + 1 }
-        ensures { IfOk result (λ x. planned self.now x ≡ keep_reply request.now.provider request.now.number reply (answer request.now.from request.now.number reply self.now)) }
+        ensures { IfOk result (λ x. planned self.now x ≡ keep_reply request.now.provider request.now.number reply.now (answer request.now.from request.now.number reply.now self.now)) }
     {
+        let mut rows = vec![in self.alloc; count_row(request)]?;
+        rows.push(reply_row(request, reply))?;
         let packets = self.answer(request, reply)?;
-        let (count, kept) = (count_row(request), reply_row(request, reply));
-        let rows = vec![in self.alloc; count, kept]?;
         Ok(Stepped { rows, packets })
     }
 
@@ -198,17 +198,17 @@ impl Operator {
     fn accept(
         &self,
         request: &Request,
-        reply: CommandResponse,
+        reply: &CommandResponse,
         command: &StartSession,
         place: Place,
     ) -> Result<Stepped, AllocError>
         requires { request.now.serial ≡ self.now.serial + 1 }
-        ensures { IfOk result (λ x. planned self.now x ≡ carried_out request.now.at request.now.provider request.now.number command.now (Decision.Accepted place) (keep_reply request.now.provider request.now.number reply (answer request.now.from request.now.number reply self.now))) }
+        ensures { IfOk result (λ x. planned self.now x ≡ carried_out request.now.at request.now.provider request.now.number command.now (Decision.Accepted place) (keep_reply request.now.provider request.now.number reply.now (answer request.now.from request.now.number reply.now self.now))) }
     {
         let deadline = request.at.after(1000 * TIMEOUT);
-        let pending = pending_row(request, command, place, deadline)?;
-        let (count, kept) = (count_row(request), reply_row(request, reply));
-        let mut rows = vec![in self.alloc; count, kept, pending]?;
+        let mut rows = vec![in self.alloc; count_row(request)]?;
+        rows.push(reply_row(request, reply))?;
+        rows.push(pending_row(request, command, place, deadline)?)?;
         push_spent_row(&mut rows, request, command.authorization_reference)?;
         let packets = self.answer(request, reply)?;
         Ok(Stepped { rows, packets })
@@ -232,11 +232,11 @@ impl Operator {
             request.provider,
             command,
         );
-        let reply = respond(decision, request.at);
-        match decision {
-            Decision::Refused(_) => self.refuse(request, reply),
-            Decision::Rejected => self.refuse(request, reply),
-            Decision::Accepted(place) => self.accept(request, reply, command, place),
+        let reply = respond(&decision, request.at);
+        match &decision {
+            Decision::Refused(_) => self.refuse(request, &reply),
+            Decision::Rejected => self.refuse(request, &reply),
+            Decision::Accepted(place) => self.accept(request, &reply, command, *place),
         }
     }
 
@@ -250,7 +250,7 @@ impl Operator {
         };
         let request = self.request(at, packet)?;
         match self.books.reply(request.provider, request.number) {
-            Some(reply) => Ok(self.again(&request, reply)?),
+            Some(reply) => Ok(self.again(&request, &reply)?),
             None => Ok(self.start(&request, &packet.from, command)?),
         }
     }

@@ -20,13 +20,13 @@ pub fn count_row(request: &Request) -> Change
 }
 
 /// The row of a kept reply.
-pub fn reply_row(request: &Request, reply: CommandResponse) -> Change
-    ensures { result ≡ Change.Put (Row.Reply request.now.provider request.now.number reply) }
+pub fn reply_row(request: &Request, reply: &CommandResponse) -> Change
+    ensures { result ≡ Change.Put (Row.Reply request.now.provider request.now.number reply.now) }
 {
     Change::Put(Row::Reply {
         provider: request.provider,
         number: request.number,
-        body: reply,
+        body: *reply,
     })
 }
 
