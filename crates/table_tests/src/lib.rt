@@ -1,0 +1,2 @@
+//! Each call of a table once.
+#![tactic(auto)]

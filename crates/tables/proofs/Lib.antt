@@ -1,0 +1,3 @@
+pub mod Ordered
+pub mod Slots
+pub mod Maps
