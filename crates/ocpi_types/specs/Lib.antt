@@ -1,8 +1,6 @@
 pub mod Apart
 pub mod Connectors
-pub mod Entries
 pub mod Fields
-pub mod Keys
 pub mod Limits
 pub mod Locations
 pub mod Parties

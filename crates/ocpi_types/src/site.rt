@@ -1,13 +1,19 @@
 //! The sites that operators configure: their locations, EVSEs and connectors (OCPI 2.2.1, Locations: Location, EVSE and
 //! Connector objects, as far as a session and its CDR name them).
 
-ghost use Rattle.std.specs.Prelude.{◌≡◌, IfOk};
+ghost use Rattle.std.specs.Prelude.{◌≡◌, ◌↔◌, ◌++◌, List, ℕ, IfOk, IsTrue, SomeIff, length};
+ghost use Rattle.std.specs.FinSet as set;
+ghost use Rattle.ocpi_text.specs.Text.{key};
+ghost use Rattle.ocpi_types.specs.Apart.{AllDiffer, DifferFrom};
+ghost use Rattle.ocpi_types.specs.Locations.{AreLocations, evse_keys, location_keys, site_evse_keys};
 
+use crate::apart::{Identified, differ_from};
 use crate::copies::{ListItem, copy_all};
+use crate::id_set::IdSet;
 use crate::parties::Parties;
 use crate::price::PricePerKwh;
 use ocpi_text::{CiText, FreeText, Moment};
-use std::alloc::AllocError;
+use std::alloc::{AllocError, Global};
 use std::marker::Model;
 
 /// A connector of an EVSE.
@@ -22,6 +28,14 @@ pub struct Connector {
 impl ListItem for Connector {
     fn item_copy(&self) -> Result<Connector, AllocError> {
         self.copy()
+    }
+}
+
+impl Identified for Connector {
+    ghost id_key = { λ c. key c.id };
+
+    fn is_same(&self, other: &Connector) -> bool {
+        self.id.is_same(&other.id)
     }
 }
 
@@ -60,12 +74,16 @@ impl Model for Connectors {
 impl Connectors {
     ghost use Rattle.ocpi_types.specs.Connectors.{AreConnectors};
 
-    /// The connectors of a list.
-    pub fn new(connectors: Vec<Connector>) -> Connectors
-        requires { AreConnectors connectors.items }
-        ensures { result ≡ connectors.items }
+    /// The connectors of a list. None, where they are none or more than ten, or two ids are the same but for case.
+    pub fn new(connectors: Vec<Connector>) -> Option<Connectors>
+        ensures { SomeIff result (AreConnectors connectors.items) connectors.items }
     {
-        Connectors { connectors }
+        let count = connectors.len();
+        if 1 <= count && count <= 10 && differ_from(&[], connectors.as_slice()) {
+            Some(Connectors { connectors })
+        } else {
+            None
+        }
     }
 
     /// The connectors, in order.
@@ -131,15 +149,19 @@ impl Model for Evses {
 }
 
 impl Evses {
-    ghost use Rattle.std.specs.Prelude.{length};
     ghost use Rattle.ocpi_types.specs.Limits.{IsCount};
 
-    /// The EVSEs of a list.
-    pub fn new(evses: Vec<Evse>) -> Evses
-        requires { IsCount 1000 (length evses.items) }
-        ensures { result ≡ evses.items }
+    /// The EVSEs of a list. None, where they are none or more than a thousand. Whether their uids differ is a matter of
+    /// the whole site.
+    pub fn new(evses: Vec<Evse>) -> Option<Evses>
+        ensures { SomeIff result (IsCount 1000 (length evses.items)) evses.items }
     {
-        Evses { evses }
+        let count = evses.len();
+        if 1 <= count && count <= 1000 {
+            Some(Evses { evses })
+        } else {
+            None
+        }
     }
 
     /// The EVSEs, in order.
@@ -183,15 +205,35 @@ impl Location {
         ensures { IfOk result (λ t. t ≡ self.now) }
     {
         let evses = self.evses.copy()?;
+        let (address, city, country) = self.copy_address()?;
+        let (latitude, longitude) = self.copy_coordinates()?;
         Ok(Location {
-            id: self.id.copy()?,
-            address: self.address.copy()?,
-            city: self.city.copy()?,
-            country: self.country.copy()?,
-            latitude: self.latitude.copy()?,
-            longitude: self.longitude.copy()?,
+            id: self.id,
+            address,
+            city,
+            country,
+            latitude,
+            longitude,
             evses,
         })
+    }
+
+    /// An equal address, with its city and country.
+    fn copy_address(&self) -> Result<(FreeText<45>, FreeText<45>, FreeText<3>), AllocError>
+        ensures { IfOk result (λ t. t ≡ (self.now.address, self.now.city, self.now.country)) }
+    {
+        Ok((
+            self.address.copy()?,
+            self.city.copy()?,
+            self.country.copy()?,
+        ))
+    }
+
+    /// An equal latitude and longitude.
+    fn copy_coordinates(&self) -> Result<(FreeText<10>, FreeText<11>), AllocError>
+        ensures { IfOk result (λ t. t ≡ (self.now.latitude, self.now.longitude)) }
+    {
+        Ok((self.latitude.copy()?, self.longitude.copy()?))
     }
 }
 
@@ -213,15 +255,69 @@ impl Model for Locations {
     ghost invariant = { λ l. AreLocations l.locations.items };
 }
 
-impl Locations {
-    ghost use Rattle.ocpi_types.specs.Locations.{AreLocations};
+/// Whether the ids of the locations differ.
+fn ids_differ(alloc: Global, locations: &[Location]) -> Result<bool, AllocError>
+    ensures { IfOk result (λ differ. IsTrue differ ↔ AllDiffer (location_keys locations.now)) }
+{
+    let mut ids = IdSet::new(alloc);
+    for location in locations {
+        if !ids.insert(&location.id)? {
+            return Ok(false);
+        }
+    }
+    Ok(true)
+}
 
-    /// The locations of a list.
-    pub fn new(locations: Vec<Location>) -> Locations
-        requires { AreLocations locations.items }
-        ensures { result ≡ locations.items }
+/// Adds the uids of EVSEs to a set, and answers whether they differ from one another and from those in the set. Where they
+/// do not, only some are added.
+fn insert_uids(uids: &mut IdSet<36>, evses: &[Evse]) -> Result<bool, AllocError>
+    ensures new { (earlier : List (List ℕ)) → uids.old ≡ set.from_list earlier → IfOk result (λ new. IsTrue new ↔ DifferFrom earlier (evse_keys evses.now)) }
+    ensures after { (earlier : List (List ℕ)) → uids.old ≡ set.from_list earlier → IfOk result (λ new. IsTrue new → uids.new ≡ set.from_list (earlier ++ evse_keys evses.now)) }
+{
+    for evse in evses {
+        if !uids.insert(&evse.uid)? {
+            return Ok(false);
+        }
+    }
+    Ok(true)
+}
+
+/// Whether the uids of all EVSEs of the locations differ.
+fn uids_differ(alloc: Global, locations: &[Location]) -> Result<bool, AllocError>
+    ensures { IfOk result (λ differ. IsTrue differ ↔ AllDiffer (site_evse_keys locations.now)) }
+{
+    let mut uids = IdSet::new(alloc);
+    for location in locations {
+        if !insert_uids(&mut uids, location.evses.as_slice())? {
+            return Ok(false);
+        }
+    }
+    Ok(true)
+}
+
+/// Whether they are the locations of a site.
+fn are_locations(alloc: Global, locations: &[Location]) -> Result<bool, AllocError>
+    ensures { IfOk result (λ are. IsTrue are ↔ AreLocations locations.now) }
+{
+    if locations.is_empty() || locations.len() > 1000 {
+        return Ok(false);
+    }
+    let ids = ids_differ(alloc, locations)?;
+    let uids = uids_differ(alloc, locations)?;
+    Ok(ids && uids)
+}
+
+impl Locations {
+    /// The locations of a list. None, where they are none or more than a thousand, or two ids, or two uids of EVSEs, are
+    /// the same but for case. An error is want of memory to compare them.
+    pub fn new(locations: Vec<Location>) -> Result<Option<Locations>, AllocError>
+        ensures { IfOk result (λ made. SomeIff made (AreLocations locations.items) locations.items) }
     {
-        Locations { locations }
+        if are_locations(*locations.allocator(), locations.as_slice())? {
+            Ok(Some(Locations { locations }))
+        } else {
+            Ok(None)
+        }
     }
 
     /// The locations, in order.
