@@ -1,6 +1,6 @@
 -- Lists of entries in the order of their keys, read as finite maps.
 use Rattle.std.proofs.Common.{◌≡◌, Bool, true, false, cond, T, List, [], ◌∷◌, refl, sym, ap, subst, ◌∙◌, length}
-use Rattle.std.specs.Prelude.{Option, Some, None, ◌&&◌, is_some, slice_get, IsTrue}
+use Rattle.std.specs.Prelude.{Option, Some, None, ◌&&◌, is_some, ⊤}
 use Rattle.std.specs.Ordering.{eq_by_cmp, is_lt, is_eq, is_le, is_gt}
 use Rattle.std.specs.declared.cmp.Ordering.{Ordering}
 use Rattle.std.specs.declared.cmp.Ordering.TheVariants.{Less, Equal, Greater}
@@ -9,11 +9,12 @@ use Rattle.std.specs.List.{AllByRecursion, filter}
 use Rattle.std.specs.List.Sorted.{IsStrictlySortedBy}
 use Rattle.std.specs.Map.{lookup, keys_of}
 use Rattle.std.specs.BTreeMap.{is_at}
-use Rattle.std.specs.BTreeMap.Range.{IsLeBy}
+use Rattle.std.specs.BTreeMap.Range.{IsLeBy, IsLtBy, entries_from}
 use Rattle.std.specs.FinMap.{FinMap, IsAntisymmetric, find, is_sorted, entries, entries_sorted, get, get-entries, contains_key, empty, from_sorted, entries-from_sorted, empty_of_len, len-entries}
 use Rattle.std.specs.FinMap.Entries.{below_all}
 use Rattle.std.proofs.lemmas.Map.Keys.{sorted_head, sorted_tail}
-use Rattle.tables.specs.Tables.{IsLeast, HasNone}
+use Rattle.tables.specs.Tables.{IsLeast, HasNone, entries_after}
+use Rattle.tables.proofs.Maps.{equal_of_is_eq}
 
 pub both : (a b : Bool) → T a → T b → T (a && b)
 both true b p q = q
@@ -31,11 +32,6 @@ less : (r : Ordering) → T (is_lt r) → r ≡ Less
 less Less p = refl
 less Equal p = absurd p
 less Greater p = absurd p
-
-pub equal_of_is_eq : (r : Ordering) → is_eq r ≡ true → r ≡ Equal
-equal_of_is_eq Less e = cc
-equal_of_is_eq Equal e = refl
-equal_of_is_eq Greater e = cc
 
 pub le_of_not_gt : (r : Ordering) → is_gt r ≡ false → is_le r ≡ true
 le_of_not_gt Less e = refl
@@ -68,6 +64,13 @@ module _ {K X : Type 0} (R : K → K → Ordering) where
   pub in_order : (es : List (K × X)) → IsStrictlySortedBy R (keys_of es) → T (is_sorted R es)
   in_order [] h = tt
   in_order (e ∷ es) h = both _ _ (below e.0 es (sorted_head R e.0 (keys_of es) h)) (in_order es (sorted_tail R e.0 (keys_of es) h))
+
+  pub all_pass : (es : List (K × X)) → filter (λ e. true) es ≡ es
+  all_pass [] = refl
+  all_pass (e ∷ es) = λ i. e ∷ all_pass es i
+
+  pub no_first : (m : FinMap R X) → entries m ≡ [] → m ≡ empty
+  no_first m e = empty_of_len m (len-entries m ∙ ap length e)
 
   -- the map of no entry
   pub no_entry : (es : List (K × X)) → es ≡ [] → from_sorted {R = R} es ≡ empty
@@ -148,3 +151,19 @@ module _ {K X : Type 0} {R : K → K → Ordering} (o : IsTotalOrder R) (exact :
 
       pub none : filter (λ d. p d.0) (entries m) ≡ [] → HasNone R m P
       none empty q passes = get-entries m q ∙ none_passes (entries m) empty q (to q passes)
+
+  -- the first of all, of those from a key on, and of those after it
+  pub least_of_all : (m : FinMap R X) (e : K × X) (t : List (K × X)) → entries m ≡ e ∷ t → IsLeast R m (λ q. ⊤) e
+  least_of_all m e t first = least (λ q. true) (λ q. ⊤) (λ q _. refl) (λ q _. tt) m e t (all_pass R (entries m) ∙ first)
+
+  pub least_from : (m : FinMap R X) (k : K) (e : K × X) (t : List (K × X)) → entries_from (R k) (entries m) ≡ e ∷ t → IsLeast R m (IsLeBy R k) e
+  least_from m k = least (λ q. is_le (R k q)) (IsLeBy R k) (λ q h. le_of_not_gt (R k q) h) (λ q h. not_gt_of_le (R k q) h) m
+
+  pub none_from : (m : FinMap R X) (k : K) → entries_from (R k) (entries m) ≡ [] → HasNone R m (IsLeBy R k)
+  none_from m k = none (λ q. is_le (R k q)) (IsLeBy R k) (λ q h. le_of_not_gt (R k q) h) (λ q h. not_gt_of_le (R k q) h) m
+
+  pub least_after : (m : FinMap R X) (k : K) (e : K × X) (t : List (K × X)) → entries_after (R k) (entries m) ≡ e ∷ t → IsLeast R m (IsLtBy R k) e
+  least_after m k = least (λ q. is_lt (R k q)) (IsLtBy R k) (λ q h. ap is_lt h) (λ q h. less_of_is_lt (R k q) h) m
+
+  pub none_after : (m : FinMap R X) (k : K) → entries_after (R k) (entries m) ≡ [] → HasNone R m (IsLtBy R k)
+  none_after m k = none (λ q. is_lt (R k q)) (IsLtBy R k) (λ q h. ap is_lt h) (λ q h. less_of_is_lt (R k q) h) m

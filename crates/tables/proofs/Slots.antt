@@ -1,20 +1,24 @@
 -- Lists of slots in the order of their keys, read as the map of the values and as the map of the room.
 use Rattle.std.proofs.Common.{◌≡◌, Bool, true, false, cond, T, List, [], ◌∷◌, refl, sym, ap, subst, ◌∙◌}
-use Rattle.std.specs.Prelude.{Option, Some, None, is_some}
+use Rattle.std.specs.Prelude.{Option, Some, None, is_some, ◌&&◌}
 use Rattle.std.specs.Option.{option_flatten}
-use Rattle.std.specs.Ordering.{eq_by_cmp, is_lt, is_eq}
+use Rattle.std.specs.Ordering.{eq_by_cmp, is_lt, is_eq, is_le}
 use Rattle.std.specs.declared.cmp.Ordering.{Ordering}
 use Rattle.std.specs.declared.cmp.Ordering.TheVariants.{Less}
 use Rattle.std.specs.Cmp.{IsTotalOrder, eq_by_cmp_equiv}
-use Rattle.std.specs.List.{AllByRecursion}
+use Rattle.std.specs.List.{AllByRecursion, filter}
 use Rattle.std.specs.List.Sorted.{IsStrictlySortedBy}
 use Rattle.std.specs.Map.{lookup, keys_of}
 use Rattle.std.specs.BTreeMap.{is_at}
+use Rattle.std.specs.BTreeMap.Range.{range_contains, entries_between, entries_from}
+use Rattle.std.specs.declared.ops.Bound.{Bound}
+use Rattle.std.specs.declared.ops.Bound.TheVariants.{Included, Excluded, Unbounded}
 use Rattle.std.specs.FinMap.{FinMap, IsAntisymmetric, is_sorted, get, contains_key, insert, remove, empty, get-from_sorted, get-insert, get-remove, same_map, entries, entries-from_sorted}
 use Rattle.std.specs.FinMap.Entries.{below_all}
 use Rattle.std.proofs.lemmas.Map.Keys.{sorted_head, sorted_tail}
-use Rattle.tables.specs.Tables.{shown_slot, shown, slot_keys, shown_of, rooms_of}
-use Rattle.tables.proofs.Ordered.{both, looked, turned, in_order, no_entry, equal_of_is_eq}
+use Rattle.tables.specs.Tables.{shown_slot, shown, slot_keys, shown_of, rooms_of, entries_after}
+use Rattle.tables.proofs.Ordered.{both, looked, turned, in_order, no_entry, all_pass}
+use Rattle.tables.proofs.Maps.{equal_of_is_eq}
 
 -- whether there is a slot
 abbrev pub there : {X : Type 0} → Option X → Option (Unit {0})
@@ -40,6 +44,28 @@ is_none (Some x) e = absurd (let f : true ≡ false = e in cc)
 same_keys : {K X : Type 0} (es : List (K × Option X)) → keys_of (slot_keys es) ≡ keys_of es
 same_keys [] = refl
 same_keys (e ∷ es) = λ i. e.0 ∷ same_keys es i
+
+and_true : (a : Bool) → (a && true) ≡ a
+and_true true = refl
+and_true false = refl
+
+module _ {K X : Type 0} (p : K → Bool) where
+  passing_slot : (k : K) (o : Option X) (es : List (K × X)) → filter (λ e. p e.0) (shown_slot k o es) ≡ cond (p k) (shown_slot k o (filter (λ e. p e.0) es)) (filter (λ e. p e.0) es)
+  passing_slot k None es = elim (p k) as (λ b. filter (λ e. p e.0) es ≡ cond b (filter (λ e. p e.0) es) (filter (λ e. p e.0) es)) [ true ↦ refl | false ↦ refl ]
+  passing_slot k (Some v) es = refl
+
+  -- the slots whose keys pass show the entries whose keys pass
+  shown_passes : (es : List (K × Option X)) → shown (filter (λ e. p e.0) es) ≡ filter (λ e. p e.0) (shown es)
+  shown_passes [] = refl
+  shown_passes (e ∷ es) =
+      cond_after shown (p e.0) (e ∷ filter (λ d. p d.0) es) (filter (λ d. p d.0) es)
+      ∙ ap (λ fs. cond (p e.0) (shown_slot e.0 e.1 fs) fs) (shown_passes es)
+      ∙ sym (passing_slot e.0 e.1 (shown es))
+
+-- two tests that agree
+same_filter : {K X : Type 0} (p r : K → Bool) → ((q : K) → p q ≡ r q) → (es : List (K × X)) → filter (λ e. p e.0) es ≡ filter (λ e. r e.0) es
+same_filter p r h [] = refl
+same_filter p r h (e ∷ es) = λ i. cond (h e.0 i) (e ∷ same_filter p r h es i) (same_filter p r h es i)
 
 module _ {K X : Type 0} (R : K → K → Ordering) where
   above_slot : (q k : K) (o : Option X) (rest : List (K × X)) → R q k ≡ Less → lookup (is_at (R q)) rest ≡ None → lookup (is_at (R q)) (shown_slot k o rest) ≡ None
@@ -91,6 +117,21 @@ module _ {K X : Type 0} (R : K → K → Ordering) where
   -- what is shown, in the order of its keys
   pub listed_shown : (es : List (K × Option X)) → IsStrictlySortedBy R (keys_of es) → entries (shown_of R es) ≡ shown es
   listed_shown es h = entries-from_sorted R (shown es) (sorted_shown es h)
+
+  -- and the part of it whose keys lie between two bounds
+  visited : (lo : Bound K) (p : K → Bool) → ((q : K) → range_contains R lo Unbounded q ≡ p q) → (es : List (K × Option X)) → IsStrictlySortedBy R (keys_of es) →
+      shown (entries_between R lo Unbounded es) ≡ filter (λ e. p e.0) (entries (shown_of R es))
+  visited lo p same es h =
+      shown_passes (range_contains R lo Unbounded) es ∙ same_filter (range_contains R lo Unbounded) p same (shown es) ∙ ap (filter (λ e. p e.0)) (sym (listed_shown es h))
+
+  pub visited_from : (k : K) (es : List (K × Option X)) → IsStrictlySortedBy R (keys_of es) → shown (entries_between R (Included k) Unbounded es) ≡ entries_from (R k) (entries (shown_of R es))
+  visited_from k = visited (Included k) (λ q. is_le (R k q)) (λ q. and_true (is_le (R k q)))
+
+  pub visited_after : (k : K) (es : List (K × Option X)) → IsStrictlySortedBy R (keys_of es) → shown (entries_between R (Excluded k) Unbounded es) ≡ entries_after (R k) (entries (shown_of R es))
+  visited_after k = visited (Excluded k) (λ q. is_lt (R k q)) (λ q. and_true (is_lt (R k q)))
+
+  pub visited_all : (es : List (K × Option X)) → IsStrictlySortedBy R (keys_of es) → shown (entries_between R Unbounded Unbounded es) ≡ entries (shown_of R es)
+  visited_all es h = visited Unbounded (λ q. true) (λ q. refl) es h ∙ all_pass R (entries (shown_of R es))
 
   pub no_slot : (es : List (K × Option X)) → es ≡ [] → shown_of R es ≡ empty
   no_slot es e = no_entry R (shown es) (ap shown e)

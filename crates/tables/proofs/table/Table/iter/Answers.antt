@@ -1,6 +1,7 @@
-use Rattle.std.proofs.Common.{sym}
-use Rattle.tables.proofs.Slots.{listed_shown}
+use Rattle.std.proofs.Common.{◌∙◌, ap}
+use Rattle.tables.specs.Tables.{shown}
+use Rattle.tables.proofs.Slots.{visited_all}
 use Rattle.tables.proofs.table.Table.iter.Goals as goal
 
 pub returns : goal.returns
-returns g c = rw (← c.self.view_is, c.iter.ensures.rest) (sym (listed_shown g.K.Ord.cmp c.self.inside.slots.entries c.self.invariant))
+returns g c = rw (← c.self.view_is) (ap shown (c.range.ensures.between tt) ∙ visited_all g.K.Ord.cmp  c.self.inside.slots.entries c.self.invariant)
