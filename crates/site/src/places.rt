@@ -113,11 +113,8 @@ impl Places {
         ensures free { IfSome result (λ e. IsUnclaimed self.now.claimed (key e.now.uid)) }
         ensures none { IfNone result ((e : Evse) → IsCandidate self.now.site.locations at None e → IsUnclaimed self.now.claimed (key e.uid) → ⊥) }
     {
-        let (position, _) = self.indexes.free.first_from((at, 0))?;
-        if position.0 != at {
-            return None;
-        }
-        evse_at(self.site.locations.as_slice(), position)
+        let (place, _) = self.indexes.free.first_with(at, 0)?;
+        evse_at(self.site.locations.as_slice(), (at, place))
     }
 
     /// An EVSE of the location that stands there and that is not claimed: the one of the uid, or the first where none is
@@ -163,6 +160,6 @@ impl Places {
         let uid = evse.key();
         let position = *self.indexes.evses.get(uid).unwrap();
         self.indexes.claimed.put(uid, ());
-        self.indexes.free.clear(position);
+        self.indexes.free.remove(position);
     }
 }
