@@ -1,5 +1,5 @@
 -- What the indexes of a site find is what is looked for.
-use Rattle.std.proofs.Common.{◌≡◌, ℕ, zero, suc, Bool, true, false, List, refl, sym, ap, subst, ◌∙◌, arith}
+use Rattle.std.proofs.Common.{◌≡◌, ℕ, zero, suc, Bool, true, false, List, [], ◌∷◌, refl, sym, ap, subst, ◌∙◌, arith}
 use Rattle.std.specs.Prelude.{◌≢◌, Option, Some, None, IsTrue, IsSome, IsNone, IfSome, IfNone, Contains, is_some, slice_get}
 use Rattle.std.specs.Ordering.{nat_cmp}
 use Rattle.std.specs.BTreeMap.Range.{IsLeBy}
@@ -20,6 +20,10 @@ use Rattle.site.proofs.Indexing.{one_evse}
 pub none_then : {X P Q : Type 0} (r : Option X) → IfNone r P → (P → Q) → IfNone r Q
 none_then None p f = f p
 none_then (Some x) p f = tt
+
+pub none_from : {X P : Type 0} (r : Option X) → P → IfNone r P
+none_from None p = p
+none_from (Some x) p = tt
 
 pub zero_least : (n : ℕ) → IsLeBy nat_cmp 0 n
 zero_least zero = refl
@@ -62,7 +66,7 @@ module _ (locations : List Location) where
     where
       go : (es : List Evse) → (i : ℕ) × (slice_get es i ≡ Some e) → ((f : Evse) → slice_get es 0 ≡ Some f → ⊥) → ⊥
       go es h first = elim es as (λ (es : List Evse). slice_get es h.0 ≡ Some e → ((f : Evse) → slice_get es 0 ≡ Some f → ⊥) → ⊥) [
-        | Prim.[] ↦ λ at first. cc
+        | [] ↦ λ at first. cc
         | f ∷ fs ↦ λ at first. first f refl
       ] h.1 first
 
@@ -125,11 +129,7 @@ module _ (locations : List Location) where
         let i = place locations e.location e.listed in
         let j = place e.location.evses e.evse e.within in
         let has : HasEvse locations (i.0, j.0) uid = record { evse = e.evse; at = record { location = e.location; stands = i.1; within = j.1 }; same = e.same } in
-        (go (get index uid) (h.complete uid (i.0, j.0) tt has), h.room uid (i.0, j.0) tt has)
-      where
-        go : (o : Option Position) → IsTrue (is_some o) → IsSome o
-        go None e = absurd (cc)
-        go (Some x) e = tt
+        (h.complete uid (i.0, j.0) tt has, h.room uid (i.0, j.0) tt has)
 
   -- a place of the location is an EVSE of it with one of its connectors
   pub fits : (at : ℕ) (uid connector : Option (List ℕ)) (e : Evse) (k : Connector) (l : Location) → slice_get locations at ≡ Some l → IsCandidate locations at uid e → IsChosen connector e.connectors k → Fits l.evses uid connector e k
@@ -141,3 +141,14 @@ module _ (locations : List Location) where
 
   pub fitting : (at : ℕ) (uid connector : Option (List ℕ)) (e : Evse) (k : Connector) (l : Location) → slice_get locations at ≡ Some l → Fits l.evses uid connector e k → IsCandidate locations at uid e
   fitting at uid connector e k l stands f = record { location = l; stands = stands; listed = f.listed; named = f.named }
+
+  -- without a place at the EVSE that is looked at, none fits
+  pub no_place : {X : Type 0} (r : Option X) (at : ℕ) (uid connector : Option (List ℕ)) (e : Evse) → (IsSome connector × IsNone uid → ⊥) → (IsSome uid → (f : Evse) → IsCandidate locations at uid f → f ≡ e) →
+      IfNone r ((k : Connector) → IsChosen connector e.connectors k → ⊥) → (IsNone connector → IsSome r) →
+      IfNone r ((l : Location) → slice_get locations at ≡ Some l → (f : Evse) (k : Connector) → Fits l.evses uid connector f k → ⊥)
+  no_place (Some x) at uid connector e named sole none first = tt
+  no_place None at uid None e named sole none first = λ l stands f k fit. let h = first refl in absurd (cc)
+  no_place None at None (Some name) e named sole none first = λ l stands f k fit. named (refl, refl)
+  no_place None at (Some u) (Some name) e named sole none first = λ l stands f k fit.
+      let same : f ≡ e = sole refl f (fitting at (Some u) (Some name) f k l stands fit) in
+      none k (subst (λ (x : Evse). IsChosen (Some name) x.connectors k) same fit.chosen)

@@ -51,7 +51,7 @@ module _ {K X : Type 0} {R : K → K → Ordering} (o : IsTotalOrder R) (m : Fin
       go false = has
 
 -- a position has one EVSE
-one_evse : (locations : List Location) (p : Position) (e f : Evse) → IsEvseAt locations p e → IsEvseAt locations p f → e ≡ f
+pub one_evse : (locations : List Location) (p : Position) (e f : Evse) → IsEvseAt locations p e → IsEvseAt locations p f → e ≡ f
 one_evse locations p e f g h =
     let l : g.location ≡ h.location = same_Some g.location h.location (sym g.stands ∙ h.stands) in
     same_Some e f (sym g.within ∙ ap (λ (x : Location). slice_get x.evses p.1) l ∙ h.within)

@@ -35,7 +35,8 @@ impl Indexes {
         let uid = uid.key();
         self.evses.insert(uid, position)?;
         self.claimed.reserve(uid)?;
-        self.free.insert(position, ())
+        self.free.insert(position, ())?;
+        Ok(())
     }
 
     /// Adds the EVSEs of the location that stands at `i`, where those of the locations before it are added.
