@@ -1,6 +1,6 @@
 -- In lists of texts that differ, each text stands at one place.
 use Rattle.std.proofs.Common.{◌≡◌, ℕ, zero, suc, List, [], ◌∷◌, ◌++◌, refl, sym, ap, subst, ◌∙◌, length}
-use Rattle.std.specs.Prelude.{Option, Some, None, Contains, slice_get}
+use Rattle.std.specs.Prelude.{Some, Contains, slice_get}
 use Rattle.std.specs.List.{flat_map}
 use Rattle.std.proofs.lemmas.List.{append_assoc, append-nil}
 use Rattle.std.proofs.lemmas.List.Elements.{Contains-append_left, Contains-append_right, Contains-push}
@@ -11,7 +11,7 @@ use Rattle.ocpi_types.specs.Apart.{DifferFrom, AllDiffer}
 use Rattle.ocpi_types.specs.Locations.{evse_keys, site_evse_keys}
 use Rattle.ocpi_types.specs.declared.site.Location.{Location}
 use Rattle.ocpi_types.specs.declared.site.Evse.{Evse}
-use Rattle.site.specs.Positions.{Position, HasEvse, OneEvseEach}
+use Rattle.site.specs.Positions.{OneEvseEach}
 
 module _ {X : Type 0} (xs : List X) where
   -- what stands at a place is in the list
@@ -76,5 +76,5 @@ at_key es i e uid at same = slice_get-map (λ (e : Evse). key e.uid) es i ∙ ap
 pub one_evse_each : (locations : List Location) → AllDiffer (site_evse_keys locations) → OneEvseEach locations
 one_evse_each locations apart uid p q g h =
     let same = one_piece (λ (l : Location). evse_keys l.evses) [] locations p.0 p.1 q.0 q.1 g.at.location h.at.location uid apart
-        g.at.stands (at_key g.at.location.evses p.1 g.evse uid g.at.within g.same) h.at.stands (at_key h.at.location.evses q.1 h.evse uid h.at.within h.same) in
+    g.at.stands (at_key g.at.location.evses p.1 g.evse uid g.at.within g.same) h.at.stands (at_key h.at.location.evses q.1 h.evse uid h.at.within h.same) in
     λ i. (same.0 i, same.1 i)

@@ -1,7 +1,7 @@
 -- Indexes find one more EVSE once it is added.
 use Rattle.std.proofs.Common.{◌≡◌, ℕ, ◌+◌, refl, ap, ◌∙◌}
 use Rattle.std.specs.Prelude.{Some, slice_get}
-use Rattle.std.specs.FinMap.{FinMap, get, empty, get-empty}
+use Rattle.std.specs.FinMap.{get, empty, get-empty}
 use Rattle.ocpi_text.specs.Text.{key}
 use Rattle.ocpi_types.specs.declared.site.Location.{Location}
 use Rattle.ocpi_types.specs.declared.site.Evse.{Evse}
@@ -19,4 +19,4 @@ pub evse_added : (locations : List Location) (i j : ℕ) (l : Location) (e : Evs
 evse_added locations i j l e t u stands within found unclaimed added =
     rw (added.evse, added.claimed_stay, added.room, added.free_there)
     (next_evse locations _ _ _ _ i j (key e.uid) (λ other. ap (λ (m : Claimed). get m other) unclaimed ∙ get-empty text_cmp other) found
-        (record { evse = e; at = record { location = l; stands = stands; within = within }; same = refl }))
+    (record { evse = e; at = record { location = l; stands = stands; within = within }; same = refl }))

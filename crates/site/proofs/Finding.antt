@@ -1,5 +1,5 @@
 -- What the indexes of a site find is what is looked for.
-use Rattle.std.proofs.Common.{◌≡◌, ℕ, zero, suc, Bool, true, false, List, [], ◌∷◌, refl, sym, ap, subst, ◌∙◌, arith}
+use Rattle.std.proofs.Common.{◌≡◌, ℕ, zero, suc, false, List, [], ◌∷◌, refl, sym, ap, subst, ◌∙◌, arith}
 use Rattle.std.specs.Prelude.{◌≢◌, Option, Some, None, IsTrue, IsSome, IsNone, IfSome, IfNone, Contains, is_some, slice_get}
 use Rattle.std.specs.Ordering.{nat_cmp}
 use Rattle.std.specs.BTreeMap.Range.{IsLeBy}
@@ -11,9 +11,9 @@ use Rattle.ocpi_types.specs.declared.site.Location.{Location}
 use Rattle.ocpi_types.specs.declared.site.Evse.{Evse}
 use Rattle.ocpi_types.specs.declared.site.Connector.{Connector}
 use Rattle.tables.specs.Keys.{text_cmp}
-use Rattle.tables.specs.Tables.{IsLeast, HasNone}
+use Rattle.tables.specs.Tables.{HasNone}
 use Rattle.site.specs.Places.{Claimed, IsLocation, IsNamed, IsChosen, Fits, IsEvse, IsUnclaimed}
-use Rattle.site.specs.Positions.{Position, position_cmp, IsEvseAt, HasEvse, HasLocation, OneEvseEach, FindsLocations, FindsEvses, IsCandidate}
+use Rattle.site.specs.Positions.{Position, position_cmp, IsEvseAt, HasEvse, OneEvseEach, FindsLocations, FindsEvses, IsCandidate}
 use Rattle.site.proofs.Apart.{contained, place}
 use Rattle.site.proofs.Indexing.{one_evse}
 

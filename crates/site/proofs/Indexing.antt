@@ -1,5 +1,5 @@
 -- What finds the locations and EVSEs of a site stays right as it is filled, and when an EVSE is claimed.
-use Rattle.std.proofs.Common.{◌≡◌, ℕ, ◌<◌, ◌≤◌, ◌+◌, zero, suc, Bool, true, false, cond, ◌⊎◌, inl, inr, List, refl, sym, ap, subst, ◌∙◌, length, arith}
+use Rattle.std.proofs.Common.{◌≡◌, ℕ, ◌<◌, ◌≤◌, ◌+◌, Bool, true, false, cond, ◌⊎◌, inl, inr, List, refl, sym, ap, subst, ◌∙◌, length, arith}
 use Rattle.std.specs.Prelude.{Option, Some, None, IsTrue, is_some, slice_get}
 use Rattle.std.specs.declared.cmp.Ordering.{Ordering}
 use Rattle.std.specs.Ordering.{nat_cmp, eq_by_cmp}
@@ -164,6 +164,7 @@ module _ (locations : List Location) where
             let same : at.location ≡ l = same_Some at.location l (sym at.stands ∙ ap (slice_get locations) is ∙ stands) in
             let less : q.1 < length l.evses = subst (λ (x : Location). q.1 < length x.evses) same (slice_get_within at.location.evses q.1 e at.within) in
             omega arith
+
         within : (uid : List ℕ) (q : Position) → HasEvse locations q uid → IsBefore (i + 1) 0 q → IsBefore i j q
         within uid q has (inl less) = elim (below_more i q.0 less) [ inl less ↦ inl less | inr is ↦ inr (is, in_location q has.evse has.at is) ]
         within uid q has (inr at) = absurd (omega (arith, at.1))

@@ -5,7 +5,7 @@ use Rattle.ocpi_types.specs.declared.site.Location.{Location}
 use Rattle.tables.specs.Keys.{text_cmp}
 use Rattle.tables.specs.Tables.{shown_of, rooms_of}
 use Rattle.site.specs.declared.indexes.Indexes.{Indexes}
-use Rattle.site.specs.Positions.{Position, position_cmp, OneEvseEach, FindsLocations, FindsEvses}
+use Rattle.site.specs.Positions.{Position, position_cmp, FindsLocations, FindsEvses}
 
 -- they find each EVSE at the positions of P
 abbrev pub FindEvses : List Location → (Position → Type 0) → Indexes → Type 0

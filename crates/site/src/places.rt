@@ -9,8 +9,8 @@ ghost use Rattle.ocpi_types.specs.declared.site.Connector.{Connector};
 ghost use Rattle.site.specs.Places.{IsLocation, IsEvse, Fits, IsUnclaimed};
 ghost use Rattle.site.specs.Positions.{IsCandidate};
 
-use crate::indexes::Indexes;
 use crate::evses::{evse_at, place_of};
+use crate::indexes::Indexes;
 use ocpi_text::CiText;
 use ocpi_types::{Evse, Place, Site};
 use std::alloc::{AllocError, Global};

@@ -13,7 +13,7 @@ loop-j-preserved c =
     let evses : c.as_slice-evse-items.result.now ≡ location.evses = c.as_slice-evse-items.ensures.value ∙ ap (λ (x : Location). x.evses) (sym c.index-locations-i.is) in
     let stands : slice_get c.args.locations.now c.args.i ≡ Some location = slice_get_read _ _ c.args.i location refl c.requires.within c.index-locations-i.is in
     let within : slice_get location.evses c.loop-j.j ≡ Some evse =
-        subst (λ (es : List Evse). slice_get es c.loop-j.j ≡ Some evse) evses (slice_get_read _ _ c.loop-j.j evse refl c.loop-j-test.true c.evse-item.is) in
+    subst (λ (es : List Evse). slice_get es c.loop-j.j ≡ Some evse) evses (slice_get_read _ _ c.loop-j.j evse refl c.loop-j-test.true c.evse-item.is) in
     record {
       found = evse_added c.args.locations.now c.args.i c.loop-j.j location evse c.loop-j.self c.add_evse.new.self stands within c.loop-j.invariant.found c.loop-j.invariant.unclaimed c.in_ok-add_evse.ensures;
       unclaimed = c.in_ok-add_evse.ensures.claimed_stay ∙ c.loop-j.invariant.unclaimed;

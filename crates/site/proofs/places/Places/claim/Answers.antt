@@ -26,10 +26,12 @@ put-requires c =
 pub invariant_of-self : goal.invariant_of-self
 invariant_of-self c =
     let known : get (shown_of text_cmp c.self.inside.indexes.evses) (key c.args.evse.now) ≡ Some c.unwrap-position.result.now =
-        ap (get (shown_of text_cmp c.self.inside.indexes.evses)) (sym c.key-uid.ensures) ∙ sym c.get.ensures ∙ ap (λ (r : Option (Bor Position)). option_copied r) c.unwrap-position.ensures in
+    ap (get (shown_of text_cmp c.self.inside.indexes.evses)) (sym c.key-uid.ensures) ∙ sym c.get.ensures ∙ ap (λ (r : Option (Bor Position)). option_copied r) c.unwrap-position.ensures in
     let there = c.self.invariant.1.evses_found.sound (key c.args.evse.now) c.unwrap-position.result.now known in
-    let claimed = claimed_one _ _ _ _ _ c.unwrap-position.result.now (key c.args.evse.now) c.self.invariant.0 c.self.invariant.1.evses_found there in
-    (c.self.invariant.0, record {
-      locations_found = c.self.invariant.1.locations_found;
-      evses_found = rw (c.put.ensures.shown, c.put.ensures.room, c.remove.ensures.shown, c.key-uid.ensures) claimed;
-    })
+    let claimed = claimed_one _ _ _ _ _ c.unwrap-position.result.now (key c.args.evse.now) c.self.invariant.0 c.self.invariant.1.evses_found there in (
+      c.self.invariant.0,
+      record {
+        locations_found = c.self.invariant.1.locations_found;
+        evses_found = rw (c.put.ensures.shown, c.put.ensures.room, c.remove.ensures.shown, c.key-uid.ensures) claimed;
+      },
+    )

@@ -1,4 +1,3 @@
-use Rattle.std.proofs.Common.{◌≡◌, sym, ap, subst, refl, ◌∙◌, Some, None}
 use Rattle.std.proofs.lemmas.Option.{IfSome_then}
 use Rattle.site.proofs.Finding.{none_then, no_first}
 use Rattle.site.proofs.places.Places.find_evse.Goals as goal

@@ -1,4 +1,4 @@
-use Rattle.std.proofs.Common.{◌≡◌, sym, ap, subst, refl, ◌∙◌, Some, None}
+use Rattle.std.proofs.Common.{None}
 use Rattle.std.proofs.lemmas.Option.{IfSome_then}
 use Rattle.site.proofs.Finding.{none_from, none_then, zero_least, candidate_at, free_there, free_stands, none_free}
 use Rattle.site.proofs.places.Places.first_free_evse.Goals as goal
@@ -17,9 +17,9 @@ returns-clause-found c =
 pub returns-clause-free : goal.returns-clause-free
 returns-clause-free c =
     rw (← c.self.view_is) (IfSome_then c.evse_at.result (rw c.as_slice.ensures.value at c.evse_at.ensures.found)
-        (λ e there. free_there _ _ _ _ _ c.self.invariant.1.evses_found c.args.at c.in_ok-place.place e.now c.in_ok-place.ensures.some.0 there))
+    (λ e there. free_there _ _ _ _ _ c.self.invariant.1.evses_found c.args.at c.in_ok-place.place e.now c.in_ok-place.ensures.some.0 there))
 
 pub returns-clause-none : goal.returns-clause-none
 returns-clause-none c =
     rw (← c.self.view_is) (none_then c.evse_at.result (rw c.as_slice.ensures.value at c.evse_at.ensures.none)
-        (λ none. absurd (free_stands _ _ _ _ _ c.self.invariant.1.evses_found c.args.at c.in_ok-place.place c.in_ok-place.ensures.some.0 none)))
+    (λ none. absurd (free_stands _ _ _ _ _ c.self.invariant.1.evses_found c.args.at c.in_ok-place.place c.in_ok-place.ensures.some.0 none)))
