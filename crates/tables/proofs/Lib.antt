@@ -1,3 +1,4 @@
 pub mod Ordered
 pub mod Slots
 pub mod Maps
+pub mod Parts

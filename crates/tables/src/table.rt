@@ -3,6 +3,7 @@
 ghost use Rattle.std.specs.Prelude.{◌≡◌, IfSome, IfNone, IsOk, OnOk, OnErr, IsTrue, ⊤, false, option_copied};
 ghost use Rattle.std.specs.FinMap as map;
 ghost use Rattle.std.specs.BTreeMap.Range.{IsLeBy, IsLtBy, entries_from};
+ghost use Rattle.tables.specs.Keys.{pair_cmp};
 ghost use Rattle.tables.specs.Tables.{shown_of, rooms_of, entries_after, IsLeast, HasNone};
 
 use crate::key::TableKey;
@@ -117,9 +118,22 @@ impl<K: TableKey, V> Table<K, V> {
         ensures { result ≡ entries_after (K.cmp key) (map.entries (shown_of K.cmp self.now)) }
     {
         Visits {
-            slots: self
-                .slots
-                .range((Bound::Excluded(key), Bound::Unbounded)),
+            slots: self.slots.range((Bound::Excluded(key), Bound::Unbounded)),
+        }
+    }
+}
+
+impl<A: TableKey, B: TableKey, V> Table<(A, B), V> {
+    /// Of the keys with a first part that have a value, the least, by its second part, with the value. `lowest` is the
+    /// least of all second parts, as the empty text. It passes over the room without a value between.
+    pub fn first_with(&self, part: A, lowest: B) -> Option<(B, &V)>
+        requires { (b : B) → IsLeBy B.cmp lowest b }
+        ensures some { IfSome result (λ e. IsLeast (pair_cmp A.cmp B.cmp) (shown_of (pair_cmp A.cmp B.cmp) self.now) (λ q. q.0 ≡ part) ((part, e.0), e.1.now)) }
+        ensures none { IfNone result (HasNone (pair_cmp A.cmp B.cmp) (shown_of (pair_cmp A.cmp B.cmp) self.now) (λ q. q.0 ≡ part)) }
+    {
+        match self.first_from((part, lowest)) {
+            Some((key, value)) if key.0.cmp(&part).is_eq() => Some((key.1, value)),
+            _ => None,
         }
     }
 }

@@ -1,0 +1,154 @@
+-- What the indexes of a site find is what is looked for.
+use Rattle.std.proofs.Common.{◌≡◌, ℕ, zero, suc, false, List, [], ◌∷◌, refl, sym, ap, subst, ◌∙◌, arith}
+use Rattle.std.specs.Prelude.{◌≢◌, Option, Some, None, IsTrue, IsSome, IsNone, IfSome, IfNone, Contains, is_some, slice_get}
+use Rattle.std.specs.Ordering.{nat_cmp}
+use Rattle.std.specs.BTreeMap.Range.{IsLeBy}
+use Rattle.std.specs.FinMap.{FinMap, get, contains_key}
+use Rattle.std.proofs.lemmas.Bool.Decides.{nat_tests}
+use Rattle.std.proofs.lemmas.Option.{same_Some}
+use Rattle.ocpi_text.specs.Text.{key}
+use Rattle.ocpi_types.specs.declared.site.Location.{Location}
+use Rattle.ocpi_types.specs.declared.site.Evse.{Evse}
+use Rattle.ocpi_types.specs.declared.site.Connector.{Connector}
+use Rattle.tables.specs.Keys.{text_cmp}
+use Rattle.tables.specs.Tables.{HasNone}
+use Rattle.site.specs.Places.{Claimed, IsLocation, IsNamed, IsChosen, Fits, IsEvse, IsUnclaimed}
+use Rattle.site.specs.Positions.{Position, position_cmp, IsEvseAt, HasEvse, OneEvseEach, FindsLocations, FindsEvses, IsCandidate}
+use Rattle.site.proofs.Apart.{contained, place}
+use Rattle.site.proofs.Indexing.{one_evse}
+
+pub none_then : {X P Q : Type 0} (r : Option X) → IfNone r P → (P → Q) → IfNone r Q
+none_then None p f = f p
+none_then (Some x) p f = tt
+
+pub none_from : {X P : Type 0} (r : Option X) → P → IfNone r P
+none_from None p = p
+none_from (Some x) p = tt
+
+pub zero_least : (n : ℕ) → IsLeBy nat_cmp 0 n
+zero_least zero = refl
+zero_least (suc n) = grind (arith, nat_tests)
+
+unclaimed_key : (claimed : Claimed) (uid : List ℕ) → contains_key claimed uid ≡ false → IsUnclaimed claimed uid
+unclaimed_key claimed uid e = go (get claimed uid) e
+  where
+    go : (o : Option (Unit {0})) → is_some o ≡ false → o ≡ None
+    go None e = refl
+    go (Some x) e = absurd (cc)
+
+module _ (locations : List Location) where
+  module _ (index : FinMap text_cmp ℕ) (f : FindsLocations locations (λ i. Unit {0}) index) (id : List ℕ) where
+    pub found_location : (r : Option ℕ) → r ≡ get index (key id) → IfSome r (λ i. (l : Location) × (slice_get locations i ≡ Some l) × IsLocation locations id l)
+    found_location None e = tt
+    found_location (Some i) e =
+        let h = f.sound (key id) i (sym e) in
+        (h.location, h.stands, record { listed = contained locations i h.location h.stands; same = h.same })
+
+    pub no_location : (r : Option ℕ) → r ≡ get index (key id) → IfNone r ((l : Location) → IsLocation locations id l → ⊥)
+    no_location None e = λ l is.
+        let p = place locations l is.listed in
+        let there : IsTrue (is_some (get index (key id))) = f.complete (key id) p.0 tt (record { location = l; stands = p.1; same = is.same }) in
+        let absent : is_some (get index (key id)) ≡ false = ap is_some (sym e) in
+        cc
+    no_location (Some i) e = tt
+
+  -- an EVSE at a position is one of the location that stands there
+  pub candidate_at : (p : Position) (e : Evse) (uid : Option (List ℕ)) → IsEvseAt locations p e → IsNamed uid e.uid → IsCandidate locations p.0 uid e
+  candidate_at p e uid at named = record { location = at.location; stands = at.stands; listed = contained at.location.evses p.1 e at.within; named = named }
+
+  -- and each such EVSE has a position
+  pub position_of : (at : ℕ) (uid : Option (List ℕ)) (e : Evse) → IsCandidate locations at uid e → (j : ℕ) × IsEvseAt locations (at, j) e
+  position_of at uid e c = let p = place c.location.evses e c.listed in (p.0, record { location = c.location; stands = c.stands; within = p.1 })
+
+  -- a location without a first EVSE has none
+  pub no_first : (at : ℕ) → ((e : Evse) → IsEvseAt locations (at, 0) e → ⊥) → (uid : Option (List ℕ)) (e : Evse) → IsCandidate locations at uid e → ⊥
+  no_first at none uid e c = go c.location.evses (place c.location.evses e c.listed) (λ f first. none f (record { location = c.location; stands = c.stands; within = first }))
+    where
+      go : (es : List Evse) → (i : ℕ) × (slice_get es i ≡ Some e) → ((f : Evse) → slice_get es 0 ≡ Some f → ⊥) → ⊥
+      go es h first = elim es as (λ (es : List Evse). slice_get es h.0 ≡ Some e → ((f : Evse) → slice_get es 0 ≡ Some f → ⊥) → ⊥) [
+        | [] ↦ λ at first. cc
+        | f ∷ fs ↦ λ at first. first f refl
+      ] h.1 first
+
+  module _ (index : FinMap text_cmp Position) (claimed rooms : Claimed) (free : FinMap position_cmp (Unit {0})) (h : FindsEvses locations (λ p. Unit {0}) index claimed rooms free) where
+    module _ (one : OneEvseEach locations) (at : ℕ) (uid : List ℕ) where
+      -- where the EVSE of a uid stands, if it is one of the location
+      stands_there : (e : Evse) → IsCandidate locations at (Some uid) e → (j : ℕ) × IsEvseAt locations (at, j) e × HasEvse locations (at, j) (key uid)
+      stands_there e c = let p = position_of at (Some uid) e c in (p.0, p.1, record { evse = e; at = p.1; same = c.named })
+
+      pub unknown_uid : get index (key uid) ≡ None → (e : Evse) → IsCandidate locations at (Some uid) e → ⊥
+      unknown_uid none e c =
+          let p = stands_there e c in
+          let there : IsTrue (is_some (get index (key uid))) = h.complete (key uid) (at, p.0) tt p.2 in
+          let absent : is_some (get index (key uid)) ≡ false = ap is_some none in
+          cc
+
+      module _ (p : Position) (known : get index (key uid) ≡ Some p) where
+        same_position : (e : Evse) → IsCandidate locations at (Some uid) e → (j : ℕ) × IsEvseAt locations (at, j) e × (p ≡ (at, j))
+        same_position e c = let q = stands_there e c in (q.0, q.1, one (key uid) p (at, q.0) (h.sound (key uid) p known) q.2)
+
+        pub other_location : p.0 ≢ at → (e : Evse) → IsCandidate locations at (Some uid) e → ⊥
+        other_location other e c = let q = same_position e c in other (ap (λ (x : Position). x.0) q.2)
+
+        pub found_uid : p.0 ≡ at → (e : Evse) → IsEvseAt locations p e → IsCandidate locations at (Some uid) e
+        found_uid same e there =
+            let has = h.sound (key uid) p known in
+            let is : has.evse ≡ e = one_evse locations p has.evse e has.at there in
+            subst (λ n. IsCandidate locations n (Some uid) e) same (candidate_at p e (Some uid) there (subst (λ (x : Evse). key x.uid ≡ key uid) is has.same))
+
+        pub sole_uid : (e : Evse) → IsEvseAt locations p e → (f : Evse) → IsCandidate locations at (Some uid) f → f ≡ e
+        sole_uid e there f c =
+            let q = same_position f c in
+            one_evse locations p f e (subst (λ z. IsEvseAt locations z f) (sym q.2) q.1) there
+
+        pub no_uid : ((e : Evse) → IsEvseAt locations p e → ⊥) → ⊥
+        no_uid none = let has = h.sound (key uid) p known in none has.evse has.at
+
+    module _ (at : ℕ) where
+      -- an EVSE at a free position is not claimed
+      pub free_there : (j : ℕ) (e : Evse) → get free (at, j) ≡ Some tt → IsEvseAt locations (at, j) e → IsUnclaimed claimed (key e.uid)
+      free_there j e is there =
+          let was = h.unclaimed (at, j) is in
+          let same : was.1.evse ≡ e = one_evse locations (at, j) was.1.evse e was.1.at there in
+          subst (λ (x : Evse). IsUnclaimed claimed (key x.uid)) same (subst (IsUnclaimed claimed) (sym was.1.same) was.2)
+
+      -- and stands at its position
+      pub free_stands : (j : ℕ) → get free (at, j) ≡ Some tt → ((e : Evse) → IsEvseAt locations (at, j) e → ⊥) → ⊥
+      free_stands j is none = let was = h.unclaimed (at, j) is in none was.1.evse was.1.at
+
+      pub none_free : HasNone position_cmp free (λ q. q.0 ≡ at) → (uid : Option (List ℕ)) (e : Evse) → IsCandidate locations at uid e → IsUnclaimed claimed (key e.uid) → ⊥
+      none_free none uid e c unclaimed =
+          let p = position_of at uid e c in
+          let is : get free (at, p.0) ≡ Some tt = h.free_complete (key e.uid) (at, p.0) tt (record { evse = e; at = p.1; same = refl }) unclaimed in
+          let absent : get free (at, p.0) ≡ None = none (at, p.0) refl in
+          cc
+
+    -- where the EVSE of a uid stands, and what it has
+    pub known_uid : (uid : List ℕ) → IsEvse locations uid → IsSome (get index uid) × IsTrue (contains_key rooms uid)
+    known_uid uid e =
+        let i = place locations e.location e.listed in
+        let j = place e.location.evses e.evse e.within in
+        let has : HasEvse locations (i.0, j.0) uid = record { evse = e.evse; at = record { location = e.location; stands = i.1; within = j.1 }; same = e.same } in
+        (h.complete uid (i.0, j.0) tt has, h.room uid (i.0, j.0) tt has)
+
+  -- a place of the location is an EVSE of it with one of its connectors
+  pub fits : (at : ℕ) (uid connector : Option (List ℕ)) (e : Evse) (k : Connector) (l : Location) → slice_get locations at ≡ Some l → IsCandidate locations at uid e → IsChosen connector e.connectors k → Fits l.evses uid connector e k
+  fits at uid connector e k l stands c chosen = record {
+    listed = subst (λ (x : Location). Contains x.evses e) (same_Some c.location l (sym c.stands ∙ stands)) c.listed;
+    named = c.named;
+    chosen = chosen;
+  }
+
+  pub fitting : (at : ℕ) (uid connector : Option (List ℕ)) (e : Evse) (k : Connector) (l : Location) → slice_get locations at ≡ Some l → Fits l.evses uid connector e k → IsCandidate locations at uid e
+  fitting at uid connector e k l stands f = record { location = l; stands = stands; listed = f.listed; named = f.named }
+
+  -- without a place at the EVSE that is looked at, none fits
+  pub no_place : {X : Type 0} (r : Option X) (at : ℕ) (uid connector : Option (List ℕ)) (e : Evse) → (IsSome connector × IsNone uid → ⊥) → (IsSome uid → (f : Evse) → IsCandidate locations at uid f → f ≡ e) →
+      IfNone r ((k : Connector) → IsChosen connector e.connectors k → ⊥) → (IsNone connector → IsSome r) →
+      IfNone r ((l : Location) → slice_get locations at ≡ Some l → (f : Evse) (k : Connector) → Fits l.evses uid connector f k → ⊥)
+  no_place (Some x) at uid connector e named sole none first = tt
+  no_place None at uid None e named sole none first = λ l stands f k fit. let h = first refl in absurd (cc)
+  no_place None at None (Some name) e named sole none first = λ l stands f k fit. named (refl, refl)
+  no_place None at (Some u) (Some name) e named sole none first = λ l stands f k fit.
+      let same : f ≡ e = sole refl f (fitting at (Some u) (Some name) f k l stands fit) in
+      none k (subst (λ (x : Evse). IsChosen (Some name) x.connectors k) same fit.chosen)

@@ -1,0 +1,190 @@
+-- What finds the locations and EVSEs of a site stays right as it is filled, and when an EVSE is claimed.
+use Rattle.std.proofs.Common.{◌≡◌, ℕ, ◌<◌, ◌≤◌, ◌+◌, Bool, true, false, cond, ◌⊎◌, inl, inr, List, refl, sym, ap, subst, ◌∙◌, length, arith}
+use Rattle.std.specs.Prelude.{Option, Some, None, IsTrue, is_some, slice_get}
+use Rattle.std.specs.declared.cmp.Ordering.{Ordering}
+use Rattle.std.specs.Ordering.{nat_cmp, eq_by_cmp}
+use Rattle.std.specs.Cmp.{IsTotalOrder, nat_cmp_total}
+use Rattle.std.specs.FinMap.{FinMap, IsAntisymmetric, nat_cmp-IsAntisymmetric, get, insert, remove, empty, contains_key, get-empty, get-insert}
+use Rattle.std.proofs.lemmas.Bool.{cases_lt}
+use Rattle.std.proofs.lemmas.Cmp.{on_total, then_total}
+use Rattle.std.proofs.lemmas.Option.{same_Some, slice_get_within}
+use Rattle.ocpi_text.specs.Text.{key}
+use Rattle.ocpi_types.specs.declared.site.Location.{Location}
+use Rattle.ocpi_types.specs.declared.site.Evse.{Evse}
+use Rattle.tables.specs.Keys.{text_cmp, text_total, text_exact, pair_exact}
+use Rattle.tables.proofs.Maps.{of_insert, get-insert_same, get-insert_other, get-remove_other, of_remove}
+use Rattle.site.specs.Places.{Claimed}
+use Rattle.site.specs.Positions.{Position, position_cmp, IsEvseAt, HasEvse, HasLocation, OneEvseEach, FindsLocations, FindsEvses, IsBefore}
+
+pub position_total : IsTotalOrder position_cmp
+position_total = then_total (on_total (λ (p : Position). p.0) nat_cmp_total) (on_total (λ (p : Position). p.1) nat_cmp_total)
+
+pub position_exact : IsAntisymmetric position_cmp
+position_exact = pair_exact nat_cmp nat_cmp nat_cmp-IsAntisymmetric nat_cmp-IsAntisymmetric
+
+none_some : {X : Type 0} (x : X) (o : Option X) → o ≡ None → o ≡ Some x → ⊥
+none_some x o a b = cc
+
+module _ {K X : Type 0} {R : K → K → Ordering} (o : IsTotalOrder R) (m : FinMap R X) (k q : K) (v : X) where
+  -- what has a value has one after an insert
+  still : IsTrue (contains_key m q) → IsTrue (contains_key (insert m k v) q)
+  still has = ap is_some (get-insert o m k v q) ∙ go (eq_by_cmp R q k)
+    where
+      go : (t : Bool) → is_some (cond t (Some v) (get m q)) ≡ true
+      go true = refl
+      go false = has
+
+  -- what has none after an insert had none
+  none_before : get (insert m k v) q ≡ None → get m q ≡ None
+  none_before none = go (eq_by_cmp R q k) (sym (get-insert o m k v q) ∙ none)
+    where
+      go : (t : Bool) → cond t (Some v) (get m q) ≡ None → get m q ≡ None
+      go true e = absurd (cc)
+      go false e = e
+
+  -- a value that is put in again stands wherever it stood
+  stays : get m q ≡ Some v → get (insert m k v) q ≡ Some v
+  stays has = get-insert o m k v q ∙ go (eq_by_cmp R q k)
+    where
+      go : (t : Bool) → cond t (Some v) (get m q) ≡ Some v
+      go true = refl
+      go false = has
+
+-- a position has one EVSE
+pub one_evse : (locations : List Location) (p : Position) (e f : Evse) → IsEvseAt locations p e → IsEvseAt locations p f → e ≡ f
+one_evse locations p e f g h =
+    let l : g.location ≡ h.location = same_Some g.location h.location (sym g.stands ∙ h.stands) in
+    same_Some e f (sym g.within ∙ ap (λ (x : Location). slice_get x.evses p.1) l ∙ h.within)
+
+one_uid : (locations : List Location) (p : Position) (uid other : List ℕ) → HasEvse locations p uid → HasEvse locations p other → uid ≡ other
+one_uid locations p uid other g h = sym g.same ∙ ap (λ (e : Evse). key e.uid) (one_evse locations p g.evse h.evse g.at h.at) ∙ h.same
+
+-- one more index is below, or is that number
+below_more : (n i : ℕ) → i < n + 1 → (i < n) ⊎ (i ≡ n)
+below_more n i h = elim (cases_lt i n) [ inl less ↦ inl less | inr above ↦ inr (omega arith) ]
+
+module _ (locations : List Location) where
+  one_id : (i : ℕ) (id other : List ℕ) → HasLocation locations i id → HasLocation locations i other → id ≡ other
+  one_id i id other g h = sym g.same ∙ ap (λ (l : Location). key l.id) (same_Some g.location h.location (sym g.stands ∙ h.stands)) ∙ h.same
+
+  -- the index of no location
+  pub no_location : FindsLocations locations (λ i. i < 0) empty
+  no_location = record { sound = λ id i e. absurd (none_some i _ (get-empty text_cmp id) e); complete = λ id i b h. absurd (omega arith) }
+
+  -- one more location
+  pub more_locations : (n : ℕ) (index : FinMap text_cmp ℕ) (id : List ℕ) → FindsLocations locations (λ i. i < n) index → HasLocation locations n id →
+      FindsLocations locations (λ i. i < n + 1) (insert index id n)
+  more_locations n index id h here = record {
+    sound = λ q i e. elim (of_insert text_total text_exact index id n q i e) [
+      | inl at ↦ subst (λ z. HasLocation locations z q) at.1 (subst (HasLocation locations n) (sym at.0) here)
+      | inr old ↦ h.sound q i old
+    ];
+    complete = λ q i b has. elim (below_more n i b) [
+      | inl less ↦ still text_total index id q n (h.complete q i less has)
+      | inr is ↦
+          let same : id ≡ q = one_id n id q here (subst (λ z. HasLocation locations z q) is has) in
+          subst (λ z. IsTrue (contains_key (insert index id n) z)) same (ap is_some (get-insert_same text_total text_exact index id n))
+    ];
+  }
+
+  -- all locations
+  pub all_locations : (index : FinMap text_cmp ℕ) → FindsLocations locations (λ i. i < length locations) index → FindsLocations locations (λ i. Unit {0}) index
+  all_locations index h = record { sound = h.sound; complete = λ id i b has. h.complete id i (slice_get_within locations i has.location has.stands) has }
+
+  -- the index of no EVSE
+  pub no_evse : (claimed rooms : Claimed) → FindsEvses locations (IsBefore 0 0) empty claimed rooms empty
+  no_evse claimed rooms = record {
+    sound = λ uid p e. absurd (none_some p _ (get-empty text_cmp uid) e);
+    complete = λ uid p b h. absurd (none_before_first p b);
+    room = λ uid p b h. absurd (none_before_first p b);
+    unclaimed = λ p e. absurd (none_some tt _ (get-empty position_cmp p) e);
+    free_complete = λ uid p b h c. absurd (none_before_first p b);
+  }
+    where
+      none_before_first : (p : Position) → IsBefore 0 0 p → ⊥
+      none_before_first p (inl h) = omega arith
+      none_before_first p (inr h) = omega (arith, h.1)
+
+  module _ (index : FinMap text_cmp Position) (claimed rooms : Claimed) (free : FinMap position_cmp (Unit {0})) where
+    -- at fewer positions
+    fewer : (P Q : Position → Type 0) → ((uid : List ℕ) (p : Position) → HasEvse locations p uid → Q p → P p) → FindsEvses locations P index claimed rooms free → FindsEvses locations Q index claimed rooms free
+    fewer P Q within h = record {
+      sound = h.sound;
+      complete = λ uid p b has. h.complete uid p (within uid p has b) has;
+      room = λ uid p b has. h.room uid p (within uid p has b) has;
+      unclaimed = h.unclaimed;
+      free_complete = λ uid p b has none. h.free_complete uid p (within uid p has b) has none;
+    }
+
+    -- one more EVSE, while none is claimed
+    module _ (P Q : Position → Type 0) (p : Position) (uid : List ℕ) (or_here : (q : Position) → Q q → P q ⊎ (q ≡ p)) (h : FindsEvses locations P index claimed rooms free) (here : HasEvse locations p uid) where
+      its_uid : (q : Position) (other : List ℕ) → q ≡ p → HasEvse locations q other → uid ≡ other
+      its_uid q other is has = one_uid locations p uid other here (subst (λ z. HasEvse locations z other) is has)
+
+      one_more : ((other : List ℕ) → get claimed other ≡ None) → FindsEvses locations Q (insert index uid p) claimed (insert rooms uid tt) (insert free p tt)
+      one_more unclaimed = record {
+        sound = λ other q e. elim (of_insert text_total text_exact index uid p other q e) [
+          | inl at ↦ subst (λ z. HasEvse locations z other) at.1 (subst (HasEvse locations p) (sym at.0) here)
+          | inr old ↦ h.sound other q old
+        ];
+        complete = λ other q b has. elim (or_here q b) [
+          | inl old ↦ still text_total index uid other p (h.complete other q old has)
+          | inr is ↦ subst (λ z. IsTrue (contains_key (insert index uid p) z)) (its_uid q other is has) (ap is_some (get-insert_same text_total text_exact index uid p))
+        ];
+        room = λ other q b has. elim (or_here q b) [
+          | inl old ↦ still text_total rooms uid other tt (h.room other q old has)
+          | inr is ↦ subst (λ z. IsTrue (contains_key (insert rooms uid tt) z)) (its_uid q other is has) (ap is_some (get-insert_same text_total text_exact rooms uid tt))
+        ];
+        unclaimed = λ q e. elim (of_insert position_total position_exact free p tt q tt e) [
+          | inl at ↦ (uid, subst (λ z. HasEvse locations z uid) (sym at.0) here, unclaimed uid)
+          | inr old ↦ h.unclaimed q old
+        ];
+        free_complete = λ other q b has none. elim (or_here q b) [
+          | inl old ↦ stays position_total free p q tt (h.free_complete other q old has none)
+          | inr is ↦ subst (λ z. get (insert free p tt) z ≡ Some tt) (sym is) (get-insert_same position_total position_exact free p tt)
+        ];
+      }
+
+    -- the next EVSE of a location
+    pub next_evse : (i j : ℕ) (uid : List ℕ) → ((other : List ℕ) → get claimed other ≡ None) → FindsEvses locations (IsBefore i j) index claimed rooms free → HasEvse locations (i, j) uid →
+        FindsEvses locations (IsBefore i (j + 1)) (insert index uid (i, j)) claimed (insert rooms uid tt) (insert free (i, j) tt)
+    next_evse i j uid unclaimed h here = one_more (IsBefore i j) (IsBefore i (j + 1)) (i, j) uid or_here h here unclaimed
+      where
+        or_here : (q : Position) → IsBefore i (j + 1) q → IsBefore i j q ⊎ (q ≡ (i, j))
+        or_here q (inl less) = inl (inl less)
+        or_here q (inr at) = elim (below_more j q.1 at.1) [ inl less ↦ inl (inr (at.0, less)) | inr is ↦ inr (λ k. (at.0 k, is k)) ]
+
+    -- the next location
+    pub next_location : (i j : ℕ) (l : Location) → slice_get locations i ≡ Some l → length l.evses ≤ j → FindsEvses locations (IsBefore i j) index claimed rooms free →
+        FindsEvses locations (IsBefore (i + 1) 0) index claimed rooms free
+    next_location i j l stands all h = fewer (IsBefore i j) (IsBefore (i + 1) 0) within h
+      where
+        in_location : (q : Position) (e : Evse) → IsEvseAt locations q e → q.0 ≡ i → q.1 < j
+        in_location q e at is =
+            let same : at.location ≡ l = same_Some at.location l (sym at.stands ∙ ap (slice_get locations) is ∙ stands) in
+            let less : q.1 < length l.evses = subst (λ (x : Location). q.1 < length x.evses) same (slice_get_within at.location.evses q.1 e at.within) in
+            omega arith
+
+        within : (uid : List ℕ) (q : Position) → HasEvse locations q uid → IsBefore (i + 1) 0 q → IsBefore i j q
+        within uid q has (inl less) = elim (below_more i q.0 less) [ inl less ↦ inl less | inr is ↦ inr (is, in_location q has.evse has.at is) ]
+        within uid q has (inr at) = absurd (omega (arith, at.1))
+
+    -- all EVSEs
+    pub all_evses : FindsEvses locations (IsBefore (length locations) 0) index claimed rooms free → FindsEvses locations (λ p. Unit {0}) index claimed rooms free
+    all_evses h = fewer (IsBefore (length locations) 0) (λ p. Unit {0}) (λ uid p has b. inl (slice_get_within locations p.0 has.at.location has.at.stands)) h
+
+    -- an EVSE is claimed
+    pub claimed_one : (p : Position) (uid : List ℕ) → OneEvseEach locations → FindsEvses locations (λ p. Unit {0}) index claimed rooms free → HasEvse locations p uid →
+        FindsEvses locations (λ p. Unit {0}) index (insert claimed uid tt) rooms (remove free p)
+    claimed_one p uid one h here = record {
+      sound = h.sound;
+      complete = h.complete;
+      room = h.room;
+      unclaimed = λ q e.
+          let old = of_remove position_total position_exact free p q tt e in
+          let was = h.unclaimed q old.1 in
+          (was.0, was.1, get-insert_other text_total text_exact claimed uid tt was.0 (λ same. old.0 (one was.0 q p was.1 (subst (HasEvse locations p) (sym same) here))) ∙ was.2);
+      free_complete = λ other q b has none.
+          get-remove_other position_total position_exact free p q (λ is. none_some tt _ (ap (get (insert claimed uid tt)) (one_uid locations p uid other here (subst (λ z. HasEvse locations z other) is has)) ∙ none) (get-insert_same text_total text_exact claimed uid tt))
+          ∙ h.free_complete other q tt has (none_before text_total claimed uid other tt none);
+    }

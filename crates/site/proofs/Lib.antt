@@ -1,0 +1,4 @@
+pub mod Apart
+pub mod Indexing
+pub mod Finding
+pub mod Filling
