@@ -15,6 +15,13 @@ fn numbers(alloc: Global) -> Result<Table<u64, u64>, AllocError> {
     Ok(table)
 }
 
+fn key_of(found: Option<(u64, &u64)>) -> Option<u64> {
+    match found {
+        Some((key, _)) => Some(key),
+        None => None,
+    }
+}
+
 #[test]
 fn look_ups(rt: HostRuntime) -> Result<(), Fail> {
     let table = numbers(rt.alloc())?;
@@ -22,10 +29,9 @@ fn look_ups(rt: HostRuntime) -> Result<(), Fail> {
     assert!(rt; table.contains(1));
     assert!(rt; table.has_room(3));
     assert!(rt; !table.contains(3));
-    assert_eq!(rt; table.first().map(|entry| entry.0), Some(1));
-    assert_eq!(rt; table.first_from(2).map(|entry| entry.0), Some(5));
-    assert_eq!(rt; table.first_after(5).map(|entry| entry.0), Some(9));
-    assert_eq!(rt; table.first_after(9).map(|entry| entry.0), None);
+    assert_eq!(rt; key_of(table.first()), Some(1));
+    assert_eq!(rt; key_of(table.first_from(2)), Some(5));
+    assert_eq!(rt; key_of(table.first_after(5)), Some(9));
     Ok(())
 }
 
@@ -61,10 +67,12 @@ fn changes(rt: HostRuntime) -> Result<(), Fail> {
 #[test]
 fn parties(rt: HostRuntime) -> Result<(), Fail> {
     let mut table = Table::new(rt.alloc());
-    for (party, number, value) in [("NL/TNM", 1, 3u64), ("BE/BEC", 9, 2), ("BE/BEC", 2, 1)] {
-        if let (Ok(party), Some(number)) = (Party::read(party), Whole::new(number)) {
-            table.insert((party, number), value)?;
-        }
+    for (party, number, value) in [
+        ("NL/TNM", "1", 3u64),
+        ("BE/BEC", "9", 2),
+        ("BE/BEC", "2", 1),
+    ] {
+        table.insert((Party::read(party)?, Whole::read(number)?), value)?;
     }
     let mut seen = Vec::new(rt.alloc());
     for (_, value) in table.iter() {
@@ -82,18 +90,16 @@ fn place(location: &str, evse: &str) -> Result<(CiText<36>, CiText<36>), TextFau
 #[test]
 fn places(rt: HostRuntime) -> Result<(), Fail> {
     let mut table = Table::new(rt.alloc());
-    for (location, evse) in [("LOC1", "E1"), ("LOC2", "E1"), ("LOC2", "E2")] {
-        if let Ok(key) = place(location, evse) {
-            table.insert(key, ())?;
-        }
+    for (location, evse, value) in [("LOC1", "E1", 1u64), ("LOC2", "E1", 2), ("LOC2", "E2", 3)] {
+        table.insert(place(location, evse)?, value)?;
     }
-    if let (Ok(cleared), Ok(from), Ok(next)) = (
-        place("LOC2", "E1"),
-        place("LOC2", ""),
-        place("LOC2", "E2"),
-    ) {
-        table.clear(cleared);
-        assert!(rt; table.first_from(from).map(|entry| entry.0) == Some(next));
-    }
+    table.clear(place("LOC2", "E1")?);
+    let lowest = CiText::new("")?;
+    let Some((evse, value)) = table.first_with(CiText::new("LOC2")?, lowest) else {
+        return Err(Fail::new("no EVSE is found"));
+    };
+    assert_eq!(rt; evse.as_str(), "E2");
+    assert_eq!(rt; *value, 3);
+    assert!(rt; table.first_with(CiText::new("LOC3")?, lowest).is_none());
     Ok(())
 }

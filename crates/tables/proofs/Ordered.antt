@@ -1,6 +1,6 @@
 -- Lists of entries in the order of their keys, read as finite maps.
 use Rattle.std.proofs.Common.{◌≡◌, Bool, true, false, cond, T, List, [], ◌∷◌, refl, sym, ap, subst, ◌∙◌, length}
-use Rattle.std.specs.Prelude.{Option, Some, None, ◌&&◌, is_some, ⊤}
+use Rattle.std.specs.Prelude.{Some, None, ◌&&◌, is_some, ⊤}
 use Rattle.std.specs.Ordering.{eq_by_cmp, is_lt, is_eq, is_le, is_gt}
 use Rattle.std.specs.declared.cmp.Ordering.{Ordering}
 use Rattle.std.specs.declared.cmp.Ordering.TheVariants.{Less, Equal, Greater}
@@ -10,7 +10,7 @@ use Rattle.std.specs.List.Sorted.{IsStrictlySortedBy}
 use Rattle.std.specs.Map.{lookup, keys_of}
 use Rattle.std.specs.BTreeMap.{is_at}
 use Rattle.std.specs.BTreeMap.Range.{IsLeBy, IsLtBy, entries_from}
-use Rattle.std.specs.FinMap.{FinMap, IsAntisymmetric, find, is_sorted, entries, entries_sorted, get, get-entries, contains_key, empty, from_sorted, entries-from_sorted, empty_of_len, len-entries}
+use Rattle.std.specs.FinMap.{FinMap, IsAntisymmetric, find, is_sorted, entries, entries_sorted, get-entries, empty, from_sorted, entries-from_sorted, empty_of_len, len-entries}
 use Rattle.std.specs.FinMap.Entries.{below_all}
 use Rattle.std.proofs.lemmas.Map.Keys.{sorted_head, sorted_tail}
 use Rattle.tables.specs.Tables.{IsLeast, HasNone, entries_after}

@@ -1,7 +1,7 @@
 -- Keys of two parts: all keys with one first part stand together, from the least second part on.
 use Rattle.std.proofs.Common.{◌≡◌, true, false, refl, sym, ap, subst, ◌∙◌, ℕ, List, []}
 use Rattle.std.specs.Prelude.{◌≢◌, Option, Some, None, is_some}
-use Rattle.std.specs.Ordering.{ordering_then, ordering_reverse, is_gt, nat_cmp}
+use Rattle.std.specs.Ordering.{ordering_then, ordering_reverse, is_gt}
 use Rattle.std.specs.declared.cmp.Ordering.{Ordering}
 use Rattle.std.specs.declared.cmp.Ordering.TheVariants.{Less, Equal, Greater}
 use Rattle.std.specs.Cmp.{IsTotalOrder}
