@@ -10,20 +10,9 @@ pub use Rattle.ocpi_text.proofs.Digits.{whole_again}
 pub use Rattle.ocpi_text.proofs.Moments.{moment_again, moment_begins}
 pub use Rattle.ocpi_text.proofs.Decimals.{e4_again}
 pub use Rattle.ocpi_text.proofs.Parties.{exact_from_parts, party_of_halves, country_passes, party_id_passes, party_passes}
-use Rattle.ocpi_text.proofs.Text.{printable_length}
+pub use Rattle.ocpi_text.proofs.Text.{ci_again, free_again}
 use Rattle.ocpi_text.proofs.Digits.{own, whole_from, first_digit}
 use Rattle.std.proofs.lemmas.Fmt.{digits_decimal, decimal_nonempty}
-
-pub ci_again : (max : ℕ) (s : List ℕ) → is_ascii_text s ≡ true → length s ≤ max → ci_text max s ≡ Ok s
-ci_again max s p le =
-    let same = printable_length s p in
-    let short : nat_lt max (length (chars s)) ≡ false = le-ltb _ _ (omega arith) in
-    rw (short, p) refl
-
-pub free_again : (max : ℕ) (s : List ℕ) → is_free_text s ≡ true → length (chars s) ≤ max → free_text max s ≡ Ok s
-free_again max s f le =
-    let short : nat_lt max (length (chars s)) ≡ false = le-ltb _ _ le in
-    rw (short, f) refl
 
 pub ci_begins : (s : List ℕ) → is_ascii_text s ≡ true → (slice_index s 0 == 1) ≡ false
 unfolding is_ascii_text

@@ -117,13 +117,7 @@ short_text_of_padded max count text le free short u =
       utf8 = ∣ rw front u ∣₁;
     }
 
--- a text that is taken, and one that is not printable, by the test of its bytes
-pub ci_taken : (max : ℕ) (s : List ℕ) → length s ≤ max → is_ascii_text s ≡ true → ci_text max s ≡ Ok s
-ci_taken max s le printable =
-    let same = printable_length s printable in
-    let short : nat_lt max (length (chars s)) ≡ false = le-ltb _ _ (omega arith) in
-    rw (short, printable) refl
-
+-- a text that is refused for its characters
 not_taken : (printable : Bool) (s : List ℕ) → (printable ≡ true → ⊥) → (if printable then Ok s else Err NotPrintable) ≡ Err NotPrintable
 not_taken true s h = elim (h refl) [ ]
 not_taken false s h = refl
