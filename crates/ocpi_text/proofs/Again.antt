@@ -1,11 +1,11 @@
 -- What is written is read again as the same value, and no such text begins with the byte 1.
-use Rattle.std.proofs.Common.{◌≡◌, ℕ, ◌<◌, ◌≤◌, true, false, List, [], ◌∷◌, length, Ok, refl, arith, decimal}
-use Rattle.std.specs.Prelude.{slice_index, ◌==◌, nat_lt, ◌^◌}
+use Rattle.std.proofs.Common.{◌≡◌, ℕ, ◌<◌, true, false, List, [], ◌∷◌, refl, arith, decimal}
+use Rattle.std.specs.Prelude.{slice_index, ◌==◌, ◌^◌}
 use Rattle.std.specs.List.{list_all}
 use Rattle.std.specs.Str.{chars}
-use Rattle.std.proofs.lemmas.Bool.{and_parts, ne_eqb, le-ltb}
+use Rattle.std.proofs.lemmas.Bool.{and_parts, ne_eqb}
 use Rattle.std.proofs.lemmas.Bool.Decides.{nat_tests}
-use Rattle.ocpi_text.specs.Text.{is_printable, is_ascii_text, is_free_text, ci_text, free_text}
+use Rattle.ocpi_text.specs.Text.{is_printable, is_ascii_text, is_free_text}
 pub use Rattle.ocpi_text.proofs.Digits.{whole_again}
 pub use Rattle.ocpi_text.proofs.Moments.{moment_again, moment_begins}
 pub use Rattle.ocpi_text.proofs.Decimals.{e4_again}
