@@ -1,29 +1,18 @@
 -- What is written is read again as the same value, and no such text begins with the byte 1.
-use Rattle.std.proofs.Common.{◌≡◌, ℕ, ◌<◌, ◌≤◌, true, false, List, [], ◌∷◌, length, Ok, refl, arith, decimal}
-use Rattle.std.specs.Prelude.{slice_index, ◌==◌, nat_lt, ◌^◌}
+use Rattle.std.proofs.Common.{◌≡◌, ℕ, ◌<◌, true, false, List, [], ◌∷◌, refl, arith, decimal}
+use Rattle.std.specs.Prelude.{slice_index, ◌==◌, ◌^◌}
 use Rattle.std.specs.List.{list_all}
 use Rattle.std.specs.Str.{chars}
-use Rattle.std.proofs.lemmas.Bool.{and_parts, ne_eqb, le-ltb}
+use Rattle.std.proofs.lemmas.Bool.{and_parts, ne_eqb}
 use Rattle.std.proofs.lemmas.Bool.Decides.{nat_tests}
-use Rattle.ocpi_text.specs.Text.{is_printable, is_ascii_text, is_free_text, ci_text, free_text}
+use Rattle.ocpi_text.specs.Text.{is_printable, is_ascii_text, is_free_text}
 pub use Rattle.ocpi_text.proofs.Digits.{whole_again}
 pub use Rattle.ocpi_text.proofs.Moments.{moment_again, moment_begins}
 pub use Rattle.ocpi_text.proofs.Decimals.{e4_again}
 pub use Rattle.ocpi_text.proofs.Parties.{exact_from_parts, party_of_halves, country_passes, party_id_passes, party_passes}
-use Rattle.ocpi_text.proofs.Text.{printable_length}
+pub use Rattle.ocpi_text.proofs.Text.{ci_again, free_again}
 use Rattle.ocpi_text.proofs.Digits.{own, whole_from, first_digit}
 use Rattle.std.proofs.lemmas.Fmt.{digits_decimal, decimal_nonempty}
-
-pub ci_again : (max : ℕ) (s : List ℕ) → is_ascii_text s ≡ true → length s ≤ max → ci_text max s ≡ Ok s
-ci_again max s p le =
-    let same = printable_length s p in
-    let short : nat_lt max (length (chars s)) ≡ false = le-ltb _ _ (omega arith) in
-    rw (short, p) refl
-
-pub free_again : (max : ℕ) (s : List ℕ) → is_free_text s ≡ true → length (chars s) ≤ max → free_text max s ≡ Ok s
-free_again max s f le =
-    let short : nat_lt max (length (chars s)) ≡ false = le-ltb _ _ le in
-    rw (short, f) refl
 
 pub ci_begins : (s : List ℕ) → is_ascii_text s ≡ true → (slice_index s 0 == 1) ≡ false
 unfolding is_ascii_text

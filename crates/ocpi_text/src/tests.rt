@@ -36,7 +36,12 @@ fn free_texts(rt: HostRuntime) -> Result<(), Fail> {
     assert_eq!(rt; text.copy()?.as_str(), "Café ~");
     assert_eq!(rt; ShortText::<6, 24>::new("Café ~")?.as_str(), "Café ~");
     assert!(rt; matches!(FreeText::<3>::new(alloc, "Café"), Err(TextFault::TooLong)));
-    assert!(rt; matches!(FreeText::<9>::new(alloc, "a\u{9f}"), Err(TextFault::NotPrintable)));
+    assert!(rt;
+        matches!(
+            FreeText::<9>::new(alloc, "a\u{9f}"),
+            Err(TextFault::NotPrintable)
+        )
+    );
     Ok(())
 }
 
