@@ -14,12 +14,12 @@ sums=$crate/out/ocpi_nodes.sums
 # Sets `crates` to the crates that the program stands on by crates.txt, lowest first, and the program's own last.
 find_crates() {
     local -A below=()
-    local line name
+    local line words
     while IFS= read -r line || [[ $line ]]; do
         line=${line%%#*}
         [[ $line == *:* ]] || continue
-        read -r name _ <<< "${line%%:*}"
-        below[$name]=${line#*:}
+        words=(${line%%:*})
+        below[${words[0]}]=${line#*:}
     done < "$top/crates.txt"
     crates=()
     add_crate ocpi_nodes
@@ -47,10 +47,10 @@ find_sources() {
 
 # Writes a line for each source, and then one for the program: its name, inode, size, and times of the last writing and
 # of the last change of any kind. (The second time tells a writing that sets the first one back.) The first line is
-# that of the command `rt`, which stands for the kit.
+# that of the command `rt`, which stands for the kit. It ends the process, so it is called in one of its own.
 list_files() {
     hash rt 2> /dev/null
-    cd "$top" && find -H "${BASH_CMDS[rt]:-rt}" "${sources[@]}" "${program#"$top/"}" ! -type d \
+    cd "$top" && exec find -H "${BASH_CMDS[rt]:-rt}" "${sources[@]}" "${program#"$top/"}" ! -type d \
         -printf '%p %i %s %T@ %C@\n' 2> /dev/null
 }
 
@@ -61,14 +61,14 @@ list_sources() {
 
 # Writes the kit's identity and the SHA-256 of each source and of the program, in the order of their names.
 sum_files() {
-    rt version && cd "$top" && find "${sources[@]}" "${program#"$top/"}" -type f -print0 2> /dev/null |
+    rt version 2> /dev/null && cd "$top" && find "${sources[@]}" "${program#"$top/"}" -type f -print0 2> /dev/null |
         LC_ALL=C sort -z | xargs -0 sha256sum
 }
 
-# Whether the file $1 is there and holds the text $2.
+# Whether the file $1 is there and holds the text $2. (`[` compares long texts faster than `[[`.)
 holds() {
     local text
-    [[ -f $1 && $2 ]] && text=$(< "$1") && [[ $text == "$2" ]]
+    [[ -f $1 && $2 ]] && text=$(< "$1") && [ "$text" = "$2" ]
 }
 
 # Whether the program was made from the sources as they are, by the listing alone.
