@@ -1,4 +1,4 @@
--- The lines of a text, its first line taken off.
+-- The lines of a text, and what was read of one.
 use Rattle.std.proofs.Common.{◌≡◌, ◌≢◌, ℕ, ◌+◌, ◌-◌, ◌<◌, ◌≤◌, min, ◌⊎◌, inl, inr, ⊎_elim, Bool, true, false, ◌&&◌, Option, None, Some, IfSome, cond, eqb, nat_lt, lt-ltb, List, [], ◌∷◌, ◌++◌, All, length, get_or, take, filter, refl, sym, ap, subst, ◌∙◌, arith, eq-eqb, ne_eqb, length-append, take-take, take_all}
 use Rattle.std.proofs.Math.Seq.{get_or-append_seam, take-append_seam, take-append-add}
 use Rattle.std.proofs.lemmas.Bool.{cases_eq, cases_lt}
@@ -9,7 +9,7 @@ use Rattle.std.proofs.BufReadLemmas.{take_through-nil, take_through_nonempty, ta
 use Rattle.std.specs.List.{slice_split}
 use Rattle.std.specs.Str.Lines.{lines, lines_of_parts, strip_carriage_return}
 use Rattle.std.specs.Io.BufRead.{DropsThrough, take_through, drop_through, ends_with_byte, strip_last, first_line}
-use Rattle.ocpi_nodes.specs.Lines.{lines_of, ReadsLineOf}
+use Rattle.ocpi_nodes.specs.Lines.{ReadsLineOf}
 
 -- a text with a line feed, cut at the first
 pub record Feeds (text : List ℕ) : Type 0 where
@@ -41,7 +41,7 @@ take_last_off xs x =
 take_through_plain : (text : List ℕ) → All (λ x. x ≢ 10) text → take_through 10 text ≡ text
 take_through_plain text plain = ap (take_through 10) (sym (append-nil text)) ∙ take_through-append 10 text [] plain ∙ append-nil text
 
-drop_through_plain : (text : List ℕ) → All (λ x. x ≢ 10) text → drop_through 10 text ≡ []
+pub drop_through_plain : (text : List ℕ) → All (λ x. x ≢ 10) text → drop_through 10 text ≡ []
 drop_through_plain text plain = ap (drop_through 10) (sym (append-nil text)) ∙ drop_through-append 10 text [] plain
 
 -- the test on the last byte, where there is one
@@ -73,7 +73,7 @@ strip_return [] = refl
 strip_return (x ∷ xs) = ap (λ b. cond b (take (length (x ∷ xs) - 1) (x ∷ xs)) (x ∷ xs)) (by_last 13 (x ∷ xs) (omega arith))
 
 -- the first line of a text with a line feed
-first_line-feeds : (front rest : List ℕ) → All (λ x. x ≢ 10) front → first_line (front ++ 10 ∷ rest) ≡ strip_carriage_return front
+pub first_line-feeds : (front rest : List ℕ) → All (λ x. x ≢ 10) front → first_line (front ++ 10 ∷ rest) ≡ strip_carriage_return front
 first_line-feeds front rest plain =
     let read : take_through 10 (front ++ 10 ∷ rest) ≡ front ++ 10 ∷ [] = take_through-append 10 front (10 ∷ rest) plain in
     let without = λ (l : List ℕ). cond (ends_with_byte 10 l) (strip_last 13 (strip_last 10 l)) (strip_last 10 l) in
@@ -81,7 +81,7 @@ first_line-feeds front rest plain =
     ap without read ∙ ap (λ b. line b (strip_last 10 (front ++ 10 ∷ []))) (last_is 10 front) ∙ ap (strip_last 13) (strip_last-append 10 front) ∙ strip_return front
 
 -- a text without one is its own first line
-first_line-plain : (text : List ℕ) → All (λ x. x ≢ 10) text → first_line text ≡ text
+pub first_line-plain : (text : List ℕ) → All (λ x. x ≢ 10) text → first_line text ≡ text
 first_line-plain text plain =
     let read : take_through 10 text ≡ text = take_through_plain text plain in
     let none = ends_not 10 text plain in
@@ -93,38 +93,20 @@ lines_of_parts-more : (x : List ℕ) (parts : List (List ℕ)) → 0 < length pa
 lines_of_parts-more x [] some = absurd (omega arith)
 lines_of_parts-more x (y ∷ more) some = refl
 
--- the lines of a text are its first and those of what follows it
-pub lines-first : (text : List ℕ) → 0 < length text → lines text ≡ first_line text ∷ lines (drop_through 10 text)
-lines-first text some = at (feeds_or_plain text)
-  where
-    feeds : (front rest : List ℕ) → All (λ x. x ≢ 10) front → lines (front ++ 10 ∷ rest) ≡ first_line (front ++ 10 ∷ rest) ∷ lines (drop_through 10 (front ++ 10 ∷ rest))
-    feeds front rest plain =
-        let is_feed = λ (b : ℕ). eqb b 10 in
-        let cut = slice_split_at is_feed front 10 rest (All-by_law (λ x. x ≢ 10) (λ x. is_feed x ≡ false) (λ x. ne_eqb x 10) front plain) refl in
-        let after : drop_through 10 (front ++ 10 ∷ rest) ≡ rest = drop_through-append 10 front (10 ∷ rest) plain in
-        ap lines_of_parts cut ∙ lines_of_parts-more front (slice_split is_feed rest) (omega (arith, length-slice_split is_feed rest))
-        ∙ (λ i. sym (first_line-feeds front rest plain) i ∷ lines (sym after i))
+-- the lines of a text with a line feed
+pub lines-feeds : (front rest : List ℕ) → All (λ x. x ≢ 10) front → lines (front ++ 10 ∷ rest) ≡ strip_carriage_return front ∷ lines rest
+lines-feeds front rest plain =
+    let is_feed = λ (b : ℕ). eqb b 10 in
+    let cut = slice_split_at is_feed front 10 rest (All-by_law (λ x. x ≢ 10) (λ x. is_feed x ≡ false) (λ x. ne_eqb x 10) front plain) refl in
+    ap lines_of_parts cut ∙ lines_of_parts-more front (slice_split is_feed rest) (omega (arith, length-slice_split is_feed rest))
 
-    at : Feeds text ⊎ All (λ x. x ≢ 10) text → lines text ≡ first_line text ∷ lines (drop_through 10 text)
-    at (inl f) = subst (λ t. lines t ≡ first_line t ∷ lines (drop_through 10 t)) (sym f.is) (feeds f.front f.rest f.plain)
-    at (inr plain) =
-        let is_feed = λ (b : ℕ). eqb b 10 in
-        let one = slice_split_none is_feed text (All-by_law (λ x. x ≢ 10) (λ x. is_feed x ≡ false) (λ x. ne_eqb x 10) text plain) in
-        let after : drop_through 10 text ≡ [] = drop_through_plain text plain in
-        let held : eqb (length text) 0 ≡ false = ne_eqb (length text) 0 (λ e. omega arith) in
-        ap lines_of_parts one ∙ ap (λ b. cond b [] (text ∷ [])) held ∙ (λ i. sym (first_line-plain text plain) i ∷ lines (sym after i))
-
--- a line that holds something is the first of the lines
-pub lines_of-held : (text : List ℕ) → 0 < length text → 0 < length (first_line text) → lines_of text ≡ first_line text ∷ lines_of (drop_through 10 text)
-lines_of-held text some held =
-    ap (filter (λ line. nat_lt 0 (length line))) (lines-first text some)
-    ∙ ap (λ b. cond b (first_line text ∷ lines_of (drop_through 10 text)) (lines_of (drop_through 10 text))) (lt-ltb 0 (length (first_line text)) held)
-
--- an empty one is none of them
-pub lines_of-empty : (text : List ℕ) → 0 < length text → length (first_line text) ≡ 0 → lines_of text ≡ lines_of (drop_through 10 text)
-lines_of-empty text some empty =
-    ap (filter (λ line. nat_lt 0 (length line))) (lines-first text some)
-    ∙ ap (λ n. cond (nat_lt 0 n) (first_line text ∷ lines_of (drop_through 10 text)) (lines_of (drop_through 10 text))) empty
+-- a text without one is one line
+pub lines-plain : (text : List ℕ) → All (λ x. x ≢ 10) text → 0 < length text → lines text ≡ text ∷ []
+lines-plain text plain some =
+    let is_feed = λ (b : ℕ). eqb b 10 in
+    let one = slice_split_none is_feed text (All-by_law (λ x. x ≢ 10) (λ x. is_feed x ≡ false) (λ x. ne_eqb x 10) text plain) in
+    let held : eqb (length text) 0 ≡ false = ne_eqb (length text) 0 (λ e. omega arith) in
+    ap lines_of_parts one ∙ ap (λ b. cond b [] (text ∷ [])) held
 
 -- a front of a front
 pub take_within : (xs : List ℕ) (end room kept : ℕ) → kept ≡ min end room → take kept xs ≡ take room (take end xs)
@@ -201,7 +183,7 @@ module _ (most : ℕ) where
   none_left (Some text) new read kept rest none =
       let all : length (take (most + 1) (take_through 10 text)) ≡ 0 = sym (ap length kept) ∙ none in
       let nil : text ≡ [] = take_through-nil 10 text (omega (arith, all, length-take (most + 1) (take_through 10 text))) in
-      subst (λ o. ReadsLineOf most (Some text) false read o) (sym rest) nil
+      subst (λ o. ReadsLineOf most (Some text) false read o) (sym rest) (nil, ap (drop_through 10) nil)
 
   -- the first line was read
   pub one_read : (old new : Option (List ℕ)) (read line : List ℕ) → IfSome old (λ text. read ≡ take (most + 1) (take_through 10 text)) → DropsThrough old new 10 → 0 < length read

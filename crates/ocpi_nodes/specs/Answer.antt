@@ -14,12 +14,10 @@ use Rattle.operator_core.specs.Moves.{Out}
 use Rattle.operator_core.specs.State.{opening}
 use Rattle.operator_core.specs.Steps.{OperatorStep}
 use Rattle.ocpi_nodes.specs.declared.answer.Running.{Running}
-use Rattle.ocpi_nodes.specs.declared.run.Ran.{Ran}
-use Rattle.ocpi_nodes.specs.declared.run.Ran.TheVariants.{Whole, WithRefusals}
+use Rattle.ocpi_nodes.specs.declared.outcome.Ran.{Ran}
+use Rattle.ocpi_nodes.specs.declared.outcome.Ran.TheVariants.{Whole, WithRefusals}
 use Rattle.ocpi_nodes.specs.declared.run.Turn.{Turn}
 use Rattle.ocpi_nodes.specs.declared.run.Turn.TheVariants.{Taken, Refused, Ended}
-use Rattle.ocpi_nodes.specs.Lines.{lines_of}
-use Rattle.ocpi_nodes.specs.Run.{IsRun, IsBegun}
 
 -- the line of a refusal: its number and its name
 abbrev pub refusal_line : List ℕ → List ℕ
@@ -51,11 +49,3 @@ LineGives (Some now) line turn out next = PacketTurn now line turn out next
 abbrev pub EndGives : Option Running → Ran → List ℕ → Type 0
 EndGives None ran out = (ran ≡ WithRefusals) × (out ≡ refusal_line (json_fault_text Syntax))
 EndGives (Some now) ran out = (ran ≡ Whole) × (out ≡ [])
-
--- these bytes may be written for that input
-abbrev pub IsOutput : List ℕ → Ran → List ℕ → Type 0
-IsOutput input ran out = IsRun LineGives EndGives None (lines_of input) ran out
-
--- these bytes may have been written for the first of that input's lines
-abbrev pub IsOutputBegun : List ℕ → List ℕ → Type 0
-IsOutputBegun input out = IsBegun LineGives None (lines_of input) out

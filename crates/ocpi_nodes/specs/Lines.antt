@@ -20,7 +20,7 @@ pub record TakesPart (old : Option (List ℕ)) (done : Bool) (bytes : List ℕ) 
 
 -- no line was left, or the first one was read, its first `most` bytes kept
 abbrev pub ReadsLine : ℕ → List ℕ → Bool → List ℕ → List ℕ → Type 0
-ReadsLine most text false line rest = text ≡ []
+ReadsLine most text false line rest = (text ≡ []) × (rest ≡ [])
 ReadsLine most text true line rest = (0 < length text) × (line ≡ take most (first_line text)) × (rest ≡ drop_through 10 text)
 
 -- the same of a reader, where it tells its bytes
@@ -28,3 +28,7 @@ abbrev pub ReadsLineOf : ℕ → Option (List ℕ) → Bool → List ℕ → Opt
 ReadsLineOf most None some line rest = ⊤
 ReadsLineOf most (Some text) some line None = ⊥
 ReadsLineOf most (Some text) some line (Some rest) = ReadsLine most text some line rest
+
+-- what was taken from a reader is part of a line
+abbrev pub IsInLine : Option (List ℕ) → Option (List ℕ) → Type 0
+IsInLine old new = (part : List ℕ) × Consumes old new part × All (λ b. b ≢ 10) part

@@ -1,11 +1,12 @@
 //! The program `answer`: one operator, which the first line makes and each other line sends a packet.
 
-ghost use Rattle.std.specs.Prelude.{◌≡◌, ◌≢◌, ◌≤◌, ◌++◌, ◌∷◌, ℕ, List, [], Option, None, Some, length, IfOk, IfErr, IfSome, OnOk, codes, string_bytes};
-ghost use Rattle.std.specs.Str.Lines.{lines};
-ghost use Rattle.ocpi_nodes.specs.declared.run.TheConstants.{MOST_READS};
-ghost use Rattle.ocpi_nodes.specs.Answer.{IsOutput, IsOutputBegun, LineGives, PacketTurn, SiteTurn, packet_lines, refusal_line};
+ghost use Rattle.std.specs.Prelude.{◌≡◌, ◌≢◌, ◌++◌, ◌∷◌, ℕ, List, [], Option, None, Some, Err, true, IfOk, IfErr, IfSome, OnOk, codes, string_bytes};
+ghost use Rattle.ocpi_nodes.specs.Answer.{EndGives, LineGives, PacketTurn, SiteTurn, packet_lines, refusal_line};
+ghost use Rattle.ocpi_nodes.specs.Run.{Begins, Outputs, ReadsFewLines, StopsReading};
 
-use crate::run::{AnswerLines, Ran, RunFault, Turn, run_lines};
+use crate::lines::LineReader;
+use crate::outcome::{Ran, RunFault};
+use crate::run::{AnswerLines, Turn, run_whole};
 use ocpi_json::{JsonFault, read_packet, read_site, write_packet};
 use ocpi_text::Moment;
 use ocpi_types::Packet;
@@ -54,7 +55,6 @@ impl Answering {
 }
 
 impl AnswerLines for Answering {
-    ghost use Rattle.ocpi_nodes.specs.Answer.{EndGives};
     ghost use Rattle.ocpi_nodes.specs.Cut.{cut_alike};
 
     ghost line_gives = { LineGives };
@@ -156,25 +156,25 @@ fn refuse<F: Display + Drop>(output: &mut String, fault: F) -> Result<(), AllocE
     writeln!(output, "refused {fault}")
 }
 
-/// Answers the packets of a reader as one operator. The first line that holds something is a site line, and each
+/// Answers the packets of an input as one operator. The first line that holds something is a site line, and each
 /// other a packet at its moment; each packet that the operator sends is one line. A line that is refused is written as
 /// `refused`, its number and its name, changes nothing, and the next follows; a refused or absent site line ends the run.
 ///
-/// Where no read, write or growth was refused, what is written is the output of what was read. After a failed read, what
-/// was written is the output of the first of the lines. After a failed write nothing is said of what went out.
+/// Where the run was not stopped, what is written is the output of the input. Where it was stopped, what is written is a beginning of
+/// that: by a failed read or too many reads, what exactly the lines that were read whole give. At most 1,000,000,000 lines are read.
+/// What was answered is flushed before each read that may wait, and at the end.
 pub fn run_answer<R: BufRead, W: Write>(
     alloc: Global,
-    reader: &mut R,
+    input: &mut LineReader<R>,
     writer: &mut W,
 ) -> Result<Ran, RunFault>
-    ensures output { IfOk result (λ ran. IfSome (R.Read.remaining reader.old) (λ input. IfSome (W.contents writer.old) (λ before.
-        (out : List ℕ) × IsOutput input ran out × (W.contents writer.new ≡ Some (before ++ out))))) }
-    ensures begun { IfErr result (λ fault. fault ≢ RunFault.WriteFailed →
-        IfSome (R.Read.remaining reader.old) (λ input. IfSome (W.contents writer.old) (λ before.
-        (out : List ℕ) × IsOutputBegun input out × (W.contents writer.new ≡ Some (before ++ out))))) }
-    ensures too_many { result ≡ Err RunFault.TooManyReads →
-        IfSome (R.Read.remaining reader.old) (λ input. MOST_READS ≤ length (lines input)) }
+    ensures output { IfOk result (λ ran. Outputs LineGives EndGives None (R.Read.remaining input.old.reader) ran (W.contents writer.old) (W.contents writer.new)) }
+    ensures begun { IfErr result (λ fault. Begins LineGives EndGives None (R.Read.remaining input.old.reader) (W.contents writer.old) (W.contents writer.new)) }
+    ensures stopped { IfErr result (λ fault. fault ≢ RunFault.WriteFailed → StopsReading LineGives None fault (R.Read.remaining input.old.reader) (R.Read.remaining input.new.reader)
+        (W.contents writer.old) (W.contents writer.new)) }
+    ensures failed { result ≡ Err RunFault.ReadFailed → input.new.failed ≡ true }
+    ensures reads { ReadsFewLines (R.Read.remaining input.old.reader) (R.Read.remaining input.new.reader) }
 {
     let mut answering = Answering::new(alloc);
-    run_lines(alloc, &mut answering, reader, writer)
+    run_whole(alloc, &mut answering, input, writer)
 }

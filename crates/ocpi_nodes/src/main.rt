@@ -2,61 +2,81 @@
 #![tactic(auto)]
 
 mod answer;
+mod command;
 mod lines;
+mod outcome;
 mod run;
 #[cfg(test)]
 mod tests;
 
 use answer::run_answer;
-use clap::{Command, Error};
-use run::{Ran, RunFault};
-use std::alloc::Global;
-use std::io::{self, BufReader, BufWriter, Write};
+use clap::Error;
+use command::{WRONG_WORDS, status_after, take_words};
+use lines::LineReader;
+use outcome::{Ran, RunFault, status_of};
+use std::io::{self, BufReader, BufWriter, ErrorKind};
 use std::process::ExitCode;
 
-/// The status where a line was refused, or reading or writing failed.
-const REFUSED: u8 = 1;
+/// What one read asks for, and what is written at once, in bytes.
+const BUFFER_BYTES: usize = 65_536;
 
-/// Takes the command line `ocpi_nodes [answer]`, or gives clap's text on what is wrong with it.
-fn take_words(alloc: Global, words: &[String]) -> Result<(), Error> {
-    let answer = Command::new(alloc, "answer").about(
-        "Answer the packets of standard input as one operator, as with no command",
-    );
-    let command = Command::new(alloc, "ocpi_nodes")
-        .about("OCPI nodes for remote start and reservation")
-        .disable_help_subcommand(true)
-        .subcommand(answer)?;
-    command.try_get_matches_from(words)?;
-    Ok(())
+fn main(rt: HostRuntime) -> ExitCode {
+    ExitCode::from(run_program(&rt))
+}
+
+/// Runs the program, and answers its exit status. Whether standard error can be written never changes the status.
+fn run_program(rt: &HostRuntime) -> u8 {
+    let words: Vec<String> = match take_arguments(rt) {
+        Ok(words) => words,
+        Err(fault) => {
+            let _ = eprintln!(rt; "{fault}");
+            return WRONG_WORDS;
+        }
+    };
+    if let Err(text) = take_words(rt.alloc(), words.as_slice()) {
+        return say(rt, &text);
+    }
+    let ran = answer_standard_input(rt);
+    if let Err(fault) = ran {
+        let _ = eprintln!(rt; "{fault}");
+    }
+    status_of(ran)
+}
+
+/// The arguments, or what is said where there are none to be had.
+fn take_arguments(rt: &HostRuntime) -> Result<Vec<String>, &'static str> {
+    let arguments = match std::env::args(rt) {
+        Ok(arguments) => arguments,
+        Err(error) => {
+            return Err(if error.kind() == ErrorKind::InvalidData {
+                "error: invalid UTF-8 was detected in one or more arguments"
+            } else {
+                "error: out of memory"
+            });
+        }
+    };
+    match arguments.collect(rt.alloc()) {
+        Ok(words) => Ok(words),
+        Err(_) => Err("error: out of memory"),
+    }
+}
+
+/// Prints clap's text, and answers the exit status.
+fn say(rt: &HostRuntime, text: &Error) -> u8 {
+    let is_printed = text.print(rt).is_ok();
+    if !is_printed && !text.use_stderr() {
+        let _ = eprintln!(rt; "{}", RunFault::WriteFailed);
+    }
+    status_after(text, is_printed)
 }
 
 /// Runs `answer` from the standard input to the standard output.
 fn answer_standard_input(rt: &HostRuntime) -> Result<Ran, RunFault> {
-    let Ok(mut reader) = BufReader::new(rt.alloc(), rt.reader()) else {
+    let Ok(reader) = BufReader::with_capacity(rt.alloc(), BUFFER_BYTES, rt.reader()) else {
         return Err(RunFault::ReadFailed);
     };
-    let Ok(mut writer) = BufWriter::new(rt.alloc(), io::writer(rt)) else {
+    let Ok(mut writer) = BufWriter::with_capacity(rt.alloc(), BUFFER_BYTES, io::writer(rt)) else {
         return Err(RunFault::WriteFailed);
     };
-    let ran = run_answer(rt.alloc(), &mut reader, &mut writer);
-    if writer.flush().is_err() {
-        return Err(RunFault::WriteFailed);
-    }
-    ran
-}
-
-fn main(rt: HostRuntime) -> io::Result<ExitCode> {
-    let words: Vec<String> = std::env::args(&rt)?.collect(rt.alloc())?;
-    if let Err(error) = take_words(rt.alloc(), words.as_slice()) {
-        error.print(&rt)?;
-        return Ok(ExitCode::from(error.exit_code() as u8));
-    }
-    match answer_standard_input(&rt) {
-        Ok(Ran::Whole) => Ok(ExitCode::SUCCESS),
-        Ok(Ran::WithRefusals) => Ok(ExitCode::from(REFUSED)),
-        Err(fault) => {
-            eprintln!(rt; "{fault}")?;
-            Ok(ExitCode::from(REFUSED))
-        }
-    }
+    run_answer(rt.alloc(), &mut LineReader::new(reader), &mut writer)
 }

@@ -1,17 +1,16 @@
 //! A run that answers each line of an input.
-ghost use Rattle.std.specs.Prelude.{◌≡◌, ◌≢◌, ℕ, ◌++◌, ◌≤◌, List, [], length, take, IfOk, IfErr, IfSome, string_bytes};
-ghost use Rattle.std.specs.Str.Lines.{lines};
+ghost use Rattle.std.specs.Prelude.{◌≡◌, ◌≢◌, ℕ, ◌++◌, ◌≤◌, List, [], Ok, Err, true, length, take, IfOk, IfErr, OnOk, string_bytes};
 ghost use Rattle.std.specs.Io.KnownBytes.{Appends};
-ghost use Rattle.ocpi_nodes.specs.Lines.{lines_of};
-ghost use Rattle.ocpi_nodes.specs.Run.{IsRun, IsBegun, both_ran};
-ghost use Rattle.ocpi_nodes.specs.declared.run.Ran.{Ran as RanOf};
+ghost use Rattle.ocpi_nodes.specs.Run.{Begins, Outputs, StopsReading, ReadsFewLines, gives_beginning};
+ghost use Rattle.ocpi_nodes.specs.Outcome.{both_ran};
+ghost use Rattle.ocpi_nodes.specs.declared.outcome.Ran.{Ran as RanOf};
 ghost use Rattle.ocpi_nodes.specs.declared.run.Turn.{Turn as TurnOf};
 ghost use Rattle.ocpi_nodes.specs.declared.lines.TheConstants.{KEPT_BYTES};
 
-use crate::lines::{KEPT_BYTES, next_line};
+use crate::lines::{KEPT_BYTES, LineReader, flush};
+use crate::outcome::{Ran, RunFault};
 use std::alloc::{AllocError, Global};
-use std::fmt;
-use std::io::{BufRead, Write};
+use std::io::{BufRead, ErrorKind, Write};
 
 /// How one line was answered.
 #[derive(Clone, Copy, Debug, PartialEq, Eq)]
@@ -24,57 +23,8 @@ pub enum Turn {
     Ended,
 }
 
-/// How a run that read its whole input, or was ended by a line, went.
-#[derive(Clone, Copy, Debug, PartialEq, Eq)]
-pub enum Ran {
-    /// No line was refused.
-    Whole,
-    /// A line was refused.
-    WithRefusals,
-}
-
-impl Ran {
-    /// Of a run and what followed it: whole where both are.
-    pub fn and(self, later: Ran) -> Ran
-        ensures { result ≡ both_ran self later }
-    {
-        match self {
-            Ran::Whole => later,
-            Ran::WithRefusals => Ran::WithRefusals,
-        }
-    }
-}
-
-/// What stopped a run.
-#[derive(Clone, Copy, Debug, PartialEq, Eq)]
-pub enum RunFault {
-    /// A read failed, or memory ran out for its line.
-    ReadFailed,
-    /// A write failed, or memory ran out for what it was to write.
-    WriteFailed,
-    /// `MOST_READS` lines were read, and the input had not ended.
-    TooManyReads,
-}
-
-impl fmt::Display for RunFault {
-    ghost use Rattle.std.specs.Prelude.{Some};
-    ghost use Rattle.ocpi_nodes.specs.FaultText.{fault_text};
-
-    ghost output = { λ f. Some (fault_text f) };
-
-    fn fmt<W: fmt::Write>(&self, f: &mut fmt::Formatter<W>) -> fmt::Result {
-        f.write_str(match self {
-            RunFault::ReadFailed => "input: read failed",
-            RunFault::WriteFailed => "output: write failed",
-            RunFault::TooManyReads => "input: too many reads",
-        })
-    }
-}
-
-impl std::error::Error for RunFault {}
-
 /// The most lines that a run reads.
-pub const MOST_READS: u32 = 1_000_000_000;
+const MOST_READS: u32 = 1_000_000_000;
 
 /// What answers the lines of an input one after another.
 pub trait AnswerLines {
@@ -98,48 +48,72 @@ pub trait AnswerLines {
     ghost cut_alike: { (s t : Self) (line : List ℕ) (turn : TurnOf) (out : List ℕ) → line_gives s (take KEPT_BYTES line) turn out t → line_gives s line turn out t };
 }
 
-/// Answers each line of the reader that holds something, and writes what it gives, a write for each line.
+/// Answers each line of the input that holds something, writes what it gives, and flushes the writer at the end.
 ///
-/// Where no read, write or growth was refused, what is written is what the lines of the input give. After a failed read what was
-/// written is what the first of the lines give, each whole. After a failed write nothing is said of what went out.
-pub fn run_lines<M: AnswerLines, R: BufRead, W: Write>(
+/// Where the run was not stopped, what is written is what the lines of the input give. Where it was stopped, what is written is a
+/// beginning of that: by a failed read or too many reads, what exactly the lines that were read whole give. At most 1,000,000,000 lines
+/// are read. What was answered is flushed before each read that may wait.
+pub fn run_whole<M: AnswerLines, R: BufRead, W: Write>(
     alloc: Global,
     machine: &mut M,
-    reader: &mut R,
+    input: &mut LineReader<R>,
     writer: &mut W,
 ) -> Result<Ran, RunFault>
-    ensures output { IfOk result (λ ran. IfSome (R.Read.remaining reader.old) (λ text. IfSome (W.contents writer.old) (λ before.
-        (out : List ℕ) × IsRun M.line_gives M.end_gives machine.old (lines_of text) ran out
-        × (W.contents writer.new ≡ Some (before ++ out))))) }
-    ensures begun { IfErr result (λ fault. fault ≢ RunFault.WriteFailed →
-        IfSome (R.Read.remaining reader.old) (λ text. IfSome (W.contents writer.old) (λ before.
-        (out : List ℕ) × IsBegun M.line_gives machine.old (lines_of text) out
-        × (W.contents writer.new ≡ Some (before ++ out))))) }
-    ensures too_many { result ≡ Err RunFault.TooManyReads →
-        IfSome (R.Read.remaining reader.old) (λ text. MOST_READS ≤ length (lines text)) }
+    ensures output { IfOk result (λ ran. Outputs M.line_gives M.end_gives machine.old (R.Read.remaining input.old.reader) ran (W.contents writer.old) (W.contents writer.new)) }
+    ensures begun { IfErr result (λ fault. Begins M.line_gives M.end_gives machine.old (R.Read.remaining input.old.reader) (W.contents writer.old) (W.contents writer.new)) }
+    ensures stopped { IfErr result (λ fault. fault ≢ RunFault.WriteFailed → StopsReading M.line_gives machine.old fault (R.Read.remaining input.old.reader) (R.Read.remaining input.new.reader)
+        (W.contents writer.old) (W.contents writer.new)) }
+    ensures failed { result ≡ Err RunFault.ReadFailed → input.new.failed ≡ true }
+    ensures reads { ReadsFewLines (R.Read.remaining input.old.reader) (R.Read.remaining input.new.reader) }
+{
+    let ran = run_lines(alloc, machine, input, writer);
+    match flush(writer) {
+        Ok(()) => ran,
+        Err(fault) => Err(fault),
+    }
+}
+
+/// Answers each line, without a flush at the end.
+fn run_lines<M: AnswerLines, R: BufRead, W: Write>(
+    alloc: Global,
+    machine: &mut M,
+    input: &mut LineReader<R>,
+    writer: &mut W,
+) -> Result<Ran, RunFault>
+    ensures output { IfOk result (λ ran. Outputs M.line_gives M.end_gives machine.old (R.Read.remaining input.old.reader) ran (W.contents writer.old) (W.contents writer.new)) }
+    ensures begun { IfErr result (λ fault. Begins M.line_gives M.end_gives machine.old (R.Read.remaining input.old.reader) (W.contents writer.old) (W.contents writer.new)) }
+    ensures stopped { IfErr result (λ fault. fault ≢ RunFault.WriteFailed → StopsReading M.line_gives machine.old fault (R.Read.remaining input.old.reader) (R.Read.remaining input.new.reader)
+        (W.contents writer.old) (W.contents writer.new)) }
+    ensures failed { result ≡ Err RunFault.ReadFailed → input.new.failed ≡ true }
+    ensures reads { ReadsFewLines (R.Read.remaining input.old.reader) (R.Read.remaining input.new.reader) }
 {
     let mut line = Vec::new(alloc);
     let mut output = String::new(alloc);
     let mut ran = Ran::Whole;
     for _read in 0..MOST_READS {
-        let Ok(is_line) = next_line(reader, &mut line) else {
-            return Err(RunFault::ReadFailed);
-        };
-        output.clear();
-        if !is_line {
-            let last = write_end(machine, &mut output, writer)?;
-            return Ok(ran.and(last));
+        match input.next_line(&mut line, writer) {
+            Ok(true) => {}
+            Ok(false) => return write_end(machine, ran, &mut output, writer),
+            Err(fault) => return Err(fault),
         }
         if line.is_empty() {
             continue;
         }
-        match write_answer(machine, line.as_slice(), &mut output, writer)? {
+        let turn = match write_answer(machine, line.as_slice(), &mut output, writer) {
+            Ok(turn) => turn,
+            Err(fault) => return Err(fault),
+        };
+        match turn {
             Turn::Taken => {}
             Turn::Refused => ran = Ran::WithRefusals,
             Turn::Ended => return Ok(Ran::WithRefusals),
         }
     }
-    Err(RunFault::TooManyReads)
+    match input.has_ended(writer) {
+        Ok(true) => write_end(machine, ran, &mut output, writer),
+        Ok(false) => Err(RunFault::TooManyReads),
+        Err(fault) => Err(fault),
+    }
 }
 
 /// Answers one line, and writes the answer.
@@ -149,36 +123,62 @@ fn write_answer<M: AnswerLines, W: Write>(
     output: &mut String,
     writer: &mut W,
 ) -> Result<Turn, RunFault>
-    requires { string_bytes output.old ≡ [] }
     ensures ok { IfOk result (λ turn. (out : List ℕ) × Appends (W.contents writer.old) (W.contents writer.new) out
         × M.line_gives machine.old line.now turn out machine.new) }
-    ensures err { IfErr result (λ fault. fault ≡ RunFault.WriteFailed) }
+    ensures err { IfErr result (λ fault. (fault ≡ RunFault.WriteFailed)
+        × gives_beginning (λ out. (turn : TurnOf) × M.line_gives machine.old line.now turn out machine.new) (W.contents writer.old) (W.contents writer.new)) }
 {
-    let Ok(turn) = machine.answer_line(line, output) else {
-        return Err(RunFault::WriteFailed);
-    };
-    match writer.write_all(output.as_bytes()) {
-        Ok(()) => Ok(turn),
+    output.clear();
+    match machine.answer_line(line, output) {
+        Ok(turn) => match write_whole(writer, output.as_bytes()) {
+            Ok(()) => Ok(turn),
+            Err(fault) => Err(fault),
+        },
         Err(_) => Err(RunFault::WriteFailed),
     }
 }
 
-/// Writes what the end of the input gives.
+/// Writes what the end of the input gives, and answers how the whole run went.
 fn write_end<M: AnswerLines, W: Write>(
     machine: &mut M,
+    ran: Ran,
     output: &mut String,
     writer: &mut W,
 ) -> Result<Ran, RunFault>
-    requires { string_bytes output.old ≡ [] }
-    ensures ok { IfOk result (λ ran. (out : List ℕ) × Appends (W.contents writer.old) (W.contents writer.new) out
-        × M.end_gives machine.old ran out) }
-    ensures err { IfErr result (λ fault. fault ≡ RunFault.WriteFailed) }
+    ensures ok { IfOk result (λ all. (last : RanOf) × (out : List ℕ) × (all ≡ both_ran ran last) × Appends (W.contents writer.old) (W.contents writer.new) out
+        × M.end_gives machine.old last out) }
+    ensures err { IfErr result (λ fault. (fault ≡ RunFault.WriteFailed)
+        × gives_beginning (λ out. (last : RanOf) × M.end_gives machine.old last out) (W.contents writer.old) (W.contents writer.new)) }
 {
-    let Ok(ran) = machine.answer_end(output) else {
-        return Err(RunFault::WriteFailed);
-    };
-    match writer.write_all(output.as_bytes()) {
-        Ok(()) => Ok(ran),
+    output.clear();
+    match machine.answer_end(output) {
+        Ok(last) => match write_whole(writer, output.as_bytes()) {
+            Ok(()) => Ok(ran.and(last)),
+            Err(fault) => Err(fault),
+        },
         Err(_) => Err(RunFault::WriteFailed),
     }
+}
+
+/// Writes all of these bytes. After a refusal a beginning of them is written.
+fn write_whole<W: Write>(writer: &mut W, bytes: &[u8]) -> Result<(), RunFault>
+    ensures ok { OnOk result (Appends (W.contents writer.old) (W.contents writer.new) bytes.now) }
+    ensures err { IfErr result (λ fault. (fault ≡ RunFault.WriteFailed) × (n : ℕ) × Appends (W.contents writer.old) (W.contents writer.new) (take n bytes.now)) }
+{
+    let mut at = 0;
+    for _turn in 0..u64::MAX {
+        if at >= bytes.len() {
+            return Ok(());
+        }
+        match writer.write(&bytes[at..]) {
+            Ok(0) => return Err(RunFault::WriteFailed),
+            Ok(taken) => at += taken,
+            Err(error) => {
+                if error.kind() != ErrorKind::Interrupted {
+                    return Err(RunFault::WriteFailed);
+                }
+            }
+        }
+    }
+    Err(RunFault::WriteFailed)
 }

@@ -9,8 +9,8 @@ use Rattle.ocpi_nodes.proofs.LineLemmas.{take_within, nothing_more}
 use Rattle.ocpi_nodes.proofs.lines.take_part.Goals.{then-end-eq0, else-end-eq0}
 use Rattle.ocpi_nodes.proofs.lines.take_part.Goals as goal
 
-pub returns-then-eq : goal.returns-then-eq
-returns-then-eq g c = (
+pub returns-then-eq-clause-ok : goal.returns-then-eq-clause-ok
+returns-then-eq-clause-ok g c = (
   [],
   record {
     consumed = Consumes-kept _ _ _ [] (Consumes-nil _) c.fill_buf.follows.holds-at-none.0;
@@ -22,16 +22,14 @@ returns-then-eq g c = (
   nothing_more _ _,
 )
 
-pub returns : goal.returns
-returns g c =
+pub returns-clause-ok : goal.returns-clause-ok
+returns-clause-ok g c =
     let shown = c.in-Ok.shown.now in
     let end = c.len_through-end in
     let long = length-take-le end.result shown end.ensures.bound in
     let rested = c.fill_buf.follows.lender-at-none in
     let filled = subst (FillKeeps _ (g.R.Read.remaining rested) (g.R.BufRead.consumable_len rested)) c.in-Ok.is c.fill_buf.follows.holds-at-none in
-    let same : c.if-end-eq0.reader ≡ rested = search rules in
-    let drops = subst (λ r. DropsConsumable (g.R.Read.remaining r) (g.R.Read.remaining c.consume.new.self) (g.R.BufRead.consumable_len r) end.result) same c.consume.ensures.bytes in
-    let moved = Consumes_shown _ _ _ _ shown end.result end.ensures.bound c.in-Ok.ensures.front c.in-Ok.ensures.end filled.0 filled.1 drops in
+    let moved = Consumes_shown _ _ _ _ shown end.result end.ensures.bound c.in-Ok.ensures.front c.in-Ok.ensures.end filled.0 filled.1 c.consume.ensures.bytes in
     let room = ROOM - length c.args.line.now.items in (
       take end.result shown,
       record {

@@ -1,80 +1,155 @@
-use Rattle.std.proofs.Common.{rules, true, false, ◌≡◌, ◌<◌, sym, subst, length, arith}
-use Rattle.std.proofs.lemmas.Result.{err_from_is_err_and}
+use Rattle.std.proofs.Common.{rules, true, false, ◌≡◌, ◌≢◌, ◌<◌, ◌≤◌, ◌+◌, ℕ, List, Ok, Err, Option, IfSome, sym, subst, length, arith}
+use Rattle.std.specs.Io.KnownBytes.{Keeps}
+use Rattle.std.proofs.KnownBytes.{Keeps-refl}
 use Rattle.ocpi_nodes.specs.Lines.{ReadsLineOf}
+use Rattle.ocpi_nodes.specs.Run.{gives_beginning, most_reads}
 use Rattle.ocpi_nodes.specs.declared.lines.TheConstants.{KEPT_BYTES}
-use Rattle.ocpi_nodes.specs.declared.run.Ran.{Ran}
+use Rattle.ocpi_nodes.specs.declared.outcome.Ran.{Ran}
 use Rattle.ocpi_nodes.specs.declared.run.Turn.{Turn}
 use Rattle.ocpi_nodes.specs.declared.run.Turn.TheVariants.{Taken, Refused, Ended}
-use Rattle.ocpi_nodes.proofs.RunLemmas.{begins, began, none_counted, one_counted, passes, ends, takes, refuses, stops, LeadsOf, Wrote}
+use Rattle.ocpi_nodes.proofs.RunLemmas.{Progress, begins, passes, takes, refuses, stops, ends_of, end_begun_of, begun, begun_in_line, read_stops, too_many, few, few_in_line, few_line, kept_in_line, none_left}
 use Rattle.ocpi_nodes.proofs.run.run_lines.Goals.{in-Taken, in-Refused}
 use Rattle.ocpi_nodes.proofs.run.run_lines.Goals as goal
 
 pub loop-read-init : goal.loop-read-init
-loop-read-init g c = record { leads = begins _ _ _ _ _; counted = none_counted _ }
+loop-read-init g c = begins g.M.AnswerLines.line_gives g.M.AnswerLines.end_gives _ _ _
 
-pub returns-then-not-is_line-clause-output : goal.returns-then-not-is_line-clause-output
-returns-then-not-is_line-clause-output g c =
-    let lines = g.M.AnswerLines.line_gives in
-    let last = g.M.AnswerLines.end_gives in
-    let left = g.R.Read.remaining c.loop-read.reader in
-    let rest = g.R.Read.remaining c.next_line.new.reader in
-    let none : ReadsLineOf KEPT_BYTES left false c.next_line.new.line.items rest = search rules in
-    let wrote = c.in_ok-last.ensures.ok in
-    let all = ends lines last c.args.machine.now c.loop-read.machine (g.R.Read.remaining c.args.reader.now) (g.W.Write.contents c.args.writer.now) c.loop-read.ran c.in_ok-last.last left rest
-    (g.W.Write.contents c.loop-read.writer) (g.W.Write.contents c.write_end.new.writer) KEPT_BYTES c.next_line.new.line.items wrote.0 c.loop-read.invariant.leads none wrote.1 wrote.2 in
-    subst (λ r. Wrote lines last c.args.machine.now (g.R.Read.remaining c.args.reader.now) (g.W.Write.contents c.args.writer.now) r (g.W.Write.contents c.write_end.new.writer)) (sym c.and.ensures) all
+-- the input ended
+pub returns-in-Ok-false-clause-output : goal.returns-in-Ok-false-clause-output
+returns-in-Ok-false-clause-output g c =
+    let none : ReadsLineOf KEPT_BYTES (g.R.Read.remaining c.loop-read.input.reader) false c.next_line.new.line.items (g.R.Read.remaining c.next_line.new.self.reader) = search rules in
+    ends_of g.M.AnswerLines.line_gives g.M.AnswerLines.end_gives c.args.machine.now c.write_end.result _ _ c.loop-read._read _ _ _ _ _ _ c.loop-read.invariant (none_left _ (g.R.Read.remaining c.next_line.new.self.reader) KEPT_BYTES c.next_line.new.line.items none).0 c.next_line.ensures.writer c.write_end.ensures.ok
+
+pub returns-in-Ok-false-clause-begun : goal.returns-in-Ok-false-clause-begun
+returns-in-Ok-false-clause-begun g c =
+    let none : ReadsLineOf KEPT_BYTES (g.R.Read.remaining c.loop-read.input.reader) false c.next_line.new.line.items (g.R.Read.remaining c.next_line.new.self.reader) = search rules in
+    end_begun_of g.M.AnswerLines.line_gives g.M.AnswerLines.end_gives c.args.machine.now c.write_end.result _ _ c.loop-read._read _ _ _ _ _ _ c.loop-read.invariant (none_left _ (g.R.Read.remaining c.next_line.new.self.reader) KEPT_BYTES c.next_line.new.line.items none).0 c.next_line.ensures.writer c.write_end.ensures.err
+
+pub returns-in-Ok-false-clause-reads : goal.returns-in-Ok-false-clause-reads
+returns-in-Ok-false-clause-reads g c =
+    let none : ReadsLineOf KEPT_BYTES (g.R.Read.remaining c.loop-read.input.reader) false c.next_line.new.line.items (g.R.Read.remaining c.next_line.new.self.reader) = search rules in
+    let within : c.loop-read._read ≤ most_reads = omega (arith, c.loop-read-test.true) in
+    few g.M.AnswerLines.line_gives g.M.AnswerLines.end_gives c.args.machine.now _ _ c.loop-read._read _ _ _ _ _ c.loop-read.invariant (none_left _ (g.R.Read.remaining c.next_line.new.self.reader) KEPT_BYTES c.next_line.new.line.items none).1 within
+
+-- the next line was not read whole
+pub returns-in-Err-clause-begun : goal.returns-in-Err-clause-begun
+returns-in-Err-clause-begun g c = begun g.M.AnswerLines.line_gives g.M.AnswerLines.end_gives c.args.machine.now _ _ c.loop-read._read _ _ _ _ _ c.loop-read.invariant c.next_line.ensures.writer
+
+pub returns-in-Err-clause-stopped : goal.returns-in-Err-clause-stopped
+returns-in-Err-clause-stopped g c = λ _.
+    read_stops g.M.AnswerLines.line_gives g.M.AnswerLines.end_gives c.args.machine.now c.in-Err.fault _ _ c.loop-read._read _ _ _ _ _ _ c.loop-read.invariant c.in-Err.ensures.err.1 c.next_line.ensures.writer c.in-Err.ensures.err.0
+
+pub returns-in-Err-clause-reads : goal.returns-in-Err-clause-reads
+returns-in-Err-clause-reads g c =
+    let within : c.loop-read._read < most_reads = omega (arith, c.loop-read-test.true) in
+    few_in_line g.M.AnswerLines.line_gives g.M.AnswerLines.end_gives c.args.machine.now _ _ c.loop-read._read _ _ _ _ _ c.loop-read.invariant c.in-Err.ensures.err.1 within
 
 pub loop-read-preserved-then-is_empty : goal.loop-read-preserved-then-is_empty
 loop-read-preserved-then-is_empty g c =
-    let left = g.R.Read.remaining c.loop-read.reader in
-    let rest = g.R.Read.remaining c.next_line.new.reader in
-    let read : ReadsLineOf KEPT_BYTES left true c.next_line.new.line.items rest = search rules in
+    let read : ReadsLineOf KEPT_BYTES (g.R.Read.remaining c.loop-read.input.reader) true c.next_line.new.line.items (g.R.Read.remaining c.next_line.new.self.reader) = search rules in
     let empty : length c.next_line.new.line.items ≡ 0 = search rules in
-    record {
-      leads = passes g.M.AnswerLines.line_gives g.M.AnswerLines.end_gives _ _ _ _ _ _ _ _ KEPT_BYTES c.next_line.new.line.items c.loop-read.invariant.leads read (omega arith) empty;
-      counted = one_counted c.loop-read._read KEPT_BYTES _ _ rest _ c.loop-read.invariant.counted read;
-    }
+    passes g.M.AnswerLines.line_gives g.M.AnswerLines.end_gives c.args.machine.now _ _ c.loop-read._read _ _ _ _ _ _ KEPT_BYTES c.next_line.new.line.items c.loop-read.invariant read c.next_line.ensures.writer (omega arith) empty
 
+-- a line that ends the run
 pub returns-in-Ended-clause-output : goal.returns-in-Ended-clause-output
 returns-in-Ended-clause-output g c =
     let lines = g.M.AnswerLines.line_gives in
     let line = c.next_line.new.line.items in
     let next = c.write_answer.new.machine in
-    let left = g.R.Read.remaining c.loop-read.reader in
-    let rest = g.R.Read.remaining c.next_line.new.reader in
-    let read : ReadsLineOf KEPT_BYTES left true line rest = search rules in
+    let read : ReadsLineOf KEPT_BYTES (g.R.Read.remaining c.loop-read.input.reader) true line (g.R.Read.remaining c.next_line.new.self.reader) = search rules in
     let holds : 0 < length line = search rules in
-    let wrote = c.in_ok-write_answer.ensures.ok in
+    let wrote = c.in-Ok.ensures.ok in
     let gave = subst (λ l. lines c.loop-read.machine l Ended wrote.0 next) c.as_slice.ensures.value (subst (λ t. lines c.loop-read.machine c.as_slice.result.now t wrote.0 next) c.in-Ended.is wrote.2) in
-    stops lines g.M.AnswerLines.end_gives KEPT_BYTES g.met.M.AnswerLines.cut_alike _ _ next _ _ _ left rest _ _ line wrote.0 c.loop-read.invariant.leads read holds wrote.1 gave
+    stops lines g.M.AnswerLines.end_gives c.args.machine.now KEPT_BYTES g.met.M.AnswerLines.cut_alike _ _ c.loop-read._read _ _ next _ _ _ _ _ line wrote.0 c.loop-read.invariant read c.next_line.ensures.writer holds wrote.1 gave
 
+pub returns-in-Ended-clause-reads : goal.returns-in-Ended-clause-reads
+returns-in-Ended-clause-reads g c =
+    let read : ReadsLineOf KEPT_BYTES (g.R.Read.remaining c.loop-read.input.reader) true c.next_line.new.line.items (g.R.Read.remaining c.next_line.new.self.reader) = search rules in
+    let within : c.loop-read._read < most_reads = omega (arith, c.loop-read-test.true) in
+    few_line g.M.AnswerLines.line_gives g.M.AnswerLines.end_gives c.args.machine.now _ _ c.loop-read._read _ _ _ _ _ KEPT_BYTES c.next_line.new.line.items c.loop-read.invariant read within
+
+-- a line whose answer was not written whole
+pub returns-in-Err-write_answer-clause-begun : goal.returns-in-Err-write_answer-clause-begun
+returns-in-Err-write_answer-clause-begun g c =
+    let lines = g.M.AnswerLines.line_gives in
+    let line = c.next_line.new.line.items in
+    let next = c.write_answer.new.machine in
+    let read : ReadsLineOf KEPT_BYTES (g.R.Read.remaining c.loop-read.input.reader) true line (g.R.Read.remaining c.next_line.new.self.reader) = search rules in
+    let holds : 0 < length line = search rules in
+    let gave = subst (λ l. gives_beginning (λ out. (turn : Turn) × lines c.loop-read.machine l turn out next) (g.W.Write.contents c.next_line.new.writer) (g.W.Write.contents c.write_answer.new.writer))
+    c.as_slice.ensures.value c.in-Err-write_answer.ensures.err.1 in
+    begun_in_line lines g.M.AnswerLines.end_gives c.args.machine.now KEPT_BYTES g.met.M.AnswerLines.cut_alike _ _ c.loop-read._read _ _ next _ _ _ _ _ line c.loop-read.invariant read c.next_line.ensures.writer holds gave
+
+pub returns-in-Err-write_answer-clause-reads : goal.returns-in-Err-write_answer-clause-reads
+returns-in-Err-write_answer-clause-reads g c =
+    let read : ReadsLineOf KEPT_BYTES (g.R.Read.remaining c.loop-read.input.reader) true c.next_line.new.line.items (g.R.Read.remaining c.next_line.new.self.reader) = search rules in
+    let within : c.loop-read._read < most_reads = omega (arith, c.loop-read-test.true) in
+    few_line g.M.AnswerLines.line_gives g.M.AnswerLines.end_gives c.args.machine.now _ _ c.loop-read._read _ _ _ _ _ KEPT_BYTES c.next_line.new.line.items c.loop-read.invariant read within
+
+-- a line after which the next follows
 pub loop-read-preserved : goal.loop-read-preserved
 loop-read-preserved g c =
     let lines = g.M.AnswerLines.line_gives in
     let last = g.M.AnswerLines.end_gives in
     let line = c.next_line.new.line.items in
     let next = c.write_answer.new.machine in
-    let left = g.R.Read.remaining c.loop-read.reader in
-    let rest = g.R.Read.remaining c.next_line.new.reader in
-    let read : ReadsLineOf KEPT_BYTES left true line rest = search rules in
+    let rest = g.R.Read.remaining c.next_line.new.self.reader in
+    let read : ReadsLineOf KEPT_BYTES (g.R.Read.remaining c.loop-read.input.reader) true line rest = search rules in
     let holds : 0 < length line = search rules in
-    let wrote = c.in_ok-write_answer.ensures.ok in
-    let gave : (t : Turn) → c.in_ok-write_answer.field-0 ≡ t → lines c.loop-read.machine line t wrote.0 next =
+    let progress = λ (r : Ran). Progress lines last c.args.machine.now (g.R.Read.remaining c.args.input.now.reader) (g.W.Write.contents c.args.writer.now) (c.loop-read._read + 1) r next rest (g.W.Write.contents c.write_answer.new.writer) in
+    let wrote = c.in-Ok.ensures.ok in
+    let gave : (t : Turn) → c.in-Ok.turn ≡ t → lines c.loop-read.machine line t wrote.0 next =
     λ t e. subst (λ l. lines c.loop-read.machine l t wrote.0 next) c.as_slice.ensures.value (subst (λ u. lines c.loop-read.machine c.as_slice.result.now u wrote.0 next) e wrote.2) in
-    let leads = λ (r : Ran). LeadsOf lines last c.args.machine.now (g.R.Read.remaining c.args.reader.now) (g.W.Write.contents c.args.writer.now) r next rest (g.W.Write.contents c.write_answer.new.writer) in
-    let leading = elim c.match-branch-3.branch as (λ _. leads c.match-branch-3.ran) [
-      | in-Taken w ↦ subst leads (sym w.ran-is) (takes lines last KEPT_BYTES g.met.M.AnswerLines.cut_alike _ _ next _ _ _ left rest _ _ line wrote.0 c.loop-read.invariant.leads read holds wrote.1 (gave Taken w.in-Taken.is))
-      | in-Refused w ↦ subst leads (sym w.ran-is) (refuses lines last KEPT_BYTES g.met.M.AnswerLines.cut_alike _ _ next _ _ _ left rest _ _ line wrote.0 c.loop-read.invariant.leads read holds wrote.1 (gave Refused w.in-Refused.is))
-    ] in
-    record { leads = leading; counted = one_counted c.loop-read._read KEPT_BYTES _ _ rest _ c.loop-read.invariant.counted read }
+    elim c.match-turn.branch as (λ _. progress c.match-turn.ran) [
+      | in-Taken w ↦ subst progress (sym w.ran-is) (takes lines last c.args.machine.now KEPT_BYTES g.met.M.AnswerLines.cut_alike _ _ c.loop-read._read _ _ next _ _ _ _ _ line wrote.0
+          c.loop-read.invariant read c.next_line.ensures.writer holds wrote.1 (gave Taken w.in-Taken.is))
+      | in-Refused w ↦ subst progress (sym w.ran-is) (refuses lines last c.args.machine.now KEPT_BYTES g.met.M.AnswerLines.cut_alike _ _ c.loop-read._read _ _ next _ _ _ _ _ line wrote.0
+          c.loop-read.invariant read c.next_line.ensures.writer holds wrote.1 (gave Refused w.in-Refused.is))
+    ]
 
-pub returns-in_default-clause-begun : goal.returns-in_default-clause-begun
-returns-in_default-clause-begun g c = λ _. began g.M.AnswerLines.line_gives g.M.AnswerLines.end_gives _ _ _ _ _ _ _ c.loop-read.invariant.leads
+-- the end of the input after the most lines
+pub returns-in-Ok-true-has_ended-clause-output : goal.returns-in-Ok-true-has_ended-clause-output
+returns-in-Ok-true-has_ended-clause-output g c =
+    let ended : c.has_ended.result ≡ Ok true = search rules in
+    ends_of g.M.AnswerLines.line_gives g.M.AnswerLines.end_gives c.args.machine.now c.write_end-in-Ok-true-has_ended.result _ _ c.loop-read._read _ _ _ _ _ _ c.loop-read.invariant
+    (c.has_ended.ensures.ended ended) c.has_ended.ensures.writer c.write_end-in-Ok-true-has_ended.ensures.ok
 
-pub returns-in_err-last-clause-begun : goal.returns-in_err-last-clause-begun
-returns-in_err-last-clause-begun g c =
-    let p = err_from_is_err_and c.from_residual.result c.from_residual.ensures.1 in
-    rw (p.1, p.2) (λ other. absurd (other c.in_err-last.ensures.err))
+pub returns-in-Ok-true-has_ended-clause-begun : goal.returns-in-Ok-true-has_ended-clause-begun
+returns-in-Ok-true-has_ended-clause-begun g c =
+    let ended : c.has_ended.result ≡ Ok true = search rules in
+    end_begun_of g.M.AnswerLines.line_gives g.M.AnswerLines.end_gives c.args.machine.now c.write_end-in-Ok-true-has_ended.result _ _ c.loop-read._read _ _ _ _ _ _ c.loop-read.invariant
+    (c.has_ended.ensures.ended ended) c.has_ended.ensures.writer c.write_end-in-Ok-true-has_ended.ensures.err
 
+pub returns-in-Ok-true-has_ended-clause-reads : goal.returns-in-Ok-true-has_ended-clause-reads
+returns-in-Ok-true-has_ended-clause-reads g c =
+    let within : c.loop-read._read ≤ most_reads = omega (arith, c.loop-read.auto._read-end) in
+    few g.M.AnswerLines.line_gives g.M.AnswerLines.end_gives c.args.machine.now _ _ c.loop-read._read _ _ _ _ _ c.loop-read.invariant c.has_ended.ensures.reader within
+
+-- too many lines
+pub returns-in-Ok-false-has_ended-clause-begun : goal.returns-in-Ok-false-has_ended-clause-begun
+returns-in-Ok-false-has_ended-clause-begun g c = begun g.M.AnswerLines.line_gives g.M.AnswerLines.end_gives c.args.machine.now _ _ c.loop-read._read _ _ _ _ _ c.loop-read.invariant c.has_ended.ensures.writer
+
+pub returns-in-Ok-false-has_ended-clause-stopped : goal.returns-in-Ok-false-has_ended-clause-stopped
+returns-in-Ok-false-has_ended-clause-stopped g c = λ _.
+    let more : c.has_ended.result ≡ Ok false = search rules in
+    let all : c.loop-read._read ≡ most_reads = omega (arith, c.loop-read-test.false, c.loop-read.auto._read-end) in
+    too_many g.M.AnswerLines.line_gives g.M.AnswerLines.end_gives c.args.machine.now _ _ c.loop-read._read _ _ _ _ _ _ c.loop-read.invariant c.has_ended.ensures.reader (c.has_ended.ensures.more more) c.has_ended.ensures.writer all
+
+pub returns-in-Ok-false-has_ended-clause-reads : goal.returns-in-Ok-false-has_ended-clause-reads
+returns-in-Ok-false-has_ended-clause-reads g c =
+    let within : c.loop-read._read ≤ most_reads = omega (arith, c.loop-read.auto._read-end) in
+    few g.M.AnswerLines.line_gives g.M.AnswerLines.end_gives c.args.machine.now _ _ c.loop-read._read _ _ _ _ _ c.loop-read.invariant c.has_ended.ensures.reader within
+
+-- the look for more failed
 pub returns-clause-begun : goal.returns-clause-begun
-returns-clause-begun g c = λ _. began g.M.AnswerLines.line_gives g.M.AnswerLines.end_gives _ _ _ _ _ _ _ c.loop-read.invariant.leads
+returns-clause-begun g c = begun g.M.AnswerLines.line_gives g.M.AnswerLines.end_gives c.args.machine.now _ _ c.loop-read._read _ _ _ _ _ c.loop-read.invariant c.has_ended.ensures.writer
+
+pub returns-clause-stopped : goal.returns-clause-stopped
+returns-clause-stopped g c = λ _.
+    read_stops g.M.AnswerLines.line_gives g.M.AnswerLines.end_gives c.args.machine.now c.in-Err-has_ended.fault _ _ c.loop-read._read _ _ _ _ _ _ c.loop-read.invariant (kept_in_line _ _ c.has_ended.ensures.reader)
+    c.has_ended.ensures.writer c.in-Err-has_ended.ensures.err
+
+pub returns-clause-reads : goal.returns-clause-reads
+returns-clause-reads g c =
+    let within : c.loop-read._read ≤ most_reads = omega (arith, c.loop-read.auto._read-end) in
+    few g.M.AnswerLines.line_gives g.M.AnswerLines.end_gives c.args.machine.now _ _ c.loop-read._read _ _ _ _ _ c.loop-read.invariant c.has_ended.ensures.reader within

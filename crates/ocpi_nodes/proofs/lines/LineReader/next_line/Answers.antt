@@ -3,18 +3,18 @@ use Rattle.std.proofs.lemmas.Bool.{eqb-false}
 use Rattle.std.specs.Io.BufRead.{strip_last}
 use Rattle.ocpi_nodes.specs.declared.lines.TheConstants.{KEPT_BYTES}
 use Rattle.ocpi_nodes.proofs.LineLemmas.{none_left, one_read, without_end}
-use Rattle.ocpi_nodes.proofs.lines.next_line.Goals.{then-drop_last, else-drop_last}
-use Rattle.ocpi_nodes.proofs.lines.next_line.Goals as goal
+use Rattle.ocpi_nodes.proofs.lines.LineReader.next_line.Goals.{then-drop_last, else-drop_last}
+use Rattle.ocpi_nodes.proofs.lines.LineReader.next_line.Goals as goal
 
-pub returns-then-is_empty : goal.returns-then-is_empty
-returns-then-is_empty g c =
-    let read = c.in_ok-read_piece.ensures in
+pub returns-then-is_empty-clause-ok : goal.returns-then-is_empty-clause-ok
+returns-then-is_empty-clause-ok g c =
+    let read = c.in-Ok.ensures in
     let none : length c.read_piece.new.line.items ≡ 0 = search rules in
     none_left KEPT_BYTES _ _ c.read_piece.new.line.items read.kept read.rest none
 
-pub returns : goal.returns
-returns g c =
-    let read = c.in_ok-read_piece.ensures in
+pub returns-clause-ok : goal.returns-clause-ok
+returns-clause-ok g c =
+    let read = c.in-Ok.ensures in
     let piece = c.read_piece.new.line.items in
     let first = c.drop_last.ensures in
     let by = λ (b : Bool). cond b (strip_last 13 (strip_last 10 piece)) (strip_last 10 piece) in

@@ -1,9 +1,0 @@
-use Rattle.std.proofs.Common.{◌≡◌, ◌≢◌, ℕ, List, All, take}
-use Rattle.std.specs.Io.KnownBytes.{Consumes}
-use Rattle.ocpi_nodes.specs.declared.lines.TheConstants.{ROOM}
-use Rattle.ocpi_nodes.proofs.lines.read_piece.Given as goal
-
--- the bytes read so far have no line feed, and the first of them are kept
-abbrev pub invariant-loop-turn : goal.invariant-loop-turn
-invariant-loop-turn g l =
-    (done : List ℕ) × Consumes (g.R.Read.remaining l.fn.reader) (g.R.Read.remaining l.reader) done × All (λ b. b ≢ 10) done × (l.line.items ≡ take ROOM done)
