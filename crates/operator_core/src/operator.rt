@@ -85,7 +85,7 @@ impl Model for Operator {
     } };
 
     ghost invariant = { λ o. IsIndexed o.places.claimed o.books.rows.open_starts
-      × IsConsistent o.books.rows.replies o.books.rows.spent o.books.rows.open_starts };
+        × IsConsistent o.books.rows.replies o.books.rows.spent o.books.rows.open_starts };
 }
 
 impl Operator {
@@ -225,13 +225,7 @@ impl Operator {
         requires provider { request.now.provider ≡ key sender.now }
         ensures { IfOk result (λ x. (d : Decision) × StartLine self.now.site self.now.spent self.now.open_starts sender.now command.now d × (planned self.now x ≡ started request.now.at request.now.from request.now.provider request.now.number command.now d self.now)) }
     {
-        let decision = decide(
-            &self.places,
-            &self.books,
-            sender,
-            request.provider,
-            command,
-        );
+        let decision = decide(&self.places, &self.books, sender, request.provider, command);
         let reply = respond(&decision, request.at);
         match &decision {
             Decision::Refused(_) => self.refuse(request, &reply),

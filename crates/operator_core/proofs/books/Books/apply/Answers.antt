@@ -21,9 +21,9 @@ loop-change-preserved c =
       rw c.carry_out.ensures.rows (sym (ap (λ l. changed_all l at.self.rows) steps) ∙ at.invariant.0),
       rw c.carry_out.ensures.rooms (λ k d e. rooms (suc k) d e),
       let was = at.invariant.2 in
-      let gone = c.in-Some.ensures.steps.1 in
-      let short = ap length steps in
-      omega arith,
+          let gone = c.in-Some.ensures.steps.1 in
+          let short = ap length steps in
+          omega arith,
     )
 
 pub returns : goal.returns
