@@ -10,6 +10,7 @@ pub mod Packets
 pub mod Pieces
 pub mod Plain
 pub mod Quote
+pub mod SeenIds
 pub mod SiteForm
 pub mod SiteLines
 pub mod Sites
