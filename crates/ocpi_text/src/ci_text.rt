@@ -46,11 +46,10 @@ impl<const MAX: usize> CiText<MAX> {
         ensures exact { result ≡ ci_text MAX text.now }
     {
         let Some(cells) = printable_cells(text) else {
-            return Err(if char_count(text) > MAX {
-                TextFault::TooLong
-            } else {
-                TextFault::NotPrintable
-            });
+            if char_count(text) > MAX {
+                return Err(TextFault::TooLong);
+            }
+            return Err(TextFault::NotPrintable);
         };
         Ok(CiText {
             cells,

@@ -13,6 +13,8 @@ mod laws;
 mod moment;
 mod numeral;
 mod party;
+#[cfg(test)]
+mod tests;
 mod whole;
 
 pub use ci_text::CiText;
