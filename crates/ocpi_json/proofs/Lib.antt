@@ -25,6 +25,6 @@ pub mod Steps
 pub mod Tags
 pub mod TextBytes
 pub mod Unquoting
-pub mod WayBytes
 pub mod Written
 pub mod WrittenPackets
+pub mod UnquoteRuns

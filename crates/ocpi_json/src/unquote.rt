@@ -2,7 +2,7 @@
 
 ghost use Rattle.std.specs.Prelude.{◌≡◌, ℕ, List, Ok, IfOk, string_bytes};
 ghost use Rattle.ocpi_json.specs.Quote.{quote};
-ghost use Rattle.ocpi_json.specs.Unquote.{way_in, way_opened, next_way, is_outside, in_token, unquote};
+ghost use Rattle.ocpi_json.specs.Unquote.{way_in, way_opened, next_way, opening_at, end_at, in_token, unquote};
 
 use crate::quote::tag_char;
 use std::alloc::{AllocError, Global};
@@ -59,10 +59,24 @@ impl Way {
         }
     }
 
-    fn is_outside(self) -> bool
-        ensures { result ≡ is_outside self }
+    /// Where the string at hand begins, where the one before it began at `opening`.
+    fn opening(self, i: usize, opening: usize) -> usize
+        ensures { result ≡ opening_at self i opening }
     {
-        matches!(self, Way::Outside)
+        match self {
+            Way::Outside => i,
+            _ => opening,
+        }
+    }
+
+    /// How far the text stays as it is: a string that may yet be a number is left out.
+    fn end(self, i: usize, opening: usize) -> usize
+        ensures { result ≡ end_at self i opening }
+    {
+        match self {
+            Way::Opened(_) => opening,
+            _ => i,
+        }
     }
 
     fn in_token(self) -> bool
@@ -85,10 +99,9 @@ pub fn unquote_numbers(alloc: Global, text: &str) -> Result<String, AllocError>
     let mut opening = 0;
     for (i, c) in text.as_bytes().iter().enumerate() {
         let next = way.next(*c);
-        opening = if way.is_outside() { i } else { opening };
+        opening = way.opening(i, opening);
         if way.in_token() != next.in_token() {
-            let end = if way.in_token() { i } else { opening };
-            out.push_str(&text[start..end])?;
+            out.push_str(&text[start..way.end(i, opening)])?;
             start = i + 1;
         }
         way = next;
