@@ -1,0 +1,3 @@
+pub mod Differ
+pub mod Ids
+pub mod Turns

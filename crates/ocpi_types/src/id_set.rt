@@ -9,13 +9,13 @@ use std::alloc::{AllocError, Global};
 use std::collections::BTreeSet;
 use std::marker::Model;
 
-/// A set of ids of at most `MAX` characters, which are compared without case.
+/// A set of ids, which are compared without case. It is seen as the set of their keys.
 #[derive(Drop)]
-pub struct IdSet<const MAX: usize> {
-    keys: BTreeSet<CiText<MAX>>,
+pub struct IdSet {
+    keys: BTreeSet<CiText<36>>,
 }
 
-impl<const MAX: usize> Model for IdSet<MAX> {
+impl Model for IdSet {
     ghost use Rattle.std.specs.FinSet as set;
     ghost use Rattle.std.specs.Coded.{coded_ℕ, coded_list};
     ghost use Rattle.std.specs.Ordering.{nat_cmp};
@@ -28,9 +28,9 @@ impl<const MAX: usize> Model for IdSet<MAX> {
     ghost view = { λ s. set.from_list s.keys.keys };
 }
 
-impl<const MAX: usize> IdSet<MAX> {
+impl IdSet {
     /// A set without ids. It takes no memory.
-    pub fn new(alloc: Global) -> IdSet<MAX>
+    pub fn new(alloc: Global) -> IdSet
         ensures { result ≡ set.empty }
     {
         IdSet {
@@ -39,14 +39,14 @@ impl<const MAX: usize> IdSet<MAX> {
     }
 
     /// Whether the set has an id.
-    pub fn contains(&self, id: &CiText<MAX>) -> bool
+    pub fn contains(&self, id: &CiText<36>) -> bool
         ensures { result ≡ set.contains self.now (key id.now) }
     {
         self.keys.contains(&id.key())
     }
 
     /// Adds an id, and answers whether it is new. An error is want of memory for a new id, and leaves the set as it was.
-    pub fn insert(&mut self, id: &CiText<MAX>) -> Result<bool, AllocError>
+    pub fn insert(&mut self, id: &CiText<36>) -> Result<bool, AllocError>
         ensures added { IfOk result (λ added. added ≡ not (set.contains self.old (key id.now))) }
         ensures after { OnOk result (self.new ≡ set.insert self.old (key id.now)) }
         ensures err { OnErr result (self.new ≡ self.old) }

@@ -270,7 +270,7 @@ fn ids_differ(alloc: Global, locations: &[Location]) -> Result<bool, AllocError>
 
 /// Adds the uids of EVSEs to a set, and answers whether they differ from one another and from those in the set. Where they
 /// do not, only some are added.
-fn insert_uids(uids: &mut IdSet<36>, evses: &[Evse]) -> Result<bool, AllocError>
+fn insert_uids(uids: &mut IdSet, evses: &[Evse]) -> Result<bool, AllocError>
     ensures new { (earlier : List (List ℕ)) → uids.old ≡ set.from_list earlier → IfOk result (λ new. IsTrue new ↔ DifferFrom earlier (evse_keys evses.now)) }
     ensures after { (earlier : List (List ℕ)) → uids.old ≡ set.from_list earlier → IfOk result (λ new. IsTrue new → uids.new ≡ set.from_list (earlier ++ evse_keys evses.now)) }
 {
