@@ -5,6 +5,7 @@ pub mod Form
 pub mod Forms
 pub mod Line
 pub mod Names
+pub mod Nesting
 pub mod Numbers
 pub mod Packets
 pub mod Pieces

@@ -1,6 +1,6 @@
 //! The site line, member by member. Each reader gives the first fault in the order of the members.
 
-ghost use Rattle.std.specs.Prelude.{◌≡◌, ℕ, List, [], ◌∷◌, ◌++◌, map, IfOk, Ok};
+ghost use Rattle.std.specs.Prelude.{◌≡◌, ℕ, List, [], ◌∷◌, ◌++◌, length, map, IfOk, Ok};
 ghost use Rattle.std.specs.FinSet as set;
 ghost use Rattle.std.specs.Str.{bytes_eq};
 ghost use Rattle.serde_json.specs.View.{view, items_view};
@@ -105,7 +105,7 @@ fn connectors_of(alloc: Global, object: &Value) -> Result<Connectors, JsonFault>
 
 /// An id that is the same as none of the set, but for case; the set has it then.
 #[tactic(auto, unfolding(crate::specs::Sites::new_ci_in))]
-fn new_id_in(seen: &mut IdSet<36>, object: &Value, field: Field) -> Result<CiText<36>, JsonFault>
+fn new_id_in(seen: &mut IdSet, object: &Value, field: Field) -> Result<CiText<36>, JsonFault>
     ensures read { (keys : List (List ℕ)) → seen.old ≡ set.from_list keys → Gives result (new_ci_in 36 field keys (view object.now)) }
     ensures seen { IfOk result (λ id. seen.new ≡ set.insert seen.old (key id)) }
 {
@@ -119,7 +119,7 @@ fn new_id_in(seen: &mut IdSet<36>, object: &Value, field: Field) -> Result<CiTex
 
 /// An EVSE, whose uid is the same as none of the set, but for case; the set has it then.
 #[tactic(auto, unfolding(crate::specs::Sites::evse_at))]
-fn evse_of(alloc: Global, uids: &mut IdSet<36>, object: &Value) -> Result<Evse, JsonFault>
+fn evse_of(alloc: Global, uids: &mut IdSet, object: &Value) -> Result<Evse, JsonFault>
     ensures read { (earlier : List Location) (before : List Evse) → uids.old ≡ set.from_list (site_evse_keys earlier ++ evse_keys before) → Gives result (evse_at earlier before (view object.now)) }
     ensures seen { IfOk result (λ e. uids.new ≡ set.insert uids.old (key e.uid)) }
 {
@@ -134,13 +134,10 @@ fn evse_of(alloc: Global, uids: &mut IdSet<36>, object: &Value) -> Result<Evse, 
 }
 
 /// Each EVSE in turn, beside those whose uids the set has; it has theirs then.
-fn evse_elements(
-    alloc: Global,
-    uids: &mut IdSet<36>,
-    values: &[Value],
-) -> Result<Vec<Evse>, JsonFault>
+fn evse_elements(alloc: Global, uids: &mut IdSet, values: &[Value]) -> Result<Vec<Evse>, JsonFault>
     ensures read { (earlier : List Location) → uids.old ≡ set.from_list (site_evse_keys earlier) → GivesBy (λ v. v.items) result (each_after (evse_element earlier) [] (items_view values.now)) }
     ensures seen { (earlier : List Location) → uids.old ≡ set.from_list (site_evse_keys earlier) → IfOk result (λ v. uids.new ≡ set.from_list (site_evse_keys earlier ++ evse_keys v.items)) }
+    ensures count { IfOk result (λ v. length v.items ≡ length values.now) }
 {
     let mut evses = Vec::new(alloc);
     for value in values {
@@ -153,7 +150,7 @@ fn evse_elements(
 
 /// The EVSEs of a location, one to a thousand, beside those whose uids the set has; it has theirs then.
 #[tactic(auto, unfolding(crate::specs::Sites::evses_in))]
-fn evses_of(alloc: Global, uids: &mut IdSet<36>, object: &Value) -> Result<Evses, JsonFault>
+fn evses_of(alloc: Global, uids: &mut IdSet, object: &Value) -> Result<Evses, JsonFault>
     ensures read { (earlier : List Location) → uids.old ≡ set.from_list (site_evse_keys earlier) → Gives result (evses_in earlier (view object.now)) }
     ensures seen { (earlier : List Location) → uids.old ≡ set.from_list (site_evse_keys earlier) → IfOk result (λ evses. uids.new ≡ set.from_list (site_evse_keys earlier ++ evse_keys evses)) }
 {
@@ -196,8 +193,8 @@ fn location_place_of(alloc: Global, object: &Value) -> Result<LocationPlace, Jso
 /// The ids of locations, and the uids of their EVSEs.
 #[derive(Drop)]
 struct SiteIds {
-    locations: IdSet<36>,
-    evses: IdSet<36>,
+    locations: IdSet,
+    evses: IdSet,
 }
 
 /// A location, beside those whose ids and uids are seen; its own are seen then.

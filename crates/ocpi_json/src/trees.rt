@@ -48,8 +48,8 @@ fn put_ci<const MAX: usize>(
     field: Field,
     text: CiText<MAX>,
 ) -> Result<(), AllocError>
-    ensures member { OnOk result (members_view members.new.entries ≡ with field (string text) (members_view members.old.entries)) }
-    ensures fits { FitsCi MAX text }
+    ensures member { OnOk result (members_view members.new.entries ≡ with field (string text.entry) (members_view members.old.entries)) }
+    ensures fits { FitsCi MAX text.entry }
 {
     put_text(alloc, members, field, text.as_str())
 }
@@ -87,8 +87,8 @@ fn put_optional<const MAX: usize>(
     field: Field,
     text: Option<CiText<MAX>>,
 ) -> Result<(), AllocError>
-    ensures member { OnOk result (members_view members.new.entries ≡ with_text field text (members_view members.old.entries)) }
-    ensures fits { FitsOption MAX text }
+    ensures member { OnOk result (members_view members.new.entries ≡ with_text field text.entry (members_view members.old.entries)) }
+    ensures fits { FitsOption MAX text.entry }
 {
     match text {
         Some(text) => put_ci(alloc, members, field, text),
