@@ -73,8 +73,9 @@ fn taken(old: &'static str, new: &'static str) -> Case {
 }
 
 #[test]
-fn members_of_another_form_are_told(rt: HostRuntime) -> Result<(), Fail> {
-    let cases = [
+fn first_faults_are_told(rt: HostRuntime) -> Result<(), Fail> {
+    let kind = r#""kind":"start_session""#;
+    let of_start = [
         refused(
             r#""serial":1"#,
             r#""serial":1e3"#,
@@ -101,14 +102,6 @@ fn members_of_another_form_are_told(rt: HostRuntime) -> Result<(), Fail> {
             JsonFault::WrongForm(Field::PartyId),
         ),
         refused("{\"body\"", "[{\"body\"", JsonFault::Syntax),
-    ];
-    expect(&rt, rt.alloc(), START, &cases)
-}
-
-#[test]
-fn other_words_and_kinds_are_told(rt: HostRuntime) -> Result<(), Fail> {
-    let kind = r#""kind":"start_session""#;
-    let cases = [
         refused(
             r#""type":"RFID""#,
             r#""type":"CARD""#,
@@ -123,13 +116,6 @@ fn other_words_and_kinds_are_told(rt: HostRuntime) -> Result<(), Fail> {
         // The kind is tried before the body.
         refused(kind, r#""kind":"start","body":5"#, JsonFault::UnknownKind),
         refused(kind, r#""kind":5"#, JsonFault::WrongForm(Field::Kind)),
-    ];
-    expect(&rt, rt.alloc(), START, &cases)
-}
-
-#[test]
-fn what_is_not_needed_is_read_past(rt: HostRuntime) -> Result<(), Fail> {
-    let of_start = [
         taken(r#""evse_uid":"E1""#, r#""evse_uid":null"#),
         taken(
             r#""to":"BE/BEC""#,

@@ -104,14 +104,6 @@ fn fault_of_depth(alloc: Global, depth: usize) -> Result<Option<JsonFault>, Allo
     Ok(read_packet(alloc, &line).err())
 }
 
-#[test]
-fn lines_nest_no_deeper_than_127(rt: HostRuntime) -> Result<(), Fail> {
-    let list = JsonFault::WrongForm(Field::Line);
-    assert_eq!(rt; fault_of_depth(rt.alloc(), 127)?, Some(list));
-    assert_eq!(rt; fault_of_depth(rt.alloc(), 128)?, Some(JsonFault::Syntax));
-    Ok(())
-}
-
 /// The fault of a line of spaces and a number, of this many bytes.
 fn fault_of_length(alloc: Global, length: usize) -> Result<Option<JsonFault>, AllocError> {
     let mut line = Vec::new(alloc);
@@ -121,12 +113,12 @@ fn fault_of_length(alloc: Global, length: usize) -> Result<Option<JsonFault>, Al
 }
 
 #[test]
-fn lines_are_no_longer_than_their_limit(rt: HostRuntime) -> Result<(), Fail> {
-    let number = JsonFault::WrongForm(Field::Line);
-    assert_eq!(rt; fault_of_length(rt.alloc(), 1_048_576)?, Some(number));
-    assert_eq!(rt;
-        fault_of_length(rt.alloc(), 1_048_577)?,
-        Some(JsonFault::Syntax)
-    );
+fn lines_have_limits(rt: HostRuntime) -> Result<(), Fail> {
+    let alloc = rt.alloc();
+    let value = JsonFault::WrongForm(Field::Line);
+    assert_eq!(rt; fault_of_depth(alloc, 127)?, Some(value));
+    assert_eq!(rt; fault_of_depth(alloc, 128)?, Some(JsonFault::Syntax));
+    assert_eq!(rt; fault_of_length(alloc, 1_048_576)?, Some(value));
+    assert_eq!(rt; fault_of_length(alloc, 1_048_577)?, Some(JsonFault::Syntax));
     Ok(())
 }

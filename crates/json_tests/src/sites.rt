@@ -11,6 +11,12 @@ const SITE: &str =
 
 const PROVIDERS: &str = r#"["NL/TNM","DE/EMP"]"#;
 
+const CONNECTORS: &str =
+    r#"[{"format":"SOCKET","id":"1","power_type":"AC_3_PHASE","standard":"IEC_62196_T2"}]"#;
+
+const SAME_CONNECTORS: &str =
+    r#"[{"format":"CABLE","id":"a","power_type":"DC","standard":"CHADEMO"},{"format":"CABLE","id":"A"}]"#;
+
 /// The moment of a copy of the site line.
 fn copied(alloc: Global) -> Result<u64, JsonFault> {
     let line = read_site(alloc, SITE.as_bytes())?;
@@ -55,13 +61,12 @@ fn members_of_another_form_are_told(rt: HostRuntime) -> Result<(), Fail> {
     expect_wrong(&rt, alloc, "2025-01-01T10:00:00Z", &days, Field::At)?;
     expect_wrong(&rt, alloc, "BEL", &["BELG"], Field::Country)?;
     let providers = [r#"["NL/TNM","nl/tnm"]"#, r#"["be/bec"]"#, "[null]"];
-    expect_wrong(&rt, alloc, PROVIDERS, &providers, Field::Providers)
-}
-
-#[test]
-fn prices_are_cut_before_they_are_bounded(rt: HostRuntime) -> Result<(), Fail> {
+    expect_wrong(&rt, alloc, PROVIDERS, &providers, Field::Providers)?;
+    // Ids differ but for case.
+    expect_wrong(&rt, alloc, CONNECTORS, &[SAME_CONNECTORS], Field::Id)?;
+    // Prices are cut before they are bounded.
     for price in &["10000.00009", "-0.00001", "0"] {
-        assert_eq!(rt; fault_of(rt.alloc(), "0.25", price)?, None, "{price}");
+        assert_eq!(rt; fault_of(alloc, "0.25", price)?, None, "{price}");
     }
     Ok(())
 }

@@ -27,7 +27,7 @@ use Rattle.ocpi_types.specs.declared.words.WhitelistType.{WhitelistType}
 use Rattle.ocpi_types.specs.declared.words.WhitelistType.TheVariants as list
 use Rattle.ocpi_json.specs.Fields.{required, is_absent, optional, is_tagged, text_in, number_in, ci_in, free_in, moment_in, truth_in, word_in, whole_in, record_in, party_in, country_in, party_id_in}
 use Rattle.ocpi_json.specs.Fits.{FitsCi, FitsFree, FitsOption, TokenFits, StartSessionFits, DoneFits, RefusedFits, CommandResponseFits, BodyFits, PacketFits}
-use Rattle.ocpi_json.specs.Forms.{token_at, token_contract_at, token_use_at, start_session_at, status_in, response_data_at, response_at, command_response_at, body_at, packet_at, packet_of_line}
+use Rattle.ocpi_json.specs.Forms.{token_at, start_parts_at, start_session_at, status_in, response_data_at, response_at, command_response_at, body_at, packet_at, packet_of_line}
 use Rattle.ocpi_json.specs.Trees.{moment_tree, whole_tree, token_tree, start_session_tree, response_data_tree, done_tree, refused_tree, command_response_tree, body_tree, kind_word, packet_tree}
 use Rattle.ocpi_json.proofs.Gets.{member_of, start_members, token_members, response_members, done_members, done_data, refused_members, packet_members}
 use Rattle.ocpi_json.proofs.Shape.{party_begins, country_begins, party_id_begins, token_type_begins, whitelist_begins, response_begins, kind_begins}
@@ -106,7 +106,7 @@ response_again answer.UnknownSession = refl
 -- ---- records
 
 pub token_again : (t : Token) → TokenFits t → token_at (token_tree t) ≡ Ok t
-unfolding token_at token_contract_at token_use_at
+unfolding token_at
 token_again t fits =
     let d = token_tree t in
     let m = token_members t in
@@ -129,7 +129,7 @@ unfolding token_tree
 token_record f d t here = record_in_again f d _ here
 
 pub start_session_again : (b : StartSession) → StartSessionFits b → start_session_at (start_session_tree b) ≡ Ok b
-unfolding start_session_at start_session_tree
+unfolding start_session_at start_parts_at start_session_tree
 start_session_again b fits =
     let d = start_session_tree b in
     let m = start_members b.response_url (token_tree b.token) b.location_id b.evse_uid b.connector_id b.authorization_reference in

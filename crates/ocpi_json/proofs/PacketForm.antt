@@ -7,8 +7,8 @@ use Rattle.std.proofs.lemmas.Slice.Eq.{bytes_eq-Decides}
 use Rattle.serde_json.specs.Data.{Data}
 use Rattle.ocpi_types.specs.declared.field.Field.TheVariants as field
 use Rattle.ocpi_types.specs.declared.token.Token.{Token}
-use Rattle.ocpi_json.specs.declared.records.TokenContract.{TokenContract}
-use Rattle.ocpi_json.specs.declared.records.TokenUse.{TokenUse}
+use Rattle.ocpi_types.specs.declared.packet.StartSession.{StartSession}
+use Rattle.ocpi_json.specs.declared.records.StartParts.{StartParts}
 use Rattle.ocpi_types.specs.declared.packet.CommandResponse.{CommandResponse}
 use Rattle.ocpi_types.specs.declared.packet.CommandResponse.TheVariants as response
 use Rattle.ocpi_types.specs.declared.packet.Body.{Body}
@@ -17,33 +17,24 @@ use Rattle.ocpi_types.specs.Words.{token_type_of, whitelist_of, response_of}
 use Rattle.ocpi_json.specs.declared.fault.JsonFault.TheVariants.{WrongForm, UnknownKind}
 use Rattle.ocpi_json.specs.Fault.{◌>>=◌}
 use Rattle.ocpi_json.specs.Fields.{ci_in, free_in, moment_in, truth_in, word_in, whole_in, party_in, country_in, party_id_in, record_in, text_in, optional}
-use Rattle.ocpi_json.specs.Forms.{token_contract_at, token_use_at, token_at, start_session_at, status_in, response_data_at, response_at, command_response_at, body_at, packet_at, packet_of_line}
-use Rattle.ocpi_json.specs.Form.{Required, IsCi, IsFree, IsMoment, IsWord, IsTruth, IsWhole, IsRecord, HasParty, IsText, IsToken, IsStartSession, IsResponseData, IsCommandResponse, HasBody, IsPacket, IsPacketLine}
+use Rattle.ocpi_json.specs.Forms.{token_at, start_parts_at, start_session_at, status_in, response_data_at, response_at, command_response_at, body_at, packet_at, packet_of_line}
+use Rattle.ocpi_json.specs.Form.{Required, Optional, IsCi, IsFree, IsMoment, IsWord, IsTruth, IsWhole, IsRecord, HasParty, IsText, IsToken, IsStartSession, IsResponseData, IsCommandResponse, HasBody, IsPacket, IsPacketLine}
 use Rattle.ocpi_json.proofs.Exact.{Exact, done, ok_is, bind_ok, both_steps, ci_exact, free_exact, moment_exact, truth_exact, word_exact, whole_exact, party_exact, country_exact, party_id_exact, kind_exact, optional_ci_exact, inner_exact, as_record_exact}
 
--- the halves of a token
-record HasContract (d : Data) (c : TokenContract) : Type 0 where
-  party : HasParty d c.party
-  uid : Required (IsCi 36) field.Uid d c.uid
-  token_type : Required (IsWord token_type_of) field.TypeOf d c.token_type
-  contract_id : Required (IsCi 36) field.ContractId d c.contract_id
-
-record HasUse (d : Data) (u : TokenUse) : Type 0 where
-  issuer : Required (IsFree 64) field.Issuer d u.issuer
-  valid : Required IsTruth field.Valid d u.valid
-  whitelist : Required (IsWord whitelist_of) field.Whitelist d u.whitelist
-  last_updated : Required IsMoment field.LastUpdated d u.last_updated
-
-contract_exact : Exact token_contract_at HasContract
-unfolding token_contract_at
-contract_exact = record {
+pub token_exact : Exact token_at IsToken
+unfolding token_at
+token_exact = record {
   sound = λ d t e.
       let a = bind_ok (country_in field.CountryCode d) _ t e in
       let b = bind_ok (party_id_in field.PartyId d) _ t a.2 in
       let g = bind_ok (ci_in 36 field.Uid d) _ t b.2 in
       let h = bind_ok (word_in token_type_of field.TypeOf d) _ t g.2 in
       let i = bind_ok (ci_in 36 field.ContractId d) _ t h.2 in
-      subst (HasContract d) (ok_is _ t i.2) (record {
+      let j = bind_ok (free_in 64 field.Issuer d) _ t i.2 in
+      let k = bind_ok (truth_in field.Valid d) _ t j.2 in
+      let l = bind_ok (word_in whitelist_of field.Whitelist d) _ t k.2 in
+      let m = bind_ok (moment_in field.LastUpdated d) _ t l.2 in
+      subst (IsToken d) (ok_is _ t m.2) (record {
         party = record {
           country = a.0;
           id = b.0;
@@ -54,6 +45,10 @@ contract_exact = record {
         uid = (ci_exact 36 field.Uid).sound d g.0 g.1;
         token_type = (word_exact token_type_of field.TypeOf).sound d h.0 h.1;
         contract_id = (ci_exact 36 field.ContractId).sound d i.0 i.1;
+        issuer = (free_exact 64 field.Issuer).sound d j.0 j.1;
+        valid = (truth_exact field.Valid).sound d k.0 k.1;
+        whitelist = (word_exact whitelist_of field.Whitelist).sound d l.0 l.1;
+        last_updated = (moment_exact field.LastUpdated).sound d m.0 m.1;
       });
   complete = λ d t p. rw (
     (country_exact field.CountryCode).complete d p.party.country p.party.country_code,
@@ -61,76 +56,34 @@ contract_exact = record {
     (ci_exact 36 field.Uid).complete d t.uid p.uid,
     (word_exact token_type_of field.TypeOf).complete d t.token_type p.token_type,
     (ci_exact 36 field.ContractId).complete d t.contract_id p.contract_id,
-    p.party.joined,
-  ) refl;
-}
-
-use_exact : Exact token_use_at HasUse
-unfolding token_use_at
-use_exact = record {
-  sound = λ d t e.
-      let j = bind_ok (free_in 64 field.Issuer d) _ t e in
-      let k = bind_ok (truth_in field.Valid d) _ t j.2 in
-      let l = bind_ok (word_in whitelist_of field.Whitelist d) _ t k.2 in
-      let m = bind_ok (moment_in field.LastUpdated d) _ t l.2 in
-      subst (HasUse d) (ok_is _ t m.2) (record {
-        issuer = (free_exact 64 field.Issuer).sound d j.0 j.1;
-        valid = (truth_exact field.Valid).sound d k.0 k.1;
-        whitelist = (word_exact whitelist_of field.Whitelist).sound d l.0 l.1;
-        last_updated = (moment_exact field.LastUpdated).sound d m.0 m.1;
-      });
-  complete = λ d t p. rw (
     (free_exact 64 field.Issuer).complete d t.issuer p.issuer,
     (truth_exact field.Valid).complete d t.valid p.valid,
     (word_exact whitelist_of field.Whitelist).complete d t.whitelist p.whitelist,
     (moment_exact field.LastUpdated).complete d t.last_updated p.last_updated,
+    p.party.joined,
   ) refl;
 }
 
-contract_part : Token → TokenContract
-contract_part t = record { party = t.party; uid = t.uid; token_type = t.token_type; contract_id = t.contract_id }
+-- a start behind its address
+record HasParts (d : Data) (s : StartParts) : Type 0 where
+  token : Required (IsRecord IsToken) field.Token d s.token
+  location_id : Required (IsCi 36) field.LocationId d s.location_id
+  evse_uid : Optional (IsCi 36) field.EvseUid d s.evse_uid
+  connector_id : Optional (IsCi 36) field.ConnectorId d s.connector_id
+  authorization_reference : Optional (IsCi 36) field.AuthorizationReference d s.authorization_reference
 
-use_part : Token → TokenUse
-use_part t = record { issuer = t.issuer; valid = t.valid; whitelist = t.whitelist; last_updated = t.last_updated }
-
-pub token_exact : Exact token_at IsToken
-unfolding token_at contract_part use_part
-token_exact = record {
-  sound = λ d t e.
-      let a = bind_ok (token_contract_at d) _ t e in
-      let b = bind_ok (token_use_at d) _ t a.2 in
-      let first = contract_exact.sound d a.0 a.1 in
-      let rest = use_exact.sound d b.0 b.1 in
-      subst (IsToken d) (ok_is _ t b.2) (record {
-        party = first.party;
-        uid = first.uid;
-        token_type = first.token_type;
-        contract_id = first.contract_id;
-        issuer = rest.issuer;
-        valid = rest.valid;
-        whitelist = rest.whitelist;
-        last_updated = rest.last_updated;
-      });
-  complete = λ d t p. rw (
-    contract_exact.complete d (contract_part t) (record { party = p.party; uid = p.uid; token_type = p.token_type; contract_id = p.contract_id }),
-    use_exact.complete d (use_part t) (record { issuer = p.issuer; valid = p.valid; whitelist = p.whitelist; last_updated = p.last_updated }),
-  ) refl;
-}
-
-pub start_session_exact : Exact start_session_at IsStartSession
-unfolding start_session_at
-start_session_exact = record {
+parts_exact : Exact start_parts_at HasParts
+unfolding start_parts_at
+parts_exact = record {
   sound = λ d s e.
-      let a = bind_ok (free_in 255 field.ResponseUrl d) _ s e in
-      let b = bind_ok (record_in field.Token d) _ s a.2 in
+      let b = bind_ok (record_in field.Token d) _ s e in
       let g = bind_ok (token_at b.0) _ s b.2 in
       let h = bind_ok (ci_in 36 field.LocationId d) _ s g.2 in
       let i = bind_ok (optional (ci_in 36) field.EvseUid d) _ s h.2 in
       let j = bind_ok (optional (ci_in 36) field.ConnectorId d) _ s i.2 in
       let k = bind_ok (optional (ci_in 36) field.AuthorizationReference d) _ s j.2 in
       let token = both_steps (record_in field.Token d) token_at b.0 g.0 b.1 g.1 in
-      subst (IsStartSession d) (ok_is _ s k.2) (record {
-        response_url = (free_exact 255 field.ResponseUrl).sound d a.0 a.1;
+      subst (HasParts d) (ok_is _ s k.2) (record {
         token = (inner_exact field.Token token_at IsToken token_exact).sound d g.0 token;
         location_id = (ci_exact 36 field.LocationId).sound d h.0 h.1;
         evse_uid = (optional_ci_exact 36 field.EvseUid).sound d i.0 i.1;
@@ -140,7 +93,6 @@ start_session_exact = record {
   complete = λ d s p.
       let inner = bind_ok (record_in field.Token d) token_at s.token ((inner_exact field.Token token_at IsToken token_exact).complete d s.token p.token) in
       rw (
-        (free_exact 255 field.ResponseUrl).complete d s.response_url p.response_url,
         inner.1,
         inner.2,
         (ci_exact 36 field.LocationId).complete d s.location_id p.location_id,
@@ -148,6 +100,30 @@ start_session_exact = record {
         (optional_ci_exact 36 field.ConnectorId).complete d s.connector_id p.connector_id,
         (optional_ci_exact 36 field.AuthorizationReference).complete d s.authorization_reference p.authorization_reference,
       ) refl;
+}
+
+parts_of : StartSession → StartParts
+parts_of s = record { token = s.token; location_id = s.location_id; evse_uid = s.evse_uid; connector_id = s.connector_id; authorization_reference = s.authorization_reference }
+
+pub start_session_exact : Exact start_session_at IsStartSession
+unfolding start_session_at parts_of
+start_session_exact = record {
+  sound = λ d s e.
+      let a = bind_ok (free_in 255 field.ResponseUrl d) _ s e in
+      let b = bind_ok (start_parts_at d) _ s a.2 in
+      let parts = parts_exact.sound d b.0 b.1 in
+      subst (IsStartSession d) (ok_is _ s b.2) (record {
+        response_url = (free_exact 255 field.ResponseUrl).sound d a.0 a.1;
+        token = parts.token;
+        location_id = parts.location_id;
+        evse_uid = parts.evse_uid;
+        connector_id = parts.connector_id;
+        authorization_reference = parts.authorization_reference;
+      });
+  complete = λ d s p. rw (
+    (free_exact 255 field.ResponseUrl).complete d s.response_url p.response_url,
+    parts_exact.complete d (parts_of s) (record { token = p.token; location_id = p.location_id; evse_uid = p.evse_uid; connector_id = p.connector_id; authorization_reference = p.authorization_reference }),
+  ) refl;
 }
 
 pub response_data_exact : Exact response_data_at IsResponseData

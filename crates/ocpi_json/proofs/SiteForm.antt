@@ -23,7 +23,7 @@ use Rattle.ocpi_json.specs.Sites.{new_ci_in, counted_in, connector_at, connector
 use Rattle.ocpi_json.specs.Form.{Required, IsFree, IsParty, IsE4, IsRecord}
 use Rattle.ocpi_json.specs.SiteForm.{IsList, IsConnector, IsEvse, IsLocation, IsSite, HasParties, IsSiteLine, IsSiteLineTree}
 use Rattle.ocpi_json.proofs.Exact.{Exact, done, ok_is, bind_ok, both_steps, text_exact, formed_ok, ci_exact, free_exact, moment_exact, party_exact, e4_exact, inner_exact, as_record_exact}
-use Rattle.ocpi_json.proofs.Elements.{record_beside, beside, AllNew, ExactBeside, IsListing, listing_exact, IsNewCi, new_ci_exact, new_among_sound, new_among_complete, Apart, differ_from_new, new_from_differ}
+use Rattle.ocpi_json.proofs.Elements.{record_beside, beside, AllNew, ExactBeside, IsListing, listing_exact, new_ci_exact, new_among_sound, new_among_complete, Apart, differ_from_new, new_from_differ}
 
 -- ---- connectors
 
@@ -156,26 +156,23 @@ evses_exact earlier =
 
 -- ---- locations
 
-record HasPlace (before : List Location) (d : Data) (l : LocationPlace) : Type 0 where
-  id : IsNewCi 36 field.Id (location_keys before) d l.id
+record HasPlace (d : Data) (l : LocationPlace) : Type 0 where
   address : Required (IsFree 45) field.Address d l.address
   city : Required (IsFree 45) field.City d l.city
   country : Required (IsFree 3) field.Country d l.country
   latitude : Required (IsFree 10) field.Latitude d l.latitude
   longitude : Required (IsFree 11) field.Longitude d l.longitude
 
-place_exact : (before : List Location) → Exact (location_place_at before) (HasPlace before)
+place_exact : Exact location_place_at HasPlace
 unfolding location_place_at
-place_exact before = record {
+place_exact = record {
   sound = λ d x e.
-      let a = bind_ok (new_ci_in 36 field.Id (location_keys before) d) _ x e in
-      let b = bind_ok (free_in 45 field.Address d) _ x a.2 in
+      let b = bind_ok (free_in 45 field.Address d) _ x e in
       let g = bind_ok (free_in 45 field.City d) _ x b.2 in
       let h = bind_ok (free_in 3 field.Country d) _ x g.2 in
       let i = bind_ok (free_in 10 field.Latitude d) _ x h.2 in
       let j = bind_ok (free_in 11 field.Longitude d) _ x i.2 in
-      subst (HasPlace before d) (ok_is _ x j.2) (record {
-        id = (new_ci_exact 36 field.Id (location_keys before)).sound d a.0 a.1;
+      subst (HasPlace d) (ok_is _ x j.2) (record {
         address = (free_exact 45 field.Address).sound d b.0 b.1;
         city = (free_exact 45 field.City).sound d g.0 g.1;
         country = (free_exact 3 field.Country).sound d h.0 h.1;
@@ -183,7 +180,6 @@ place_exact before = record {
         longitude = (free_exact 11 field.Longitude).sound d j.0 j.1;
       });
   complete = λ d x p. rw (
-    (new_ci_exact 36 field.Id (location_keys before)).complete d x.id p.id,
     (free_exact 45 field.Address).complete d x.address p.address,
     (free_exact 45 field.City).complete d x.city p.city,
     (free_exact 3 field.Country).complete d x.country p.country,
@@ -193,7 +189,7 @@ place_exact before = record {
 }
 
 abbrev place_part : Location → LocationPlace
-place_part l = record { id = l.id; address = l.address; city = l.city; country = l.country; latitude = l.latitude; longitude = l.longitude }
+place_part l = record { address = l.address; city = l.city; country = l.country; latitude = l.latitude; longitude = l.longitude }
 
 -- an id that is new, and EVSEs that are
 record NewLocation (before : List Location) (l : Location) : Type 0 where
@@ -204,13 +200,15 @@ location_exact : (before : List Location) → Exact (location_at before) (λ d l
 unfolding location_at
 location_exact before = record {
   sound = λ d x e.
-      let a = bind_ok (location_place_at before d) _ x e in
-      let b = bind_ok (evses_in before d) _ x a.2 in
-      let place = (place_exact before).sound d a.0 a.1 in
-      let evses = (evses_exact before).sound d b.0 b.1 in
-      subst (λ l. IsLocation d l × NewLocation before l) (ok_is _ x b.2) (
+      let a = bind_ok (new_ci_in 36 field.Id (location_keys before) d) _ x e in
+      let b = bind_ok (location_place_at d) _ x a.2 in
+      let g = bind_ok (evses_in before d) _ x b.2 in
+      let id = (new_ci_exact 36 field.Id (location_keys before)).sound d a.0 a.1 in
+      let place = place_exact.sound d b.0 b.1 in
+      let evses = (evses_exact before).sound d g.0 g.1 in
+      subst (λ l. IsLocation d l × NewLocation before l) (ok_is _ x g.2) (
         record {
-          id = place.id.form;
+          id = id.form;
           address = place.address;
           city = place.city;
           country = place.country;
@@ -219,11 +217,11 @@ location_exact before = record {
           evses = evses.listed;
           count = evses.count;
         },
-        record { id = place.id.apart; evses = evses.apart },
+        record { id = id.apart; evses = evses.apart },
       );
   complete = λ d x p. rw (
-    (place_exact before).complete d (place_part x) (record {
-      id = record { form = p.0.id; apart = p.1.id };
+    (new_ci_exact 36 field.Id (location_keys before)).complete d x.id (record { form = p.0.id; apart = p.1.id }),
+    place_exact.complete d (place_part x) (record {
       address = p.0.address;
       city = p.0.city;
       country = p.0.country;

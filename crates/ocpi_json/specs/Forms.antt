@@ -15,45 +15,39 @@ use Rattle.ocpi_types.specs.declared.packet.Body.{Body}
 use Rattle.ocpi_types.specs.declared.packet.Body.TheVariants as body
 use Rattle.ocpi_types.specs.Words.{token_type_of, whitelist_of, response_of}
 use Rattle.ocpi_json.specs.declared.fault.JsonFault.TheVariants.{WrongForm, UnknownKind}
-use Rattle.ocpi_json.specs.declared.records.TokenContract.{TokenContract}
-use Rattle.ocpi_json.specs.declared.records.TokenUse.{TokenUse}
+use Rattle.ocpi_json.specs.declared.records.StartParts.{StartParts}
 use Rattle.ocpi_json.specs.Fault.{Read, ◌>>=◌}
 use Rattle.ocpi_json.specs.Fields.{ci_in, free_in, moment_in, truth_in, word_in, party_in, country_in, party_id_in, whole_in, record_in, text_in, optional, as_record}
 
--- a token up to its contract, and the rest of it
-unfoldable pub token_contract_at : Data → Read TokenContract
-token_contract_at d = do
+unfoldable pub token_at : Data → Read Token
+token_at d = do
   country ← country_in field.CountryCode d
   party_id ← party_id_in field.PartyId d
   uid ← ci_in 36 field.Uid d
   token_type ← word_in token_type_of field.TypeOf d
   contract_id ← ci_in 36 field.ContractId d
-  Ok (record { party = party_of country party_id; uid = uid; token_type = token_type; contract_id = contract_id })
-
-unfoldable pub token_use_at : Data → Read TokenUse
-token_use_at d = do
   issuer ← free_in 64 field.Issuer d
   valid ← truth_in field.Valid d
   whitelist ← word_in whitelist_of field.Whitelist d
   last_updated ← moment_in field.LastUpdated d
-  Ok (record { issuer = issuer; valid = valid; whitelist = whitelist; last_updated = last_updated })
+  Ok (record { party = party_of country party_id; uid = uid; token_type = token_type; contract_id = contract_id; issuer = issuer; valid = valid; whitelist = whitelist; last_updated = last_updated })
 
-unfoldable pub token_at : Data → Read Token
-token_at d = do
-  first ← token_contract_at d
-  rest ← token_use_at d
-  Ok (record { party = first.party; uid = first.uid; token_type = first.token_type; contract_id = first.contract_id; issuer = rest.issuer; valid = rest.valid; whitelist = rest.whitelist; last_updated = rest.last_updated })
-
-unfoldable pub start_session_at : Data → Read StartSession
-start_session_at d = do
-  response_url ← free_in 255 field.ResponseUrl d
+-- a start behind its address
+unfoldable pub start_parts_at : Data → Read StartParts
+start_parts_at d = do
   inner ← record_in field.Token d
   token ← token_at inner
   location_id ← ci_in 36 field.LocationId d
   evse_uid ← optional (ci_in 36) field.EvseUid d
   connector_id ← optional (ci_in 36) field.ConnectorId d
   authorization_reference ← optional (ci_in 36) field.AuthorizationReference d
-  Ok (record { response_url = response_url; token = token; location_id = location_id; evse_uid = evse_uid; connector_id = connector_id; authorization_reference = authorization_reference })
+  Ok (record { token = token; location_id = location_id; evse_uid = evse_uid; connector_id = connector_id; authorization_reference = authorization_reference })
+
+unfoldable pub start_session_at : Data → Read StartSession
+start_session_at d = do
+  response_url ← free_in 255 field.ResponseUrl d
+  parts ← start_parts_at d
+  Ok (record { response_url = response_url; token = parts.token; location_id = parts.location_id; evse_uid = parts.evse_uid; connector_id = parts.connector_id; authorization_reference = parts.authorization_reference })
 
 -- a status code has four digits
 unfoldable pub status_in : Data → Read ℕ

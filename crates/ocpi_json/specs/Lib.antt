@@ -5,11 +5,13 @@ pub mod Form
 pub mod Forms
 pub mod Line
 pub mod Names
+pub mod Nesting
 pub mod Numbers
 pub mod Packets
 pub mod Pieces
 pub mod Plain
 pub mod Quote
+pub mod SeenIds
 pub mod SiteForm
 pub mod SiteLines
 pub mod Sites

@@ -72,22 +72,22 @@ evse_element earlier before e = as_record field.Evses e >>= evse_at earlier befo
 unfoldable pub evses_in : List Location → Data → Read (List Evse)
 evses_in earlier d = counted_in 1 1000 field.Evses d >>= each_after (evse_element earlier) []
 
--- a location up to its EVSEs
-unfoldable pub location_place_at : List Location → Data → Read LocationPlace
-location_place_at before d = do
-  id ← new_ci_in 36 field.Id (location_keys before) d
+-- where a location is
+unfoldable pub location_place_at : Data → Read LocationPlace
+location_place_at d = do
   address ← free_in 45 field.Address d
   city ← free_in 45 field.City d
   country ← free_in 3 field.Country d
   latitude ← free_in 10 field.Latitude d
   longitude ← free_in 11 field.Longitude d
-  Ok (record { id = id; address = address; city = city; country = country; latitude = latitude; longitude = longitude })
+  Ok (record { address = address; city = city; country = country; latitude = latitude; longitude = longitude })
 
 unfoldable pub location_at : List Location → Data → Read Location
 location_at before d = do
-  place ← location_place_at before d
+  id ← new_ci_in 36 field.Id (location_keys before) d
+  place ← location_place_at d
   evses ← evses_in before d
-  Ok (record { id = place.id; address = place.address; city = place.city; country = place.country; latitude = place.latitude; longitude = place.longitude; evses = evses })
+  Ok (record { id = id; address = place.address; city = place.city; country = place.country; latitude = place.latitude; longitude = place.longitude; evses = evses })
 
 abbrev pub location_element : List Location → Data → Read Location
 location_element before e = as_record field.Locations e >>= location_at before

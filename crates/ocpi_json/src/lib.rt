@@ -3,6 +3,7 @@
 
 mod fault;
 mod fields;
+mod laws;
 mod lines;
 mod lists;
 mod names;
@@ -15,6 +16,7 @@ mod unquote;
 mod writing;
 
 pub use fault::JsonFault;
+pub use laws::{lines_nest_no_deeper_than_127, the_last_of_a_repeated_name_counts};
 pub use quote::{quote_numbers, quoted_numbers_are_json_numbers, quoting_goes_by_pieces};
 pub use reading::{read_packet, read_site};
 pub use unquote::{unquote_numbers, unquoting_undoes_quoting};

@@ -2,7 +2,7 @@
 
 ghost use Rattle.std.specs.Prelude.{◌≡◌, ◌≤◌, [], length, IfOk, Ok};
 ghost use Rattle.serde_json.specs.View.{view, items_view};
-ghost use Rattle.ocpi_json.specs.Fault.{Gives, GivesBy};
+ghost use Rattle.ocpi_json.specs.Fault.{Gives, GivesBy, IsBy};
 ghost use Rattle.ocpi_json.specs.Fields.{each_after};
 ghost use Rattle.ocpi_json.specs.Sites.{counted_in};
 
@@ -50,7 +50,7 @@ pub fn counted_in(
     least: usize,
     most: usize,
 ) -> Result<&[Value], JsonFault>
-    ensures exact { GivesBy (λ v. items_view v.now) result (counted_in least most field (view object.now)) }
+    ensures exact { IsBy (λ v. items_view v.now) result (counted_in least most field (view object.now)) }
     ensures count { IfOk result (λ v. (least ≤ length v.now) × (length v.now ≤ most)) }
 {
     let items = list_in(object, field)?;

@@ -1,13 +1,13 @@
 //! Number tokens as tagged strings.
 
-ghost use Rattle.std.specs.Prelude.{◌≡◌, ◌↔◌, ℕ, List, ◌∷◌, ◌||◌, ◌==◌, true, Ok, string_bytes};
+ghost use Rattle.std.specs.Prelude.{◌≡◌, ◌↔◌, ℕ, List, ◌∷◌, ◌||◌, ◌==◌, ◌++◌, true, Ok, OnOk, string_bytes};
 ghost use Rattle.ocpi_json.specs.Fault.{Read, GivesBy};
 ghost use Rattle.ocpi_json.specs.Quote.{is_digit, is_number_char, first_place, next_place, place_after, is_whole, outside, tag_char, in_string, opened, next_mode, in_number, mark, ending, quote};
 ghost use Rattle.ocpi_json.specs.Numbers.{IsJsonNumber};
 ghost use Rattle.ocpi_json.specs.Pieces.{Quotes};
 
 use crate::fault::JsonFault;
-use std::alloc::Global;
+use std::alloc::{AllocError, Global};
 
 /// Where a number of JSON stands (RFC 8259, section 6).
 #[derive(Clone, Copy)]
@@ -35,24 +35,24 @@ enum Mode {
     Escaped,
 }
 
-fn is_digit(c: char) -> bool
+fn is_digit(c: u8) -> bool
     ensures { result ≡ is_digit c }
 {
-    c >= '0' && c <= '9'
+    c >= b'0' && c <= b'9'
 }
 
-fn is_number_char(c: char) -> bool
+fn is_number_char(c: u8) -> bool
     ensures { result ≡ is_number_char c }
 {
-    is_digit(c) || c == '+' || c == '-' || c == '.' || c == 'e' || c == 'E'
+    is_digit(c) || c == b'+' || c == b'-' || c == b'.' || c == b'e' || c == b'E'
 }
 
-fn first_place(c: char) -> Place
+fn first_place(c: u8) -> Place
     ensures { result ≡ first_place c }
 {
-    if c == '-' {
+    if c == b'-' {
         Place::Minus
-    } else if c == '0' {
+    } else if c == b'0' {
         Place::Zero
     } else {
         Place::Whole
@@ -60,24 +60,24 @@ fn first_place(c: char) -> Place
 }
 
 impl Place {
-    fn next(self, c: char) -> Place
+    fn next(self, c: u8) -> Place
         ensures { result ≡ next_place self c }
     {
         let digit = is_digit(c);
-        let mark = c == 'e' || c == 'E';
+        let mark = c == b'e' || c == b'E';
         match self {
-            Place::Minus if c == '0' => Place::Zero,
+            Place::Minus if c == b'0' => Place::Zero,
             Place::Minus if digit => Place::Whole,
-            Place::Zero if c == '.' => Place::Point,
+            Place::Zero if c == b'.' => Place::Point,
             Place::Zero if mark => Place::Mark,
             Place::Whole if digit => Place::Whole,
-            Place::Whole if c == '.' => Place::Point,
+            Place::Whole if c == b'.' => Place::Point,
             Place::Whole if mark => Place::Mark,
             Place::Point if digit => Place::Fraction,
             Place::Fraction if digit => Place::Fraction,
             Place::Fraction if mark => Place::Mark,
             Place::Mark if digit => Place::Exponent,
-            Place::Mark if c == '+' || c == '-' => Place::Sign,
+            Place::Mark if c == b'+' || c == b'-' => Place::Sign,
             Place::Sign if digit => Place::Exponent,
             Place::Exponent if digit => Place::Exponent,
             _ => Place::Bad,
@@ -94,41 +94,41 @@ impl Place {
     }
 }
 
-fn outside(c: char) -> Mode
+fn outside(c: u8) -> Mode
     ensures { result ≡ outside c }
 {
-    if c == '"' {
+    if c == b'"' {
         Mode::Opening(0)
-    } else if is_digit(c) || c == '-' {
+    } else if is_digit(c) || c == b'-' {
         Mode::Number(first_place(c))
     } else {
         Mode::Between
     }
 }
 
-fn in_string(c: char) -> Mode
+fn in_string(c: u8) -> Mode
     ensures { result ≡ in_string c }
 {
     match c {
-        '"' => Mode::Between,
-        '\\' => Mode::Escaped,
+        b'"' => Mode::Between,
+        b'\\' => Mode::Escaped,
         _ => Mode::Inside,
     }
 }
 
 /// The character at `k` of the tag as it is written, `\u0001`.
-pub(crate) fn tag_char(k: u8) -> char
+pub(crate) fn tag_char(k: u8) -> u8
     ensures { result ≡ tag_char k }
 {
     match k {
-        0 => '\\',
-        1 => 'u',
-        5 => '1',
-        _ => '0',
+        0 => b'\\',
+        1 => b'u',
+        5 => b'1',
+        _ => b'0',
     }
 }
 
-fn opened(k: u8, c: char) -> Result<Mode, JsonFault>
+fn opened(k: u8, c: u8) -> Result<Mode, JsonFault>
     ensures { result ≡ opened k c }
 {
     if c == tag_char(k) {
@@ -145,7 +145,7 @@ fn opened(k: u8, c: char) -> Result<Mode, JsonFault>
 
 impl Mode {
     #[tactic(auto, unfolding(crate::specs::Quote::next_mode))]
-    fn next(self, c: char) -> Result<Mode, JsonFault>
+    fn next(self, c: u8) -> Result<Mode, JsonFault>
         ensures { result ≡ next_mode self c }
     {
         match self {
@@ -177,6 +177,13 @@ impl Mode {
     }
 }
 
+fn push_both(out: &mut String, first: &str, second: &str) -> Result<(), AllocError>
+    ensures { OnOk result (string_bytes out.new ≡ string_bytes out.old ++ (first.now ++ second.now)) }
+{
+    out.push_str(first)?;
+    out.push_str(second)
+}
+
 /// What stands before a character, by the modes before and after it.
 #[tactic(auto, unfolding(crate::specs::Quote::mark))]
 fn mark(old: Mode, new: Mode) -> &'static str
@@ -201,13 +208,16 @@ pub fn quote_numbers(alloc: Global, text: &str) -> Result<String, JsonFault>
 {
     let mut out = String::with_capacity(alloc, text.len())?;
     let mut mode = Mode::Between;
-    for c in text.chars() {
-        let next = mode.next(c)?;
-        out.push_str(mark(mode, next))?;
-        out.push(c)?;
+    let mut start = 0;
+    for (i, c) in text.as_bytes().iter().enumerate() {
+        let next = mode.next(*c)?;
+        if mode.in_number() != next.in_number() {
+            push_both(&mut out, &text[start..i], mark(mode, next))?;
+            start = i;
+        }
         mode = next;
     }
-    out.push_str(mode.ending()?)?;
+    push_both(&mut out, &text[start..], mode.ending()?)?;
     Ok(out)
 }
 

@@ -1,28 +1,33 @@
 //! The site line, member by member. Each reader gives the first fault in the order of the members.
 
-ghost use Rattle.std.specs.Prelude.{◌≡◌, ◌∷◌, map, IfOk, Ok};
+ghost use Rattle.std.specs.Prelude.{◌≡◌, ℕ, List, [], ◌∷◌, ◌++◌, length, map, IfOk, Ok};
+ghost use Rattle.std.specs.FinSet as set;
 ghost use Rattle.std.specs.Str.{bytes_eq};
-ghost use Rattle.serde_json.specs.View.{view};
+ghost use Rattle.serde_json.specs.View.{view, items_view};
 ghost use Rattle.ocpi_text.specs.Text.{key};
 ghost use Rattle.ocpi_types.specs.Connectors.{connector_keys};
-ghost use Rattle.ocpi_types.specs.Locations.{evse_keys, location_keys, site_evse_keys};
-ghost use Rattle.ocpi_json.specs.Fault.{Gives};
+ghost use Rattle.ocpi_types.specs.Locations.{evse_keys, site_evse_keys};
+ghost use Rattle.ocpi_types.specs.declared.site.Evse.{Evse};
+ghost use Rattle.ocpi_types.specs.declared.site.Location.{Location};
+ghost use Rattle.ocpi_json.specs.Fault.{Gives, GivesBy};
+ghost use Rattle.ocpi_json.specs.Fields.{each_after};
+ghost use Rattle.ocpi_json.specs.SeenIds.{HasIds};
 ghost use Rattle.ocpi_json.specs.SiteForm.{IsSiteLineTree};
-ghost use Rattle.ocpi_json.specs.Sites.{is_among, connector_at, connector_element, connectors_in, evse_at, evse_element, evses_in, location_place_at, location_at, location_element, locations_in, price_in, site_at, provider_at, providers_in, parties_at, site_line_at, site_of_line};
+ghost use Rattle.ocpi_json.specs.Sites.{is_among, new_ci_in, connector_at, connector_element, connectors_in, evse_at, evse_element, evses_in, location_place_at, location_at, location_element, locations_in, price_in, site_at, provider_at, providers_in, parties_at, site_line_at, site_of_line};
 
 use crate::fault::JsonFault;
 use crate::fields::{as_record, as_text, ci_in, e4_in, free_in, moment_in, party_in, record_in};
 use crate::lists::{ElementReader, counted_in, elements};
-use ocpi_text::{Party, TextFault};
+use ocpi_text::{CiText, FreeText, Party};
 use ocpi_types::{
-    Ci, Connector, Connectors, Evse, Evses, Field, Free, Location, Locations, Parties, PricePerKwh,
+    Connector, Connectors, Evse, Evses, Field, IdSet, Location, Locations, Parties, PricePerKwh,
     Site, SiteLine,
 };
 use serde_json::Value;
 use std::alloc::Global;
 
 /// Whether the two are the same id.
-fn is_same_id(id: &Ci<36>, other: &Ci<36>) -> bool
+fn is_same_id(id: &CiText<36>, other: &CiText<36>) -> bool
     ensures { result ≡ bytes_eq (key id.now) (key other.now) }
 {
     id.is_same(other)
@@ -36,31 +41,10 @@ fn is_same_party(party: &Party, other: &Party) -> bool
 }
 
 /// Whether one of the connectors has that id.
-fn has_connector(before: &[Connector], id: &Ci<36>) -> bool
+fn has_connector(before: &[Connector], id: &CiText<36>) -> bool
     ensures { result ≡ is_among (connector_keys before.now) (key id.now) }
 {
     before.iter().any(|c| is_same_id(id, &c.id))
-}
-
-/// Whether one of the EVSEs has that uid.
-fn has_evse(before: &[Evse], uid: &Ci<36>) -> bool
-    ensures { result ≡ is_among (evse_keys before.now) (key uid.now) }
-{
-    before.iter().any(|e| is_same_id(uid, &e.uid))
-}
-
-/// Whether one of the EVSEs of the locations has that uid.
-fn has_site_evse(before: &[Location], uid: &Ci<36>) -> bool
-    ensures { result ≡ is_among (site_evse_keys before.now) (key uid.now) }
-{
-    before.iter().any(|l| has_evse(l.evses.as_slice(), uid))
-}
-
-/// Whether one of the locations has that id.
-fn has_location(before: &[Location], id: &Ci<36>) -> bool
-    ensures { result ≡ is_among (location_keys before.now) (key id.now) }
-{
-    before.iter().any(|l| is_same_id(id, &l.id))
 }
 
 /// Whether it is one of the parties.
@@ -91,7 +75,7 @@ impl ElementReader<Connector> for ConnectorReader {
 fn connector_of(alloc: Global, before: &[Connector], object: &Value) -> Result<Connector, JsonFault>
     ensures { Gives result (connector_at before.now (view object.now)) }
 {
-    let id = ci_in(alloc, object, Field::Id)?;
+    let id = ci_in(object, Field::Id)?;
     if has_connector(before, &id) {
         return Err(JsonFault::WrongForm(Field::Id));
     }
@@ -113,37 +97,34 @@ fn connectors_of(alloc: Global, object: &Value) -> Result<Connectors, JsonFault>
 {
     let values = counted_in(object, Field::Connectors, 1, 10)?;
     let connectors = elements(alloc, &ConnectorReader, values)?;
-    Ok(Connectors::new(connectors))
-}
-
-/// How the EVSEs of a location are read, beside those of earlier ones.
-#[derive(Drop)]
-struct EvseReader<'a> {
-    earlier: &'a [Location],
-}
-
-impl ElementReader<Evse> for EvseReader<'_> {
-    ghost at = { λ r. evse_element r.earlier.now };
-
-    fn element(&self, alloc: Global, before: &[Evse], value: &Value) -> Result<Evse, JsonFault> {
-        evse_of(alloc, self.earlier, before, as_record(value, Field::Evses)?)
+    match Connectors::new(connectors) {
+        Some(connectors) => Ok(connectors),
+        None => unreachable!(),
     }
 }
 
-#[tactic(auto, unfolding(crate::specs::Sites::evse_at, crate::specs::Sites::new_ci_in))]
-fn evse_of(
-    alloc: Global,
-    earlier: &[Location],
-    before: &[Evse],
-    object: &Value,
-) -> Result<Evse, JsonFault>
-    ensures { Gives result (evse_at earlier.now before.now (view object.now)) }
+/// An id that is the same as none of the set, but for case; the set has it then.
+#[tactic(auto, unfolding(crate::specs::Sites::new_ci_in))]
+fn new_id_in(seen: &mut IdSet, object: &Value, field: Field) -> Result<CiText<36>, JsonFault>
+    ensures read { (keys : List (List ℕ)) → seen.old ≡ set.from_list keys → Gives result (new_ci_in 36 field keys (view object.now)) }
+    ensures seen { IfOk result (λ id. seen.new ≡ set.insert seen.old (key id)) }
 {
-    let uid = ci_in(alloc, object, Field::Uid)?;
-    if has_site_evse(earlier, &uid) || has_evse(before, &uid) {
-        return Err(JsonFault::WrongForm(Field::Uid));
+    let id = ci_in(object, field)?;
+    if seen.insert(&id)? {
+        Ok(id)
+    } else {
+        Err(JsonFault::WrongForm(field))
     }
-    let evse_id = ci_in(alloc, object, Field::EvseId)?;
+}
+
+/// An EVSE, whose uid is the same as none of the set, but for case; the set has it then.
+#[tactic(auto, unfolding(crate::specs::Sites::evse_at))]
+fn evse_of(alloc: Global, uids: &mut IdSet, object: &Value) -> Result<Evse, JsonFault>
+    ensures read { (earlier : List Location) (before : List Evse) → uids.old ≡ set.from_list (site_evse_keys earlier ++ evse_keys before) → Gives result (evse_at earlier before (view object.now)) }
+    ensures seen { IfOk result (λ e. uids.new ≡ set.insert uids.old (key e.uid)) }
+{
+    let uid = new_id_in(uids, object, Field::Uid)?;
+    let evse_id = ci_in(object, Field::EvseId)?;
     let connectors = connectors_of(alloc, object)?;
     Ok(Evse {
         uid,
@@ -152,46 +133,55 @@ fn evse_of(
     })
 }
 
-/// The EVSEs of a location, one to a thousand, beside those of earlier ones.
-#[tactic(auto, using(crate::proofs::SiteForm::evses_count), unfolding(crate::specs::Sites::evses_in))]
-fn evses_of(alloc: Global, earlier: &[Location], object: &Value) -> Result<Evses, JsonFault>
-    ensures { Gives result (evses_in earlier.now (view object.now)) }
+/// Each EVSE in turn, beside those whose uids the set has; it has theirs then.
+fn evse_elements(alloc: Global, uids: &mut IdSet, values: &[Value]) -> Result<Vec<Evse>, JsonFault>
+    ensures read { (earlier : List Location) → uids.old ≡ set.from_list (site_evse_keys earlier) → GivesBy (λ v. v.items) result (each_after (evse_element earlier) [] (items_view values.now)) }
+    ensures seen { (earlier : List Location) → uids.old ≡ set.from_list (site_evse_keys earlier) → IfOk result (λ v. uids.new ≡ set.from_list (site_evse_keys earlier ++ evse_keys v.items)) }
+    ensures count { IfOk result (λ v. length v.items ≡ length values.now) }
+{
+    let mut evses = Vec::new(alloc);
+    for value in values {
+        let object = as_record(value, Field::Evses)?;
+        let evse = evse_of(alloc, uids, object)?;
+        evses.push(evse)?;
+    }
+    Ok(evses)
+}
+
+/// The EVSEs of a location, one to a thousand, beside those whose uids the set has; it has theirs then.
+#[tactic(auto, unfolding(crate::specs::Sites::evses_in))]
+fn evses_of(alloc: Global, uids: &mut IdSet, object: &Value) -> Result<Evses, JsonFault>
+    ensures read { (earlier : List Location) → uids.old ≡ set.from_list (site_evse_keys earlier) → Gives result (evses_in earlier (view object.now)) }
+    ensures seen { (earlier : List Location) → uids.old ≡ set.from_list (site_evse_keys earlier) → IfOk result (λ evses. uids.new ≡ set.from_list (site_evse_keys earlier ++ evse_keys evses)) }
 {
     let values = counted_in(object, Field::Evses, 1, 1000)?;
-    let evses = elements(alloc, &EvseReader { earlier }, values)?;
-    Ok(Evses::new(evses))
+    let evses = evse_elements(alloc, uids, values)?;
+    match Evses::new(evses) {
+        Some(evses) => Ok(evses),
+        None => unreachable!(),
+    }
 }
 
-/// A location up to its EVSEs.
+/// Where a location is.
 #[derive(Drop)]
 struct LocationPlace {
-    id: Ci<36>,
-    address: Free<45>,
-    city: Free<45>,
-    country: Free<3>,
-    latitude: Free<10>,
-    longitude: Free<11>,
+    address: FreeText<45>,
+    city: FreeText<45>,
+    country: FreeText<3>,
+    latitude: FreeText<10>,
+    longitude: FreeText<11>,
 }
 
-#[tactic(auto, unfolding(crate::specs::Sites::location_place_at, crate::specs::Sites::new_ci_in))]
-fn location_place_of(
-    alloc: Global,
-    before: &[Location],
-    object: &Value,
-) -> Result<LocationPlace, JsonFault>
-    ensures { Gives result (location_place_at before.now (view object.now)) }
+#[tactic(auto, unfolding(crate::specs::Sites::location_place_at))]
+fn location_place_of(alloc: Global, object: &Value) -> Result<LocationPlace, JsonFault>
+    ensures { Gives result (location_place_at (view object.now)) }
 {
-    let id = ci_in(alloc, object, Field::Id)?;
-    if has_location(before, &id) {
-        return Err(JsonFault::WrongForm(Field::Id));
-    }
     let address = free_in(alloc, object, Field::Address)?;
     let city = free_in(alloc, object, Field::City)?;
     let country = free_in(alloc, object, Field::Country)?;
     let latitude = free_in(alloc, object, Field::Latitude)?;
     let longitude = free_in(alloc, object, Field::Longitude)?;
     Ok(LocationPlace {
-        id,
         address,
         city,
         country,
@@ -200,14 +190,24 @@ fn location_place_of(
     })
 }
 
+/// The ids of locations, and the uids of their EVSEs.
+#[derive(Drop)]
+struct SiteIds {
+    locations: IdSet,
+    evses: IdSet,
+}
+
+/// A location, beside those whose ids and uids are seen; its own are seen then.
 #[tactic(auto, unfolding(crate::specs::Sites::location_at))]
-fn location_of(alloc: Global, before: &[Location], object: &Value) -> Result<Location, JsonFault>
-    ensures { Gives result (location_at before.now (view object.now)) }
+fn location_of(alloc: Global, seen: &mut SiteIds, object: &Value) -> Result<Location, JsonFault>
+    ensures read { (before : List Location) → HasIds seen.old before → Gives result (location_at before (view object.now)) }
+    ensures seen { (before : List Location) → HasIds seen.old before → IfOk result (λ l. HasIds seen.new (before ++ l ∷ [])) }
 {
-    let place = location_place_of(alloc, before, object)?;
-    let evses = evses_of(alloc, before, object)?;
+    let id = new_id_in(&mut seen.locations, object, Field::Id)?;
+    let place = location_place_of(alloc, object)?;
+    let evses = evses_of(alloc, &mut seen.evses, object)?;
     Ok(Location {
-        id: place.id,
+        id,
         address: place.address,
         city: place.city,
         country: place.country,
@@ -217,21 +217,21 @@ fn location_of(alloc: Global, before: &[Location], object: &Value) -> Result<Loc
     })
 }
 
-/// How the locations of a site are read.
-#[derive(Drop)]
-struct LocationReader;
-
-impl ElementReader<Location> for LocationReader {
-    ghost at = { λ _. location_element };
-
-    fn element(
-        &self,
-        alloc: Global,
-        before: &[Location],
-        value: &Value,
-    ) -> Result<Location, JsonFault> {
-        location_of(alloc, before, as_record(value, Field::Locations)?)
+/// Each location in turn.
+fn location_elements(alloc: Global, values: &[Value]) -> Result<Vec<Location>, JsonFault>
+    ensures { GivesBy (λ v. v.items) result (each_after location_element [] (items_view values.now)) }
+{
+    let mut seen = SiteIds {
+        locations: IdSet::new(alloc),
+        evses: IdSet::new(alloc),
+    };
+    let mut locations = Vec::new(alloc);
+    for value in values {
+        let object = as_record(value, Field::Locations)?;
+        let location = location_of(alloc, &mut seen, object)?;
+        locations.push(location)?;
     }
+    Ok(locations)
 }
 
 /// The locations of a site, one to a thousand, whose ids differ, as do the uids of all their EVSEs.
@@ -240,14 +240,17 @@ fn locations_of(alloc: Global, object: &Value) -> Result<Locations, JsonFault>
     ensures { Gives result (locations_in (view object.now)) }
 {
     let values = counted_in(object, Field::Locations, 1, 1000)?;
-    let locations = elements(alloc, &LocationReader, values)?;
-    Ok(Locations::new(locations))
+    let locations = location_elements(alloc, values)?;
+    match Locations::new(locations)? {
+        Some(locations) => Ok(locations),
+        None => unreachable!(),
+    }
 }
 
 /// A price, from 0.0000 to 10,000.0000.
 #[tactic(auto, unfolding(crate::specs::Sites::price_in))]
 fn price_of(object: &Value) -> Result<PricePerKwh, JsonFault>
-    ensures { Gives result (price_in (view object.now)) }
+    ensures { result ≡ price_in (view object.now) }
 {
     match PricePerKwh::new(e4_in(object, Field::Price)?) {
         Some(price) => Ok(price),
@@ -271,33 +274,27 @@ fn site_of(alloc: Global, object: &Value) -> Result<Site, JsonFault>
 
 /// How the providers of a site line are read, beside its operator.
 #[derive(Drop)]
-struct ProviderReader<'a> {
-    operator: &'a Party,
+struct ProviderReader {
+    operator: Party,
 }
 
-impl ElementReader<Party> for ProviderReader<'_> {
-    ghost at = { λ r. provider_at r.operator.now };
+impl ElementReader<Party> for ProviderReader {
+    ghost at = { λ r. provider_at r.operator };
 
-    fn element(&self, alloc: Global, before: &[Party], value: &Value) -> Result<Party, JsonFault> {
-        provider_of(alloc, self.operator, before, value)
+    fn element(&self, _alloc: Global, before: &[Party], value: &Value) -> Result<Party, JsonFault> {
+        provider_of(self.operator, before, value)
     }
 }
 
 #[tactic(auto, unfolding(crate::specs::Sites::provider_at))]
-fn provider_of(
-    alloc: Global,
-    operator: &Party,
-    before: &[Party],
-    value: &Value,
-) -> Result<Party, JsonFault>
-    ensures { Gives result (provider_at operator.now before.now (view value.now)) }
+fn provider_of(operator: Party, before: &[Party], value: &Value) -> Result<Party, JsonFault>
+    ensures { result ≡ provider_at operator before.now (view value.now) }
 {
-    match Party::read(alloc, as_text(value, Field::Providers)?) {
-        Ok(party) if is_same_party(&party, operator) || has_party(before, &party) => {
+    match Party::read(as_text(value, Field::Providers)?) {
+        Ok(party) if is_same_party(&party, &operator) || has_party(before, &party) => {
             Err(JsonFault::WrongForm(Field::Providers))
         }
         Ok(party) => Ok(party),
-        Err(TextFault::Memory) => Err(JsonFault::Memory),
         Err(_) => Err(JsonFault::WrongForm(Field::Providers)),
     }
 }
@@ -307,13 +304,13 @@ fn provider_of(
 fn parties_of(alloc: Global, object: &Value) -> Result<Parties, JsonFault>
     ensures { Gives result (parties_at (view object.now)) }
 {
-    let operator = party_in(alloc, object, Field::Party)?;
+    let operator = party_in(object, Field::Party)?;
     let values = counted_in(object, Field::Providers, 0, 63)?;
-    let reader = ProviderReader {
-        operator: &operator,
-    };
-    let providers = elements(alloc, &reader, values)?;
-    Ok(Parties::new(operator, providers))
+    let providers = elements(alloc, &ProviderReader { operator }, values)?;
+    match Parties::new(operator, providers) {
+        Some(parties) => Ok(parties),
+        None => unreachable!(),
+    }
 }
 
 #[tactic(auto, unfolding(crate::specs::Sites::site_line_at))]

@@ -9,10 +9,9 @@ ghost use Rattle.ocpi_types.specs.declared.field.Field.TheVariants as field;
 ghost use Rattle.ocpi_json.specs.Fits.{FitsCi, FitsFree, FitsOption, ContractFits, TokenFits, RequiredFits, StartSessionFits, DoneFits, RefusedFits, CommandResponseFits, BodyFits, EnvelopeFits, PacketFits};
 ghost use Rattle.ocpi_json.specs.Trees.{whole_tree, moment_tree, with, with_text, contract_members, allowed_members, token_tree, required_members, start_session_tree, response_data_tree, done_tree, refused_tree, command_response_tree, body_tree, kind_word, envelope_members, packet_tree};
 
-use ocpi_text::{Moment, Whole};
+use ocpi_text::{CiText, FreeText, Moment, ShortText, Whole};
 use ocpi_types::{
-    Body, Ci, CommandResponse, Field, Free, Packet, RefusalCode, ResponseData, StartSession, Token,
-    Word,
+    Body, CommandResponse, Field, Packet, RefusalCode, ResponseData, StartSession, Token, Word,
 };
 use serde_json::{Map, Value};
 use std::alloc::{AllocError, Global};
@@ -47,10 +46,10 @@ fn put_ci<const MAX: usize>(
     alloc: Global,
     members: &mut Map<String, Value>,
     field: Field,
-    text: &Ci<MAX>,
+    text: CiText<MAX>,
 ) -> Result<(), AllocError>
-    ensures member { OnOk result (members_view members.new.entries ≡ with field (string text.now) (members_view members.old.entries)) }
-    ensures fits { FitsCi MAX text.now }
+    ensures member { OnOk result (members_view members.new.entries ≡ with field (string text.entry) (members_view members.old.entries)) }
+    ensures fits { FitsCi MAX text.entry }
 {
     put_text(alloc, members, field, text.as_str())
 }
@@ -60,7 +59,20 @@ fn put_free<const MAX: usize>(
     alloc: Global,
     members: &mut Map<String, Value>,
     field: Field,
-    text: &Free<MAX>,
+    text: &FreeText<MAX>,
+) -> Result<(), AllocError>
+    ensures member { OnOk result (members_view members.new.entries ≡ with field (string text.now) (members_view members.old.entries)) }
+    ensures fits { FitsFree MAX text.now }
+{
+    put_text(alloc, members, field, text.as_str())
+}
+
+/// Adds a short text that is compared exactly.
+fn put_short<const MAX: usize, const BYTES: usize>(
+    alloc: Global,
+    members: &mut Map<String, Value>,
+    field: Field,
+    text: &ShortText<MAX, BYTES>,
 ) -> Result<(), AllocError>
     ensures member { OnOk result (members_view members.new.entries ≡ with field (string text.now) (members_view members.old.entries)) }
     ensures fits { FitsFree MAX text.now }
@@ -73,10 +85,10 @@ fn put_optional<const MAX: usize>(
     alloc: Global,
     members: &mut Map<String, Value>,
     field: Field,
-    text: &Option<Ci<MAX>>,
+    text: Option<CiText<MAX>>,
 ) -> Result<(), AllocError>
-    ensures member { OnOk result (members_view members.new.entries ≡ with_text field text.now (members_view members.old.entries)) }
-    ensures fits { FitsOption MAX text.now }
+    ensures member { OnOk result (members_view members.new.entries ≡ with_text field text.entry (members_view members.old.entries)) }
+    ensures fits { FitsOption MAX text.entry }
 {
     match text {
         Some(text) => put_ci(alloc, members, field, text),
@@ -151,10 +163,10 @@ fn put_contract(
     let _party = token.party.as_str();
     put_text(alloc, members, Field::CountryCode, token.party.country())?;
     put_text(alloc, members, Field::PartyId, token.party.party_id())?;
-    put_ci(alloc, members, Field::Uid, &token.uid)?;
+    put_ci(alloc, members, Field::Uid, token.uid)?;
     put_word(alloc, members, Field::TypeOf, &token.token_type)?;
-    put_ci(alloc, members, Field::ContractId, &token.contract_id)?;
-    put_free(alloc, members, Field::Issuer, &token.issuer)
+    put_ci(alloc, members, Field::ContractId, token.contract_id)?;
+    put_short(alloc, members, Field::Issuer, &token.issuer)
 }
 
 /// Adds the members that say what a token's provider allows.
@@ -195,7 +207,7 @@ fn put_required(
     put_free(alloc, members, Field::ResponseUrl, &start.response_url)?;
     let token = token_value(alloc, &start.token)?;
     put(alloc, members, Field::Token, token)?;
-    put_ci(alloc, members, Field::LocationId, &start.location_id)
+    put_ci(alloc, members, Field::LocationId, start.location_id)
 }
 
 /// The tree of a START_SESSION (OCPI 2.2.1, Commands: StartSession object).
@@ -206,13 +218,13 @@ fn start_session_value(alloc: Global, start: &StartSession) -> Result<Value, All
 {
     let mut members = Map::new(alloc);
     put_required(alloc, &mut members, start)?;
-    put_optional(alloc, &mut members, Field::EvseUid, &start.evse_uid)?;
-    put_optional(alloc, &mut members, Field::ConnectorId, &start.connector_id)?;
+    put_optional(alloc, &mut members, Field::EvseUid, start.evse_uid)?;
+    put_optional(alloc, &mut members, Field::ConnectorId, start.connector_id)?;
     put_optional(
         alloc,
         &mut members,
         Field::AuthorizationReference,
-        &start.authorization_reference,
+        start.authorization_reference,
     )?;
     Ok(Value::Object(members))
 }

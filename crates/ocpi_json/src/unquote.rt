@@ -1,8 +1,8 @@
 //! Tagged strings as number tokens.
 
-ghost use Rattle.std.specs.Prelude.{◌≡◌, ℕ, List, Ok, ◌++◌, [], IfOk, OnOk, string_bytes, encode_utf8, if◌then◌else◌};
+ghost use Rattle.std.specs.Prelude.{◌≡◌, ℕ, List, Ok, IfOk, string_bytes};
 ghost use Rattle.ocpi_json.specs.Quote.{quote};
-ghost use Rattle.ocpi_json.specs.Unquote.{held, way_in, way_opened, next_way, front, keeps, last_of, unquote};
+ghost use Rattle.ocpi_json.specs.Unquote.{way_in, way_opened, next_way, opening_at, end_at, in_token, unquote};
 
 use crate::quote::tag_char;
 use std::alloc::{AllocError, Global};
@@ -20,31 +20,17 @@ enum Way {
     Token,
 }
 
-fn held(k: u8) -> &'static str
-    ensures { result.now ≡ held k }
-{
-    match k {
-        0 => "\"",
-        1 => "\"\\",
-        2 => "\"\\u",
-        3 => "\"\\u0",
-        4 => "\"\\u00",
-        5 => "\"\\u000",
-        _ => "\"\\u0001",
-    }
-}
-
-fn way_in(c: char) -> Way
+fn way_in(c: u8) -> Way
     ensures { result ≡ way_in c }
 {
     match c {
-        '"' => Way::Outside,
-        '\\' => Way::Skipped,
+        b'"' => Way::Outside,
+        b'\\' => Way::Skipped,
         _ => Way::Within,
     }
 }
 
-fn way_opened(k: u8, c: char) -> Way
+fn way_opened(k: u8, c: u8) -> Way
     ensures { result ≡ way_opened k c }
 {
     if c == tag_char(k) {
@@ -59,59 +45,45 @@ fn way_opened(k: u8, c: char) -> Way
 
 impl Way {
     #[tactic(auto, unfolding(crate::specs::Unquote::next_way))]
-    fn next(self, c: char) -> Way
+    fn next(self, c: u8) -> Way
         ensures { result ≡ next_way self c }
     {
         match self {
-            Way::Outside if c == '"' => Way::Opened(0),
+            Way::Outside if c == b'"' => Way::Opened(0),
             Way::Outside => Way::Outside,
             Way::Opened(k) => way_opened(k, c),
             Way::Within => way_in(c),
             Way::Skipped => Way::Within,
-            Way::Token if c == '"' => Way::Outside,
+            Way::Token if c == b'"' => Way::Outside,
             Way::Token => Way::Token,
         }
     }
 
-    #[tactic(auto, unfolding(crate::specs::Unquote::front))]
-    fn front(self, c: char) -> &'static str
-        ensures { result.now ≡ front self c }
+    /// Where the string at hand begins, where the one before it began at `opening`.
+    fn opening(self, i: usize, opening: usize) -> usize
+        ensures { result ≡ opening_at self i opening }
     {
         match self {
-            Way::Opened(k) if c != tag_char(k) => held(k),
-            _ => "",
+            Way::Outside => i,
+            _ => opening,
         }
     }
 
-    #[tactic(auto, unfolding(crate::specs::Unquote::keeps))]
-    fn keeps(self, c: char) -> bool
-        ensures { result ≡ keeps self c }
+    /// How far the text stays as it is: a string that may yet be a number is left out.
+    fn end(self, i: usize, opening: usize) -> usize
+        ensures { result ≡ end_at self i opening }
     {
         match self {
-            Way::Outside | Way::Token => c != '"',
-            Way::Opened(k) => c != tag_char(k),
-            Way::Within | Way::Skipped => true,
+            Way::Opened(_) => opening,
+            _ => i,
         }
     }
 
-    #[tactic(auto, unfolding(crate::specs::Unquote::last_of))]
-    fn last(self) -> &'static str
-        ensures { result.now ≡ last_of self }
+    fn in_token(self) -> bool
+        ensures { result ≡ in_token self }
     {
-        match self {
-            Way::Opened(k) => held(k),
-            _ => "",
-        }
+        matches!(self, Way::Token)
     }
-}
-
-fn push_if(out: &mut String, kept: bool, c: char) -> Result<(), AllocError>
-    ensures { OnOk result (string_bytes out.new ≡ string_bytes out.old ++ (if kept then encode_utf8 c else [])) }
-{
-    if kept {
-        out.push(c)?;
-    }
-    Ok(())
 }
 
 /// The text with each string that begins with U+0001, written `\u0001`, as the number that it stands
@@ -121,12 +93,20 @@ pub fn unquote_numbers(alloc: Global, text: &str) -> Result<String, AllocError>
 {
     let mut out = String::with_capacity(alloc, text.len())?;
     let mut way = Way::Outside;
-    for c in text.chars() {
-        out.push_str(way.front(c))?;
-        push_if(&mut out, way.keeps(c), c)?;
-        way = way.next(c);
+    // Up to here the text is in `out`.
+    let mut start = 0;
+    // Where the string at hand begins.
+    let mut opening = 0;
+    for (i, c) in text.as_bytes().iter().enumerate() {
+        let next = way.next(*c);
+        opening = way.opening(i, opening);
+        if way.in_token() != next.in_token() {
+            out.push_str(&text[start..way.end(i, opening)])?;
+            start = i + 1;
+        }
+        way = next;
     }
-    out.push_str(way.last())?;
+    out.push_str(&text[start..])?;
     Ok(out)
 }
 
