@@ -1,6 +1,10 @@
 //! The program `answer`: one operator, which the first line makes and each other line sends a packet.
 
-ghost use Rattle.std.specs.Prelude.{◌≡◌, ◌≢◌, ◌++◌, ◌∷◌, ℕ, List, [], Option, None, Some, Err, true, IfOk, IfErr, IfSome, OnOk, codes, string_bytes};
+ghost use Rattle.std.specs.Prelude.{◌≡◌, ◌≢◌, ◌++◌, ◌∷◌, ℕ, List, [], Option, None, Some, Ok, Err, true, IfOk, IfErr, IfSome, OnOk, codes, string_bytes};
+ghost use Rattle.ocpi_json.specs.Fault.{Fails};
+ghost use Rattle.ocpi_json.specs.SiteLines.{site_in};
+ghost use Rattle.ocpi_types.specs.declared.site.SiteLine.{SiteLine as SiteLineOf};
+ghost use Rattle.operator_core.specs.State.{opening};
 ghost use Rattle.ocpi_nodes.specs.Answer.{EndGives, LineGives, PacketTurn, SiteTurn, packet_lines, refusal_line};
 ghost use Rattle.ocpi_nodes.specs.Run.{Begins, Outputs, ReadsFewLines, StopsReading};
 
@@ -85,6 +89,17 @@ impl AnswerLines for Answering {
     ghost cut_alike = { cut_alike };
 }
 
+/// The operator of a site line, at the moment of that line.
+fn open(alloc: Global, line: &[u8]) -> Result<Running, JsonFault>
+    ensures ok { IfOk result (λ r. (site : SiteLineOf) × (site_in line.now ≡ Ok site) × (r ≡ record { at = site.at; operator = opening site })) }
+    ensures err { IfErr result (λ fault. Fails fault (site_in line.now)) }
+{
+    let site = read_site(alloc, line)?;
+    let at = site.at;
+    let operator = Operator::new(alloc, site)?;
+    Ok(Running { at, operator })
+}
+
 /// Makes the operator of a site line.
 fn answer_site(
     alloc: Global,
@@ -94,12 +109,8 @@ fn answer_site(
     ensures { IfOk result (λ r. (out : List ℕ) × (string_bytes output.new ≡ string_bytes output.old ++ out)
         × SiteTurn line.now r.0 out r.1) }
 {
-    match read_site(alloc, line) {
-        Ok(site) => {
-            let at = site.at;
-            let operator = Operator::new(alloc, site);
-            Ok((Turn::Taken, Some(Running { at, operator })))
-        }
+    match open(alloc, line) {
+        Ok(running) => Ok((Turn::Taken, Some(running))),
         Err(fault) => {
             refuse(output, fault)?;
             Ok((Turn::Ended, None))

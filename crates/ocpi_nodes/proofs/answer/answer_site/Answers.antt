@@ -6,10 +6,10 @@ use Rattle.ocpi_nodes.proofs.answer.answer_site.Goals as goal
 
 pub returns-in-Ok : goal.returns-in-Ok
 returns-in-Ok c =
-    let site = c.in-Ok.site in
-    ([], sym (append-nil (string_bytes c.args.output.now)), Opened site c.in-Ok.ensures.exact refl refl (ap (λ o. Some (record { at = site.at; operator = o })) c.new-operator.ensures))
+    let opened = c.in-Ok.ensures.ok in
+    ([], sym (append-nil (string_bytes c.args.output.now)), Opened opened.0 opened.1 refl refl (ap Some opened.2))
 
 pub returns-in_ok-refuse-in-Err : goal.returns-in_ok-refuse-in-Err
 returns-in_ok-refuse-in-Err c =
     let fault = c.in-Err.fault in
-    (refusal_line (fault_text fault), c.in_ok-refuse-in-Err.ensures, NoSite fault c.in-Err.ensures.exact refl refl refl)
+    (refusal_line (fault_text fault), c.in_ok-refuse-in-Err.ensures, NoSite fault c.in-Err.ensures.err refl refl refl)
