@@ -108,13 +108,13 @@ module _ (locations : List Location) where
       -- an EVSE at a free position is not claimed
       pub free_there : (j : ℕ) (e : Evse) → get free (at, j) ≡ Some tt → IsEvseAt locations (at, j) e → IsUnclaimed claimed (key e.uid)
       free_there j e is there =
-          let was = h.unclaimed (at, j) is in
+          let was = h.free_sound (at, j) is in
           let same : was.1.evse ≡ e = one_evse locations (at, j) was.1.evse e was.1.at there in
           subst (λ (x : Evse). IsUnclaimed claimed (key x.uid)) same (subst (IsUnclaimed claimed) (sym was.1.same) was.2)
 
       -- and stands at its position
       pub free_stands : (j : ℕ) → get free (at, j) ≡ Some tt → ((e : Evse) → IsEvseAt locations (at, j) e → ⊥) → ⊥
-      free_stands j is none = let was = h.unclaimed (at, j) is in none was.1.evse was.1.at
+      free_stands j is none = let was = h.free_sound (at, j) is in none was.1.evse was.1.at
 
       pub none_free : HasNone position_cmp free (λ q. q.0 ≡ at) → (uid : Option (List ℕ)) (e : Evse) → IsCandidate locations at uid e → IsUnclaimed claimed (key e.uid) → ⊥
       none_free none uid e c unclaimed =
@@ -130,6 +130,10 @@ module _ (locations : List Location) where
         let j = place e.location.evses e.evse e.within in
         let has : HasEvse locations (i.0, j.0) uid = record { evse = e.evse; at = record { location = e.location; stands = i.1; within = j.1 }; same = e.same } in
         (h.complete uid (i.0, j.0) tt has, h.room uid (i.0, j.0) tt has)
+
+  -- an EVSE of a location of the list is one of the site
+  pub evse_of_site : (at : ℕ) (l : Location) (e : Evse) → slice_get locations at ≡ Some l → Contains l.evses e → IsEvse locations (key e.uid)
+  evse_of_site at l e stands listed = record { location = l; evse = e; listed = contained locations at l stands; within = listed; same = refl }
 
   -- a place of the location is an EVSE of it with one of its connectors
   pub fits : (at : ℕ) (uid connector : Option (List ℕ)) (e : Evse) (k : Connector) (l : Location) → slice_get locations at ≡ Some l → IsCandidate locations at uid e → IsChosen connector e.connectors k → Fits l.evses uid connector e k
