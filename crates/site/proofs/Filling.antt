@@ -1,5 +1,5 @@
 -- Indexes find one more EVSE once it is added.
-use Rattle.std.proofs.Common.{◌≡◌, ℕ, ◌+◌, refl, ap, ◌∙◌}
+use Rattle.std.proofs.Common.{◌≡◌, ℕ, ◌+◌, List, refl, ap, ◌∙◌}
 use Rattle.std.specs.Prelude.{Some, slice_get}
 use Rattle.std.specs.FinMap.{get, empty, get-empty}
 use Rattle.ocpi_text.specs.Text.{key}
@@ -8,14 +8,13 @@ use Rattle.ocpi_types.specs.declared.site.Evse.{Evse}
 use Rattle.tables.specs.Keys.{text_cmp}
 use Rattle.tables.specs.Tables.{shown_of}
 use Rattle.site.specs.declared.indexes.Indexes.{Indexes}
-use Rattle.site.specs.Indexes.{FindEvses, AddsEvse}
+use Rattle.site.specs.Indexes.{HaveEvses, AddsEvse}
 use Rattle.site.specs.Places.{Claimed}
 use Rattle.site.specs.Positions.{IsBefore}
 use Rattle.site.proofs.Indexing.{next_evse}
-use Rattle.std.proofs.Common.{List}
 
 pub evse_added : (locations : List Location) (i j : ℕ) (l : Location) (e : Evse) (t u : Indexes) → slice_get locations i ≡ Some l → slice_get l.evses j ≡ Some e →
-    FindEvses locations (IsBefore i j) t → shown_of text_cmp t.claimed ≡ empty → AddsEvse (key e.uid) (i, j) t u → FindEvses locations (IsBefore i (j + 1)) u
+    HaveEvses locations (IsBefore i j) t → shown_of text_cmp t.claimed ≡ empty → AddsEvse (key e.uid) (i, j) t u → HaveEvses locations (IsBefore i (j + 1)) u
 evse_added locations i j l e t u stands within found unclaimed added =
     rw (added.evse, added.claimed_stay, added.room, added.free_there)
     (next_evse locations _ _ _ _ i j (key e.uid) (λ other. ap (λ (m : Claimed). get m other) unclaimed ∙ get-empty text_cmp other) found

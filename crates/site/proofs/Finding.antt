@@ -1,11 +1,10 @@
 -- What the indexes of a site find is what is looked for.
-use Rattle.std.proofs.Common.{◌≡◌, ℕ, zero, suc, false, List, [], ◌∷◌, refl, sym, ap, subst, ◌∙◌, arith}
+use Rattle.std.proofs.Common.{◌≡◌, ℕ, zero, suc, false, List, [], ◌∷◌, refl, sym, ap, subst, arith}
 use Rattle.std.specs.Prelude.{◌≢◌, Option, Some, None, IsTrue, IsSome, IsNone, IfSome, IfNone, Contains, is_some, slice_get}
 use Rattle.std.specs.Ordering.{nat_cmp}
 use Rattle.std.specs.BTreeMap.Range.{IsLeBy}
 use Rattle.std.specs.FinMap.{FinMap, get, contains_key}
 use Rattle.std.proofs.lemmas.Bool.Decides.{nat_tests}
-use Rattle.std.proofs.lemmas.Option.{same_Some}
 use Rattle.ocpi_text.specs.Text.{key}
 use Rattle.ocpi_types.specs.declared.site.Location.{Location}
 use Rattle.ocpi_types.specs.declared.site.Evse.{Evse}
@@ -28,13 +27,6 @@ none_from (Some x) p = tt
 pub zero_least : (n : ℕ) → IsLeBy nat_cmp 0 n
 zero_least zero = refl
 zero_least (suc n) = grind (arith, nat_tests)
-
-unclaimed_key : (claimed : Claimed) (uid : List ℕ) → contains_key claimed uid ≡ false → IsUnclaimed claimed uid
-unclaimed_key claimed uid e = go (get claimed uid) e
-  where
-    go : (o : Option (Unit {0})) → is_some o ≡ false → o ≡ None
-    go None e = refl
-    go (Some x) e = absurd (cc)
 
 module _ (locations : List Location) where
   module _ (index : FinMap text_cmp ℕ) (f : FindsLocations locations (λ i. Unit {0}) index) (id : List ℕ) where
@@ -108,13 +100,13 @@ module _ (locations : List Location) where
       -- an EVSE at a free position is not claimed
       pub free_there : (j : ℕ) (e : Evse) → get free (at, j) ≡ Some tt → IsEvseAt locations (at, j) e → IsUnclaimed claimed (key e.uid)
       free_there j e is there =
-          let was = h.unclaimed (at, j) is in
+          let was = h.free_sound (at, j) is in
           let same : was.1.evse ≡ e = one_evse locations (at, j) was.1.evse e was.1.at there in
           subst (λ (x : Evse). IsUnclaimed claimed (key x.uid)) same (subst (IsUnclaimed claimed) (sym was.1.same) was.2)
 
       -- and stands at its position
       pub free_stands : (j : ℕ) → get free (at, j) ≡ Some tt → ((e : Evse) → IsEvseAt locations (at, j) e → ⊥) → ⊥
-      free_stands j is none = let was = h.unclaimed (at, j) is in none was.1.evse was.1.at
+      free_stands j is none = let was = h.free_sound (at, j) is in none was.1.evse was.1.at
 
       pub none_free : HasNone position_cmp free (λ q. q.0 ≡ at) → (uid : Option (List ℕ)) (e : Evse) → IsCandidate locations at uid e → IsUnclaimed claimed (key e.uid) → ⊥
       none_free none uid e c unclaimed =
@@ -131,14 +123,11 @@ module _ (locations : List Location) where
         let has : HasEvse locations (i.0, j.0) uid = record { evse = e.evse; at = record { location = e.location; stands = i.1; within = j.1 }; same = e.same } in
         (h.complete uid (i.0, j.0) tt has, h.room uid (i.0, j.0) tt has)
 
-  -- a place of the location is an EVSE of it with one of its connectors
-  pub fits : (at : ℕ) (uid connector : Option (List ℕ)) (e : Evse) (k : Connector) (l : Location) → slice_get locations at ≡ Some l → IsCandidate locations at uid e → IsChosen connector e.connectors k → Fits l.evses uid connector e k
-  fits at uid connector e k l stands c chosen = record {
-    listed = subst (λ (x : Location). Contains x.evses e) (same_Some c.location l (sym c.stands ∙ stands)) c.listed;
-    named = c.named;
-    chosen = chosen;
-  }
+  -- an EVSE of a location of the list is one of the site
+  pub evse_of_site : (at : ℕ) (l : Location) (e : Evse) → slice_get locations at ≡ Some l → Contains l.evses e → IsEvse locations (key e.uid)
+  evse_of_site at l e stands listed = record { location = l; evse = e; listed = contained locations at l stands; within = listed; same = refl }
 
+  -- the EVSE of a place of the location is one of it
   pub fitting : (at : ℕ) (uid connector : Option (List ℕ)) (e : Evse) (k : Connector) (l : Location) → slice_get locations at ≡ Some l → Fits l.evses uid connector e k → IsCandidate locations at uid e
   fitting at uid connector e k l stands f = record { location = l; stands = stands; listed = f.listed; named = f.named }
 

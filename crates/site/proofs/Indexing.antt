@@ -97,7 +97,7 @@ module _ (locations : List Location) where
     sound = λ uid p e. absurd (none_some p _ (get-empty text_cmp uid) e);
     complete = λ uid p b h. absurd (none_before_first p b);
     room = λ uid p b h. absurd (none_before_first p b);
-    unclaimed = λ p e. absurd (none_some tt _ (get-empty position_cmp p) e);
+    free_sound = λ p e. absurd (none_some tt _ (get-empty position_cmp p) e);
     free_complete = λ uid p b h c. absurd (none_before_first p b);
   }
     where
@@ -112,7 +112,7 @@ module _ (locations : List Location) where
       sound = h.sound;
       complete = λ uid p b has. h.complete uid p (within uid p has b) has;
       room = λ uid p b has. h.room uid p (within uid p has b) has;
-      unclaimed = h.unclaimed;
+      free_sound = h.free_sound;
       free_complete = λ uid p b has none. h.free_complete uid p (within uid p has b) has none;
     }
 
@@ -135,9 +135,9 @@ module _ (locations : List Location) where
           | inl old ↦ still text_total rooms uid other tt (h.room other q old has)
           | inr is ↦ subst (λ z. IsTrue (contains_key (insert rooms uid tt) z)) (its_uid q other is has) (ap is_some (get-insert_same text_total text_exact rooms uid tt))
         ];
-        unclaimed = λ q e. elim (of_insert position_total position_exact free p tt q tt e) [
+        free_sound = λ q e. elim (of_insert position_total position_exact free p tt q tt e) [
           | inl at ↦ (uid, subst (λ z. HasEvse locations z uid) (sym at.0) here, unclaimed uid)
-          | inr old ↦ h.unclaimed q old
+          | inr old ↦ h.free_sound q old
         ];
         free_complete = λ other q b has none. elim (or_here q b) [
           | inl old ↦ stays position_total free p q tt (h.free_complete other q old has none)
@@ -180,9 +180,9 @@ module _ (locations : List Location) where
       sound = h.sound;
       complete = h.complete;
       room = h.room;
-      unclaimed = λ q e.
+      free_sound = λ q e.
           let old = of_remove position_total position_exact free p q tt e in
-          let was = h.unclaimed q old.1 in
+          let was = h.free_sound q old.1 in
           (was.0, was.1, get-insert_other text_total text_exact claimed uid tt was.0 (λ same. old.0 (one was.0 q p was.1 (subst (HasEvse locations p) (sym same) here))) ∙ was.2);
       free_complete = λ other q b has none.
           get-remove_other position_total position_exact free p q (λ is. none_some tt _ (ap (get (insert claimed uid tt)) (one_uid locations p uid other here (subst (λ z. HasEvse locations z other) is has)) ∙ none) (get-insert_same text_total text_exact claimed uid tt))

@@ -7,14 +7,14 @@ use Rattle.tables.specs.Tables.{shown_of, rooms_of}
 use Rattle.site.specs.declared.indexes.Indexes.{Indexes}
 use Rattle.site.specs.Positions.{Position, position_cmp, FindsLocations, FindsEvses}
 
--- they find each EVSE at the positions of P
-abbrev pub FindEvses : List Location → (Position → Type 0) → Indexes → Type 0
-FindEvses locations P t = FindsEvses locations P (shown_of text_cmp t.evses) (shown_of text_cmp t.claimed) (rooms_of text_cmp t.claimed) (shown_of position_cmp t.free)
+-- the EVSEs at the positions of P are found by them
+abbrev pub HaveEvses : List Location → (Position → Type 0) → Indexes → Type 0
+HaveEvses locations P t = FindsEvses locations P (shown_of text_cmp t.evses) (shown_of text_cmp t.claimed) (rooms_of text_cmp t.claimed) (shown_of position_cmp t.free)
 
 -- they find each location and each EVSE of the list
 pub record AreIndexes (locations : List Location) (t : Indexes) : Type 0 where
   pub locations_found : FindsLocations locations (λ i. Unit {0}) (shown_of text_cmp t.locations)
-  pub evses_found : FindEvses locations (λ p. Unit {0}) t
+  pub evses_found : HaveEvses locations (λ p. Unit {0}) t
 
 -- an EVSE with the uid of that key is added there
 pub record AddsEvse (uid : List ℕ) (p : Position) (t u : Indexes) : Type 0 where

@@ -50,7 +50,7 @@ pub record FindsEvses (locations : List Location) (P : Position → Type 0) (ind
   pub sound : (uid : List ℕ) (p : Position) → get index uid ≡ Some p → HasEvse locations p uid
   pub complete : (uid : List ℕ) (p : Position) → P p → HasEvse locations p uid → IsTrue (contains_key index uid)
   pub room : (uid : List ℕ) (p : Position) → P p → HasEvse locations p uid → IsTrue (contains_key rooms uid)
-  pub unclaimed : (p : Position) → get free p ≡ Some tt → (uid : List ℕ) × HasEvse locations p uid × (get claimed uid ≡ None)
+  pub free_sound : (p : Position) → get free p ≡ Some tt → (uid : List ℕ) × HasEvse locations p uid × (get claimed uid ≡ None)
   pub free_complete : (uid : List ℕ) (p : Position) → P p → HasEvse locations p uid → get claimed uid ≡ None → get free p ≡ Some tt
 
 -- the positions before that of the EVSE j of the location i

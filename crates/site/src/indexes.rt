@@ -5,7 +5,7 @@ ghost use Rattle.std.specs.FinMap as map;
 ghost use Rattle.ocpi_text.specs.Text.{key};
 ghost use Rattle.tables.specs.Keys.{text_cmp};
 ghost use Rattle.tables.specs.Tables.{shown_of};
-ghost use Rattle.site.specs.Indexes.{FindEvses, AreIndexes, AddsEvse};
+ghost use Rattle.site.specs.Indexes.{HaveEvses, AreIndexes, AddsEvse};
 ghost use Rattle.site.specs.Positions.{IsBefore};
 
 use ocpi_text::CiText;
@@ -43,8 +43,8 @@ impl Indexes {
     fn add_evses(&mut self, locations: &[Location], i: usize) -> Result<(), AllocError>
         requires within { i < length locations.now }
         requires unclaimed { shown_of text_cmp self.old.claimed ≡ map.empty }
-        requires before { FindEvses locations.now (IsBefore i 0) self.old }
-        ensures found { OnOk result (FindEvses locations.now (IsBefore (i + 1) 0) self.new) }
+        requires before { HaveEvses locations.now (IsBefore i 0) self.old }
+        ensures found { OnOk result (HaveEvses locations.now (IsBefore (i + 1) 0) self.new) }
         ensures unclaimed { OnOk result (shown_of text_cmp self.new.claimed ≡ map.empty) }
         ensures locations_stay { OnOk result (self.new.locations ≡ self.old.locations) }
     {

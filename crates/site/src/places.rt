@@ -58,7 +58,7 @@ impl Places {
         &self.site
     }
 
-    /// Where the location of an id stands in the site's list.
+    /// Where the location of an id stands in the site's list. None, where the site has no such location.
     pub fn find_location(&self, id: &CiText<36>) -> Option<usize>
         ensures found { IfSome result (λ i. (l : Location) × (slice_get self.now.site.locations i ≡ Some l) × IsLocation self.now.site.locations id.now l) }
         ensures none { IfNone result ((l : Location) → IsLocation self.now.site.locations id.now l → ⊥) }
@@ -91,8 +91,9 @@ impl Places {
         }
     }
 
-    /// An EVSE, with a connector of it, of the location that stands there: as they are named, or the first of those that
-    /// are left open.
+    /// An EVSE of the location that stands there, and a connector of it: those that are named. Where no connector is named
+    /// it is the EVSE's first, and where no EVSE is named it is one of the location's. None, where the location has no such
+    /// EVSE and connector.
     pub fn find_place(
         &self,
         at: usize,
@@ -137,7 +138,7 @@ impl Places {
         }
     }
 
-    /// The same, of the EVSEs that are not claimed.
+    /// As `find_place`, of the EVSEs that are not claimed. None, where the location has no such EVSE and connector.
     pub fn free_place(
         &self,
         at: usize,
@@ -152,7 +153,7 @@ impl Places {
         place_of(evse, connector_id)
     }
 
-    /// Claims an EVSE, which may be claimed already. It takes no memory.
+    /// Claims the EVSE of a uid, which may be claimed already. It takes no memory.
     pub fn claim(&mut self, evse: &CiText<36>)
         requires { IsEvse self.old.site.locations (key evse.now) }
         ensures { self.new ≡ record self.old { claimed = map.insert self.old.claimed (key evse.now) tt } }

@@ -3,7 +3,7 @@ use Rattle.std.proofs.lemmas.Option.{slice_get_read}
 use Rattle.tables.specs.Keys.{text_cmp}
 use Rattle.tables.specs.Tables.{shown_of}
 use Rattle.ocpi_text.specs.Text.{key}
-use Rattle.site.specs.Indexes.{FindEvses}
+use Rattle.site.specs.Indexes.{HaveEvses}
 use Rattle.site.specs.Positions.{IsBefore, FindsLocations}
 use Rattle.site.proofs.Indexing.{no_location, no_evse, more_locations, all_locations, all_evses}
 use Rattle.site.proofs.indexes.Indexes.new.Goals as goal
@@ -31,5 +31,5 @@ returns-clause-found c =
     let end : c.loop-i.i ≡ length c.args.locations.now = omega arith in
     record {
       locations_found = all_locations c.args.locations.now _ (subst (λ (n : ℕ). FindsLocations c.args.locations.now (λ j. j < n) (shown_of text_cmp c.loop-i.indexes.locations)) end c.loop-i.invariant.located);
-      evses_found = all_evses c.args.locations.now _ _ _ _ (subst (λ (n : ℕ). FindEvses c.args.locations.now (IsBefore n 0) c.loop-i.indexes) end c.loop-i.invariant.found);
+      evses_found = all_evses c.args.locations.now _ _ _ _ (subst (λ (n : ℕ). HaveEvses c.args.locations.now (IsBefore n 0) c.loop-i.indexes) end c.loop-i.invariant.found);
     }
