@@ -213,7 +213,7 @@ fn take(
 fn play(rt: &impl Abort, alloc: Global, turns: &[Turn]) -> Result<(), JsonFault> {
     let line = read_site(alloc, SITE.as_bytes())?;
     let begin = line.at;
-    let mut operator = Operator::new(alloc, line);
+    let mut operator = Operator::new(alloc, line)?;
     for turn in turns {
         take(rt, alloc, &mut operator, begin, turn)?;
     }
