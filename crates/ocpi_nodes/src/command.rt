@@ -10,7 +10,8 @@ use std::alloc::Global;
 pub const WRONG_WORDS: u8 = 2;
 
 /// What goes in and comes out, and the exit statuses.
-const AFTER_HELP: &str = r#"Input, on standard input: lines of JSON, each of at most 1048576 bytes. A line ends with a line feed, or a
+const AFTER_HELP: &str =
+    r#"Input, on standard input: lines of JSON, each of at most 1048576 bytes. A line ends with a line feed, or a
 carriage return and a line feed; the last may lack its end. Empty lines are passed over.
   The first line is the site line: the moment, the operator's party, its providers, and its site.
   Each other line is a packet that comes to the operator at that moment.

@@ -93,11 +93,7 @@ impl<R: BufRead> LineReader<R> {
     }
 
     /// Reads on through the next line feed, or to the end of the input. Only the first `ROOM` bytes are kept.
-    fn read_piece<W: Write>(
-        &mut self,
-        line: &mut Vec<u8>,
-        writer: &mut W,
-    ) -> Result<(), RunFault>
+    fn read_piece<W: Write>(&mut self, line: &mut Vec<u8>, writer: &mut W) -> Result<(), RunFault>
         requires { line.old.items ≡ [] }
         ensures kept { OnOk result (IfSome (R.Read.remaining self.old.reader) (λ text. line.new.items ≡ take ROOM (take_through 10 text))) }
         ensures rest { OnOk result (DropsThrough (R.Read.remaining self.old.reader) (R.Read.remaining self.new.reader) 10) }
@@ -117,11 +113,7 @@ impl<R: BufRead> LineReader<R> {
     }
 
     /// Takes what is at hand of a line, or what the next read shows, and answers whether the line is done.
-    fn next_part<W: Write>(
-        &mut self,
-        line: &mut Vec<u8>,
-        writer: &mut W,
-    ) -> Result<bool, RunFault>
+    fn next_part<W: Write>(&mut self, line: &mut Vec<u8>, writer: &mut W) -> Result<bool, RunFault>
         requires { length line.old.items ≤ ROOM }
         ensures ok { IfOk result (λ done. (bytes : List ℕ) × TakesPart (R.Read.remaining self.old.reader) done bytes (R.Read.remaining self.new.reader)
             × (line.new.items ≡ line.old.items ++ take (ROOM - length line.old.items) bytes)) }

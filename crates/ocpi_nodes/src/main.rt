@@ -1,20 +1,27 @@
 //! OCPI nodes as programs over lines of JSON.
 #![tactic(auto)]
 
+ghost use Rattle.std.specs.Prelude.{◌≡◌, ◌≢◌};
+ghost use Rattle.clap.specs.Values.{kind_of};
+ghost use Rattle.ocpi_nodes.specs.Outcome.{exit_status};
+
 mod answer;
 mod command;
 mod lines;
 mod outcome;
 mod run;
 #[cfg(test)]
+mod run_tests;
+#[cfg(test)]
 mod tests;
 
 use answer::run_answer;
 use clap::Error;
+use clap::error::ErrorKind;
 use command::{WRONG_WORDS, status_after, take_words};
 use lines::LineReader;
 use outcome::{Ran, RunFault, status_of};
-use std::io::{self, BufReader, BufWriter, ErrorKind};
+use std::io::{self, BufReader, BufWriter};
 use std::process::ExitCode;
 
 /// What one read asks for, and what is written at once, in bytes.
@@ -36,7 +43,13 @@ fn run_program(rt: &HostRuntime) -> u8 {
     if let Err(text) = take_words(rt.alloc(), words.as_slice()) {
         return say(rt, &text);
     }
-    let ran = answer_standard_input(rt);
+    report(rt, answer_standard_input(rt))
+}
+
+/// Says what stopped a run, and answers its exit status.
+fn report(rt: &HostRuntime, ran: Result<Ran, RunFault>) -> u8
+    ensures { result ≡ exit_status ran }
+{
     if let Err(fault) = ran {
         let _ = eprintln!(rt; "{fault}");
     }
@@ -48,7 +61,7 @@ fn take_arguments(rt: &HostRuntime) -> Result<Vec<String>, &'static str> {
     let arguments = match std::env::args(rt) {
         Ok(arguments) => arguments,
         Err(error) => {
-            return Err(if error.kind() == ErrorKind::InvalidData {
+            return Err(if error.kind() == io::ErrorKind::InvalidData {
                 "error: invalid UTF-8 was detected in one or more arguments"
             } else {
                 "error: out of memory"
@@ -62,7 +75,9 @@ fn take_arguments(rt: &HostRuntime) -> Result<Vec<String>, &'static str> {
 }
 
 /// Prints clap's text, and answers the exit status.
-fn say(rt: &HostRuntime, text: &Error) -> u8 {
+fn say(rt: &HostRuntime, text: &Error) -> u8
+    ensures { kind_of text.now ≢ ErrorKind.DisplayHelp → kind_of text.now ≢ ErrorKind.DisplayVersion → result ≡ WRONG_WORDS }
+{
     let is_printed = text.print(rt).is_ok();
     if !is_printed && !text.use_stderr() {
         let _ = eprintln!(rt; "{}", RunFault::WriteFailed);

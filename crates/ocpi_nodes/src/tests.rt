@@ -1,11 +1,9 @@
-//! What the program writes, byte for byte, and what stops it.
+//! What the operator's program writes, byte for byte.
 
 use crate::answer::run_answer;
-use crate::lines::KEPT_BYTES;
-use crate::run::{Ran, RunFault};
-use crate::take_words;
+use crate::lines::{KEPT_BYTES, LineReader};
+use crate::outcome::{Ran, RunFault};
 use std::alloc::{AllocError, Global};
-use std::io::{self, BufReader, ErrorKind, Read, Write};
 use std::test::Fail;
 
 const SITE: &str =
@@ -75,8 +73,7 @@ fn failed(alloc: Global, number: u8, status: u16) -> Result<String, AllocError> 
 /// What is written for an input, and how the run went.
 fn output_of(alloc: Global, input: &[u8]) -> Result<(Vec<u8>, Result<Ran, RunFault>), Fail> {
     let mut written = Vec::new(alloc);
-    let mut reader = input;
-    let ran = run_answer(alloc, &mut reader, &mut written);
+    let ran = run_answer(alloc, &mut LineReader::new(input), &mut written);
     Ok((written, ran))
 }
 
@@ -107,20 +104,6 @@ fn expect(
 #[test]
 fn first_start_is_accepted(rt: HostRuntime) -> Result<(), Fail> {
     expect(&rt, rt.alloc(), &[START], &[ACCEPTED], Ran::Whole)
-}
-
-#[test]
-fn second_start_on_one_evse_is_rejected(rt: HostRuntime) -> Result<(), Fail> {
-    let alloc = rt.alloc();
-    let second = start_line(alloc, &start_on_e1(2, 2))?;
-    let rejected = done(alloc, 2, "REJECTED")?;
-    expect(
-        &rt,
-        alloc,
-        &[START, second.as_str()],
-        &[ACCEPTED, rejected.as_str()],
-        Ran::Whole,
-    )
 }
 
 #[test]
@@ -286,94 +269,6 @@ fn long_lines_are_refused(rt: HostRuntime) -> Result<(), Fail> {
             Ran::WithRefusals
         };
         expect(&rt, alloc, &[line.as_str()], &[answer], ran)?;
-    }
-    Ok(())
-}
-
-/// A reader that fails after these bytes.
-#[derive(Drop)]
-struct BreaksOff<'a> {
-    bytes: &'a [u8],
-}
-
-impl Read for BreaksOff<'_> {
-    fn read(&mut self, buf: &mut [u8]) -> io::Result<usize> {
-        if self.bytes.is_empty() {
-            return Err(io::Error::from(ErrorKind::ConnectionReset));
-        }
-        self.bytes.read(buf)
-    }
-}
-
-/// A writer with room for that many bytes.
-#[derive(Drop)]
-struct FillsUp {
-    room: usize,
-    written: Vec<u8>,
-}
-
-impl Write for FillsUp {
-    fn write(&mut self, buf: &[u8]) -> io::Result<usize> {
-        if self.room == 0 {
-            return Err(io::Error::from(ErrorKind::StorageFull));
-        }
-        let taken = self.room.min(buf.len());
-        self.written.extend_from_slice(&buf[..taken])?;
-        self.room -= taken;
-        Ok(taken)
-    }
-
-    fn flush(&mut self) -> io::Result<()> {
-        Ok(())
-    }
-}
-
-#[test]
-fn failed_reads_and_writes_end_the_run(rt: HostRuntime) -> Result<(), Fail> {
-    let alloc = rt.alloc();
-    let input = format!(in alloc; "{SITE}\n{START}\n{START}")?;
-    let mut reader = BufReader::with_capacity(
-        alloc,
-        7,
-        BreaksOff {
-            bytes: input.as_bytes(),
-        },
-    )?;
-    let mut written = Vec::new(alloc);
-    let ran = run_answer(alloc, &mut reader, &mut written);
-    assert_eq!(rt; ran, Err(RunFault::ReadFailed));
-    let wanted = format!(in alloc; "{ACCEPTED}\n")?;
-    assert_eq!(rt; std::str::from_utf8(&written).ok(), Some(wanted.as_str()));
-
-    let mut writer = FillsUp {
-        room: 100,
-        written: Vec::new(alloc),
-    };
-    let mut reader = input.as_bytes();
-    let ran = run_answer(alloc, &mut reader, &mut writer);
-    assert_eq!(rt; ran, Err(RunFault::WriteFailed));
-    assert_eq!(rt; writer.written.len(), 100);
-    Ok(())
-}
-
-#[test]
-fn other_words_end_with_status_2(rt: HostRuntime) -> Result<(), Fail> {
-    let alloc = rt.alloc();
-    for (word, status) in [
-        ("answer", None),
-        ("go", Some(2)),
-        ("play", Some(2)),
-        ("settle", Some(2)),
-    ] {
-        let words = [
-            String::from_str(alloc, "ocpi_nodes")?,
-            String::from_str(alloc, word)?,
-        ];
-        let found = match take_words(alloc, &words) {
-            Ok(()) => None,
-            Err(error) => Some(error.exit_code()),
-        };
-        assert_eq!(rt; found, status, "for {word}");
     }
     Ok(())
 }
