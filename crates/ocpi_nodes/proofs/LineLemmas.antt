@@ -1,5 +1,5 @@
 -- The lines of a text, and what was read of one.
-use Rattle.std.proofs.Common.{◌≡◌, ◌≢◌, ℕ, ◌+◌, ◌-◌, ◌<◌, ◌≤◌, min, ◌⊎◌, inl, inr, ⊎_elim, Bool, true, false, ◌&&◌, Option, None, Some, IfSome, cond, eqb, nat_lt, lt-ltb, List, [], ◌∷◌, ◌++◌, All, length, get_or, take, filter, refl, sym, ap, subst, ◌∙◌, arith, eq-eqb, ne_eqb, length-append, take-take, take_all}
+use Rattle.std.proofs.Common.{◌≡◌, ◌≢◌, ℕ, ◌+◌, ◌-◌, ◌<◌, ◌≤◌, min, ◌⊎◌, inl, inr, ⊎_elim, Bool, true, false, ◌&&◌, Option, None, Some, IfSome, cond, eqb, lt-ltb, List, [], ◌∷◌, ◌++◌, All, length, get_or, take, refl, sym, ap, subst, ◌∙◌, arith, eq-eqb, ne_eqb, length-append, take-take, take_all}
 use Rattle.std.proofs.Math.Seq.{get_or-append_seam, take-append_seam, take-append-add}
 use Rattle.std.proofs.lemmas.Bool.{cases_eq, cases_lt}
 use Rattle.std.proofs.lemmas.List.{append-nil, length-take, take-append-le}

@@ -1,13 +1,13 @@
 -- A run as far as it has come.
-use Rattle.std.proofs.Common.{◌≡◌, ◌≢◌, ℕ, ◌+◌, ◌<◌, ◌≤◌, ◌⊎◌, inl, inr, true, false, List, [], ◌∷◌, ◌++◌, All, Option, None, Some, IfSome, Result, Ok, Err, IfOk, IfErr, length, take, filter, nat_lt, cond, lt-ltb, refl, sym, ap, subst, ◌∙◌, arith, append_assoc, take_all}
+use Rattle.std.proofs.Common.{◌≡◌, ◌≢◌, ℕ, ◌+◌, ◌<◌, ◌≤◌, ◌⊎◌, inl, inr, true, false, List, [], ◌∷◌, ◌++◌, Option, None, Some, IfSome, Result, Ok, Err, IfOk, IfErr, length, take, filter, nat_lt, cond, lt-ltb, refl, sym, ap, subst, ◌∙◌, arith, append_assoc, take_all}
 use Rattle.std.specs.Prelude.{⊤}
 use Rattle.std.proofs.lemmas.List.{append-nil, length-take}
 use Rattle.std.proofs.lemmas.List.Elements.{All-nil, filter-append}
 use Rattle.std.specs.Str.Lines.{lines}
 use Rattle.std.specs.Io.{IsEmptyOrEndsWith}
-use Rattle.std.specs.Io.KnownBytes.{Appends, Consumes, Keeps}
+use Rattle.std.specs.Io.KnownBytes.{Appends, Keeps}
 use Rattle.std.specs.Io.BufRead.{first_line, drop_through}
-use Rattle.ocpi_nodes.specs.Lines.{lines_of, IsInLine, ReadsLine, ReadsLineOf}
+use Rattle.ocpi_nodes.specs.Lines.{lines_of, IsInLine, ReadsLineOf}
 use Rattle.ocpi_nodes.specs.Outcome.{both_ran}
 use Rattle.ocpi_nodes.specs.Run.{AreAnswered, none_yet, taken, refused, IsRun, at_end, stopped, IsBegun, between, in_line, in_end, StopsAfter, Outputs, Begins, StopsReading, ReadsFewLines, gives_beginning, most_reads}
 use Rattle.ocpi_nodes.specs.declared.outcome.Ran.{Ran}

@@ -1,6 +1,6 @@
-use Rattle.std.proofs.Common.{◌≡◌, ◌≢◌, ◌-◌, ◌++◌, [], All, length, take, sym, ap, subst, ◌∙◌, rules, arith, eq-eqb, eqb-true, true≢false, get_or, get_or-take, length-take-le}
+use Rattle.std.proofs.Common.{◌≢◌, ◌-◌, ◌++◌, [], All, length, take, sym, ap, subst, ◌∙◌, rules, arith, eq-eqb, eqb-true, true≢false, get_or, get_or-take, length-take-le}
 use Rattle.std.proofs.lemmas.List.Elements.{All-nil, All-more}
-use Rattle.std.specs.Io.BufRead.{FillKeeps, DropsConsumable}
+use Rattle.std.specs.Io.BufRead.{FillKeeps}
 use Rattle.std.proofs.KnownBytes.{Consumes-nil, Consumes-kept}
 use Rattle.std.proofs.BufReadLemmas.{Consumes_shown, zero_unless_positive}
 use Rattle.std.proofs.Transfers.{StopsAt-take}

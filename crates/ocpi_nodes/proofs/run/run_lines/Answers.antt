@@ -1,6 +1,4 @@
-use Rattle.std.proofs.Common.{rules, true, false, ◌≡◌, ◌≢◌, ◌<◌, ◌≤◌, ◌+◌, ℕ, List, Ok, Err, Option, IfSome, sym, subst, length, arith}
-use Rattle.std.specs.Io.KnownBytes.{Keeps}
-use Rattle.std.proofs.KnownBytes.{Keeps-refl}
+use Rattle.std.proofs.Common.{rules, true, false, ◌≡◌, ◌<◌, ◌≤◌, ◌+◌, Ok, sym, ap, ◌∙◌, subst, length, arith}
 use Rattle.ocpi_nodes.specs.Lines.{ReadsLineOf}
 use Rattle.ocpi_nodes.specs.Run.{gives_beginning, most_reads}
 use Rattle.ocpi_nodes.specs.declared.lines.TheConstants.{KEPT_BYTES}
@@ -17,17 +15,20 @@ loop-read-init g c = begins g.M.AnswerLines.line_gives g.M.AnswerLines.end_gives
 -- the input ended
 pub returns-in-Ok-false-clause-output : goal.returns-in-Ok-false-clause-output
 returns-in-Ok-false-clause-output g c =
-    let none : ReadsLineOf KEPT_BYTES (g.R.Read.remaining c.loop-read.input.reader) false c.next_line.new.line.items (g.R.Read.remaining c.next_line.new.self.reader) = search rules in
+    let none : ReadsLineOf KEPT_BYTES (g.R.Read.remaining c.loop-read.input.reader) false c.next_line.new.line.items (g.R.Read.remaining c.next_line.new.self.reader) =
+    subst (λ b. ReadsLineOf KEPT_BYTES (g.R.Read.remaining c.loop-read.input.reader) b c.next_line.new.line.items (g.R.Read.remaining c.next_line.new.self.reader)) c.in-Ok-false.field-0-test c.in-Ok-false.ensures.ok in
     ends_of g.M.AnswerLines.line_gives g.M.AnswerLines.end_gives c.args.machine.now c.write_end.result _ _ c.loop-read._read _ _ _ _ _ _ c.loop-read.invariant (none_left _ (g.R.Read.remaining c.next_line.new.self.reader) KEPT_BYTES c.next_line.new.line.items none).0 c.next_line.ensures.writer c.write_end.ensures.ok
 
 pub returns-in-Ok-false-clause-begun : goal.returns-in-Ok-false-clause-begun
 returns-in-Ok-false-clause-begun g c =
-    let none : ReadsLineOf KEPT_BYTES (g.R.Read.remaining c.loop-read.input.reader) false c.next_line.new.line.items (g.R.Read.remaining c.next_line.new.self.reader) = search rules in
+    let none : ReadsLineOf KEPT_BYTES (g.R.Read.remaining c.loop-read.input.reader) false c.next_line.new.line.items (g.R.Read.remaining c.next_line.new.self.reader) =
+    subst (λ b. ReadsLineOf KEPT_BYTES (g.R.Read.remaining c.loop-read.input.reader) b c.next_line.new.line.items (g.R.Read.remaining c.next_line.new.self.reader)) c.in-Ok-false.field-0-test c.in-Ok-false.ensures.ok in
     end_begun_of g.M.AnswerLines.line_gives g.M.AnswerLines.end_gives c.args.machine.now c.write_end.result _ _ c.loop-read._read _ _ _ _ _ _ c.loop-read.invariant (none_left _ (g.R.Read.remaining c.next_line.new.self.reader) KEPT_BYTES c.next_line.new.line.items none).0 c.next_line.ensures.writer c.write_end.ensures.err
 
 pub returns-in-Ok-false-clause-reads : goal.returns-in-Ok-false-clause-reads
 returns-in-Ok-false-clause-reads g c =
-    let none : ReadsLineOf KEPT_BYTES (g.R.Read.remaining c.loop-read.input.reader) false c.next_line.new.line.items (g.R.Read.remaining c.next_line.new.self.reader) = search rules in
+    let none : ReadsLineOf KEPT_BYTES (g.R.Read.remaining c.loop-read.input.reader) false c.next_line.new.line.items (g.R.Read.remaining c.next_line.new.self.reader) =
+    subst (λ b. ReadsLineOf KEPT_BYTES (g.R.Read.remaining c.loop-read.input.reader) b c.next_line.new.line.items (g.R.Read.remaining c.next_line.new.self.reader)) c.in-Ok-false.field-0-test c.in-Ok-false.ensures.ok in
     let within : c.loop-read._read ≤ most_reads = omega (arith, c.loop-read-test.true) in
     few g.M.AnswerLines.line_gives g.M.AnswerLines.end_gives c.args.machine.now _ _ c.loop-read._read _ _ _ _ _ c.loop-read.invariant (none_left _ (g.R.Read.remaining c.next_line.new.self.reader) KEPT_BYTES c.next_line.new.line.items none).1 within
 
@@ -46,7 +47,8 @@ returns-in-Err-clause-reads g c =
 
 pub loop-read-preserved-then-is_empty : goal.loop-read-preserved-then-is_empty
 loop-read-preserved-then-is_empty g c =
-    let read : ReadsLineOf KEPT_BYTES (g.R.Read.remaining c.loop-read.input.reader) true c.next_line.new.line.items (g.R.Read.remaining c.next_line.new.self.reader) = search rules in
+    let read : ReadsLineOf KEPT_BYTES (g.R.Read.remaining c.loop-read.input.reader) true c.next_line.new.line.items (g.R.Read.remaining c.next_line.new.self.reader) =
+    subst (λ b. ReadsLineOf KEPT_BYTES (g.R.Read.remaining c.loop-read.input.reader) b c.next_line.new.line.items (g.R.Read.remaining c.next_line.new.self.reader)) c.in-Ok-true.field-0-test c.in-Ok-true.ensures.ok in
     let empty : length c.next_line.new.line.items ≡ 0 = search rules in
     passes g.M.AnswerLines.line_gives g.M.AnswerLines.end_gives c.args.machine.now _ _ c.loop-read._read _ _ _ _ _ _ KEPT_BYTES c.next_line.new.line.items c.loop-read.invariant read c.next_line.ensures.writer (omega arith) empty
 
@@ -56,7 +58,8 @@ returns-in-Ended-clause-output g c =
     let lines = g.M.AnswerLines.line_gives in
     let line = c.next_line.new.line.items in
     let next = c.write_answer.new.machine in
-    let read : ReadsLineOf KEPT_BYTES (g.R.Read.remaining c.loop-read.input.reader) true line (g.R.Read.remaining c.next_line.new.self.reader) = search rules in
+    let read : ReadsLineOf KEPT_BYTES (g.R.Read.remaining c.loop-read.input.reader) true line (g.R.Read.remaining c.next_line.new.self.reader) =
+    subst (λ b. ReadsLineOf KEPT_BYTES (g.R.Read.remaining c.loop-read.input.reader) b c.next_line.new.line.items (g.R.Read.remaining c.next_line.new.self.reader)) c.in-Ok-true.field-0-test c.in-Ok-true.ensures.ok in
     let holds : 0 < length line = search rules in
     let wrote = c.in-Ok.ensures.ok in
     let gave = subst (λ l. lines c.loop-read.machine l Ended wrote.0 next) c.as_slice.ensures.value (subst (λ t. lines c.loop-read.machine c.as_slice.result.now t wrote.0 next) c.in-Ended.is wrote.2) in
@@ -64,7 +67,8 @@ returns-in-Ended-clause-output g c =
 
 pub returns-in-Ended-clause-reads : goal.returns-in-Ended-clause-reads
 returns-in-Ended-clause-reads g c =
-    let read : ReadsLineOf KEPT_BYTES (g.R.Read.remaining c.loop-read.input.reader) true c.next_line.new.line.items (g.R.Read.remaining c.next_line.new.self.reader) = search rules in
+    let read : ReadsLineOf KEPT_BYTES (g.R.Read.remaining c.loop-read.input.reader) true c.next_line.new.line.items (g.R.Read.remaining c.next_line.new.self.reader) =
+    subst (λ b. ReadsLineOf KEPT_BYTES (g.R.Read.remaining c.loop-read.input.reader) b c.next_line.new.line.items (g.R.Read.remaining c.next_line.new.self.reader)) c.in-Ok-true.field-0-test c.in-Ok-true.ensures.ok in
     let within : c.loop-read._read < most_reads = omega (arith, c.loop-read-test.true) in
     few_line g.M.AnswerLines.line_gives g.M.AnswerLines.end_gives c.args.machine.now _ _ c.loop-read._read _ _ _ _ _ KEPT_BYTES c.next_line.new.line.items c.loop-read.invariant read within
 
@@ -74,7 +78,8 @@ returns-in-Err-write_answer-clause-begun g c =
     let lines = g.M.AnswerLines.line_gives in
     let line = c.next_line.new.line.items in
     let next = c.write_answer.new.machine in
-    let read : ReadsLineOf KEPT_BYTES (g.R.Read.remaining c.loop-read.input.reader) true line (g.R.Read.remaining c.next_line.new.self.reader) = search rules in
+    let read : ReadsLineOf KEPT_BYTES (g.R.Read.remaining c.loop-read.input.reader) true line (g.R.Read.remaining c.next_line.new.self.reader) =
+    subst (λ b. ReadsLineOf KEPT_BYTES (g.R.Read.remaining c.loop-read.input.reader) b c.next_line.new.line.items (g.R.Read.remaining c.next_line.new.self.reader)) c.in-Ok-true.field-0-test c.in-Ok-true.ensures.ok in
     let holds : 0 < length line = search rules in
     let gave = subst (λ l. gives_beginning (λ out. (turn : Turn) × lines c.loop-read.machine l turn out next) (g.W.Write.contents c.next_line.new.writer) (g.W.Write.contents c.write_answer.new.writer))
     c.as_slice.ensures.value c.in-Err-write_answer.ensures.err.1 in
@@ -82,7 +87,8 @@ returns-in-Err-write_answer-clause-begun g c =
 
 pub returns-in-Err-write_answer-clause-reads : goal.returns-in-Err-write_answer-clause-reads
 returns-in-Err-write_answer-clause-reads g c =
-    let read : ReadsLineOf KEPT_BYTES (g.R.Read.remaining c.loop-read.input.reader) true c.next_line.new.line.items (g.R.Read.remaining c.next_line.new.self.reader) = search rules in
+    let read : ReadsLineOf KEPT_BYTES (g.R.Read.remaining c.loop-read.input.reader) true c.next_line.new.line.items (g.R.Read.remaining c.next_line.new.self.reader) =
+    subst (λ b. ReadsLineOf KEPT_BYTES (g.R.Read.remaining c.loop-read.input.reader) b c.next_line.new.line.items (g.R.Read.remaining c.next_line.new.self.reader)) c.in-Ok-true.field-0-test c.in-Ok-true.ensures.ok in
     let within : c.loop-read._read < most_reads = omega (arith, c.loop-read-test.true) in
     few_line g.M.AnswerLines.line_gives g.M.AnswerLines.end_gives c.args.machine.now _ _ c.loop-read._read _ _ _ _ _ KEPT_BYTES c.next_line.new.line.items c.loop-read.invariant read within
 
@@ -94,7 +100,8 @@ loop-read-preserved g c =
     let line = c.next_line.new.line.items in
     let next = c.write_answer.new.machine in
     let rest = g.R.Read.remaining c.next_line.new.self.reader in
-    let read : ReadsLineOf KEPT_BYTES (g.R.Read.remaining c.loop-read.input.reader) true line rest = search rules in
+    let read : ReadsLineOf KEPT_BYTES (g.R.Read.remaining c.loop-read.input.reader) true line rest =
+    subst (λ b. ReadsLineOf KEPT_BYTES (g.R.Read.remaining c.loop-read.input.reader) b c.next_line.new.line.items (g.R.Read.remaining c.next_line.new.self.reader)) c.in-Ok-true.field-0-test c.in-Ok-true.ensures.ok in
     let holds : 0 < length line = search rules in
     let progress = λ (r : Ran). Progress lines last c.args.machine.now (g.R.Read.remaining c.args.input.now.reader) (g.W.Write.contents c.args.writer.now) (c.loop-read._read + 1) r next rest (g.W.Write.contents c.write_answer.new.writer) in
     let wrote = c.in-Ok.ensures.ok in
@@ -110,13 +117,13 @@ loop-read-preserved g c =
 -- the end of the input after the most lines
 pub returns-in-Ok-true-has_ended-clause-output : goal.returns-in-Ok-true-has_ended-clause-output
 returns-in-Ok-true-has_ended-clause-output g c =
-    let ended : c.has_ended.result ≡ Ok true = search rules in
+    let ended : c.has_ended.result ≡ Ok true = c.in-Ok-true-has_ended.is ∙ ap Ok c.in-Ok-true-has_ended.field-0-test in
     ends_of g.M.AnswerLines.line_gives g.M.AnswerLines.end_gives c.args.machine.now c.write_end-in-Ok-true-has_ended.result _ _ c.loop-read._read _ _ _ _ _ _ c.loop-read.invariant
     (c.has_ended.ensures.ended ended) c.has_ended.ensures.writer c.write_end-in-Ok-true-has_ended.ensures.ok
 
 pub returns-in-Ok-true-has_ended-clause-begun : goal.returns-in-Ok-true-has_ended-clause-begun
 returns-in-Ok-true-has_ended-clause-begun g c =
-    let ended : c.has_ended.result ≡ Ok true = search rules in
+    let ended : c.has_ended.result ≡ Ok true = c.in-Ok-true-has_ended.is ∙ ap Ok c.in-Ok-true-has_ended.field-0-test in
     end_begun_of g.M.AnswerLines.line_gives g.M.AnswerLines.end_gives c.args.machine.now c.write_end-in-Ok-true-has_ended.result _ _ c.loop-read._read _ _ _ _ _ _ c.loop-read.invariant
     (c.has_ended.ensures.ended ended) c.has_ended.ensures.writer c.write_end-in-Ok-true-has_ended.ensures.err
 
@@ -131,7 +138,7 @@ returns-in-Ok-false-has_ended-clause-begun g c = begun g.M.AnswerLines.line_give
 
 pub returns-in-Ok-false-has_ended-clause-stopped : goal.returns-in-Ok-false-has_ended-clause-stopped
 returns-in-Ok-false-has_ended-clause-stopped g c = λ _.
-    let more : c.has_ended.result ≡ Ok false = search rules in
+    let more : c.has_ended.result ≡ Ok false = c.in-Ok-false-has_ended.is ∙ ap Ok c.in-Ok-false-has_ended.field-0-test in
     let all : c.loop-read._read ≡ most_reads = omega (arith, c.loop-read-test.false, c.loop-read.auto._read-end) in
     too_many g.M.AnswerLines.line_gives g.M.AnswerLines.end_gives c.args.machine.now _ _ c.loop-read._read _ _ _ _ _ _ c.loop-read.invariant c.has_ended.ensures.reader (c.has_ended.ensures.more more) c.has_ended.ensures.writer all
 
