@@ -1,19 +1,20 @@
 -- Quoting, as far as it has come: what is written, and what of the text is not copied yet.
-use Rattle.std.proofs.Common.{◌≡◌, ◌≢◌, ℕ, suc, ◌+◌, ◌<◌, ◌≤◌, Bool, true, false, cond, List, [], ◌∷◌, ◌++◌, length, get_or, drop, Ok, Err, refl, sym, ap, subst, ◌∙◌, append_assoc, add-one, arith}
+use Rattle.std.proofs.Common.{◌≡◌, ◌≢◌, ℕ, suc, ◌+◌, ◌<◌, ◌≤◌, Bool, true, false, cond, List, [], ◌∷◌, ◌++◌, length, get_or, take, drop, Ok, Err, refl, sym, ap, subst, ◌∙◌, append_assoc, add-one, arith}
+use Rattle.std.specs.List.{prefix_len}
 use Rattle.std.specs.Prelude.{◌||◌, ◌==◌, nat_le, not}
 use mathlib.Core.Bool.{beq}
 use Rattle.std.specs.Str.{IsUtf8, IsCharBoundary}
 use Rattle.std.proofs.Math.Seq.{drop-cons}
 use Rattle.std.proofs.lemmas.Bool.Decides.{nat_tests}
-use Rattle.std.proofs.lemmas.List.{drop_all}
+use Rattle.std.proofs.lemmas.List.{drop_all, drop-drop, length-drop}
 use Rattle.std.proofs.lemmas.Str.{IsCharBoundary-start, IsCharBoundary-after_ascii, IsCharBoundary-before_ascii}
 use Rattle.ocpi_json.specs.declared.fault.JsonFault.{JsonFault}
 use Rattle.ocpi_json.specs.declared.fault.JsonFault.TheVariants.{BadNumberToken, TaggedText}
 use Rattle.ocpi_json.specs.declared.quote.Mode.{Mode}
 use Rattle.ocpi_json.specs.declared.quote.Mode.TheVariants.{Between, Number, Opening, Inside, Escaped}
 use Rattle.ocpi_json.specs.Fault.{Read}
-use Rattle.ocpi_json.specs.Quote.{quote_from, quote, next_mode, next_place, opened, outside, in_string, in_number, is_digit, is_whole, is_number_char, tag_char, first_place, mark, mark_by, ending, before}
-use Rattle.ocpi_json.proofs.Copying.{between, between-one_more, between-none, between-all}
+use Rattle.ocpi_json.specs.Quote.{quote_from, quote, next_mode, next_place, opened, outside, in_string, in_number, is_digit, is_whole, is_number_char, tag_char, first_place, is_plain, skipped, mark, mark_by, ending, before}
+use Rattle.ocpi_json.proofs.Copying.{between, between-one_more, between-more, between-none, between-all, plain_tests, one_up}
 use Rattle.ocpi_json.proofs.Steps.{before-before, before-nil, done, ok_is}
 
 -- ---- what a number is made of is ASCII
@@ -64,6 +65,7 @@ number_is_low Escaped n c e h = absurd (let g = ok_number Inside n e h in cc)
 -- all before start is quoted in out; what is from there to i was read, and is copied as it is
 pub record Quoted (text out : List ℕ) (start i : ℕ) (m : Mode) : Type 0 where
   pub ordered : start ≤ i
+  pub within : i ≤ length text
   pub cut : IsCharBoundary text start
   pub behind_number : in_number m ≡ true → IsCharBoundary text i
   pub total : before (out ++ between text start i) (quote_from m (drop i text)) ≡ quote text
@@ -71,6 +73,7 @@ pub record Quoted (text out : List ℕ) (start i : ℕ) (m : Mode) : Type 0 wher
 pub begins : (text : List ℕ) → IsUtf8 text → Quoted text [] 0 0 Between
 begins text u = record {
   ordered = omega arith;
+  within = omega arith;
   cut = IsCharBoundary-start text u;
   behind_number = λ h. absurd cc;
   total = ap (λ (t : List ℕ). before ([] ++ t) (quote_from Between text)) (between-none text 0) ∙ before-nil (quote_from Between text);
@@ -109,6 +112,7 @@ kept text items out start i m n u same lt is alike q =
     let rest = quote_from n (drop (i + 1) text) in
     record {
       ordered = omega (arith, q.ordered);
+      within = omega arith;
       cut = q.cut;
       behind_number = λ h. IsCharBoundary-after_ascii text i u at (number_is_low m n c goes h);
       total =
@@ -145,6 +149,7 @@ turned text items out new start i m n u same lt is ne made q =
     let one : between text i (i + 1) ≡ c ∷ [] = between-one_more text i i (omega arith) at ∙ ap (λ (t : List ℕ). t ++ c ∷ []) (between-none text i) in
     record {
       ordered = omega arith;
+      within = omega arith;
       cut = boundary text items out start i m n same lt is ne q;
       behind_number = λ h. IsCharBoundary-after_ascii text i u at (number_is_low m n c goes h);
       total =
@@ -156,11 +161,60 @@ turned text items out new start i m n u same lt is ne made q =
           ∙ q.total;
     }
 
-pub at_end : (text items out : List ℕ) (start i : ℕ) (m : Mode) → items ≡ text → length items ≤ i → i ≤ length items → Quoted text out start i m → quote text ≡ before (out ++ drop start text) (ending m)
+-- ---- bytes that are passed over
+
+plain_inside : (x : ℕ) → is_plain x ≡ true → in_string x ≡ Inside
+plain_inside x e = let t = plain_tests x e in rw (t.0, t.1) refl
+
+plain_by : (x : ℕ) (xs : List ℕ) (n : ℕ) (b : Bool) → is_plain x ≡ b → quote_from Inside xs ≡ before (take n xs) (quote_from Inside (drop n xs))
+    → quote_from Inside (x ∷ xs) ≡ before (take (cond b (1 + n) 0) (x ∷ xs)) (quote_from Inside (drop (cond b (1 + n) 0) (x ∷ xs)))
+unfolding quote_from next_mode mark
+plain_by x xs n true e within =
+    let first : quote_from Inside (x ∷ xs) ≡ before (x ∷ []) (quote_from Inside xs) = rw (plain_inside x e) refl in
+    first ∙ ap (before (x ∷ [])) within ∙ before-before (x ∷ []) (take n xs) (quote_from Inside (drop n xs))
+    ∙ ap (λ (k : ℕ). before (take k (x ∷ xs)) (quote_from Inside (drop k (x ∷ xs)))) (sym (one_up n))
+plain_by x xs n false e within = sym (before-nil (quote_from Inside (x ∷ xs)))
+
+quote_plain : (s : List ℕ) → quote_from Inside s ≡ before (take (prefix_len is_plain s) s) (quote_from Inside (drop (prefix_len is_plain s) s))
+quote_plain [] = sym (before-nil (quote_from Inside []))
+quote_plain (x ∷ xs) = plain_by x xs (prefix_len is_plain xs) (is_plain x) refl (quote_plain xs)
+
+stays : (text out : List ℕ) (start i : ℕ) (m : Mode) → Quoted text out start i m → Quoted text out start (i + 0) m
+stays text out start i m q = let same : i ≡ i + 0 = omega arith in subst (λ (k : ℕ). Quoted text out start k m) same q
+
+skips : (text out : List ℕ) (start i : ℕ) (m : Mode) → skipped m (drop i text) ≤ length (drop i text) → Quoted text out start i m → Quoted text out start (i + skipped m (drop i text)) m
+skips text out start i Between le q = stays text out start i Between q
+skips text out start i (Number p) le q = stays text out start i (Number p) q
+skips text out start i (Opening k) le q = stays text out start i (Opening k) q
+skips text out start i Escaped le q = stays text out start i Escaped q
+skips text out start i Inside le q =
+    let n = prefix_len is_plain (drop i text) in
+    let rest = quote_from Inside (drop n (drop i text)) in
+    record {
+      ordered = omega (arith, q.ordered);
+      within = omega (arith, q.within, length-drop i text);
+      cut = q.cut;
+      behind_number = λ h. absurd cc;
+      total =
+          ap (λ (t : List ℕ). before (out ++ t) (quote_from Inside (drop (i + n) text))) (between-more text start i n q.ordered)
+          ∙ ap (λ (t : List ℕ). before (out ++ (between text start i ++ take n (drop i text))) (quote_from Inside t)) (sym (drop-drop n i text))
+          ∙ ap (λ (t : List ℕ). before t rest) (sym (append_assoc out (between text start i) (take n (drop i text))))
+          ∙ sym (before-before (out ++ between text start i) (take n (drop i text)) rest)
+          ∙ ap (before (out ++ between text start i)) (sym (quote_plain (drop i text)))
+          ∙ q.total;
+    }
+
+pub passes : (text items out rest : List ℕ) (start i more : ℕ) (m : Mode) → items ≡ text → rest ≡ drop (i + 1) items → more ≡ skipped m rest → more ≤ length rest → Quoted text out start (i + 1) m → Quoted text out start ((i + 1) + more) m
+passes text items out rest start i more m same is count le q =
+    let there : more ≡ skipped m (drop (i + 1) text) = count ∙ ap (skipped m) (is ∙ ap (drop (i + 1)) same) in
+    let within : skipped m (drop (i + 1) text) ≤ length (drop (i + 1) text) = omega (arith, ap length (is ∙ ap (drop (i + 1)) same)) in
+    subst (λ (k : ℕ). Quoted text out start ((i + 1) + k) m) (sym there) (skips text out start (i + 1) m within q)
+
+pub at_end : (text items out : List ℕ) (start i : ℕ) (m : Mode) → items ≡ text → length items ≤ i → Quoted text out start i m → quote text ≡ before (out ++ drop start text) (ending m)
 unfolding quote_from
-at_end text items out start i m same low high q =
+at_end text items out start i m same low q =
     let size : length items ≡ length text = ap length same in
-    let all : i ≡ length text = omega arith in
+    let all : i ≡ length text = omega (arith, q.within) in
     let none : drop i text ≡ [] = drop_all i text (omega arith) in
     sym q.total
     ∙ ap (λ (t : List ℕ). before (out ++ between text start i) (quote_from m t)) none

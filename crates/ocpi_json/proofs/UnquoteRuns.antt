@@ -1,16 +1,17 @@
 -- Unquoting, as far as it has come: what is written, and what of the text is not copied yet.
-use Rattle.std.proofs.Common.{◌≡◌, ℕ, zero, suc, ◌+◌, ◌<◌, ◌≤◌, Bool, true, false, cond, List, [], ◌∷◌, ◌++◌, length, get_or, drop, refl, sym, ap, subst, ◌∙◌, append_assoc, add-one, arith}
+use Rattle.std.proofs.Common.{◌≡◌, ℕ, zero, suc, ◌+◌, ◌<◌, ◌≤◌, Bool, true, false, cond, List, [], ◌∷◌, ◌++◌, length, get_or, take, drop, refl, sym, ap, subst, ◌∙◌, append_assoc, add-one, arith}
+use Rattle.std.specs.List.{prefix_len}
 use Rattle.std.specs.Prelude.{◌==◌, nat_le}
 use Rattle.std.specs.Str.{IsUtf8, IsCharBoundary}
 use Rattle.std.proofs.Math.Seq.{drop-cons}
 use Rattle.std.proofs.lemmas.Bool.Decides.{nat_tests}
-use Rattle.std.proofs.lemmas.List.{drop_all, append-nil}
+use Rattle.std.proofs.lemmas.List.{drop_all, drop-drop, length-drop, append-nil}
 use Rattle.std.proofs.lemmas.Str.{IsCharBoundary-start, IsCharBoundary-after_ascii, IsCharBoundary-before_ascii}
 use Rattle.ocpi_json.specs.declared.unquote.Way.{Way}
 use Rattle.ocpi_json.specs.declared.unquote.Way.TheVariants.{Outside, Opened, Within, Skipped, Token}
-use Rattle.ocpi_json.specs.Quote.{tag_char}
-use Rattle.ocpi_json.specs.Unquote.{held, way_in, way_opened, next_way, emits, opening_at, end_at, in_token, last_of, unquote_from, unquote}
-use Rattle.ocpi_json.proofs.Copying.{between, between-one_more, between-none, between-all}
+use Rattle.ocpi_json.specs.Quote.{tag_char, is_plain}
+use Rattle.ocpi_json.specs.Unquote.{held, way_in, way_opened, next_way, emits, opening_at, end_at, skipped, in_token, last_of, unquote_from, unquote}
+use Rattle.ocpi_json.proofs.Copying.{between, between-one_more, between-more, between-none, between-all, plain_tests, one_up}
 use Rattle.ocpi_json.proofs.Steps.{test_is}
 
 -- a string that began at opening, with k characters of the tag behind its quote
@@ -30,6 +31,7 @@ AtOpening text start opening i Token = Unit {0}
 -- all before start is in out; what is from there on was read, and is copied unless it begins a number
 pub record Unquoted (text out : List ℕ) (start opening i : ℕ) (w : Way) : Type 0 where
   pub ordered : start ≤ i
+  pub within : i ≤ length text
   pub cut : IsCharBoundary text start
   pub open_there : AtOpening text start opening i w
   pub total : (out ++ between text start (end_at w i opening)) ++ unquote_from w (drop i text) ≡ unquote text
@@ -37,6 +39,7 @@ pub record Unquoted (text out : List ℕ) (start opening i : ℕ) (w : Way) : Ty
 pub begins : (text : List ℕ) → IsUtf8 text → Unquoted text [] 0 0 0 Outside
 begins text u = record {
   ordered = omega arith;
+  within = omega arith;
   cut = IsCharBoundary-start text u;
   open_there = tt;
   total = ap (λ (t : List ℕ). ([] ++ t) ++ unquote_from Outside text) (between-none text 0);
@@ -56,6 +59,7 @@ kept_total : (text out : List ℕ) (start opening i : ℕ) (w n : Way) → i < l
     → Unquoted text out start opening i w → Unquoted text out start (opening_at w i opening) (i + 1) n
 kept_total text out start opening i w n lt is s q = record {
   ordered = omega (arith, q.ordered);
+  within = omega arith;
   cut = q.cut;
   open_there = s.open_next;
   total =
@@ -274,6 +278,7 @@ turned text items out new start opening next end i w n u same lt is at ends ne m
     let rest = unquote_from n (drop (i + 1) text) in
     record {
       ordered = omega arith;
+      within = omega arith;
       cut = IsCharBoundary-after_ascii text i u on t.low;
       open_there = shut_opening text (i + 1) next (i + 1) n t.shut;
       total =
@@ -287,6 +292,75 @@ turned text items out new start opening next end i w n u same lt is at ends ne m
           ∙ q.total;
     }
 
+-- ---- bytes that are passed over
+
+-- a way at which a plain byte is copied, and nothing changes
+record Copies (w : Way) : Type 0 where
+  emitted : (x : ℕ) → is_plain x ≡ true → emits w x ≡ x ∷ []
+  kept_way : (x : ℕ) → is_plain x ≡ true → next_way w x ≡ w
+
+outside_copies : Copies Outside
+unfolding emits next_way
+outside_copies = record { emitted = λ x e. rw ((plain_tests x e).0) refl; kept_way = λ x e. rw ((plain_tests x e).0) refl }
+
+within_copies : Copies Within
+unfolding emits next_way
+within_copies = record { emitted = λ x e. refl; kept_way = λ x e. let t = plain_tests x e in rw (t.0, t.1) refl }
+
+token_copies : Copies Token
+unfolding emits next_way
+token_copies = record { emitted = λ x e. rw ((plain_tests x e).0) refl; kept_way = λ x e. rw ((plain_tests x e).0) refl }
+
+plain_by : (w : Way) → Copies w → (x : ℕ) (xs : List ℕ) (n : ℕ) (b : Bool) → is_plain x ≡ b → unquote_from w xs ≡ take n xs ++ unquote_from w (drop n xs)
+    → unquote_from w (x ∷ xs) ≡ take (cond b (1 + n) 0) (x ∷ xs) ++ unquote_from w (drop (cond b (1 + n) 0) (x ∷ xs))
+unfolding unquote_from
+plain_by w copies x xs n true e within =
+    ap (λ (t : List ℕ). t ++ unquote_from (next_way w x) xs) (copies.emitted x e)
+    ∙ ap (λ (m : Way). (x ∷ []) ++ unquote_from m xs) (copies.kept_way x e)
+    ∙ ap (λ (t : List ℕ). x ∷ t) within
+    ∙ ap (λ (k : ℕ). take k (x ∷ xs) ++ unquote_from w (drop k (x ∷ xs))) (sym (one_up n))
+plain_by w copies x xs n false e within = refl
+
+unquote_plain : (w : Way) → Copies w → (s : List ℕ) → unquote_from w s ≡ take (prefix_len is_plain s) s ++ unquote_from w (drop (prefix_len is_plain s) s)
+unquote_plain w copies [] = refl
+unquote_plain w copies (x ∷ xs) = plain_by w copies x xs (prefix_len is_plain xs) (is_plain x) refl (unquote_plain w copies xs)
+
+stays : (text out : List ℕ) (start opening i : ℕ) (w : Way) → Unquoted text out start opening i w → Unquoted text out start opening (i + 0) w
+stays text out start opening i w q = let same : i ≡ i + 0 = omega arith in subst (λ (k : ℕ). Unquoted text out start opening k w) same q
+
+copied : (text out : List ℕ) (start opening i : ℕ) (w : Way) → Copies w → IsShut w → prefix_len is_plain (drop i text) ≤ length (drop i text) → Unquoted text out start opening i w → Unquoted text out start opening (i + prefix_len is_plain (drop i text)) w
+copied text out start opening i w copies shut le q =
+    let n = prefix_len is_plain (drop i text) in
+    let rest = unquote_from w (drop n (drop i text)) in
+    record {
+      ordered = omega (arith, q.ordered);
+      within = omega (arith, q.within, length-drop i text);
+      cut = q.cut;
+      open_there = shut_opening text start opening (i + n) w shut;
+      total =
+          ap (λ (k : ℕ). (out ++ between text start k) ++ unquote_from w (drop (i + n) text)) (shut_end w (i + n) opening shut)
+          ∙ ap (λ (t : List ℕ). (out ++ t) ++ unquote_from w (drop (i + n) text)) (between-more text start i n q.ordered)
+          ∙ ap (λ (t : List ℕ). (out ++ (between text start i ++ take n (drop i text))) ++ unquote_from w t) (sym (drop-drop n i text))
+          ∙ ap (λ (t : List ℕ). t ++ rest) (sym (append_assoc out (between text start i) (take n (drop i text))))
+          ∙ append_assoc (out ++ between text start i) (take n (drop i text)) rest
+          ∙ ap (λ (t : List ℕ). (out ++ between text start i) ++ t) (sym (unquote_plain w copies (drop i text)))
+          ∙ ap (λ (k : ℕ). (out ++ between text start k) ++ unquote_from w (drop i text)) (sym (shut_end w i opening shut))
+          ∙ q.total;
+    }
+
+skips : (text out : List ℕ) (start opening i : ℕ) (w : Way) → skipped w (drop i text) ≤ length (drop i text) → Unquoted text out start opening i w → Unquoted text out start opening (i + skipped w (drop i text)) w
+skips text out start opening i Outside le q = copied text out start opening i Outside outside_copies tt le q
+skips text out start opening i (Opened k) le q = stays text out start opening i (Opened k) q
+skips text out start opening i Within le q = copied text out start opening i Within within_copies tt le q
+skips text out start opening i Skipped le q = stays text out start opening i Skipped q
+skips text out start opening i Token le q = copied text out start opening i Token token_copies tt le q
+
+pub passes : (text items out rest : List ℕ) (start opening i more : ℕ) (w : Way) → items ≡ text → rest ≡ drop (i + 1) items → more ≡ skipped w rest → more ≤ length rest → Unquoted text out start opening (i + 1) w → Unquoted text out start opening ((i + 1) + more) w
+passes text items out rest start opening i more w same is count le q =
+    let there : more ≡ skipped w (drop (i + 1) text) = count ∙ ap (skipped w) (is ∙ ap (drop (i + 1)) same) in
+    let within : skipped w (drop (i + 1) text) ≤ length (drop (i + 1) text) = omega (arith, ap length (is ∙ ap (drop (i + 1)) same)) in
+    subst (λ (k : ℕ). Unquoted text out start opening ((i + 1) + k) w) (sym there) (skips text out start opening (i + 1) w within q)
+
 -- ---- the end
 
 pending : (text : List ℕ) (start opening i : ℕ) (w : Way) → AtOpening text start opening i w → between text start i ≡ between text start (end_at w i opening) ++ last_of w
@@ -297,11 +371,11 @@ pending text start opening i Within h = sym (append-nil (between text start i))
 pending text start opening i Skipped h = sym (append-nil (between text start i))
 pending text start opening i Token h = sym (append-nil (between text start i))
 
-pub ended : (text items out : List ℕ) (start opening i : ℕ) (w : Way) → items ≡ text → length items ≤ i → i ≤ length items → Unquoted text out start opening i w → out ++ drop start text ≡ unquote text
+pub ended : (text items out : List ℕ) (start opening i : ℕ) (w : Way) → items ≡ text → length items ≤ i → Unquoted text out start opening i w → out ++ drop start text ≡ unquote text
 unfolding unquote_from
-ended text items out start opening i w same low high q =
+ended text items out start opening i w same low q =
     let size : length items ≡ length text = ap length same in
-    let all : i ≡ length text = omega arith in
+    let all : i ≡ length text = omega (arith, q.within) in
     let none : drop i text ≡ [] = drop_all i text (omega arith) in
     ap (λ (t : List ℕ). out ++ t) (sym (between-all text start) ∙ ap (between text start) (sym all) ∙ pending text start opening i w q.open_there)
     ∙ sym (append_assoc out (between text start (end_at w i opening)) (last_of w))

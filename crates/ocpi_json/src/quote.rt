@@ -1,8 +1,9 @@
 //! Number tokens as tagged strings.
 
-ghost use Rattle.std.specs.Prelude.{◌≡◌, ◌↔◌, ℕ, List, ◌∷◌, ◌||◌, ◌==◌, ◌++◌, true, Ok, OnOk, string_bytes};
+ghost use Rattle.std.specs.Prelude.{◌≡◌, ◌↔◌, ℕ, List, ◌∷◌, ◌||◌, ◌==◌, ◌++◌, ◌≤◌, length, true, Ok, OnOk, string_bytes};
+ghost use Rattle.std.specs.List.{prefix_len};
 ghost use Rattle.ocpi_json.specs.Fault.{Read, GivesBy};
-ghost use Rattle.ocpi_json.specs.Quote.{is_digit, is_number_char, first_place, next_place, place_after, is_whole, outside, tag_char, in_string, opened, next_mode, in_number, mark, ending, quote};
+ghost use Rattle.ocpi_json.specs.Quote.{is_digit, is_number_char, first_place, next_place, place_after, is_whole, outside, tag_char, in_string, opened, next_mode, is_plain, skipped, in_number, mark, ending, quote};
 ghost use Rattle.ocpi_json.specs.Numbers.{IsJsonNumber};
 ghost use Rattle.ocpi_json.specs.Pieces.{Quotes};
 
@@ -128,6 +129,16 @@ pub(crate) fn tag_char(k: u8) -> u8
     }
 }
 
+/// How many bytes there are before a quote or a backslash.
+pub(crate) fn plain_len(text: &[u8]) -> usize
+    ensures value { result ≡ prefix_len is_plain text.now }
+    ensures bound { result ≤ length text.now }
+{
+    text.iter()
+        .take_while(|c| **c != b'"' && **c != b'\\')
+        .count()
+}
+
 fn opened(k: u8, c: u8) -> Result<Mode, JsonFault>
     ensures { result ≡ opened k c }
 {
@@ -163,6 +174,17 @@ impl Mode {
         ensures { result ≡ in_number self }
     {
         matches!(self, Mode::Number(_))
+    }
+
+    /// How many bytes leave this as it is, and are copied.
+    fn skipped(self, rest: &[u8]) -> usize
+        ensures value { result ≡ skipped self rest.now }
+        ensures bound { result ≤ length rest.now }
+    {
+        match self {
+            Mode::Inside => plain_len(rest),
+            _ => 0,
+        }
     }
 
     #[tactic(auto, unfolding(crate::specs::Quote::ending))]
@@ -206,16 +228,20 @@ fn mark(old: Mode, new: Mode) -> &'static str
 pub fn quote_numbers(alloc: Global, text: &str) -> Result<String, JsonFault>
     ensures { GivesBy string_bytes result (quote text.now) }
 {
+    let bytes = text.as_bytes();
     let mut out = String::with_capacity(alloc, text.len())?;
     let mut mode = Mode::Between;
+    // Up to here the text is in `out`.
     let mut start = 0;
-    for (i, c) in text.as_bytes().iter().enumerate() {
-        let next = mode.next(*c)?;
+    let mut i = 0;
+    while i < bytes.len() {
+        let next = mode.next(bytes[i])?;
         if mode.in_number() != next.in_number() {
             push_both(&mut out, &text[start..i], mark(mode, next))?;
             start = i;
         }
         mode = next;
+        i = i + 1 + next.skipped(&bytes[i + 1..]);
     }
     push_both(&mut out, &text[start..], mode.ending()?)?;
     Ok(out)

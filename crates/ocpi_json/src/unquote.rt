@@ -1,10 +1,10 @@
 //! Tagged strings as number tokens.
 
-ghost use Rattle.std.specs.Prelude.{◌≡◌, ℕ, List, Ok, IfOk, string_bytes};
+ghost use Rattle.std.specs.Prelude.{◌≡◌, ◌≤◌, ℕ, List, length, Ok, IfOk, string_bytes};
 ghost use Rattle.ocpi_json.specs.Quote.{quote};
-ghost use Rattle.ocpi_json.specs.Unquote.{way_in, way_opened, next_way, opening_at, end_at, in_token, unquote};
+ghost use Rattle.ocpi_json.specs.Unquote.{way_in, way_opened, next_way, opening_at, end_at, skipped, in_token, unquote};
 
-use crate::quote::tag_char;
+use crate::quote::{plain_len, tag_char};
 use std::alloc::{AllocError, Global};
 
 /// Where a text stands.
@@ -79,6 +79,17 @@ impl Way {
         }
     }
 
+    /// How many bytes leave this as it is, and are copied.
+    fn skipped(self, rest: &[u8]) -> usize
+        ensures value { result ≡ skipped self rest.now }
+        ensures bound { result ≤ length rest.now }
+    {
+        match self {
+            Way::Outside | Way::Within | Way::Token => plain_len(rest),
+            _ => 0,
+        }
+    }
+
     fn in_token(self) -> bool
         ensures { result ≡ in_token self }
     {
@@ -91,20 +102,23 @@ impl Way {
 pub fn unquote_numbers(alloc: Global, text: &str) -> Result<String, AllocError>
     ensures { IfOk result (λ s. string_bytes s ≡ unquote text.now) }
 {
+    let bytes = text.as_bytes();
     let mut out = String::with_capacity(alloc, text.len())?;
     let mut way = Way::Outside;
     // Up to here the text is in `out`.
     let mut start = 0;
     // Where the string at hand begins.
     let mut opening = 0;
-    for (i, c) in text.as_bytes().iter().enumerate() {
-        let next = way.next(*c);
+    let mut i = 0;
+    while i < bytes.len() {
+        let next = way.next(bytes[i]);
         opening = way.opening(i, opening);
         if way.in_token() != next.in_token() {
             out.push_str(&text[start..way.end(i, opening)])?;
             start = i + 1;
         }
         way = next;
+        i = i + 1 + next.skipped(&bytes[i + 1..]);
     }
     out.push_str(&text[start..])?;
     Ok(out)
