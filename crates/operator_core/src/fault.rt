@@ -6,8 +6,7 @@ use std::alloc::{AllocError, AllocFailed};
 use std::error::Error;
 use std::fmt;
 
-/// Why an operator refused an event: the first of these that applies, in this order, but that `Memory`
-/// may come in place of any answer.
+/// Why an operator refused an event: the first of these that applies, in this order.
 #[derive(Clone, Copy, Debug, PartialEq, Eq)]
 pub enum OperatorFault {
     /// The packet is to another party, from a party that is no provider of the site, or of a kind that an
@@ -15,7 +14,7 @@ pub enum OperatorFault {
     NotForMe,
     /// A counter has given its last number.
     NumbersUsedUp,
-    /// Memory ran out.
+    /// Memory ran out, for a packet that has neither of these faults.
     Memory,
 }
 

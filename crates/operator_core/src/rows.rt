@@ -1,6 +1,6 @@
 //! The rows that a step puts.
 
-ghost use Rattle.std.specs.Prelude.{◌≡◌, ◌++◌, IfOk, OnOk};
+ghost use Rattle.std.specs.Prelude.{◌≡◌, ◌++◌, IfOk, IsNone, IsOk, OnOk};
 ghost use Rattle.ocpi_types.specs.declared.rows.Counter.{Counter as CounterOf};
 ghost use Rattle.operator_core.specs.Moves.{spent_rows};
 
@@ -55,7 +55,8 @@ pub fn push_spent_row(
     request: &Request,
     reference: Option<CiText<36>>,
 ) -> Result<(), AllocError>
-    ensures { OnOk result (rows.new.items ≡ rows.old.items ++ spent_rows request.now.provider reference) }
+    ensures ok { OnOk result (rows.new.items ≡ rows.old.items ++ spent_rows request.now.provider reference) }
+    ensures absent { IsNone reference → IsOk result }
 {
     let Some(reference) = reference else {
         return Ok(());

@@ -79,7 +79,8 @@ impl Places {
         evse_at(self.site.locations.as_slice(), position)
     }
 
-    /// An EVSE of the location that stands there: the one of the uid, or the first where none is named.
+    /// An EVSE of the location that stands there: the one of the uid, or one of them where none is
+    /// named.
     fn find_evse(&self, at: usize, uid: &Option<CiText<36>>) -> Option<&Evse>
         ensures found { IfSome result (λ e. IsCandidate self.now.site.locations at uid.now e.now) }
         ensures sole { IfSome result (λ e. IsSome uid.now → (f : Evse) → IsCandidate self.now.site.locations at uid.now f → f ≡ e.now) }
@@ -118,7 +119,7 @@ impl Places {
         evse_at(self.site.locations.as_slice(), (at, place))
     }
 
-    /// An EVSE of the location that stands there and that is not claimed: the one of the uid, or the first where none is
+    /// An EVSE of the location that stands there and that is not claimed: the one of the uid, or one of them where none is
     /// named.
     fn free_evse(&self, at: usize, uid: &Option<CiText<36>>) -> Option<&Evse>
         ensures found { IfSome result (λ e. IsCandidate self.now.site.locations at uid.now e.now) }
