@@ -27,7 +27,8 @@ struct Start {
     /// The last digit of its reference.
     reference: u8,
     evse: &'static str,
-    /// The party id of its token, of the sender's country.
+    /// The country and the party id of its token.
+    country: &'static str,
     party: &'static str,
 }
 
@@ -39,15 +40,16 @@ fn start_at(second: u8, request: u8, reference: u8, evse: &'static str) -> Start
         request,
         reference,
         evse,
+        country: "NL",
         party: "TNM",
     }
 }
 
 /// The packet that a start is.
 fn packet(alloc: Global, start: &Start) -> Result<Packet, JsonFault> {
-    let (from, request, party) = (start.from, start.request, start.party);
+    let (from, request) = (start.from, start.request);
     let (reference, evse) = (start.reference, start.evse);
-    let country = &from[..2];
+    let (country, party) = (start.country, start.party);
     let line = format!(in alloc;
         r#"{{"body":{{"authorization_reference":"ref-{reference}","evse_uid":"{evse}","location_id":"LOC1","response_url":"https://node.invalid/1","token":{{"contract_id":"C1","country_code":"{country}","issuer":"I1","last_updated":"2025-01-01T09:00:00Z","party_id":"{party}","type":"RFID","uid":"AA01","valid":true,"whitelist":"ALWAYS"}}}},"from":"{from}","kind":"start_session","request":{request},"serial":{request},"to":"BE/BEC"}}"#
     )?;
@@ -189,6 +191,7 @@ fn repeats_and_spent_references(rt: HostRuntime) -> Result<(), Fail> {
     // Another provider's numbers and references are its own.
     let other = Start {
         from: "DE/EMP",
+        country: "DE",
         party: "EMP",
         ..start_at(30, 1, 1, "E2")
     };
