@@ -11,10 +11,10 @@ use Rattle.ocpi_text.proofs.Parties.{country_passes, party_id_passes, party_of_h
 use Rattle.ocpi_types.specs.Words.{token_type_word, token_type_of, whitelist_word, whitelist_of, response_word, response_of}
 use Rattle.ocpi_types.specs.declared.field.Field.{Field}
 use Rattle.ocpi_types.specs.declared.field.Field.TheVariants as field
-use Rattle.ocpi_types.specs.declared.packet.StartSession.{StartSession}
-use Rattle.ocpi_types.specs.declared.packet.ResponseData.{ResponseData}
-use Rattle.ocpi_types.specs.declared.packet.CommandResponse.{CommandResponse}
-use Rattle.ocpi_types.specs.declared.packet.CommandResponse.TheVariants as response
+use Rattle.ocpi_types.specs.declared.commands.StartSession.{StartSession}
+use Rattle.ocpi_types.specs.declared.replies.ResponseData.{ResponseData}
+use Rattle.ocpi_types.specs.declared.replies.CommandResponse.{CommandResponse}
+use Rattle.ocpi_types.specs.declared.replies.CommandResponse.TheVariants as response
 use Rattle.ocpi_types.specs.declared.packet.Packet.{Packet}
 use Rattle.ocpi_types.specs.declared.packet.Body.{Body}
 use Rattle.ocpi_types.specs.declared.packet.Body.TheVariants as body

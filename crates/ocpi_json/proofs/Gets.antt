@@ -7,7 +7,7 @@ use Rattle.ocpi_types.specs.Fields.{name_of}
 use Rattle.ocpi_types.specs.Words.{token_type_word, whitelist_word, response_word}
 use Rattle.ocpi_types.specs.declared.field.Field.{Field}
 use Rattle.ocpi_types.specs.declared.field.Field.TheVariants as field
-use Rattle.ocpi_types.specs.declared.packet.ResponseData.{ResponseData}
+use Rattle.ocpi_types.specs.declared.replies.ResponseData.{ResponseData}
 use Rattle.ocpi_types.specs.declared.packet.Packet.{Packet}
 use Rattle.ocpi_types.specs.declared.token.Token.{Token}
 use Rattle.ocpi_json.specs.Trees.{with, with_text, whole_tree, moment_tree, token_tree, response_data_tree, done_tree, refused_tree, body_tree, kind_word, packet_tree}

@@ -8,10 +8,10 @@ use Rattle.ocpi_text.specs.Whole.{max_whole}
 use Rattle.ocpi_text.proofs.Again.{ci_begins, free_begins, moment_begins}
 use Rattle.ocpi_text.proofs.Parties.{party_parts, exact_parts, country_passes, party_id_passes}
 use Rattle.ocpi_types.specs.declared.field.Field.TheVariants as field
-use Rattle.ocpi_types.specs.declared.packet.StartSession.{StartSession}
-use Rattle.ocpi_types.specs.declared.packet.ResponseData.{ResponseData}
-use Rattle.ocpi_types.specs.declared.packet.CommandResponse.{CommandResponse}
-use Rattle.ocpi_types.specs.declared.packet.CommandResponse.TheVariants as response
+use Rattle.ocpi_types.specs.declared.commands.StartSession.{StartSession}
+use Rattle.ocpi_types.specs.declared.replies.ResponseData.{ResponseData}
+use Rattle.ocpi_types.specs.declared.replies.CommandResponse.{CommandResponse}
+use Rattle.ocpi_types.specs.declared.replies.CommandResponse.TheVariants as response
 use Rattle.ocpi_types.specs.declared.packet.Packet.{Packet}
 use Rattle.ocpi_types.specs.declared.packet.Body.{Body}
 use Rattle.ocpi_types.specs.declared.packet.Body.TheVariants as body

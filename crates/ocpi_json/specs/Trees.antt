@@ -7,10 +7,10 @@ use Rattle.ocpi_types.specs.Fields.{name_of}
 use Rattle.ocpi_types.specs.Words.{response_word, token_type_word, whitelist_word}
 use Rattle.ocpi_types.specs.declared.field.Field.{Field}
 use Rattle.ocpi_types.specs.declared.field.Field.TheVariants as field
-use Rattle.ocpi_types.specs.declared.packet.ResponseData.{ResponseData}
-use Rattle.ocpi_types.specs.declared.packet.CommandResponse as responses
-use Rattle.ocpi_types.specs.declared.packet.CommandResponse.TheVariants as response
-use Rattle.ocpi_types.specs.declared.packet.StartSession as start
+use Rattle.ocpi_types.specs.declared.replies.ResponseData.{ResponseData}
+use Rattle.ocpi_types.specs.declared.replies.CommandResponse as responses
+use Rattle.ocpi_types.specs.declared.replies.CommandResponse.TheVariants as response
+use Rattle.ocpi_types.specs.declared.commands.StartSession as start
 use Rattle.ocpi_types.specs.declared.token.Token.{Token}
 use Rattle.ocpi_types.specs.declared.packet.Packet.{Packet}
 use Rattle.ocpi_types.specs.declared.packet.Body.{Body}
