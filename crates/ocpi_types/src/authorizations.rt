@@ -3,7 +3,7 @@
 ghost use Rattle.std.specs.Prelude.{◌≡◌, IfOk};
 
 use crate::limits::RefusalCode;
-use crate::lists::Ids;
+use crate::lists::EvseUids;
 use crate::token::Token;
 use crate::words::{AllowedType, TokenType};
 use ocpi_text::{CiText, Moment};
@@ -13,7 +13,7 @@ use std::alloc::AllocError;
 #[derive(Drop)]
 pub struct LocationReferences {
     pub location_id: CiText<36>,
-    pub evse_uids: Option<Ids>,
+    pub evse_uids: Option<EvseUids>,
 }
 
 impl LocationReferences {

@@ -23,13 +23,11 @@ mod words;
 
 pub use authorizations::{Authorization, AuthorizationInfo, Authorize, LocationReferences};
 pub use cdrs::{Cdr, CdrDimension, CdrLocation, ChargingPeriod, GeoLocation};
-pub use commands::{
-    CancelReservation, ReserveNow, StartSession, StopSession, UnlockConnector,
-};
+pub use commands::{CancelReservation, ReserveNow, StartSession, StopSession, UnlockConnector};
 pub use field::Field;
 pub use id_set::IdSet;
 pub use limits::{RefusalCode, StatusCode};
-pub use lists::{Ids, NonEmpty};
+pub use lists::{EvseUids, NonEmpty};
 pub use packet::{Body, Packet};
 pub use parties::Parties;
 pub use price::PricePerKwh;

@@ -58,40 +58,40 @@ impl ListItem for CiText<36> {
     }
 }
 
-/// Ids, in order.
+/// Uids of EVSEs, in order.
 #[derive(Drop)]
-pub struct Ids {
-    ids: Vec<CiText<36>>,
+pub struct EvseUids {
+    uids: Vec<CiText<36>>,
 }
 
-impl Model for Ids {
+impl Model for EvseUids {
     ghost use Rattle.std.specs.Prelude.{List, ℕ};
 
     ghost Value = { List (List ℕ) };
 
-    ghost view = { λ l. l.ids.items };
+    ghost view = { λ l. l.uids.items };
 }
 
-impl Ids {
-    /// The ids of a list.
-    pub fn new(ids: Vec<CiText<36>>) -> Ids
-        ensures { result ≡ ids.items }
+impl EvseUids {
+    /// The uids of a list.
+    pub fn new(uids: Vec<CiText<36>>) -> EvseUids
+        ensures { result ≡ uids.items }
     {
-        Ids { ids }
+        EvseUids { uids }
     }
 
-    /// The ids, in order.
+    /// The uids, in order.
     pub fn as_slice(&self) -> &[CiText<36>]
         ensures { result.now ≡ self.now }
     {
-        self.ids.as_slice()
+        self.uids.as_slice()
     }
 
-    /// Equal ids.
-    pub fn copy(&self) -> Result<Ids, AllocError>
+    /// Equal uids.
+    pub fn copy(&self) -> Result<EvseUids, AllocError>
         ensures { IfOk result (λ t. t ≡ self.now) }
     {
-        let ids = copy_all(*self.ids.allocator(), self.ids.as_slice())?;
-        Ok(Ids { ids })
+        let uids = copy_all(*self.uids.allocator(), self.uids.as_slice())?;
+        Ok(EvseUids { uids })
     }
 }

@@ -4,9 +4,7 @@ ghost use Rattle.std.specs.Prelude.{◌≡◌, IfOk};
 
 use crate::authorizations::{Authorization, Authorize};
 use crate::cdrs::Cdr;
-use crate::commands::{
-    CancelReservation, ReserveNow, StartSession, StopSession, UnlockConnector,
-};
+use crate::commands::{CancelReservation, ReserveNow, StartSession, StopSession, UnlockConnector};
 use crate::replies::{Ack, CommandResponse, CommandResult};
 use crate::sessions::Session;
 use crate::token::Token;
