@@ -20,12 +20,14 @@ pub mod Quoting
 pub mod ReadPackets
 pub mod ReadSites
 pub mod Repeats
+pub mod Said
 pub mod Seen
 pub mod Shape
 pub mod SiteForm
 pub mod Steps
 pub mod Tags
 pub mod TextBytes
+pub mod TokenLemmas
 pub mod UnquoteRuns
 pub mod Unquoting
 pub mod Written

@@ -28,6 +28,10 @@ abbrev pub FitsOption : ℕ → Option (List ℕ) → Type 0
 FitsOption max None = Unit {0}
 FitsOption max (Some s) = FitsCi max s
 
+abbrev pub FitsOptionalMoment : Option ℕ → Type 0
+FitsOptionalMoment None = Unit {0}
+FitsOptionalMoment (Some n) = n ≤ last_moment
+
 -- of the members that say by whose contract a token is
 pub record ContractFits (t : Token) : Type 0 where
   pub party : party_at t.party ≡ Ok t.party

@@ -4,9 +4,11 @@ pub mod Fits
 pub mod Form
 pub mod Forms
 pub mod Line
+pub mod Members
 pub mod Names
 pub mod Nesting
 pub mod Numbers
+pub mod PacketForm
 pub mod Packets
 pub mod Pieces
 pub mod Plain
@@ -15,5 +17,6 @@ pub mod SeenIds
 pub mod SiteForm
 pub mod SiteLines
 pub mod Sites
+pub mod Tokens
 pub mod Trees
 pub mod Unquote
