@@ -11,6 +11,7 @@ pub mod Gets
 pub mod JsonNumbers
 pub mod LineTrees
 pub mod Listing
+pub mod MemberForms
 pub mod Members
 pub mod NumberNames
 pub mod PacketForm
@@ -25,10 +26,12 @@ pub mod Seen
 pub mod Shape
 pub mod SiteForm
 pub mod Steps
+pub mod Tagged
 pub mod Tags
 pub mod TextBytes
 pub mod TokenLemmas
 pub mod UnquoteRuns
 pub mod Unquoting
+pub mod WellFormed
 pub mod Written
 pub mod WrittenPackets

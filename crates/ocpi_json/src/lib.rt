@@ -7,6 +7,7 @@ mod laws;
 mod lines;
 mod lists;
 mod names;
+mod probe;
 mod quote;
 mod reading;
 mod record_writer;
