@@ -1,10 +1,13 @@
 pub mod Fault
 pub mod Fields
+pub mod Fits
 pub mod Form
 pub mod Line
+pub mod Members
 pub mod Names
 pub mod Nesting
 pub mod Numbers
+pub mod Packets
 pub mod Pieces
 pub mod Plain
 pub mod Quote
@@ -12,4 +15,5 @@ pub mod SeenIds
 pub mod SiteForm
 pub mod SiteLines
 pub mod Sites
+pub mod Tokens
 pub mod Unquote

@@ -9,7 +9,9 @@ mod lists;
 mod names;
 mod quote;
 mod reading;
+mod record_writer;
 mod sites;
+mod tokens;
 mod unquote;
 
 pub use fault::JsonFault;
