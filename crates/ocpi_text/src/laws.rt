@@ -5,13 +5,13 @@ ghost use Rattle.ocpi_text.specs.Text.{key, is_ascii_text};
 ghost use Rattle.ocpi_text.specs.Party.{party_at, country_at, party_id_at, country_of, party_id_of, party_of};
 ghost use Rattle.ocpi_text.specs.Whole.{whole_at, max_whole};
 ghost use Rattle.ocpi_text.specs.Moment.{moment_at, moment_text, last_moment};
-ghost use Rattle.ocpi_text.specs.Decimal.{e4_at, e4_text, e4_limit};
+ghost use Rattle.ocpi_text.specs.Decimal.{e4_at, sum_text, e4_limit};
 
-/// The text of a whole number, of a moment and of a number of four decimals is read as the same value.
+/// The text of a whole number, of a moment and of a sum within the limit is read as the same value.
 pub fn texts_are_read_back()
     ensures whole { (n : ℕ) → n ≤ max_whole → whole_at (decimal n) ≡ Ok n }
     ensures moment { (n : ℕ) → n ≤ last_moment → moment_at (moment_text n) ≡ Ok n }
-    ensures number { (z : ℤ) → unsigned_abs z < e4_limit → e4_at (e4_text z) ≡ Ok z }
+    ensures number { (z : ℤ) → unsigned_abs z < e4_limit → e4_at (sum_text z) ≡ Ok z }
 {}
 
 /// A party is its country and its party id, and each two of these are a party.

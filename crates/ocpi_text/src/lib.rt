@@ -19,7 +19,7 @@ mod tests;
 mod whole;
 
 pub use ci_text::CiText;
-pub use decimal::E4;
+pub use decimal::{E4, write_sum};
 pub use fault::TextFault;
 pub use free_text::{FreeText, ShortText};
 pub use laws::{keys_are_texts, parties_are_their_halves, texts_are_read_back};
