@@ -15,8 +15,6 @@ mod numeral;
 mod own_ids;
 mod party;
 mod quantity;
-#[cfg(test)]
-mod tests;
 mod whole;
 
 pub use ci_text::CiText;
