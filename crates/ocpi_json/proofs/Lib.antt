@@ -24,6 +24,10 @@ pub mod Seen
 pub mod Shape
 pub mod SiteForm
 pub mod Steps
+pub mod TaggedLines
+pub mod TaggedNumbers
+pub mod TaggedStrings
+pub mod TaggedTrees
 pub mod Tags
 pub mod TextBytes
 pub mod UnquoteRuns
