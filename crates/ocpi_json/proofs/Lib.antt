@@ -27,6 +27,8 @@ pub mod Steps
 pub mod TaggedLines
 pub mod TaggedNumbers
 pub mod TaggedStrings
+pub mod TaggedTexts
+pub mod TaggedTokens
 pub mod TaggedTrees
 pub mod Tags
 pub mod TextBytes
