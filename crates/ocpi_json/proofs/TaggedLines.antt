@@ -1,5 +1,5 @@
 -- A text whose tree is read in one pass has that tree where its numbers are quoted first.
-use Rattle.std.proofs.Common.{◌≡◌, ℕ, suc, max, ◌≤◌, Bool, true, false, cond, List, [], ◌∷◌, ◌++◌, map, Option, Some, None, option_map, option_and_then, Ok, refl, sym, ap, subst, ◌∙◌, append_assoc, arith}
+use Rattle.std.proofs.Common.{◌≡◌, ℕ, suc, ◌≤◌, Bool, true, false, cond, List, [], ◌∷◌, ◌++◌, map, Option, Some, None, option_map, option_and_then, Ok, refl, sym, ap, subst, ◌∙◌, append_assoc, arith}
 use Rattle.std.proofs.lemmas.List.{map-append}
 use Rattle.json.specs.Token.{Token}
 use Rattle.json.specs.Json as json
@@ -14,7 +14,7 @@ use Rattle.serde_json.specs.Read.{of_json, of_items, of_members, converted, read
 use Rattle.ocpi_json.specs.Names.{begins_with_tag, has_number_name_in, has_number_name}
 use Rattle.ocpi_json.specs.Tagged.{tagged, tagged_items, tagged_members, tree_in}
 use Rattle.ocpi_json.proofs.LineTrees.{named_complete}
-use Rattle.ocpi_json.proofs.TaggedTexts.{tag_token, IsClean, lexed}
+use Rattle.ocpi_json.proofs.TaggedTexts.{tag_token, lexed}
 use Rattle.ocpi_json.proofs.TaggedTokens.{AreClean, punctuated}
 use Rattle.ocpi_json.proofs.TaggedTrees.{converted_some}
 

@@ -9,7 +9,7 @@ use Rattle.std.proofs.lemmas.List.{map-append}
 use Rattle.json.specs.Token.{Token, begin_object, end_object, begin_array, end_array, key, string, number, boolean, null, bad}
 use Rattle.json.specs.Text.{content, plain}
 use Rattle.json.specs.Word.{is_operator, is_space, ends_word, after_number, number_before, literal, word}
-use Rattle.json.specs.Lex.{Lexeme, token, comma, colon, Class, quote, backslash, operator, space, other, class, operator_lexeme, string_token, Mode, between, in_word, lex_byte, lex}
+use Rattle.json.specs.Lex.{Lexeme, token, comma, colon, Class, quote, backslash, operator, space, other, class, operator_lexeme, string_token, Mode, between, lex_byte, lex}
 use Rattle.json.specs.Print.{IsNumber, escape, quoted}
 use Rattle.json.proofs.Printed.Numbers.{in_word-ended, number_alone, lex-number}
 use Rattle.json.proofs.Printed.Strings.{content-escape, lex-escape}
@@ -23,7 +23,7 @@ use Rattle.ocpi_json.specs.Quote.{is_number_char, quote_from, ending, before}
 use Rattle.ocpi_json.proofs.JsonNumbers.{no_empty_number, number_from_json}
 use Rattle.ocpi_json.proofs.PieceQuoting.{piece_quotes}
 use Rattle.ocpi_json.proofs.PlainQuoting.{copies_char, copies_more, quoted_number}
-use Rattle.ocpi_json.proofs.Steps.{bind_ok, ok_is, test_is, test_is_not}
+use Rattle.ocpi_json.proofs.Steps.{bind_ok, ok_is, test_is}
 use Rattle.ocpi_json.proofs.TaggedNumbers.{number_first}
 use Rattle.ocpi_json.proofs.TaggedStrings.{IsString, string_first, read_with_tag, string_passed}
 

@@ -61,6 +61,7 @@ fn tagged_number(alloc: Global, number: &str) -> Result<String, AllocError>
 }
 
 #[cycle(read)]
+#[inline(always)]
 fn read(alloc: Global, reader: &mut Reader<'_>, depth: usize) -> Result<Value, Stop>
     ensures ok { IfOk result
         (λ v. converted tagged (value depth reader.old) ≡ Some (view v, reader.new)) }
@@ -94,6 +95,7 @@ fn read(alloc: Global, reader: &mut Reader<'_>, depth: usize) -> Result<Value, S
 }
 
 #[cycle(read)]
+#[inline(never)]
 fn read_items(alloc: Global, reader: &mut Reader<'_>, depth: usize) -> Result<Vec<Value>, Stop>
     ensures ok { IfOk result
         (λ v. converted tagged_items (items (value depth) (length reader.old) reader.old)
@@ -109,7 +111,12 @@ fn read_items(alloc: Global, reader: &mut Reader<'_>, depth: usize) -> Result<Ve
 }
 
 #[cycle(read)]
-fn read_members(alloc: Global, reader: &mut Reader<'_>, depth: usize) -> Result<Map<String, Value>, Stop>
+#[inline(never)]
+fn read_members(
+    alloc: Global,
+    reader: &mut Reader<'_>,
+    depth: usize,
+) -> Result<Map<String, Value>, Stop>
     ensures ok { IfOk result
         (λ m. converted (λ ms. tagged_members ms no_members)
         (members (value depth) (length reader.old) reader.old)
