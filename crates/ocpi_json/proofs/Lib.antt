@@ -21,6 +21,12 @@ pub mod Seen
 pub mod SiteForm
 pub mod Steps
 pub mod Tagged
+pub mod TaggedLines
+pub mod TaggedNumbers
+pub mod TaggedStrings
+pub mod TaggedTexts
+pub mod TaggedTokens
+pub mod TaggedTrees
 pub mod Tags
 pub mod TextBytes
 pub mod TokenLemmas

@@ -15,5 +15,6 @@ pub mod SeenIds
 pub mod SiteForm
 pub mod SiteLines
 pub mod Sites
+pub mod Tagged
 pub mod Tokens
 pub mod Unquote

@@ -7,6 +7,7 @@ mod laws;
 mod lines;
 mod lists;
 mod names;
+mod one_pass;
 mod packets;
 mod quote;
 mod reading;
