@@ -1,6 +1,6 @@
 -- A reader of a member succeeds just where the member's form holds.
-use Rattle.std.proofs.Common.{◌≡◌, ◌≢◌, ℕ, Bool, true, false, cond, List, [], ◌∷◌, drop, Option, Some, None, Result, Ok, Err, refl, sym, subst, ap, ◌∙◌, inl, inr, eqb-true}
-use Rattle.std.specs.Prelude.{◌⊎◌, IfOk}
+use Rattle.std.proofs.Common.{◌≡◌, ◌≢◌, ℕ, Bool, true, false, cond, List, [], ◌∷◌, drop, Option, Some, None, Result, Ok, Err, ℤ, pos, refl, sym, subst, ap, ◌∙◌, inl, inr, eqb-true}
+use Rattle.std.specs.Prelude.{◌⊎◌, ◌≤ℤ◌, T, int_le, IfOk}
 use Rattle.serde_json.specs.Data.{Data, null, boolean, number, string, array, object, Members}
 use Rattle.serde_json.specs.Find.{get}
 use Rattle.ocpi_text.specs.declared.fault.TextFault.{TextFault}
@@ -13,8 +13,8 @@ use Rattle.ocpi_types.specs.declared.field.Field.{Field}
 use Rattle.ocpi_types.specs.Fields.{name_of}
 use Rattle.ocpi_json.specs.declared.fault.JsonFault.TheVariants.{WrongForm}
 use Rattle.ocpi_json.specs.Fault.{Fails, Gives, Read, ◌>>=◌}
-use Rattle.ocpi_json.specs.Fields.{required, present, optional, is_absent, is_none_or_null, some_of, as_text, as_number, as_truth, as_record, text_in, number_in, ci_in, free_in, moment_in, truth_in, word_in, whole_in, e4_in, party_in, country_in, party_id_in, record_in, formed, listed, is_tagged}
-use Rattle.ocpi_json.specs.Form.{Has, Required, Optional, IsText, IsNumber, TextOf, NumberOf, IsCi, IsFree, IsParty, IsMoment, IsWhole, IsE4, IsWord, IsTruth, IsRecord}
+use Rattle.ocpi_json.specs.Fields.{required, present, optional, is_absent, is_none_or_null, some_of, as_text, as_number, as_truth, as_record, text_in, number_in, ci_in, free_in, moment_in, truth_in, word_in, whole_in, e4_in, quantity_in, not_negative, party_in, country_in, party_id_in, record_in, formed, listed, is_tagged}
+use Rattle.ocpi_json.specs.Form.{Has, Required, Optional, IsText, IsNumber, TextOf, NumberOf, IsCi, IsFree, IsParty, IsMoment, IsWhole, IsE4, IsQuantity, IsWord, IsTruth, IsRecord}
 pub use Rattle.ocpi_json.proofs.Steps.{done, ok_is, bind_ok}
 
 pub record Exact {X : Type 0} (reader : Data → Read X) (P : Data → X → Type 0) : Type 0 where
@@ -206,6 +206,28 @@ pub e4_exact : (f : Field) → Exact (e4_in f) (Required IsE4 f)
 unfolding e4_in
 e4_exact f = number_taken_exact f e4_at
 
+pub passed : (b : Bool) → T b → b ≡ true
+passed true t = refl
+passed false t = absurd t
+
+pub at_most : (a b : ℤ) → int_le a b ≡ true → a ≤ℤ b
+at_most a b e = record { le = subst T (sym e) tt }
+
+quantity_sound : (f : Field) (z y : ℤ) (b : Bool) → int_le (pos 0) z ≡ b → cond b (done z) (Err (WrongForm f)) ≡ Ok y → (z ≡ y) × (pos 0 ≤ℤ y)
+quantity_sound f z y true t e = let is = ok_is z y e in (is, subst (λ (w : ℤ). pos 0 ≤ℤ w) is (at_most (pos 0) z t))
+quantity_sound f z y false t e = absurd cc
+
+pub quantity_exact : (f : Field) → Exact (quantity_in f) (Required IsQuantity f)
+unfolding quantity_in
+quantity_exact f = record {
+  sound = λ d x e.
+      let b = bind_ok (e4_in f d) (not_negative f) x e in
+      let q = quantity_sound f b.0 x (int_le (pos 0) b.0) refl b.2 in
+      let p = subst (Required IsE4 f d) q.0 ((e4_exact f).sound d b.0 b.1) in
+      (p.0, p.1, (p.2, q.1));
+  complete = λ d x p. rw ((e4_exact f).complete d x (p.0, p.1, p.2.0), passed _ p.2.1.le) refl;
+}
+
 pub word_exact : {X : Type 0} (words : List ℕ → Option X) (f : Field) → Exact (word_in words f) (Required (IsWord words) f)
 unfolding word_in
 word_exact words f = of_text f (λ s. listed f (words s)) (λ s x. words s ≡ Some x) (λ s x e. listed_ok f (words s) x e) (λ s x e. rw e refl)
@@ -273,6 +295,12 @@ optional_exact reader f P h = record {
   sound = λ d x e. optional_there reader f P h d x (optional_sound (is_absent f d) (reader f d) x e);
   complete = optional_again reader f P h;
 }
+
+pub optional_moment_exact : (f : Field) → Exact (optional moment_in f) (Optional IsMoment f)
+optional_moment_exact f = optional_exact moment_in f IsMoment (moment_exact f)
+
+pub optional_word_exact : {X : Type 0} (words : List ℕ → Option X) (f : Field) → Exact (optional (word_in words) f) (Optional (IsWord words) f)
+optional_word_exact words f = optional_exact (word_in words) f (IsWord words) (word_exact words f)
 
 pub optional_ci_exact : (max : ℕ) (f : Field) → Exact (optional (ci_in max) f) (Optional (IsCi max) f)
 optional_ci_exact max f = optional_exact (ci_in max) f (IsCi max) (ci_exact max f)

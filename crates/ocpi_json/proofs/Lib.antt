@@ -1,4 +1,3 @@
-pub mod Again
 pub mod Among
 pub mod Copying
 pub mod Cutting
@@ -7,23 +6,18 @@ pub mod Digits
 pub mod Elements
 pub mod Exact
 pub mod Fails
-pub mod Gets
 pub mod JsonNumbers
 pub mod LineTrees
 pub mod Listing
 pub mod MemberForms
-pub mod Members
 pub mod NumberNames
-pub mod PacketForm
 pub mod PieceQuoting
 pub mod PlainQuoting
 pub mod Quoting
-pub mod ReadPackets
 pub mod ReadSites
 pub mod Repeats
 pub mod Said
 pub mod Seen
-pub mod Shape
 pub mod SiteForm
 pub mod Steps
 pub mod Tagged
@@ -34,4 +28,3 @@ pub mod UnquoteRuns
 pub mod Unquoting
 pub mod WellFormed
 pub mod Written
-pub mod WrittenPackets

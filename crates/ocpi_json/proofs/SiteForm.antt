@@ -22,7 +22,7 @@ use Rattle.ocpi_json.specs.Fields.{as_text, formed, ci_in, free_in, moment_in, p
 use Rattle.ocpi_json.specs.Sites.{new_ci_in, counted_in, connector_at, connector_element, connectors_in, evse_at, evse_element, evses_in, location_place_at, location_at, location_element, locations_in, price_in, site_at, provider_at, providers_in, parties_at, site_line_at, site_of_line}
 use Rattle.ocpi_json.specs.Form.{Required, IsFree, IsParty, IsE4, IsRecord}
 use Rattle.ocpi_json.specs.SiteForm.{IsList, IsConnector, IsEvse, IsLocation, IsSite, HasParties, IsSiteLine, IsSiteLineTree}
-use Rattle.ocpi_json.proofs.Exact.{Exact, done, ok_is, bind_ok, both_steps, text_exact, formed_ok, ci_exact, free_exact, moment_exact, party_exact, e4_exact, inner_exact, as_record_exact}
+use Rattle.ocpi_json.proofs.Exact.{Exact, done, ok_is, bind_ok, both_steps, passed, at_most, text_exact, formed_ok, ci_exact, free_exact, moment_exact, party_exact, e4_exact, inner_exact, as_record_exact}
 use Rattle.ocpi_json.proofs.Elements.{record_beside, beside, AllNew, ExactBeside, IsListing, listing_exact, new_ci_exact, new_among_sound, new_among_complete, Apart, differ_from_new, new_from_differ}
 
 -- ---- connectors
@@ -361,13 +361,6 @@ record HasPrice (d : Data) (z : ℤ) : Type 0 where
 price_cond : (z y : ℤ) (b : Bool) → cond b (done z) (Err (WrongForm field.Price)) ≡ Ok y → (b ≡ true) × (z ≡ y)
 price_cond z y true e = (refl, ok_is z y e)
 price_cond z y false e = absurd cc
-
-passed : (b : Bool) → T b → b ≡ true
-passed true t = refl
-passed false t = absurd t
-
-at_most : (a b : ℤ) → int_le a b ≡ true → a ≤ℤ b
-at_most a b e = record { le = subst T (sym e) tt }
 
 price_exact : Exact price_in HasPrice
 unfolding price_in

@@ -1,5 +1,5 @@
 -- One member of an object, by its name: its value, or its fault.
-use Rattle.std.specs.Prelude.{ℕ, ℤ, ◌++◌, ◌==◌, slice_index, drop, List, [], ◌∷◌, Bool, true, false, Option, Some, None, Result, Ok, Err, if◌then◌else◌}
+use Rattle.std.specs.Prelude.{ℕ, ℤ, pos, int_le, ◌++◌, ◌==◌, slice_index, drop, List, [], ◌∷◌, Bool, true, false, Option, Some, None, Result, Ok, Err, if◌then◌else◌}
 use Rattle.serde_json.specs.Data.{Data, null, boolean, number, string, array, object, Items, no_items, item}
 use Rattle.serde_json.specs.Find.{get}
 use Rattle.ocpi_text.specs.declared.fault.TextFault.{TextFault}
@@ -154,6 +154,13 @@ unfoldable pub e4_in : Field → Data → Read ℤ
 e4_in f d = do
   s ← number_in f d
   formed f (e4_at s)
+
+-- a number of four decimals that is not negative
+abbrev pub not_negative : Field → ℤ → Read ℤ
+not_negative f z = if int_le (pos 0) z then Ok z else Err (WrongForm f)
+
+unfoldable pub quantity_in : Field → Data → Read ℤ
+quantity_in f d = e4_in f d >>= not_negative f
 
 -- ---- lists
 

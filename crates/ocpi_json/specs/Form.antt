@@ -1,6 +1,5 @@
--- What a member of a tree has to do with its value.
--- Numbers stand as texts behind U+0001, which no other text begins with.
-use Rattle.std.specs.Prelude.{◌≡◌, ◌≢◌, ◌⊎◌, ℕ, ℤ, List, ◌∷◌, Bool, false, Option, Some, None, Result, Ok}
+-- What a tree has to do with what it spells, member by member. Numbers stand as texts behind U+0001, which no other text begins with.
+use Rattle.std.specs.Prelude.{◌≡◌, ◌≢◌, ◌⊎◌, ◌≤ℤ◌, ℕ, ℤ, pos, List, ◌∷◌, Bool, false, Option, Some, None, Result, Ok}
 use Rattle.serde_json.specs.Data.{Data, null, boolean, string, object, Members}
 use Rattle.serde_json.specs.Find.{get}
 use Rattle.ocpi_text.specs.declared.fault.TextFault.{TextFault}
@@ -65,6 +64,10 @@ IsWhole = NumberOf whole_at
 abbrev pub IsE4 : Data → ℤ → Type 0
 IsE4 = NumberOf e4_at
 
+-- a number of four decimals that is not negative
+abbrev pub IsQuantity : Data → ℤ → Type 0
+IsQuantity v z = IsE4 v z × (pos 0 ≤ℤ z)
+
 -- a word of a closed list
 abbrev pub IsWord : {X : Type 0} → (List ℕ → Option X) → Data → X → Type 0
 IsWord words v x = (s : List ℕ) × IsText v s × (words s ≡ Some x)
@@ -77,6 +80,8 @@ pub record IsRecord {X : Type 0} (P : Data → X → Type 0) (v : Data) (x : X) 
   pub members : Members
   pub is_object : v ≡ object members
   pub form : P v x
+
+-- ---- records
 
 -- a party in two members
 pub record HasParty (d : Data) (party : List ℕ) : Type 0 where

@@ -11,16 +11,12 @@ mod probe;
 mod quote;
 mod reading;
 mod record_writer;
-mod records;
 mod sites;
 mod tokens;
-mod trees;
 mod unquote;
-mod writing;
 
 pub use fault::JsonFault;
 pub use laws::{lines_nest_no_deeper_than_127, the_last_of_a_repeated_name_counts};
 pub use quote::{quote_numbers, quoted_numbers_are_json_numbers, quoting_goes_by_pieces};
-pub use reading::{read_packet, read_site};
+pub use reading::read_site;
 pub use unquote::{unquote_numbers, unquoting_undoes_quoting};
-pub use writing::write_packet;

@@ -190,6 +190,7 @@ impl E4 {
     pub fn write(self, alloc: Global) -> Result<String, AllocError>
         ensures value { IfOk result (λ s. string_bytes s ≡ e4_text self) }
         ensures again { IfOk result (λ s. e4_at (string_bytes s) ≡ Ok self) }
+        ensures bound { unsigned_abs self < e4_limit }
     {
         let sign = sign_text(self.units);
         let magnitude = self.units.unsigned_abs();

@@ -13,6 +13,7 @@ mod laws;
 mod moment;
 mod numeral;
 mod party;
+mod quantity;
 #[cfg(test)]
 mod tests;
 mod whole;
@@ -24,4 +25,5 @@ pub use free_text::{FreeText, ShortText};
 pub use laws::{keys_are_texts, parties_are_their_halves, texts_are_read_back};
 pub use moment::Moment;
 pub use party::Party;
+pub use quantity::Quantity;
 pub use whole::Whole;

@@ -1,27 +1,42 @@
-//! The records of OCPI 2.2.1: tokens, commands, packets, and the sites that operators configure; and the rows that a node
-//! stores.
+//! The records of OCPI 2.2.1: tokens, commands, sessions, charge detail records, packets, and the sites that operators
+//! configure; and the rows that a node stores.
 #![tactic(auto)]
 
 mod apart;
+mod authorizations;
+mod cdrs;
+mod commands;
 mod copies;
 mod field;
 mod id_set;
 mod limits;
+mod lists;
 mod packet;
 mod parties;
 mod price;
+mod replies;
 mod rows;
+mod sessions;
 mod site;
 mod token;
 mod words;
 
+pub use authorizations::{Authorization, AuthorizationInfo, Authorize, LocationReferences};
+pub use cdrs::{Cdr, CdrDimension, CdrLocation, ChargingPeriod, GeoLocation};
+pub use commands::{CancelReservation, ReserveNow, StartSession, StopSession, UnlockConnector};
 pub use field::Field;
 pub use id_set::IdSet;
-pub use limits::RefusalCode;
-pub use packet::{Body, CommandResponse, Packet, ResponseData, StartSession};
+pub use limits::{RefusalCode, StatusCode};
+pub use lists::{EvseUids, NonEmpty};
+pub use packet::{Body, Packet};
 pub use parties::Parties;
 pub use price::PricePerKwh;
+pub use replies::{Ack, CommandResponse, CommandResult, ResponseData};
 pub use rows::{Change, Counter, Place, Row, RowKey};
+pub use sessions::{Price, Session};
 pub use site::{Connector, Connectors, Evse, Evses, Location, Locations, Site, SiteLine};
-pub use token::Token;
-pub use words::{CommandResponseType, TokenType, WhitelistType, Word};
+pub use token::{CdrToken, Token};
+pub use words::{
+    AllowedType, AuthMethod, CommandResponseType, CommandResultType, PacketKind, SessionStatus,
+    TokenType, WhitelistType, Word,
+};

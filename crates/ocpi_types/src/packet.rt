@@ -1,78 +1,76 @@
-//! Packets and what they carry (OCPI 2.2.1, Commands: StartSession, CommandResponse).
+//! Packets and what they carry.
 
 ghost use Rattle.std.specs.Prelude.{◌≡◌, IfOk};
+ghost use Rattle.ocpi_types.specs.Kinds.{kind_of};
 
-use crate::limits::RefusalCode;
+use crate::authorizations::{Authorization, Authorize};
+use crate::cdrs::Cdr;
+use crate::commands::{CancelReservation, ReserveNow, StartSession, StopSession, UnlockConnector};
+use crate::replies::{Ack, CommandResponse, CommandResult};
+use crate::sessions::Session;
 use crate::token::Token;
-use crate::words::CommandResponseType;
-use ocpi_text::{CiText, FreeText, Moment, Party, Whole};
+use crate::words::PacketKind;
+use ocpi_text::{Party, Whole};
 use std::alloc::AllocError;
-
-/// A START_SESSION: a provider asks an operator to start a session for a token.
-#[derive(Drop)]
-pub struct StartSession {
-    pub response_url: FreeText<255>,
-    pub token: Token,
-    pub location_id: CiText<36>,
-    /// Where it is absent, the operator picks an EVSE of the location.
-    pub evse_uid: Option<CiText<36>>,
-    pub connector_id: Option<CiText<36>>,
-    pub authorization_reference: Option<CiText<36>>,
-}
-
-impl StartSession {
-    /// An equal command.
-    pub fn copy(&self) -> Result<StartSession, AllocError>
-        ensures { IfOk result (λ t. t ≡ self.now) }
-    {
-        Ok(StartSession {
-            response_url: self.response_url.copy()?,
-            token: self.token,
-            location_id: self.location_id,
-            evse_uid: self.evse_uid,
-            connector_id: self.connector_id,
-            authorization_reference: self.authorization_reference,
-        })
-    }
-}
-
-/// What a command is answered: whether it is taken up, and within how many seconds its result follows.
-#[derive(Clone, Copy)]
-pub struct ResponseData {
-    pub result: CommandResponseType,
-    pub timeout: Whole,
-}
-
-/// The reply to a command.
-#[derive(Clone, Copy)]
-pub enum CommandResponse {
-    /// Status 1000.
-    Done {
-        timestamp: Moment,
-        response: ResponseData,
-    },
-    /// Another status, without data.
-    Refused {
-        timestamp: Moment,
-        status_code: RefusalCode,
-    },
-}
 
 /// What a packet carries.
 #[derive(Drop)]
 pub enum Body {
     StartSession(StartSession),
+    StopSession(StopSession),
+    ReserveNow(ReserveNow),
+    CancelReservation(CancelReservation),
+    UnlockConnector(UnlockConnector),
     CommandResponse(CommandResponse),
+    CommandResult(CommandResult),
+    PutToken(Token),
+    Authorize(Authorize),
+    Authorization(Authorization),
+    PutSession(Session),
+    PostCdr(Cdr),
+    Ack(Ack),
 }
 
 impl Body {
+    /// Its kind.
+    pub fn kind(&self) -> PacketKind
+        ensures { result ≡ kind_of self.now }
+    {
+        match self {
+            Body::StartSession(_) => PacketKind::StartSession,
+            Body::StopSession(_) => PacketKind::StopSession,
+            Body::ReserveNow(_) => PacketKind::ReserveNow,
+            Body::CancelReservation(_) => PacketKind::CancelReservation,
+            Body::UnlockConnector(_) => PacketKind::UnlockConnector,
+            Body::CommandResponse(_) => PacketKind::CommandResponse,
+            Body::CommandResult(_) => PacketKind::CommandResult,
+            Body::PutToken(_) => PacketKind::PutToken,
+            Body::Authorize(_) => PacketKind::Authorize,
+            Body::Authorization(_) => PacketKind::Authorization,
+            Body::PutSession(_) => PacketKind::PutSession,
+            Body::PostCdr(_) => PacketKind::PostCdr,
+            Body::Ack(_) => PacketKind::Ack,
+        }
+    }
+
     /// An equal body.
     pub fn copy(&self) -> Result<Body, AllocError>
         ensures { IfOk result (λ t. t ≡ self.now) }
     {
         match self {
             Body::StartSession(body) => Ok(Body::StartSession(body.copy()?)),
+            Body::StopSession(body) => Ok(Body::StopSession(body.copy()?)),
+            Body::ReserveNow(body) => Ok(Body::ReserveNow(body.copy()?)),
+            Body::CancelReservation(body) => Ok(Body::CancelReservation(body.copy()?)),
+            Body::UnlockConnector(body) => Ok(Body::UnlockConnector(body.copy()?)),
             Body::CommandResponse(body) => Ok(Body::CommandResponse(*body)),
+            Body::CommandResult(body) => Ok(Body::CommandResult(body.copy()?)),
+            Body::PutToken(body) => Ok(Body::PutToken(*body)),
+            Body::Authorize(body) => Ok(Body::Authorize(body.copy()?)),
+            Body::Authorization(body) => Ok(Body::Authorization(*body)),
+            Body::PutSession(body) => Ok(Body::PutSession(*body)),
+            Body::PostCdr(body) => Ok(Body::PostCdr(body.copy()?)),
+            Body::Ack(body) => Ok(Body::Ack(*body)),
         }
     }
 }

@@ -8,7 +8,8 @@
 ghost use Rattle.std.specs.Prelude.{◌≡◌, IfOk};
 ghost use Rattle.ocpi_types.specs.Rows.{counter_name};
 
-use crate::packet::{CommandResponse, StartSession};
+use crate::commands::StartSession;
+use crate::replies::CommandResponse;
 use ocpi_text::{CiText, Moment, Party, Whole};
 use std::alloc::AllocError;
 

@@ -17,3 +17,14 @@ pub struct Token {
     pub whitelist: WhitelistType,
     pub last_updated: Moment,
 }
+
+/// A token as sessions and charge detail records name it (OCPI 2.2.1, CDRs: CdrToken class).
+#[derive(Clone, Copy)]
+pub struct CdrToken {
+    /// The provider of the contract: `country_code` and `party_id`.
+    pub party: Party,
+    pub uid: CiText<36>,
+    /// The member `type`.
+    pub token_type: TokenType,
+    pub contract_id: CiText<36>,
+}

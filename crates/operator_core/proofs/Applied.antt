@@ -5,8 +5,8 @@ use Rattle.std.specs.FinMap.{get}
 use Rattle.ocpi_text.specs.Text.{key}
 use Rattle.ocpi_types.specs.declared.site.Site.{Site}
 use Rattle.ocpi_types.specs.declared.packet.Packet.{Packet}
-use Rattle.ocpi_types.specs.declared.packet.StartSession.{StartSession}
-use Rattle.ocpi_types.specs.declared.packet.CommandResponse.{CommandResponse}
+use Rattle.ocpi_types.specs.declared.commands.StartSession.{StartSession}
+use Rattle.ocpi_types.specs.declared.replies.CommandResponse.{CommandResponse}
 use Rattle.ocpi_types.specs.declared.rows.Place.{Place}
 use Rattle.ocpi_types.specs.declared.rows.Row.TheVariants as row
 use Rattle.ocpi_types.specs.declared.rows.Counter.TheVariants.{Serial}

@@ -6,8 +6,8 @@ use Rattle.ocpi_text.specs.Text.{key}
 use Rattle.tables.specs.Keys.{text_number_total, text_number_exact}
 use Rattle.tables.proofs.Maps.{get-insert_same}
 use Rattle.ocpi_types.specs.declared.packet.Packet.{Packet}
-use Rattle.ocpi_types.specs.declared.packet.StartSession.{StartSession}
-use Rattle.ocpi_types.specs.declared.packet.CommandResponse.{CommandResponse}
+use Rattle.ocpi_types.specs.declared.commands.StartSession.{StartSession}
+use Rattle.ocpi_types.specs.declared.replies.CommandResponse.{CommandResponse}
 use Rattle.ocpi_types.specs.declared.rows.Place.{Place}
 use Rattle.operator_core.specs.declared.open_start.OpenStart.{OpenStart}
 use Rattle.operator_core.specs.declared.decision.Decision.{Decision}

@@ -5,7 +5,7 @@ use Rattle.std.specs.FinMap.{get, insert, empty, get-empty}
 use Rattle.ocpi_text.specs.Text.{key}
 use Rattle.tables.specs.Keys.{text_number_cmp, text_number_total, text_number_exact}
 use Rattle.tables.proofs.Maps.{of_insert, get-insert_same}
-use Rattle.ocpi_types.specs.declared.packet.CommandResponse.{CommandResponse}
+use Rattle.ocpi_types.specs.declared.replies.CommandResponse.{CommandResponse}
 use Rattle.operator_core.specs.declared.open_start.OpenStart.{OpenStart}
 use Rattle.operator_core.specs.State.{Replies, Spent, OpenStarts, Claims, IsFree, OneClaimEach}
 use Rattle.operator_core.specs.Start.{IsSpent, Names}

@@ -9,8 +9,8 @@ use Rattle.tables.proofs.Maps.{get-insert_same, get-insert_other}
 use Rattle.ocpi_types.specs.declared.site.Site.{Site}
 use Rattle.ocpi_types.specs.declared.packet.Packet.{Packet}
 use Rattle.ocpi_types.specs.declared.packet.Body.TheVariants as body
-use Rattle.ocpi_types.specs.declared.packet.StartSession.{StartSession}
-use Rattle.ocpi_types.specs.declared.packet.CommandResponse.{CommandResponse}
+use Rattle.ocpi_types.specs.declared.commands.StartSession.{StartSession}
+use Rattle.ocpi_types.specs.declared.replies.CommandResponse.{CommandResponse}
 use Rattle.ocpi_types.specs.declared.rows.Place.{Place}
 use Rattle.ocpi_types.specs.declared.rows.Change.{Change}
 use Rattle.ocpi_types.specs.declared.rows.Change.TheVariants.{Put}

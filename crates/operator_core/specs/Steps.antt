@@ -7,9 +7,9 @@ use Rattle.ocpi_text.specs.Whole.{max_whole}
 use Rattle.ocpi_types.specs.declared.packet.Packet.{Packet}
 use Rattle.ocpi_types.specs.declared.packet.Body.{Body}
 use Rattle.ocpi_types.specs.declared.packet.Body.TheVariants as body
-use Rattle.ocpi_types.specs.declared.packet.StartSession.{StartSession}
-use Rattle.ocpi_types.specs.declared.packet.CommandResponse.{CommandResponse}
-use Rattle.ocpi_types.specs.declared.packet.CommandResponse.TheVariants as response
+use Rattle.ocpi_types.specs.declared.commands.StartSession.{StartSession}
+use Rattle.ocpi_types.specs.declared.replies.CommandResponse.{CommandResponse}
+use Rattle.ocpi_types.specs.declared.replies.CommandResponse.TheVariants as response
 use Rattle.ocpi_types.specs.declared.words.CommandResponseType.TheVariants as result
 use Rattle.operator_core.specs.declared.decision.Decision.{Decision}
 use Rattle.operator_core.specs.declared.decision.Decision.TheVariants.{Refused, Rejected, Accepted}
