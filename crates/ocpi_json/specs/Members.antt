@@ -68,9 +68,20 @@ inner f ms = record { field = f; value = Some (object_of ms) }
 abbrev pub optional_inner : Field → Option (List Member) → Member
 optional_inner f o = record { field = f; value = option_map object_of o }
 
--- a list of records
-abbrev pub listed : Field → List (List Member) → Member
-listed f records = record { field = f; value = Some (json.array (items_of (map object_of records))) }
+-- a list
+abbrev pub listed : Field → List json.Json → Member
+listed f js = record { field = f; value = Some (json.array (items_of js)) }
+
+abbrev pub optional_listed : Field → Option (List json.Json) → Member
+optional_listed f o = record { field = f; value = option_map (λ js. json.array (items_of js)) o }
+
+-- what a list of records has, by the members of each
+abbrev pub objects : {X : Type 0} → (X → List Member) → List X → List json.Json
+objects members xs = map (λ x. object_of (members x)) xs
+
+-- and what one of texts has
+abbrev pub strings : List (List ℕ) → List json.Json
+strings = map json.string
 
 -- ---- the tokens, as they are written one after another
 
@@ -95,3 +106,8 @@ ended ts = ts ++ end_object ∷ []
 -- an object of these members
 abbrev pub said : List Token → List Member → List Token
 said ts ms = ended (and_members (begun ts) ms)
+
+-- more values
+abbrev pub and_values : List Token → List json.Json → List Token
+and_values ts [] = ts
+and_values ts (j ∷ js) = and_values (ts ++ json_tokens j) js
