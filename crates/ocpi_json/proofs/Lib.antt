@@ -23,6 +23,7 @@ pub mod Repeats
 pub mod Seen
 -- pub mod Shape
 pub mod SiteForm
+pub mod StatusLemmas
 pub mod Steps
 pub mod Tags
 pub mod TextBytes

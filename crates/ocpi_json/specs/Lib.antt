@@ -15,5 +15,6 @@ pub mod SeenIds
 pub mod SiteForm
 pub mod SiteLines
 pub mod Sites
+pub mod Statuses
 -- pub mod Trees
 pub mod Unquote

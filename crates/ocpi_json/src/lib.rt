@@ -11,6 +11,7 @@ mod quote;
 mod reading;
 // mod records;
 mod sites;
+mod status;
 // mod trees;
 mod unquote;
 // mod writing;
