@@ -27,7 +27,8 @@ use Rattle.ocpi_types.specs.declared.words.WhitelistType.{WhitelistType}
 use Rattle.ocpi_types.specs.declared.words.WhitelistType.TheVariants as list
 use Rattle.ocpi_json.specs.Fields.{required, is_absent, optional, is_tagged, text_in, number_in, ci_in, free_in, moment_in, truth_in, word_in, whole_in, record_in, party_in, country_in, party_id_in}
 use Rattle.ocpi_json.specs.Fits.{FitsCi, FitsFree, FitsOption, TokenFits, StartSessionFits, DoneFits, RefusedFits, CommandResponseFits, BodyFits, PacketFits}
-use Rattle.ocpi_json.specs.Forms.{token_at, start_parts_at, start_session_at, status_in, response_data_at, response_at, command_response_at, body_at, packet_at, packet_of_line}
+use Rattle.ocpi_json.specs.Forms.{start_parts_at, start_session_at, status_in, response_data_at, response_at, command_response_at, body_at, packet_at, packet_of_line}
+use Rattle.ocpi_json.specs.Tokens.{token_at}
 use Rattle.ocpi_json.specs.Trees.{moment_tree, whole_tree, token_tree, start_session_tree, response_data_tree, done_tree, refused_tree, command_response_tree, body_tree, kind_word, packet_tree}
 use Rattle.ocpi_json.proofs.Gets.{member_of, start_members, token_members, response_members, done_members, done_data, refused_members, packet_members}
 use Rattle.ocpi_json.proofs.Shape.{party_begins, country_begins, party_id_begins, token_type_begins, whitelist_begins, response_begins, kind_begins}

@@ -20,6 +20,7 @@ pub mod Quoting
 -- pub mod ReadPackets
 pub mod ReadSites
 pub mod Repeats
+pub mod Said
 pub mod Seen
 -- pub mod Shape
 pub mod SiteForm
@@ -27,6 +28,7 @@ pub mod StatusLemmas
 pub mod Steps
 pub mod Tags
 pub mod TextBytes
+pub mod TokenLemmas
 pub mod UnquoteRuns
 pub mod Unquoting
 pub mod Written

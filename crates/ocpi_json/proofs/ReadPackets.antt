@@ -1,7 +1,7 @@
 -- A packet is read just where its line spells it.
 use Rattle.std.proofs.Common.{◌≡◌, ℕ, List, Ok}
 use Rattle.ocpi_types.specs.declared.packet.Packet.{Packet}
-use Rattle.ocpi_json.specs.Form.{IsPacketLine}
+use Rattle.ocpi_json.specs.PacketForm.{IsPacketLine}
 use Rattle.ocpi_json.specs.Forms.{packet_of_line}
 use Rattle.ocpi_json.specs.Packets.{SpellsPacket, packet_in}
 use Rattle.ocpi_json.proofs.LineTrees.{line_sound, line_complete}

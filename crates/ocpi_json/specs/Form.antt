@@ -1,4 +1,5 @@
--- What a tree has to do with what it spells, member by member. Numbers stand as texts behind U+0001, which no other text begins with.
+-- What a member of a tree has to do with its value.
+-- Numbers stand as texts behind U+0001, which no other text begins with.
 use Rattle.std.specs.Prelude.{◌≡◌, ◌≢◌, ◌⊎◌, ◌≤ℤ◌, ℕ, ℤ, pos, List, ◌∷◌, Bool, false, Option, Some, None, Result, Ok}
 use Rattle.serde_json.specs.Data.{Data, null, boolean, string, object, Members}
 use Rattle.serde_json.specs.Find.{get}
@@ -80,8 +81,6 @@ pub record IsRecord {X : Type 0} (P : Data → X → Type 0) (v : Data) (x : X) 
   pub members : Members
   pub is_object : v ≡ object members
   pub form : P v x
-
--- ---- records
 
 -- a party in two members
 pub record HasParty (d : Data) (party : List ℕ) : Type 0 where

@@ -3,9 +3,7 @@
 use Rattle.std.specs.Prelude.{ℕ, List, codes, ◌==◌, nat_le, ◌&&◌, Ok, Err, if◌then◌else◌}
 use Rattle.std.specs.Str.{bytes_eq}
 use Rattle.serde_json.specs.Data.{Data}
-use Rattle.ocpi_text.specs.Party.{party_of}
 use Rattle.ocpi_types.specs.declared.field.Field.TheVariants as field
-use Rattle.ocpi_types.specs.declared.token.Token.{Token}
 use Rattle.ocpi_types.specs.declared.commands.StartSession.{StartSession}
 use Rattle.ocpi_types.specs.declared.replies.ResponseData.{ResponseData}
 use Rattle.ocpi_types.specs.declared.replies.CommandResponse.{CommandResponse}
@@ -13,24 +11,12 @@ use Rattle.ocpi_types.specs.declared.replies.CommandResponse.TheVariants as resp
 use Rattle.ocpi_types.specs.declared.packet.Packet.{Packet}
 use Rattle.ocpi_types.specs.declared.packet.Body.{Body}
 use Rattle.ocpi_types.specs.declared.packet.Body.TheVariants as body
-use Rattle.ocpi_types.specs.Words.{token_type_of, whitelist_of, response_of}
+use Rattle.ocpi_types.specs.Words.{response_of}
 use Rattle.ocpi_json.specs.declared.fault.JsonFault.TheVariants.{WrongForm, UnknownKind}
 use Rattle.ocpi_json.specs.declared.records.StartParts.{StartParts}
 use Rattle.ocpi_json.specs.Fault.{Read, ◌>>=◌}
-use Rattle.ocpi_json.specs.Fields.{ci_in, free_in, moment_in, truth_in, word_in, party_in, country_in, party_id_in, whole_in, record_in, text_in, optional, as_record}
-
-unfoldable pub token_at : Data → Read Token
-token_at d = do
-  country ← country_in field.CountryCode d
-  party_id ← party_id_in field.PartyId d
-  uid ← ci_in 36 field.Uid d
-  token_type ← word_in token_type_of field.TypeOf d
-  contract_id ← ci_in 36 field.ContractId d
-  issuer ← free_in 64 field.Issuer d
-  valid ← truth_in field.Valid d
-  whitelist ← word_in whitelist_of field.Whitelist d
-  last_updated ← moment_in field.LastUpdated d
-  Ok (record { party = party_of country party_id; uid = uid; token_type = token_type; contract_id = contract_id; issuer = issuer; valid = valid; whitelist = whitelist; last_updated = last_updated })
+use Rattle.ocpi_json.specs.Tokens.{token_at}
+use Rattle.ocpi_json.specs.Fields.{ci_in, free_in, moment_in, word_in, party_in, whole_in, record_in, text_in, optional, as_record}
 
 -- a start behind its address
 unfoldable pub start_parts_at : Data → Read StartParts

@@ -1,9 +1,10 @@
 pub mod Fault
 pub mod Fields
--- pub mod Fits
+pub mod Fits
 pub mod Form
 -- pub mod Forms
 pub mod Line
+pub mod Members
 pub mod Names
 pub mod Nesting
 pub mod Numbers
@@ -16,5 +17,6 @@ pub mod SiteForm
 pub mod SiteLines
 pub mod Sites
 pub mod Statuses
+pub mod Tokens
 -- pub mod Trees
 pub mod Unquote

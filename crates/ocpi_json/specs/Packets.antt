@@ -3,7 +3,7 @@ use Rattle.std.specs.Prelude.{ℕ, List}
 use Rattle.serde_json.specs.Data.{Data}
 use Rattle.ocpi_types.specs.declared.packet.Packet.{Packet}
 use Rattle.ocpi_json.specs.Fault.{Read, ◌>>=◌}
-use Rattle.ocpi_json.specs.Form.{IsPacketLine}
+use Rattle.ocpi_json.specs.PacketForm.{IsPacketLine}
 use Rattle.ocpi_json.specs.Forms.{packet_of_line}
 use Rattle.ocpi_json.specs.Line.{HasTree, tree_at}
 use Rattle.ocpi_json.specs.Plain.{plain_text}
