@@ -1,5 +1,6 @@
 -- pub mod Again
 pub mod Among
+pub mod CommandLemmas
 pub mod Copying
 pub mod Cutting
 pub mod Depths
@@ -20,6 +21,7 @@ pub mod Quoting
 -- pub mod ReadPackets
 pub mod ReadSites
 pub mod Repeats
+pub mod ReplyLemmas
 pub mod Said
 pub mod Seen
 -- pub mod Shape

@@ -23,7 +23,7 @@ status_exact = record {
       let a = bind_ok (whole_in field.StatusCode d) status_at n e in
       let r = in_range a.0 n _ refl a.2 in
       let p = subst (Required IsWhole field.StatusCode d) r.0 ((whole_exact field.StatusCode).sound d a.0 a.1) in
-      (p.0, p.1, record { number = p.2; least = r.1.0; most = r.1.1 });
+      (p.0, p.1, record { number = p.2; least = r.1; most = r.2 });
   complete = λ d n p. rw (
     (whole_exact field.StatusCode).complete d n (p.0, p.1, p.2.number),
     and_from (nat_le 1000 n) (nat_le n 9999) (le-leb 1000 n p.2.least) (le-leb n 9999 p.2.most),

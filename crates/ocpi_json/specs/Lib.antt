@@ -1,3 +1,4 @@
+pub mod CommandForms
 pub mod Fault
 pub mod Fields
 pub mod Fits
@@ -12,6 +13,7 @@ pub mod Numbers
 pub mod Pieces
 pub mod Plain
 pub mod Quote
+pub mod ReplyForms
 pub mod SeenIds
 pub mod SiteForm
 pub mod SiteLines
