@@ -1,11 +1,11 @@
 -- What is written of a record are the tokens of its JSON.
 use Rattle.std.proofs.Common.{◌≡◌, List, [], ◌∷◌, ◌++◌, Option, Some, None, map, refl, sym, ap, ◌∙◌, append_assoc, append-nil}
-use Rattle.json.specs.Token.{Token, begin_object, end_object, key}
+use Rattle.json.specs.Token.{Token, begin_object, end_object, begin_array, end_array, key}
 use Rattle.json.specs.Json as json
-use Rattle.json.specs.Tree.{json_tokens, members_tokens}
+use Rattle.json.specs.Tree.{json_tokens, items_tokens, members_tokens}
 use Rattle.ocpi_types.specs.declared.field.Field.{Field}
 use Rattle.ocpi_types.specs.Fields.{name_of}
-use Rattle.ocpi_json.specs.Members.{Member, and_member, and_members, and_value, begun, ended, said, members_of, object_of, inner}
+use Rattle.ocpi_json.specs.Members.{Member, and_member, and_members, and_value, begun, ended, said, members_of, object_of, items_of, and_values, inner, listed}
 
 -- after one more member
 value_then : (ts us : List Token) (f : Field) (o : Option json.Json) (ms : List Member)
@@ -28,3 +28,13 @@ said_is ts ms = ended_members (begun ts) ms ∙ append_assoc ts (begin_object �
 pub inner_said : (ts : List Token) (f : Field) (ms : List Member) → said (ts ++ key (name_of f) ∷ []) ms ≡ and_member ts (inner f ms)
 unfolding and_member
 inner_said ts f ms = said_is (ts ++ key (name_of f) ∷ []) ms
+
+-- ---- lists
+
+values_then : (ts : List Token) (js : List json.Json) → and_values ts js ++ end_array ∷ [] ≡ ts ++ items_tokens (items_of js)
+values_then ts [] = refl
+values_then ts (j ∷ js) = values_then (ts ++ json_tokens j) js ∙ append_assoc ts (json_tokens j) (items_tokens (items_of js))
+
+pub list_said : (ts : List Token) (f : Field) (js : List json.Json) → and_values ((ts ++ key (name_of f) ∷ []) ++ begin_array ∷ []) js ++ end_array ∷ [] ≡ and_member ts (listed f js)
+unfolding and_member
+list_said ts f js = values_then ((ts ++ key (name_of f) ∷ []) ++ begin_array ∷ []) js ∙ append_assoc (ts ++ key (name_of f) ∷ []) (begin_array ∷ []) (items_tokens (items_of js))

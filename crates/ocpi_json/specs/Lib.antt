@@ -3,13 +3,11 @@ pub mod Fault
 pub mod Fields
 pub mod Fits
 pub mod Form
--- pub mod Forms
 pub mod Line
 pub mod Members
 pub mod Names
 pub mod Nesting
 pub mod Numbers
--- pub mod Packets
 pub mod Pieces
 pub mod Plain
 pub mod Quote
@@ -20,5 +18,4 @@ pub mod SiteLines
 pub mod Sites
 pub mod Statuses
 pub mod Tokens
--- pub mod Trees
 pub mod Unquote

@@ -68,9 +68,19 @@ inner f ms = record { field = f; value = Some (object_of ms) }
 abbrev pub optional_inner : Field → Option (List Member) → Member
 optional_inner f o = record { field = f; value = option_map object_of o }
 
--- a list of records
-abbrev pub listed : Field → List (List Member) → Member
-listed f records = record { field = f; value = Some (json.array (items_of (map object_of records))) }
+-- a list
+abbrev pub listed : Field → List json.Json → Member
+listed f js = record { field = f; value = Some (json.array (items_of js)) }
+
+abbrev pub optional_listed : Field → Option (List json.Json) → Member
+optional_listed f o = record { field = f; value = option_map (λ js. json.array (items_of js)) o }
+
+-- what a list of records, or of texts, has
+abbrev pub objects : List (List Member) → List json.Json
+objects = map object_of
+
+abbrev pub strings : List (List ℕ) → List json.Json
+strings = map json.string
 
 -- ---- the tokens, as they are written one after another
 
@@ -95,3 +105,8 @@ ended ts = ts ++ end_object ∷ []
 -- an object of these members
 abbrev pub said : List Token → List Member → List Token
 said ts ms = ended (and_members (begun ts) ms)
+
+-- more values
+abbrev pub and_values : List Token → List json.Json → List Token
+and_values ts [] = ts
+and_values ts (j ∷ js) = and_values (ts ++ json_tokens j) js

@@ -8,13 +8,13 @@ ghost use Rattle.ocpi_text.specs.Moment.{last_moment};
 ghost use Rattle.ocpi_text.specs.Party.{party_at, country_of, party_id_of};
 ghost use Rattle.ocpi_text.specs.Whole.{max_whole};
 ghost use Rattle.ocpi_types.specs.Fields.{name_of};
-ghost use Rattle.ocpi_json.specs.Fits.{FitsCi, FitsFree, FitsOption, FitsOptionalMoment};
+ghost use Rattle.ocpi_json.specs.Fits.{FitsCi, FitsFree, FitsOption, FitsOptionalMoment, FitsQuantity};
 ghost use Rattle.ocpi_json.specs.Members as member;
-ghost use Rattle.ocpi_json.specs.Members.{Member, and_member, begun, ended, said};
+ghost use Rattle.ocpi_json.specs.Members.{Member, and_member, and_values, begun, ended, said};
 
 use json::Writer;
-use ocpi_text::{CiText, E4, FreeText, Moment, Party, ShortText, Whole};
-use ocpi_types::{Field, Word};
+use ocpi_text::{CiText, E4, FreeText, Moment, Party, Quantity, ShortText, Whole};
+use ocpi_types::{EvseUids, Field, Word};
 use std::alloc::{AllocError, Global};
 use std::marker::Model;
 
@@ -189,6 +189,21 @@ impl RecordWriter {
         self.text(field, word.word())
     }
 
+    /// The same, where there is one.
+    #[tactic(auto, unfolding(crate::specs::Members::and_member))]
+    pub fn optional_word<W: Word>(
+        &mut self,
+        field: Field,
+        word: &Option<W>,
+    ) -> Result<(), AllocError>
+        ensures { OnOk result (self.new ≡ and_member self.old (member.optional_text field (option_map W.spelling word.now))) }
+    {
+        match word {
+            Some(word) => self.word(field, word),
+            None => Ok(()),
+        }
+    }
+
     /// A number in digits.
     #[tactic(auto, unfolding(crate::specs::Members::and_member))]
     pub fn number(&mut self, field: Field, number: u64) -> Result<(), AllocError>
@@ -255,6 +270,14 @@ impl RecordWriter {
         self.out.number(&text)
     }
 
+    /// A number of four decimals that is not negative.
+    pub fn quantity(&mut self, field: Field, number: Quantity) -> Result<(), AllocError>
+        ensures member { OnOk result (self.new ≡ and_member self.old (member.e4 field number)) }
+        ensures fits { FitsQuantity number }
+    {
+        self.e4(field, number.value())
+    }
+
     /// A record within a record.
     #[tactic(auto, unfolding(crate::specs::Members::and_member), using(crate::proofs::Said::inner_said))]
     pub fn record<T: Record>(&mut self, field: Field, value: &T) -> Result<(), AllocError>
@@ -281,17 +304,75 @@ impl RecordWriter {
         }
     }
 
+    fn begin_list(&mut self) -> Result<(), AllocError>
+        ensures { OnOk result (self.new ≡ self.old ++ begin_array ∷ []) }
+    {
+        self.out.begin_array()
+    }
+
+    fn end_list(&mut self) -> Result<(), AllocError>
+        ensures { OnOk result (self.new ≡ self.old ++ end_array ∷ []) }
+    {
+        self.out.end_array()
+    }
+
+    fn objects<T: Record>(&mut self, records: &[T]) -> Result<(), AllocError>
+        ensures values { OnOk result (self.new ≡ and_values self.old (member.objects (map T.members records.now))) }
+        ensures fits { OnOk result (All T.fits records.now) }
+    {
+        for item in records {
+            item.write(self)?;
+        }
+        Ok(())
+    }
+
     /// A list of records.
-    #[tactic(auto, unfolding(crate::specs::Members::and_member))]
+    #[tactic(auto, using(crate::proofs::Said::list_said))]
     pub fn list<T: Record>(&mut self, field: Field, records: &[T]) -> Result<(), AllocError>
-        ensures member { OnOk result (self.new ≡ and_member self.old (member.listed field (map T.members records.now))) }
+        ensures member { OnOk result (self.new ≡ and_member self.old (member.listed field (member.objects (map T.members records.now)))) }
         ensures fits { OnOk result (All T.fits records.now) }
     {
         self.name(field)?;
-        self.out.begin_array()?;
-        for record in records {
-            record.write(self)?;
+        self.begin_list()?;
+        self.objects(records)?;
+        self.end_list()
+    }
+
+    fn strings<const MAX: usize>(&mut self, texts: &[CiText<MAX>]) -> Result<(), AllocError>
+        ensures values { OnOk result (self.new ≡ and_values self.old (member.strings texts.now)) }
+        ensures fits { OnOk result (All (FitsCi MAX) texts.now) }
+    {
+        for text in texts {
+            self.out.string(text.as_str())?;
         }
-        self.out.end_array()
+        Ok(())
+    }
+
+    /// A list of texts that are compared without case.
+    #[tactic(auto, using(crate::proofs::Said::list_said))]
+    pub fn ci_list<const MAX: usize>(
+        &mut self,
+        field: Field,
+        texts: &[CiText<MAX>],
+    ) -> Result<(), AllocError>
+        ensures member { OnOk result (self.new ≡ and_member self.old (member.listed field (member.strings texts.now))) }
+        ensures fits { OnOk result (All (FitsCi MAX) texts.now) }
+    {
+        self.name(field)?;
+        self.begin_list()?;
+        self.strings(texts)?;
+        self.end_list()
+    }
+
+    /// The uids of EVSEs, where they are given.
+    #[tactic(auto, unfolding(crate::specs::Members::and_member))]
+    pub fn optional_uids(&mut self, field: Field, uids: &Option<EvseUids>) -> Result<(), AllocError>
+        ensures member { OnOk result (self.new ≡ and_member self.old (member.optional_listed field (option_map member.strings uids.now))) }
+        ensures fits { OnOk result (IfSome uids.now (All (FitsCi 36))) }
+    {
+        match uids {
+            Some(uids) => self.ci_list(field, uids.as_slice()),
+            None => Ok(()),
+        }
     }
 }
