@@ -1,4 +1,5 @@
 pub mod Among
+pub mod CommandLemmas
 pub mod Copying
 pub mod Cutting
 pub mod DecimalNumbers
@@ -17,11 +18,19 @@ pub mod PlainQuoting
 pub mod Quoting
 pub mod ReadSites
 pub mod Repeats
+pub mod ReplyLemmas
 pub mod Said
 pub mod Seen
 pub mod SiteForm
+pub mod StatusLemmas
 pub mod Steps
 pub mod Tagged
+pub mod TaggedLines
+pub mod TaggedNumbers
+pub mod TaggedStrings
+pub mod TaggedTexts
+pub mod TaggedTokens
+pub mod TaggedTrees
 pub mod Tags
 pub mod TextBytes
 pub mod TokenLemmas

@@ -1,3 +1,4 @@
+pub mod CommandForms
 pub mod Fault
 pub mod Fields
 pub mod Fits
@@ -7,12 +8,16 @@ pub mod Members
 pub mod Names
 pub mod Nesting
 pub mod Numbers
+pub mod Packets
 pub mod Pieces
 pub mod Plain
 pub mod Quote
+pub mod ReplyForms
 pub mod SeenIds
 pub mod SiteForm
 pub mod SiteLines
 pub mod Sites
+pub mod Statuses
+pub mod Tagged
 pub mod Tokens
 pub mod Unquote
