@@ -2,6 +2,7 @@ pub mod Among
 pub mod CommandLemmas
 pub mod Copying
 pub mod Cutting
+pub mod DecimalNumbers
 pub mod Depths
 pub mod Digits
 pub mod Elements
