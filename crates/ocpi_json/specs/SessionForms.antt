@@ -1,9 +1,11 @@
 -- Sessions in JSON, and what they share with charge detail records (OCPI 2.2.1, Sessions: Session object; CDRs: CdrToken class;
 -- Types: Price class): how one is read, which form its tree has, and what is written.
-use Rattle.std.specs.Prelude.{Ok}
+use Rattle.std.specs.Prelude.{◌≡◌, ◌<◌, ◌≤◌, List, [], ◌∷◌, Ok, IfSome, option_map, unsigned_abs}
 use Rattle.serde_json.specs.Data.{Data}
-use Rattle.ocpi_text.specs.Party.{party_of}
-use Rattle.ocpi_types.specs.Words.{token_type_of, method_of, status_of}
+use Rattle.ocpi_text.specs.Decimal.{e4_limit}
+use Rattle.ocpi_text.specs.Moment.{last_moment}
+use Rattle.ocpi_text.specs.Party.{party_at, party_of, country_of, party_id_of}
+use Rattle.ocpi_types.specs.Words.{token_type_of, token_type_word, method_of, method_word, status_of, status_word}
 use Rattle.ocpi_types.specs.declared.field.Field.{Field}
 use Rattle.ocpi_types.specs.declared.field.Field.TheVariants as field
 use Rattle.ocpi_types.specs.declared.token.CdrToken.{CdrToken}
@@ -13,7 +15,9 @@ use Rattle.ocpi_json.specs.declared.sessions.ChargingParts.{ChargingParts}
 use Rattle.ocpi_json.specs.declared.sessions.PlaceParts.{PlaceParts}
 use Rattle.ocpi_json.specs.Fault.{Read, ◌>>=◌}
 use Rattle.ocpi_json.specs.Fields.{ci_in, free_in, moment_in, word_in, e4_in, quantity_in, record_in, country_in, party_id_in, optional}
+use Rattle.ocpi_json.specs.Fits.{FitsCi, FitsFree, FitsOption, FitsOptionalMoment, FitsQuantity}
 use Rattle.ocpi_json.specs.Form.{Required, Optional, IsCi, IsFree, IsMoment, IsWord, IsE4, IsQuantity, IsRecord, HasParty}
+use Rattle.ocpi_json.specs.Members.{Member, text, optional_text, moment, optional_moment, e4, inner, optional_inner}
 
 -- ---- the token of a session or a charge detail record
 
@@ -33,6 +37,22 @@ pub record IsCdrToken (d : Data) (t : CdrToken) : Type 0 where
   pub token_type : Required (IsWord token_type_of) field.TypeOf d t.token_type
   pub contract_id : Required (IsCi 36) field.ContractId d t.contract_id
 
+-- what is written, in the byte order of the names
+unfoldable pub cdr_token_members : CdrToken → List Member
+cdr_token_members t =
+    text field.ContractId t.contract_id
+    ∷ text field.CountryCode (country_of t.party)
+    ∷ text field.PartyId (party_id_of t.party)
+    ∷ text field.TypeOf (token_type_word t.token_type)
+    ∷ text field.Uid t.uid
+    ∷ []
+
+-- what the types of its fields keep
+pub record CdrTokenFits (t : CdrToken) : Type 0 where
+  pub party : party_at t.party ≡ Ok t.party
+  pub uid : FitsCi 36 t.uid
+  pub contract_id : FitsCi 36 t.contract_id
+
 -- ---- an amount of money, which may be negative
 
 unfoldable pub price_at : Data → Read Price
@@ -42,6 +62,12 @@ price_at d = do
 
 pub record IsPrice (d : Data) (p : Price) : Type 0 where
   pub excl_vat : Required IsE4 field.ExclVat d p.excl_vat
+
+unfoldable pub price_members : Price → List Member
+price_members p = e4 field.ExclVat p.excl_vat ∷ []
+
+pub record PriceFits (p : Price) : Type 0 where
+  pub excl_vat : unsigned_abs p.excl_vat < e4_limit
 
 -- the amount under that name
 unfoldable pub price_in : Field → Data → Read Price
@@ -114,3 +140,38 @@ pub record IsSession (d : Data) (s : Session) : Type 0 where
   pub total_cost : Optional (IsRecord IsPrice) field.TotalCost d s.total_cost
   pub status : Required (IsWord status_of) field.Status d s.status
   pub last_updated : Required IsMoment field.LastUpdated d s.last_updated
+
+unfoldable pub session_members : Session → List Member
+session_members s =
+    text field.AuthMethod (method_word s.auth_method)
+    ∷ optional_text field.AuthorizationReference s.authorization_reference
+    ∷ inner field.CdrToken (cdr_token_members s.cdr_token)
+    ∷ text field.ConnectorId s.connector_id
+    ∷ text field.CountryCode (country_of s.party)
+    ∷ text field.Currency s.currency
+    ∷ optional_moment field.EndDateTime s.end_date_time
+    ∷ text field.EvseUid s.evse_uid
+    ∷ text field.Id s.id
+    ∷ e4 field.Kwh s.kwh
+    ∷ moment field.LastUpdated s.last_updated
+    ∷ text field.LocationId s.location_id
+    ∷ text field.PartyId (party_id_of s.party)
+    ∷ moment field.StartDateTime s.start_date_time
+    ∷ text field.Status (status_word s.status)
+    ∷ optional_inner field.TotalCost (option_map price_members s.total_cost)
+    ∷ []
+
+pub record SessionFits (s : Session) : Type 0 where
+  pub party : party_at s.party ≡ Ok s.party
+  pub id : FitsCi 36 s.id
+  pub start_date_time : s.start_date_time ≤ last_moment
+  pub end_date_time : FitsOptionalMoment s.end_date_time
+  pub kwh : FitsQuantity s.kwh
+  pub cdr_token : CdrTokenFits s.cdr_token
+  pub authorization_reference : FitsOption 36 s.authorization_reference
+  pub location_id : FitsCi 36 s.location_id
+  pub evse_uid : FitsCi 36 s.evse_uid
+  pub connector_id : FitsCi 36 s.connector_id
+  pub currency : FitsFree 3 s.currency
+  pub total_cost : IfSome s.total_cost PriceFits
+  pub last_updated : s.last_updated ≤ last_moment

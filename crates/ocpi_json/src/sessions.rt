@@ -4,16 +4,18 @@
 ghost use Rattle.std.specs.Prelude.{◌≡◌};
 ghost use Rattle.serde_json.specs.View.{view};
 ghost use Rattle.ocpi_json.specs.Fields.{optional};
-ghost use Rattle.ocpi_json.specs.SessionForms.{cdr_token_at, price_at, price_in, charging_parts_at, place_parts_at, session_at};
+ghost use Rattle.ocpi_json.specs.SessionForms.{cdr_token_at, cdr_token_members, CdrTokenFits, price_at, price_in, price_members, PriceFits, charging_parts_at, place_parts_at, session_at, session_members, SessionFits};
 
 use crate::fault::JsonFault;
 use crate::fields::{
     ci_in, country_in, e4_in, is_absent, moment_in, optional_ci_in, optional_moment_in,
     party_id_in, quantity_in, record_in, short_in, word_in,
 };
+use crate::record_writer::{Record, RecordWriter};
 use ocpi_text::{CiText, Moment, Party, Quantity, ShortText};
 use ocpi_types::{AuthMethod, CdrToken, Field, Price, Session, SessionStatus};
 use serde_json::Value;
+use std::alloc::AllocError;
 
 /// A token as sessions and charge detail records name it. The first fault is told, in the order of the members here.
 #[tactic(auto, unfolding(crate::specs::SessionForms::cdr_token_at))]
@@ -33,6 +35,23 @@ pub fn cdr_token_of(object: &Value) -> Result<CdrToken, JsonFault>
     })
 }
 
+impl Record for CdrToken {
+    ghost members = { cdr_token_members };
+
+    ghost fits = { CdrTokenFits };
+
+    #[tactic(auto, unfolding(crate::specs::SessionForms::cdr_token_members))]
+    fn write(&self, out: &mut RecordWriter) -> Result<(), AllocError> {
+        out.begin()?;
+        out.ci(Field::ContractId, self.contract_id)?;
+        out.country(Field::CountryCode, &self.party)?;
+        out.party_id(Field::PartyId, &self.party)?;
+        out.word(Field::TypeOf, &self.token_type)?;
+        out.ci(Field::Uid, self.uid)?;
+        out.end()
+    }
+}
+
 /// An amount of money.
 #[tactic(auto, unfolding(crate::specs::SessionForms::price_at))]
 pub fn price_of(object: &Value) -> Result<Price, JsonFault>
@@ -40,6 +59,19 @@ pub fn price_of(object: &Value) -> Result<Price, JsonFault>
 {
     let excl_vat = e4_in(object, Field::ExclVat)?;
     Ok(Price { excl_vat })
+}
+
+impl Record for Price {
+    ghost members = { price_members };
+
+    ghost fits = { PriceFits };
+
+    #[tactic(auto, unfolding(crate::specs::SessionForms::price_members))]
+    fn write(&self, out: &mut RecordWriter) -> Result<(), AllocError> {
+        out.begin()?;
+        out.e4(Field::ExclVat, self.excl_vat)?;
+        out.end()
+    }
 }
 
 /// The amount of money under that name.
@@ -157,4 +189,32 @@ pub fn session_of(object: &Value) -> Result<Session, JsonFault>
         status: place.status,
         last_updated: place.last_updated,
     })
+}
+
+impl Record for Session {
+    ghost members = { session_members };
+
+    ghost fits = { SessionFits };
+
+    #[tactic(auto, unfolding(crate::specs::SessionForms::session_members))]
+    fn write(&self, out: &mut RecordWriter) -> Result<(), AllocError> {
+        out.begin()?;
+        out.word(Field::AuthMethod, &self.auth_method)?;
+        out.optional_ci(Field::AuthorizationReference, self.authorization_reference)?;
+        out.record(Field::CdrToken, &self.cdr_token)?;
+        out.ci(Field::ConnectorId, self.connector_id)?;
+        out.country(Field::CountryCode, &self.party)?;
+        out.short(Field::Currency, &self.currency)?;
+        out.optional_moment(Field::EndDateTime, self.end_date_time)?;
+        out.ci(Field::EvseUid, self.evse_uid)?;
+        out.ci(Field::Id, self.id)?;
+        out.quantity(Field::Kwh, self.kwh)?;
+        out.moment(Field::LastUpdated, self.last_updated)?;
+        out.ci(Field::LocationId, self.location_id)?;
+        out.party_id(Field::PartyId, &self.party)?;
+        out.moment(Field::StartDateTime, self.start_date_time)?;
+        out.word(Field::Status, &self.status)?;
+        out.optional_record(Field::TotalCost, &self.total_cost)?;
+        out.end()
+    }
 }
