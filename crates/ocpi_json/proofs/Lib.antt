@@ -1,4 +1,5 @@
 pub mod Among
+pub mod CommandLemmas
 pub mod Copying
 pub mod Cutting
 pub mod Depths
@@ -16,10 +17,12 @@ pub mod PlainQuoting
 pub mod Quoting
 pub mod ReadSites
 pub mod Repeats
+pub mod ReplyLemmas
 pub mod Said
 pub mod Seen
 pub mod SessionLemmas
 pub mod SiteForm
+pub mod StatusLemmas
 pub mod Steps
 pub mod Tagged
 pub mod Tags
