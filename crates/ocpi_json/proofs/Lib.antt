@@ -1,4 +1,5 @@
 pub mod Among
+pub mod AuthorizationLemmas
 pub mod CommandLemmas
 pub mod Copying
 pub mod Cutting

@@ -1,3 +1,4 @@
+pub mod AuthorizationForms
 pub mod CommandForms
 pub mod Fault
 pub mod Fields
