@@ -3,6 +3,7 @@ pub mod AuthorizationLemmas
 pub mod CommandLemmas
 pub mod Copying
 pub mod Cutting
+pub mod DecimalNumbers
 pub mod Depths
 pub mod Digits
 pub mod Elements

@@ -1,5 +1,8 @@
 -- What is written of a record are the tokens of its JSON.
-use Rattle.std.proofs.Common.{◌≡◌, List, [], ◌∷◌, ◌++◌, Option, Some, None, map, refl, sym, ap, ◌∙◌, append_assoc, append-nil}
+use Rattle.std.proofs.Common.{◌≡◌, ℕ, ◌+◌, ◌<◌, ◌≤◌, List, [], ◌∷◌, ◌++◌, length, get_or, take, Option, Some, None, map, refl, sym, ap, subst, ◌∙◌, append_assoc}
+use Rattle.std.specs.List.{All}
+use Rattle.std.proofs.lemmas.List.{take_more, take_all}
+use Rattle.std.proofs.lemmas.List.Elements.{All-nil, All-push}
 use Rattle.json.specs.Token.{Token, begin_object, end_object, begin_array, end_array, key}
 use Rattle.json.specs.Json as json
 use Rattle.json.specs.Tree.{json_tokens, items_tokens, members_tokens}
@@ -38,3 +41,29 @@ values_then ts (j ∷ js) = values_then (ts ++ json_tokens j) js ∙ append_asso
 pub list_said : (ts : List Token) (f : Field) (js : List json.Json) → and_values ((ts ++ key (name_of f) ∷ []) ++ begin_array ∷ []) js ++ end_array ∷ [] ≡ and_member ts (listed f js)
 unfolding and_member
 list_said ts f js = values_then ((ts ++ key (name_of f) ∷ []) ++ begin_array ∷ []) js ∙ append_assoc (ts ++ key (name_of f) ∷ []) (begin_array ∷ []) (items_tokens (items_of js))
+
+-- ---- loops
+
+-- the first of the values were written
+pub record Wrote {X : Type 0} (f : X → json.Json) (Fits : X → Type 0) (old : List Token) (front : List X) (new : List Token) : Type 0 where
+  pub tokens : new ≡ and_values old (map f front)
+  pub fits : All Fits front
+
+values_push : {X : Type 0} (f : X → json.Json) (ts : List Token) (front : List X) (x : X) → and_values ts (map f (front ++ x ∷ [])) ≡ and_values ts (map f front) ++ json_tokens (f x)
+values_push f ts [] x = refl
+values_push f ts (y ∷ front) x = values_push f (ts ++ json_tokens (f y)) front x
+
+pub wrote_none : {X : Type 0} (f : X → json.Json) (Fits : X → Type 0) (old : List Token) → Wrote f Fits old [] old
+wrote_none f Fits old = record { tokens = refl; fits = All-nil Fits }
+
+pub wrote_more : {X : Type 0} (f : X → json.Json) (Fits : X → Type 0) (old new next : List Token) (xs : List X) (i : ℕ) (x : X) → i < length xs → x ≡ get_or xs i x
+    → Wrote f Fits old (take i xs) new → next ≡ new ++ json_tokens (f x) → Fits x → Wrote f Fits old (take (i + 1) xs) next
+wrote_more f Fits old new next xs i x lt is before said fits =
+    let longer : take (i + 1) xs ≡ take i xs ++ x ∷ [] = take_more xs i x lt ∙ ap (λ y. take i xs ++ y ∷ []) (sym is) in
+    subst (λ front. Wrote f Fits old front next) (sym longer) (record {
+      tokens = said ∙ ap (λ ts. ts ++ json_tokens (f x)) before.tokens ∙ sym (values_push f old (take i xs) x);
+      fits = All-push Fits (take i xs) x before.fits fits;
+    })
+
+pub wrote_all : {X : Type 0} (f : X → json.Json) (Fits : X → Type 0) (old new : List Token) (xs : List X) (i : ℕ) → length xs ≤ i → Wrote f Fits old (take i xs) new → Wrote f Fits old xs new
+wrote_all f Fits old new xs i le w = subst (λ front. Wrote f Fits old front new) (take_all i xs le) w

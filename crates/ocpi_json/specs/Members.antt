@@ -75,10 +75,11 @@ listed f js = record { field = f; value = Some (json.array (items_of js)) }
 abbrev pub optional_listed : Field → Option (List json.Json) → Member
 optional_listed f o = record { field = f; value = option_map (λ js. json.array (items_of js)) o }
 
--- what a list of records, or of texts, has
-abbrev pub objects : List (List Member) → List json.Json
-objects = map object_of
+-- what a list of records has, by the members of each
+abbrev pub objects : {X : Type 0} → (X → List Member) → List X → List json.Json
+objects members xs = map (λ x. object_of (members x)) xs
 
+-- and what one of texts has
 abbrev pub strings : List (List ℕ) → List json.Json
 strings = map json.string
 

@@ -258,7 +258,7 @@ impl RecordWriter {
     }
 
     /// A number of four decimals.
-    #[tactic(auto, unfolding(crate::specs::Members::and_member))]
+    #[tactic(auto, unfolding(crate::specs::Members::and_member), using(crate::proofs::DecimalNumbers::e4_written))]
     pub fn e4(&mut self, field: Field, number: E4) -> Result<(), AllocError>
         ensures member { OnOk result (self.new ≡ and_member self.old (member.e4 field number)) }
         ensures fits { unsigned_abs number < e4_limit }
@@ -317,7 +317,7 @@ impl RecordWriter {
     }
 
     fn objects<T: Record>(&mut self, records: &[T]) -> Result<(), AllocError>
-        ensures values { OnOk result (self.new ≡ and_values self.old (member.objects (map T.members records.now))) }
+        ensures values { OnOk result (self.new ≡ and_values self.old (member.objects T.members records.now)) }
         ensures fits { OnOk result (All T.fits records.now) }
     {
         for item in records {
@@ -329,7 +329,7 @@ impl RecordWriter {
     /// A list of records.
     #[tactic(auto, using(crate::proofs::Said::list_said))]
     pub fn list<T: Record>(&mut self, field: Field, records: &[T]) -> Result<(), AllocError>
-        ensures member { OnOk result (self.new ≡ and_member self.old (member.listed field (member.objects (map T.members records.now)))) }
+        ensures member { OnOk result (self.new ≡ and_member self.old (member.listed field (member.objects T.members records.now))) }
         ensures fits { OnOk result (All T.fits records.now) }
     {
         self.name(field)?;
@@ -338,12 +338,18 @@ impl RecordWriter {
         self.end_list()
     }
 
+    fn value(&mut self, text: &str) -> Result<(), AllocError>
+        ensures { OnOk result (self.new ≡ self.old ++ string text.now ∷ []) }
+    {
+        self.out.string(text)
+    }
+
     fn strings<const MAX: usize>(&mut self, texts: &[CiText<MAX>]) -> Result<(), AllocError>
         ensures values { OnOk result (self.new ≡ and_values self.old (member.strings texts.now)) }
         ensures fits { OnOk result (All (FitsCi MAX) texts.now) }
     {
         for text in texts {
-            self.out.string(text.as_str())?;
+            self.value(text.as_str())?;
         }
         Ok(())
     }
