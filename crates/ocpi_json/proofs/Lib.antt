@@ -1,4 +1,5 @@
 pub mod Among
+pub mod AuthorizationLemmas
 pub mod CommandLemmas
 pub mod Copying
 pub mod Cutting
@@ -21,6 +22,7 @@ pub mod Repeats
 pub mod ReplyLemmas
 pub mod Said
 pub mod Seen
+pub mod SessionLemmas
 pub mod SiteForm
 pub mod StatusLemmas
 pub mod Steps

@@ -1,6 +1,7 @@
 //! OCPI 2.2.1 as lines of JSON: packets and site lines, read with the first fault told, and packets written.
 #![tactic(auto)]
 
+mod authorizations;
 mod commands;
 mod fault;
 mod fields;
@@ -14,6 +15,7 @@ mod quote;
 mod reading;
 mod record_writer;
 mod replies;
+mod sessions;
 mod sites;
 mod status;
 mod tokens;
