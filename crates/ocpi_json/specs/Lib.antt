@@ -1,3 +1,4 @@
+pub mod CdrLocationForms
 pub mod Fault
 pub mod Fields
 -- pub mod Fits
