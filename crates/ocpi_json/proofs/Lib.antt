@@ -1,5 +1,6 @@
 -- pub mod Again
 pub mod Among
+pub mod CdrLocationLemmas
 pub mod Copying
 pub mod Cutting
 pub mod Depths
