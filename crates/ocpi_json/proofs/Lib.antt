@@ -1,6 +1,7 @@
 -- pub mod Again
 pub mod Among
 pub mod CdrLocationLemmas
+pub mod ChargingPeriodLemmas
 pub mod Copying
 pub mod Cutting
 pub mod Depths

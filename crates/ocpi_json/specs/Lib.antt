@@ -1,4 +1,5 @@
 pub mod CdrLocationForms
+pub mod ChargingPeriodForms
 pub mod Fault
 pub mod Fields
 -- pub mod Fits

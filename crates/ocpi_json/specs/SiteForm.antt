@@ -1,6 +1,6 @@
 -- What a tree has to do with a site line: each record, member by member
 -- (OCPI 2.2.1, Locations: Location, EVSE and Connector objects).
-use Rattle.std.specs.Prelude.{◌≡◌, List, [], ◌∷◌, length}
+use Rattle.std.specs.Prelude.{◌≡◌, ◌≤◌, List, [], ◌∷◌, length}
 use Rattle.serde_json.specs.Data.{Data, array, Items, no_items, item}
 use Rattle.ocpi_types.specs.Connectors.{AreConnectors}
 use Rattle.ocpi_types.specs.Limits.{IsCount, IsPrice}
@@ -24,6 +24,10 @@ AreItems P (item d ds) (x ∷ xs) = P d x × AreItems P ds xs
 -- a list of such elements
 abbrev pub IsList : {X : Type 0} → (Data → X → Type 0) → Data → List X → Type 0
 IsList P v xs = (items : Items) × (v ≡ array items) × AreItems P items xs
+
+-- one or more
+abbrev pub IsNonEmpty : {X : Type 0} → (Data → X → Type 0) → Data → List X → Type 0
+IsNonEmpty P v xs = IsList P v xs × (1 ≤ length xs)
 
 pub record IsConnector (d : Data) (c : Connector) : Type 0 where
   pub id : Required (IsCi 36) field.Id d c.id

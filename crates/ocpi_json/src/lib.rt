@@ -2,6 +2,7 @@
 #![tactic(auto)]
 
 mod cdr_locations;
+mod charging_periods;
 mod fault;
 mod fields;
 mod laws;
