@@ -24,6 +24,7 @@ pub mod ReadSites
 pub mod Repeats
 pub mod Seen
 -- pub mod Shape
+pub mod SessionLemmas
 pub mod SiteForm
 pub mod Steps
 pub mod Tags

@@ -14,6 +14,7 @@ pub mod Pieces
 pub mod Plain
 pub mod Quote
 pub mod SeenIds
+pub mod SessionForms
 pub mod SiteForm
 pub mod SiteLines
 pub mod Sites

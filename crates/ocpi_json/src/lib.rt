@@ -11,6 +11,7 @@ mod lists;
 mod names;
 mod quote;
 mod reading;
+mod sessions;
 // mod records;
 mod sites;
 // mod trees;
