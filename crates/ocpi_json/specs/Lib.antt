@@ -1,3 +1,4 @@
+pub mod CdrForms
 pub mod CdrLocationForms
 pub mod ChargingPeriodForms
 pub mod Fault

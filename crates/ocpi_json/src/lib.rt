@@ -2,6 +2,7 @@
 #![tactic(auto)]
 
 mod cdr_locations;
+mod cdrs;
 mod charging_periods;
 mod fault;
 mod fields;
