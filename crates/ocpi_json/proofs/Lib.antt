@@ -1,5 +1,6 @@
 -- pub mod Again
 pub mod Among
+pub mod CdrLemmas
 pub mod CdrLocationLemmas
 pub mod ChargingPeriodLemmas
 pub mod Copying
