@@ -15,9 +15,8 @@ use Rattle.ocpi_json.specs.CdrLocationForms.{cdr_location_at, IsCdrLocation}
 use Rattle.ocpi_json.specs.ChargingPeriodForms.{charging_periods_in, IsChargingPeriod}
 use Rattle.ocpi_json.specs.Fault.{◌>>=◌}
 use Rattle.ocpi_json.specs.Fields.{ci_in, country_in, free_in, moment_in, optional, party_id_in, quantity_in, record_in, word_in}
-use Rattle.ocpi_json.specs.Form.{Required, Optional, IsCi, IsFree, IsMoment, IsQuantity, IsRecord, IsWord, HasParty}
+use Rattle.ocpi_json.specs.Form.{Required, Optional, IsCi, IsFree, IsMoment, IsQuantity, IsRecord, IsWord, HasParty, IsNonEmpty}
 use Rattle.ocpi_json.specs.SessionForms.{cdr_token_at, price_at, IsCdrToken, IsPrice}
-use Rattle.ocpi_json.specs.SiteForm.{IsNonEmpty}
 use Rattle.ocpi_json.proofs.CdrLocationLemmas.{cdr_location_exact}
 use Rattle.ocpi_json.proofs.ChargingPeriodLemmas.{charging_periods_exact}
 use Rattle.ocpi_json.proofs.Exact.{Exact, done, ok_is, bind_ok, both_steps, ci_exact, country_exact, free_exact, inner_exact, moment_exact, optional_ci_exact, party_id_exact, quantity_exact, word_exact}

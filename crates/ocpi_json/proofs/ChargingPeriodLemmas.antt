@@ -3,8 +3,7 @@ use Rattle.std.proofs.Common.{refl, subst}
 use Rattle.ocpi_types.specs.declared.field.Field.TheVariants as field
 use Rattle.ocpi_json.specs.ChargingPeriodForms.{cdr_dimension_at, dimensions_in, charging_period_at, charging_periods_in, IsCdrDimension, IsChargingPeriod}
 use Rattle.ocpi_json.specs.Fields.{e4_in, free_in, moment_in}
-use Rattle.ocpi_json.specs.Form.{Required, IsRecord}
-use Rattle.ocpi_json.specs.SiteForm.{IsNonEmpty}
+use Rattle.ocpi_json.specs.Form.{Required, IsRecord, IsNonEmpty}
 use Rattle.ocpi_json.proofs.Elements.{non_empty_exact}
 use Rattle.ocpi_json.proofs.Exact.{Exact, ok_is, bind_ok, e4_exact, free_exact, moment_exact, as_record_exact}
 

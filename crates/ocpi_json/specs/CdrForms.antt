@@ -15,9 +15,8 @@ use Rattle.ocpi_json.specs.CdrLocationForms.{cdr_location_at, IsCdrLocation}
 use Rattle.ocpi_json.specs.ChargingPeriodForms.{charging_periods_in, IsChargingPeriod}
 use Rattle.ocpi_json.specs.Fault.{Read, ◌>>=◌}
 use Rattle.ocpi_json.specs.Fields.{ci_in, country_in, free_in, moment_in, optional, party_id_in, quantity_in, record_in, word_in}
-use Rattle.ocpi_json.specs.Form.{Required, Optional, IsCi, IsFree, IsMoment, IsQuantity, IsRecord, IsWord, HasParty}
+use Rattle.ocpi_json.specs.Form.{Required, Optional, IsCi, IsFree, IsMoment, IsQuantity, IsRecord, IsWord, HasParty, IsNonEmpty}
 use Rattle.ocpi_json.specs.SessionForms.{cdr_token_at, price_at, IsCdrToken, IsPrice}
-use Rattle.ocpi_json.specs.SiteForm.{IsNonEmpty}
 
 -- ---- reading, member by member, in the order in which faults are told
 

@@ -7,8 +7,7 @@ use Rattle.ocpi_types.specs.declared.cdrs.ChargingPeriod.{ChargingPeriod}
 use Rattle.ocpi_types.specs.declared.field.Field.TheVariants as field
 use Rattle.ocpi_json.specs.Fault.{Read, ◌>>=◌}
 use Rattle.ocpi_json.specs.Fields.{as_record, e4_in, free_in, moment_in, non_empty_in, each_after}
-use Rattle.ocpi_json.specs.Form.{Required, IsE4, IsFree, IsMoment, IsRecord}
-use Rattle.ocpi_json.specs.SiteForm.{IsNonEmpty}
+use Rattle.ocpi_json.specs.Form.{Required, IsE4, IsFree, IsMoment, IsRecord, IsNonEmpty}
 
 -- ---- reading, member by member, in the order in which faults are told
 

@@ -1,6 +1,7 @@
 pub mod Apart
 pub mod Connectors
 pub mod Fields
+pub mod Kinds
 pub mod Limits
 pub mod Locations
 pub mod Parties

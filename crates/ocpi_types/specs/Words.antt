@@ -16,6 +16,8 @@ use Rattle.ocpi_types.specs.declared.words.SessionStatus.{SessionStatus}
 use Rattle.ocpi_types.specs.declared.words.SessionStatus.TheVariants as status
 use Rattle.ocpi_types.specs.declared.words.AuthMethod.{AuthMethod}
 use Rattle.ocpi_types.specs.declared.words.AuthMethod.TheVariants as method
+use Rattle.ocpi_types.specs.declared.words.PacketKind.{PacketKind}
+use Rattle.ocpi_types.specs.declared.words.PacketKind.TheVariants as kind
 
 abbrev pub token_type_word : TokenType → List ℕ
 token_type_word type.AdHocUser = codes "AD_HOC_USER"
@@ -119,3 +121,35 @@ method_of s =
     if bytes_eq s (codes "AUTH_REQUEST") then Some method.AuthRequest
     else if bytes_eq s (codes "COMMAND") then Some method.Command
     else if bytes_eq s (codes "WHITELIST") then Some method.Whitelist else None
+
+-- what a packet carries
+abbrev pub kind_word : PacketKind → List ℕ
+kind_word kind.StartSession = codes "start_session"
+kind_word kind.StopSession = codes "stop_session"
+kind_word kind.ReserveNow = codes "reserve_now"
+kind_word kind.CancelReservation = codes "cancel_reservation"
+kind_word kind.UnlockConnector = codes "unlock_connector"
+kind_word kind.CommandResponse = codes "command_response"
+kind_word kind.CommandResult = codes "command_result"
+kind_word kind.PutToken = codes "put_token"
+kind_word kind.Authorize = codes "authorize"
+kind_word kind.Authorization = codes "authorization"
+kind_word kind.PutSession = codes "put_session"
+kind_word kind.PostCdr = codes "post_cdr"
+kind_word kind.Ack = codes "ack"
+
+abbrev pub kind_of_word : List ℕ → Option PacketKind
+kind_of_word s =
+    if bytes_eq s (codes "start_session") then Some kind.StartSession
+    else if bytes_eq s (codes "stop_session") then Some kind.StopSession
+    else if bytes_eq s (codes "reserve_now") then Some kind.ReserveNow
+    else if bytes_eq s (codes "cancel_reservation") then Some kind.CancelReservation
+    else if bytes_eq s (codes "unlock_connector") then Some kind.UnlockConnector
+    else if bytes_eq s (codes "command_response") then Some kind.CommandResponse
+    else if bytes_eq s (codes "command_result") then Some kind.CommandResult
+    else if bytes_eq s (codes "put_token") then Some kind.PutToken
+    else if bytes_eq s (codes "authorize") then Some kind.Authorize
+    else if bytes_eq s (codes "authorization") then Some kind.Authorization
+    else if bytes_eq s (codes "put_session") then Some kind.PutSession
+    else if bytes_eq s (codes "post_cdr") then Some kind.PostCdr
+    else if bytes_eq s (codes "ack") then Some kind.Ack else None

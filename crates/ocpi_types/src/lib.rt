@@ -37,6 +37,6 @@ pub use sessions::{Price, Session};
 pub use site::{Connector, Connectors, Evse, Evses, Location, Locations, Site, SiteLine};
 pub use token::{CdrToken, Token};
 pub use words::{
-    AllowedType, AuthMethod, CommandResponseType, CommandResultType, SessionStatus, TokenType,
-    WhitelistType, Word,
+    AllowedType, AuthMethod, CommandResponseType, CommandResultType, PacketKind, SessionStatus,
+    TokenType, WhitelistType, Word,
 };

@@ -1,6 +1,7 @@
 //! Packets and what they carry.
 
 ghost use Rattle.std.specs.Prelude.{◌≡◌, IfOk};
+ghost use Rattle.ocpi_types.specs.Kinds.{kind_of};
 
 use crate::authorizations::{Authorization, Authorize};
 use crate::cdrs::Cdr;
@@ -8,6 +9,7 @@ use crate::commands::{CancelReservation, ReserveNow, StartSession, StopSession, 
 use crate::replies::{Ack, CommandResponse, CommandResult};
 use crate::sessions::Session;
 use crate::token::Token;
+use crate::words::PacketKind;
 use ocpi_text::{Party, Whole};
 use std::alloc::AllocError;
 
@@ -30,6 +32,27 @@ pub enum Body {
 }
 
 impl Body {
+    /// Its kind.
+    pub fn kind(&self) -> PacketKind
+        ensures { result ≡ kind_of self.now }
+    {
+        match self {
+            Body::StartSession(_) => PacketKind::StartSession,
+            Body::StopSession(_) => PacketKind::StopSession,
+            Body::ReserveNow(_) => PacketKind::ReserveNow,
+            Body::CancelReservation(_) => PacketKind::CancelReservation,
+            Body::UnlockConnector(_) => PacketKind::UnlockConnector,
+            Body::CommandResponse(_) => PacketKind::CommandResponse,
+            Body::CommandResult(_) => PacketKind::CommandResult,
+            Body::PutToken(_) => PacketKind::PutToken,
+            Body::Authorize(_) => PacketKind::Authorize,
+            Body::Authorization(_) => PacketKind::Authorization,
+            Body::PutSession(_) => PacketKind::PutSession,
+            Body::PostCdr(_) => PacketKind::PostCdr,
+            Body::Ack(_) => PacketKind::Ack,
+        }
+    }
+
     /// An equal body.
     pub fn copy(&self) -> Result<Body, AllocError>
         ensures { IfOk result (λ t. t ≡ self.now) }

@@ -1,7 +1,7 @@
 //! Closed lists of words.
 
 ghost use Rattle.std.specs.Prelude.{◌≡◌, ℕ, List, Option};
-ghost use Rattle.ocpi_types.specs.Words.{token_type_word, token_type_of, whitelist_word, whitelist_of, response_word, response_of, result_word, result_of, allowed_word, allowed_of, status_word, status_of, method_word, method_of};
+ghost use Rattle.ocpi_types.specs.Words.{token_type_word, token_type_of, whitelist_word, whitelist_of, response_word, response_of, result_word, result_of, allowed_word, allowed_of, status_word, status_of, method_word, method_of, kind_word, kind_of_word};
 
 /// An entry of a closed list of words.
 pub trait Word: Drop {
@@ -272,6 +272,67 @@ impl Word for AuthMethod {
             AuthMethod::AuthRequest => "AUTH_REQUEST",
             AuthMethod::Command => "COMMAND",
             AuthMethod::Whitelist => "WHITELIST",
+        }
+    }
+}
+
+/// What a packet carries: the word of its member `kind`.
+#[derive(Clone, Copy)]
+pub enum PacketKind {
+    StartSession,
+    StopSession,
+    ReserveNow,
+    CancelReservation,
+    UnlockConnector,
+    CommandResponse,
+    CommandResult,
+    PutToken,
+    Authorize,
+    Authorization,
+    PutSession,
+    PostCdr,
+    Ack,
+}
+
+impl Word for PacketKind {
+    ghost entry = { kind_of_word };
+
+    ghost spelling = { kind_word };
+
+    fn of_word(word: &str) -> Option<PacketKind> {
+        match word {
+            "start_session" => Some(PacketKind::StartSession),
+            "stop_session" => Some(PacketKind::StopSession),
+            "reserve_now" => Some(PacketKind::ReserveNow),
+            "cancel_reservation" => Some(PacketKind::CancelReservation),
+            "unlock_connector" => Some(PacketKind::UnlockConnector),
+            "command_response" => Some(PacketKind::CommandResponse),
+            "command_result" => Some(PacketKind::CommandResult),
+            "put_token" => Some(PacketKind::PutToken),
+            "authorize" => Some(PacketKind::Authorize),
+            "authorization" => Some(PacketKind::Authorization),
+            "put_session" => Some(PacketKind::PutSession),
+            "post_cdr" => Some(PacketKind::PostCdr),
+            "ack" => Some(PacketKind::Ack),
+            _ => None,
+        }
+    }
+
+    fn word(&self) -> &'static str {
+        match *self {
+            PacketKind::StartSession => "start_session",
+            PacketKind::StopSession => "stop_session",
+            PacketKind::ReserveNow => "reserve_now",
+            PacketKind::CancelReservation => "cancel_reservation",
+            PacketKind::UnlockConnector => "unlock_connector",
+            PacketKind::CommandResponse => "command_response",
+            PacketKind::CommandResult => "command_result",
+            PacketKind::PutToken => "put_token",
+            PacketKind::Authorize => "authorize",
+            PacketKind::Authorization => "authorization",
+            PacketKind::PutSession => "put_session",
+            PacketKind::PostCdr => "post_cdr",
+            PacketKind::Ack => "ack",
         }
     }
 }

@@ -1,0 +1,10 @@
+//! Probe.
+
+ghost use Rattle.std.specs.Prelude.{◌≡◌};
+
+#[tactic(auto, using(crate::proofs::TokenLemmas::token_form))]
+pub fn probe(x: u8) -> u8
+    ensures { result ≡ x }
+{
+    x
+}

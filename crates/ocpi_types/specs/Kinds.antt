@@ -1,0 +1,20 @@
+-- The kind of what a packet carries.
+use Rattle.ocpi_types.specs.declared.packet.Body.{Body}
+use Rattle.ocpi_types.specs.declared.packet.Body.TheVariants as body
+use Rattle.ocpi_types.specs.declared.words.PacketKind.{PacketKind}
+use Rattle.ocpi_types.specs.declared.words.PacketKind.TheVariants as kind
+
+abbrev pub kind_of : Body → PacketKind
+kind_of (body.StartSession b) = kind.StartSession
+kind_of (body.StopSession b) = kind.StopSession
+kind_of (body.ReserveNow b) = kind.ReserveNow
+kind_of (body.CancelReservation b) = kind.CancelReservation
+kind_of (body.UnlockConnector b) = kind.UnlockConnector
+kind_of (body.CommandResponse b) = kind.CommandResponse
+kind_of (body.CommandResult b) = kind.CommandResult
+kind_of (body.PutToken b) = kind.PutToken
+kind_of (body.Authorize b) = kind.Authorize
+kind_of (body.Authorization b) = kind.Authorization
+kind_of (body.PutSession b) = kind.PutSession
+kind_of (body.PostCdr b) = kind.PostCdr
+kind_of (body.Ack b) = kind.Ack
