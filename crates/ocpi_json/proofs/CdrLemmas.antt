@@ -16,11 +16,11 @@ use Rattle.ocpi_json.specs.ChargingPeriodForms.{charging_periods_in, IsChargingP
 use Rattle.ocpi_json.specs.Fault.{◌>>=◌}
 use Rattle.ocpi_json.specs.Fields.{ci_in, country_in, free_in, moment_in, optional, party_id_in, quantity_in, record_in, word_in}
 use Rattle.ocpi_json.specs.Form.{Required, Optional, IsCi, IsFree, IsMoment, IsQuantity, IsRecord, IsWord, HasParty, IsNonEmpty}
-use Rattle.ocpi_json.specs.SessionForms.{cdr_token_at, price_at, IsCdrToken, IsPrice}
+use Rattle.ocpi_json.specs.SessionForms.{cdr_token_at, price_in, IsCdrToken, IsPrice}
 use Rattle.ocpi_json.proofs.CdrLocationLemmas.{cdr_location_exact}
 use Rattle.ocpi_json.proofs.ChargingPeriodLemmas.{charging_periods_exact}
 use Rattle.ocpi_json.proofs.Exact.{Exact, done, ok_is, bind_ok, both_steps, ci_exact, country_exact, free_exact, inner_exact, moment_exact, optional_ci_exact, party_id_exact, quantity_exact, word_exact}
-use Rattle.ocpi_json.proofs.SessionLemmas.{cdr_token_exact, price_exact}
+use Rattle.ocpi_json.proofs.SessionLemmas.{cdr_token_exact, price_in_exact}
 
 -- ---- credits
 
@@ -109,9 +109,6 @@ record HasTotals (d : Data) (t : CdrTotals) : Type 0 where
   last_updated : Required IsMoment field.LastUpdated d t.last_updated
   no_credit : get (name_of field.Credit) d ≢ Some (boolean true)
 
-cost_in : Exact (λ d. record_in field.TotalCost d >>= price_at) (Required (IsRecord IsPrice) field.TotalCost)
-cost_in = inner_exact field.TotalCost price_at IsPrice price_exact
-
 not_credit : (t x : CdrTotals) (b : Bool) → cond b (Err (WrongForm field.Credit)) (done t) ≡ Ok x → (b ≡ false) × (t ≡ x)
 not_credit t x true e = absurd cc
 not_credit t x false e = (refl, ok_is t x e)
@@ -120,30 +117,25 @@ totals_exact : Exact cdr_totals_at HasTotals
 unfolding cdr_totals_at is_credit
 totals_exact = record {
   sound = λ d x e.
-      let a = bind_ok (record_in field.TotalCost d) _ x e in
-      let b = bind_ok (price_at a.0) _ x a.2 in
+      let b = bind_ok (price_in field.TotalCost d) _ x e in
       let g = bind_ok (quantity_in field.TotalEnergy d) _ x b.2 in
       let h = bind_ok (quantity_in field.TotalTime d) _ x g.2 in
       let i = bind_ok (moment_in field.LastUpdated d) _ x h.2 in
       let j = not_credit _ x (is_true (get (name_of field.Credit) d)) i.2 in
-      let cost = both_steps (record_in field.TotalCost d) price_at a.0 b.0 a.1 b.1 in
       subst (HasTotals d) j.1 (record {
-        total_cost = cost_in.sound d b.0 cost;
+        total_cost = (price_in_exact field.TotalCost).sound d b.0 b.1;
         total_energy = (quantity_exact field.TotalEnergy).sound d g.0 g.1;
         total_time = (quantity_exact field.TotalTime).sound d h.0 h.1;
         last_updated = (moment_exact field.LastUpdated).sound d i.0 i.1;
         no_credit = is_true_sound (get (name_of field.Credit) d) j.0;
       });
-  complete = λ d x p.
-      let inner = bind_ok (record_in field.TotalCost d) price_at x.total_cost (cost_in.complete d x.total_cost p.total_cost) in
-      rw (
-        inner.1,
-        inner.2,
-        (quantity_exact field.TotalEnergy).complete d x.total_energy p.total_energy,
-        (quantity_exact field.TotalTime).complete d x.total_time p.total_time,
-        (moment_exact field.LastUpdated).complete d x.last_updated p.last_updated,
-        is_true_complete (get (name_of field.Credit) d) p.no_credit,
-      ) refl;
+  complete = λ d x p. rw (
+    (price_in_exact field.TotalCost).complete d x.total_cost p.total_cost,
+    (quantity_exact field.TotalEnergy).complete d x.total_energy p.total_energy,
+    (quantity_exact field.TotalTime).complete d x.total_time p.total_time,
+    (moment_exact field.LastUpdated).complete d x.last_updated p.last_updated,
+    is_true_complete (get (name_of field.Credit) d) p.no_credit,
+  ) refl;
 }
 
 -- ---- what stands behind the location

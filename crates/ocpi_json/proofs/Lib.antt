@@ -2,6 +2,7 @@ pub mod Among
 pub mod CdrLemmas
 pub mod CdrLocationLemmas
 pub mod ChargingPeriodLemmas
+pub mod CommandLemmas
 pub mod Copying
 pub mod Cutting
 pub mod Depths
@@ -19,10 +20,12 @@ pub mod PlainQuoting
 pub mod Quoting
 pub mod ReadSites
 pub mod Repeats
+pub mod ReplyLemmas
 pub mod Said
 pub mod Seen
 pub mod SessionLemmas
 pub mod SiteForm
+pub mod StatusLemmas
 pub mod Steps
 pub mod Tagged
 pub mod Tags

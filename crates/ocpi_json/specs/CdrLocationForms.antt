@@ -1,6 +1,6 @@
--- The location of a charge detail record in JSON: how it is read, and which form its tree has
+-- The location of a charge detail record in JSON: how it is read, which form its tree has, and what is written
 -- (OCPI 2.2.1, CDRs: CdrLocation class; Locations: GeoLocation class).
-use Rattle.std.specs.Prelude.{Ok}
+use Rattle.std.specs.Prelude.{List, [], ◌∷◌, Ok}
 use Rattle.serde_json.specs.Data.{Data}
 use Rattle.ocpi_types.specs.declared.cdrs.CdrLocation.{CdrLocation}
 use Rattle.ocpi_types.specs.declared.cdrs.GeoLocation.{GeoLocation}
@@ -11,7 +11,9 @@ use Rattle.ocpi_json.specs.declared.cdr_locations.EvsePart.{EvsePart}
 use Rattle.ocpi_json.specs.declared.cdr_locations.PlacePart.{PlacePart}
 use Rattle.ocpi_json.specs.Fault.{Read, ◌>>=◌}
 use Rattle.ocpi_json.specs.Fields.{ci_in, free_in, record_in}
+use Rattle.ocpi_json.specs.Fits.{FitsCi, FitsFree}
 use Rattle.ocpi_json.specs.Form.{Required, IsCi, IsFree, IsRecord}
+use Rattle.ocpi_json.specs.Members.{Member, text, inner}
 
 -- ---- reading, member by member, in the order in which faults are told
 
@@ -88,3 +90,45 @@ pub record IsCdrLocation (d : Data) (l : CdrLocation) : Type 0 where
   pub connector_standard : Required (IsFree 64) field.ConnectorStandard d l.connector_standard
   pub connector_format : Required (IsFree 64) field.ConnectorFormat d l.connector_format
   pub connector_power_type : Required (IsFree 64) field.ConnectorPowerType d l.connector_power_type
+
+-- ---- what is written, in the byte order of the names
+
+unfoldable pub geo_location_members : GeoLocation → List Member
+geo_location_members g =
+    text field.Latitude g.latitude
+    ∷ text field.Longitude g.longitude
+    ∷ []
+
+unfoldable pub cdr_location_members : CdrLocation → List Member
+cdr_location_members l =
+    text field.Address l.address
+    ∷ text field.City l.city
+    ∷ text field.ConnectorFormat l.connector_format
+    ∷ text field.ConnectorId l.connector_id
+    ∷ text field.ConnectorPowerType l.connector_power_type
+    ∷ text field.ConnectorStandard l.connector_standard
+    ∷ inner field.Coordinates (geo_location_members l.coordinates)
+    ∷ text field.Country l.country
+    ∷ text field.EvseId l.evse_id
+    ∷ text field.EvseUid l.evse_uid
+    ∷ text field.Id l.id
+    ∷ []
+
+-- what the types of their fields keep
+
+pub record GeoLocationFits (g : GeoLocation) : Type 0 where
+  pub latitude : FitsFree 10 g.latitude
+  pub longitude : FitsFree 11 g.longitude
+
+pub record CdrLocationFits (l : CdrLocation) : Type 0 where
+  pub id : FitsCi 36 l.id
+  pub address : FitsFree 45 l.address
+  pub city : FitsFree 45 l.city
+  pub country : FitsFree 3 l.country
+  pub coordinates : GeoLocationFits l.coordinates
+  pub evse_uid : FitsCi 36 l.evse_uid
+  pub evse_id : FitsCi 48 l.evse_id
+  pub connector_id : FitsCi 36 l.connector_id
+  pub connector_standard : FitsFree 64 l.connector_standard
+  pub connector_format : FitsFree 64 l.connector_format
+  pub connector_power_type : FitsFree 64 l.connector_power_type

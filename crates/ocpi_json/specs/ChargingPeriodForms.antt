@@ -1,13 +1,17 @@
--- The charging periods of a charge detail record in JSON: how they are read, and which form their tree has
+-- The charging periods of a charge detail record in JSON: how they are read, which form their tree has, and what is written
 -- (OCPI 2.2.1, CDRs: ChargingPeriod and CdrDimension classes).
-use Rattle.std.specs.Prelude.{List, [], Ok}
+use Rattle.std.specs.Prelude.{◌≤◌, ◌<◌, List, [], ◌∷◌, All, length, unsigned_abs, Ok}
 use Rattle.serde_json.specs.Data.{Data}
+use Rattle.ocpi_text.specs.Decimal.{e4_limit}
+use Rattle.ocpi_text.specs.Moment.{last_moment}
 use Rattle.ocpi_types.specs.declared.cdrs.CdrDimension.{CdrDimension}
 use Rattle.ocpi_types.specs.declared.cdrs.ChargingPeriod.{ChargingPeriod}
 use Rattle.ocpi_types.specs.declared.field.Field.TheVariants as field
 use Rattle.ocpi_json.specs.Fault.{Read, ◌>>=◌}
 use Rattle.ocpi_json.specs.Fields.{as_record, e4_in, free_in, moment_in, non_empty_in, each_after}
+use Rattle.ocpi_json.specs.Fits.{FitsFree}
 use Rattle.ocpi_json.specs.Form.{Required, IsE4, IsFree, IsMoment, IsRecord, IsNonEmpty}
+use Rattle.ocpi_json.specs.Members.{Member, text, moment, e4, listed, objects}
 
 -- ---- reading, member by member, in the order in which faults are told
 
@@ -45,3 +49,28 @@ pub record IsCdrDimension (d : Data) (x : CdrDimension) : Type 0 where
 pub record IsChargingPeriod (d : Data) (p : ChargingPeriod) : Type 0 where
   pub start_date_time : Required IsMoment field.StartDateTime d p.start_date_time
   pub dimensions : Required (IsNonEmpty (IsRecord IsCdrDimension)) field.Dimensions d p.dimensions
+
+-- ---- what is written, in the byte order of the names
+
+unfoldable pub cdr_dimension_members : CdrDimension → List Member
+cdr_dimension_members x =
+    text field.TypeOf x.dimension_type
+    ∷ e4 field.Volume x.volume
+    ∷ []
+
+unfoldable pub charging_period_members : ChargingPeriod → List Member
+charging_period_members p =
+    listed field.Dimensions (objects cdr_dimension_members p.dimensions)
+    ∷ moment field.StartDateTime p.start_date_time
+    ∷ []
+
+-- what the types of their fields keep
+
+pub record CdrDimensionFits (x : CdrDimension) : Type 0 where
+  pub dimension_type : FitsFree 64 x.dimension_type
+  pub volume : unsigned_abs x.volume < e4_limit
+
+pub record ChargingPeriodFits (p : ChargingPeriod) : Type 0 where
+  pub start_date_time : p.start_date_time ≤ last_moment
+  pub dimensions : All CdrDimensionFits p.dimensions
+  pub some_dimension : 1 ≤ length p.dimensions

@@ -1,6 +1,7 @@
 pub mod CdrForms
 pub mod CdrLocationForms
 pub mod ChargingPeriodForms
+pub mod CommandForms
 pub mod Fault
 pub mod Fields
 pub mod Fits
@@ -13,10 +14,12 @@ pub mod Numbers
 pub mod Pieces
 pub mod Plain
 pub mod Quote
+pub mod ReplyForms
 pub mod SeenIds
 pub mod SessionForms
 pub mod SiteForm
 pub mod SiteLines
 pub mod Sites
+pub mod Statuses
 pub mod Tokens
 pub mod Unquote

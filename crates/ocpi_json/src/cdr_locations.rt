@@ -3,14 +3,15 @@
 ghost use Rattle.std.specs.Prelude.{◌≡◌};
 ghost use Rattle.serde_json.specs.View.{view};
 ghost use Rattle.ocpi_json.specs.Fault.{Gives};
-ghost use Rattle.ocpi_json.specs.CdrLocationForms.{geo_location_at, address_at, connector_texts_at, evse_part_at, place_part_at, cdr_location_at};
+ghost use Rattle.ocpi_json.specs.CdrLocationForms.{geo_location_at, address_at, connector_texts_at, evse_part_at, place_part_at, cdr_location_at, geo_location_members, cdr_location_members, GeoLocationFits, CdrLocationFits};
 
 use crate::fault::JsonFault;
 use crate::fields::{ci_in, free_in, record_in};
+use crate::record_writer::{Record, RecordWriter};
 use ocpi_text::{CiText, FreeText};
 use ocpi_types::{CdrLocation, Field, GeoLocation};
 use serde_json::Value;
-use std::alloc::Global;
+use std::alloc::{AllocError, Global};
 
 /// A place on the earth (OCPI 2.2.1, Locations: GeoLocation class). The first fault is told, in the order of the members
 /// here.
@@ -133,4 +134,41 @@ pub fn cdr_location_of(alloc: Global, object: &Value) -> Result<CdrLocation, Jso
         connector_format: place.evse.connector.format,
         connector_power_type: place.evse.connector.power_type,
     })
+}
+
+impl Record for GeoLocation {
+    ghost members = { geo_location_members };
+
+    ghost fits = { GeoLocationFits };
+
+    #[tactic(auto, unfolding(crate::specs::CdrLocationForms::geo_location_members))]
+    fn write(&self, out: &mut RecordWriter) -> Result<(), AllocError> {
+        out.begin()?;
+        out.free(Field::Latitude, &self.latitude)?;
+        out.free(Field::Longitude, &self.longitude)?;
+        out.end()
+    }
+}
+
+impl Record for CdrLocation {
+    ghost members = { cdr_location_members };
+
+    ghost fits = { CdrLocationFits };
+
+    #[tactic(auto, unfolding(crate::specs::CdrLocationForms::cdr_location_members))]
+    fn write(&self, out: &mut RecordWriter) -> Result<(), AllocError> {
+        out.begin()?;
+        out.free(Field::Address, &self.address)?;
+        out.free(Field::City, &self.city)?;
+        out.free(Field::ConnectorFormat, &self.connector_format)?;
+        out.ci(Field::ConnectorId, self.connector_id)?;
+        out.free(Field::ConnectorPowerType, &self.connector_power_type)?;
+        out.free(Field::ConnectorStandard, &self.connector_standard)?;
+        out.record(Field::Coordinates, &self.coordinates)?;
+        out.free(Field::Country, &self.country)?;
+        out.ci(Field::EvseId, self.evse_id)?;
+        out.ci(Field::EvseUid, self.evse_uid)?;
+        out.ci(Field::Id, self.id)?;
+        out.end()
+    }
 }

@@ -2,7 +2,7 @@
 
 ghost use Rattle.std.specs.Prelude.{◌≡◌};
 ghost use Rattle.serde_json.specs.View.{view};
-ghost use Rattle.ocpi_json.specs.CdrForms.{is_credit, cdr_head_at, cdr_totals_at, cdr_charges_at, cdr_at};
+ghost use Rattle.ocpi_json.specs.CdrForms.{is_credit, cdr_head_at, cdr_totals_at, cdr_charges_at, cdr_at, cdr_members, CdrFits};
 ghost use Rattle.ocpi_json.specs.Fault.{Gives};
 
 use crate::cdr_locations::cdr_location_of;
@@ -12,11 +12,12 @@ use crate::fields::{
     ci_in, country_in, moment_in, optional_ci_in, party_id_in, quantity_in, record_in, short_in,
     word_in,
 };
-use crate::sessions::{cdr_token_of, price_of};
+use crate::record_writer::{Record, RecordWriter};
+use crate::sessions::{cdr_token_of, price_in};
 use ocpi_text::{CiText, Moment, Party, Quantity, ShortText};
 use ocpi_types::{AuthMethod, Cdr, CdrToken, ChargingPeriod, Field, NonEmpty, Price};
 use serde_json::Value;
-use std::alloc::Global;
+use std::alloc::{AllocError, Global};
 
 /// A charge detail record before its location.
 #[derive(Clone, Copy)]
@@ -81,7 +82,7 @@ struct CdrTotals {
 fn cdr_totals_of(object: &Value) -> Result<CdrTotals, JsonFault>
     ensures { result ≡ cdr_totals_at (view object.now) }
 {
-    let total_cost = price_of(record_in(object, Field::TotalCost)?)?;
+    let total_cost = price_in(object, Field::TotalCost)?;
     let total_energy = quantity_in(object, Field::TotalEnergy)?;
     let total_time = quantity_in(object, Field::TotalTime)?;
     let last_updated = moment_in(object, Field::LastUpdated)?;
@@ -144,4 +145,32 @@ pub fn cdr_of(alloc: Global, object: &Value) -> Result<Cdr, JsonFault>
         total_time: charges.totals.total_time,
         last_updated: charges.totals.last_updated,
     })
+}
+
+impl Record for Cdr {
+    ghost members = { cdr_members };
+
+    ghost fits = { CdrFits };
+
+    #[tactic(auto, unfolding(crate::specs::CdrForms::cdr_members))]
+    fn write(&self, out: &mut RecordWriter) -> Result<(), AllocError> {
+        out.begin()?;
+        out.word(Field::AuthMethod, &self.auth_method)?;
+        out.optional_ci(Field::AuthorizationReference, self.authorization_reference)?;
+        out.record(Field::CdrLocation, &self.cdr_location)?;
+        out.record(Field::CdrToken, &self.cdr_token)?;
+        out.list(Field::ChargingPeriods, self.charging_periods.as_slice())?;
+        out.country(Field::CountryCode, &self.party)?;
+        out.short(Field::Currency, &self.currency)?;
+        out.moment(Field::EndDateTime, self.end_date_time)?;
+        out.ci(Field::Id, self.id)?;
+        out.moment(Field::LastUpdated, self.last_updated)?;
+        out.party_id(Field::PartyId, &self.party)?;
+        out.ci(Field::SessionId, self.session_id)?;
+        out.moment(Field::StartDateTime, self.start_date_time)?;
+        out.record(Field::TotalCost, &self.total_cost)?;
+        out.quantity(Field::TotalEnergy, self.total_energy)?;
+        out.quantity(Field::TotalTime, self.total_time)?;
+        out.end()
+    }
 }

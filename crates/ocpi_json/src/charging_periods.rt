@@ -2,15 +2,16 @@
 
 ghost use Rattle.std.specs.Prelude.{◌≡◌};
 ghost use Rattle.serde_json.specs.View.{view};
-ghost use Rattle.ocpi_json.specs.ChargingPeriodForms.{cdr_dimension_at, dimension_element, dimensions_in, charging_period_at, period_element, charging_periods_in};
+ghost use Rattle.ocpi_json.specs.ChargingPeriodForms.{cdr_dimension_at, dimension_element, dimensions_in, charging_period_at, period_element, charging_periods_in, cdr_dimension_members, charging_period_members, CdrDimensionFits, ChargingPeriodFits};
 ghost use Rattle.ocpi_json.specs.Fault.{Gives};
 
 use crate::fault::JsonFault;
 use crate::fields::{as_record, e4_in, moment_in, short_in};
 use crate::lists::{ElementReader, elements, non_empty_in};
+use crate::record_writer::{Record, RecordWriter};
 use ocpi_types::{CdrDimension, ChargingPeriod, Field, NonEmpty};
 use serde_json::Value;
-use std::alloc::Global;
+use std::alloc::{AllocError, Global};
 
 /// What was used in a charging period. The first fault is told, in the order of the members here.
 #[tactic(auto, unfolding(crate::specs::ChargingPeriodForms::cdr_dimension_at))]
@@ -98,5 +99,33 @@ pub fn charging_periods_of(
     match NonEmpty::new(periods) {
         Some(periods) => Ok(periods),
         None => unreachable!(),
+    }
+}
+
+impl Record for CdrDimension {
+    ghost members = { cdr_dimension_members };
+
+    ghost fits = { CdrDimensionFits };
+
+    #[tactic(auto, unfolding(crate::specs::ChargingPeriodForms::cdr_dimension_members))]
+    fn write(&self, out: &mut RecordWriter) -> Result<(), AllocError> {
+        out.begin()?;
+        out.short(Field::TypeOf, &self.dimension_type)?;
+        out.e4(Field::Volume, self.volume)?;
+        out.end()
+    }
+}
+
+impl Record for ChargingPeriod {
+    ghost members = { charging_period_members };
+
+    ghost fits = { ChargingPeriodFits };
+
+    #[tactic(auto, unfolding(crate::specs::ChargingPeriodForms::charging_period_members))]
+    fn write(&self, out: &mut RecordWriter) -> Result<(), AllocError> {
+        out.begin()?;
+        out.list(Field::Dimensions, self.dimensions.as_slice())?;
+        out.moment(Field::StartDateTime, self.start_date_time)?;
+        out.end()
     }
 }

@@ -4,6 +4,7 @@
 mod cdr_locations;
 mod cdrs;
 mod charging_periods;
+mod commands;
 mod fault;
 mod fields;
 mod laws;
@@ -14,8 +15,10 @@ mod probe;
 mod quote;
 mod reading;
 mod record_writer;
+mod replies;
 mod sessions;
 mod sites;
+mod status;
 mod tokens;
 mod unquote;
 
