@@ -5,6 +5,7 @@ pub mod ChargingPeriodLemmas
 pub mod CommandLemmas
 pub mod Copying
 pub mod Cutting
+pub mod DecimalNumbers
 pub mod Depths
 pub mod Digits
 pub mod Elements
