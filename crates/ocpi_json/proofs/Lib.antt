@@ -1,5 +1,8 @@
 pub mod Among
 pub mod AuthorizationLemmas
+pub mod CdrLemmas
+pub mod CdrLocationLemmas
+pub mod ChargingPeriodLemmas
 pub mod CommandLemmas
 pub mod Copying
 pub mod Cutting

@@ -1,4 +1,7 @@
 pub mod AuthorizationForms
+pub mod CdrForms
+pub mod CdrLocationForms
+pub mod ChargingPeriodForms
 pub mod CommandForms
 pub mod Fault
 pub mod Fields
