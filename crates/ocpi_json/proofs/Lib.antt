@@ -17,6 +17,7 @@ pub mod LineTrees
 pub mod Listing
 pub mod MemberForms
 pub mod NumberNames
+pub mod PacketLemmas
 pub mod PieceQuoting
 pub mod PlainQuoting
 pub mod Quoting
