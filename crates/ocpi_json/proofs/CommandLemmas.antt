@@ -1,18 +1,26 @@
--- A command is read just where the tree has its form.
-use Rattle.std.proofs.Common.{◌≡◌, refl, subst}
+-- A command is read just where the tree has its form, and one that is written is read again.
+use Rattle.std.proofs.Common.{◌≡◌, true, refl, subst}
 use Rattle.serde_json.specs.Data.{Data}
 use Rattle.ocpi_types.specs.declared.field.Field.TheVariants as field
 use Rattle.ocpi_types.specs.declared.commands.StartSession.{StartSession}
+use Rattle.ocpi_types.specs.declared.commands.StopSession.{StopSession}
 use Rattle.ocpi_types.specs.declared.commands.ReserveNow.{ReserveNow}
+use Rattle.ocpi_types.specs.declared.commands.CancelReservation.{CancelReservation}
+use Rattle.ocpi_types.specs.declared.commands.UnlockConnector.{UnlockConnector}
+use Rattle.ocpi_types.specs.Fields.{name_of}
 use Rattle.ocpi_json.specs.declared.commands.StartParts.{StartParts}
 use Rattle.ocpi_json.specs.declared.commands.ReserveParts.{ReserveParts}
 use Rattle.ocpi_json.specs.Fault.{◌>>=◌}
 use Rattle.ocpi_json.specs.Fields.{ci_in, free_in, moment_in, record_in, optional}
 use Rattle.ocpi_json.specs.Form.{Required, Optional, IsCi, IsMoment, IsRecord}
-use Rattle.ocpi_json.specs.CommandForms.{start_parts_at, start_session_at, IsStartSession, stop_session_at, IsStopSession, reserve_parts_at, reserve_now_at, IsReserveNow, cancel_reservation_at, IsCancelReservation, unlock_connector_at, IsUnlockConnector}
-use Rattle.ocpi_json.specs.Tokens.{token_at, IsToken}
+use Rattle.ocpi_json.specs.CommandForms.{start_parts_at, start_session_at, IsStartSession, start_session_members, StartSessionFits, stop_session_at, IsStopSession, stop_session_members, StopSessionFits, reserve_parts_at, reserve_now_at, IsReserveNow, reserve_now_members, ReserveNowFits, cancel_reservation_at, IsCancelReservation, cancel_reservation_members, CancelReservationFits, unlock_connector_at, IsUnlockConnector, unlock_connector_members, UnlockConnectorFits}
+use Rattle.ocpi_json.specs.Members.{object_of}
+use Rattle.ocpi_json.specs.Tokens.{token_at, token_members, IsToken}
 use Rattle.ocpi_json.proofs.Exact.{Exact, ok_is, bind_ok, both_steps, ci_exact, free_exact, moment_exact, optional_ci_exact, inner_exact}
-use Rattle.ocpi_json.proofs.TokenLemmas.{token_exact}
+use Rattle.ocpi_json.proofs.MemberForms.{tree, ci_form, free_form, moment_form, inner_form, optional_ci_form}
+use Rattle.ocpi_json.proofs.Tagged.{ascends}
+use Rattle.ocpi_json.proofs.TokenLemmas.{token_exact, token_form, token_well}
+use Rattle.ocpi_json.proofs.WellFormed.{◌and◌, IsWell, record_well, ci_well, free_well, moment_well, optional_ci_well}
 
 -- ---- what is read has the form, and the other way round
 
@@ -194,3 +202,130 @@ unlock_connector_exact = record {
     (ci_exact 36 field.ConnectorId).complete d u.connector_id p.connector_id,
   ) refl;
 }
+
+-- ---- what is written
+
+pub start_session_ascends : (s : StartSession) → ascends (start_session_members s) ≡ true
+unfolding start_session_members name_of
+start_session_ascends s = refl
+
+pub start_session_form : (s : StartSession) → StartSessionFits s → IsStartSession (tree (start_session_members s)) s
+unfolding start_session_members name_of
+start_session_form s fits =
+    let ms = start_session_members s in
+    let up = start_session_ascends s in
+    record {
+      response_url = free_form 255 field.ResponseUrl s.response_url ms (record { up = up; here = refl }) fits.response_url;
+      token = inner_form IsToken field.Token (token_members s.token) s.token ms (record { up = up; here = refl }) (token_form s.token fits.token);
+      location_id = ci_form 36 field.LocationId s.location_id ms (record { up = up; here = refl }) fits.location_id;
+      evse_uid = optional_ci_form 36 field.EvseUid s.evse_uid ms (record { up = up; here = refl }) fits.evse_uid;
+      connector_id = optional_ci_form 36 field.ConnectorId s.connector_id ms (record { up = up; here = refl }) fits.connector_id;
+      authorization_reference = optional_ci_form 36 field.AuthorizationReference s.authorization_reference ms (record { up = up; here = refl }) fits.authorization_reference;
+    }
+
+pub start_session_well : (s : StartSession) → StartSessionFits s → IsWell 2 (object_of (start_session_members s))
+unfolding start_session_members
+start_session_well s fits = record_well 1 (start_session_members s) (start_session_ascends s) (
+    optional_ci_well 1 36 s.authorization_reference fits.authorization_reference
+    and optional_ci_well 1 36 s.connector_id fits.connector_id
+    and optional_ci_well 1 36 s.evse_uid fits.evse_uid
+    and ci_well 1 36 s.location_id fits.location_id
+    and free_well 1 255 s.response_url fits.response_url
+    and token_well s.token fits.token
+    and tt)
+
+pub stop_session_ascends : (s : StopSession) → ascends (stop_session_members s) ≡ true
+unfolding stop_session_members name_of
+stop_session_ascends s = refl
+
+pub stop_session_form : (s : StopSession) → StopSessionFits s → IsStopSession (tree (stop_session_members s)) s
+unfolding stop_session_members name_of
+stop_session_form s fits =
+    let ms = stop_session_members s in
+    let up = stop_session_ascends s in
+    record {
+      response_url = free_form 255 field.ResponseUrl s.response_url ms (record { up = up; here = refl }) fits.response_url;
+      session_id = ci_form 36 field.SessionId s.session_id ms (record { up = up; here = refl }) fits.session_id;
+    }
+
+pub stop_session_well : (s : StopSession) → StopSessionFits s → IsWell 1 (object_of (stop_session_members s))
+unfolding stop_session_members
+stop_session_well s fits = record_well 0 (stop_session_members s) (stop_session_ascends s) (
+    free_well 0 255 s.response_url fits.response_url
+    and ci_well 0 36 s.session_id fits.session_id
+    and tt)
+
+pub reserve_now_ascends : (r : ReserveNow) → ascends (reserve_now_members r) ≡ true
+unfolding reserve_now_members name_of
+reserve_now_ascends r = refl
+
+pub reserve_now_form : (r : ReserveNow) → ReserveNowFits r → IsReserveNow (tree (reserve_now_members r)) r
+unfolding reserve_now_members name_of
+reserve_now_form r fits =
+    let ms = reserve_now_members r in
+    let up = reserve_now_ascends r in
+    record {
+      response_url = free_form 255 field.ResponseUrl r.response_url ms (record { up = up; here = refl }) fits.response_url;
+      token = inner_form IsToken field.Token (token_members r.token) r.token ms (record { up = up; here = refl }) (token_form r.token fits.token);
+      expiry_date = moment_form field.ExpiryDate r.expiry_date ms (record { up = up; here = refl }) fits.expiry_date;
+      reservation_id = ci_form 36 field.ReservationId r.reservation_id ms (record { up = up; here = refl }) fits.reservation_id;
+      location_id = ci_form 36 field.LocationId r.location_id ms (record { up = up; here = refl }) fits.location_id;
+      evse_uid = optional_ci_form 36 field.EvseUid r.evse_uid ms (record { up = up; here = refl }) fits.evse_uid;
+    }
+
+pub reserve_now_well : (r : ReserveNow) → ReserveNowFits r → IsWell 2 (object_of (reserve_now_members r))
+unfolding reserve_now_members
+reserve_now_well r fits = record_well 1 (reserve_now_members r) (reserve_now_ascends r) (
+    optional_ci_well 1 36 r.evse_uid fits.evse_uid
+    and moment_well 1 r.expiry_date fits.expiry_date
+    and ci_well 1 36 r.location_id fits.location_id
+    and ci_well 1 36 r.reservation_id fits.reservation_id
+    and free_well 1 255 r.response_url fits.response_url
+    and token_well r.token fits.token
+    and tt)
+
+pub cancel_reservation_ascends : (c : CancelReservation) → ascends (cancel_reservation_members c) ≡ true
+unfolding cancel_reservation_members name_of
+cancel_reservation_ascends c = refl
+
+pub cancel_reservation_form : (c : CancelReservation) → CancelReservationFits c → IsCancelReservation (tree (cancel_reservation_members c)) c
+unfolding cancel_reservation_members name_of
+cancel_reservation_form c fits =
+    let ms = cancel_reservation_members c in
+    let up = cancel_reservation_ascends c in
+    record {
+      response_url = free_form 255 field.ResponseUrl c.response_url ms (record { up = up; here = refl }) fits.response_url;
+      reservation_id = ci_form 36 field.ReservationId c.reservation_id ms (record { up = up; here = refl }) fits.reservation_id;
+    }
+
+pub cancel_reservation_well : (c : CancelReservation) → CancelReservationFits c → IsWell 1 (object_of (cancel_reservation_members c))
+unfolding cancel_reservation_members
+cancel_reservation_well c fits = record_well 0 (cancel_reservation_members c) (cancel_reservation_ascends c) (
+    ci_well 0 36 c.reservation_id fits.reservation_id
+    and free_well 0 255 c.response_url fits.response_url
+    and tt)
+
+pub unlock_connector_ascends : (u : UnlockConnector) → ascends (unlock_connector_members u) ≡ true
+unfolding unlock_connector_members name_of
+unlock_connector_ascends u = refl
+
+pub unlock_connector_form : (u : UnlockConnector) → UnlockConnectorFits u → IsUnlockConnector (tree (unlock_connector_members u)) u
+unfolding unlock_connector_members name_of
+unlock_connector_form u fits =
+    let ms = unlock_connector_members u in
+    let up = unlock_connector_ascends u in
+    record {
+      response_url = free_form 255 field.ResponseUrl u.response_url ms (record { up = up; here = refl }) fits.response_url;
+      location_id = ci_form 36 field.LocationId u.location_id ms (record { up = up; here = refl }) fits.location_id;
+      evse_uid = ci_form 36 field.EvseUid u.evse_uid ms (record { up = up; here = refl }) fits.evse_uid;
+      connector_id = ci_form 36 field.ConnectorId u.connector_id ms (record { up = up; here = refl }) fits.connector_id;
+    }
+
+pub unlock_connector_well : (u : UnlockConnector) → UnlockConnectorFits u → IsWell 1 (object_of (unlock_connector_members u))
+unfolding unlock_connector_members
+unlock_connector_well u fits = record_well 0 (unlock_connector_members u) (unlock_connector_ascends u) (
+    ci_well 0 36 u.connector_id fits.connector_id
+    and ci_well 0 36 u.evse_uid fits.evse_uid
+    and ci_well 0 36 u.location_id fits.location_id
+    and free_well 0 255 u.response_url fits.response_url
+    and tt)

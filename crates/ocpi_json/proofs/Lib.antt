@@ -1,4 +1,5 @@
 pub mod Among
+pub mod AuthorizationLemmas
 pub mod CdrLemmas
 pub mod CdrLocationLemmas
 pub mod ChargingPeriodLemmas

@@ -1,16 +1,29 @@
--- Sessions, their tokens and prices are read just where the tree has their form.
-use Rattle.std.proofs.Common.{◌≡◌, Ok, refl, subst}
+-- Sessions, their tokens and prices are read just where the tree has their form, and what is written of them is read again.
+use Rattle.std.proofs.Common.{◌≡◌, true, false, Option, Some, refl, subst}
+use Rattle.std.specs.Prelude.{IfSome}
 use Rattle.serde_json.specs.Data.{Data}
 use Rattle.ocpi_types.specs.declared.field.Field.TheVariants as field
-use Rattle.ocpi_types.specs.Words.{token_type_of, method_of, status_of}
+use Rattle.ocpi_types.specs.declared.sessions.Price.{Price}
+use Rattle.ocpi_types.specs.declared.token.CdrToken.{CdrToken}
+use Rattle.ocpi_types.specs.declared.words.AuthMethod.{AuthMethod}
+use Rattle.ocpi_types.specs.declared.words.AuthMethod.TheVariants as method
+use Rattle.ocpi_types.specs.declared.words.SessionStatus.{SessionStatus}
+use Rattle.ocpi_types.specs.declared.words.SessionStatus.TheVariants as status
+use Rattle.ocpi_types.specs.Fields.{name_of}
+use Rattle.ocpi_types.specs.Words.{token_type_of, token_type_word, method_of, method_word, status_of, status_word}
 use Rattle.ocpi_types.specs.declared.field.Field.{Field}
 use Rattle.ocpi_types.specs.declared.sessions.Session.{Session}
 use Rattle.ocpi_json.specs.declared.sessions.ChargingParts.{ChargingParts}
 use Rattle.ocpi_json.specs.declared.sessions.PlaceParts.{PlaceParts}
-use Rattle.ocpi_json.specs.Fields.{ci_in, free_in, moment_in, word_in, e4_in, quantity_in, record_in, country_in, party_id_in, optional}
+use Rattle.ocpi_json.specs.Fields.{is_tagged, ci_in, free_in, moment_in, word_in, e4_in, quantity_in, record_in, country_in, party_id_in, optional}
 use Rattle.ocpi_json.specs.Form.{Required, Optional, IsCi, IsFree, IsMoment, IsWord, IsQuantity, IsRecord, HasParty}
-use Rattle.ocpi_json.specs.SessionForms.{cdr_token_at, IsCdrToken, price_at, price_in, IsPrice, charging_parts_at, place_parts_at, session_at, IsSession}
+use Rattle.ocpi_json.specs.SessionForms.{cdr_token_at, cdr_token_members, CdrTokenFits, IsCdrToken, price_at, price_in, price_members, PriceFits, IsPrice, charging_parts_at, place_parts_at, session_at, session_members, SessionFits, IsSession}
+use Rattle.ocpi_json.specs.Members.{object_of}
 use Rattle.ocpi_json.proofs.Exact.{Exact, ok_is, bind_ok, both_steps, ci_exact, free_exact, moment_exact, word_exact, e4_exact, quantity_exact, country_exact, party_id_exact, optional_exact, optional_ci_exact, optional_moment_exact, inner_exact}
+use Rattle.ocpi_json.proofs.MemberForms.{tree, country_begins, party_id_begins, halves_form, ci_form, free_form, word_form, moment_form, e4_form, quantity_form, inner_form, optional_ci_form, optional_moment_form, optional_inner_form}
+use Rattle.ocpi_json.proofs.Tagged.{ascends}
+use Rattle.ocpi_json.proofs.TokenLemmas.{token_type_again, token_type_begins}
+use Rattle.ocpi_json.proofs.WellFormed.{◌and◌, IsWell, record_well, text_well, ci_well, free_well, moment_well, e4_well, optional_ci_well, optional_moment_well, optional_inner_well}
 
 pub cdr_token_exact : Exact cdr_token_at IsCdrToken
 unfolding cdr_token_at
@@ -214,3 +227,119 @@ session_exact = record {
     }),
   ) refl;
 }
+
+-- ---- what is written
+
+pub method_again : (w : AuthMethod) → method_of (method_word w) ≡ Some w
+method_again method.AuthRequest = refl
+method_again method.Command = refl
+method_again method.Whitelist = refl
+
+pub method_begins : (w : AuthMethod) → is_tagged (method_word w) ≡ false
+method_begins method.AuthRequest = refl
+method_begins method.Command = refl
+method_begins method.Whitelist = refl
+
+status_again : (w : SessionStatus) → status_of (status_word w) ≡ Some w
+status_again status.Active = refl
+status_again status.Completed = refl
+status_again status.Invalid = refl
+status_again status.Pending = refl
+status_again status.Reservation = refl
+
+status_begins : (w : SessionStatus) → is_tagged (status_word w) ≡ false
+status_begins status.Active = refl
+status_begins status.Completed = refl
+status_begins status.Invalid = refl
+status_begins status.Pending = refl
+status_begins status.Reservation = refl
+
+pub cdr_token_ascends : (t : CdrToken) → ascends (cdr_token_members t) ≡ true
+unfolding cdr_token_members name_of
+cdr_token_ascends t = refl
+
+pub cdr_token_form : (t : CdrToken) → CdrTokenFits t → IsCdrToken (tree (cdr_token_members t)) t
+unfolding cdr_token_members name_of
+cdr_token_form t fits =
+    let ms = cdr_token_members t in
+    let up = cdr_token_ascends t in
+    record {
+      party = halves_form t.party ms (record { up = up; here = refl }) (record { up = up; here = refl }) fits.party;
+      uid = ci_form 36 field.Uid t.uid ms (record { up = up; here = refl }) fits.uid;
+      token_type = word_form token_type_of field.TypeOf (token_type_word t.token_type) t.token_type ms (record { up = up; here = refl }) (token_type_begins t.token_type) (token_type_again t.token_type);
+      contract_id = ci_form 36 field.ContractId t.contract_id ms (record { up = up; here = refl }) fits.contract_id;
+    }
+
+pub cdr_token_well : (t : CdrToken) → CdrTokenFits t → IsWell 1 (object_of (cdr_token_members t))
+unfolding cdr_token_members
+cdr_token_well t fits = record_well 0 (cdr_token_members t) (cdr_token_ascends t) (
+    ci_well 0 36 t.contract_id fits.contract_id
+    and text_well 0 _ (country_begins t.party fits.party)
+    and text_well 0 _ (party_id_begins t.party fits.party)
+    and text_well 0 _ (token_type_begins t.token_type)
+    and ci_well 0 36 t.uid fits.uid
+    and tt)
+
+pub price_ascends : (p : Price) → ascends (price_members p) ≡ true
+unfolding price_members name_of
+price_ascends p = refl
+
+pub price_form : (p : Price) → PriceFits p → IsPrice (tree (price_members p)) p
+unfolding price_members name_of
+price_form p fits = record { excl_vat = e4_form field.ExclVat p.excl_vat (price_members p) (record { up = price_ascends p; here = refl }) fits.excl_vat }
+
+pub price_well : (p : Price) → PriceFits p → IsWell 1 (object_of (price_members p))
+unfolding price_members
+price_well p fits = record_well 0 (price_members p) (price_ascends p) (e4_well 0 p.excl_vat fits.excl_vat and tt)
+
+cost_fits : (s : Session) → SessionFits s → (p : Price) → s.total_cost ≡ Some p → PriceFits p
+cost_fits s fits p e = subst (λ (o : Option Price). IfSome o PriceFits) e fits.total_cost
+
+pub session_ascends : (s : Session) → ascends (session_members s) ≡ true
+unfolding session_members name_of
+session_ascends s = refl
+
+-- a session that is written has the form of a session
+pub session_form : (s : Session) → SessionFits s → IsSession (tree (session_members s)) s
+unfolding session_members name_of
+session_form s fits =
+    let ms = session_members s in
+    let up = session_ascends s in
+    record {
+      party = halves_form s.party ms (record { up = up; here = refl }) (record { up = up; here = refl }) fits.party;
+      id = ci_form 36 field.Id s.id ms (record { up = up; here = refl }) fits.id;
+      start_date_time = moment_form field.StartDateTime s.start_date_time ms (record { up = up; here = refl }) fits.start_date_time;
+      end_date_time = optional_moment_form field.EndDateTime s.end_date_time ms (record { up = up; here = refl }) fits.end_date_time;
+      kwh = quantity_form field.Kwh s.kwh ms (record { up = up; here = refl }) fits.kwh;
+      cdr_token = inner_form IsCdrToken field.CdrToken (cdr_token_members s.cdr_token) s.cdr_token ms (record { up = up; here = refl }) (cdr_token_form s.cdr_token fits.cdr_token);
+      auth_method = word_form method_of field.AuthMethod (method_word s.auth_method) s.auth_method ms (record { up = up; here = refl }) (method_begins s.auth_method) (method_again s.auth_method);
+      authorization_reference = optional_ci_form 36 field.AuthorizationReference s.authorization_reference ms (record { up = up; here = refl }) fits.authorization_reference;
+      location_id = ci_form 36 field.LocationId s.location_id ms (record { up = up; here = refl }) fits.location_id;
+      evse_uid = ci_form 36 field.EvseUid s.evse_uid ms (record { up = up; here = refl }) fits.evse_uid;
+      connector_id = ci_form 36 field.ConnectorId s.connector_id ms (record { up = up; here = refl }) fits.connector_id;
+      currency = free_form 3 field.Currency s.currency ms (record { up = up; here = refl }) fits.currency;
+      total_cost = optional_inner_form IsPrice price_members field.TotalCost s.total_cost ms (record { up = up; here = refl }) (λ p e. price_form p (cost_fits s fits p e));
+      status = word_form status_of field.Status (status_word s.status) s.status ms (record { up = up; here = refl }) (status_begins s.status) (status_again s.status);
+      last_updated = moment_form field.LastUpdated s.last_updated ms (record { up = up; here = refl }) fits.last_updated;
+    }
+
+pub session_well : (s : Session) → SessionFits s → IsWell 2 (object_of (session_members s))
+unfolding session_members
+session_well s fits = record_well 1 (session_members s) (session_ascends s) (
+    text_well 1 _ (method_begins s.auth_method)
+    and optional_ci_well 1 36 s.authorization_reference fits.authorization_reference
+    and cdr_token_well s.cdr_token fits.cdr_token
+    and ci_well 1 36 s.connector_id fits.connector_id
+    and text_well 1 _ (country_begins s.party fits.party)
+    and free_well 1 3 s.currency fits.currency
+    and optional_moment_well 1 s.end_date_time fits.end_date_time
+    and ci_well 1 36 s.evse_uid fits.evse_uid
+    and ci_well 1 36 s.id fits.id
+    and e4_well 1 s.kwh fits.kwh.bound
+    and moment_well 1 s.last_updated fits.last_updated
+    and ci_well 1 36 s.location_id fits.location_id
+    and text_well 1 _ (party_id_begins s.party fits.party)
+    and moment_well 1 s.start_date_time fits.start_date_time
+    and text_well 1 _ (status_begins s.status)
+    and optional_inner_well 1 price_members s.total_cost (λ p e. price_well p (cost_fits s fits p e))
+    and tt)

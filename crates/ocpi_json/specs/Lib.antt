@@ -1,3 +1,4 @@
+pub mod AuthorizationForms
 pub mod CdrForms
 pub mod CdrLocationForms
 pub mod ChargingPeriodForms

@@ -1,6 +1,7 @@
 //! OCPI 2.2.1 as lines of JSON: packets and site lines, read with the first fault told, and packets written.
 #![tactic(auto)]
 
+mod authorizations;
 mod cdr_locations;
 mod cdrs;
 mod charging_periods;

@@ -2,7 +2,7 @@
 
 ghost use Rattle.std.specs.Prelude.{◌≡◌};
 
-#[tactic(auto, using(crate::proofs::TokenLemmas::token_form))]
+#[tactic(auto, using(crate::proofs::SessionLemmas::session_well))]
 pub fn probe(x: u8) -> u8
     ensures { result ≡ x }
 {
