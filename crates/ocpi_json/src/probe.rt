@@ -2,7 +2,7 @@
 
 ghost use Rattle.std.specs.Prelude.{◌≡◌};
 
-#[tactic(auto, using(crate::proofs::CdrLemmas::cdr_well, crate::proofs::CdrLemmas::cdr_exact))]
+#[tactic(auto, using(crate::proofs::SessionLemmas::session_well))]
 pub fn probe(x: u8) -> u8
     ensures { result ≡ x }
 {
