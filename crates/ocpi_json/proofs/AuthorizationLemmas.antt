@@ -1,5 +1,5 @@
 -- Authorizations are read just where the tree has their form, and what is written is read again.
-use Rattle.std.proofs.Common.{◌≡◌, ℕ, ◌<◌, Bool, true, false, cond, List, Option, Some, Ok, refl, subst, arith}
+use Rattle.std.proofs.Common.{◌≡◌, ℕ, ◌<◌, Bool, true, false, cond, Option, Some, Ok, refl, subst, arith}
 use Rattle.std.specs.Prelude.{◌==◌, IfSome}
 use Rattle.std.proofs.lemmas.Bool.{eqb-true, eqb-false, ne_eqb}
 use Rattle.serde_json.specs.Data.{Data}
@@ -17,7 +17,7 @@ use Rattle.ocpi_types.specs.declared.words.AllowedType.{AllowedType}
 use Rattle.ocpi_types.specs.declared.words.AllowedType.TheVariants as allowed
 use Rattle.ocpi_json.specs.AuthorizationForms.{uid_at, evse_uids_in, location_references_at, location_references_in, location_references_members, LocationReferencesFits, IsLocationReferences, authorize_at, authorize_members, AuthorizeFits, IsAuthorize, authorization_info_at, authorization_info_members, AuthorizationInfoFits, IsAuthorizationInfo, reply_at, authorization_at, authorization_members, AuthorizationFits, IsAuthorization}
 use Rattle.ocpi_json.specs.Fault.{◌>>=◌}
-use Rattle.ocpi_json.specs.Fields.{is_tagged, as_text, formed, ci_in, moment_in, word_in, record_in, optional}
+use Rattle.ocpi_json.specs.Fields.{is_tagged, as_text, ci_in, moment_in, word_in, record_in, optional}
 use Rattle.ocpi_json.specs.Form.{Required, Optional, IsCi, IsMoment, IsWhole, IsRecord, IsList}
 use Rattle.ocpi_json.specs.Members.{object_of}
 use Rattle.ocpi_json.specs.Statuses.{status_in, IsStatus}
