@@ -9,7 +9,6 @@ mod laws;
 mod lines;
 mod lists;
 mod names;
-mod probe;
 mod quote;
 mod reading;
 mod record_writer;
