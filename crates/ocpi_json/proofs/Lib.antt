@@ -1,5 +1,8 @@
 pub mod Among
 pub mod AuthorizationLemmas
+pub mod CdrLemmas
+pub mod CdrLocationLemmas
+pub mod ChargingPeriodLemmas
 pub mod CommandLemmas
 pub mod Copying
 pub mod Cutting
@@ -27,6 +30,12 @@ pub mod SiteForm
 pub mod StatusLemmas
 pub mod Steps
 pub mod Tagged
+pub mod TaggedLines
+pub mod TaggedNumbers
+pub mod TaggedStrings
+pub mod TaggedTexts
+pub mod TaggedTokens
+pub mod TaggedTrees
 pub mod Tags
 pub mod TextBytes
 pub mod TokenLemmas

@@ -1,4 +1,7 @@
 pub mod AuthorizationForms
+pub mod CdrForms
+pub mod CdrLocationForms
+pub mod ChargingPeriodForms
 pub mod CommandForms
 pub mod Fault
 pub mod Fields
@@ -9,6 +12,7 @@ pub mod Members
 pub mod Names
 pub mod Nesting
 pub mod Numbers
+pub mod Packets
 pub mod Pieces
 pub mod Plain
 pub mod Quote
@@ -19,5 +23,6 @@ pub mod SiteForm
 pub mod SiteLines
 pub mod Sites
 pub mod Statuses
+pub mod Tagged
 pub mod Tokens
 pub mod Unquote
