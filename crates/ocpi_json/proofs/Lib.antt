@@ -13,9 +13,11 @@ pub mod LineTrees
 pub mod Listing
 pub mod MemberForms
 pub mod NumberNames
+pub mod PacketLemmas
 pub mod PieceQuoting
 pub mod PlainQuoting
 pub mod Quoting
+pub mod ReadAgain
 pub mod ReadSites
 pub mod Repeats
 pub mod ReplyLemmas
