@@ -1,4 +1,8 @@
 pub mod Among
+pub mod AuthorizationLemmas
+pub mod CdrLemmas
+pub mod CdrLocationLemmas
+pub mod ChargingPeriodLemmas
 pub mod CommandLemmas
 pub mod Copying
 pub mod Cutting
@@ -23,6 +27,7 @@ pub mod Repeats
 pub mod ReplyLemmas
 pub mod Said
 pub mod Seen
+pub mod SessionLemmas
 pub mod SiteForm
 pub mod StatusLemmas
 pub mod Steps
