@@ -45,3 +45,4 @@ pub mod UnquoteRuns
 pub mod Unquoting
 pub mod WellFormed
 pub mod Written
+pub mod WrittenPackets
