@@ -16,7 +16,6 @@ pub mod JsonNumbers
 pub mod LineTrees
 pub mod Listing
 pub mod MemberForms
-pub mod NumberNames
 pub mod PacketLemmas
 pub mod PieceQuoting
 pub mod PlainQuoting
@@ -44,5 +43,4 @@ pub mod TokenLemmas
 pub mod UnquoteRuns
 pub mod Unquoting
 pub mod WellFormed
-pub mod Written
 pub mod WrittenPackets

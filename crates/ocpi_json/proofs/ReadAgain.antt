@@ -14,7 +14,6 @@ use Rattle.ocpi_json.specs.Fields.{is_tagged}
 use Rattle.ocpi_json.specs.Line.{max_line, tree_at}
 use Rattle.ocpi_json.specs.Members.{Member, object_of, json_text, said}
 use Rattle.ocpi_json.specs.Names.{begins_with_tag}
-use Rattle.ocpi_json.specs.Plain.{IsName}
 use Rattle.ocpi_json.specs.Tagged as one
 use Rattle.ocpi_json.specs.Tagged.{tree_in}
 use Rattle.ocpi_json.proofs.MemberForms.{tree}
@@ -69,10 +68,6 @@ text_untagged : (s : List ℕ) → is_tagged s ≡ false → begins_with_tag s �
 text_untagged [] h = refl
 text_untagged (x ∷ s) h = h
 
-name_untagged : (k : List ℕ) → IsName k → begins_with_tag k ≡ false
-name_untagged [] h = refl
-name_untagged (x ∷ s) h = h
-
 mutual
   made : (j : json.Json) → IsSound j → one.tagged j ≡ Some (tagged j)
   made json.null h = refl
@@ -91,7 +86,7 @@ mutual
   members_made (json.member k j ms) found h above =
       let d = tagged j in
       let next = joined found (member k d no_members) in
-      rw (name_untagged k h.0, made j h.1.0)
+      rw (h.0, made j h.1.0)
       (ap (one.tagged_members ms) (put_last k d found above.0) ∙ members_made ms next h.1.1.1 (all_above ms found k d above.1 h.1.1.0)
       ∙ ap (λ (ms : Members). Some ms) (joined_twice found k d (tagged_members ms)))
 
