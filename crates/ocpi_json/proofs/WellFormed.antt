@@ -133,6 +133,10 @@ pub optional_moment_well : (most : ℕ) (o : Option ℕ) → FitsOptionalMoment 
 optional_moment_well most None fits = tt
 optional_moment_well most (Some n) fits = moment_well most n fits
 
+pub optional_word_well : {X : Type 0} (most : ℕ) (word : X → List ℕ) (o : Option X) → ((x : X) → is_tagged (word x) ≡ false) → HasWell most (option_map json.string (option_map word o))
+optional_word_well most word None begins = tt
+optional_word_well most word (Some x) begins = text_well most (word x) (begins x)
+
 pub optional_inner_well : {X : Type 0} (most : ℕ) (members : X → List Member) (o : Option X) → ((x : X) → o ≡ Some x → IsWell most (object_of (members x))) → HasWell most (option_map object_of (option_map members o))
 optional_inner_well most members None well = tt
 optional_inner_well most members (Some x) well = well x refl
