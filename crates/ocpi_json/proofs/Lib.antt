@@ -21,6 +21,7 @@ pub mod PacketLemmas
 pub mod PieceQuoting
 pub mod PlainQuoting
 pub mod Quoting
+pub mod ReadAgain
 pub mod ReadSites
 pub mod Repeats
 pub mod ReplyLemmas
@@ -43,4 +44,4 @@ pub mod TokenLemmas
 pub mod UnquoteRuns
 pub mod Unquoting
 pub mod WellFormed
-pub mod Written
+pub mod WrittenPackets
