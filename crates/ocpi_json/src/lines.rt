@@ -44,6 +44,8 @@ fn tree_of(alloc: Global, quoted: &str) -> Result<Value, JsonFault>
 }
 
 /// The tree of a text, or its first refusal: its numbers are quoted, and the quoted text is read.
+#[cold]
+#[inline(never)]
 fn tree_by_quoting(alloc: Global, text: &str) -> Result<Value, JsonFault>
     ensures { GivesBy view result (tree_in text.now) }
 {
