@@ -12,8 +12,6 @@ mod outcome;
 mod run;
 #[cfg(test)]
 mod run_tests;
-#[cfg(test)]
-mod tests;
 
 use answer::run_answer;
 use clap::Error;

@@ -1,227 +1,123 @@
 //! What a run does where reading or writing fails, and when it flushes.
 
-use crate::command::{status_after, take_words};
 use crate::lines::LineReader;
-use crate::outcome::{Ran, RunFault, status_of};
+use crate::outcome::{Ran, RunFault};
 use crate::run::{AnswerLines, Turn, run_whole};
 use std::alloc::{AllocError, Global};
 use std::cell::Cell;
 use std::io::{self, BufReader, ErrorKind, Read, Write};
-use std::test::Fail;
 
-/// Answers a line by its own bytes, refuses one that begins with `no`, and ends at `stop`.
+/// Answers each line by one byte.
 #[derive(Clone, Copy)]
-struct Echo;
+struct Answers;
 
-impl AnswerLines for Echo {
+impl AnswerLines for Answers {
     ghost use Rattle.std.specs.Prelude.{⊤};
 
     ghost line_gives = { λ s line turn out t. ⊤ };
 
     ghost end_gives = { λ s ran out. ⊤ };
 
-    fn answer_line(&mut self, line: &[u8], output: &mut String) -> Result<Turn, AllocError> {
-        let text = std::str::from_utf8(line).unwrap_or("no UTF-8");
-        output.push_str(text)?;
-        output.push('\n')?;
-        if text == "stop" {
-            return Ok(Turn::Ended);
-        }
-        Ok(if text.starts_with("no") {
-            Turn::Refused
-        } else {
-            Turn::Taken
-        })
+    fn answer_line(&mut self, _line: &[u8], output: &mut String) -> Result<Turn, AllocError> {
+        output.push('y')?;
+        Ok(Turn::Taken)
     }
 
-    fn answer_end(&mut self, output: &mut String) -> Result<Ran, AllocError> {
-        output.push_str("end\n")?;
+    fn answer_end(&mut self, _output: &mut String) -> Result<Ran, AllocError> {
         Ok(Ran::Whole)
     }
 
     ghost cut_alike = { λ s t line turn out h. tt };
 }
 
-/// Each read gives the next of these parts, and fails after the last where `breaks_off`, or where what was written is not flushed.
-#[derive(Drop)]
-struct Parts<'a> {
-    parts: &'a [&'a [u8]],
-    given: usize,
-    breaks_off: bool,
-    /// The bytes that were written since the last flush.
-    unflushed: &'a Cell<usize>,
+/// Shows so many lines, each by a read of its own, and then a read fails. Where what was written is not flushed, the input ends.
+#[derive(Clone, Copy)]
+struct BreaksOff<'a> {
+    lines: u8,
+    is_flushed: &'a Cell<bool>,
 }
 
-impl Read for Parts<'_> {
+impl Read for BreaksOff<'_> {
     fn read(&mut self, buf: &mut [u8]) -> io::Result<usize> {
-        if self.unflushed.get() != 0 {
-            return Err(io::Error::from(ErrorKind::TimedOut));
+        if !self.is_flushed.get() {
+            return Ok(0);
         }
-        match self.parts.get(self.given) {
-            Some(part) => {
-                self.given += 1;
-                let mut part = *part;
-                part.read(buf)
-            }
-            None if self.breaks_off => Err(io::Error::from(ErrorKind::ConnectionReset)),
-            None => Ok(0),
+        if self.lines == 0 {
+            return Err(io::Error::from(ErrorKind::ConnectionReset));
         }
+        self.lines -= 1;
+        let mut line = b"a\n".as_slice();
+        line.read(buf)
     }
 }
 
-/// Takes so many bytes, and flushes so often.
-#[derive(Drop)]
+/// Takes so many bytes, and flushes but for the flush of that number, from 0 on.
+#[derive(Clone, Copy)]
 struct Takes<'a> {
-    room: usize,
-    flushes: usize,
-    written: Vec<u8>,
-    /// The bytes that were written since the last flush.
-    unflushed: &'a Cell<usize>,
+    bytes: usize,
+    flushes_until_one_fails: usize,
+    is_flushed: &'a Cell<bool>,
 }
 
 impl Write for Takes<'_> {
     fn write(&mut self, buf: &[u8]) -> io::Result<usize> {
-        if self.room == 0 {
+        if self.bytes == 0 {
             return Err(io::Error::from(ErrorKind::StorageFull));
         }
-        let taken = self.room.min(buf.len());
-        self.written.extend_from_slice(&buf[..taken])?;
-        self.room -= taken;
-        self.unflushed.set(taken);
+        let taken = self.bytes.min(buf.len());
+        self.bytes -= taken;
+        self.is_flushed.set(false);
         Ok(taken)
     }
 
     fn flush(&mut self) -> io::Result<()> {
-        if self.flushes == 0 {
-            return Err(io::Error::from(ErrorKind::StorageFull));
+        self.is_flushed.set(true);
+        match self.flushes_until_one_fails {
+            0 => {
+                self.flushes_until_one_fails = usize::MAX;
+                Err(io::Error::from(ErrorKind::StorageFull))
+            }
+            left => {
+                self.flushes_until_one_fails = left - 1;
+                Ok(())
+            }
         }
-        self.flushes -= 1;
-        self.unflushed.set(0);
-        Ok(())
     }
 }
 
-/// What a run over these parts does.
-#[derive(Clone, Copy)]
-struct Case<'a> {
-    parts: &'a [&'a [u8]],
-    breaks_off: bool,
-    room: usize,
-    flushes: usize,
-    written: &'a [u8],
-    ran: Result<Ran, RunFault>,
-    status: u8,
-}
-
-fn compare(rt: &impl std::process::Abort, alloc: Global, case: &Case<'_>) -> Result<(), Fail> {
-    let unflushed = Cell::new(0);
-    let reader = BufReader::with_capacity(
-        alloc,
-        64,
-        Parts {
-            parts: case.parts,
-            given: 0,
-            breaks_off: case.breaks_off,
-            unflushed: &unflushed,
-        },
-    )?;
+/// Of an input of two lines whose third read fails: how the run ends over a writer that takes so many bytes, and whose flush of that
+/// number fails.
+fn run(alloc: Global, bytes: usize, failing_flush: usize) -> Result<Ran, RunFault> {
+    let is_flushed = Cell::new(false);
+    let source = BreaksOff {
+        lines: 2,
+        is_flushed: &is_flushed,
+    };
     let mut writer = Takes {
-        room: case.room,
-        flushes: case.flushes,
-        written: Vec::new(alloc),
-        unflushed: &unflushed,
+        bytes,
+        flushes_until_one_fails: failing_flush,
+        is_flushed: &is_flushed,
     };
-    let ran = run_whole(alloc, &mut Echo, &mut LineReader::new(reader), &mut writer);
-    assert_eq!(rt; writer.written.as_slice(), case.written);
-    assert_eq!(rt; ran, case.ran);
-    assert_eq!(rt; status_of(ran), case.status);
-    Ok(())
+    let Ok(reader) = BufReader::with_capacity(alloc, 8, source) else {
+        return Err(RunFault::TooManyReads);
+    };
+    run_whole(
+        alloc,
+        &mut Answers,
+        &mut LineReader::new(reader),
+        &mut writer,
+    )
 }
 
+/// The run flushes before each of the three reads, and at the end.
 #[test]
-fn answers_are_flushed_before_each_read(rt: HostRuntime) -> Result<(), Fail> {
-    let parts = [
-        b"a\n".as_slice(),
-        b"b\nc".as_slice(),
-        b"\n".as_slice(),
-        b"d\ne\nf\ng\nh\n".as_slice(),
-    ];
-    let case = Case {
-        parts: &parts,
-        breaks_off: false,
-        room: 99,
-        flushes: 6,
-        written: b"a\nb\nc\nd\ne\nf\ng\nh\nend\n".as_slice(),
-        ran: Ok(Ran::Whole),
-        status: 0,
-    };
-    compare(&rt, rt.alloc(), &case)
-}
-
-#[test]
-fn runs_end_with_their_status(rt: HostRuntime) -> Result<(), Fail> {
-    let parts = [b"a\nno\nb\r\n\nc".as_slice()];
-    let stop = [b"a\nstop\nb".as_slice()];
-    let refused = Case {
-        parts: &parts,
-        breaks_off: false,
-        room: 99,
-        flushes: 9,
-        written: b"a\nno\nb\nc\nend\n".as_slice(),
-        ran: Ok(Ran::WithRefusals),
-        status: 1,
-    };
-    let alloc = rt.alloc();
-    compare(&rt, alloc, &refused)?;
-    let stopped = Case {
-        parts: &stop,
-        written: b"a\nstop\n".as_slice(),
-        ..refused
-    };
-    compare(&rt, alloc, &stopped)?;
-    let failed_read = Case {
-        breaks_off: true,
-        written: b"a\nno\nb\n".as_slice(),
-        ran: Err(RunFault::ReadFailed),
-        ..refused
-    };
-    compare(&rt, alloc, &failed_read)?;
-    let failed_write = Case {
-        room: 4,
-        written: b"a\nno".as_slice(),
-        ran: Err(RunFault::WriteFailed),
-        ..refused
-    };
-    compare(&rt, alloc, &failed_write)?;
-    let failed_flush = Case {
-        flushes: 3,
-        ran: Err(RunFault::WriteFailed),
-        ..refused
-    };
-    compare(&rt, alloc, &failed_flush)
-}
-
-#[test]
-fn words_end_with_their_status(rt: HostRuntime) -> Result<(), Fail> {
-    let alloc = rt.alloc();
-    for (word, printed, unprinted) in [
-        ("answer", None, None),
-        ("go", Some(2), Some(2)),
-        ("--help", Some(0), Some(1)),
-        ("--version", Some(0), Some(1)),
+fn runs_end_with_what_failed(rt: HostRuntime) {
+    for (bytes, failing_flush, fault) in [
+        (2, 4, RunFault::ReadFailed),
+        (1, 4, RunFault::WriteFailed),
+        (2, 0, RunFault::WriteFailed),
+        (2, 3, RunFault::WriteFailed),
     ] {
-        let words = [
-            String::from_str(alloc, "ocpi_nodes")?,
-            String::from_str(alloc, word)?,
-        ];
-        let found = match take_words(alloc, &words) {
-            Ok(()) => (None, None),
-            Err(text) => (
-                Some(status_after(&text, true)),
-                Some(status_after(&text, false)),
-            ),
-        };
-        assert_eq!(rt; found, (printed, unprinted), "for {word}");
+        assert_eq!(rt; run(rt.alloc(), bytes, failing_flush), Err(fault));
     }
-    Ok(())
 }
