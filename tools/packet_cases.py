@@ -370,8 +370,8 @@ def add_cut_lines():
     for end in range(1, len(line)):
         is_cut = line[:end].endswith(inside) and not line[:end].endswith(" -")
         refused(line[:end], BAD_NUMBER_TOKEN if is_cut else SYNTAX)
-    for end in range(5, len(START), 25):
-        refused(START[:end], SYNTAX)
+    for end in range(1, len(RESPONSE)):
+        refused(RESPONSE[:end], SYNTAX)
 
 
 def add_depths():

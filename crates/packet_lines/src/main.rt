@@ -1,9 +1,9 @@
 //! Reads each line of the standard input as a packet, and writes the line that is written for that packet, or why the
 //! line is refused, as `refused 4 Missing(token)`.
 //!
-//! It is a test of `ocpi_json`, whose cases are the lines of the file `stdin` beside what they must give, `stdout`: both
-//! come from `tools/packet_cases.py`. It also serves to see what is wrong with a line. Lines end at LF; empty ones are
-//! skipped.
+//! It is a test of `ocpi_json`, and of `copy`: its cases are the lines of the file `stdin` beside what they must give,
+//! `stdout`, which `tools/packet_cases.py` writes. It also serves to see what is wrong with a line. Lines end at LF; empty
+//! ones are skipped.
 #![tactic(auto)]
 
 use ocpi_json::{JsonFault, read_packet, write_packet};
@@ -42,8 +42,9 @@ fn write_answer<W: Write>(alloc: Global, line: &[u8], output: &mut W) -> io::Res
     }
 }
 
-/// The line that is written for the packet of a line.
+/// The line that is written for a copy of the packet of a line.
 fn written_again(alloc: Global, line: &[u8]) -> Result<String, JsonFault> {
     let packet = read_packet(alloc, line)?;
-    Ok(write_packet(alloc, &packet)?)
+    let copy = packet.copy()?;
+    Ok(write_packet(alloc, &copy)?)
 }
