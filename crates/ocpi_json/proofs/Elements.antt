@@ -16,8 +16,7 @@ use Rattle.ocpi_json.specs.declared.fault.JsonFault.TheVariants.{WrongForm}
 use Rattle.ocpi_json.specs.Fault.{Read, ◌>>=◌}
 use Rattle.ocpi_json.specs.Fields.{as_record, as_list, list_in, each_after, ci_in}
 use Rattle.ocpi_json.specs.Sites.{is_among, new_among, new_ci_in, counted_in}
-use Rattle.ocpi_json.specs.Form.{Required, IsCi, IsRecord}
-use Rattle.ocpi_json.specs.SiteForm.{AreItems, IsList}
+use Rattle.ocpi_json.specs.Form.{Required, IsCi, IsRecord, AreItems, IsList}
 use Rattle.ocpi_json.proofs.Exact.{Exact, done, ok_is, bind_ok, member_exact, as_record_exact, ci_exact}
 
 -- each is new beside those before it
@@ -101,7 +100,7 @@ list_sound f (string b) items e = absurd cc
 list_sound f (object b) items e = absurd cc
 list_sound f (array ds) items e = ap array (ok_is ds items e)
 
-list_exact : (f : Field) → Exact (list_in f) (Required IsItems f)
+pub list_exact : (f : Field) → Exact (list_in f) (Required IsItems f)
 unfolding list_in
 list_exact f = member_exact f (as_list f) IsItems (record { sound = list_sound f; complete = λ v items p. rw p refl })
 
@@ -211,3 +210,28 @@ differ_from_new k front before (x ∷ xs) h = (h.0, subst (λ l. DifferFrom l (m
 pub new_from_differ : {X : Type 0} (k : X → List ℕ) (front : List (List ℕ)) (before xs : List X) → DifferFrom (front ++ map k before) (map k xs) → AllNew (Apart k front) before xs
 new_from_differ k front before [] h = tt
 new_from_differ k front before (x ∷ xs) h = (h.0, new_from_differ k front (before ++ x ∷ []) xs (subst (λ l. DifferFrom l (map k xs)) (push_key k front before x) h.1))
+
+-- ---- a list of any number, each read without regard to the others
+
+all_are_new : {X : Type 0} (before xs : List X) → AllNew (λ (_ : List X) (_ : X). Unit {0}) before xs
+all_are_new before [] = tt
+all_are_new before (x ∷ xs) = (tt, all_are_new (before ++ x ∷ []) xs)
+
+alone : {X : Type 0} {reader : Data → Read X} {P : Data → X → Type 0} → Exact reader P → ExactBeside (λ _. reader) P (λ _ _. Unit {0})
+alone h = record {
+  form = λ before d x e. h.sound d x e;
+  fresh = λ before d x e. tt;
+  complete = λ before d x p n. h.complete d x p;
+}
+
+pub every_exact : {X : Type 0} {reader : Data → Read X} {P : Data → X → Type 0} → Exact reader P → (f : Field) → Exact (λ d. list_in f d >>= each_after (λ _. reader) []) (Required (IsList P) f)
+every_exact {reader = reader} {P = P} h f = record {
+  sound = λ d xs e.
+      let a = bind_ok (list_in f d) (each_after (λ _. reader) []) xs e in
+      let v = (list_exact f).sound d a.0 a.1 in
+      let each = each_sound (alone h) [] a.0 xs a.2 in
+      (v.0, v.1, (a.0, v.2, subst (AreItems P a.0) (sym each.all) each.items));
+  complete = λ d xs p.
+      let items = p.2.0 in
+      rw ((list_exact f).complete d items (p.0, p.1, p.2.1)) (each_complete (alone h) [] items xs p.2.2 (all_are_new [] xs));
+}

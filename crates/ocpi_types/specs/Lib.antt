@@ -4,6 +4,7 @@ pub mod Fields
 pub mod Kinds
 pub mod Limits
 pub mod Locations
+pub mod Memory
 pub mod Parties
 pub mod Rows
 pub mod Words

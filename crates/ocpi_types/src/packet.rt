@@ -1,7 +1,8 @@
 //! Packets and what they carry.
 
-ghost use Rattle.std.specs.Prelude.{◌≡◌, IfOk};
+ghost use Rattle.std.specs.Prelude.{◌≡◌, IfOk, OnErr};
 ghost use Rattle.ocpi_types.specs.Kinds.{kind_of};
+ghost use Rattle.ocpi_types.specs.Memory.{BodyOwnsMemory};
 
 use crate::authorizations::{Authorization, Authorize};
 use crate::cdrs::Cdr;
@@ -53,9 +54,10 @@ impl Body {
         }
     }
 
-    /// An equal body.
+    /// An equal body. Memory is wanted only where the body owns some.
     pub fn copy(&self) -> Result<Body, AllocError>
-        ensures { IfOk result (λ t. t ≡ self.now) }
+        ensures equal { IfOk result (λ t. t ≡ self.now) }
+        ensures err { OnErr result (BodyOwnsMemory self.now) }
     {
         match self {
             Body::StartSession(body) => Ok(Body::StartSession(body.copy()?)),
@@ -88,9 +90,10 @@ pub struct Packet {
 }
 
 impl Packet {
-    /// An equal packet.
+    /// An equal packet. Memory is wanted only where its body owns some.
     pub fn copy(&self) -> Result<Packet, AllocError>
-        ensures { IfOk result (λ t. t ≡ self.now) }
+        ensures equal { IfOk result (λ t. t ≡ self.now) }
+        ensures err { OnErr result (BodyOwnsMemory self.now.body) }
     {
         Ok(Packet {
             from: self.from,

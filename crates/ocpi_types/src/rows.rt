@@ -5,7 +5,8 @@
 //! them without case; the parts of a key are joined by a stroke. A change is written with what it belongs to, or not at
 //! all.
 
-ghost use Rattle.std.specs.Prelude.{◌≡◌, IfOk};
+ghost use Rattle.std.specs.Prelude.{◌≡◌, IfOk, OnErr};
+ghost use Rattle.ocpi_types.specs.Memory.{RowOwnsMemory, ChangeOwnsMemory};
 ghost use Rattle.ocpi_types.specs.Rows.{counter_name};
 
 use crate::commands::StartSession;
@@ -88,9 +89,10 @@ pub enum Row {
 }
 
 impl Row {
-    /// An equal row.
+    /// An equal row. Memory is wanted only where the row owns some.
     pub fn copy(&self) -> Result<Row, AllocError>
-        ensures { IfOk result (λ t. t ≡ self.now) }
+        ensures equal { IfOk result (λ t. t ≡ self.now) }
+        ensures err { OnErr result (RowOwnsMemory self.now) }
     {
         match self {
             Row::Count { counter, last } => Ok(Row::Count {
@@ -164,9 +166,10 @@ pub enum Change {
 }
 
 impl Change {
-    /// An equal change.
+    /// An equal change. Memory is wanted only where its row owns some.
     pub fn copy(&self) -> Result<Change, AllocError>
-        ensures { IfOk result (λ t. t ≡ self.now) }
+        ensures equal { IfOk result (λ t. t ≡ self.now) }
+        ensures err { OnErr result (ChangeOwnsMemory self.now) }
     {
         match self {
             Change::Put(row) => Ok(Change::Put(row.copy()?)),

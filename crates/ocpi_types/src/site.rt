@@ -1,10 +1,11 @@
 //! The sites that operators configure: their locations, EVSEs and connectors (OCPI 2.2.1, Locations: Location, EVSE and
 //! Connector objects, as far as a session and its CDR name them).
 
-ghost use Rattle.std.specs.Prelude.{◌≡◌, ◌↔◌, ◌++◌, List, ℕ, IfOk, IsTrue, SomeIff, length};
+ghost use Rattle.std.specs.Prelude.{◌≡◌, ◌↔◌, ◌++◌, List, ℕ, IfOk, IsTrue, OnErr, SomeIff, length};
 ghost use Rattle.std.specs.FinSet as set;
 ghost use Rattle.ocpi_text.specs.Text.{key};
 ghost use Rattle.ocpi_types.specs.Apart.{AllDiffer, DifferFrom};
+ghost use Rattle.ocpi_types.specs.Limits.{IsCount};
 ghost use Rattle.ocpi_types.specs.Locations.{AreLocations, evse_keys, location_keys, site_evse_keys};
 
 use crate::apart::{Identified, differ_from};
@@ -297,7 +298,8 @@ fn uids_differ(alloc: Global, locations: &[Location]) -> Result<bool, AllocError
 
 /// Whether they are the locations of a site.
 fn are_locations(alloc: Global, locations: &[Location]) -> Result<bool, AllocError>
-    ensures { IfOk result (λ are. IsTrue are ↔ AreLocations locations.now) }
+    ensures made { IfOk result (λ are. IsTrue are ↔ AreLocations locations.now) }
+    ensures err { OnErr result (IsCount 1000 (length locations.now)) }
 {
     if locations.is_empty() || locations.len() > 1000 {
         return Ok(false);
@@ -311,7 +313,8 @@ impl Locations {
     /// The locations of a list. None, where they are none or more than a thousand, or two ids, or two uids of EVSEs, are
     /// the same but for case. An error is want of memory to compare them.
     pub fn new(locations: Vec<Location>) -> Result<Option<Locations>, AllocError>
-        ensures { IfOk result (λ made. SomeIff made (AreLocations locations.items) locations.items) }
+        ensures made { IfOk result (λ made. SomeIff made (AreLocations locations.items) locations.items) }
+        ensures err { OnErr result (IsCount 1000 (length locations.items)) }
     {
         if are_locations(*locations.allocator(), locations.as_slice())? {
             Ok(Some(Locations { locations }))
