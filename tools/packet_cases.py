@@ -34,16 +34,16 @@ from packet_forms import (
     unknown_word,
     wrong_form,
 )
-from packet_values import GREATEST, LEAST, USUAL, numbers, other_kinds, right_values, sample, wrong_values
+from packet_values import GREATEST, LEAST, USUAL, other_kinds, right_values, sample, wrong_values
 
-# Packets as they are sent and written: a start, what is answered to it, the session that it opens, and so on.
-START = '{"body":{"authorization_reference":"414e4c54-4e4d-0000-0000-000000000001","connector_id":"1","evse_uid":"E1","location_id":"LOC1","response_url":"https://node.invalid/NL/TNM/1","token":{"contract_id":"NL-TNM-000001","country_code":"NL","issuer":"TNM","last_updated":"2025-01-01T09:00:00Z","party_id":"TNM","type":"RFID","uid":"AA01","valid":true,"whitelist":"ALWAYS"}},"from":"NL/TNM","kind":"start_session","request":1,"serial":1,"to":"BE/BEC"}'
-RESPONSE = '{"body":{"data":{"result":"ACCEPTED","timeout":30},"status_code":1000,"timestamp":"2025-01-01T10:00:00Z"},"from":"BE/BEC","kind":"command_response","request":1,"serial":1,"to":"NL/TNM"}'
-RESULT = '{"body":{"response_url":"https://node.invalid/NL/TNM/1","result":"ACCEPTED"},"from":"BE/BEC","kind":"command_result","request":1,"serial":2,"to":"NL/TNM"}'
-SESSION = '{"body":{"auth_method":"COMMAND","authorization_reference":"414e4c54-4e4d-0000-0000-000000000001","cdr_token":{"contract_id":"NL-TNM-000001","country_code":"NL","party_id":"TNM","type":"RFID","uid":"AA01"},"connector_id":"1","country_code":"BE","currency":"EUR","evse_uid":"E1","id":"53424542-4543-0000-0000-000000000001","kwh":0.0000,"last_updated":"2025-01-01T10:00:05Z","location_id":"LOC1","party_id":"BEC","start_date_time":"2025-01-01T10:00:05Z","status":"PENDING","total_cost":{"excl_vat":0.0000}},"from":"BE/BEC","kind":"put_session","request":2,"serial":3,"to":"NL/TNM"}'
-CDR = '{"body":{"auth_method":"COMMAND","authorization_reference":"414e4c54-4e4d-0000-0000-000000000001","cdr_location":{"address":"Korenmarkt 1","city":"Gent","connector_format":"SOCKET","connector_id":"1","connector_power_type":"AC_3_PHASE","connector_standard":"IEC_62196_T2","coordinates":{"latitude":"51.05421","longitude":"3.72180"},"country":"BEL","evse_id":"BE*BEC*E1","evse_uid":"E1","id":"LOC1"},"cdr_token":{"contract_id":"NL-TNM-000001","country_code":"NL","party_id":"TNM","type":"RFID","uid":"AA01"},"charging_periods":[{"dimensions":[{"type":"ENERGY","volume":12.3456}],"start_date_time":"2025-01-01T10:00:10Z"}],"country_code":"BE","currency":"EUR","end_date_time":"2025-01-01T10:30:10Z","id":"43424542-4543-0000-0000-000000000001","last_updated":"2025-01-01T10:30:10Z","party_id":"BEC","session_id":"53424542-4543-0000-0000-000000000001","start_date_time":"2025-01-01T10:00:10Z","total_cost":{"excl_vat":3.0864},"total_energy":12.3456,"total_time":0.5000},"from":"BE/BEC","kind":"post_cdr","request":3,"serial":9,"to":"NL/TNM"}'
-ACK = '{"body":{"status_code":1000,"timestamp":"2025-01-01T10:00:05.250Z"},"from":"NL/TNM","kind":"ack","request":2,"serial":2,"to":"BE/BEC"}'
-AUTHORIZE = '{"body":{"location":{"evse_uids":["E1"],"location_id":"LOC1"},"token_uid":"AA02","type":"RFID"},"from":"BE/BEC","kind":"authorize","request":4,"serial":5,"to":"NL/TNM"}'
+TOOLS = pathlib.Path(__file__).resolve().parent
+
+# A packet of each kind, as it is written: a start, what is answered to it, the session that it opens, and so on.
+EXAMPLES = (TOOLS / "packet_examples.jsonl").read_text(encoding="utf-8").splitlines()
+START, RESPONSE, SESSION, CDR, ACK = (
+    next(line for line in EXAMPLES if f'"kind":"{kind}"' in line)
+    for kind in ("start_session", "command_response", "put_session", "post_cdr", "ack")
+)
 
 CASES = []
 
@@ -128,8 +128,8 @@ def is_new(*key):
 
 
 def add_packets():
-    """Packets are written as they are spelled: those above, and the least and the greatest of each kind."""
-    for line in (START, RESPONSE, RESULT, SESSION, CDR, ACK, AUTHORIZE):
+    """Packets are written as they are spelled: the examples, and the least and the greatest of each kind."""
+    for line in EXAMPLES:
         case(line, line)
     for kind in BODIES:
         for size in (LEAST, USUAL, GREATEST):
@@ -272,7 +272,8 @@ def add_credits():
     for name in ("country_code", "charging_periods", "total_time", "last_updated"):
         refused(spell(replaced(credit, ["body", name], None)), missing(name))
     case(changed(CDR, '"country_code":"BE"', '"country_code":"BE","credit":true,"credit":false'), CDR)
-    refused(changed(CDR, '"country_code":"BE"', '"country_code":"BE","credit":null,"credit":true'), wrong_form("credit"))
+    repeated = changed(CDR, '"country_code":"BE"', '"country_code":"BE","credit":null,"credit":true')
+    refused(repeated, wrong_form("credit"))
     for path in (["credit"], ["body", "cdr_location", "credit"], ["body", "charging_periods", 0, "credit"]):
         case(spell(replaced(tree, path, True)), spell(tree))
     case(changed(SESSION, '"country_code":"BE"', '"country_code":"BE","credit":true'), SESSION)
@@ -280,7 +281,7 @@ def add_credits():
 
 def add_members_about():
     """Unknown members are read past, of repeated ones the last counts, and their order is free."""
-    extra = {"more": [Number("1e400"), {"kind": None}, "\u20ac"], "Kind": "x", "kind ": "x", "": True, "data": Number("-0")}
+    extra = {"more": [Number("1e400"), {"kind": None}, "\u20ac"], "Kind": "x", "kind ": "x", "": True, "data": "x"}
     for kind in BODIES:
         tree = sample_packet(kind)
         case(spell(with_extra(tree, extra)), spell(tree))
@@ -295,8 +296,8 @@ def add_members_about():
 
 REPEATED = [
     ('"kind":"start_session"', '"kind":5,"kind":"start_session"'),
-    ('"kind":"start_session"', '"k\\u0069nd":"start_session"'),
-    ('"kind":"start_session"', '"kind":"stop_session","\\u006bind":"start_session"'),
+    ('"kind":"start_session"', r'"k\u0069nd":"start_session"'),
+    ('"kind":"start_session"', r'"kind":"stop_session","\u006bind":"start_session"'),
     ('{"body":', '{"body":{},"body":'),
     ('"uid":"AA01"', '"uid":null,"uid":"AA01"'),
     ('"valid":true', '"valid":"x","valid":false,"valid":true'),
@@ -322,8 +323,8 @@ def turned(tree):
 def add_texts():
     """Escapes, and what is written for them."""
     issuer = '"issuer":"TNM"'
-    taken = {"\\u0041\\u00e9\\u20AC": "A\u00e9\u20ac", "\\ud83d\\ude00": "\U0001f600", "\\/": "/", "\\\\\\\"": "\\\\\\\""}
-    taken |= {"\\u0022\\u005C": '\\"\\\\', "\\\\u0001": "\\\\u0001", "1": "1", "-1.5": "-1.5", "{}": "{}"}
+    taken = {r"\u0041\u00e9\u20AC": "A\u00e9\u20ac", r"\ud83d\ude00": "\U0001f600", r"\/": "/"}
+    taken |= {r"\u0022\u005C": r"\"\\", r"\\\"": r"\\\"", r"\\u0001": r"\\u0001", "-1.5": "-1.5", "{}": "{}"}
     for text, written in taken.items():
         case(changed(START, issuer, f'"issuer":"{text}"'), changed(START, issuer, f'"issuer":"{written}"'))
     for text in ("\\n", "\\b", "\\f", "\\r", "\\t", "\\u0000", "\\u001F", "\\u007f", "\\u009F", "a\\u0001"):
@@ -339,33 +340,45 @@ def add_texts():
     case(f" \t{spaced}\r", RESPONSE)
 
 
+NO_OBJECTS = ["5", "-1.5e+3", "[]", "null", '"text"', "true", " [1] "]
+
+NO_PACKETS = ["{}", ' { "a" : [ true , null , -1e+3 ] }\r', '{"1":2,"a":"1:2"}', r'{"a":["a\u0001","\\u0001"]}']
+
+NO_JSON = [
+    *(" ", "{", "}", "nul", "True", "NaN", "Infinity", "+5", ".5", "0x10", "\ufeff{}", '"\x01"'),
+    *(r'"\u000', r'"\\u0001', "{} {}", "{} x", "{},", "[1 2]", "[1,]", "{a:1}", "{'a':1}", '{"a" 1}', '{"a":}'),
+    *('{"a":1,}', '{"a":1"b":2}'),
+    '{"a":1 // x\r}',
+    # A number is no name.
+    *("{1:2}", "{1 \t\r:2}", '{"a":{1:2},"a":3}', '{"a":[{"b":{-1.5:null}}]}', '{"a":1,2:3}'),
+]
+
+NO_NUMBERS = ["01", "00", "-", "-01", "-.5", "1.", "1.e2", "1e", "1e+", "1+", "1-2", "--1", "1.5.2", "1e5e5"]
+
+BAD_NUMBERS_FIRST = ["{} -", "x 2.5.1", "{1:01}", '{"a":1.', r'- "\u0001"', '{"a":tru-e}']
+
+TAGGED_TEXTS_FIRST = [r'{"\u0001":null}', r'x"\u0001"', r'"\u0001', r'"\u0001" 01', r'{1:"\u0001"}', r'[",","\u00015"]']
+
+
 def add_lines():
     """Lines that are no packet at all."""
-    for line in ("5", "-1.5e+3", "[]", "null", '"text"', "true", " [1] "):
-        refused(line, wrong_form("line"))
-    for line in ("{}", ' { "a" : [ true , null , -1e+3 ] }\r', '{"1":2,"a":"1:2"}', '{"a":["a\\u0001","\\\\u0001"]}'):
-        refused(line, missing("from"))
-    for line in (" ", "{", "}", "nul", "True", "NaN", "Infinity", "{} {}", "{},", "[1 2]", "[1,]", '{"a":1,}', "{'a':1}"):
-        refused(line, SYNTAX)
-    for line in ('{"a" 1}', '{"a":}', "{a:1}", '{"a":1 // x\r}', "\ufeff{}", "+5", ".5", "0x10", '{"a":1"b":2}', "{} x", '"\x01"'):
-        refused(line, SYNTAX)
-    for line in ("{1:2}", "{1 \t\r:2}", '{"a":{1:2},"a":3}', '{"a":[{"b":{-1.5:null}}]}', '{"a":1,2:3}'):
-        refused(line, SYNTAX)
-    for token in ("01", "00", "-", "-01", "1.", "1.e2", "1e", "1e+", "1-2", "--1", "1.5.2", "1e5e5", "-.5", "1+", "-Infinity"):
-        refused(f'{{"a":{token}}}', BAD_NUMBER_TOKEN)
-    for line in ("{} -", "x 2.5.1", "{1:01}", '{"a":1.', "- \"\\u0001\"", '{"a":tru-e}'):
-        refused(line, BAD_NUMBER_TOKEN)
-    for line in ('["\\u00015"]', '{"\\u0001":null}', 'x"\\u0001"', '"\\u0001', '"\\u0001" 01', '{1:"\\u0001"}', '[",","\\u0001"]'):
-        refused(line, TAGGED_TEXT)
-    for line in ('"\\u000', '"\\\\u0001'):
-        refused(line, SYNTAX)
+    for lines, fault in (
+        (NO_OBJECTS, wrong_form("line")),
+        (NO_PACKETS, missing("from")),
+        (NO_JSON, SYNTAX),
+        ([f'{{"a":{token}}}' for token in NO_NUMBERS], BAD_NUMBER_TOKEN),
+        (BAD_NUMBERS_FIRST, BAD_NUMBER_TOKEN),
+        (TAGGED_TEXTS_FIRST, TAGGED_TEXT),
+    ):
+        for line in lines:
+            refused(line, fault)
     add_cut_lines()
     add_depths()
 
 
 def add_cut_lines():
     """A line that was cut is Syntax, or BadNumberToken where it ends inside a number."""
-    line = '{"a":-1.5e+3,"b":["\\u00e9 -",0.25E-7]}'
+    line = r'{"a":-1.5e+3,"b":["\u00e9 -",0.25E-7]}'
     inside = ("-", "-1.", "-1.5e", "-1.5e+", ",0.", ",0.25E", ",0.25E-")
     for end in range(1, len(line)):
         is_cut = line[:end].endswith(inside) and not line[:end].endswith(" -")
@@ -384,7 +397,7 @@ def add_depths():
 
 
 def write_files():
-    folder = pathlib.Path(__file__).resolve().parent.parent / "crates" / "packet_lines"
+    folder = TOOLS.parent / "crates" / "packet_lines"
     for name, lines in (("stdin", [line for line, _ in CASES]), ("stdout", [wanted for _, wanted in CASES])):
         (folder / name).write_text("".join(f"{line}\n" for line in lines), encoding="utf-8", newline="\n")
     print(f"{len(CASES)} cases")

@@ -1,8 +1,8 @@
 """The packets as tables: which members each has, of which form, and in which order faults are told.
 
 `answer(line)` gives what a line must give: the packet's line as it is written, or `refused` and the first fault. It is
-written from the rules (docs/PROTOCOL.md), and shares nothing with the crates that it is to test. The trees are Python's:
-`str`, `bool`, `None`, `list` and `dict`, and a `Number` that holds the token itself. Reading a value gives at once the
+written from the rules (docs/PROTOCOL.md), and shares nothing with the crates that it is to test. The trees are those of
+Python (`str`, `bool`, `None`, `list`, `dict`), with a `Number` that holds its token. Reading a value gives at once the
 text that is written for it.
 """
 

@@ -6,7 +6,21 @@ where a form is met for the first time.
 
 import itertools
 
-from packet_forms import CiString, Decimal, Items, Kind, Moment, Number, Party, Record, Reply, String, Truth, Whole, Word
+from packet_forms import (
+    CiString,
+    Decimal,
+    Items,
+    Kind,
+    Moment,
+    Number,
+    Party,
+    Record,
+    Reply,
+    String,
+    Truth,
+    Whole,
+    Word,
+)
 
 LEAST, USUAL, GREATEST = range(3)
 
@@ -167,9 +181,11 @@ def right_moments():
     few = [(second + ".1239", second + ".123Z")]
     zones = ["", "z", "+00:00", "-00:00", ".0Z", ".000", ".0009+00:00", ".000999999999Z"]
     more = [(second + zone, second + "Z") for zone in zones] + [("2025-01-01t10:00:00z", second + "Z")]
-    fractions = {".5": ".500", ".05-00:00": ".050", ".001z": ".001", ".99999999999999999999Z": ".999", ".1234567890123456789": ".123"}
+    fractions = {".5": ".500", ".05-00:00": ".050", ".001z": ".001"}
+    fractions |= {".99999999999999999999Z": ".999", ".1234567890123456789": ".123"}
     more += [(second + given, second + written + "Z") for given, written in fractions.items()]
-    more += [("9999-12-31T23:59:59.9999", "9999-12-31T23:59:59.999Z"), ("1970-01-01T00:00:00.0009Z", "1970-01-01T00:00:00Z")]
+    more += [("9999-12-31T23:59:59.9999", "9999-12-31T23:59:59.999Z")]
+    more += [("1970-01-01T00:00:00.0009Z", "1970-01-01T00:00:00Z")]
     same = ["2024-02-29T23:59:59.999Z", "2000-02-29T00:00:00Z", "2025-12-31T23:59:59Z", "1970-01-01T00:00:00.001Z"]
     return few, more + [(text, text) for text in same]
 
@@ -178,8 +194,10 @@ def right_decimals(negative):
     few = {"0.5": "0.5000", "-0.00001": "0.0000"}
     more = {"0": "0.0000", "-0": "0.0000", "-0.0": "0.0000", "7": "7.0000", "10.10": "10.1000", "12.34567": "12.3456"}
     more |= {"0.00009999": "0.0000", "0.00019999": "0.0001", "0." + "9" * 40: "0.9999"}
-    more |= {"99999999999": "99999999999.0000", "99999999999.99999": "99999999999.9999", "123456789.123456789": "123456789.1234"}
+    more |= {"99999999999": "99999999999.0000", "99999999999.99999": "99999999999.9999"}
+    more |= {"123456789.123456789": "123456789.1234"}
     if negative:
         few |= {"-1.5": "-1.5000"}
-        more |= {"-0.0001": "-0.0001", "-0.00019": "-0.0001", "-99999999999.99999": "-99999999999.9999", "-7": "-7.0000"}
+        more |= {"-0.0001": "-0.0001", "-0.00019": "-0.0001", "-7": "-7.0000"}
+        more |= {"-99999999999.99999": "-99999999999.9999"}
     return [[(Number(given), Number(written)) for given, written in pairs.items()] for pairs in (few, more)]
