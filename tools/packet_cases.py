@@ -18,18 +18,18 @@ from packet_forms import (
     BODIES,
     ENVELOPE,
     MOST_DEPTH,
-    NewText,
+    SITE_LINE,
+    SITE_MARK,
     SYNTAX,
     TAGGED_TEXT,
     UNKNOWN_KIND,
     Items,
     Kind,
     Member,
+    NewText,
     Number,
     Record,
     Reply,
-    SITE_LINE,
-    SITE_MARK,
     Word,
     answer,
     missing,
@@ -163,7 +163,8 @@ def add_spellings():
         refused(changed(SESSION, '"kwh":0.0000', f'"kwh":{text}'), "5 WrongForm(kwh)")
     refused(changed(SESSION, '"kwh":0.0000', '"kwh":01'), "2 BadNumberToken")
     case(changed(CDR, '"volume":12.3456', '"volume":-1.5'), changed(CDR, '"volume":12.3456', '"volume":-1.5000'))
-    refused(changed(START, '"uid":"AA01"', '"uid":"\\u00015"'), "3 TaggedText")
+    refused(changed(START, '"uid":"AA01"', r'"uid":"\u00015"'), "3 TaggedText")
+    refused(changed(SESSION, '"id":"5', r'"id":"\u00015'), "3 TaggedText")
     refused(changed(SESSION, '"country_code":"BE"', '"country_code":"BEL"'), "5 WrongForm(country_code)")
     refused(changed(SESSION, '"party_id":"BEC"', '"party_id":"BECX"'), "5 WrongForm(party_id)")
     case(changed(SESSION, '"start_date_time"', '"end_date_time":null,"start_date_time"'), SESSION)
@@ -183,17 +184,18 @@ def add_members():
 
 def try_member(tree, record, member, path):
     try_absence(tree, path, member)
-    try_wrong_values(tree, path, member, is_new(spell_form(member.form), "wrong"))
+    try_wrong_values(tree, path, member, is_new(form_key(member.form), "wrong"))
     # Another status goes without data: `add_replies` has it.
     if not (isinstance(record, Reply) and member.name == "status_code"):
-        try_right_values(tree, path, member, is_new(spell_form(member.form), "right"))
+        try_right_values(tree, path, member, is_new(form_key(member.form), "right"))
     if isinstance(member.form, Items):
         try_elements(tree, path, member)
 
 
-def spell_form(form):
+def form_key(form):
+    """Forms of the same key take the same values."""
     if isinstance(form, NewText):
-        return spell_form(form.form)
+        return form_key(form.form)
     others = ("form", "members", "new_texts")
     return type(form).__name__, *(value for name, value in vars(form).items() if name not in others)
 
