@@ -1,5 +1,5 @@
 #!/usr/bin/env python3
-"""Writes the cases of the program `packet_lines`: lines, and what each must give.
+"""Writes the cases of the program `packet_lines`: packets and site lines, and what each must give.
 
     tools/packet_cases.py          writes crates/packet_lines/stdin and crates/packet_lines/stdout
 
@@ -18,18 +18,22 @@ from packet_forms import (
     BODIES,
     ENVELOPE,
     MOST_DEPTH,
+    SITE_LINE,
+    SITE_MARK,
     SYNTAX,
     TAGGED_TEXT,
     UNKNOWN_KIND,
     Items,
     Kind,
     Member,
+    NewText,
     Number,
     Record,
     Reply,
     Word,
     answer,
     missing,
+    read_tree,
     spell,
     unknown_word,
     wrong_form,
@@ -68,6 +72,20 @@ def changed(line, old, new):
 
 
 # Trees
+
+
+def line_of(tree):
+    """The line that spells a packet or a site line."""
+    return spell(tree) if is_packet(tree) else SITE_MARK + spell(tree)
+
+
+def taken(tree):
+    """What is given for a tree that is spelled as it is written."""
+    return spell(tree) if is_packet(tree) else "taken"
+
+
+def is_packet(tree):
+    return "serial" in tree or "request" in tree
 
 
 def sample_packet(kind, size=USUAL):
@@ -145,7 +163,8 @@ def add_spellings():
         refused(changed(SESSION, '"kwh":0.0000', f'"kwh":{text}'), "5 WrongForm(kwh)")
     refused(changed(SESSION, '"kwh":0.0000', '"kwh":01'), "2 BadNumberToken")
     case(changed(CDR, '"volume":12.3456', '"volume":-1.5'), changed(CDR, '"volume":12.3456', '"volume":-1.5000'))
-    refused(changed(START, '"uid":"AA01"', '"uid":"\\u00015"'), "3 TaggedText")
+    refused(changed(START, '"uid":"AA01"', r'"uid":"\u00015"'), "3 TaggedText")
+    refused(changed(SESSION, '"id":"5', r'"id":"\u00015'), "3 TaggedText")
     refused(changed(SESSION, '"country_code":"BE"', '"country_code":"BEL"'), "5 WrongForm(country_code)")
     refused(changed(SESSION, '"party_id":"BEC"', '"party_id":"BECX"'), "5 WrongForm(party_id)")
     case(changed(SESSION, '"start_date_time"', '"end_date_time":null,"start_date_time"'), SESSION)
@@ -160,31 +179,39 @@ def add_members():
         tree = sample_packet(kind)
         for record, member, path in packet_members(kind, tree):
             if is_new("envelope" if len(path) == 1 else record, member.name):
-                try_absence(tree, path, member)
-                try_wrong_values(tree, path, member, is_new(spell_form(member.form), "wrong"))
-                # Another status goes without data: `add_replies` has it.
-                if not (isinstance(record, Reply) and member.name == "status_code"):
-                    try_right_values(tree, path, member, is_new(spell_form(member.form), "right"))
-                if isinstance(member.form, Items):
-                    try_elements(tree, path, member)
+                try_member(tree, record, member, path)
 
 
-def spell_form(form):
-    return type(form).__name__, *(value for name, value in vars(form).items() if name not in ("form", "members"))
+def try_member(tree, record, member, path):
+    try_absence(tree, path, member)
+    try_wrong_values(tree, path, member, is_new(form_key(member.form), "wrong"))
+    # Another status goes without data: `add_replies` has it.
+    if not (isinstance(record, Reply) and member.name == "status_code"):
+        try_right_values(tree, path, member, is_new(form_key(member.form), "right"))
+    if isinstance(member.form, Items):
+        try_elements(tree, path, member)
+
+
+def form_key(form):
+    """Forms of the same key take the same values."""
+    if isinstance(form, NewText):
+        return form_key(form.form)
+    others = ("form", "members", "new_texts")
+    return type(form).__name__, *(value for name, value in vars(form).items() if name not in others)
 
 
 def try_absence(tree, path, member):
     without, null = removed(tree, path), replaced(tree, path, None)
-    for line in map(spell, (without, null)):
+    for line in map(line_of, (without, null)):
         if member.optional:
-            case(line, spell(without))
+            case(line, taken(without))
         else:
             refused(line, missing(member.name))
 
 
 def try_wrong_values(tree, path, member, is_full):
     for value in other_kinds(member.form):
-        refused(spell(replaced(tree, path, value)), wrong_form(member.name))
+        refused(line_of(replaced(tree, path, value)), wrong_form(member.name))
     fault = wrong_form(member.name)
     if isinstance(member.form, Word):
         fault = unknown_word(member.name)
@@ -192,37 +219,40 @@ def try_wrong_values(tree, path, member, is_full):
         fault = UNKNOWN_KIND
     few, more = wrong_values(member.form)
     for value in few + more if is_full else few:
-        refused(spell(replaced(tree, path, value)), fault)
+        refused(line_of(replaced(tree, path, value)), fault)
 
 
 def try_right_values(tree, path, member, is_full):
     few, more = right_values(member.form)
     for value, written in few + more if is_full else few:
-        case(spell(replaced(tree, path, value)), spell(replaced(tree, path, written)))
+        case(line_of(replaced(tree, path, value)), taken(replaced(tree, path, written)))
 
 
 def try_elements(tree, path, member):
     """A wrong element, the first or a later one, is a fault of the list."""
     if member.form.least > 0:
-        refused(spell(replaced(tree, path, [])), wrong_form(member.name))
+        refused(line_of(replaced(tree, path, [])), wrong_form(member.name))
     element = member.form.form
     for value in (None, *other_kinds(element), *wrong_values(element)[0]):
-        refused(spell(replaced(tree, path, [value])), wrong_form(member.name))
-        refused(spell(replaced(tree, path, [*at(tree, path), value])), wrong_form(member.name))
+        refused(line_of(replaced(tree, path, [value])), wrong_form(member.name))
+        refused(line_of(replaced(tree, path, [*at(tree, path), value])), wrong_form(member.name))
 
 
 def add_first_faults():
-    """Where a member and all behind it are wrong, its fault is told, whether it is wrong or absent."""
     for kind in BODIES:
         tree = sample_packet(kind)
-        members = packet_members(kind, tree)
-        for number, (_, member, path) in enumerate(members):
-            if len(path) > 1 or is_new("first fault", member.name):
-                later = [(place, form) for _, form, place in members[number + 1 :] if place[: len(path)] != path]
-                spoiled = spoil(tree, later)
-                refused(spell(replaced(spoiled, path, other_kinds(member.form)[0])), wrong_form(member.name))
-                if not member.optional:
-                    refused(spell(removed(spoiled, path)), missing(member.name))
+        try_first_faults(tree, packet_members(kind, tree))
+
+
+def try_first_faults(tree, members):
+    """Where a member and all behind it are wrong, its fault is told, whether it is wrong or absent."""
+    for number, (_, member, path) in enumerate(members):
+        if len(path) > 1 or is_new("first fault", member.name):
+            later = [(place, form) for _, form, place in members[number + 1 :] if place[: len(path)] != path]
+            spoiled = spoil(tree, later)
+            refused(line_of(replaced(spoiled, path, other_kinds(member.form)[0])), wrong_form(member.name))
+            if not member.optional:
+                refused(line_of(removed(spoiled, path)), missing(member.name))
 
 
 def spoil(tree, members):
@@ -396,6 +426,51 @@ def add_depths():
     refused("[" * (MOST_DEPTH + 1) + "]" * (MOST_DEPTH + 1), SYNTAX)
 
 
+SITE = (
+    '{"at":"2025-01-01T10:00:00Z","party":"BE/BEC","providers":["NL/TNM","DE/EMP"],"site":{"currency":"EUR",'
+    '"locations":[{"address":"Korenmarkt 1","city":"Gent","country":"BEL","evses":[{"connectors":[{"format":"SOCKET",'
+    '"id":"1","power_type":"AC_3_PHASE","standard":"IEC_62196_T2"}],"evse_id":"BE*BEC*E1","uid":"E1"}],"id":"LOC1",'
+    '"latitude":"51.05421","longitude":"3.72180"}],"price":0.25}}'
+)
+
+
+def add_sites():
+    """Site lines: each member in turn, the order of faults, numbers of elements, and texts that must differ."""
+    tree = read_tree(SITE)
+    case(SITE_MARK + SITE, "taken")
+    members = list(members_of(SITE_LINE, [], tree))
+    for record, member, path in members:
+        try_member(tree, record, member, path)
+    try_first_faults(tree, members)
+    locations = ["site", "locations"]
+    location, evse = tree["site"]["locations"][0], tree["site"]["locations"][0]["evses"][0]
+    connector = evse["connectors"][0]
+    connectors = [*locations, 0, "evses", 0, "connectors"]
+    evses = [*locations, 0, "evses"]
+    try_counts(tree, ["providers"], [f"NL/P{number:02}" for number in range(64)])
+    try_counts(tree, connectors, [connector | {"id": f"C{number}"} for number in range(11)])
+    for providers in (["NL/TNM", "nl/tnm"], ["be/bec"], ["NL/TNM", "DE/EMP", "NL/TNM"]):
+        refused(line_of(replaced(tree, ["providers"], providers)), wrong_form("providers"))
+    # The later of two equal texts is refused where it is read, before what follows it.
+    same = [connector | {"id": "a"}, connector | {"id": "A", "standard": None}]
+    refused(line_of(replaced(tree, connectors, same)), wrong_form("id"))
+    refused(line_of(replaced(tree, evses, [evse, evse | {"uid": "e1", "evse_id": None}])), wrong_form("uid"))
+    same = [location, location | {"id": "loc1", "address": None}]
+    refused(line_of(replaced(tree, locations, same)), wrong_form("id"))
+    other, second = location | {"id": "LOC2"}, evse | {"uid": "E2"}
+    refused(line_of(replaced(tree, locations, [location, other])), wrong_form("uid"))
+    case(line_of(replaced(tree, evses, [evse, second])), "taken")
+    case(line_of(replaced(tree, locations, [location, other | {"evses": [second]}])), "taken")
+
+
+def try_counts(tree, path, items):
+    """As many elements as there may be, and one more."""
+    case(line_of(replaced(tree, path, items[:-1])), "taken")
+    refused(line_of(replaced(tree, path, items)), wrong_form(path[-1]))
+    # The number of elements is told before an element.
+    refused(line_of(replaced(tree, path, [None, *items[1:]])), wrong_form(path[-1]))
+
+
 def write_files():
     folder = TOOLS.parent / "crates" / "packet_lines"
     for name, lines in (("stdin", [line for line, _ in CASES]), ("stdout", [wanted for _, wanted in CASES])):
@@ -414,6 +489,7 @@ def main():
     add_members_about()
     add_texts()
     add_lines()
+    add_sites()
     if any("\n" in line or not line for line, _ in CASES):
         sys.exit("a case is not one line")
     write_files()

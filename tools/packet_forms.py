@@ -1,9 +1,9 @@
-"""The packets as tables: which members each has, of which form, and in which order faults are told.
+"""The packets and the site line as tables: which members each has, of which form, and in which order faults are told.
 
-`answer(line)` gives what a line must give: the packet's line as it is written, or `refused` and the first fault. It is
-written from the rules (docs/PROTOCOL.md), and shares nothing with the crates that it is to test. The trees are those of
-Python (`str`, `bool`, `None`, `list`, `dict`), with a `Number` that holds its token. Reading a value gives at once the
-text that is written for it.
+`answer(line)` gives what a line must give: the packet's line as it is written, or `refused` and the first fault. What
+follows `site ` is a site line, and is `taken` or refused. All this is written from the rules (docs/PROTOCOL.md), and
+shares nothing with the crates that it is to test. The trees are those of Python (`str`, `bool`, `None`, `list`, `dict`),
+with a `Number` that holds its token. Reading a value gives at once the text that is written for it.
 """
 
 import calendar
@@ -163,8 +163,9 @@ class Whole:
 class Decimal:
     """A number of four decimals, below 10^11 in magnitude. Further decimals are cut, and then the bounds are tried."""
 
-    def __init__(self, negative):
+    def __init__(self, negative, most_units=10**15 - 1):
         self.negative = negative
+        self.most_units = most_units
 
     def read(self, value, name):
         match = re.fullmatch(r"(-?)([0-9]+)(?:\.([0-9]+))?", as_token(value, name))
@@ -172,7 +173,7 @@ class Decimal:
             raise wrong_form(name)
         sign, whole, decimals = match.group(1), match.group(2), ((match.group(3) or "") + "0000")[:4]
         units = int(whole + decimals)
-        if units >= 10**15 or (sign and units and not self.negative):
+        if units > self.most_units or (sign and units and not self.negative):
             raise wrong_form(name)
         return f"{sign if units else ''}{units // 10_000}.{units % 10_000:04}"
 
@@ -240,14 +241,43 @@ class ChargeDetailRecord(Record):
 class Items:
     """A list. Its length is tried first, and an element of a wrong kind is a fault of the list."""
 
-    def __init__(self, form, least):
+    def __init__(self, form, least, most=10**6):
         self.form = form
         self.least = least
+        self.most = most
 
     def read(self, value, name):
-        if not isinstance(value, list) or len(value) < self.least:
+        if not isinstance(value, list) or not self.least <= len(value) <= self.most:
             raise wrong_form(name)
         return "[" + ",".join(self.form.read(item, name) for item in value) + "]"
+
+
+class NewText:
+    """A text that is equal to no earlier one, but for case."""
+
+    def __init__(self, form):
+        self.form = form
+        self.seen = set()
+
+    def read(self, value, name):
+        text = self.form.read(value, name)
+        if text.upper() in self.seen:
+            raise wrong_form(name)
+        self.seen.add(text.upper())
+        return text
+
+
+class Scope(Record):
+    """An object within which new texts differ."""
+
+    def __init__(self, *members, new_texts):
+        super().__init__(*members)
+        self.new_texts = new_texts
+
+    def read_members(self, tree):
+        for form in self.new_texts:
+            form.seen.clear()
+        return super().read_members(tree)
 
 
 ID = CiString(36)
@@ -388,6 +418,54 @@ BODIES = {
 }
 
 
+CONNECTOR_ID = NewText(ID)
+
+CONNECTOR = Record(
+    Member("id", CONNECTOR_ID),
+    Member("standard", String(64)),
+    Member("format", String(64)),
+    Member("power_type", String(64)),
+)
+
+EVSE_UID = NewText(ID)
+
+EVSE = Scope(
+    Member("uid", EVSE_UID),
+    Member("evse_id", CiString(48)),
+    Member("connectors", Items(CONNECTOR, least=1, most=10)),
+    new_texts=[CONNECTOR_ID],
+)
+
+LOCATION_ID = NewText(ID)
+
+LOCATION = Record(
+    Member("id", LOCATION_ID),
+    Member("address", String(45)),
+    Member("city", String(45)),
+    Member("country", String(3)),
+    Member("latitude", String(10)),
+    Member("longitude", String(11)),
+    Member("evses", Items(EVSE, least=1, most=1000)),
+)
+
+SITE = Scope(
+    Member("currency", String(3)),
+    Member("price", Decimal(negative=False, most_units=100_000_000)),
+    Member("locations", Items(LOCATION, least=1, most=1000)),
+    new_texts=[LOCATION_ID, EVSE_UID],
+)
+
+NEW_PARTY = NewText(Party())
+
+SITE_LINE = Scope(
+    Member("at", Moment()),
+    Member("party", NEW_PARTY),
+    Member("providers", Items(NEW_PARTY, least=0, most=63)),
+    Member("site", SITE),
+    new_texts=[NEW_PARTY],
+)
+
+
 class Kind:
     """The kind of a packet."""
 
@@ -462,9 +540,15 @@ def read_packet(line):
     return Record().write(envelope)
 
 
+SITE_MARK = "site "
+
+
 def answer(line):
     """What the line must give."""
     try:
+        if line.startswith(SITE_MARK):
+            SITE_LINE.read(read_tree(line.removeprefix(SITE_MARK)), "line")
+            return "taken"
         return read_packet(line)
     except Fault as fault:
         return f"refused {fault}"

@@ -12,6 +12,7 @@ from packet_forms import (
     Items,
     Kind,
     Moment,
+    NewText,
     Number,
     Party,
     Record,
@@ -41,6 +42,8 @@ def numbers(*tokens):
 def sample(form, size):
     """A value of the form, spelled as it is written: the least, a usual or the greatest one."""
     match form:
+        case NewText():
+            return sample(form.form, size)
         case CiString(exact=True):
             return cycle("BEC", form.most)
         case CiString():
@@ -79,6 +82,8 @@ def sample_record(record, size):
 def other_kinds(form):
     """Values of each kind of JSON value that the form never takes."""
     match form:
+        case NewText():
+            return other_kinds(form.form)
         case Whole() | Decimal():
             return [True, "5", [], {}]
         case Truth():
@@ -94,6 +99,8 @@ def other_kinds(form):
 def wrong_values(form):
     """Values of the right kind that are refused, as two lists."""
     match form:
+        case NewText():
+            return wrong_values(form.form)
         case CiString(exact=True):
             return ["", "x" * (form.most - 1), "x" * (form.most + 1), "\u00e9" * form.most], []
         case CiString():
@@ -112,7 +119,8 @@ def wrong_values(form):
             few = [str(form.most + 1), "1e3", "1.0"] + ([str(form.least - 1)] if form.least else [])
             return numbers(*few), numbers("-1", "-0", "1E3", "1000.0", "18446744073709552616", "1" * 40)
         case Decimal():
-            return wrong_decimals(form.negative)
+            few, more = wrong_decimals(form.negative)
+            return few + numbers(spell_units(form.most_units + 1)), more
         case Word():
             return [word.lower() for word in form.words], ["", form.words[0] + " ", form.words[0] + "X", "\u00e9"]
         case Kind():
@@ -133,6 +141,10 @@ def wrong_moments():
     return few, [f"{date}T10:00:00Z" for date in dates] + [f"2025-01-01T{time}" for time in times] + others
 
 
+def spell_units(units):
+    return f"{units // 10_000}.{units % 10_000:04}"
+
+
 def wrong_decimals(negative):
     few = ["1e3", "100000000000"]
     more = ["1E3", "0e0", "5.0e-1", "1e+3", "1234567890123456", "100000000000.0", "9" * 40 + ".5", "-1e3", "-0e0"]
@@ -148,6 +160,8 @@ def wrong_decimals(negative):
 def right_values(form):
     """Values that are taken and what is written for each, as two lists."""
     match form:
+        case NewText():
+            return right_values(form.form)
         case CiString(exact=True):
             return as_they_are([], ["b" * form.most, " " * form.most])
         case CiString():
@@ -161,7 +175,10 @@ def right_values(form):
         case Whole():
             return as_they_are(numbers(str(form.most)), numbers(str(form.least), "2001"))
         case Decimal():
-            return right_decimals(form.negative)
+            few, more = right_decimals(form.negative)
+            greatest = spell_units(form.most_units)
+            few = [*few, (Number(greatest + "9"), Number(greatest))]
+            return few, [pair for pair in more if float(pair[1].token) * 10_000 <= form.most_units]
         case Word():
             return as_they_are(form.words, [])
         case Truth():

@@ -1,7 +1,5 @@
-//! What `packet_lines` does not show of `ocpi_json`: its quoting, the limits of a line, and site lines.
+//! What `packet_lines` does not show of `ocpi_json`: its quoting, and limits of a line.
 #![tactic(auto)]
 
 #[cfg(test)]
 mod quoting;
-#[cfg(test)]
-mod sites;

@@ -1,12 +1,12 @@
 //! Reads each line of the standard input as a packet, and writes the line that is written for that packet, or why the
-//! line is refused, as `refused 4 Missing(token)`.
+//! line is refused, as `refused 4 Missing(token)`. What follows `site ` is read as a site line, and is `taken` or refused.
 //!
 //! It is a test of `ocpi_json`, and of `copy`: its cases are the lines of the file `stdin` beside what they must give,
 //! `stdout`, which `tools/packet_cases.py` writes. It also serves to see what is wrong with a line. Lines end at LF; empty
 //! ones are skipped.
 #![tactic(auto)]
 
-use ocpi_json::{JsonFault, read_packet, write_packet};
+use ocpi_json::{JsonFault, read_packet, read_site, write_packet};
 use std::alloc::Global;
 use std::io::{self, BufWriter, Read, Write};
 use std::process::ExitCode;
@@ -36,15 +36,26 @@ fn write_answers(rt: &HostRuntime) -> io::Result<()> {
 
 /// Writes what a line gives.
 fn write_answer<W: Write>(alloc: Global, line: &[u8], output: &mut W) -> io::Result<()> {
-    match written_again(alloc, line) {
+    let answer = match line.strip_prefix(b"site ") {
+        Some(site_line) => take_site(alloc, site_line),
+        None => write_again(alloc, line),
+    };
+    match answer {
         Ok(text) => writeln!(output, "{text}"),
         Err(fault) => writeln!(output, "refused {fault}"),
     }
 }
 
 /// The line that is written for a copy of the packet of a line.
-fn written_again(alloc: Global, line: &[u8]) -> Result<String, JsonFault> {
+fn write_again(alloc: Global, line: &[u8]) -> Result<String, JsonFault> {
     let packet = read_packet(alloc, line)?;
     let copy = packet.copy()?;
     Ok(write_packet(alloc, &copy)?)
+}
+
+/// Reads and copies a site line.
+fn take_site(alloc: Global, line: &[u8]) -> Result<String, JsonFault> {
+    let site_line = read_site(alloc, line)?;
+    let _copy = site_line.copy()?;
+    Ok(String::from_str(alloc, "taken")?)
 }
