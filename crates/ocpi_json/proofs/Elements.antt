@@ -16,8 +16,7 @@ use Rattle.ocpi_json.specs.declared.fault.JsonFault.TheVariants.{WrongForm}
 use Rattle.ocpi_json.specs.Fault.{Read, ◌>>=◌}
 use Rattle.ocpi_json.specs.Fields.{as_record, as_list, list_in, each_after, ci_in}
 use Rattle.ocpi_json.specs.Sites.{is_among, new_among, new_ci_in, counted_in}
-use Rattle.ocpi_json.specs.Form.{Required, IsCi, IsRecord}
-use Rattle.ocpi_json.specs.SiteForm.{AreItems, IsList}
+use Rattle.ocpi_json.specs.Form.{Required, IsCi, IsRecord, AreItems, IsList}
 use Rattle.ocpi_json.proofs.Exact.{Exact, done, ok_is, bind_ok, member_exact, as_record_exact, ci_exact}
 
 -- each is new beside those before it

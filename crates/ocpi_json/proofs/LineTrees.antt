@@ -48,7 +48,7 @@ named_sound : (quoted : List ℕ) (d : Data) → tree_of quoted ≡ Ok d → IsN
 unfolding tree_of
 named_sound quoted d e = named_by quoted d (has_number_name quoted) refl e
 
-named_complete : (quoted : List ℕ) (d : Data) → has_number_name quoted ≡ false → read quoted ≡ Some d → tree_of quoted ≡ Ok d
+pub named_complete : (quoted : List ℕ) (d : Data) → has_number_name quoted ≡ false → read quoted ≡ Some d → tree_of quoted ≡ Ok d
 unfolding tree_of
 named_complete quoted d n j = rw (n, j) refl
 

@@ -131,7 +131,7 @@ string_copied cs h n = copied_then Between (Opening 0) (34 ∷ []) (characters_t
 other_outside : (c : ℕ) → c ≢ 34 → begins_number c ≡ false → outside c ≡ Between
 other_outside c q h = rw (is_not_test c 34 q, h) refl
 
-piece_quotes : (p : Piece) (after : List ℕ) → IsPiece p after → quote_from Between (piece_text p ++ after) ≡ before (quoted_piece p) (quote_from Between after)
+pub piece_quotes : (p : Piece) (after : List ℕ) → IsPiece p after → quote_from Between (piece_text p ++ after) ≡ before (quoted_piece p) (quote_from Between after)
 piece_quotes (number []) after h = absurd (no_empty_number h.0)
 piece_quotes (number (c ∷ s)) after h = quotes_token c s after (number_from_json c s h.0) h.1
 piece_quotes (string cs e) after h = string_copied cs h.0 (λ more is. h.2 (more, is)) e after h.1

@@ -252,10 +252,12 @@ quotes_token c cs rest n s =
     ∙ ap (before (34 ∷ 92 ∷ 117 ∷ 48 ∷ 48 ∷ 48 ∷ 49 ∷ c ∷ [])) (number_run (first_place c) cs rest n.goes_on ∙ ap (before cs) (number_ends _ rest n.ends s) ∙ before-before cs (34 ∷ []) (quote_from Between rest))
     ∙ before-before (34 ∷ 92 ∷ 117 ∷ 48 ∷ 48 ∷ 48 ∷ 49 ∷ c ∷ []) (cs ++ 34 ∷ []) (quote_from Between rest)
 
+-- the text of a number behind its tag
+pub quoted_number : (c : ℕ) (cs : List ℕ) → IsNumber c cs → quoted (1 ∷ c ∷ cs) ≡ 34 ∷ 92 ∷ 117 ∷ 48 ∷ 48 ∷ 48 ∷ 49 ∷ ((c ∷ cs) ++ 34 ∷ [])
+quoted_number c cs n = rw (tag_bytes, escape_same c (first_char c n.begins), escape_number cs n.goes_on) refl
+
 quotes_number : (c : ℕ) (cs : List ℕ) → IsNumber c cs → Quotes (c ∷ cs) (quoted (1 ∷ c ∷ cs))
-quotes_number c cs n rest s =
-    let text : quoted (1 ∷ c ∷ cs) ≡ (34 ∷ 92 ∷ 117 ∷ 48 ∷ 48 ∷ 48 ∷ 49 ∷ c ∷ []) ++ (cs ++ 34 ∷ []) = rw (tag_bytes, escape_same c (first_char c n.begins), escape_number cs n.goes_on) refl in
-    quotes_token c cs rest n s ∙ ap (λ (t : List ℕ). before t (quote_from Between rest)) (sym text)
+quotes_number c cs n rest s = quotes_token c cs rest n s ∙ ap (λ (t : List ℕ). before t (quote_from Between rest)) (sym (quoted_number c cs n))
 
 quotes_tagged : (x : ℕ) (s : List ℕ) (b : Bool) → (x == 1) ≡ b → (b ≡ true → IsJsonNumber s) → Quotes (cond b s (quoted (x ∷ s))) (quoted (x ∷ s))
 quotes_tagged x s false is h rest stop = copies_string (x ∷ s) is rest
@@ -273,10 +275,10 @@ pub between : (c : ℕ) → outside c ≡ Between → next_mode Between c ≡ Ok
 unfolding next_mode
 between c e = rw e refl
 
-copies_char : (c : ℕ) → outside c ≡ Between → Copies Between Between (c ∷ [])
+pub copies_char : (c : ℕ) → outside c ≡ Between → Copies Between Between (c ∷ [])
 copies_char c e = copies_one Between Between c (between c e) refl refl
 
-copies_more : (c : ℕ) (text : List ℕ) → outside c ≡ Between → Copies Between Between text → Copies Between Between (c ∷ text)
+pub copies_more : (c : ℕ) (text : List ℕ) → outside c ≡ Between → Copies Between Between text → Copies Between Between (c ∷ text)
 copies_more c text e h = copies_then Between Between Between (c ∷ []) text (copies_char c e) h
 
 copies_none : Copies Between Between []

@@ -20,8 +20,8 @@ use Rattle.ocpi_json.specs.declared.sites.LocationPlace.{LocationPlace}
 use Rattle.ocpi_json.specs.declared.fault.JsonFault.TheVariants.{WrongForm}
 use Rattle.ocpi_json.specs.Fields.{as_text, formed, ci_in, free_in, moment_in, party_in, e4_in, record_in, each_after}
 use Rattle.ocpi_json.specs.Sites.{new_ci_in, counted_in, connector_at, connector_element, connectors_in, evse_at, evse_element, evses_in, location_place_at, location_at, location_element, locations_in, price_in, site_at, provider_at, providers_in, parties_at, site_line_at, site_of_line}
-use Rattle.ocpi_json.specs.Form.{Required, IsFree, IsParty, IsE4, IsRecord}
-use Rattle.ocpi_json.specs.SiteForm.{IsList, IsConnector, IsEvse, IsLocation, IsSite, HasParties, IsSiteLine, IsSiteLineTree}
+use Rattle.ocpi_json.specs.Form.{Required, IsFree, IsParty, IsE4, IsRecord, IsList}
+use Rattle.ocpi_json.specs.SiteForm.{IsConnector, IsEvse, IsLocation, IsSite, HasParties, IsSiteLine, IsSiteLineTree}
 use Rattle.ocpi_json.proofs.Exact.{Exact, done, ok_is, bind_ok, both_steps, passed, at_most, text_exact, formed_ok, ci_exact, free_exact, moment_exact, party_exact, e4_exact, inner_exact, as_record_exact}
 use Rattle.ocpi_json.proofs.Elements.{record_beside, beside, AllNew, ExactBeside, IsListing, listing_exact, new_ci_exact, new_among_sound, new_among_complete, Apart, differ_from_new, new_from_differ}
 

@@ -1,6 +1,6 @@
 -- What a tree has to do with what it spells, member by member. Numbers stand as texts behind U+0001, which no other text begins with.
-use Rattle.std.specs.Prelude.{◌≡◌, ◌≢◌, ◌⊎◌, ◌≤ℤ◌, ℕ, ℤ, pos, List, ◌∷◌, Bool, false, Option, Some, None, Result, Ok}
-use Rattle.serde_json.specs.Data.{Data, null, boolean, string, object, Members}
+use Rattle.std.specs.Prelude.{◌≡◌, ◌≢◌, ◌⊎◌, ◌≤ℤ◌, ℕ, ℤ, pos, List, [], ◌∷◌, Bool, false, Option, Some, None, Result, Ok}
+use Rattle.serde_json.specs.Data.{Data, null, boolean, string, array, object, Items, no_items, item, Members}
 use Rattle.serde_json.specs.Find.{get}
 use Rattle.ocpi_text.specs.declared.fault.TextFault.{TextFault}
 use Rattle.ocpi_text.specs.Text.{ci_text, free_text}
@@ -80,6 +80,19 @@ pub record IsRecord {X : Type 0} (P : Data → X → Type 0) (v : Data) (x : X) 
   pub members : Members
   pub is_object : v ≡ object members
   pub form : P v x
+
+-- ---- lists
+
+-- the elements, each of the form P, in order
+abbrev pub AreItems : {X : Type 0} → (Data → X → Type 0) → Items → List X → Type 0
+AreItems P no_items [] = Unit {0}
+AreItems P no_items (x ∷ xs) = ⊥
+AreItems P (item d ds) [] = ⊥
+AreItems P (item d ds) (x ∷ xs) = P d x × AreItems P ds xs
+
+-- a list of such elements
+abbrev pub IsList : {X : Type 0} → (Data → X → Type 0) → Data → List X → Type 0
+IsList P v xs = (items : Items) × (v ≡ array items) × AreItems P items xs
 
 -- ---- records
 

@@ -1,7 +1,7 @@
 -- What a tree has to do with a site line: each record, member by member
 -- (OCPI 2.2.1, Locations: Location, EVSE and Connector objects).
-use Rattle.std.specs.Prelude.{◌≡◌, List, [], ◌∷◌, length}
-use Rattle.serde_json.specs.Data.{Data, array, Items, no_items, item}
+use Rattle.std.specs.Prelude.{length}
+use Rattle.serde_json.specs.Data.{Data}
 use Rattle.ocpi_types.specs.Connectors.{AreConnectors}
 use Rattle.ocpi_types.specs.Limits.{IsCount, IsPrice}
 use Rattle.ocpi_types.specs.Locations.{AreLocations}
@@ -12,18 +12,7 @@ use Rattle.ocpi_types.specs.declared.site.Evse.{Evse}
 use Rattle.ocpi_types.specs.declared.site.Location.{Location}
 use Rattle.ocpi_types.specs.declared.site.Site.{Site}
 use Rattle.ocpi_types.specs.declared.site.SiteLine.{SiteLine}
-use Rattle.ocpi_json.specs.Form.{Required, IsCi, IsFree, IsParty, IsMoment, IsE4, IsRecord}
-
--- the elements, each of the form P, in order
-abbrev pub AreItems : {X : Type 0} → (Data → X → Type 0) → Items → List X → Type 0
-AreItems P no_items [] = Unit {0}
-AreItems P no_items (x ∷ xs) = ⊥
-AreItems P (item d ds) [] = ⊥
-AreItems P (item d ds) (x ∷ xs) = P d x × AreItems P ds xs
-
--- a list of such elements
-abbrev pub IsList : {X : Type 0} → (Data → X → Type 0) → Data → List X → Type 0
-IsList P v xs = (items : Items) × (v ≡ array items) × AreItems P items xs
+use Rattle.ocpi_json.specs.Form.{Required, IsCi, IsFree, IsParty, IsMoment, IsE4, IsRecord, IsList}
 
 pub record IsConnector (d : Data) (c : Connector) : Type 0 where
   pub id : Required (IsCi 36) field.Id d c.id

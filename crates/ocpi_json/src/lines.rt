@@ -4,12 +4,14 @@ ghost use Rattle.std.specs.Prelude.{◌≡◌, ◌≤◌, length, IfOk, Ok, stri
 ghost use Rattle.ocpi_json.specs.Fault.{GivesBy};
 ghost use Rattle.ocpi_json.specs.Line.{max_line, text_of, tree_of, tree_at};
 ghost use Rattle.ocpi_json.specs.Plain.{IsTagged, plain_text};
+ghost use Rattle.ocpi_json.specs.Tagged.{tree_in};
 ghost use Rattle.serde_json.specs.Data.{depth};
 ghost use Rattle.serde_json.specs.Read.{max_depth};
 ghost use Rattle.serde_json.specs.View.{view};
 
 use crate::fault::JsonFault;
 use crate::names::has_number_name;
+use crate::one_pass::{Stop, tree_of_text};
 use crate::quote::quote_numbers;
 use crate::unquote::unquote_numbers;
 use serde_json::Value;
@@ -46,6 +48,14 @@ fn tree_of(alloc: Global, quoted: &str) -> Result<Value, JsonFault>
     }
 }
 
+/// The tree of a text, or its first refusal: its numbers are quoted, and the quoted text is read.
+fn tree_by_quoting(alloc: Global, text: &str) -> Result<Value, JsonFault>
+    ensures { GivesBy view result (tree_in text.now) }
+{
+    let quoted = quote_numbers(alloc, text)?;
+    tree_of(alloc, &quoted)
+}
+
 /// The JSON tree of a line. Each number is a text there, as written, behind U+0001, so none is
 /// read as floating point.
 ///
@@ -57,8 +67,11 @@ pub fn line_tree(alloc: Global, line: &[u8]) -> Result<Value, JsonFault>
     ensures { GivesBy view result (tree_at line.now) }
 {
     let text = text_of(line)?;
-    let quoted = quote_numbers(alloc, text)?;
-    tree_of(alloc, &quoted)
+    match tree_of_text(alloc, text) {
+        Ok(tree) => Ok(tree),
+        Err(Stop::Memory) => Err(JsonFault::Memory),
+        Err(Stop::Declined) => tree_by_quoting(alloc, text),
+    }
 }
 
 /// The line of a tree whose numbers are texts behind U+0001: no spaces, the members of each object

@@ -7,7 +7,7 @@ ghost use Rattle.ocpi_json.specs.Names.{begins_with_tag, is_number_name, has_num
 use json::{Reader, Scratch, Token};
 use std::alloc::{AllocError, Global};
 
-fn begins_with_tag(text: &str) -> bool
+pub(crate) fn begins_with_tag(text: &str) -> bool
     ensures { result ≡ begins_with_tag text.now }
 {
     text.as_bytes().first() == Some(&1)

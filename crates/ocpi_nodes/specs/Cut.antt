@@ -5,7 +5,7 @@ use Rattle.std.proofs.lemmas.Bool.{cases_lt}
 use Rattle.std.proofs.lemmas.List.{length-take}
 use Rattle.ocpi_json.specs.declared.fault.JsonFault.TheVariants.{Syntax}
 use Rattle.ocpi_json.specs.Fault.{◌>>=◌, Fails}
-use Rattle.ocpi_json.specs.Forms.{packet_of_line}
+use Rattle.ocpi_json.specs.Packets.{packet_of_line}
 use Rattle.ocpi_json.specs.Line.{max_line, text_of, tree_of, tree_at}
 use Rattle.ocpi_json.specs.Packets.{packet_in}
 use Rattle.ocpi_json.specs.Quote.{quote}

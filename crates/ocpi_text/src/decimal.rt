@@ -5,7 +5,7 @@ ghost use Rattle.std.specs.Char.{is_ascii_digit};
 ghost use Rattle.std.specs.Int.{is_negative};
 ghost use Rattle.std.specs.List.{list_all};
 ghost use Rattle.std.specs.Str.Parse.{digits_value};
-ghost use Rattle.ocpi_text.specs.Decimal.{SpellsE4, e4_at, e4_text, e4_limit, without_sign, whole_part, after_whole, is_whole_part, is_fraction_part, is_number, has_minus, sign_text, four_decimals, magnitude};
+ghost use Rattle.ocpi_text.specs.Decimal.{SpellsE4, e4_at, e4_text, sum_text, e4_limit, without_sign, whole_part, after_whole, is_whole_part, is_fraction_part, is_number, has_minus, sign_text, four_decimals, magnitude};
 ghost use Rattle.ocpi_text.specs.declared.fault.TextFault.TheVariants.{BadNumber, NumberTooLarge};
 
 use crate::fault::TextFault;
@@ -155,10 +155,27 @@ fn has_minus(text: &[u8]) -> bool
     matches!(text, [b'-', ..])
 }
 
-fn sign_text(units: i64) -> &'static str
-    ensures { result.now ≡ sign_text (is_negative units) }
+fn sign_text(sum: i128) -> &'static str
+    ensures { result.now ≡ sign_text (is_negative sum) }
 {
-    if units < 0 { "-" } else { "" }
+    if sum < 0 { "-" } else { "" }
+}
+
+/// A sum of ten-thousandths with four decimals, as `3.0864` or `-1.5000`, however large it is. Where its magnitude is
+/// below 10^15, `E4::read` takes the text for that number. Fails for want of memory alone.
+#[tactic(auto, unfolding(crate::specs::Decimal::sum_text, crate::specs::Decimal::unsigned_text))]
+pub fn write_sum(alloc: Global, ten_thousandths: i128) -> Result<String, AllocError>
+    ensures value { IfOk result (λ s. string_bytes s ≡ sum_text ten_thousandths) }
+    ensures again { IfOk result (λ s. unsigned_abs ten_thousandths < e4_limit → e4_at (string_bytes s) ≡ Ok ten_thousandths) }
+{
+    let sign = sign_text(ten_thousandths);
+    let magnitude = ten_thousandths.unsigned_abs();
+    let whole = magnitude / 10_000;
+    let decimals = (magnitude % 10_000) as u64;
+    let mut text = format!(in alloc; "{sign}{whole}.")?;
+    push_two(&mut text, decimals / 100)?;
+    push_two(&mut text, decimals % 100)?;
+    Ok(text)
 }
 
 impl E4 {
@@ -186,19 +203,12 @@ impl E4 {
     }
 
     /// The number with four decimals, which `read` takes for the same number. Fails for want of memory alone.
-    #[tactic(auto, unfolding(crate::specs::Decimal::e4_text, crate::specs::Decimal::unsigned_text))]
     pub fn write(self, alloc: Global) -> Result<String, AllocError>
         ensures value { IfOk result (λ s. string_bytes s ≡ e4_text self) }
         ensures again { IfOk result (λ s. e4_at (string_bytes s) ≡ Ok self) }
         ensures bound { unsigned_abs self < e4_limit }
     {
-        let sign = sign_text(self.units);
-        let magnitude = self.units.unsigned_abs();
-        let (whole, decimals) = (magnitude / 10_000, magnitude % 10_000);
-        let mut text = format!(in alloc; "{sign}{whole}.")?;
-        push_two(&mut text, decimals / 100)?;
-        push_two(&mut text, decimals % 100)?;
-        Ok(text)
+        write_sum(alloc, i128::from(self.units))
     }
 
     /// The ten-thousandths.

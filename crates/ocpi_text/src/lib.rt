@@ -12,18 +12,18 @@ mod free_text;
 mod laws;
 mod moment;
 mod numeral;
+mod own_ids;
 mod party;
 mod quantity;
-#[cfg(test)]
-mod tests;
 mod whole;
 
 pub use ci_text::CiText;
-pub use decimal::E4;
+pub use decimal::{E4, write_sum};
 pub use fault::TextFault;
 pub use free_text::{FreeText, ShortText};
-pub use laws::{keys_are_texts, parties_are_their_halves, texts_are_read_back};
+pub use laws::{keys_are_texts, own_ids_are_apart, parties_are_their_halves, texts_are_read_back};
 pub use moment::Moment;
+pub use own_ids::{OwnIdKind, own_id};
 pub use party::Party;
 pub use quantity::Quantity;
 pub use whole::Whole;

@@ -1,0 +1,248 @@
+//! What is read and written, by tables.
+
+use ocpi_text::{
+    CiText, E4, FreeText, Moment, OwnIdKind, Party, Quantity, ShortText, TextFault, Whole, own_id,
+    write_sum,
+};
+use std::alloc::Global;
+use std::test::Fail;
+
+/// What a text is read as.
+#[derive(Clone, Copy)]
+enum Form {
+    CiString,
+    FreeString,
+    ShortString,
+    PartyPair,
+    WholeNumber,
+    DateTime,
+    Number,
+}
+
+/// The text as it is written again: a CiString of at most two characters in capitals, a string of at most six
+/// characters, or the other forms.
+fn rewritten(alloc: Global, form: Form, text: &str) -> Result<String, TextFault> {
+    let written = match form {
+        Form::CiString => String::from_str(alloc, CiText::<2>::new(text)?.key().as_str()),
+        Form::FreeString => String::from_str(alloc, FreeText::<6>::new(alloc, text)?.as_str()),
+        Form::ShortString => String::from_str(alloc, ShortText::<6, 24>::new(text)?.as_str()),
+        Form::PartyPair => Party::read(text)?.write(alloc),
+        Form::WholeNumber => Whole::read(text)?.write(alloc),
+        Form::DateTime => Moment::read(text)?.write(alloc),
+        Form::Number => E4::read(text)?.write(alloc),
+    };
+    Ok(written?)
+}
+
+#[test]
+fn texts_are_read_and_written(rt: HostRuntime) -> Result<(), Fail> {
+    let alloc = rt.alloc();
+    let rows = [
+        (Form::CiString, "", ""),
+        (Form::CiString, "b~", "B~"),
+        (Form::FreeString, "Café ~", "Café ~"),
+        (Form::ShortString, "Café ~", "Café ~"),
+        (Form::PartyPair, "be/BEC", "be/BEC"),
+        (Form::WholeNumber, "007", "7"),
+        (
+            Form::WholeNumber,
+            "999999999999999999",
+            "999999999999999999",
+        ),
+        (
+            Form::DateTime,
+            "2025-01-01T10:00:00.1239",
+            "2025-01-01T10:00:00.123Z",
+        ),
+        (
+            Form::DateTime,
+            "2025-01-01t10:00:00.0009999z",
+            "2025-01-01T10:00:00Z",
+        ),
+        (
+            Form::DateTime,
+            "2024-02-29T23:59:59.5-00:00",
+            "2024-02-29T23:59:59.500Z",
+        ),
+        (
+            Form::DateTime,
+            "1970-01-01T00:00:00+00:00",
+            "1970-01-01T00:00:00Z",
+        ),
+        (
+            Form::DateTime,
+            "9999-12-31T23:59:59.999Z",
+            "9999-12-31T23:59:59.999Z",
+        ),
+        (Form::Number, "0.5", "0.5000"),
+        (Form::Number, "-1.5", "-1.5000"),
+        (Form::Number, "-0", "0.0000"),
+        (Form::Number, "-0.00001", "0.0000"),
+        (Form::Number, "12.34567", "12.3456"),
+        (Form::Number, "99999999999.9999", "99999999999.9999"),
+    ];
+    for (form, text, written) in rows {
+        let again = rewritten(alloc, form, text)?;
+        assert_eq!(rt; again.as_str(), written);
+    }
+    Ok(())
+}
+
+#[test]
+fn texts_are_refused(rt: HostRuntime) {
+    let alloc = rt.alloc();
+    let rows = [
+        (Form::CiString, "ééé", TextFault::TooLong),
+        (Form::CiString, "abc", TextFault::TooLong),
+        (Form::CiString, "éé", TextFault::NotPrintable),
+        (Form::CiString, "a\u{7f}", TextFault::NotPrintable),
+        (Form::FreeString, "Café at", TextFault::TooLong),
+        (Form::FreeString, "a\u{9f}", TextFault::NotPrintable),
+        (Form::ShortString, "a\u{1f}", TextFault::NotPrintable),
+        (Form::PartyPair, "BE-BEC", TextFault::TooLong),
+        (Form::PartyPair, "é/BECX", TextFault::TooLong),
+        (Form::PartyPair, "éé/BEC", TextFault::NotPrintable),
+        (Form::WholeNumber, "+7", TextFault::BadNumber),
+        (Form::WholeNumber, "", TextFault::BadNumber),
+        (
+            Form::WholeNumber,
+            "1000000000000000000",
+            TextFault::NumberTooLarge,
+        ),
+        (
+            Form::WholeNumber,
+            "99999999999999999999999",
+            TextFault::NumberTooLarge,
+        ),
+        (Form::DateTime, "2025-02-29T00:00:00Z", TextFault::BadMoment),
+        (Form::DateTime, "1900-02-29T00:00:00Z", TextFault::BadMoment),
+        (
+            Form::DateTime,
+            "2025-01-01T10:00:00+01:00",
+            TextFault::BadMoment,
+        ),
+        (Form::DateTime, "1969-12-31T23:59:59Z", TextFault::BadMoment),
+        (Form::DateTime, "2025-01-01T10:00:60Z", TextFault::BadMoment),
+        (Form::DateTime, "2025-01-01T24:00:00Z", TextFault::BadMoment),
+        (
+            Form::DateTime,
+            "2025-01-01T10:00:00.Z",
+            TextFault::BadMoment,
+        ),
+        (Form::DateTime, "2025-01-01T10:00:0é", TextFault::BadMoment),
+        (Form::Number, "1e3", TextFault::BadNumber),
+        (Form::Number, "01", TextFault::BadNumber),
+        (Form::Number, "1.", TextFault::BadNumber),
+        (Form::Number, "-", TextFault::BadNumber),
+        (Form::Number, "1234567890123456", TextFault::NumberTooLarge),
+        (Form::Number, "100000000000", TextFault::NumberTooLarge),
+    ];
+    for (form, text, fault) in rows {
+        assert_eq!(rt; rewritten(alloc, form, text).err(), Some(fault));
+    }
+}
+
+#[test]
+fn sums_are_written(rt: HostRuntime) -> Result<(), Fail> {
+    let alloc = rt.alloc();
+    let rows = [
+        (30864, "3.0864"),
+        (-15000, "-1.5000"),
+        (0, "0.0000"),
+        (i128::MIN, "-17014118346046923173168730371588410.5728"),
+    ];
+    for (sum, written) in rows {
+        let text = write_sum(alloc, sum)?;
+        assert_eq!(rt; text.as_str(), written);
+    }
+    Ok(())
+}
+
+#[test]
+fn own_ids(rt: HostRuntime) -> Result<(), Fail> {
+    let rows = [
+        (
+            OwnIdKind::Session,
+            "BE/BEC",
+            "53424542-4543-0000-0000-000000000001",
+        ),
+        (
+            OwnIdKind::Cdr,
+            "BE/BEC",
+            "43424542-4543-0000-0000-000000000001",
+        ),
+        (
+            OwnIdKind::AuthorizationReference,
+            "NL/TNM",
+            "414e4c54-4e4d-0000-0000-000000000001",
+        ),
+        (
+            OwnIdKind::AuthorizationReference,
+            "nl/tnm",
+            "414e4c54-4e4d-0000-0000-000000000001",
+        ),
+        (
+            OwnIdKind::AuthorizationReference,
+            "DE/EMP",
+            "41444545-4d50-0000-0000-000000000001",
+        ),
+    ];
+    let Some(first) = Whole::new(1) else {
+        return Ok(());
+    };
+    for (kind, party, id) in rows {
+        let party = Party::read(party)?;
+        assert_eq!(rt; own_id(kind, party, first).as_str(), id);
+    }
+    Ok(())
+}
+
+#[test]
+fn parties_by_their_halves(rt: HostRuntime) -> Result<(), Fail> {
+    let party = Party::join(CiText::exact("be")?, CiText::exact("bec")?);
+    let key = party.key();
+    assert_eq!(rt; party.country(), "be");
+    assert_eq!(rt; party.party_id(), "bec");
+    assert_eq!(rt; key.as_str(), "BE/BEC");
+    assert!(rt; key.is_same(&party));
+    assert!(rt; key < party);
+    Ok(())
+}
+
+#[test]
+fn moments_are_counted(rt: HostRuntime) -> Result<(), Fail> {
+    let rows = [
+        ("2025-01-01T10:00:00Z", 0, 1735725600000),
+        ("2000-02-29T23:59:59.001Z", 999, 951868800000),
+        ("9999-12-31T23:59:59.999Z", u64::MAX, 253402300799999),
+    ];
+    for (text, later, millis) in rows {
+        assert_eq!(rt; Moment::read(text)?.after(later).millis(), millis);
+    }
+    Ok(())
+}
+
+#[test]
+fn numbers_have_limits(rt: HostRuntime) {
+    let rows = [
+        (999999999999999, true, true),
+        (0, true, true),
+        (-1, true, false),
+        (-999999999999999, true, false),
+        (1000000000000000, false, false),
+        (i64::MIN, false, false),
+    ];
+    for (units, is_number, is_quantity) in rows {
+        let number = E4::new(units);
+        assert_eq!(rt; number.is_some(), is_number);
+        assert_eq!(rt;
+            number.and_then(|n| Quantity::new(n)).is_some(),
+            is_quantity
+        );
+    }
+    assert_eq!(rt; Whole::new(Whole::MAX).and_then(|n| n.next()), None);
+    assert_eq!(rt;
+        Whole::new(6).and_then(|n| n.next()).map(|n| n.value()),
+        Some(7)
+    );
+}
