@@ -36,7 +36,10 @@ all_digits : (s : List ℕ) → is_whole s ≡ true → list_all is_ascii_digit 
 unfolding is_whole
 all_digits s h = (and_parts (nat_lt 0 (length s)) (list_all is_ascii_digit s) h).1
 
-whole_int : (n : ℕ) → n ≤ max_whole → IsInt (decimal n)
+pub decimal_digits : (n : ℕ) → n < 2 ^ 64 → list_all is_ascii_digit (decimal n) ≡ true
+decimal_digits n small = all_digits (decimal n) (whole_from (decimal n) (digits_decimal own n small) (decimal_nonempty n small))
+
+pub whole_int : (n : ℕ) → n ≤ max_whole → IsInt (decimal n)
 whole_int zero le = zero_int (decimal_digit 0 (omega arith))
 whole_int (suc n) le =
     let small : suc n < 2 ^ 64 = omega arith in

@@ -1,8 +1,8 @@
 -- A list is read just where its elements have their form, each beside those before it.
-use Rattle.std.proofs.Common.{◌≡◌, ℕ, ◌≤◌, suc, Bool, true, false, cond, List, [], ◌∷◌, ◌++◌, length, map, Ok, Err, refl, sym, subst, ap, ◌∙◌, arith}
+use Rattle.std.proofs.Common.{◌≡◌, ℕ, ◌+◌, ◌≤◌, suc, Bool, true, false, cond, List, [], ◌∷◌, ◌++◌, length, map, Ok, Err, refl, sym, subst, ap, ◌∙◌, arith}
 use Rattle.std.specs.Prelude.{Contains}
 use Rattle.std.proofs.lemmas.Bool.{and_parts, and_from, leb-true, le-leb}
-use Rattle.std.proofs.lemmas.List.{append_assoc, append-nil, map-append}
+use Rattle.std.proofs.lemmas.List.{append_assoc, append-nil, length-append, map-append}
 use Rattle.std.specs.Cmp.Lexicographic.{on_texts_equal}
 use Rattle.std.proofs.lemmas.Bool.{false≢true}
 use Rattle.std.proofs.lemmas.Map.Views.{Contains-from_any, list_any-from_Contains}
@@ -14,10 +14,10 @@ use Rattle.ocpi_types.specs.Apart.{DifferFrom}
 use Rattle.ocpi_types.specs.declared.field.Field.{Field}
 use Rattle.ocpi_json.specs.declared.fault.JsonFault.TheVariants.{WrongForm}
 use Rattle.ocpi_json.specs.Fault.{Read, ◌>>=◌}
-use Rattle.ocpi_json.specs.Fields.{as_record, as_list, list_in, each_after, ci_in}
+use Rattle.ocpi_json.specs.Fields.{as_record, as_list, list_in, not_empty, non_empty_in, each_after, ci_in}
 use Rattle.ocpi_json.specs.Sites.{is_among, new_among, new_ci_in, counted_in}
-use Rattle.ocpi_json.specs.Form.{Required, IsCi, IsRecord, AreItems, IsList}
-use Rattle.ocpi_json.proofs.Exact.{Exact, done, ok_is, bind_ok, member_exact, as_record_exact, ci_exact}
+use Rattle.ocpi_json.specs.Form.{Required, IsCi, IsRecord, AreItems, IsList, IsNonEmpty}
+use Rattle.ocpi_json.proofs.Exact.{Exact, done, ok_is, bind_ok, both_steps, member_exact, as_record_exact, ci_exact}
 
 -- each is new beside those before it
 abbrev pub AllNew : {X : Type 0} → (List X → X → Type 0) → List X → List X → Type 0
@@ -100,7 +100,7 @@ list_sound f (string b) items e = absurd cc
 list_sound f (object b) items e = absurd cc
 list_sound f (array ds) items e = ap array (ok_is ds items e)
 
-list_exact : (f : Field) → Exact (list_in f) (Required IsItems f)
+pub list_exact : (f : Field) → Exact (list_in f) (Required IsItems f)
 unfolding list_in
 list_exact f = member_exact f (as_list f) IsItems (record { sound = list_sound f; complete = λ v items p. rw p refl })
 
@@ -158,6 +158,64 @@ listing_exact {reader = reader} {P = P} {New = New} h least most f = record {
       rw ((counted_exact least most f).complete d items (record { is_list = (v.0, v.1, v.2.1); low = omega (arith, n); high = omega (arith, n) })) (each_complete h [] items xs v.2.2 p.apart);
 }
 
+-- ---- a list of one or more
+
+non_empty_sound : (f : Field) (ds is : Items) → not_empty f ds ≡ Ok is → (ds ≡ is) × (1 ≤ items_len is)
+non_empty_sound f no_items is e = absurd cc
+non_empty_sound f (item d ds) is e = let same = ok_is (item d ds) is e in (same, subst (λ (js : Items). 1 ≤ items_len js) same (omega arith))
+
+non_empty_complete : (f : Field) (ds : Items) → 1 ≤ items_len ds → not_empty f ds ≡ Ok ds
+non_empty_complete f no_items some = absurd (omega (arith, some))
+non_empty_complete f (item d ds) some = refl
+
+-- readers that look at no other element
+with_none_before : {X : Type 0} {reader : Data → Read X} {P : Data → X → Type 0} → Exact reader P → ExactBeside (λ _. reader) P (λ _ _. Unit {0})
+with_none_before h = record {
+  form = λ before d x e. h.sound d x e;
+  fresh = λ before d x e. tt;
+  complete = λ before d x p n. h.complete d x p;
+}
+
+all_new : {X : Type 0} (before xs : List X) → AllNew (λ (_ : List X) (_ : X). Unit {0}) before xs
+all_new before [] = tt
+all_new before (x ∷ xs) = (tt, all_new (before ++ x ∷ []) xs)
+
+pub non_empty_exact : {X : Type 0} {reader : Data → Read X} {P : Data → X → Type 0} → Exact reader P → (f : Field) → Exact (λ d. non_empty_in f d >>= each_after (λ _. reader) []) (Required (IsNonEmpty P) f)
+unfolding non_empty_in
+non_empty_exact {X = X} {reader = reader} {P = P} h f =
+    let elements = with_none_before h in
+    record {
+      sound = λ d xs e.
+          let a = bind_ok (non_empty_in f d) (each_after (λ _. reader) []) xs e in
+          let b = bind_ok (list_in f d) (not_empty f) a.0 a.1 in
+          let some = non_empty_sound f b.0 a.0 b.2 in
+          let v = (list_exact f).sound d b.0 b.1 in
+          let each = each_sound elements [] a.0 xs a.2 in
+          let are : AreItems P a.0 xs = subst (AreItems P a.0) (sym each.all) each.items in
+          let n = items_length P a.0 xs are in
+          (v.0, v.1, ((a.0, v.2 ∙ ap array some.0, are), omega (arith, n, some.1)));
+      complete = λ d xs p.
+          let items = p.2.0.0 in
+          let n = items_length P items xs p.2.0.2 in
+          let some = non_empty_complete f items (omega (arith, n, p.2.1)) in
+          rw (both_steps (list_in f d) (not_empty f) items items ((list_exact f).complete d items (p.0, p.1, p.2.0.1)) some) (each_complete elements [] items xs p.2.0.2 (all_new [] xs));
+    }
+
+each_length : {X : Type 0} (reader : List X → Data → Read X) (before : List X) (ds : Items) (zs : List X) → each_after reader before ds ≡ Ok zs → length zs ≡ length before + items_len ds
+unfolding each_after
+each_length reader before no_items zs e = let n = ap length (ok_is before zs e) in omega (arith, n)
+each_length reader before (item d ds) zs e =
+    let b = bind_ok (reader before d) _ zs e in
+    let n = each_length reader (before ++ b.0 ∷ []) ds zs b.2 in
+    omega (arith, n, length-append before (b.0 ∷ []))
+
+-- the elements of such a list are some
+pub some_elements : {X : Type 0} (reader : List X → Data → Read X) (f : Field) (d : Data) (items : Items) (xs : List X) → non_empty_in f d ≡ Ok items → each_after reader [] items ≡ Ok xs → 1 ≤ length xs
+unfolding non_empty_in
+some_elements reader f d items xs e each =
+    let b = bind_ok (list_in f d) (not_empty f) items e in
+    omega (arith, (non_empty_sound f b.0 items b.2).1, each_length reader [] items xs each)
+
 -- ---- texts that differ
 
 pub not_among : (earlier : List (List ℕ)) (s : List ℕ) → is_among earlier s ≡ false → ¬ Contains earlier s
@@ -210,3 +268,28 @@ differ_from_new k front before (x ∷ xs) h = (h.0, subst (λ l. DifferFrom l (m
 pub new_from_differ : {X : Type 0} (k : X → List ℕ) (front : List (List ℕ)) (before xs : List X) → DifferFrom (front ++ map k before) (map k xs) → AllNew (Apart k front) before xs
 new_from_differ k front before [] h = tt
 new_from_differ k front before (x ∷ xs) h = (h.0, new_from_differ k front (before ++ x ∷ []) xs (subst (λ l. DifferFrom l (map k xs)) (push_key k front before x) h.1))
+
+-- ---- a list of any number, each read without regard to the others
+
+all_are_new : {X : Type 0} (before xs : List X) → AllNew (λ (_ : List X) (_ : X). Unit {0}) before xs
+all_are_new before [] = tt
+all_are_new before (x ∷ xs) = (tt, all_are_new (before ++ x ∷ []) xs)
+
+alone : {X : Type 0} {reader : Data → Read X} {P : Data → X → Type 0} → Exact reader P → ExactBeside (λ _. reader) P (λ _ _. Unit {0})
+alone h = record {
+  form = λ before d x e. h.sound d x e;
+  fresh = λ before d x e. tt;
+  complete = λ before d x p n. h.complete d x p;
+}
+
+pub every_exact : {X : Type 0} {reader : Data → Read X} {P : Data → X → Type 0} → Exact reader P → (f : Field) → Exact (λ d. list_in f d >>= each_after (λ _. reader) []) (Required (IsList P) f)
+every_exact {reader = reader} {P = P} h f = record {
+  sound = λ d xs e.
+      let a = bind_ok (list_in f d) (each_after (λ _. reader) []) xs e in
+      let v = (list_exact f).sound d a.0 a.1 in
+      let each = each_sound (alone h) [] a.0 xs a.2 in
+      (v.0, v.1, (a.0, v.2, subst (AreItems P a.0) (sym each.all) each.items));
+  complete = λ d xs p.
+      let items = p.2.0 in
+      rw ((list_exact f).complete d items (p.0, p.1, p.2.1)) (each_complete (alone h) [] items xs p.2.2 (all_are_new [] xs));
+}

@@ -1,7 +1,12 @@
 pub mod Among
+pub mod AuthorizationLemmas
+pub mod CdrLemmas
+pub mod CdrLocationLemmas
+pub mod ChargingPeriodLemmas
 pub mod CommandLemmas
 pub mod Copying
 pub mod Cutting
+pub mod DecimalNumbers
 pub mod Depths
 pub mod Digits
 pub mod Elements
@@ -20,6 +25,7 @@ pub mod Repeats
 pub mod ReplyLemmas
 pub mod Said
 pub mod Seen
+pub mod SessionLemmas
 pub mod SiteForm
 pub mod StatusLemmas
 pub mod Steps

@@ -1,5 +1,5 @@
 -- Reading elements one after the other, each beside those before it.
-use Rattle.std.proofs.Common.{◌≡◌, ℕ, ◌+◌, ◌<◌, ◌≤◌, Bool, true, false, List, [], ◌∷◌, ◌++◌, length, get_or, drop, Ok, Err, refl, sym, ap, ◌∙◌}
+use Rattle.std.proofs.Common.{◌≡◌, ◌≢◌, ℕ, ◌+◌, ◌<◌, ◌≤◌, Bool, true, false, List, [], ◌∷◌, ◌++◌, length, get_or, drop, Ok, Err, refl, sym, ap, ◌∙◌}
 use Rattle.std.specs.Prelude.{nat_le, ◌&&◌}
 use Rattle.std.proofs.lemmas.Bool.{le-leb, lt-leb}
 use Rattle.std.proofs.lemmas.List.{at_drop_more, at_drop_all}
@@ -11,7 +11,7 @@ use Rattle.ocpi_types.specs.declared.field.Field.{Field}
 use Rattle.ocpi_json.specs.declared.fault.JsonFault.{JsonFault}
 use Rattle.ocpi_json.specs.declared.fault.JsonFault.TheVariants.{WrongForm}
 use Rattle.ocpi_json.specs.Fault.{Fails, Read}
-use Rattle.ocpi_json.specs.Fields.{each_after, list_in}
+use Rattle.ocpi_json.specs.Fields.{each_after, list_in, non_empty_in}
 use Rattle.ocpi_json.specs.Sites.{counted_in}
 use Rattle.ocpi_json.proofs.Fails.{Fails-through}
 
@@ -58,3 +58,13 @@ too_few d f least most vs e few = rw (e, items_len-items_view vs, lt-leb _ _ few
 pub too_many : (d : Data) (f : Field) (least most : ℕ) (vs : List Value) → list_in f d ≡ Ok (items_view vs) → most < length vs → counted_in least most f d ≡ Err (WrongForm f)
 unfolding counted_in
 too_many d f least most vs e many = rw (e, items_len-items_view vs, and_no (nat_le least (length vs)) (nat_le (length vs) most) (lt-leb _ _ many)) refl
+
+pub is_empty_list : (d : Data) (f : Field) (vs : List Value) → list_in f d ≡ Ok (items_view vs) → length vs ≡ 0 → non_empty_in f d ≡ Err (WrongForm f)
+unfolding non_empty_in
+is_empty_list d f [] e none = rw e refl
+is_empty_list d f (v ∷ vs) e none = absurd cc
+
+pub is_some_list : (d : Data) (f : Field) (vs : List Value) → list_in f d ≡ Ok (items_view vs) → length vs ≢ 0 → non_empty_in f d ≡ Ok (items_view vs)
+unfolding non_empty_in
+is_some_list d f [] e some = absurd (some refl)
+is_some_list d f (v ∷ vs) e some = rw e refl

@@ -1,8 +1,9 @@
 -- The members of a record that is written have the forms by which they are read.
-use Rattle.std.proofs.Common.{◌≡◌, ℕ, ℤ, ◌≤◌, ◌<◌, Bool, true, false, List, ◌∷◌, Option, Some, None, Ok, option_map, decimal, refl, sym, ap, ◌∙◌, inl}
-use Rattle.std.specs.Prelude.{unsigned_abs}
+use Rattle.std.proofs.Common.{◌≡◌, ℕ, ℤ, suc, ◌≤◌, ◌<◌, Bool, true, false, List, [], ◌∷◌, Option, Some, None, Ok, option_map, decimal, refl, sym, ap, ◌∙◌, inl, arith}
+use Rattle.std.specs.List.{All}
+use Rattle.std.specs.Prelude.{unsigned_abs, IfSome}
 use Rattle.json.specs.Json as json
-use Rattle.serde_json.specs.Data.{Data, null, boolean, string, object}
+use Rattle.serde_json.specs.Data.{Data, null, boolean, string, array, object}
 use Rattle.serde_json.specs.Find.{get}
 use Rattle.ocpi_text.specs.Decimal.{e4_limit, e4_text}
 use Rattle.ocpi_text.specs.Moment.{last_moment, moment_text}
@@ -14,10 +15,10 @@ use Rattle.ocpi_types.specs.declared.field.Field.{Field}
 use Rattle.ocpi_types.specs.declared.field.Field.TheVariants as field
 use Rattle.ocpi_types.specs.Fields.{name_of}
 use Rattle.ocpi_json.specs.Fields.{is_tagged}
-use Rattle.ocpi_json.specs.Fits.{FitsCi, FitsFree, FitsOption, FitsOptionalMoment}
-use Rattle.ocpi_json.specs.Form.{Has, Required, Lacks, Optional, IsText, IsCi, IsFree, IsParty, IsMoment, IsWhole, IsE4, IsWord, IsTruth, IsRecord, HasParty}
-use Rattle.ocpi_json.specs.Members.{Member, object_of}
-use Rattle.ocpi_json.proofs.Tagged.{tagged, ascends, lookup, get_is}
+use Rattle.ocpi_json.specs.Fits.{FitsCi, FitsFree, FitsOption, FitsOptionalMoment, FitsQuantity}
+use Rattle.ocpi_json.specs.Form.{Has, Required, Lacks, Optional, IsText, IsCi, IsFree, IsParty, IsMoment, IsWhole, IsE4, IsWord, IsTruth, IsQuantity, IsRecord, HasParty, AreItems, IsList}
+use Rattle.ocpi_json.specs.Members.{Member, object_of, items_of, objects, strings}
+use Rattle.ocpi_json.proofs.Tagged.{tagged, tagged_items, ascends, lookup, get_is}
 
 -- the tree of a record
 abbrev pub tree : List Member → Data
@@ -83,6 +84,9 @@ whole_form f n ms h le = (string (1 ∷ decimal n), number_has f (decimal n) ms 
 pub e4_form : (f : Field) (z : ℤ) (ms : List Member) → Stands f (Some (json.number (e4_text z))) ms → unsigned_abs z < e4_limit → Required IsE4 f (tree ms) z
 e4_form f z ms h small = (string (1 ∷ e4_text z), number_has f (e4_text z) ms h, (e4_text z, refl, e4_again z small))
 
+pub quantity_form : (f : Field) (z : ℤ) (ms : List Member) → Stands f (Some (json.number (e4_text z))) ms → FitsQuantity z → Required IsQuantity f (tree ms) z
+quantity_form f z ms h fits = let p = e4_form f z ms h fits.bound in (p.0, p.1, (p.2, fits.least))
+
 pub truth_form : (f : Field) (b : Bool) (ms : List Member) → Stands f (Some (json.boolean b)) ms → Required IsTruth f (tree ms) b
 truth_form f b ms h = (boolean b, record { there = there f (json.boolean b) ms h; some = λ e. cc }, refl)
 
@@ -107,3 +111,41 @@ pub optional_inner_form : {X : Type 0} (P : Data → X → Type 0) (members : X 
     → ((x : X) → o ≡ Some x → P (tree (members x)) x) → Optional (IsRecord P) f (tree ms) o
 optional_inner_form P members f None ms h forms = lacks f ms h
 optional_inner_form P members f (Some x) ms h forms = inner_form P f (members x) x ms h (forms x refl)
+
+-- ---- lists
+
+first_fits : {X : Type 0} (Fits : X → Type 0) (x : X) (xs : List X) → All Fits (x ∷ xs) → Fits x
+first_fits Fits x xs all = all 0 x (omega arith)
+
+rest_fit : {X : Type 0} (Fits : X → Type 0) (x : X) (xs : List X) → All Fits (x ∷ xs) → All Fits xs
+rest_fit Fits x xs all = λ k d lt. all (suc k) d (omega arith)
+
+items_are : {X : Type 0} (P : Data → X → Type 0) (members : X → List Member) (Fits : X → Type 0) → ((x : X) → Fits x → P (tree (members x)) x) → (xs : List X) → All Fits xs → AreItems (IsRecord P) (tagged_items (items_of (objects members xs))) xs
+items_are P members Fits form [] all = tt
+items_are P members Fits form (x ∷ xs) all = (
+  record { members = _; is_object = refl; form = form x (first_fits Fits x xs all) },
+  items_are P members Fits form xs (rest_fit Fits x xs all),
+)
+
+-- a list of records
+pub list_form : {X : Type 0} (P : Data → X → Type 0) (members : X → List Member) (Fits : X → Type 0) (f : Field) (xs : List X) (ms : List Member) → Stands f (Some (json.array (items_of (objects members xs)))) ms
+    → ((x : X) → Fits x → P (tree (members x)) x) → All Fits xs → Required (IsList (IsRecord P)) f (tree ms) xs
+list_form P members Fits f xs ms h form all =
+    let items = items_of (objects members xs) in
+    (array (tagged_items items), record { there = there f (json.array items) ms h; some = λ e. cc }, (tagged_items items, refl, items_are P members Fits form xs all))
+
+texts_are : (max : ℕ) (xs : List (List ℕ)) → All (FitsCi max) xs → AreItems (IsCi max) (tagged_items (items_of (strings xs))) xs
+texts_are max [] all = tt
+texts_are max (s ∷ xs) all =
+    let fits = first_fits (FitsCi max) s xs all in
+    ((s, (refl, ci_begins s fits.printable), ci_again max s fits.printable fits.short), texts_are max xs (rest_fit (FitsCi max) s xs all))
+
+-- a list of texts that are compared without case
+pub ci_list_form : (max : ℕ) (f : Field) (xs : List (List ℕ)) (ms : List Member) → Stands f (Some (json.array (items_of (strings xs)))) ms → All (FitsCi max) xs → Required (IsList (IsCi max)) f (tree ms) xs
+ci_list_form max f xs ms h all =
+    let items = items_of (strings xs) in
+    (array (tagged_items items), record { there = there f (json.array items) ms h; some = λ e. cc }, (tagged_items items, refl, texts_are max xs all))
+
+pub optional_uids_form : (f : Field) (o : Option (List (List ℕ))) (ms : List Member) → Stands f (option_map (λ js. json.array (items_of js)) (option_map strings o)) ms → IfSome o (All (FitsCi 36)) → Optional (IsList (IsCi 36)) f (tree ms) o
+optional_uids_form f None ms h fits = lacks f ms h
+optional_uids_form f (Some xs) ms h fits = ci_list_form 36 f xs ms h fits

@@ -11,17 +11,17 @@ use Rattle.ocpi_types.specs.declared.packet.Body.TheVariants as body
 use Rattle.ocpi_types.specs.declared.packet.Packet.{Packet}
 use Rattle.ocpi_types.specs.declared.words.PacketKind.{PacketKind}
 use Rattle.ocpi_types.specs.declared.words.PacketKind.TheVariants as kind
-use Rattle.ocpi_json.specs.Authorizations.{authorize_at, authorization_at}
-use Rattle.ocpi_json.specs.Cdrs.{cdr_at}
-use Rattle.ocpi_json.specs.Commands.{start_session_at, stop_session_at, reserve_now_at, cancel_reservation_at, unlock_connector_at}
+use Rattle.ocpi_json.specs.AuthorizationForms.{authorize_at, authorization_at}
+use Rattle.ocpi_json.specs.CdrForms.{cdr_at}
+use Rattle.ocpi_json.specs.CommandForms.{start_session_at, stop_session_at, reserve_now_at, cancel_reservation_at, unlock_connector_at}
 use Rattle.ocpi_json.specs.Fault.{Read, ◌>>=◌}
 use Rattle.ocpi_json.specs.Fields.{is_tagged, party_in, whole_in, record_in, text_in}
 use Rattle.ocpi_json.specs.Form.{Required, IsWord, IsRecord}
 use Rattle.ocpi_json.specs.Line.{tree_at}
 use Rattle.ocpi_json.specs.Members.{object_of}
 use Rattle.ocpi_json.specs.Packets.{known, kind_in, body_at, packet_at, packet_of_line, packet_in, IsBody, IsPacket, IsPacketLine, SpellsPacket, body_members, packet_members, packet_json, BodyFits, PacketFits}
-use Rattle.ocpi_json.specs.Replies.{command_response_at, command_result_at, ack_at}
-use Rattle.ocpi_json.specs.Sessions.{session_at}
+use Rattle.ocpi_json.specs.ReplyForms.{command_response_at, command_result_at, ack_at}
+use Rattle.ocpi_json.specs.SessionForms.{session_at}
 use Rattle.ocpi_json.specs.Tokens.{token_at}
 use Rattle.ocpi_json.proofs.AuthorizationLemmas.{authorize_exact, authorization_exact, authorize_form, authorization_form, authorize_well, authorization_well}
 use Rattle.ocpi_json.proofs.CdrLemmas.{cdr_exact, cdr_form, cdr_well}

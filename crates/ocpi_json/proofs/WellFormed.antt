@@ -1,6 +1,7 @@
 -- JSON values that can be written and read again: which they are, and that records are such from facts on their members.
 use Rattle.std.proofs.Common.{◌≡◌, ℕ, ℤ, suc, max, ◌≤◌, ◌<◌, Bool, true, false, List, [], ◌∷◌, Option, Some, None, Ok, option_map, map, decimal, Greater, refl, arith}
-use Rattle.std.specs.Prelude.{unsigned_abs, ◌&&◌}
+use Rattle.std.specs.List.{All}
+use Rattle.std.specs.Prelude.{unsigned_abs, ◌&&◌, IfSome}
 use Rattle.std.proofs.lemmas.Bool.{and_parts}
 use Rattle.json.specs.Json as json
 use Rattle.json.specs.Tree.{depth, items_depth, members_depth}
@@ -14,9 +15,10 @@ use Rattle.ocpi_types.specs.declared.field.Field.TheVariants.{Line}
 use Rattle.ocpi_types.specs.Fields.{name_of}
 use Rattle.ocpi_json.specs.Fields.{is_tagged}
 use Rattle.ocpi_json.specs.Fits.{FitsCi, FitsFree, FitsOption, FitsOptionalMoment}
-use Rattle.ocpi_json.specs.Members.{Member, and_before, members_of, object_of, items_of}
+use Rattle.ocpi_json.specs.Members.{Member, and_before, members_of, object_of, items_of, objects, strings}
 use Rattle.ocpi_json.specs.Numbers.{IsJsonNumber}
 use Rattle.ocpi_json.specs.Plain.{IsName}
+use Rattle.ocpi_json.proofs.DecimalNumbers.{e4_number}
 use Rattle.ocpi_json.proofs.Digits.{whole_number}
 use Rattle.ocpi_json.proofs.Tagged.{cmp, is_less, is_greater, greater_is, comes_before, before_all, ascends}
 
@@ -134,3 +136,37 @@ optional_moment_well most (Some n) fits = moment_well most n fits
 pub optional_inner_well : {X : Type 0} (most : ℕ) (members : X → List Member) (o : Option X) → ((x : X) → o ≡ Some x → IsWell most (object_of (members x))) → HasWell most (option_map object_of (option_map members o))
 optional_inner_well most members None well = tt
 optional_inner_well most members (Some x) well = well x refl
+
+pub e4_well : (most : ℕ) (z : ℤ) → unsigned_abs z < e4_limit → IsWell most (json.number (e4_text z))
+e4_well most z small = number_well most (e4_text z) (e4_number z small)
+
+-- ---- lists
+
+pub record AreWellItems (most : ℕ) (js : json.Items) : Type 0 where
+  pub sound : AreSound js
+  pub shallow : items_depth js ≤ most
+
+item_well : (most : ℕ) (j : json.Json) (js : json.Items) → IsWell most j → AreWellItems most js → AreWellItems most (json.item j js)
+item_well most j js one rest = record {
+  sound = (one.sound, rest.sound);
+  shallow = let first = one.shallow in let others = rest.shallow in grind arith;
+}
+
+items_well : {X : Type 0} (most : ℕ) (f : X → json.Json) (Fits : X → Type 0) → ((x : X) → Fits x → IsWell most (f x)) → (xs : List X) → All Fits xs → AreWellItems most (items_of (map f xs))
+items_well most f Fits well [] all = record { sound = tt; shallow = omega arith }
+items_well most f Fits well (x ∷ xs) all = item_well most (f x) (items_of (map f xs)) (well x (all 0 x (omega arith))) (items_well most f Fits well xs (λ k d lt. all (suc k) d (omega arith)))
+
+array_well : (most : ℕ) (js : json.Items) → AreWellItems most js → IsWell (suc most) (json.array js)
+array_well most js w = record { sound = w.sound; shallow = let le = w.shallow in omega arith }
+
+-- a list of records
+pub list_well : {X : Type 0} (most : ℕ) (members : X → List Member) (Fits : X → Type 0) (xs : List X) → ((x : X) → Fits x → IsWell most (object_of (members x))) → All Fits xs → IsWell (suc most) (json.array (items_of (objects members xs)))
+list_well most members Fits xs well all = array_well most (items_of (objects members xs)) (items_well most (λ x. object_of (members x)) Fits well xs all)
+
+-- a list of texts
+pub ci_list_well : (most max : ℕ) (xs : List (List ℕ)) → All (FitsCi max) xs → IsWell (suc most) (json.array (items_of (strings xs)))
+ci_list_well most max xs all = array_well most (items_of (strings xs)) (items_well most json.string (FitsCi max) (λ s fits. ci_well most max s fits) xs all)
+
+pub optional_uids_well : (most : ℕ) (o : Option (List (List ℕ))) → IfSome o (All (FitsCi 36)) → HasWell (suc most) (option_map (λ js. json.array (items_of js)) (option_map strings o))
+optional_uids_well most None fits = tt
+optional_uids_well most (Some xs) fits = ci_list_well most 36 xs fits

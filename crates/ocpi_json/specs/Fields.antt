@@ -175,6 +175,14 @@ as_list f (object ms) = Err (WrongForm f)
 unfoldable pub list_in : Field → Data → Read Items
 list_in f d = required f d >>= as_list f
 
+abbrev pub not_empty : Field → Items → Read Items
+not_empty f no_items = Err (WrongForm f)
+not_empty f (item d ds) = Ok (item d ds)
+
+-- a list of one or more
+unfoldable pub non_empty_in : Field → Data → Read Items
+non_empty_in f d = list_in f d >>= not_empty f
+
 -- the elements, each read beside those before it
 unfoldable pub each_after : {X : Type 0} → (List X → Data → Read X) → List X → Items → Read (List X)
 each_after reader before no_items = Ok before

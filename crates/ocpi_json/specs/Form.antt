@@ -1,5 +1,5 @@
 -- What a tree has to do with what it spells, member by member. Numbers stand as texts behind U+0001, which no other text begins with.
-use Rattle.std.specs.Prelude.{◌≡◌, ◌≢◌, ◌⊎◌, ◌≤ℤ◌, ℕ, ℤ, pos, List, [], ◌∷◌, Bool, false, Option, Some, None, Result, Ok}
+use Rattle.std.specs.Prelude.{◌≡◌, ◌≢◌, ◌⊎◌, ◌≤◌, ◌≤ℤ◌, ℕ, ℤ, pos, List, [], ◌∷◌, length, Bool, false, Option, Some, None, Result, Ok}
 use Rattle.serde_json.specs.Data.{Data, null, boolean, string, array, object, Items, no_items, item, Members}
 use Rattle.serde_json.specs.Find.{get}
 use Rattle.ocpi_text.specs.declared.fault.TextFault.{TextFault}
@@ -93,6 +93,10 @@ AreItems P (item d ds) (x ∷ xs) = P d x × AreItems P ds xs
 -- a list of such elements
 abbrev pub IsList : {X : Type 0} → (Data → X → Type 0) → Data → List X → Type 0
 IsList P v xs = (items : Items) × (v ≡ array items) × AreItems P items xs
+
+-- one or more
+abbrev pub IsNonEmpty : {X : Type 0} → (Data → X → Type 0) → Data → List X → Type 0
+IsNonEmpty P v xs = IsList P v xs × (1 ≤ length xs)
 
 -- ---- records
 

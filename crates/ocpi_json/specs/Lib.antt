@@ -1,3 +1,7 @@
+pub mod AuthorizationForms
+pub mod CdrForms
+pub mod CdrLocationForms
+pub mod ChargingPeriodForms
 pub mod CommandForms
 pub mod Fault
 pub mod Fields
@@ -14,6 +18,7 @@ pub mod Plain
 pub mod Quote
 pub mod ReplyForms
 pub mod SeenIds
+pub mod SessionForms
 pub mod SiteForm
 pub mod SiteLines
 pub mod Sites

@@ -14,16 +14,16 @@ use Rattle.ocpi_types.specs.declared.packet.Packet.{Packet}
 use Rattle.ocpi_types.specs.declared.words.PacketKind.{PacketKind}
 use Rattle.ocpi_types.specs.declared.words.PacketKind.TheVariants as kind
 use Rattle.ocpi_json.specs.declared.fault.JsonFault.TheVariants.{UnknownKind}
-use Rattle.ocpi_json.specs.Authorizations.{authorize_at, authorization_at, IsAuthorize, IsAuthorization, authorize_members, authorization_members, AuthorizeFits, AuthorizationFits}
-use Rattle.ocpi_json.specs.Cdrs.{cdr_at, IsCdr, cdr_members, CdrFits}
-use Rattle.ocpi_json.specs.Commands.{start_session_at, stop_session_at, reserve_now_at, cancel_reservation_at, unlock_connector_at, IsStartSession, IsStopSession, IsReserveNow, IsCancelReservation, IsUnlockConnector, start_session_members, stop_session_members, reserve_now_members, cancel_reservation_members, unlock_connector_members, StartSessionFits, StopSessionFits, ReserveNowFits, CancelReservationFits, UnlockConnectorFits}
+use Rattle.ocpi_json.specs.AuthorizationForms.{authorize_at, authorization_at, IsAuthorize, IsAuthorization, authorize_members, authorization_members, AuthorizeFits, AuthorizationFits}
+use Rattle.ocpi_json.specs.CdrForms.{cdr_at, IsCdr, cdr_members, CdrFits}
+use Rattle.ocpi_json.specs.CommandForms.{start_session_at, stop_session_at, reserve_now_at, cancel_reservation_at, unlock_connector_at, IsStartSession, IsStopSession, IsReserveNow, IsCancelReservation, IsUnlockConnector, start_session_members, stop_session_members, reserve_now_members, cancel_reservation_members, unlock_connector_members, StartSessionFits, StopSessionFits, ReserveNowFits, CancelReservationFits, UnlockConnectorFits}
 use Rattle.ocpi_json.specs.Fault.{Read, ◌>>=◌}
 use Rattle.ocpi_json.specs.Fields.{party_in, whole_in, record_in, text_in, as_record}
 use Rattle.ocpi_json.specs.Form.{Required, IsParty, IsWhole, IsWord, IsRecord}
 use Rattle.ocpi_json.specs.Line.{HasTree, tree_at}
 use Rattle.ocpi_json.specs.Members.{Member, text, whole, inner, object_of, json_text}
-use Rattle.ocpi_json.specs.Replies.{command_response_at, command_result_at, ack_at, IsCommandResponse, IsCommandResult, IsAck, command_response_members, command_result_members, ack_members, CommandResponseFits, CommandResultFits, AckFits}
-use Rattle.ocpi_json.specs.Sessions.{session_at, IsSession, session_members, SessionFits}
+use Rattle.ocpi_json.specs.ReplyForms.{command_response_at, command_result_at, ack_at, IsCommandResponse, IsCommandResult, IsAck, command_response_members, command_result_members, ack_members, CommandResponseFits, CommandResultFits, AckFits}
+use Rattle.ocpi_json.specs.SessionForms.{session_at, IsSession, session_members, SessionFits}
 use Rattle.ocpi_json.specs.Tokens.{token_at, IsToken, token_members, TokenFits}
 
 -- ---- reading

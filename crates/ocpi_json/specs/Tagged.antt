@@ -1,7 +1,9 @@
 -- The tree of a text, and of a JSON value, with each number as a text behind U+0001.
 use Rattle.std.specs.Prelude.{ℕ, List, ◌∷◌, Option, Some, None, option_map, option_and_then, if◌then◌else◌}
 use Rattle.json.specs.Json as json
+use Rattle.json.specs.Lex.{tokens}
 use Rattle.serde_json.specs.Data.{Data, null, boolean, string, array, object, Items, no_items, item, Members, no_members, put}
+use Rattle.serde_json.specs.Read.{max_depth}
 use Rattle.ocpi_json.specs.Fault.{Read, ◌>>=◌}
 use Rattle.ocpi_json.specs.Line.{tree_of}
 use Rattle.ocpi_json.specs.Names.{begins_with_tag}
@@ -28,3 +30,7 @@ abbrev mutual
   pub tagged_members : json.Members → Members → Option Members
   tagged_members json.no_members found = Some found
   tagged_members (json.member k j ms) found = if begins_with_tag k then None else option_and_then (λ d. tagged_members ms (put k d found)) (tagged j)
+
+-- the tree of a text of JSON that nests no deeper than 127 and in which no text and no name begins with U+0001
+abbrev pub tagged_tree : List ℕ → Option Data
+tagged_tree text = option_and_then tagged (option_and_then (λ p. json.if_last p.0 p.1) (json.value max_depth (tokens text)))

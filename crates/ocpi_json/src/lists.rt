@@ -3,7 +3,7 @@
 ghost use Rattle.std.specs.Prelude.{◌≡◌, ◌≤◌, [], length, IfOk, Ok};
 ghost use Rattle.serde_json.specs.View.{view, items_view};
 ghost use Rattle.ocpi_json.specs.Fault.{Gives, GivesBy, IsBy};
-ghost use Rattle.ocpi_json.specs.Fields.{each_after};
+ghost use Rattle.ocpi_json.specs.Fields.{each_after, non_empty_in};
 ghost use Rattle.ocpi_json.specs.Sites.{counted_in};
 
 use crate::fault::JsonFault;
@@ -58,5 +58,18 @@ pub fn counted_in(
         Ok(items)
     } else {
         Err(JsonFault::WrongForm(field))
+    }
+}
+
+/// The elements of a list of one or more. An empty one is `WrongForm` of the list's name.
+#[tactic(auto, using(crate::proofs::Listing::is_some_list, crate::proofs::Listing::is_empty_list), unfolding(crate::specs::Fields::non_empty_in))]
+pub fn non_empty_in(object: &Value, field: Field) -> Result<&[Value], JsonFault>
+    ensures { IsBy (λ v. items_view v.now) result (non_empty_in field (view object.now)) }
+{
+    let items = list_in(object, field)?;
+    if items.is_empty() {
+        Err(JsonFault::WrongForm(field))
+    } else {
+        Ok(items)
     }
 }

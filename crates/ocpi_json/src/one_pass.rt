@@ -1,11 +1,11 @@
 //! The tree of a text in one pass over its tokens, its numbers as texts behind U+0001.
 
-ghost use Rattle.std.specs.Prelude.{◌≡◌, ◌<◌, ◌∷◌, Some, Ok, length, string_bytes, IfOk, OnOk};
+ghost use Rattle.std.specs.Prelude.{◌≡◌, ◌<◌, ◌∷◌, Some, None, Ok, Err, length, string_bytes, IfOk, OnOk};
 ghost use Rattle.json.specs.Json.{value, items, members};
 ghost use Rattle.serde_json.specs.Data.{no_members};
 ghost use Rattle.serde_json.specs.Read.{converted};
 ghost use Rattle.serde_json.specs.View.{view, items_view, members_view};
-ghost use Rattle.ocpi_json.specs.Tagged.{tagged, tagged_items, tagged_members, tree_in};
+ghost use Rattle.ocpi_json.specs.Tagged.{tagged, tagged_items, tagged_members, tagged_tree, tree_in};
 ghost use Rattle.ocpi_json.specs.declared.one_pass.Stop.TheVariants.{Declined, Memory};
 
 use crate::names::begins_with_tag;
@@ -19,7 +19,7 @@ const MAX_DEPTH: usize = 127;
 /// Why one pass gave no tree.
 #[derive(Clone, Copy)]
 pub(crate) enum Stop {
-    /// The text has to be read with its refusals told: it has no tree, or a text in it begins with U+0001.
+    /// The text is no JSON, nests too deep, or has a text or a name that begins with U+0001.
     Declined,
     /// Memory ran out.
     Memory,
@@ -66,6 +66,7 @@ fn read(alloc: Global, reader: &mut Reader<'_>, depth: usize) -> Result<Value, S
     ensures ok { IfOk result
         (λ v. converted tagged (value depth reader.old) ≡ Some (view v, reader.new)) }
     ensures shorter { OnOk result (length reader.new < length reader.old) }
+    ensures declined { result ≡ Err Declined → converted tagged (value depth reader.old) ≡ None }
 {
     let token = reader.next().ok_or(Stop::Declined)?;
     match token {
@@ -101,6 +102,8 @@ fn read_items(alloc: Global, reader: &mut Reader<'_>, depth: usize) -> Result<Ve
         (λ v. converted tagged_items (items (value depth) (length reader.old) reader.old)
         ≡ Some (items_view v.items, reader.new)) }
     ensures shorter { OnOk result (length reader.new < length reader.old) }
+    ensures declined { result ≡ Err Declined
+        → converted tagged_items (items (value depth) (length reader.old) reader.old) ≡ None }
 {
     let mut found = Vec::new(alloc);
     'items: while !reader.take_end_array() {
@@ -122,6 +125,9 @@ fn read_members(
         (members (value depth) (length reader.old) reader.old)
         ≡ Some (members_view m.entries, reader.new)) }
     ensures shorter { OnOk result (length reader.new < length reader.old) }
+    ensures declined { result ≡ Err Declined
+        → converted (λ ms. tagged_members ms no_members)
+        (members (value depth) (length reader.old) reader.old) ≡ None }
 {
     let mut found = Map::new(alloc);
     'members: while let Some(name) = reader.next_key()? {
@@ -135,10 +141,13 @@ fn read_members(
     Ok(found)
 }
 
-/// The tree of a text that has one, in which no text and no name begins with U+0001. Of another text nothing is said:
-/// its refusal is told by quoting its numbers and reading what that gives.
+/// The tree of a text of JSON that nests no deeper than 127 arrays and objects, and in which no text and no name begins
+/// with U+0001. Any other is declined: its refusal is told by quoting its numbers and reading what that gives.
 pub(crate) fn tree_of_text(alloc: Global, text: &str) -> Result<Value, Stop>
-    ensures { IfOk result (λ v. tree_in text.now ≡ Ok (view v)) }
+    ensures ok { IfOk result (λ v. tagged_tree text.now ≡ Some (view v)) }
+    ensures declined { result ≡ Err Declined → tagged_tree text.now ≡ None }
+    // It is the tree of the text whose numbers are quoted.
+    ensures tree { IfOk result (λ v. tree_in text.now ≡ Ok (view v)) }
 {
     let mut scratch = Scratch::new(alloc);
     let mut reader = Reader::new(text, &mut scratch)?;

@@ -258,7 +258,7 @@ impl RecordWriter {
     }
 
     /// A number of four decimals.
-    #[tactic(auto, unfolding(crate::specs::Members::and_member))]
+    #[tactic(auto, unfolding(crate::specs::Members::and_member), using(crate::proofs::DecimalNumbers::e4_written))]
     pub fn e4(&mut self, field: Field, number: E4) -> Result<(), AllocError>
         ensures member { OnOk result (self.new ≡ and_member self.old (member.e4 field number)) }
         ensures fits { unsigned_abs number < e4_limit }

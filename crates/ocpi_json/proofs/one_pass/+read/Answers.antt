@@ -1,4 +1,4 @@
-use Rattle.std.proofs.Common.{◌≡◌, ◌-◌, ◌<◌, ◌∷◌, List, length, Some, None, false, string_bytes, sym, ap, ◌∙◌, arith, rules}
+use Rattle.std.proofs.Common.{◌≡◌, ◌-◌, ◌<◌, [], ◌∷◌, List, length, Some, None, true, false, string_bytes, sym, ap, ap₂, ◌∙◌, arith, rules}
 use Rattle.json.specs.Token.{Token}
 use Rattle.json.specs.Json.{parse_map, after_end_array, read_key, items, members, value}
 use Rattle.json.specs.Reads.{token_of}
@@ -10,8 +10,52 @@ use Rattle.serde_json.specs.declared.value.Value.{Value, String, Bool, Null, the
 use Rattle.serde_json.proofs.Views.{view-Array, view-Object, members_view-insert_entry}
 use Rattle.ocpi_json.specs.Names.{begins_with_tag}
 use Rattle.ocpi_json.specs.Tagged.{tagged, tagged_items, tagged_members}
-use Rattle.ocpi_json.proofs.TaggedTrees.{tagged_array, tagged_object, item_read, items_over, member_read, members_over, items_before, items_before_none, one_more_item, none_before}
+use Rattle.ocpi_json.proofs.TaggedTrees.{tagged_array, tagged_object, item_read, items_over, member_read, members_over, item_refused, member_refused, key_refused, name_refused, items_before, items_before_none, one_more_item, none_before}
 use Rattle.ocpi_json.proofs.one_pass.+read.Goals as goal
+
+pub read-returns-in_err-token-clause-declined : goal.read-returns-in_err-token-clause-declined
+read-returns-in_err-token-clause-declined t c refused =
+    let empty : c.args.reader.now ≡ [] = grind arith in
+    ap (converted tagged) (ap (value c.args.depth) empty ∙ value_is c.args.depth [])
+
+pub read-returns-then-depth-eq0-clause-declined : goal.read-returns-then-depth-eq0-clause-declined
+unfolding value
+read-returns-then-depth-eq0-clause-declined t c never =
+    let first : c.args.reader.now ≡ token_of c.in_ok-token.token ∷ c.next.new.self = grind arith in
+    let none : c.args.depth ≡ 0 = omega arith in
+    ap (converted tagged) (ap₂ value none (first ∙ ap (λ k. token_of k ∷ c.next.new.self) c.in-BeginArray.is))
+
+pub read-returns-then-depth-eq0-2-clause-declined : goal.read-returns-then-depth-eq0-2-clause-declined
+unfolding value
+read-returns-then-depth-eq0-2-clause-declined t c never =
+    let first : c.args.reader.now ≡ token_of c.in_ok-token.token ∷ c.next.new.self = grind arith in
+    let none : c.args.depth ≡ 0 = omega arith in
+    ap (converted tagged) (ap₂ value none (first ∙ ap (λ k. token_of k ∷ c.next.new.self) c.in-BeginObject.is))
+
+pub read-returns-in_err-read_items-in-BeginArray-clause-declined : goal.read-returns-in_err-read_items-in-BeginArray-clause-declined
+read-returns-in_err-read_items-in-BeginArray-clause-declined t c refused =
+    let first : c.args.reader.now ≡ token_of c.in_ok-token.token ∷ c.next.new.self = grind arith in
+    let opened = ap (converted tagged) (ap (value c.args.depth) (first ∙ ap (λ k. token_of k ∷ c.next.new.self) c.in-BeginArray.is) ∙ value-begin_array c.args.depth c.next.new.self (omega arith)) ∙ tagged_array (items (value (c.args.depth - 1)) (length c.next.new.self) c.next.new.self) in
+    opened ∙ ap (parse_map array) (c.read_items.ensures.declined (grind arith))
+
+pub read-returns-in_err-read_members-in-BeginObject-clause-declined : goal.read-returns-in_err-read_members-in-BeginObject-clause-declined
+read-returns-in_err-read_members-in-BeginObject-clause-declined t c refused =
+    let first : c.args.reader.now ≡ token_of c.in_ok-token.token ∷ c.next.new.self = grind arith in
+    let opened = ap (converted tagged) (ap (value c.args.depth) (first ∙ ap (λ k. token_of k ∷ c.next.new.self) c.in-BeginObject.is) ∙ value-begin_object c.args.depth c.next.new.self (omega arith)) ∙ tagged_object (members (value (c.args.depth - 1)) (length c.next.new.self) c.next.new.self) in
+    opened ∙ ap (parse_map object) (c.read_members.ensures.declined (grind arith))
+
+pub read-returns-then-begins_with_tag-clause-declined : goal.read-returns-then-begins_with_tag-clause-declined
+read-returns-then-begins_with_tag-clause-declined t c refused =
+    let first : c.args.reader.now ≡ token_of c.in_ok-token.token ∷ c.next.new.self = grind arith in
+    let is : c.args.reader.now ≡ Token.string c.in-String.text.now ∷ c.next.new.self = grind (arith, first) in
+    let tag : begins_with_tag c.in-String.text.now ≡ true = grind arith in
+    ap (converted tagged) (ap (value c.args.depth) is ∙ value_is c.args.depth _) ∙ rw tag
+
+pub read-returns-in-EndObject-clause-declined : goal.read-returns-in-EndObject-clause-declined
+read-returns-in-EndObject-clause-declined t c refused =
+    let first : c.args.reader.now ≡ token_of c.in_ok-token.token ∷ c.next.new.self = grind arith in
+    let none : value c.args.depth c.args.reader.now ≡ None = rw (value_is c.args.depth c.args.reader.now, first) (grind arith) in
+    ap (converted tagged) none
 
 pub read-returns-in_ok-from_str-in-String-clause-ok : goal.read-returns-in_ok-from_str-in-String-clause-ok
 read-returns-in_ok-from_str-in-String-clause-ok t c =
@@ -61,6 +105,14 @@ read_items-items-init t c =
     let all = converted tagged_items (items (value c.args.depth) (length c.args.reader.now) c.args.reader.now) in
     (length c.args.reader.now, omega arith, none_before all ∙ ap (λ vs. parse_map (items_before vs) all) (sym c.new-found.ensures.items), omega arith)
 
+pub read_items-returns-in_err-item-clause-declined : goal.read_items-returns-in_err-item-clause-declined
+read_items-returns-in_err-item-clause-declined t c refused =
+    let p = value c.args.depth in
+    let l = c.items in
+    let n = l.invariant.0 in
+    let going : (after_end_array l.reader ≡ None) × (c.take_end_array.new.self ≡ l.reader) = grind arith in
+    l.invariant.2 ∙ ap (parse_map (items_before l.found.items)) (item_refused p n l.reader going.0 (rw (← going.1) (c.read.ensures.declined (grind arith))))
+
 pub read_items-items-preserved : goal.read_items-items-preserved
 read_items-items-preserved t c =
     let p = value c.args.depth in
@@ -91,6 +143,38 @@ pub read_members-members-init : goal.read_members-members-init
 read_members-members-init t c =
     let all = members (value c.args.depth) (length c.args.reader.now) c.args.reader.now in
     (length c.args.reader.now, omega arith, ap (λ es. converted (λ ms. tagged_members ms (members_view es)) all) (sym c.new-found.ensures.empty), omega arith)
+
+pub read_members-returns-in_err-name-clause-declined : goal.read_members-returns-in_err-name-clause-declined
+read_members-returns-in_err-name-clause-declined t c refused =
+    let p = value c.args.depth in
+    let l = c.members in
+    let n = l.invariant.0 in
+    let old = members_view l.found.entries in
+    l.invariant.2 ∙ key_refused p old n l.reader c.in_err-name.ensures.value
+
+pub read_members-returns-then-begins_with_tag-clause-declined : goal.read_members-returns-then-begins_with_tag-clause-declined
+read_members-returns-then-begins_with_tag-clause-declined t c refused =
+    let p = value c.args.depth in
+    let l = c.members in
+    let n = l.invariant.0 in
+    let old = members_view l.found.entries in
+    let k = c.in-Some.name.now in
+    let s = c.next_key.new.self in
+    let named : read_key l.reader ≡ Some (Some k, s) = grind arith in
+    let tag : begins_with_tag k ≡ true = grind arith in
+    l.invariant.2 ∙ name_refused p old n k l.reader s tag named
+
+pub read_members-returns-in_err-member-clause-declined : goal.read_members-returns-in_err-member-clause-declined
+read_members-returns-in_err-member-clause-declined t c refused =
+    let p = value c.args.depth in
+    let l = c.members in
+    let n = l.invariant.0 in
+    let old = members_view l.found.entries in
+    let k = c.in-Some.name.now in
+    let s = c.next_key.new.self in
+    let named : read_key l.reader ≡ Some (Some k, s) = grind arith in
+    let untagged : begins_with_tag k ≡ false = grind arith in
+    l.invariant.2 ∙ member_refused p old n k l.reader s untagged named (c.read.ensures.declined (grind arith))
 
 pub read_members-members-preserved : goal.read_members-members-preserved
 read_members-members-preserved t c =
