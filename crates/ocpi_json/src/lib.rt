@@ -1,13 +1,10 @@
 //! OCPI 2.2.1 as lines of JSON: packets and site lines, read with the first fault told, and packets written.
 #![tactic(auto)]
 
-<<<<<<< HEAD
 mod authorizations;
-=======
 mod cdr_locations;
 mod cdrs;
 mod charging_periods;
->>>>>>> h7_cdrs
 mod commands;
 mod fault;
 mod fields;
