@@ -1,5 +1,5 @@
 -- An event is read just where the tree has its form.
-use Rattle.std.proofs.Common.{◌≡◌, ℕ, List, Option, Some, None, Ok, refl, sym, subst, ap, ◌∙◌}
+use Rattle.std.proofs.Common.{◌≡◌, ℕ, List, Option, Some, None, Ok, Err, IfOk, refl, sym, subst, ap, ◌∙◌}
 use Rattle.serde_json.specs.Data.{Data}
 use Rattle.ocpi_types.specs.Words.{token_type_of}
 use Rattle.ocpi_types.specs.declared.events.ChargerEvent.{ChargerEvent}
@@ -18,13 +18,18 @@ use Rattle.ocpi_json.specs.declared.events.EventWord.TheVariants as event
 use Rattle.ocpi_json.specs.declared.events.OrderWord.{OrderWord}
 use Rattle.ocpi_json.specs.declared.events.OrderWord.TheVariants as command
 use Rattle.ocpi_json.specs.EventForms.{event_of_word, order_of_word, word_of_report, word_of_order, word_of_kind, known, known_in, start_order_at, reserve_order_at, unlock_order_at, order_at, submit_at, token_event_at, service_at, swipe_at, meter_at, command_number_at, report_at, charger_at, deliver_at, kind_at, event_at, event_of_line, event_in, HasCommandNumber, IsOrder, IsReport, IsKind, IsEvent, IsEventLine, SpellsEvent}
-use Rattle.ocpi_json.specs.Fault.{◌>>=◌}
+use Rattle.ocpi_json.specs.Fault.{Read, ◌>>=◌}
 use Rattle.ocpi_json.specs.Fields.{ci_in, moment_in, party_in, quantity_in, record_in, text_in, truth_in, whole_in, word_in, optional}
 use Rattle.ocpi_json.specs.Form.{Required, IsRecord, IsWord}
 use Rattle.ocpi_json.specs.Tokens.{token_at, IsToken}
 use Rattle.ocpi_json.proofs.Exact.{Exact, ok_is, bind_ok, both_steps, of_text, as_record_exact, ci_exact, inner_exact, moment_exact, optional_ci_exact, party_exact, quantity_exact, truth_exact, whole_exact, word_exact}
 use Rattle.ocpi_json.proofs.LineTrees.{line_sound, line_complete}
 use Rattle.ocpi_json.proofs.TokenLemmas.{token_exact}
+
+-- what the answer of an exact reader says of the form, where nothing allocates
+pub found_by : {X : Type 0} {reader : Data → Read X} {P : Data → X → Type 0} → Exact reader P → (d : Data) (r : Read X) → r ≡ reader d → IfOk r (λ x. P d x)
+found_by h d (Ok x) e = h.sound d x (sym e)
+found_by h d (Err f) e = tt
 
 -- ---- words
 
