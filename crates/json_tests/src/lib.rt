@@ -1,8 +1,6 @@
-//! Lines of JSON against values from outside: tokens, packets and site lines, and the first fault of bad ones.
+//! What `packet_lines` does not show of `ocpi_json`: its quoting, the limits of a line, and site lines.
 #![tactic(auto)]
 
-#[cfg(test)]
-mod packets;
 #[cfg(test)]
 mod quoting;
 #[cfg(test)]

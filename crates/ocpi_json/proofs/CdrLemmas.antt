@@ -1,26 +1,31 @@
--- A charge detail record is read just where the tree has its form.
-use Rattle.std.proofs.Common.{◌≡◌, ◌≢◌, Bool, true, false, cond, Option, Some, None, Ok, Err, refl, ap, subst}
+-- A charge detail record is read just where the tree has its form, and one that is written is read again.
+use Rattle.std.proofs.Common.{◌≡◌, ◌≢◌, ◌≤◌, ℕ, Bool, true, false, cond, Option, Some, None, Ok, Err, refl, ap, subst, arith}
+use Rattle.json.specs.Json as json
 use Rattle.serde_json.specs.Data.{Data, null, boolean, number, string, array, object}
 use Rattle.serde_json.specs.Find.{get}
 use Rattle.ocpi_types.specs.Fields.{name_of}
-use Rattle.ocpi_types.specs.Words.{method_of}
+use Rattle.ocpi_types.specs.Words.{method_of, method_word}
 use Rattle.ocpi_types.specs.declared.cdrs.Cdr.{Cdr}
 use Rattle.ocpi_types.specs.declared.field.Field.TheVariants as field
 use Rattle.ocpi_json.specs.declared.cdrs.CdrCharges.{CdrCharges}
 use Rattle.ocpi_json.specs.declared.cdrs.CdrHead.{CdrHead}
 use Rattle.ocpi_json.specs.declared.cdrs.CdrTotals.{CdrTotals}
 use Rattle.ocpi_json.specs.declared.fault.JsonFault.TheVariants.{WrongForm}
-use Rattle.ocpi_json.specs.CdrForms.{cdr_head_at, is_true, is_credit, cdr_totals_at, cdr_charges_at, cdr_at, IsCdr}
-use Rattle.ocpi_json.specs.CdrLocationForms.{cdr_location_at, IsCdrLocation}
-use Rattle.ocpi_json.specs.ChargingPeriodForms.{charging_periods_in, IsChargingPeriod}
+use Rattle.ocpi_json.specs.CdrForms.{cdr_head_at, is_true, is_credit, cdr_totals_at, cdr_charges_at, cdr_at, cdr_members, IsCdr, CdrFits}
+use Rattle.ocpi_json.specs.CdrLocationForms.{cdr_location_at, cdr_location_members, IsCdrLocation}
+use Rattle.ocpi_json.specs.ChargingPeriodForms.{charging_periods_in, charging_period_members, IsChargingPeriod, ChargingPeriodFits}
 use Rattle.ocpi_json.specs.Fault.{◌>>=◌}
 use Rattle.ocpi_json.specs.Fields.{ci_in, country_in, free_in, moment_in, optional, party_id_in, quantity_in, record_in, word_in}
 use Rattle.ocpi_json.specs.Form.{Required, Optional, IsCi, IsFree, IsMoment, IsQuantity, IsRecord, IsWord, HasParty, IsNonEmpty}
-use Rattle.ocpi_json.specs.SessionForms.{cdr_token_at, price_in, IsCdrToken, IsPrice}
-use Rattle.ocpi_json.proofs.CdrLocationLemmas.{cdr_location_exact}
-use Rattle.ocpi_json.proofs.ChargingPeriodLemmas.{charging_periods_exact}
+use Rattle.ocpi_json.specs.Members.{object_of}
+use Rattle.ocpi_json.specs.SessionForms.{cdr_token_at, cdr_token_members, price_in, price_members, IsCdrToken, IsPrice}
+use Rattle.ocpi_json.proofs.CdrLocationLemmas.{cdr_location_exact, cdr_location_form, cdr_location_well}
+use Rattle.ocpi_json.proofs.ChargingPeriodLemmas.{charging_periods_exact, charging_period_form, charging_period_well}
 use Rattle.ocpi_json.proofs.Exact.{Exact, done, ok_is, bind_ok, both_steps, ci_exact, country_exact, free_exact, inner_exact, moment_exact, optional_ci_exact, party_id_exact, quantity_exact, word_exact}
-use Rattle.ocpi_json.proofs.SessionLemmas.{cdr_token_exact, price_in_exact}
+use Rattle.ocpi_json.proofs.MemberForms.{tree, country_begins, party_id_begins, halves_form, ci_form, free_form, word_form, moment_form, quantity_form, inner_form, list_form, optional_ci_form}
+use Rattle.ocpi_json.proofs.SessionLemmas.{cdr_token_exact, price_in_exact, method_again, method_begins, cdr_token_form, cdr_token_well, price_form, price_well}
+use Rattle.ocpi_json.proofs.Tagged.{ascends, get_is}
+use Rattle.ocpi_json.proofs.WellFormed.{◌and◌, IsWell, record_well, text_well, ci_well, free_well, moment_well, e4_well, list_well, optional_ci_well}
 
 -- ---- credits
 
@@ -236,3 +241,67 @@ cdr_exact = record {
         charges_exact.complete d (charges_part x) (has_charges d x p),
       ) refl;
 }
+
+-- ---- what is written
+
+pub cdr_ascends : (c : Cdr) → ascends (cdr_members c) ≡ true
+unfolding cdr_members name_of
+cdr_ascends c = refl
+
+none_is : (o : Option Data) → o ≡ None → o ≢ Some (boolean true)
+none_is o e is = absurd (cc (e, is))
+
+-- no credit is written
+writes_no_credit : (c : Cdr) → get (name_of field.Credit) (tree (cdr_members c)) ≢ Some (boolean true)
+unfolding cdr_members name_of
+writes_no_credit c = none_is _ (get_is field.Credit (cdr_members c) (cdr_ascends c))
+
+-- a charge detail record that is written has the form of one
+pub cdr_form : (c : Cdr) → CdrFits c → IsCdr (tree (cdr_members c)) c
+unfolding cdr_members name_of
+cdr_form c fits =
+    let ms = cdr_members c in
+    let up = cdr_ascends c in
+    let periods = list_form IsChargingPeriod charging_period_members ChargingPeriodFits field.ChargingPeriods c.charging_periods ms (record { up = up; here = refl }) charging_period_form fits.charging_periods in
+    record {
+      party = halves_form c.party ms (record { up = up; here = refl }) (record { up = up; here = refl }) fits.party;
+      id = ci_form 39 field.Id c.id ms (record { up = up; here = refl }) fits.id;
+      start_date_time = moment_form field.StartDateTime c.start_date_time ms (record { up = up; here = refl }) fits.start_date_time;
+      end_date_time = moment_form field.EndDateTime c.end_date_time ms (record { up = up; here = refl }) fits.end_date_time;
+      session_id = ci_form 36 field.SessionId c.session_id ms (record { up = up; here = refl }) fits.session_id;
+      cdr_token = inner_form IsCdrToken field.CdrToken (cdr_token_members c.cdr_token) c.cdr_token ms (record { up = up; here = refl }) (cdr_token_form c.cdr_token fits.cdr_token);
+      auth_method = word_form method_of field.AuthMethod (method_word c.auth_method) c.auth_method ms (record { up = up; here = refl }) (method_begins c.auth_method) (method_again c.auth_method);
+      authorization_reference = optional_ci_form 36 field.AuthorizationReference c.authorization_reference ms (record { up = up; here = refl }) fits.authorization_reference;
+      cdr_location = inner_form IsCdrLocation field.CdrLocation (cdr_location_members c.cdr_location) c.cdr_location ms (record { up = up; here = refl }) (cdr_location_form c.cdr_location fits.cdr_location);
+      currency = free_form 3 field.Currency c.currency ms (record { up = up; here = refl }) fits.currency;
+      charging_periods = (periods.0, periods.1, (periods.2, fits.some_period));
+      total_cost = inner_form IsPrice field.TotalCost (price_members c.total_cost) c.total_cost ms (record { up = up; here = refl }) (price_form c.total_cost fits.total_cost);
+      total_energy = quantity_form field.TotalEnergy c.total_energy ms (record { up = up; here = refl }) fits.total_energy;
+      total_time = quantity_form field.TotalTime c.total_time ms (record { up = up; here = refl }) fits.total_time;
+      last_updated = moment_form field.LastUpdated c.last_updated ms (record { up = up; here = refl }) fits.last_updated;
+      no_credit = writes_no_credit c;
+    }
+
+deeper : (least most : ℕ) (j : json.Json) → least ≤ most → IsWell least j → IsWell most j
+deeper least most j le w = record { sound = w.sound; shallow = let s = w.shallow in omega arith }
+
+pub cdr_well : (c : Cdr) → CdrFits c → IsWell 5 (object_of (cdr_members c))
+unfolding cdr_members
+cdr_well c fits = record_well 4 (cdr_members c) (cdr_ascends c) (
+    text_well 4 _ (method_begins c.auth_method)
+    and optional_ci_well 4 36 c.authorization_reference fits.authorization_reference
+    and deeper 2 4 _ (omega arith) (cdr_location_well c.cdr_location fits.cdr_location)
+    and deeper 1 4 _ (omega arith) (cdr_token_well c.cdr_token fits.cdr_token)
+    and list_well 3 charging_period_members ChargingPeriodFits c.charging_periods charging_period_well fits.charging_periods
+    and text_well 4 _ (country_begins c.party fits.party)
+    and free_well 4 3 c.currency fits.currency
+    and moment_well 4 c.end_date_time fits.end_date_time
+    and ci_well 4 39 c.id fits.id
+    and moment_well 4 c.last_updated fits.last_updated
+    and text_well 4 _ (party_id_begins c.party fits.party)
+    and ci_well 4 36 c.session_id fits.session_id
+    and moment_well 4 c.start_date_time fits.start_date_time
+    and deeper 1 4 _ (omega arith) (price_well c.total_cost fits.total_cost)
+    and e4_well 4 c.total_energy fits.total_energy.bound
+    and e4_well 4 c.total_time fits.total_time.bound
+    and tt)

@@ -1,17 +1,23 @@
--- The location of a charge detail record is read just where the tree has its form.
-use Rattle.std.proofs.Common.{refl, subst}
+-- The location of a charge detail record is read just where the tree has its form, and one that is written is read again.
+use Rattle.std.proofs.Common.{◌≡◌, true, refl, subst}
 use Rattle.serde_json.specs.Data.{Data}
+use Rattle.ocpi_types.specs.Fields.{name_of}
 use Rattle.ocpi_types.specs.declared.cdrs.CdrLocation.{CdrLocation}
+use Rattle.ocpi_types.specs.declared.cdrs.GeoLocation.{GeoLocation}
 use Rattle.ocpi_types.specs.declared.field.Field.TheVariants as field
 use Rattle.ocpi_json.specs.declared.cdr_locations.Address.{Address}
 use Rattle.ocpi_json.specs.declared.cdr_locations.ConnectorTexts.{ConnectorTexts}
 use Rattle.ocpi_json.specs.declared.cdr_locations.EvsePart.{EvsePart}
 use Rattle.ocpi_json.specs.declared.cdr_locations.PlacePart.{PlacePart}
-use Rattle.ocpi_json.specs.CdrLocationForms.{geo_location_at, address_at, connector_texts_at, evse_part_at, place_part_at, cdr_location_at, IsGeoLocation, IsCdrLocation}
+use Rattle.ocpi_json.specs.CdrLocationForms.{geo_location_at, address_at, connector_texts_at, evse_part_at, place_part_at, cdr_location_at, geo_location_members, cdr_location_members, IsGeoLocation, IsCdrLocation, GeoLocationFits, CdrLocationFits}
 use Rattle.ocpi_json.specs.Fault.{◌>>=◌}
 use Rattle.ocpi_json.specs.Fields.{ci_in, free_in, record_in}
 use Rattle.ocpi_json.specs.Form.{Required, IsCi, IsFree, IsRecord}
+use Rattle.ocpi_json.specs.Members.{object_of}
 use Rattle.ocpi_json.proofs.Exact.{Exact, ok_is, bind_ok, both_steps, ci_exact, free_exact, inner_exact}
+use Rattle.ocpi_json.proofs.MemberForms.{tree, ci_form, free_form, inner_form}
+use Rattle.ocpi_json.proofs.Tagged.{ascends}
+use Rattle.ocpi_json.proofs.WellFormed.{◌and◌, IsWell, record_well, ci_well, free_well}
 
 geo_location_exact : Exact geo_location_at IsGeoLocation
 unfolding geo_location_at
@@ -189,3 +195,66 @@ cdr_location_exact = record {
     place_exact.complete d (place_part x) (has_place d x p),
   ) refl;
 }
+
+-- ---- what is written
+
+geo_location_ascends : (g : GeoLocation) → ascends (geo_location_members g) ≡ true
+unfolding geo_location_members name_of
+geo_location_ascends g = refl
+
+geo_location_form : (g : GeoLocation) → GeoLocationFits g → IsGeoLocation (tree (geo_location_members g)) g
+unfolding geo_location_members name_of
+geo_location_form g fits =
+    let ms = geo_location_members g in
+    let up = geo_location_ascends g in
+    record {
+      latitude = free_form 10 field.Latitude g.latitude ms (record { up = up; here = refl }) fits.latitude;
+      longitude = free_form 11 field.Longitude g.longitude ms (record { up = up; here = refl }) fits.longitude;
+    }
+
+geo_location_well : (g : GeoLocation) → GeoLocationFits g → IsWell 1 (object_of (geo_location_members g))
+unfolding geo_location_members
+geo_location_well g fits = record_well 0 (geo_location_members g) (geo_location_ascends g) (
+    free_well 0 10 g.latitude fits.latitude
+    and free_well 0 11 g.longitude fits.longitude
+    and tt)
+
+cdr_location_ascends : (l : CdrLocation) → ascends (cdr_location_members l) ≡ true
+unfolding cdr_location_members name_of
+cdr_location_ascends l = refl
+
+-- a location that is written has the form of a location
+pub cdr_location_form : (l : CdrLocation) → CdrLocationFits l → IsCdrLocation (tree (cdr_location_members l)) l
+unfolding cdr_location_members name_of
+cdr_location_form l fits =
+    let ms = cdr_location_members l in
+    let up = cdr_location_ascends l in
+    record {
+      id = ci_form 36 field.Id l.id ms (record { up = up; here = refl }) fits.id;
+      address = free_form 45 field.Address l.address ms (record { up = up; here = refl }) fits.address;
+      city = free_form 45 field.City l.city ms (record { up = up; here = refl }) fits.city;
+      country = free_form 3 field.Country l.country ms (record { up = up; here = refl }) fits.country;
+      coordinates = inner_form IsGeoLocation field.Coordinates (geo_location_members l.coordinates) l.coordinates ms (record { up = up; here = refl }) (geo_location_form l.coordinates fits.coordinates);
+      evse_uid = ci_form 36 field.EvseUid l.evse_uid ms (record { up = up; here = refl }) fits.evse_uid;
+      evse_id = ci_form 48 field.EvseId l.evse_id ms (record { up = up; here = refl }) fits.evse_id;
+      connector_id = ci_form 36 field.ConnectorId l.connector_id ms (record { up = up; here = refl }) fits.connector_id;
+      connector_standard = free_form 64 field.ConnectorStandard l.connector_standard ms (record { up = up; here = refl }) fits.connector_standard;
+      connector_format = free_form 64 field.ConnectorFormat l.connector_format ms (record { up = up; here = refl }) fits.connector_format;
+      connector_power_type = free_form 64 field.ConnectorPowerType l.connector_power_type ms (record { up = up; here = refl }) fits.connector_power_type;
+    }
+
+pub cdr_location_well : (l : CdrLocation) → CdrLocationFits l → IsWell 2 (object_of (cdr_location_members l))
+unfolding cdr_location_members
+cdr_location_well l fits = record_well 1 (cdr_location_members l) (cdr_location_ascends l) (
+    free_well 1 45 l.address fits.address
+    and free_well 1 45 l.city fits.city
+    and free_well 1 64 l.connector_format fits.connector_format
+    and ci_well 1 36 l.connector_id fits.connector_id
+    and free_well 1 64 l.connector_power_type fits.connector_power_type
+    and free_well 1 64 l.connector_standard fits.connector_standard
+    and geo_location_well l.coordinates fits.coordinates
+    and free_well 1 3 l.country fits.country
+    and ci_well 1 48 l.evse_id fits.evse_id
+    and ci_well 1 36 l.evse_uid fits.evse_uid
+    and ci_well 1 36 l.id fits.id
+    and tt)

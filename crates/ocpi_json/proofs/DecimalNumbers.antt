@@ -10,7 +10,7 @@ use Rattle.std.proofs.lemmas.Bool.{and_parts, and_from}
 use Rattle.std.proofs.lemmas.Fmt.{first_decimal, decimal_digit, decimal_nonempty}
 use Rattle.json.specs.Print.{IsNumber}
 use Rattle.json.proofs.Printed.Floats.{IsNumber-plain}
-use Rattle.ocpi_text.specs.Decimal.{e4_limit, e4_text, sign_text, unsigned_text}
+use Rattle.ocpi_text.specs.Decimal.{e4_limit, e4_text, sum_text, sign_text, unsigned_text}
 use Rattle.ocpi_text.specs.Digits.{four_digits}
 use Rattle.ocpi_text.proofs.DigitText.{digit_of, digit_range, digit_is}
 use Rattle.ocpi_json.specs.Numbers.{IsJsonNumber, IsMinus, no_minus, minus, fraction, no_exponent}
@@ -37,31 +37,36 @@ sign_same true s = refl
 sign_same false s = refl
 
 pub e4_written : (z : ℤ) → unsigned_abs z < e4_limit → IsNumber (e4_text z)
-unfolding e4_text unsigned_text
+unfolding sum_text unsigned_text
 e4_written z less =
     let n = unsigned_abs z in
     let small : n / 10000 < 2 ^ 64 = omega arith in
-    IsNumber-plain (e4_text z) (is_negative z, record { whole = decimal (n / 10000); point = true; fraction = four_digits (n % 10000); exponent_negative = false; exponent = []; len = length (decimal (n / 10000) ++ 46 ∷ four_digits (n % 10000)) }, sign_same (is_negative z) _, record {
-      well_formed = record {
-        whole_digits = ten_digits (decimal (n / 10000)) (decimal_digits (n / 10000) small);
-        fraction_digits = ten_digits (four_digits (n % 10000)) (four_are (n % 10000) (omega arith));
-        exponent_digits = tt;
-        no_point = λ e. absurd cc;
-        no_exponent = λ e. refl;
-        len_is = refl;
-      };
-      whole = decimal_nonempty (n / 10000) small;
-      no_leading_zero = no_leading_zero (n / 10000) small;
-      fraction = λ e. omega arith;
-      marked = λ e. absurd cc;
-    })
+    IsNumber-plain (e4_text z) (
+      is_negative z,
+      record { whole = decimal (n / 10000); point = true; fraction = four_digits (n % 10000); exponent_negative = false; exponent = []; len = length (decimal (n / 10000) ++ 46 ∷ four_digits (n % 10000)) },
+      sign_same (is_negative z) _,
+      record {
+        well_formed = record {
+          whole_digits = ten_digits (decimal (n / 10000)) (decimal_digits (n / 10000) small);
+          fraction_digits = ten_digits (four_digits (n % 10000)) (four_are (n % 10000) (omega arith));
+          exponent_digits = tt;
+          no_point = λ e. absurd cc;
+          no_exponent = λ e. refl;
+          len_is = refl;
+        };
+        whole = decimal_nonempty (n / 10000) small;
+        no_leading_zero = no_leading_zero (n / 10000) small;
+        fraction = λ e. omega arith;
+        marked = λ e. absurd cc;
+      },
+    )
 
 minus_is : (negative : Bool) → IsMinus (sign_text negative)
 minus_is true = minus refl
 minus_is false = no_minus refl
 
 pub e4_number : (z : ℤ) → unsigned_abs z < e4_limit → IsJsonNumber (e4_text z)
-unfolding e4_text unsigned_text
+unfolding sum_text unsigned_text
 e4_number z less =
     let n = unsigned_abs z in
     let digits = four_digits (n % 10000) in

@@ -271,25 +271,14 @@ new_from_differ k front before (x ∷ xs) h = (h.0, new_from_differ k front (bef
 
 -- ---- a list of any number, each read without regard to the others
 
-all_are_new : {X : Type 0} (before xs : List X) → AllNew (λ (_ : List X) (_ : X). Unit {0}) before xs
-all_are_new before [] = tt
-all_are_new before (x ∷ xs) = (tt, all_are_new (before ++ x ∷ []) xs)
-
-alone : {X : Type 0} {reader : Data → Read X} {P : Data → X → Type 0} → Exact reader P → ExactBeside (λ _. reader) P (λ _ _. Unit {0})
-alone h = record {
-  form = λ before d x e. h.sound d x e;
-  fresh = λ before d x e. tt;
-  complete = λ before d x p n. h.complete d x p;
-}
-
 pub every_exact : {X : Type 0} {reader : Data → Read X} {P : Data → X → Type 0} → Exact reader P → (f : Field) → Exact (λ d. list_in f d >>= each_after (λ _. reader) []) (Required (IsList P) f)
 every_exact {reader = reader} {P = P} h f = record {
   sound = λ d xs e.
       let a = bind_ok (list_in f d) (each_after (λ _. reader) []) xs e in
       let v = (list_exact f).sound d a.0 a.1 in
-      let each = each_sound (alone h) [] a.0 xs a.2 in
+      let each = each_sound (with_none_before h) [] a.0 xs a.2 in
       (v.0, v.1, (a.0, v.2, subst (AreItems P a.0) (sym each.all) each.items));
   complete = λ d xs p.
       let items = p.2.0 in
-      rw ((list_exact f).complete d items (p.0, p.1, p.2.1)) (each_complete (alone h) [] items xs p.2.2 (all_are_new [] xs));
+      rw ((list_exact f).complete d items (p.0, p.1, p.2.1)) (each_complete (with_none_before h) [] items xs p.2.2 (all_new [] xs));
 }

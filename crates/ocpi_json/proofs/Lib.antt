@@ -18,9 +18,11 @@ pub mod LineTrees
 pub mod Listing
 pub mod MemberForms
 pub mod NumberNames
+pub mod PacketLemmas
 pub mod PieceQuoting
 pub mod PlainQuoting
 pub mod Quoting
+pub mod ReadAgain
 pub mod ReadSites
 pub mod Repeats
 pub mod ReplyLemmas
@@ -44,4 +46,4 @@ pub mod TokenLemmas
 pub mod UnquoteRuns
 pub mod Unquoting
 pub mod WellFormed
-pub mod Written
+pub mod WrittenPackets

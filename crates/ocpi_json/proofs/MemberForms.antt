@@ -107,6 +107,11 @@ pub optional_moment_form : (f : Field) (o : Option ℕ) (ms : List Member) → S
 optional_moment_form f None ms h fits = lacks f ms h
 optional_moment_form f (Some n) ms h fits = moment_form f n ms h fits
 
+pub optional_word_form : {X : Type 0} (words : List ℕ → Option X) (word : X → List ℕ) (f : Field) (o : Option X) (ms : List Member) → Stands f (option_map json.string (option_map word o)) ms
+    → ((x : X) → is_tagged (word x) ≡ false) → ((x : X) → words (word x) ≡ Some x) → Optional (IsWord words) f (tree ms) o
+optional_word_form words word f None ms h begins again = lacks f ms h
+optional_word_form words word f (Some x) ms h begins again = word_form words f (word x) x ms h (begins x) (again x)
+
 pub optional_inner_form : {X : Type 0} (P : Data → X → Type 0) (members : X → List Member) (f : Field) (o : Option X) (ms : List Member) → Stands f (option_map object_of (option_map members o)) ms
     → ((x : X) → o ≡ Some x → P (tree (members x)) x) → Optional (IsRecord P) f (tree ms) o
 optional_inner_form P members f None ms h forms = lacks f ms h

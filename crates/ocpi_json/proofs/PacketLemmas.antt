@@ -33,7 +33,7 @@ use Rattle.ocpi_json.proofs.ReplyLemmas.{command_response_exact, command_result_
 use Rattle.ocpi_json.proofs.SessionLemmas.{session_exact, session_form, session_well}
 use Rattle.ocpi_json.proofs.Tagged.{ascends}
 use Rattle.ocpi_json.proofs.TokenLemmas.{token_exact, token_form, token_well}
-use Rattle.ocpi_json.proofs.WellFormed.{IsWell, record_well, text_well, whole_well}
+use Rattle.ocpi_json.proofs.WellFormed.{◌and◌, IsWell, record_well, text_well, whole_well}
 
 -- ---- reading
 
@@ -188,22 +188,22 @@ body_form (body.Ack b) fits = ack_form b fits
 deeper : (least most : ℕ) (j : json.Json) → least ≤ most → IsWell least j → IsWell most j
 deeper least most j le w = record { sound = w.sound; shallow = let s = w.shallow in omega arith }
 
--- a body nests no deeper than 4
-body_well : (b : Body) → BodyFits b → IsWell 4 (object_of (body_members b))
+-- a body nests no deeper than 5
+body_well : (b : Body) → BodyFits b → IsWell 5 (object_of (body_members b))
 unfolding body_members
-body_well (body.StartSession b) fits = deeper _ 4 _ (omega arith) (start_session_well b fits)
-body_well (body.StopSession b) fits = deeper _ 4 _ (omega arith) (stop_session_well b fits)
-body_well (body.ReserveNow b) fits = deeper _ 4 _ (omega arith) (reserve_now_well b fits)
-body_well (body.CancelReservation b) fits = deeper _ 4 _ (omega arith) (cancel_reservation_well b fits)
-body_well (body.UnlockConnector b) fits = deeper _ 4 _ (omega arith) (unlock_connector_well b fits)
-body_well (body.CommandResponse b) fits = deeper _ 4 _ (omega arith) (command_response_well b fits)
-body_well (body.CommandResult b) fits = deeper _ 4 _ (omega arith) (command_result_well b fits)
-body_well (body.PutToken b) fits = deeper _ 4 _ (omega arith) (token_well b fits)
-body_well (body.Authorize b) fits = deeper _ 4 _ (omega arith) (authorize_well b fits)
-body_well (body.Authorization b) fits = deeper _ 4 _ (omega arith) (authorization_well b fits)
-body_well (body.PutSession b) fits = deeper _ 4 _ (omega arith) (session_well b fits)
-body_well (body.PostCdr b) fits = deeper _ 4 _ (omega arith) (cdr_well b fits)
-body_well (body.Ack b) fits = deeper _ 4 _ (omega arith) (ack_well b fits)
+body_well (body.StartSession b) fits = deeper _ 5 _ (omega arith) (start_session_well b fits)
+body_well (body.StopSession b) fits = deeper _ 5 _ (omega arith) (stop_session_well b fits)
+body_well (body.ReserveNow b) fits = deeper _ 5 _ (omega arith) (reserve_now_well b fits)
+body_well (body.CancelReservation b) fits = deeper _ 5 _ (omega arith) (cancel_reservation_well b fits)
+body_well (body.UnlockConnector b) fits = deeper _ 5 _ (omega arith) (unlock_connector_well b fits)
+body_well (body.CommandResponse b) fits = deeper _ 5 _ (omega arith) (command_response_well b fits)
+body_well (body.CommandResult b) fits = deeper _ 5 _ (omega arith) (command_result_well b fits)
+body_well (body.PutToken b) fits = deeper _ 5 _ (omega arith) (token_well b fits)
+body_well (body.Authorize b) fits = deeper _ 5 _ (omega arith) (authorize_well b fits)
+body_well (body.Authorization b) fits = deeper _ 5 _ (omega arith) (authorization_well b fits)
+body_well (body.PutSession b) fits = deeper _ 5 _ (omega arith) (session_well b fits)
+body_well (body.PostCdr b) fits = deeper _ 5 _ (omega arith) (cdr_well b fits)
+body_well (body.Ack b) fits = deeper _ 5 _ (omega arith) (ack_well b fits)
 
 pub packet_ascends : (p : Packet) → ascends (packet_members p) ≡ true
 unfolding packet_members name_of
@@ -224,17 +224,16 @@ packet_form p fits =
       body = inner_form IsBody field.Body (body_members p.body) p.body ms (record { up = up; here = refl }) (body_form p.body fits.body);
     }
 
-pub packet_well : (p : Packet) → PacketFits p → IsWell 5 (packet_json p)
+pub packet_well : (p : Packet) → PacketFits p → IsWell 6 (packet_json p)
 unfolding packet_members
-packet_well p fits = record_well 4 (packet_members p) (packet_ascends p) (
-  body_well p.body fits.body,
-  text_well 4 _ (party_begins p.from fits.from),
-  text_well 4 _ (kind_begins (kind_of p.body)),
-  whole_well 4 p.request fits.request,
-  whole_well 4 p.serial fits.serial,
-  text_well 4 _ (party_begins p.to fits.to),
-  tt,
-)
+packet_well p fits = record_well 5 (packet_members p) (packet_ascends p) (
+    body_well p.body fits.body
+    and text_well 5 _ (party_begins p.from fits.from)
+    and text_well 5 _ (kind_begins (kind_of p.body))
+    and whole_well 5 p.request fits.request
+    and whole_well 5 p.serial fits.serial
+    and text_well 5 _ (party_begins p.to fits.to)
+    and tt)
 
 -- the tree of a packet that is written is read as that packet
 pub packet_again : (p : Packet) → PacketFits p → packet_of_line (tree (packet_members p)) ≡ Ok p

@@ -15,9 +15,9 @@ use Rattle.ocpi_types.specs.declared.field.Field.TheVariants.{Line}
 use Rattle.ocpi_types.specs.Fields.{name_of}
 use Rattle.ocpi_json.specs.Fields.{is_tagged}
 use Rattle.ocpi_json.specs.Fits.{FitsCi, FitsFree, FitsOption, FitsOptionalMoment}
+use Rattle.ocpi_json.specs.Names.{begins_with_tag}
 use Rattle.ocpi_json.specs.Members.{Member, and_before, members_of, object_of, items_of, objects, strings}
 use Rattle.ocpi_json.specs.Numbers.{IsJsonNumber}
-use Rattle.ocpi_json.specs.Plain.{IsName}
 use Rattle.ocpi_json.proofs.DecimalNumbers.{e4_number}
 use Rattle.ocpi_json.proofs.Digits.{whole_number}
 use Rattle.ocpi_json.proofs.Tagged.{cmp, is_less, is_greater, greater_is, comes_before, before_all, ascends}
@@ -43,7 +43,7 @@ abbrev mutual
 
   pub AreSoundMembers : json.Members → Type 0
   AreSoundMembers json.no_members = Unit {0}
-  AreSoundMembers (json.member k j ms) = IsName k × (IsSound j × (Follow k ms × AreSoundMembers ms))
+  AreSoundMembers (json.member k j ms) = (begins_with_tag k ≡ false) × (IsSound j × (Follow k ms × AreSoundMembers ms))
 
 -- no deeper than most
 pub record IsWell (most : ℕ) (j : json.Json) : Type 0 where
@@ -66,8 +66,8 @@ infixr 5 ◌and◌
 pub ◌and◌ : {A B : Type 0} → A → B → A × B
 a and b = (a, b)
 
--- a member's name is no number
-pub named : (f : Field) → IsName (name_of f)
+-- no member's name begins with the tag
+named : (f : Field) → begins_with_tag (name_of f) ≡ false
 unfolding name_of
 named Line = refl
 named f = refl
@@ -132,6 +132,10 @@ optional_ci_well most max (Some s) fits = ci_well most max s fits
 pub optional_moment_well : (most : ℕ) (o : Option ℕ) → FitsOptionalMoment o → HasWell most (option_map (λ n. json.string (moment_text n)) o)
 optional_moment_well most None fits = tt
 optional_moment_well most (Some n) fits = moment_well most n fits
+
+pub optional_word_well : {X : Type 0} (most : ℕ) (word : X → List ℕ) (o : Option X) → ((x : X) → is_tagged (word x) ≡ false) → HasWell most (option_map json.string (option_map word o))
+optional_word_well most word None begins = tt
+optional_word_well most word (Some x) begins = text_well most (word x) (begins x)
 
 pub optional_inner_well : {X : Type 0} (most : ℕ) (members : X → List Member) (o : Option X) → ((x : X) → o ≡ Some x → IsWell most (object_of (members x))) → HasWell most (option_map object_of (option_map members o))
 optional_inner_well most members None well = tt

@@ -15,7 +15,6 @@ pub mod Nesting
 pub mod Numbers
 pub mod Packets
 pub mod Pieces
-pub mod Plain
 pub mod Quote
 pub mod ReplyForms
 pub mod SeenIds

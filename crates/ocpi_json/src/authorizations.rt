@@ -3,7 +3,7 @@
 
 ghost use Rattle.std.specs.Prelude.{◌≡◌};
 ghost use Rattle.serde_json.specs.View.{view};
-ghost use Rattle.ocpi_json.specs.AuthorizationForms.{uid_at, evse_uids_in, location_references_at, location_references_in, authorize_at, authorization_info_at, reply_at, authorization_at};
+ghost use Rattle.ocpi_json.specs.AuthorizationForms.{uid_at, evse_uids_in, location_references_at, location_references_in, location_references_members, LocationReferencesFits, authorize_at, authorize_members, AuthorizeFits, authorization_info_at, authorization_info_members, AuthorizationInfoFits, reply_at, authorization_at, authorization_members, AuthorizationFits};
 ghost use Rattle.ocpi_json.specs.Fault.{Gives};
 ghost use Rattle.ocpi_json.specs.Fields.{optional};
 
@@ -13,6 +13,7 @@ use crate::fields::{
     word_in,
 };
 use crate::lists::{ElementReader, elements};
+use crate::record_writer::{Record, RecordWriter};
 use crate::status::status_in;
 use crate::tokens::token_of;
 use ocpi_text::{CiText, Moment};
@@ -21,7 +22,7 @@ use ocpi_types::{
     StatusCode,
 };
 use serde_json::Value;
-use std::alloc::Global;
+use std::alloc::{AllocError, Global};
 
 /// How the uids of EVSEs are read.
 #[derive(Drop)]
@@ -88,6 +89,20 @@ fn location_references_of(alloc: Global, object: &Value) -> Result<LocationRefer
     })
 }
 
+impl Record for LocationReferences {
+    ghost members = { location_references_members };
+
+    ghost fits = { LocationReferencesFits };
+
+    #[tactic(auto, unfolding(crate::specs::AuthorizationForms::location_references_members))]
+    fn write(&self, out: &mut RecordWriter) -> Result<(), AllocError> {
+        out.begin()?;
+        out.optional_uids(Field::EvseUids, &self.evse_uids)?;
+        out.ci(Field::LocationId, self.location_id)?;
+        out.end()
+    }
+}
+
 /// The same under that name, where it is neither absent nor null.
 #[tactic(auto, unfolding(crate::specs::Fields::optional, crate::specs::AuthorizationForms::location_references_in))]
 fn optional_location_in(
@@ -119,6 +134,21 @@ pub fn authorize_of(alloc: Global, object: &Value) -> Result<Authorize, JsonFaul
     })
 }
 
+impl Record for Authorize {
+    ghost members = { authorize_members };
+
+    ghost fits = { AuthorizeFits };
+
+    #[tactic(auto, unfolding(crate::specs::AuthorizationForms::authorize_members))]
+    fn write(&self, out: &mut RecordWriter) -> Result<(), AllocError> {
+        out.begin()?;
+        out.optional_record(Field::Location, &self.location)?;
+        out.ci(Field::TokenUid, self.token_uid)?;
+        out.optional_word(Field::TypeOf, &self.token_type)?;
+        out.end()
+    }
+}
+
 /// What a provider says of a token (OCPI 2.2.1, Tokens: AuthorizationInfo object).
 #[tactic(auto, unfolding(crate::specs::AuthorizationForms::authorization_info_at))]
 fn authorization_info_of(object: &Value) -> Result<AuthorizationInfo, JsonFault>
@@ -132,6 +162,21 @@ fn authorization_info_of(object: &Value) -> Result<AuthorizationInfo, JsonFault>
         token,
         authorization_reference,
     })
+}
+
+impl Record for AuthorizationInfo {
+    ghost members = { authorization_info_members };
+
+    ghost fits = { AuthorizationInfoFits };
+
+    #[tactic(auto, unfolding(crate::specs::AuthorizationForms::authorization_info_members))]
+    fn write(&self, out: &mut RecordWriter) -> Result<(), AllocError> {
+        out.begin()?;
+        out.word(Field::Allowed, &self.allowed)?;
+        out.optional_ci(Field::AuthorizationReference, self.authorization_reference)?;
+        out.record(Field::Token, &self.token)?;
+        out.end()
+    }
 }
 
 /// The reply of that status. Only 1000 has data, which is not looked at otherwise.
@@ -163,4 +208,30 @@ pub fn authorization_of(object: &Value) -> Result<Authorization, JsonFault>
     let status = status_in(object)?;
     let timestamp = moment_in(object, Field::Timestamp)?;
     reply_of(status, timestamp, object)
+}
+
+impl Record for Authorization {
+    ghost members = { authorization_members };
+
+    ghost fits = { AuthorizationFits };
+
+    #[tactic(auto, unfolding(crate::specs::AuthorizationForms::authorization_members))]
+    fn write(&self, out: &mut RecordWriter) -> Result<(), AllocError> {
+        out.begin()?;
+        match self {
+            Authorization::Done { timestamp, info } => {
+                out.record(Field::Data, info)?;
+                out.number(Field::StatusCode, 1000)?;
+                out.moment(Field::Timestamp, *timestamp)?;
+            }
+            Authorization::Refused {
+                timestamp,
+                status_code,
+            } => {
+                out.whole(Field::StatusCode, status_code.value())?;
+                out.moment(Field::Timestamp, *timestamp)?;
+            }
+        }
+        out.end()
+    }
 }

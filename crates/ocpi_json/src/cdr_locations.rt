@@ -114,7 +114,7 @@ fn place_part_of(alloc: Global, object: &Value) -> Result<PlacePart, JsonFault>
 
 /// The location, EVSE and connector of a session. The first fault is told, in the order of the members of
 /// [`CdrLocation`].
-#[tactic(auto, using(crate::proofs::CdrLocationLemmas::cdr_location_exact), unfolding(crate::specs::CdrLocationForms::cdr_location_at))]
+#[tactic(auto, unfolding(crate::specs::CdrLocationForms::cdr_location_at))]
 pub fn cdr_location_of(alloc: Global, object: &Value) -> Result<CdrLocation, JsonFault>
     ensures { Gives result (cdr_location_at (view object.now)) }
 {

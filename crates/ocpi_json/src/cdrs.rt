@@ -121,7 +121,7 @@ fn cdr_charges_of(alloc: Global, object: &Value) -> Result<CdrCharges, JsonFault
 
 /// A charge detail record. The first fault is told, in the order of the members of [`Cdr`]; behind them all, one whose
 /// member `credit` is true is `WrongForm` of `credit`. Any other `credit` is read past.
-#[tactic(auto, using(crate::proofs::CdrLemmas::cdr_exact), unfolding(crate::specs::CdrForms::cdr_at))]
+#[tactic(auto, unfolding(crate::specs::CdrForms::cdr_at))]
 pub fn cdr_of(alloc: Global, object: &Value) -> Result<Cdr, JsonFault>
     ensures { Gives result (cdr_at (view object.now)) }
 {

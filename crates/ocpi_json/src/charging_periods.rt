@@ -87,7 +87,7 @@ impl ElementReader<ChargingPeriod> for PeriodReader {
 }
 
 /// The charging periods of a charge detail record, one or more.
-#[tactic(auto, using(crate::proofs::Elements::some_elements, crate::proofs::ChargingPeriodLemmas::charging_periods_exact), unfolding(crate::specs::ChargingPeriodForms::charging_periods_in))]
+#[tactic(auto, using(crate::proofs::Elements::some_elements), unfolding(crate::specs::ChargingPeriodForms::charging_periods_in))]
 pub fn charging_periods_of(
     alloc: Global,
     object: &Value,

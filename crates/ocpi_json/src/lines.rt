@@ -1,21 +1,16 @@
-//! Lines of bytes to trees, and back.
+//! Lines of bytes to trees.
 
-ghost use Rattle.std.specs.Prelude.{◌≡◌, ◌≤◌, length, IfOk, Ok, string_bytes};
 ghost use Rattle.ocpi_json.specs.Fault.{GivesBy};
-ghost use Rattle.ocpi_json.specs.Line.{max_line, text_of, tree_of, tree_at};
-ghost use Rattle.ocpi_json.specs.Plain.{IsTagged, plain_text};
+ghost use Rattle.ocpi_json.specs.Line.{text_of, tree_of, tree_at};
 ghost use Rattle.ocpi_json.specs.Tagged.{tree_in};
-ghost use Rattle.serde_json.specs.Data.{depth};
-ghost use Rattle.serde_json.specs.Read.{max_depth};
 ghost use Rattle.serde_json.specs.View.{view};
 
 use crate::fault::JsonFault;
 use crate::names::has_number_name;
 use crate::one_pass::{Stop, tree_of_text};
 use crate::quote::quote_numbers;
-use crate::unquote::unquote_numbers;
 use serde_json::Value;
-use std::alloc::{AllocError, Global};
+use std::alloc::Global;
 
 /// The bytes of the longest line.
 const MAX_LINE: usize = 1_048_576;
@@ -49,6 +44,8 @@ fn tree_of(alloc: Global, quoted: &str) -> Result<Value, JsonFault>
 }
 
 /// The tree of a text, or its first refusal: its numbers are quoted, and the quoted text is read.
+#[cold]
+#[inline(never)]
 fn tree_by_quoting(alloc: Global, text: &str) -> Result<Value, JsonFault>
     ensures { GivesBy view result (tree_in text.now) }
 {
@@ -72,15 +69,4 @@ pub fn line_tree(alloc: Global, line: &[u8]) -> Result<Value, JsonFault>
         Err(Stop::Memory) => Err(JsonFault::Memory),
         Err(Stop::Declined) => tree_by_quoting(alloc, text),
     }
-}
-
-/// The line of a tree whose numbers are texts behind U+0001: no spaces, the members of each object
-/// in the byte order of their names, numbers as they were given.
-pub fn tree_line(alloc: Global, tree: &Value) -> Result<String, AllocError>
-    ensures text { IfOk result (λ s. IsTagged (view tree.now) → string_bytes s ≡ plain_text (view tree.now)) }
-    ensures again { IfOk result (λ s. IsTagged (view tree.now) → depth (view tree.now) ≤ max_depth
-        → length (string_bytes s) ≤ max_line → tree_at (string_bytes s) ≡ Ok (view tree.now)) }
-{
-    let text = tree.to_string(alloc)?;
-    unquote_numbers(alloc, &text)
 }

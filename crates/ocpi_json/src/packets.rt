@@ -40,8 +40,12 @@ fn body_of(alloc: Global, kind: PacketKind, object: &Value) -> Result<Body, Json
         PacketKind::StartSession => Ok(Body::StartSession(start_session_of(alloc, object)?)),
         PacketKind::StopSession => Ok(Body::StopSession(stop_session_of(alloc, object)?)),
         PacketKind::ReserveNow => Ok(Body::ReserveNow(reserve_now_of(alloc, object)?)),
-        PacketKind::CancelReservation => Ok(Body::CancelReservation(cancel_reservation_of(alloc, object)?)),
-        PacketKind::UnlockConnector => Ok(Body::UnlockConnector(unlock_connector_of(alloc, object)?)),
+        PacketKind::CancelReservation => Ok(Body::CancelReservation(cancel_reservation_of(
+            alloc, object,
+        )?)),
+        PacketKind::UnlockConnector => Ok(Body::UnlockConnector(unlock_connector_of(
+            alloc, object,
+        )?)),
         PacketKind::CommandResponse => Ok(Body::CommandResponse(command_response_of(object)?)),
         PacketKind::CommandResult => Ok(Body::CommandResult(command_result_of(alloc, object)?)),
         PacketKind::PutToken => Ok(Body::PutToken(token_of(object)?)),

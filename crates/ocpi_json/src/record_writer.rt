@@ -1,6 +1,7 @@
 //! Records as JSON, written member by member.
 
-ghost use Rattle.std.specs.Prelude.{◌≡◌, ◌≤◌, ◌<◌, ◌++◌, ◌∷◌, [], map, option_map, unsigned_abs, All, IfSome, IsUtf8, Ok, OnOk, ℕ, List};
+ghost use Rattle.std.specs.Prelude.{◌≡◌, ◌≤◌, ◌<◌, ◌++◌, ◌∷◌, [], map, option_map, unsigned_abs, All, IfSome, IsUtf8, Ok, OnOk, string_bytes, ℕ, List};
+ghost use Rattle.json.specs.Lex.{tokens};
 ghost use Rattle.json.specs.Print.{print};
 ghost use Rattle.json.specs.Token.{key, string, number, boolean, begin_array, end_array};
 ghost use Rattle.ocpi_text.specs.Decimal.{e4_limit};
@@ -63,12 +64,16 @@ impl RecordWriter {
         }
     }
 
-    /// The bytes of what was written.
-    pub fn into_bytes(self) -> Vec<u8>
-        ensures items { result.items ≡ print self }
+    /// What was written, without spaces.
+    pub fn into_text(self) -> String
+        ensures text { string_bytes result ≡ print self }
         ensures utf8 { IsUtf8 (print self) }
+        ensures again { tokens (print self) ≡ self }
     {
-        self.out.into_inner()
+        match String::from_utf8(self.out.into_inner()) {
+            Ok(text) => text,
+            Err(_) => unreachable!(),
+        }
     }
 
     /// Opens an object.

@@ -14,10 +14,10 @@ use Rattle.operator_core.specs.Moves.{Out}
 use Rattle.operator_core.specs.State.{opening}
 use Rattle.operator_core.specs.Steps.{OperatorStep}
 use Rattle.ocpi_nodes.specs.declared.answer.Running.{Running}
-use Rattle.ocpi_nodes.specs.declared.outcome.Ran.{Ran}
-use Rattle.ocpi_nodes.specs.declared.outcome.Ran.TheVariants.{Whole, WithRefusals}
-use Rattle.ocpi_nodes.specs.declared.run.Turn.{Turn}
-use Rattle.ocpi_nodes.specs.declared.run.Turn.TheVariants.{Taken, Refused, Ended}
+use Rattle.line_runs.specs.declared.outcome.Ran.{Ran}
+use Rattle.line_runs.specs.declared.outcome.Ran.TheVariants.{Whole, WithRefusals}
+use Rattle.line_runs.specs.declared.run.Turn.{Turn}
+use Rattle.line_runs.specs.declared.run.Turn.TheVariants.{Taken, Refused, Ended}
 
 -- the line of a refusal: its number and its name
 abbrev pub refusal_line : List ℕ → List ℕ

@@ -13,8 +13,8 @@ use Rattle.ocpi_json.specs.SiteLines.{site_in}
 use Rattle.ocpi_json.specs.Sites.{site_of_line}
 use Rattle.std.specs.Str.{is_utf8}
 use Rattle.ocpi_nodes.specs.declared.answer.Running.{Running}
-use Rattle.ocpi_nodes.specs.declared.run.Turn.{Turn}
-use Rattle.ocpi_nodes.specs.declared.lines.TheConstants.{KEPT_BYTES}
+use Rattle.line_runs.specs.declared.run.Turn.{Turn}
+use Rattle.line_runs.specs.declared.lines.TheConstants.{KEPT_BYTES}
 use Rattle.ocpi_nodes.specs.Answer.{LineGives, Opened, NoSite, Answered, Unanswered, Unread}
 
 -- a text of a line that is too long

@@ -1,5 +1,2 @@
 pub mod Answer
 pub mod Cut
-pub mod Lines
-pub mod Outcome
-pub mod Run

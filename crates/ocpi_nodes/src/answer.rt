@@ -6,11 +6,9 @@ ghost use Rattle.ocpi_json.specs.SiteLines.{site_in};
 ghost use Rattle.ocpi_types.specs.declared.site.SiteLine.{SiteLine as SiteLineOf};
 ghost use Rattle.operator_core.specs.State.{opening};
 ghost use Rattle.ocpi_nodes.specs.Answer.{EndGives, LineGives, PacketTurn, SiteTurn, packet_lines, refusal_line};
-ghost use Rattle.ocpi_nodes.specs.Run.{Begins, Outputs, ReadsFewLines, StopsReading};
+ghost use Rattle.line_runs.specs.Run.{Begins, Outputs, ReadsFewLines, StopsReading};
 
-use crate::lines::LineReader;
-use crate::outcome::{Ran, RunFault};
-use crate::run::{AnswerLines, Turn, run_whole};
+use line_runs::{AnswerLines, LineReader, Ran, RunFault, Turn, run_whole};
 use ocpi_json::{JsonFault, read_packet, read_site, write_packet};
 use ocpi_text::Moment;
 use ocpi_types::Packet;

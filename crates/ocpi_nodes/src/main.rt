@@ -3,24 +3,16 @@
 
 ghost use Rattle.std.specs.Prelude.{◌≡◌, ◌≢◌};
 ghost use Rattle.clap.specs.Values.{kind_of};
-ghost use Rattle.ocpi_nodes.specs.Outcome.{exit_status};
+ghost use Rattle.line_runs.specs.Outcome.{exit_status};
 
 mod answer;
 mod command;
-mod lines;
-mod outcome;
-mod run;
-#[cfg(test)]
-mod run_tests;
-#[cfg(test)]
-mod tests;
 
 use answer::run_answer;
 use clap::Error;
 use clap::error::ErrorKind;
 use command::{WRONG_WORDS, status_after, take_words};
-use lines::LineReader;
-use outcome::{Ran, RunFault, status_of};
+use line_runs::{LineReader, Ran, RunFault, status_of};
 use std::io::{self, BufReader, BufWriter};
 use std::process::ExitCode;
 

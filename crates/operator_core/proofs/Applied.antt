@@ -1,6 +1,6 @@
 -- A step whose changes of rows are carried out keeps what holds of an operator at any time.
-use Rattle.std.proofs.Common.{zero, suc, ◌≡◌, ℕ, ◌+◌, List, [], ◌∷◌, ◌++◌, refl, sym, ap, subst, ◌∙◌}
-use Rattle.std.specs.Prelude.{Option, Some, None, slice_get}
+use Rattle.std.proofs.Common.{zero, suc, ◌≡◌, ℕ, ◌+◌, List, [], ◌∷◌, ◌++◌, refl, subst}
+use Rattle.std.specs.Prelude.{Option, Some, None}
 use Rattle.std.specs.FinMap.{get}
 use Rattle.ocpi_text.specs.Text.{key}
 use Rattle.ocpi_types.specs.declared.site.Site.{Site}
@@ -20,7 +20,7 @@ use Rattle.operator_core.specs.State.{State, Spent, OpenStarts}
 use Rattle.operator_core.specs.Stored.{rows_of, changed_all}
 use Rattle.operator_core.specs.Start.{StartLine}
 use Rattle.operator_core.specs.Start as lines
-use Rattle.operator_core.specs.Moves.{Out, spend, open_start, spent_after, spent_rows}
+use Rattle.operator_core.specs.Moves.{Out, spent_after, spent_rows}
 use Rattle.operator_core.specs.Steps.{OperatorStep, RequestLine, Again, Started, started, deadline, responded}
 use Rattle.operator_core.specs.Consistent.{IsConsistent}
 use Rattle.operator_core.specs.Claimed.{IsIndexed, IsAtSite, AreAtSite, claimed_all}

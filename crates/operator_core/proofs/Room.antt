@@ -1,5 +1,5 @@
 -- The room that changes of rows have.
-use Rattle.std.proofs.Common.{◌≡◌, ℕ, List}
+use Rattle.std.proofs.Common.{ℕ, List}
 use Rattle.std.specs.Prelude.{IsTrue}
 use Rattle.std.specs.FinMap.{contains_key}
 use Rattle.ocpi_types.specs.declared.rows.Row.TheVariants as row

@@ -1,5 +1,5 @@
 -- What is spent is spent by its key.
-use Rattle.std.proofs.Common.{◌≡◌, ℕ, List, refl, sym, ap, subst, ◌∙◌}
+use Rattle.std.proofs.Common.{◌≡◌, ℕ, List, refl, sym, subst, ◌∙◌}
 use Rattle.std.specs.Prelude.{Option, Some, None, Bool, true, false, IsTrue, is_some}
 use Rattle.std.specs.FinMap.{get, insert}
 use Rattle.ocpi_text.specs.Text.{key}

@@ -1,7 +1,7 @@
 //! What an operator stores: its counter of packets, what it has answered, which references are spent and which starts are
 //! open.
 
-ghost use Rattle.std.specs.Prelude.{◌≡◌, OnOk, IsTrue, None, false};
+ghost use Rattle.std.specs.Prelude.{◌≡◌, OnOk, IsOk, IsTrue, None, false};
 ghost use Rattle.std.specs.FinMap as map;
 ghost use Rattle.operator_core.specs.Start.{IsSpent};
 ghost use Rattle.operator_core.specs.Stored.{HasRoom, HasRoomOf, HasRooms, KeepsRoom, changed, changed_all, counted, put_row, drop_row};
@@ -87,11 +87,12 @@ impl Books {
         }
     }
 
-    /// Takes the memory that a row needs.
+    /// Takes the memory that a row needs. An error is want of memory, for a row that has no room.
     fn reserve_row(&mut self, row: &Row) -> Result<(), AllocError>
         ensures rows { self.new.rows ≡ self.old.rows }
         ensures keeps { KeepsRoom self.old.rooms self.new.rooms }
         ensures room { OnOk result (HasRoomOf self.new.rooms row.now) }
+        ensures again { HasRoomOf self.old.rooms row.now → IsOk result }
     {
         match row {
             Row::Count { .. } => Ok(()),
@@ -112,11 +113,12 @@ impl Books {
         }
     }
 
-    /// Takes the memory that a change needs.
+    /// Takes the memory that a change needs. An error is want of memory, for a change that has no room.
     fn reserve(&mut self, change: &Change) -> Result<(), AllocError>
         ensures rows { self.new.rows ≡ self.old.rows }
         ensures keeps { KeepsRoom self.old.rooms self.new.rooms }
         ensures room { OnOk result (HasRoom self.new.rooms change.now) }
+        ensures again { HasRoom self.old.rooms change.now → IsOk result }
     {
         match change {
             Change::Put(row) => self.reserve_row(row),
@@ -124,10 +126,12 @@ impl Books {
         }
     }
 
-    /// Takes the memory that changes need. No row changes, whether there is enough or not.
+    /// Takes the memory that changes need. No row changes, whether there is enough or not. An error is want of memory, for changes
+    /// of which one has no room.
     pub fn make_room(&mut self, changes: &[Change]) -> Result<(), AllocError>
         ensures rows { self.new.rows ≡ self.old.rows }
         ensures room { OnOk result (HasRooms self.new.rooms changes.now) }
+        ensures again { HasRooms self.old.rooms changes.now → IsOk result }
     {
         for change in changes {
             self.reserve(change)?;

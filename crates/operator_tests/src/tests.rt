@@ -170,15 +170,26 @@ fn take(
     Ok(())
 }
 
+/// Hands the turns' packets to the operator, one after another.
+fn take_all(
+    rt: &impl Abort,
+    alloc: Global,
+    operator: &mut Operator,
+    begin: Moment,
+    turns: &[Turn],
+) -> Result<(), JsonFault> {
+    for turn in turns {
+        take(rt, alloc, operator, begin, turn)?;
+    }
+    Ok(())
+}
+
 /// Hands the turns' packets to the operator of the site, one after another. An error means that memory ran out.
 fn play(rt: &impl Abort, alloc: Global, turns: &[Turn]) -> Result<(), JsonFault> {
     let line = read_site(alloc, SITE.as_bytes())?;
     let begin = line.at;
     let mut operator = Operator::new(alloc, line)?;
-    for turn in turns {
-        take(rt, alloc, &mut operator, begin, turn)?;
-    }
-    Ok(())
+    take_all(rt, alloc, &mut operator, begin, turns)
 }
 
 #[test]

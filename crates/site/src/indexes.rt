@@ -5,7 +5,7 @@ ghost use Rattle.std.specs.FinMap as map;
 ghost use Rattle.ocpi_text.specs.Text.{key};
 ghost use Rattle.tables.specs.Keys.{text_cmp};
 ghost use Rattle.tables.specs.Tables.{shown_of};
-ghost use Rattle.site.specs.Indexes.{HaveEvses, AreIndexes, AddsEvse};
+ghost use Rattle.site.specs.Indexes.{HaveEvses, HasFreeAlone, AreIndexes, AddsEvse};
 ghost use Rattle.site.specs.Positions.{IsBefore};
 
 use ocpi_text::CiText;
@@ -44,8 +44,10 @@ impl Indexes {
         requires within { i < length locations.now }
         requires unclaimed { shown_of text_cmp self.old.claimed ≡ map.empty }
         requires before { HaveEvses locations.now (IsBefore i 0) self.old }
+        requires free_alone { HasFreeAlone self.old }
         ensures found { OnOk result (HaveEvses locations.now (IsBefore (i + 1) 0) self.new) }
         ensures unclaimed { OnOk result (shown_of text_cmp self.new.claimed ≡ map.empty) }
+        ensures free_alone { OnOk result (HasFreeAlone self.new) }
         ensures locations_stay { OnOk result (self.new.locations ≡ self.old.locations) }
     {
         for (j, evse) in locations[i].evses.as_slice().iter().enumerate() {

@@ -51,13 +51,6 @@ impl Places {
         Ok(Places { site, indexes })
     }
 
-    /// The site.
-    pub fn site(&self) -> &Site
-        ensures { result.now ≡ self.now.site }
-    {
-        &self.site
-    }
-
     /// Where the location of an id stands in the site's list. None, where the site has no such location.
     pub fn find_location(&self, id: &CiText<36>) -> Option<usize>
         ensures found { IfSome result (λ i. (l : Location) × (slice_get self.now.site.locations i ≡ Some l) × IsLocation self.now.site.locations id.now l) }

@@ -2,8 +2,9 @@
 
 use ocpi_text::{CiText, Party, TextFault, Whole};
 use std::alloc::{AllocError, Global};
+use std::process::Abort;
 use std::test::Fail;
-use tables::Table;
+use tables::{Table, TableKey, Visits};
 
 /// The keys 1, 5 and 9 with themselves, and between them the key 3 with room only.
 fn numbers(alloc: Global) -> Result<Table<u64, u64>, AllocError> {
@@ -22,6 +23,15 @@ fn key_of(found: Option<(u64, &u64)>) -> Option<u64> {
     }
 }
 
+/// The values that are visited are these, in order.
+fn compare<K: TableKey>(rt: &impl Abort, visits: Visits<'_, K, u64>, wanted: &[u64]) {
+    let mut wanted = wanted.iter();
+    for (_, value) in visits {
+        assert_eq!(rt; Some(value), wanted.next());
+    }
+    assert!(rt; wanted.next().is_none());
+}
+
 #[test]
 fn look_ups(rt: HostRuntime) -> Result<(), Fail> {
     let table = numbers(rt.alloc())?;
@@ -32,20 +42,8 @@ fn look_ups(rt: HostRuntime) -> Result<(), Fail> {
     assert_eq!(rt; key_of(table.first()), Some(1));
     assert_eq!(rt; key_of(table.first_from(2)), Some(5));
     assert_eq!(rt; key_of(table.first_after(5)), Some(9));
-    Ok(())
-}
-
-#[test]
-fn visits(rt: HostRuntime) -> Result<(), Fail> {
-    let table = numbers(rt.alloc())?;
-    let mut seen = Vec::new(rt.alloc());
-    for (key, _) in table.iter() {
-        seen.push(*key)?;
-    }
-    for (key, _) in table.range_from(2) {
-        seen.push(*key)?;
-    }
-    assert_eq!(rt; seen.as_slice(), [1, 5, 9, 5, 9].as_slice());
+    compare(&rt, table.iter(), [1, 5, 9].as_slice());
+    compare(&rt, table.range_from(2), [5, 9].as_slice());
     Ok(())
 }
 
@@ -63,22 +61,23 @@ fn changes(rt: HostRuntime) -> Result<(), Fail> {
     Ok(())
 }
 
+fn numbered(party: &str, number: &str) -> Result<(Party, Whole), TextFault> {
+    Ok((Party::read(party)?, Whole::read(number)?))
+}
+
 /// A key of the first party stands before one of the second, whatever its number.
 #[test]
 fn parties(rt: HostRuntime) -> Result<(), Fail> {
+    let keys = [
+        (numbered("NL/TNM", "1")?, 3),
+        (numbered("BE/BEC", "9")?, 2),
+        (numbered("BE/BEC", "2")?, 1),
+    ];
     let mut table = Table::new(rt.alloc());
-    for (party, number, value) in [
-        ("NL/TNM", "1", 3u64),
-        ("BE/BEC", "9", 2),
-        ("BE/BEC", "2", 1),
-    ] {
-        table.insert((Party::read(party)?, Whole::read(number)?), value)?;
+    for (key, value) in keys {
+        table.insert(key, value)?;
     }
-    let mut seen = Vec::new(rt.alloc());
-    for (_, value) in table.iter() {
-        seen.push(*value)?;
-    }
-    assert_eq!(rt; seen.as_slice(), [1, 2, 3].as_slice());
+    compare(&rt, table.iter(), [1, 2, 3].as_slice());
     Ok(())
 }
 
@@ -89,17 +88,20 @@ fn place(location: &str, evse: &str) -> Result<(CiText<36>, CiText<36>), TextFau
 /// The first EVSE of a location, past one that was cleared.
 #[test]
 fn places(rt: HostRuntime) -> Result<(), Fail> {
-    let mut table = Table::new(rt.alloc());
-    for (location, evse, value) in [("LOC1", "E1", 1u64), ("LOC2", "E1", 2), ("LOC2", "E2", 3)] {
-        table.insert(place(location, evse)?, value)?;
-    }
-    table.clear(place("LOC2", "E1")?);
+    let first = place("LOC1", "E1")?;
+    let (cleared, found) = (place("LOC2", "E1")?, place("LOC2", "E2")?);
     let lowest = CiText::new("")?;
-    let Some((evse, value)) = table.first_with(CiText::new("LOC2")?, lowest) else {
-        return Err(Fail::new("no EVSE is found"));
-    };
-    assert_eq!(rt; evse.as_str(), "E2");
-    assert_eq!(rt; *value, 3);
-    assert!(rt; table.first_with(CiText::new("LOC3")?, lowest).is_none());
+    let mut table = Table::new(rt.alloc());
+    for (key, value) in [(first, 1u64), (cleared, 2), (found, 3)] {
+        table.insert(key, value)?;
+    }
+    table.clear(cleared);
+    match table.first_with(found.0, lowest) {
+        Some((evse, value)) => {
+            assert_eq!(rt; evse.as_str(), "E2");
+            assert_eq!(rt; *value, 3);
+        }
+        None => return Err(Fail::new("no EVSE is found")),
+    }
     Ok(())
 }

@@ -186,24 +186,26 @@ fn moments_are_counted(rt: HostRuntime) -> Result<(), Fail> {
     Ok(())
 }
 
-/// Whether there is a number of that many ten-thousandths, and whether it is a quantity.
-fn kinds_of(units: i64) -> (bool, bool) {
+/// The number of that many ten-thousandths, if there is one, and whether it is a quantity.
+fn number_of(units: i64) -> (Option<i64>, bool) {
     match E4::new(units) {
-        Some(number) => (true, Quantity::new(number).is_some()),
-        None => (false, false),
+        Some(number) => (Some(number.units()), Quantity::new(number).is_some()),
+        None => (None, false),
     }
 }
 
 #[test]
-fn numbers_have_limits(rt: HostRuntime) {
+fn numbers_have_limits(rt: HostRuntime) -> Result<(), Fail> {
     let rows = [
-        (999999999999999, (true, true)),
-        (0, (true, true)),
-        (-1, (true, false)),
-        (1000000000000000, (false, false)),
-        (i64::MIN, (false, false)),
+        (999999999999999, (Some(999999999999999), true)),
+        (0, (Some(0), true)),
+        (-1, (Some(-1), false)),
+        (1000000000000000, (None, false)),
+        (i64::MIN, (None, false)),
     ];
-    for (units, kinds) in rows {
-        assert_eq!(rt; kinds_of(units), kinds);
+    for (units, number) in rows {
+        assert_eq!(rt; number_of(units), number);
     }
+    assert_eq!(rt; E4::read("99999999999.9999")?.units(), 999999999999999);
+    Ok(())
 }

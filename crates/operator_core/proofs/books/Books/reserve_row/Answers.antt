@@ -18,3 +18,12 @@ returns-in-Pending-clause-keeps c = rw (← c.self.view_is) (keeps_room _ _ (λ 
 
 pub returns-in-Pending-clause-room : goal.returns-in-Pending-clause-room
 returns-in-Pending-clause-room c = rw c.in-Pending.is c.reserve-in-Pending.ensures.ready
+
+pub returns-in-Reply-clause-again : goal.returns-in-Reply-clause-again
+returns-in-Reply-clause-again c = rw (c.in-Reply.is, ← c.self.view_is) c.reserve.ensures.again
+
+pub returns-in-Spent-clause-again : goal.returns-in-Spent-clause-again
+returns-in-Spent-clause-again c = rw (c.in-Spent.is, ← c.self.view_is) c.reserve-in-Spent.ensures.again
+
+pub returns-in-Pending-clause-again : goal.returns-in-Pending-clause-again
+returns-in-Pending-clause-again c = rw (c.in-Pending.is, ← c.self.view_is) c.reserve-in-Pending.ensures.again

@@ -2,7 +2,7 @@ use Rattle.std.proofs.Common.{◌≡◌, ◌≤◌, length, refl, sym, ap, subst
 use Rattle.std.proofs.lemmas.Option.{slice_get_read}
 use Rattle.ocpi_types.specs.declared.site.Location.{Location}
 use Rattle.ocpi_types.specs.declared.site.Evse.{Evse}
-use Rattle.site.proofs.Filling.{evse_added}
+use Rattle.site.proofs.Filling.{evse_added, free_added}
 use Rattle.site.proofs.Indexing.{next_location}
 use Rattle.site.proofs.indexes.Indexes.add_evses.Goals as goal
 
@@ -17,6 +17,7 @@ loop-j-preserved c =
     record {
       found = evse_added c.args.locations.now c.args.i c.loop-j.j location evse c.loop-j.self c.add_evse.new.self stands within c.loop-j.invariant.found c.loop-j.invariant.unclaimed c.in_ok-add_evse.ensures;
       unclaimed = c.in_ok-add_evse.ensures.claimed_stay ∙ c.loop-j.invariant.unclaimed;
+      free_alone = free_added _ _ _ _ c.loop-j.invariant.free_alone c.in_ok-add_evse.ensures;
       locations_stay = c.in_ok-add_evse.ensures.locations_stay ∙ c.loop-j.invariant.locations_stay;
     }
 

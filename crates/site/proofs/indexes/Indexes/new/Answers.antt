@@ -1,4 +1,4 @@
-use Rattle.std.proofs.Common.{◌≡◌, ℕ, ◌<◌, length, refl, subst, Some, slice_get, arith}
+use Rattle.std.proofs.Common.{◌≡◌, ℕ, ◌<◌, length, refl, sym, subst, ◌∙◌, Some, slice_get, arith}
 use Rattle.std.proofs.lemmas.Option.{slice_get_read}
 use Rattle.tables.specs.Keys.{text_cmp}
 use Rattle.tables.specs.Tables.{shown_of}
@@ -13,6 +13,7 @@ loop-i-init c = record {
   located = rw c.new.ensures.shown (no_location c.args.locations.now);
   found = rw (c.new-2.ensures.shown, c.new-4.ensures.shown) (no_evse c.args.locations.now _ _);
   unclaimed = c.new-3.ensures.shown;
+  free_alone = c.new-4.ensures.room ∙ sym c.new-4.ensures.shown;
 }
 
 pub loop-i-preserved : goal.loop-i-preserved
@@ -24,6 +25,7 @@ loop-i-preserved c =
           (more_locations c.args.locations.now c.loop-i.i _ (key location.id) c.loop-i.invariant.located (record { location = location; stands = stands; same = refl }));
       found = c.in_ok-add_evses.ensures.found;
       unclaimed = c.in_ok-add_evses.ensures.unclaimed;
+      free_alone = c.in_ok-add_evses.ensures.free_alone;
     }
 
 pub returns-clause-found : goal.returns-clause-found
@@ -32,4 +34,5 @@ returns-clause-found c =
     record {
       locations_found = all_locations c.args.locations.now _ (subst (λ (n : ℕ). FindsLocations c.args.locations.now (λ j. j < n) (shown_of text_cmp c.loop-i.indexes.locations)) end c.loop-i.invariant.located);
       evses_found = all_evses c.args.locations.now _ _ _ _ (subst (λ (n : ℕ). HaveEvses c.args.locations.now (IsBefore n 0) c.loop-i.indexes) end c.loop-i.invariant.found);
+      free_alone = c.loop-i.invariant.free_alone;
     }

@@ -1,10 +1,10 @@
 use Rattle.std.proofs.Common.{◌≡◌, refl, sym, ap, ◌∙◌, true, Option, Some, None, Bor}
 use Rattle.std.specs.Prelude.{is_some, option_copied}
-use Rattle.std.specs.FinMap.{get}
+use Rattle.std.specs.FinMap.{FinMap, get, remove}
 use Rattle.ocpi_text.specs.Text.{key}
 use Rattle.tables.specs.Keys.{text_cmp}
 use Rattle.tables.specs.Tables.{shown_of}
-use Rattle.site.specs.Positions.{Position}
+use Rattle.site.specs.Positions.{Position, position_cmp}
 use Rattle.site.proofs.Finding.{known_uid}
 use Rattle.site.proofs.Indexing.{claimed_one}
 use Rattle.site.proofs.places.Places.claim.Goals as goal
@@ -33,5 +33,6 @@ invariant_of-self c =
       record {
         locations_found = c.self.invariant.1.locations_found;
         evses_found = rw (c.put.ensures.shown, c.put.ensures.room, c.remove.ensures.shown, c.key-uid.ensures) claimed;
+        free_alone = c.remove.ensures.room ∙ ap (λ (m : FinMap position_cmp (Unit {0})). remove m c.unwrap-position.result.now) c.self.invariant.1.free_alone ∙ sym c.remove.ensures.shown;
       },
     )

@@ -1,0 +1,50 @@
+//! Reads each line of the standard input as a packet, and writes the line that is written for that packet, or why the
+//! line is refused, as `refused 4 Missing(token)`.
+//!
+//! It is a test of `ocpi_json`, and of `copy`: its cases are the lines of the file `stdin` beside what they must give,
+//! `stdout`, which `tools/packet_cases.py` writes. It also serves to see what is wrong with a line. Lines end at LF; empty
+//! ones are skipped.
+#![tactic(auto)]
+
+use ocpi_json::{JsonFault, read_packet, write_packet};
+use std::alloc::Global;
+use std::io::{self, BufWriter, Read, Write};
+use std::process::ExitCode;
+
+fn main(rt: HostRuntime) -> ExitCode {
+    match write_answers(&rt) {
+        Ok(()) => ExitCode::SUCCESS,
+        Err(error) => {
+            let _ = eprintln!(rt; "{error}");
+            ExitCode::FAILURE
+        }
+    }
+}
+
+/// Answers all lines of the standard input.
+fn write_answers(rt: &HostRuntime) -> io::Result<()> {
+    let mut input = Vec::new(rt.alloc());
+    rt.reader().read_to_end(&mut input)?;
+    let mut output = BufWriter::new(rt.alloc(), io::writer(rt))?;
+    for line in input.split(|byte| *byte == b'\n') {
+        if !line.is_empty() {
+            write_answer(rt.alloc(), line, &mut output)?;
+        }
+    }
+    output.flush()
+}
+
+/// Writes what a line gives.
+fn write_answer<W: Write>(alloc: Global, line: &[u8], output: &mut W) -> io::Result<()> {
+    match written_again(alloc, line) {
+        Ok(text) => writeln!(output, "{text}"),
+        Err(fault) => writeln!(output, "refused {fault}"),
+    }
+}
+
+/// The line that is written for a copy of the packet of a line.
+fn written_again(alloc: Global, line: &[u8]) -> Result<String, JsonFault> {
+    let packet = read_packet(alloc, line)?;
+    let copy = packet.copy()?;
+    Ok(write_packet(alloc, &copy)?)
+}

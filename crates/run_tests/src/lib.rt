@@ -1,0 +1,5 @@
+//! What a run does where reading or writing fails, and when it flushes.
+#![tactic(auto)]
+
+#[cfg(test)]
+mod tests;
