@@ -1,5 +1,5 @@
 -- An event is read just where the tree has its form.
-use Rattle.std.proofs.Common.{◌≡◌, ℕ, List, Option, Some, None, Ok, Err, IfOk, refl, sym, subst, ap, ◌∙◌}
+use Rattle.std.proofs.Common.{◌≡◌, ℕ, List, Option, Some, None, Ok, Err, IfOk, refl, sym, subst, ap}
 use Rattle.serde_json.specs.Data.{Data}
 use Rattle.ocpi_types.specs.Words.{token_type_of}
 use Rattle.ocpi_types.specs.declared.events.ChargerEvent.{ChargerEvent}
@@ -19,7 +19,7 @@ use Rattle.ocpi_json.specs.declared.events.OrderWord.{OrderWord}
 use Rattle.ocpi_json.specs.declared.events.OrderWord.TheVariants as command
 use Rattle.ocpi_json.specs.EventForms.{event_of_word, order_of_word, word_of_report, word_of_order, word_of_kind, known, known_in, start_order_at, reserve_order_at, unlock_order_at, order_at, submit_at, token_event_at, service_at, swipe_at, meter_at, command_number_at, report_at, charger_at, deliver_at, kind_at, event_at, event_of_line, event_in, HasCommandNumber, IsOrder, IsReport, IsKind, IsEvent, IsEventLine, SpellsEvent}
 use Rattle.ocpi_json.specs.Fault.{Read, ◌>>=◌}
-use Rattle.ocpi_json.specs.Fields.{ci_in, moment_in, party_in, quantity_in, record_in, text_in, truth_in, whole_in, word_in, optional}
+use Rattle.ocpi_json.specs.Fields.{ci_in, moment_in, party_in, quantity_in, record_in, truth_in, whole_in, word_in, optional}
 use Rattle.ocpi_json.specs.Form.{Required, IsRecord, IsWord}
 use Rattle.ocpi_json.specs.Tokens.{token_at, IsToken}
 use Rattle.ocpi_json.proofs.Exact.{Exact, ok_is, bind_ok, both_steps, of_text, as_record_exact, ci_exact, inner_exact, moment_exact, optional_ci_exact, party_exact, quantity_exact, truth_exact, whole_exact, word_exact}
@@ -55,13 +55,16 @@ start_order_sound d o e =
     let g = bind_ok (ci_in 36 field.LocationId d) _ o b.2 in
     let h = bind_ok (optional (ci_in 36) field.EvseUid d) _ o g.2 in
     let i = bind_ok (optional (ci_in 36) field.ConnectorId d) _ o h.2 in
-    subst (OfOrder command.StartSession d) (ok_is (order.StartSession a.0 b.0 g.0 h.0 i.0) o i.2) ((
-      (ci_exact 36 field.TokenUid).sound d a.0 a.1,
-      (word_exact token_type_of field.TokenType).sound d b.0 b.1,
-      (ci_exact 36 field.LocationId).sound d g.0 g.1,
-      (optional_ci_exact 36 field.EvseUid).sound d h.0 h.1,
-      (optional_ci_exact 36 field.ConnectorId).sound d i.0 i.1,
-    ), refl)
+    subst (OfOrder command.StartSession d) (ok_is (order.StartSession a.0 b.0 g.0 h.0 i.0) o i.2) (
+      (
+        (ci_exact 36 field.TokenUid).sound d a.0 a.1,
+        (word_exact token_type_of field.TokenType).sound d b.0 b.1,
+        (ci_exact 36 field.LocationId).sound d g.0 g.1,
+        (optional_ci_exact 36 field.EvseUid).sound d h.0 h.1,
+        (optional_ci_exact 36 field.ConnectorId).sound d i.0 i.1,
+      ),
+      refl,
+    )
 
 reserve_order_sound : (d : Data) (o : Order) → reserve_order_at d ≡ Ok o → OfOrder command.ReserveNow d o
 unfolding reserve_order_at
@@ -72,14 +75,17 @@ reserve_order_sound d o e =
     let h = bind_ok (ci_in 36 field.ReservationId d) _ o g.2 in
     let i = bind_ok (ci_in 36 field.LocationId d) _ o h.2 in
     let j = bind_ok (optional (ci_in 36) field.EvseUid d) _ o i.2 in
-    subst (OfOrder command.ReserveNow d) (ok_is (order.ReserveNow a.0 b.0 g.0 h.0 i.0 j.0) o j.2) ((
-      (ci_exact 36 field.TokenUid).sound d a.0 a.1,
-      (word_exact token_type_of field.TokenType).sound d b.0 b.1,
-      (moment_exact field.ExpiryDate).sound d g.0 g.1,
-      (ci_exact 36 field.ReservationId).sound d h.0 h.1,
-      (ci_exact 36 field.LocationId).sound d i.0 i.1,
-      (optional_ci_exact 36 field.EvseUid).sound d j.0 j.1,
-    ), refl)
+    subst (OfOrder command.ReserveNow d) (ok_is (order.ReserveNow a.0 b.0 g.0 h.0 i.0 j.0) o j.2) (
+      (
+        (ci_exact 36 field.TokenUid).sound d a.0 a.1,
+        (word_exact token_type_of field.TokenType).sound d b.0 b.1,
+        (moment_exact field.ExpiryDate).sound d g.0 g.1,
+        (ci_exact 36 field.ReservationId).sound d h.0 h.1,
+        (ci_exact 36 field.LocationId).sound d i.0 i.1,
+        (optional_ci_exact 36 field.EvseUid).sound d j.0 j.1,
+      ),
+      refl,
+    )
 
 unlock_order_sound : (d : Data) (o : Order) → unlock_order_at d ≡ Ok o → OfOrder command.UnlockConnector d o
 unfolding unlock_order_at
@@ -87,11 +93,14 @@ unlock_order_sound d o e =
     let a = bind_ok (ci_in 36 field.LocationId d) _ o e in
     let b = bind_ok (ci_in 36 field.EvseUid d) _ o a.2 in
     let g = bind_ok (ci_in 36 field.ConnectorId d) _ o b.2 in
-    subst (OfOrder command.UnlockConnector d) (ok_is (order.UnlockConnector a.0 b.0 g.0) o g.2) ((
-      (ci_exact 36 field.LocationId).sound d a.0 a.1,
-      (ci_exact 36 field.EvseUid).sound d b.0 b.1,
-      (ci_exact 36 field.ConnectorId).sound d g.0 g.1,
-    ), refl)
+    subst (OfOrder command.UnlockConnector d) (ok_is (order.UnlockConnector a.0 b.0 g.0) o g.2) (
+      (
+        (ci_exact 36 field.LocationId).sound d a.0 a.1,
+        (ci_exact 36 field.EvseUid).sound d b.0 b.1,
+        (ci_exact 36 field.ConnectorId).sound d g.0 g.1,
+      ),
+      refl,
+    )
 
 order_sound : (w : OrderWord) (d : Data) (o : Order) → order_at w d ≡ Ok o → OfOrder w d o
 unfolding order_at
@@ -138,22 +147,28 @@ swipe_sound d x e =
     let b = bind_ok (ci_in 36 field.ConnectorId d) _ x a.2 in
     let g = bind_ok (ci_in 36 field.TokenUid d) _ x b.2 in
     let h = bind_ok (word_in token_type_of field.TokenType d) _ x g.2 in
-    subst (OfReport report.Swipe d) (ok_is (charger.Swipe a.0 b.0 g.0 h.0) x h.2) ((
-      (ci_exact 36 field.EvseUid).sound d a.0 a.1,
-      (ci_exact 36 field.ConnectorId).sound d b.0 b.1,
-      (ci_exact 36 field.TokenUid).sound d g.0 g.1,
-      (word_exact token_type_of field.TokenType).sound d h.0 h.1,
-    ), refl)
+    subst (OfReport report.Swipe d) (ok_is (charger.Swipe a.0 b.0 g.0 h.0) x h.2) (
+      (
+        (ci_exact 36 field.EvseUid).sound d a.0 a.1,
+        (ci_exact 36 field.ConnectorId).sound d b.0 b.1,
+        (ci_exact 36 field.TokenUid).sound d g.0 g.1,
+        (word_exact token_type_of field.TokenType).sound d h.0 h.1,
+      ),
+      refl,
+    )
 
 meter_sound : (d : Data) (x : ChargerEvent) → meter_at d ≡ Ok x → OfReport report.Meter d x
 unfolding meter_at
 meter_sound d x e =
     let a = bind_ok (ci_in 36 field.EvseUid d) _ x e in
     let b = bind_ok (quantity_in field.Kwh d) _ x a.2 in
-    subst (OfReport report.Meter d) (ok_is (charger.Meter a.0 b.0) x b.2) ((
-      (ci_exact 36 field.EvseUid).sound d a.0 a.1,
-      (quantity_exact field.Kwh).sound d b.0 b.1,
-    ), refl)
+    subst (OfReport report.Meter d) (ok_is (charger.Meter a.0 b.0) x b.2) (
+      (
+        (ci_exact 36 field.EvseUid).sound d a.0 a.1,
+        (quantity_exact field.Kwh).sound d b.0 b.1,
+      ),
+      refl,
+    )
 
 number_exact : Exact command_number_at (λ d n. HasCommandNumber d n.provider n.number)
 unfolding command_number_at
@@ -217,12 +232,15 @@ submit_sound d k e =
     let g = bind_ok (known_in order_of_word field.Order d) _ k b.2 in
     let h = bind_ok (order_at g.0 d) _ k g.2 in
     let o = order_sound g.0 d h.0 h.1 in
-    subst (OfKind event.Submit d) (ok_is (kind.Submit a.0 b.0 h.0) k h.2) ((
-      (moment_exact field.At).sound d a.0 a.1,
-      (party_exact field.Operator).sound d b.0 b.1,
-      subst (Required (IsWord order_of_word) field.Order d) (sym o.1) ((known_exact order_of_word field.Order).sound d g.0 g.1),
-      o.0,
-    ), refl)
+    subst (OfKind event.Submit d) (ok_is (kind.Submit a.0 b.0 h.0) k h.2) (
+      (
+        (moment_exact field.At).sound d a.0 a.1,
+        (party_exact field.Operator).sound d b.0 b.1,
+        subst (Required (IsWord order_of_word) field.Order d) (sym o.1) ((known_exact order_of_word field.Order).sound d g.0 g.1),
+        o.0,
+      ),
+      refl,
+    )
 
 token_sound : (d : Data) (k : EventKind) → token_event_at d ≡ Ok k → OfKind event.Token d k
 unfolding token_event_at
@@ -230,20 +248,26 @@ token_sound d k e =
     let a = bind_ok (moment_in field.At d) _ k e in
     let b = bind_ok (record_in field.Token d) _ k a.2 in
     let g = bind_ok (token_at b.0) _ k b.2 in
-    subst (OfKind event.Token d) (ok_is (kind.Token a.0 g.0) k g.2) ((
-      (moment_exact field.At).sound d a.0 a.1,
-      token_in.sound d g.0 (both_steps (record_in field.Token d) token_at b.0 g.0 b.1 g.1),
-    ), refl)
+    subst (OfKind event.Token d) (ok_is (kind.Token a.0 g.0) k g.2) (
+      (
+        (moment_exact field.At).sound d a.0 a.1,
+        token_in.sound d g.0 (both_steps (record_in field.Token d) token_at b.0 g.0 b.1 g.1),
+      ),
+      refl,
+    )
 
 service_sound : (d : Data) (k : EventKind) → service_at d ≡ Ok k → OfKind event.Service d k
 unfolding service_at
 service_sound d k e =
     let a = bind_ok (ci_in 36 field.EvseUid d) _ k e in
     let b = bind_ok (truth_in field.InService d) _ k a.2 in
-    subst (OfKind event.Service d) (ok_is (kind.Service a.0 b.0) k b.2) ((
-      (ci_exact 36 field.EvseUid).sound d a.0 a.1,
-      (truth_exact field.InService).sound d b.0 b.1,
-    ), refl)
+    subst (OfKind event.Service d) (ok_is (kind.Service a.0 b.0) k b.2) (
+      (
+        (ci_exact 36 field.EvseUid).sound d a.0 a.1,
+        (truth_exact field.InService).sound d b.0 b.1,
+      ),
+      refl,
+    )
 
 charger_sound : (w : ChargerWord) (d : Data) (k : EventKind) → charger_at w d ≡ Ok k → OfKind (event.Charger w) d k
 unfolding charger_at
@@ -259,11 +283,14 @@ deliver_sound d k e =
     let a = bind_ok (moment_in field.At d) _ k e in
     let b = bind_ok (party_in field.From d) _ k a.2 in
     let g = bind_ok (whole_in field.Serial d) _ k b.2 in
-    subst (OfKind event.Deliver d) (ok_is (kind.Deliver a.0 b.0 g.0) k g.2) ((
-      (moment_exact field.At).sound d a.0 a.1,
-      (party_exact field.From).sound d b.0 b.1,
-      (whole_exact field.Serial).sound d g.0 g.1,
-    ), refl)
+    subst (OfKind event.Deliver d) (ok_is (kind.Deliver a.0 b.0 g.0) k g.2) (
+      (
+        (moment_exact field.At).sound d a.0 a.1,
+        (party_exact field.From).sound d b.0 b.1,
+        (whole_exact field.Serial).sound d g.0 g.1,
+      ),
+      refl,
+    )
 
 kind_sound : (w : EventWord) (d : Data) (k : EventKind) → kind_at w d ≡ Ok k → OfKind w d k
 unfolding kind_at

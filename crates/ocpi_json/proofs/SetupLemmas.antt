@@ -1,5 +1,5 @@
 -- A setup is read just where the tree has its form.
-use Rattle.std.proofs.Common.{◌≡◌, ℕ, List, [], ◌∷◌, map, Option, Some, None, Ok, refl, sym, subst, ap}
+use Rattle.std.proofs.Common.{◌≡◌, ℕ, List, [], map, Option, Some, None, Ok, refl, subst}
 use Rattle.std.specs.Prelude.{Contains}
 use Rattle.serde_json.specs.Data.{Data, Items}
 use Rattle.ocpi_text.specs.Text.{key}
@@ -8,13 +8,12 @@ use Rattle.ocpi_types.specs.declared.field.Field.TheVariants as field
 use Rattle.ocpi_types.specs.declared.setup.Node.{Node}
 use Rattle.ocpi_types.specs.declared.setup.Node.TheVariants as node
 use Rattle.ocpi_types.specs.declared.site.Site.{Site}
-use Rattle.ocpi_json.specs.Fault.{◌>>=◌}
 use Rattle.ocpi_json.specs.Fields.{party_in, optional, each_after}
 use Rattle.ocpi_json.specs.Form.{Required, Optional, IsParty, IsRecord}
 use Rattle.ocpi_json.specs.SetupForms.{new_party_in, site_under, node_of, node_at, node_element, setup_at, setup_of_line, setup_in, site_of, IsNode, IsSetup, IsSetupLine, SpellsSetup}
 use Rattle.ocpi_json.specs.SiteForm.{IsSite}
 use Rattle.ocpi_json.specs.Sites.{counted_in, site_at}
-use Rattle.ocpi_json.proofs.Elements.{AllNew, Apart, ExactBeside, IsListing, record_beside, listing_exact, new_among_sound, new_among_complete, differ_from_new, new_from_differ}
+use Rattle.ocpi_json.proofs.Elements.{Apart, ExactBeside, IsListing, record_beside, listing_exact, new_among_sound, new_among_complete, differ_from_new, new_from_differ}
 use Rattle.ocpi_json.proofs.Exact.{Exact, ok_is, bind_ok, both_steps, party_exact, as_record_exact, inner_exact, optional_exact}
 use Rattle.ocpi_json.proofs.LineTrees.{line_sound, line_complete}
 use Rattle.ocpi_json.proofs.SiteForm.{site_exact}
