@@ -1,5 +1,5 @@
 -- A line is read just where it is JSON that nests no deeper than the limit.
-use Rattle.std.proofs.Common.{◌≡◌, ℕ, suc, max, ◌≤◌, ◌<◌, Bool, true, false, cond, List, [], ◌∷◌, ◌++◌, Option, Some, None, option_map, option_and_then, Ok, Err, refl, sym, ap, subst, ◌∙◌, append-nil, arith}
+use Rattle.std.proofs.Common.{◌≡◌, ℕ, suc, max, ◌≤◌, ◌<◌, Bool, true, false, cond, List, [], ◌∷◌, ◌++◌, Option, Some, None, option_and_then, Ok, Err, refl, sym, ap, subst, ◌∙◌, append-nil, arith}
 use Rattle.json.specs.Token.{Token}
 use Rattle.json.specs.Lex.{tokens}
 use Rattle.json.specs.Json.{Json, null, boolean, number, string, array, object, Items, no_items, item, Members, no_members, member, value, if_last}
@@ -10,7 +10,6 @@ use Rattle.json.proofs.Unique.Spelling.{value-json_tokens_back}
 use Rattle.serde_json.specs.Data.{Data}
 use Rattle.serde_json.specs.Read.{of_json, read}
 use Rattle.ocpi_json.specs.declared.fault.JsonFault.TheVariants.{Syntax}
-use Rattle.ocpi_json.specs.Fault.{Read, ◌>>=◌}
 use Rattle.ocpi_json.specs.Line.{text_of, tree_or, tree_of, tree_at}
 use Rattle.ocpi_json.specs.Names.{has_number_name}
 use Rattle.ocpi_json.specs.Nesting.{HasJson, nesting, items_nesting, members_nesting, max_nesting}

@@ -17,7 +17,6 @@ pub mod JsonNumbers
 pub mod LineTrees
 pub mod Listing
 pub mod MemberForms
-pub mod NumberNames
 pub mod PacketLemmas
 pub mod PieceQuoting
 pub mod PlainQuoting

@@ -3,7 +3,7 @@ use Rattle.std.proofs.Common.{◌≡◌, ℕ, ℤ, suc, ◌≤◌, ◌<◌, Bool
 use Rattle.std.specs.List.{All}
 use Rattle.std.specs.Prelude.{unsigned_abs, IfSome}
 use Rattle.json.specs.Json as json
-use Rattle.serde_json.specs.Data.{Data, null, boolean, string, array, object}
+use Rattle.serde_json.specs.Data.{Data, boolean, string, array}
 use Rattle.serde_json.specs.Find.{get}
 use Rattle.ocpi_text.specs.Decimal.{e4_limit, e4_text}
 use Rattle.ocpi_text.specs.Moment.{last_moment, moment_text}

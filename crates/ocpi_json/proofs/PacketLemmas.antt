@@ -1,5 +1,5 @@
 -- A packet is read just where the tree has a packet's form, and a packet that is written is read again.
-use Rattle.std.proofs.Common.{◌≡◌, ℕ, ◌≤◌, suc, List, true, false, Option, Some, None, Ok, refl, sym, subst, ap, ◌∙◌, arith}
+use Rattle.std.proofs.Common.{◌≡◌, ℕ, ◌≤◌, List, true, false, Option, Some, None, Ok, refl, sym, subst, ap, ◌∙◌, arith}
 use Rattle.json.specs.Json as json
 use Rattle.serde_json.specs.Data.{Data}
 use Rattle.ocpi_types.specs.Fields.{name_of}
@@ -14,10 +14,8 @@ use Rattle.ocpi_types.specs.declared.words.PacketKind.TheVariants as kind
 use Rattle.ocpi_json.specs.AuthorizationForms.{authorize_at, authorization_at}
 use Rattle.ocpi_json.specs.CdrForms.{cdr_at}
 use Rattle.ocpi_json.specs.CommandForms.{start_session_at, stop_session_at, reserve_now_at, cancel_reservation_at, unlock_connector_at}
-use Rattle.ocpi_json.specs.Fault.{Read, ◌>>=◌}
-use Rattle.ocpi_json.specs.Fields.{is_tagged, party_in, whole_in, record_in, text_in}
+use Rattle.ocpi_json.specs.Fields.{is_tagged, party_in, whole_in, record_in}
 use Rattle.ocpi_json.specs.Form.{Required, IsWord, IsRecord}
-use Rattle.ocpi_json.specs.Line.{tree_at}
 use Rattle.ocpi_json.specs.Members.{object_of}
 use Rattle.ocpi_json.specs.Packets.{known, kind_in, body_at, packet_at, packet_of_line, packet_in, IsBody, IsPacket, IsPacketLine, SpellsPacket, body_members, packet_members, packet_json, BodyFits, PacketFits}
 use Rattle.ocpi_json.specs.ReplyForms.{command_response_at, command_result_at, ack_at}
@@ -26,9 +24,9 @@ use Rattle.ocpi_json.specs.Tokens.{token_at}
 use Rattle.ocpi_json.proofs.AuthorizationLemmas.{authorize_exact, authorization_exact, authorize_form, authorization_form, authorize_well, authorization_well}
 use Rattle.ocpi_json.proofs.CdrLemmas.{cdr_exact, cdr_form, cdr_well}
 use Rattle.ocpi_json.proofs.CommandLemmas.{start_session_exact, stop_session_exact, reserve_now_exact, cancel_reservation_exact, unlock_connector_exact, start_session_form, stop_session_form, reserve_now_form, cancel_reservation_form, unlock_connector_form, start_session_well, stop_session_well, reserve_now_well, cancel_reservation_well, unlock_connector_well}
-use Rattle.ocpi_json.proofs.Exact.{Exact, done, ok_is, bind_ok, both_steps, of_text, whole_exact, party_exact, as_record_exact, inner_exact}
+use Rattle.ocpi_json.proofs.Exact.{Exact, ok_is, bind_ok, both_steps, of_text, whole_exact, party_exact, as_record_exact, inner_exact}
 use Rattle.ocpi_json.proofs.LineTrees.{line_sound, line_complete}
-use Rattle.ocpi_json.proofs.MemberForms.{tree, Stands, party_form, word_form, whole_form, inner_form, party_begins}
+use Rattle.ocpi_json.proofs.MemberForms.{tree, party_form, word_form, whole_form, inner_form, party_begins}
 use Rattle.ocpi_json.proofs.ReplyLemmas.{command_response_exact, command_result_exact, ack_exact, command_response_form, command_result_form, ack_form, command_response_well, command_result_well, ack_well}
 use Rattle.ocpi_json.proofs.SessionLemmas.{session_exact, session_form, session_well}
 use Rattle.ocpi_json.proofs.Tagged.{ascends}

@@ -1,22 +1,17 @@
 -- Quoting, a character at a time: what is copied, and what a number becomes.
-use Rattle.std.proofs.Common.{◌≡◌, ℕ, ◌/◌, ◌%◌, ◌<◌, Bool, true, false, cond, List, [], ◌∷◌, ◌++◌, Ok, refl, sym, ap, ◌∙◌, append_assoc, arith}
+use Rattle.std.proofs.Common.{◌≡◌, ℕ, Bool, true, false, List, [], ◌∷◌, ◌++◌, Ok, refl, sym, ap, ◌∙◌, append_assoc, arith}
 use Rattle.std.specs.Prelude.{nat_lt, ◌||◌, ◌==◌}
-use Rattle.std.specs.Char.{digit_char}
 use Rattle.std.specs.List.{list_all}
 use Rattle.std.proofs.lemmas.Bool.{and_parts}
-use Rattle.std.proofs.lemmas.List.{append-nil}
 use Rattle.std.proofs.lemmas.Bool.Decides.{nat_tests}
 use Rattle.json.specs.Print.{quoted, escape, escape_byte, escape_letter}
-use Rattle.serde_json.specs.Data.{Data, null, boolean, number, string, array, object, Items, no_items, item, Members, no_members, member}
-use Rattle.serde_json.specs.Written.{comma_if, compact_text, items_text, members_text}
 use Rattle.ocpi_json.specs.declared.quote.Mode.{Mode}
 use Rattle.ocpi_json.specs.declared.quote.Mode.TheVariants.{Between, Number, Opening, Inside, Escaped}
 use Rattle.ocpi_json.specs.declared.quote.Place.{Place}
 use Rattle.ocpi_json.specs.Quote.{quote_from, next_mode, mark, ending, before, in_number, outside, is_digit, is_number_char, first_place, next_place, place_after, is_whole}
-use Rattle.ocpi_json.specs.Numbers.{IsJsonNumber}
 use Rattle.ocpi_json.specs.Pieces.{Stops}
-use Rattle.ocpi_json.proofs.Steps.{before-before, before-nil, test_is, not_begun}
-use Rattle.ocpi_json.proofs.JsonNumbers.{IsNumber, number_from_json, no_empty_number}
+use Rattle.ocpi_json.proofs.Steps.{before-before, before-nil, not_begun}
+use Rattle.ocpi_json.proofs.JsonNumbers.{IsNumber}
 
 -- one character from mode m to n, neither in a number
 pub pass : (m n : Mode) (c : ℕ) (rest : List ℕ) → next_mode m c ≡ Ok n → in_number m ≡ false → in_number n ≡ false → quote_from m (c ∷ rest) ≡ before (c ∷ []) (quote_from n rest)

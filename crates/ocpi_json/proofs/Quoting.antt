@@ -1,5 +1,5 @@
 -- Quoting, as far as it has come: what is written, and what of the text is not copied yet.
-use Rattle.std.proofs.Common.{◌≡◌, ◌≢◌, ℕ, suc, ◌+◌, ◌<◌, ◌≤◌, Bool, true, false, cond, List, [], ◌∷◌, ◌++◌, length, get_or, take, drop, Ok, Err, refl, sym, ap, subst, ◌∙◌, append_assoc, add-one, arith}
+use Rattle.std.proofs.Common.{◌≡◌, ℕ, suc, ◌+◌, ◌<◌, ◌≤◌, Bool, true, false, cond, List, [], ◌∷◌, ◌++◌, length, get_or, take, drop, Ok, Err, refl, sym, ap, subst, ◌∙◌, append_assoc, add-one, arith}
 use Rattle.std.specs.List.{prefix_len}
 use Rattle.std.specs.Prelude.{◌||◌, ◌==◌, nat_le, not}
 use mathlib.Core.Bool.{beq}
@@ -12,8 +12,7 @@ use Rattle.ocpi_json.specs.declared.fault.JsonFault.{JsonFault}
 use Rattle.ocpi_json.specs.declared.fault.JsonFault.TheVariants.{BadNumberToken, TaggedText}
 use Rattle.ocpi_json.specs.declared.quote.Mode.{Mode}
 use Rattle.ocpi_json.specs.declared.quote.Mode.TheVariants.{Between, Number, Opening, Inside, Escaped}
-use Rattle.ocpi_json.specs.Fault.{Read}
-use Rattle.ocpi_json.specs.Quote.{quote_from, quote, next_mode, next_place, opened, outside, in_string, in_number, is_digit, is_whole, is_number_char, tag_char, first_place, is_plain, skipped, mark, mark_by, ending, before}
+use Rattle.ocpi_json.specs.Quote.{quote_from, quote, next_mode, next_place, outside, in_string, in_number, is_digit, is_whole, is_number_char, tag_char, first_place, is_plain, skipped, mark, mark_by, ending, before}
 use Rattle.ocpi_json.proofs.Copying.{between, between-one_more, between-more, between-none, between-all, plain_tests, one_up}
 use Rattle.ocpi_json.proofs.Steps.{before-before, before-nil, done, ok_is}
 

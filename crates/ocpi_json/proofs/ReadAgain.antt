@@ -1,5 +1,5 @@
 -- The text of a well formed JSON value is read as its tree.
-use Rattle.std.proofs.Common.{◌≡◌, ℕ, ◌≤◌, Bool, false, List, [], ◌∷◌, ◌++◌, length, Some, Ok, option_map, Greater, refl, sym, ap, subst, ◌∙◌, append-nil, arith}
+use Rattle.std.proofs.Common.{◌≡◌, ℕ, ◌≤◌, false, List, [], ◌∷◌, length, Some, Ok, option_map, Greater, refl, sym, ap, subst, ◌∙◌, append-nil}
 use Rattle.std.specs.Str.{IsUtf8}
 use Rattle.json.specs.Token.{Token}
 use Rattle.json.specs.Lex.{tokens}
@@ -8,7 +8,7 @@ use Rattle.json.specs.Json as json
 use Rattle.json.specs.Json.{value}
 use Rattle.json.specs.Tree.{json_tokens}
 use Rattle.json.proofs.Printed.Trees.{value-json_tokens}
-use Rattle.serde_json.specs.Data.{Data, array, object, item, Members, no_members, member, put}
+use Rattle.serde_json.specs.Data.{Data, array, object, Members, no_members, member, put}
 use Rattle.serde_json.specs.Read.{converted}
 use Rattle.ocpi_json.specs.Fields.{is_tagged}
 use Rattle.ocpi_json.specs.Line.{max_line, tree_at}

@@ -1,5 +1,5 @@
 -- Ids that differ from those that a set has.
-use Rattle.std.proofs.Common.{◌≡◌, ℕ, Bool, true, false, not, List, [], ◌∷◌, ◌++◌, map, drop, length, get_or, ◌<◌, ◌+◌, Ok, Err, refl, sym, ap, ◌∙◌, append_assoc}
+use Rattle.std.proofs.Common.{◌≡◌, ℕ, Bool, true, false, not, List, [], ◌∷◌, ◌++◌, drop, length, get_or, ◌<◌, ◌+◌, Ok, Err, refl, sym, ap, ◌∙◌, append_assoc}
 use Rattle.std.specs.Ordering.{nat_cmp}
 use Rattle.std.specs.Cmp.Lexicographic.{slice_cmp, nat_list_cmp_total}
 use Rattle.std.specs.FinSet.{FinSet, contains, insert, from_list, from_list_push}
@@ -11,7 +11,6 @@ use Rattle.serde_json.specs.declared.value.Value.{Value}
 use Rattle.ocpi_text.specs.Text.{key}
 use Rattle.ocpi_types.specs.Locations.{evse_keys, location_keys, site_evse_keys}
 use Rattle.ocpi_types.specs.declared.field.Field.{Field}
-use Rattle.ocpi_types.specs.declared.field.Field.TheVariants as field
 use Rattle.ocpi_types.specs.declared.site.Evse.{Evse}
 use Rattle.ocpi_types.specs.declared.site.Location.{Location}
 use Rattle.ocpi_types.proofs.Ids.{exact, tested}
@@ -21,7 +20,7 @@ use Rattle.ocpi_json.specs.declared.sites.SiteIds.{SiteIds}
 use Rattle.ocpi_json.specs.Fault.{Fails, Read, ◌>>=◌}
 use Rattle.ocpi_json.specs.Fields.{as_record, ci_in, each_after}
 use Rattle.ocpi_json.specs.SeenIds.{HasIds}
-use Rattle.ocpi_json.specs.Sites.{is_among, new_ci_in, evse_at, evse_element, location_element}
+use Rattle.ocpi_json.specs.Sites.{is_among, new_ci_in, evse_element, location_element}
 use Rattle.ocpi_json.proofs.Fails.{Fails-err, Fails-through}
 use Rattle.ocpi_json.proofs.Exact.{both_steps}
 use Rattle.ocpi_json.proofs.Listing.{goes_on, fails}

@@ -1,6 +1,5 @@
 -- A token is read just where the tree has a token's form, and a token that is written is read again.
-use Rattle.std.proofs.Common.{◌≡◌, ℕ, List, true, false, Some, Ok, refl, subst}
-use Rattle.serde_json.specs.Data.{Data}
+use Rattle.std.proofs.Common.{◌≡◌, true, false, Some, refl, subst}
 use Rattle.ocpi_types.specs.declared.field.Field.TheVariants as field
 use Rattle.ocpi_types.specs.declared.token.Token.{Token}
 use Rattle.ocpi_types.specs.declared.words.TokenType.{TokenType}

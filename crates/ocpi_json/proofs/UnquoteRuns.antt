@@ -10,7 +10,7 @@ use Rattle.std.proofs.lemmas.Str.{IsCharBoundary-start, IsCharBoundary-after_asc
 use Rattle.ocpi_json.specs.declared.unquote.Way.{Way}
 use Rattle.ocpi_json.specs.declared.unquote.Way.TheVariants.{Outside, Opened, Within, Skipped, Token}
 use Rattle.ocpi_json.specs.Quote.{tag_char, is_plain}
-use Rattle.ocpi_json.specs.Unquote.{held, way_in, way_opened, next_way, emits, opening_at, end_at, skipped, in_token, last_of, unquote_from, unquote}
+use Rattle.ocpi_json.specs.Unquote.{held, way_in, next_way, emits, opening_at, end_at, skipped, in_token, last_of, unquote_from, unquote}
 use Rattle.ocpi_json.proofs.Copying.{between, between-one_more, between-more, between-none, between-all, plain_tests, one_up}
 use Rattle.ocpi_json.proofs.Steps.{test_is}
 

@@ -1,13 +1,12 @@
 -- JSON values that can be written and read again: which they are, and that records are such from facts on their members.
-use Rattle.std.proofs.Common.{◌≡◌, ℕ, ℤ, suc, max, ◌≤◌, ◌<◌, Bool, true, false, List, [], ◌∷◌, Option, Some, None, Ok, option_map, map, decimal, Greater, refl, arith}
+use Rattle.std.proofs.Common.{◌≡◌, ℕ, ℤ, suc, max, ◌≤◌, ◌<◌, Bool, true, false, List, [], ◌∷◌, Option, Some, None, option_map, map, decimal, Greater, refl, arith}
 use Rattle.std.specs.List.{All}
-use Rattle.std.specs.Prelude.{unsigned_abs, ◌&&◌, IfSome}
+use Rattle.std.specs.Prelude.{unsigned_abs, IfSome}
 use Rattle.std.proofs.lemmas.Bool.{and_parts}
 use Rattle.json.specs.Json as json
 use Rattle.json.specs.Tree.{depth, items_depth, members_depth}
 use Rattle.ocpi_text.specs.Decimal.{e4_limit, e4_text}
 use Rattle.ocpi_text.specs.Moment.{last_moment, moment_text}
-use Rattle.ocpi_text.specs.Party.{party_at, country_of, party_id_of}
 use Rattle.ocpi_text.specs.Whole.{max_whole}
 use Rattle.ocpi_text.proofs.Again.{ci_begins, free_begins, moment_begins}
 use Rattle.ocpi_types.specs.declared.field.Field.{Field}
@@ -20,7 +19,7 @@ use Rattle.ocpi_json.specs.Members.{Member, and_before, members_of, object_of, i
 use Rattle.ocpi_json.specs.Numbers.{IsJsonNumber}
 use Rattle.ocpi_json.proofs.DecimalNumbers.{e4_number}
 use Rattle.ocpi_json.proofs.Digits.{whole_number}
-use Rattle.ocpi_json.proofs.Tagged.{cmp, is_less, is_greater, greater_is, comes_before, before_all, ascends}
+use Rattle.ocpi_json.proofs.Tagged.{cmp, is_less, greater_is, comes_before, before_all, ascends}
 
 -- each name among the members comes after this one
 abbrev pub Follow : List ℕ → json.Members → Type 0

@@ -1,5 +1,5 @@
 -- The line of a packet is read as that packet.
-use Rattle.std.proofs.Common.{◌≡◌, ℕ, ◌≤◌, List, [], length, Ok, arith}
+use Rattle.std.proofs.Common.{◌≡◌, ◌≤◌, List, [], length, Ok, arith}
 use Rattle.std.specs.Str.{IsUtf8}
 use Rattle.json.specs.Lex.{tokens}
 use Rattle.json.specs.Print.{print}

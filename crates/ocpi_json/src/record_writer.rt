@@ -1,6 +1,6 @@
 //! Records as JSON, written member by member.
 
-ghost use Rattle.std.specs.Prelude.{◌≡◌, ◌≤◌, ◌<◌, ◌++◌, ◌∷◌, [], map, option_map, unsigned_abs, All, IfSome, IsUtf8, Ok, OnOk, string_bytes, ℕ, List};
+ghost use Rattle.std.specs.Prelude.{◌≡◌, ◌≤◌, ◌<◌, ◌++◌, ◌∷◌, [], map, option_map, unsigned_abs, All, IfOk, IfSome, IsUtf8, Ok, OnOk, string_bytes, ℕ, List};
 ghost use Rattle.json.specs.Lex.{tokens};
 ghost use Rattle.json.specs.Print.{print};
 ghost use Rattle.json.specs.Token.{key, string, number, boolean, begin_array, end_array};
@@ -18,6 +18,9 @@ use ocpi_text::{CiText, E4, FreeText, Moment, Party, Quantity, ShortText, Whole}
 use ocpi_types::{EvseUids, Field, Word};
 use std::alloc::{AllocError, Global};
 use std::marker::Model;
+
+/// The bytes that are taken at once.
+const ROOM: usize = 1024;
 
 /// A text of JSON that is being written, seen as its tokens.
 #[derive(Drop)]
@@ -54,14 +57,15 @@ pub trait Record {
 }
 
 impl RecordWriter {
-    /// An empty text.
-    pub fn new(alloc: Global) -> RecordWriter
-        ensures { result ≡ [] }
+    /// An empty text, with room for most packets.
+    pub fn new(alloc: Global) -> Result<RecordWriter, AllocError>
+        ensures { IfOk result (λ w. w ≡ []) }
     {
-        RecordWriter {
+        let out = Vec::with_capacity(alloc, ROOM)?;
+        Ok(RecordWriter {
             alloc,
-            out: Writer::new(Vec::new(alloc)),
-        }
+            out: Writer::new(out),
+        })
     }
 
     /// What was written, without spaces.

@@ -16,7 +16,7 @@ pub fn write_packet(alloc: Global, packet: &Packet) -> Result<String, AllocError
     ensures text { IfOk result (λ s. string_bytes s ≡ packet_text packet.now) }
     ensures again { IfOk result (λ s. length (string_bytes s) ≤ max_line → packet_in (string_bytes s) ≡ Ok packet.now) }
 {
-    let mut out = RecordWriter::new(alloc);
+    let mut out = RecordWriter::new(alloc)?;
     packet.write(&mut out)?;
     Ok(out.into_text())
 }

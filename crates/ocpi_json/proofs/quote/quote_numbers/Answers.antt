@@ -1,6 +1,6 @@
-use Rattle.std.proofs.Common.{◌≡◌, ◌+◌, ◌++◌, ◌∙◌, sym, ap, List, ℕ, drop, string_bytes, length}
+use Rattle.std.proofs.Common.{◌+◌, ◌++◌, ◌∙◌, sym, ap, List, ℕ, drop, string_bytes}
 use Rattle.std.proofs.lemmas.Result.{err_from_is_err_and}
-use Rattle.ocpi_json.specs.Quote.{before, mark, in_number}
+use Rattle.ocpi_json.specs.Quote.{before}
 use Rattle.ocpi_json.proofs.Fails.{Fails-err, Fails-through}
 use Rattle.ocpi_json.proofs.Copying.{between, tail_is}
 use Rattle.ocpi_json.proofs.Quoting.{begins, kept, turned, passes, boundary, stops, at_end, ended, apart, alike}

@@ -1,11 +1,9 @@
-use Rattle.std.proofs.Common.{[], ◌∷◌, ◌∙◌, sym, ap, refl, length, arith, List, append-nil, length-append}
+use Rattle.std.proofs.Common.{[], ◌∷◌, ◌∙◌, ap, arith, length-append}
 use Rattle.std.proofs.lemmas.Result.{err_from_is_err_and}
 use Rattle.std.specs.FinSet.{from_list}
-use Rattle.serde_json.specs.View.{view, items_view}
+use Rattle.serde_json.specs.View.{view}
 use Rattle.ocpi_text.specs.Text.{key}
-use Rattle.ocpi_types.specs.Locations.{site_evse_keys, evse_keys}
 use Rattle.ocpi_types.specs.declared.field.Field.TheVariants as field
-use Rattle.ocpi_json.specs.Fields.{each_after}
 use Rattle.ocpi_json.specs.Sites.{evse_at, evse_element}
 use Rattle.ocpi_json.proofs.Listing.{is_done}
 use Rattle.ocpi_json.proofs.Seen.{no_object, no_element, one_element, one_more, one_evse_more}

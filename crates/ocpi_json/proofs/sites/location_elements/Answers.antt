@@ -1,8 +1,6 @@
-use Rattle.std.proofs.Common.{[], ◌∷◌, ◌∙◌, sym, ap, refl}
 use Rattle.std.proofs.lemmas.Result.{err_from_is_err_and}
-use Rattle.serde_json.specs.View.{view, items_view}
+use Rattle.serde_json.specs.View.{view}
 use Rattle.ocpi_types.specs.declared.field.Field.TheVariants as field
-use Rattle.ocpi_json.specs.Fields.{each_after}
 use Rattle.ocpi_json.specs.Sites.{location_at, location_element}
 use Rattle.ocpi_json.proofs.Listing.{is_done}
 use Rattle.ocpi_json.proofs.Seen.{no_object, no_element, one_element}

@@ -1,4 +1,4 @@
-use Rattle.std.proofs.Common.{[], ◌∷◌, ◌∙◌, ap}
+use Rattle.std.proofs.Common.{◌∙◌, ap}
 use Rattle.std.specs.FinSet.{from_list}
 use Rattle.ocpi_text.specs.Text.{key}
 use Rattle.ocpi_json.proofs.Seen.{one_more, one_location_more, its_evses_more}

@@ -1,5 +1,5 @@
-use Rattle.std.proofs.Common.{◌≡◌, ◌+◌, ◌++◌, ◌∙◌, sym, ap, List, ℕ, string_bytes, length, Ok}
-use Rattle.ocpi_json.proofs.Copying.{between, tail_is}
+use Rattle.std.proofs.Common.{◌+◌, ◌++◌, ◌∙◌, ap, List, ℕ, string_bytes}
+use Rattle.ocpi_json.proofs.Copying.{tail_is}
 use Rattle.ocpi_json.proofs.Quoting.{apart, alike}
 use Rattle.ocpi_json.proofs.UnquoteRuns.{begins, kept, turned, passes, cut, ended}
 use Rattle.ocpi_json.proofs.unquote.unquote_numbers.Goals as goal

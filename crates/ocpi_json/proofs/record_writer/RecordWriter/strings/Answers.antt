@@ -2,7 +2,7 @@ use Rattle.std.proofs.Common.{◌++◌, ◌∷◌, [], ap, ◌∙◌}
 use Rattle.json.specs.Json as json
 use Rattle.json.specs.Token.{string}
 use Rattle.ocpi_json.specs.Fits.{FitsCi}
-use Rattle.ocpi_json.proofs.Said.{said_is, wrote_none, wrote_more, wrote_all}
+use Rattle.ocpi_json.proofs.Said.{wrote_none, wrote_more, wrote_all}
 use Rattle.ocpi_json.proofs.record_writer.RecordWriter.strings.Goals as goal
 
 pub loop-text-init : goal.loop-text-init
