@@ -10,6 +10,7 @@ pub mod DecimalNumbers
 pub mod Depths
 pub mod Digits
 pub mod Elements
+pub mod EventLemmas
 pub mod Exact
 pub mod Fails
 pub mod JsonNumbers
@@ -27,6 +28,7 @@ pub mod ReplyLemmas
 pub mod Said
 pub mod Seen
 pub mod SessionLemmas
+pub mod SetupLemmas
 pub mod SiteForm
 pub mod StatusLemmas
 pub mod Steps

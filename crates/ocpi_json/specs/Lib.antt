@@ -3,6 +3,7 @@ pub mod CdrForms
 pub mod CdrLocationForms
 pub mod ChargingPeriodForms
 pub mod CommandForms
+pub mod EventForms
 pub mod Fault
 pub mod Fields
 pub mod Fits
@@ -18,6 +19,7 @@ pub mod Quote
 pub mod ReplyForms
 pub mod SeenIds
 pub mod SessionForms
+pub mod SetupForms
 pub mod SiteForm
 pub mod SiteLines
 pub mod Sites

@@ -1,4 +1,5 @@
-//! OCPI 2.2.1 as lines of JSON: packets and site lines, read with the first fault told, and packets written.
+//! OCPI 2.2.1 as lines of JSON: packets, site lines, setups and events, read with the first fault told, and packets
+//! written.
 #![tactic(auto)]
 
 mod authorizations;
@@ -6,6 +7,7 @@ mod cdr_locations;
 mod cdrs;
 mod charging_periods;
 mod commands;
+mod events;
 mod fault;
 mod fields;
 mod laws;
@@ -19,6 +21,7 @@ mod reading;
 mod record_writer;
 mod replies;
 mod sessions;
+mod setups;
 mod sites;
 mod status;
 mod tokens;
@@ -28,6 +31,6 @@ mod writing;
 pub use fault::JsonFault;
 pub use laws::{lines_nest_no_deeper_than_127, the_last_of_a_repeated_name_counts};
 pub use quote::{quote_numbers, quoted_numbers_are_json_numbers, quoting_goes_by_pieces};
-pub use reading::{read_packet, read_site};
+pub use reading::{read_event, read_packet, read_setup, read_site};
 pub use unquote::{unquote_numbers, unquoting_undoes_quoting};
 pub use writing::write_packet;

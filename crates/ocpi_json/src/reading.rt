@@ -1,17 +1,23 @@
-//! Lines to packets and site lines.
+//! Lines to packets, site lines, setups and events.
 
-ghost use Rattle.std.specs.Prelude.{Ok, IfOk};
+ghost use Rattle.std.specs.Prelude.{List, Ok, IfOk};
+ghost use Rattle.ocpi_json.specs.EventForms.{SpellsEvent, event_in};
 ghost use Rattle.ocpi_json.specs.Fault.{Gives};
 ghost use Rattle.ocpi_json.specs.Packets.{SpellsPacket, packet_in};
+ghost use Rattle.ocpi_json.specs.SetupForms.{SpellsSetup, setup_in};
 ghost use Rattle.ocpi_json.specs.SiteLines.{SpellsSiteLine, site_in};
+ghost use Rattle.ocpi_types.specs.declared.events.Event.{Event};
 ghost use Rattle.ocpi_types.specs.declared.packet.Packet.{Packet};
+ghost use Rattle.ocpi_types.specs.declared.setup.Node.{Node};
 ghost use Rattle.ocpi_types.specs.declared.site.SiteLine.{SiteLine};
 
+use crate::events::event_of_line;
 use crate::fault::JsonFault;
 use crate::lines::line_tree;
 use crate::packets::packet_of_line;
+use crate::setups::setup_of_line;
 use crate::sites::site_of_line;
-use ocpi_types::{Packet, SiteLine};
+use ocpi_types::{Event, Packet, Setup, SiteLine};
 use std::alloc::Global;
 
 #[tactic(auto, unfolding(crate::specs::Packets::packet_in))]
@@ -62,4 +68,53 @@ pub fn read_site(alloc: Global, line: &[u8]) -> Result<SiteLine, JsonFault>
     ensures exact { Gives result (site_in line.now) }
 {
     site_in(alloc, line)
+}
+
+#[tactic(auto, unfolding(crate::specs::SetupForms::setup_in))]
+fn setup_in(alloc: Global, line: &[u8]) -> Result<Setup, JsonFault>
+    ensures { Gives result (setup_in line.now) }
+{
+    let tree = line_tree(alloc, line)?;
+    setup_of_line(alloc, &tree)
+}
+
+/// The setup that a line spells, without its line feed: the nodes of a run, one to 64, no two of one party. A node with
+/// a site, which is neither absent nor null, is an operator, and one without is a provider.
+///
+/// Refused as [`read_site`] refuses, with the member `nodes` and, of each node in turn, `party`, `site` and the site's
+/// own. Another number of nodes than these is `WrongForm` of `nodes`, told before any of them is looked at, and so is an
+/// element that is no object. A party that is equal but for case to an earlier node's is `WrongForm` of `party`.
+pub fn read_setup(alloc: Global, line: &[u8]) -> Result<Setup, JsonFault>
+    // What is read is spelled so.
+    ensures found { IfOk result (SpellsSetup line.now) }
+    // What is spelled so is read, unless memory runs out.
+    ensures only { (s : List Node) → SpellsSetup line.now s → Gives result (Ok s) }
+    // Which setup, or which refusal, it is.
+    ensures exact { Gives result (setup_in line.now) }
+{
+    setup_in(alloc, line)
+}
+
+#[tactic(auto, unfolding(crate::specs::EventForms::event_in))]
+fn event_in(alloc: Global, line: &[u8]) -> Result<Event, JsonFault>
+    ensures { Gives result (event_in line.now) }
+{
+    let tree = line_tree(alloc, line)?;
+    event_of_line(&tree)
+}
+
+/// The event that a line spells, without its line feed.
+///
+/// Refused as [`read_packet`] refuses, with the members `event`, `node`, `at` and those of the event, in the order in
+/// which its type names them; `at` is read past where the type has none. An event that is not known is `UnknownKind`,
+/// told before `node` is looked at, and so is an order that is not known, told before its members are.
+pub fn read_event(alloc: Global, line: &[u8]) -> Result<Event, JsonFault>
+    // What is read is spelled so.
+    ensures found { IfOk result (SpellsEvent line.now) }
+    // What is spelled so is read, unless memory runs out.
+    ensures only { (e : Event) → SpellsEvent line.now e → Gives result (Ok e) }
+    // Which event, or which refusal, it is.
+    ensures exact { Gives result (event_in line.now) }
+{
+    event_in(alloc, line)
 }

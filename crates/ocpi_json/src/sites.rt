@@ -34,7 +34,7 @@ fn is_same_id(id: &CiText<36>, other: &CiText<36>) -> bool
 }
 
 /// Whether the two are the same party.
-fn is_same_party(party: &Party, other: &Party) -> bool
+pub fn is_same_party(party: &Party, other: &Party) -> bool
     ensures { result ≡ bytes_eq (key party.now) (key other.now) }
 {
     party.is_same(other)
@@ -258,8 +258,9 @@ fn price_of(object: &Value) -> Result<PricePerKwh, JsonFault>
     }
 }
 
+/// The site of an operator: its currency, its price, and its locations.
 #[tactic(auto, unfolding(crate::specs::Sites::site_at))]
-fn site_of(alloc: Global, object: &Value) -> Result<Site, JsonFault>
+pub fn site_of(alloc: Global, object: &Value) -> Result<Site, JsonFault>
     ensures { Gives result (site_at (view object.now)) }
 {
     let currency = free_in(alloc, object, Field::Currency)?;

@@ -7,4 +7,5 @@ pub mod Locations
 pub mod Memory
 pub mod Parties
 pub mod Rows
+pub mod Setups
 pub mod Words

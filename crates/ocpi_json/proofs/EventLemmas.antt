@@ -1,0 +1,369 @@
+-- An event is read just where the tree has its form.
+use Rattle.std.proofs.Common.{◌≡◌, ℕ, List, Option, Some, None, Ok, Err, IfOk, refl, sym, subst, ap}
+use Rattle.serde_json.specs.Data.{Data}
+use Rattle.ocpi_types.specs.Words.{token_type_of}
+use Rattle.ocpi_types.specs.declared.events.ChargerEvent.{ChargerEvent}
+use Rattle.ocpi_types.specs.declared.events.ChargerEvent.TheVariants as charger
+use Rattle.ocpi_types.specs.declared.events.Event.{Event}
+use Rattle.ocpi_types.specs.declared.events.EventKind.{EventKind}
+use Rattle.ocpi_types.specs.declared.events.EventKind.TheVariants as kind
+use Rattle.ocpi_types.specs.declared.events.Order.{Order}
+use Rattle.ocpi_types.specs.declared.events.Order.TheVariants as order
+use Rattle.ocpi_types.specs.declared.field.Field.{Field}
+use Rattle.ocpi_types.specs.declared.field.Field.TheVariants as field
+use Rattle.ocpi_json.specs.declared.events.ChargerWord.{ChargerWord}
+use Rattle.ocpi_json.specs.declared.events.ChargerWord.TheVariants as report
+use Rattle.ocpi_json.specs.declared.events.EventWord.{EventWord}
+use Rattle.ocpi_json.specs.declared.events.EventWord.TheVariants as event
+use Rattle.ocpi_json.specs.declared.events.OrderWord.{OrderWord}
+use Rattle.ocpi_json.specs.declared.events.OrderWord.TheVariants as command
+use Rattle.ocpi_json.specs.EventForms.{event_of_word, order_of_word, word_of_report, word_of_order, word_of_kind, known, known_in, start_order_at, reserve_order_at, unlock_order_at, order_at, submit_at, token_event_at, service_at, swipe_at, meter_at, command_number_at, report_at, charger_at, deliver_at, kind_at, event_at, event_of_line, event_in, HasCommandNumber, IsOrder, IsReport, IsKind, IsEvent, IsEventLine, SpellsEvent}
+use Rattle.ocpi_json.specs.Fault.{Read, ◌>>=◌}
+use Rattle.ocpi_json.specs.Fields.{ci_in, moment_in, party_in, quantity_in, record_in, truth_in, whole_in, word_in, optional}
+use Rattle.ocpi_json.specs.Form.{Required, IsRecord, IsWord}
+use Rattle.ocpi_json.specs.Tokens.{token_at, IsToken}
+use Rattle.ocpi_json.proofs.Exact.{Exact, ok_is, bind_ok, both_steps, of_text, as_record_exact, ci_exact, inner_exact, moment_exact, optional_ci_exact, party_exact, quantity_exact, truth_exact, whole_exact, word_exact}
+use Rattle.ocpi_json.proofs.LineTrees.{line_sound, line_complete}
+use Rattle.ocpi_json.proofs.TokenLemmas.{token_exact}
+
+-- what the answer of an exact reader says of the form, where nothing allocates
+pub found_by : {X : Type 0} {reader : Data → Read X} {P : Data → X → Type 0} → Exact reader P → (d : Data) (r : Read X) → r ≡ reader d → IfOk r (λ x. P d x)
+found_by h d (Ok x) e = h.sound d x (sym e)
+found_by h d (Err f) e = tt
+
+-- ---- words
+
+known_ok : {X : Type 0} (o : Option X) (x : X) → known o ≡ Ok x → o ≡ Some x
+known_ok (Some y) x e = ap (λ z. Some z) (ok_is y x e)
+known_ok None x e = absurd cc
+
+known_exact : {X : Type 0} (words : List ℕ → Option X) (f : Field) → Exact (known_in words f) (Required (IsWord words) f)
+unfolding known_in
+known_exact words f = of_text f (λ s. known (words s)) (λ s x. words s ≡ Some x) (λ s x e. known_ok (words s) x e) (λ s x e. rw e refl)
+
+-- ---- orders
+
+-- what is read of a word has the form of that word
+abbrev OfOrder : OrderWord → Data → Order → Type 0
+OfOrder w d o = IsOrder d o × (word_of_order o ≡ w)
+
+start_order_sound : (d : Data) (o : Order) → start_order_at d ≡ Ok o → OfOrder command.StartSession d o
+unfolding start_order_at
+start_order_sound d o e =
+    let a = bind_ok (ci_in 36 field.TokenUid d) _ o e in
+    let b = bind_ok (word_in token_type_of field.TokenType d) _ o a.2 in
+    let g = bind_ok (ci_in 36 field.LocationId d) _ o b.2 in
+    let h = bind_ok (optional (ci_in 36) field.EvseUid d) _ o g.2 in
+    let i = bind_ok (optional (ci_in 36) field.ConnectorId d) _ o h.2 in
+    subst (OfOrder command.StartSession d) (ok_is (order.StartSession a.0 b.0 g.0 h.0 i.0) o i.2) (
+      (
+        (ci_exact 36 field.TokenUid).sound d a.0 a.1,
+        (word_exact token_type_of field.TokenType).sound d b.0 b.1,
+        (ci_exact 36 field.LocationId).sound d g.0 g.1,
+        (optional_ci_exact 36 field.EvseUid).sound d h.0 h.1,
+        (optional_ci_exact 36 field.ConnectorId).sound d i.0 i.1,
+      ),
+      refl,
+    )
+
+reserve_order_sound : (d : Data) (o : Order) → reserve_order_at d ≡ Ok o → OfOrder command.ReserveNow d o
+unfolding reserve_order_at
+reserve_order_sound d o e =
+    let a = bind_ok (ci_in 36 field.TokenUid d) _ o e in
+    let b = bind_ok (word_in token_type_of field.TokenType d) _ o a.2 in
+    let g = bind_ok (moment_in field.ExpiryDate d) _ o b.2 in
+    let h = bind_ok (ci_in 36 field.ReservationId d) _ o g.2 in
+    let i = bind_ok (ci_in 36 field.LocationId d) _ o h.2 in
+    let j = bind_ok (optional (ci_in 36) field.EvseUid d) _ o i.2 in
+    subst (OfOrder command.ReserveNow d) (ok_is (order.ReserveNow a.0 b.0 g.0 h.0 i.0 j.0) o j.2) (
+      (
+        (ci_exact 36 field.TokenUid).sound d a.0 a.1,
+        (word_exact token_type_of field.TokenType).sound d b.0 b.1,
+        (moment_exact field.ExpiryDate).sound d g.0 g.1,
+        (ci_exact 36 field.ReservationId).sound d h.0 h.1,
+        (ci_exact 36 field.LocationId).sound d i.0 i.1,
+        (optional_ci_exact 36 field.EvseUid).sound d j.0 j.1,
+      ),
+      refl,
+    )
+
+unlock_order_sound : (d : Data) (o : Order) → unlock_order_at d ≡ Ok o → OfOrder command.UnlockConnector d o
+unfolding unlock_order_at
+unlock_order_sound d o e =
+    let a = bind_ok (ci_in 36 field.LocationId d) _ o e in
+    let b = bind_ok (ci_in 36 field.EvseUid d) _ o a.2 in
+    let g = bind_ok (ci_in 36 field.ConnectorId d) _ o b.2 in
+    subst (OfOrder command.UnlockConnector d) (ok_is (order.UnlockConnector a.0 b.0 g.0) o g.2) (
+      (
+        (ci_exact 36 field.LocationId).sound d a.0 a.1,
+        (ci_exact 36 field.EvseUid).sound d b.0 b.1,
+        (ci_exact 36 field.ConnectorId).sound d g.0 g.1,
+      ),
+      refl,
+    )
+
+order_sound : (w : OrderWord) (d : Data) (o : Order) → order_at w d ≡ Ok o → OfOrder w d o
+unfolding order_at
+order_sound command.StartSession d o e = start_order_sound d o e
+order_sound command.StopSession d o e = let a = bind_ok (ci_in 36 field.SessionId d) _ o e in subst (OfOrder command.StopSession d) (ok_is (order.StopSession a.0) o a.2) ((ci_exact 36 field.SessionId).sound d a.0 a.1, refl)
+order_sound command.ReserveNow d o e = reserve_order_sound d o e
+order_sound command.CancelReservation d o e = let a = bind_ok (ci_in 36 field.ReservationId d) _ o e in subst (OfOrder command.CancelReservation d) (ok_is (order.CancelReservation a.0) o a.2) ((ci_exact 36 field.ReservationId).sound d a.0 a.1, refl)
+order_sound command.UnlockConnector d o e = unlock_order_sound d o e
+
+order_complete : (d : Data) (o : Order) → IsOrder d o → order_at (word_of_order o) d ≡ Ok o
+unfolding order_at start_order_at reserve_order_at unlock_order_at
+order_complete d (order.StartSession token_uid token_type location_id evse_uid connector_id) p = rw (
+  (ci_exact 36 field.TokenUid).complete d token_uid p.0,
+  (word_exact token_type_of field.TokenType).complete d token_type p.1,
+  (ci_exact 36 field.LocationId).complete d location_id p.2,
+  (optional_ci_exact 36 field.EvseUid).complete d evse_uid p.3,
+  (optional_ci_exact 36 field.ConnectorId).complete d connector_id p.4,
+) refl
+order_complete d (order.StopSession session_id) p = rw ((ci_exact 36 field.SessionId).complete d session_id p) refl
+order_complete d (order.ReserveNow token_uid token_type expiry_date reservation_id location_id evse_uid) p = rw (
+  (ci_exact 36 field.TokenUid).complete d token_uid p.0,
+  (word_exact token_type_of field.TokenType).complete d token_type p.1,
+  (moment_exact field.ExpiryDate).complete d expiry_date p.2,
+  (ci_exact 36 field.ReservationId).complete d reservation_id p.3,
+  (ci_exact 36 field.LocationId).complete d location_id p.4,
+  (optional_ci_exact 36 field.EvseUid).complete d evse_uid p.5,
+) refl
+order_complete d (order.CancelReservation reservation_id) p = rw ((ci_exact 36 field.ReservationId).complete d reservation_id p) refl
+order_complete d (order.UnlockConnector location_id evse_uid connector_id) p = rw (
+  (ci_exact 36 field.LocationId).complete d location_id p.0,
+  (ci_exact 36 field.EvseUid).complete d evse_uid p.1,
+  (ci_exact 36 field.ConnectorId).complete d connector_id p.2,
+) refl
+
+-- ---- what a charge point reports
+
+abbrev OfReport : ChargerWord → Data → ChargerEvent → Type 0
+OfReport w d x = IsReport d x × (word_of_report x ≡ w)
+
+swipe_sound : (d : Data) (x : ChargerEvent) → swipe_at d ≡ Ok x → OfReport report.Swipe d x
+unfolding swipe_at
+swipe_sound d x e =
+    let a = bind_ok (ci_in 36 field.EvseUid d) _ x e in
+    let b = bind_ok (ci_in 36 field.ConnectorId d) _ x a.2 in
+    let g = bind_ok (ci_in 36 field.TokenUid d) _ x b.2 in
+    let h = bind_ok (word_in token_type_of field.TokenType d) _ x g.2 in
+    subst (OfReport report.Swipe d) (ok_is (charger.Swipe a.0 b.0 g.0 h.0) x h.2) (
+      (
+        (ci_exact 36 field.EvseUid).sound d a.0 a.1,
+        (ci_exact 36 field.ConnectorId).sound d b.0 b.1,
+        (ci_exact 36 field.TokenUid).sound d g.0 g.1,
+        (word_exact token_type_of field.TokenType).sound d h.0 h.1,
+      ),
+      refl,
+    )
+
+meter_sound : (d : Data) (x : ChargerEvent) → meter_at d ≡ Ok x → OfReport report.Meter d x
+unfolding meter_at
+meter_sound d x e =
+    let a = bind_ok (ci_in 36 field.EvseUid d) _ x e in
+    let b = bind_ok (quantity_in field.Kwh d) _ x a.2 in
+    subst (OfReport report.Meter d) (ok_is (charger.Meter a.0 b.0) x b.2) (
+      (
+        (ci_exact 36 field.EvseUid).sound d a.0 a.1,
+        (quantity_exact field.Kwh).sound d b.0 b.1,
+      ),
+      refl,
+    )
+
+number_exact : Exact command_number_at (λ d n. HasCommandNumber d n.provider n.number)
+unfolding command_number_at
+number_exact = record {
+  sound = λ d n e.
+      let a = bind_ok (party_in field.Provider d) _ n e in
+      let b = bind_ok (whole_in field.Number d) _ n a.2 in
+      subst (λ m. HasCommandNumber d m.provider m.number) (ok_is _ n b.2) (
+        (party_exact field.Provider).sound d a.0 a.1,
+        (whole_exact field.Number).sound d b.0 b.1,
+      );
+  complete = λ d n p. rw (
+    (party_exact field.Provider).complete d n.provider p.0,
+    (whole_exact field.Number).complete d n.number p.1,
+  ) refl;
+}
+
+report_sound : (w : ChargerWord) (d : Data) (x : ChargerEvent) → report_at w d ≡ Ok x → OfReport w d x
+unfolding report_at
+report_sound report.Swipe d x e = swipe_sound d x e
+report_sound report.Accepts d x e = let a = bind_ok (command_number_at d) _ x e in subst (OfReport report.Accepts d) (ok_is (charger.Accepts a.0.provider a.0.number) x a.2) (number_exact.sound d a.0 a.1, refl)
+report_sound report.Refuses d x e = let a = bind_ok (command_number_at d) _ x e in subst (OfReport report.Refuses d) (ok_is (charger.Refuses a.0.provider a.0.number) x a.2) (number_exact.sound d a.0 a.1, refl)
+report_sound report.Unlocked d x e = let a = bind_ok (command_number_at d) _ x e in subst (OfReport report.Unlocked d) (ok_is (charger.Unlocked a.0.provider a.0.number) x a.2) (number_exact.sound d a.0 a.1, refl)
+report_sound report.Starts d x e = let a = bind_ok (ci_in 36 field.EvseUid d) _ x e in subst (OfReport report.Starts d) (ok_is (charger.Starts a.0) x a.2) ((ci_exact 36 field.EvseUid).sound d a.0 a.1, refl)
+report_sound report.Meter d x e = meter_sound d x e
+report_sound report.Stops d x e = let a = bind_ok (ci_in 36 field.EvseUid d) _ x e in subst (OfReport report.Stops d) (ok_is (charger.Stops a.0) x a.2) ((ci_exact 36 field.EvseUid).sound d a.0 a.1, refl)
+report_sound report.Fault d x e = let a = bind_ok (ci_in 36 field.EvseUid d) _ x e in subst (OfReport report.Fault d) (ok_is (charger.Fault a.0) x a.2) ((ci_exact 36 field.EvseUid).sound d a.0 a.1, refl)
+
+report_complete : (d : Data) (x : ChargerEvent) → IsReport d x → report_at (word_of_report x) d ≡ Ok x
+unfolding report_at swipe_at meter_at
+report_complete d (charger.Swipe evse_uid connector_id token_uid token_type) p = rw (
+  (ci_exact 36 field.EvseUid).complete d evse_uid p.0,
+  (ci_exact 36 field.ConnectorId).complete d connector_id p.1,
+  (ci_exact 36 field.TokenUid).complete d token_uid p.2,
+  (word_exact token_type_of field.TokenType).complete d token_type p.3,
+) refl
+report_complete d (charger.Accepts provider number) p = rw (number_exact.complete d (record { provider = provider; number = number }) p) refl
+report_complete d (charger.Refuses provider number) p = rw (number_exact.complete d (record { provider = provider; number = number }) p) refl
+report_complete d (charger.Unlocked provider number) p = rw (number_exact.complete d (record { provider = provider; number = number }) p) refl
+report_complete d (charger.Starts evse_uid) p = rw ((ci_exact 36 field.EvseUid).complete d evse_uid p) refl
+report_complete d (charger.Meter evse_uid kwh) p = rw (
+  (ci_exact 36 field.EvseUid).complete d evse_uid p.0,
+  (quantity_exact field.Kwh).complete d kwh p.1,
+) refl
+report_complete d (charger.Stops evse_uid) p = rw ((ci_exact 36 field.EvseUid).complete d evse_uid p) refl
+report_complete d (charger.Fault evse_uid) p = rw ((ci_exact 36 field.EvseUid).complete d evse_uid p) refl
+
+-- ---- what happens
+
+abbrev OfKind : EventWord → Data → EventKind → Type 0
+OfKind w d k = IsKind d k × (word_of_kind k ≡ w)
+
+token_in : Exact (λ d. record_in field.Token d >>= token_at) (Required (IsRecord IsToken) field.Token)
+token_in = inner_exact field.Token token_at IsToken token_exact
+
+submit_sound : (d : Data) (k : EventKind) → submit_at d ≡ Ok k → OfKind event.Submit d k
+unfolding submit_at
+submit_sound d k e =
+    let a = bind_ok (moment_in field.At d) _ k e in
+    let b = bind_ok (party_in field.Operator d) _ k a.2 in
+    let g = bind_ok (known_in order_of_word field.Order d) _ k b.2 in
+    let h = bind_ok (order_at g.0 d) _ k g.2 in
+    let o = order_sound g.0 d h.0 h.1 in
+    subst (OfKind event.Submit d) (ok_is (kind.Submit a.0 b.0 h.0) k h.2) (
+      (
+        (moment_exact field.At).sound d a.0 a.1,
+        (party_exact field.Operator).sound d b.0 b.1,
+        subst (Required (IsWord order_of_word) field.Order d) (sym o.1) ((known_exact order_of_word field.Order).sound d g.0 g.1),
+        o.0,
+      ),
+      refl,
+    )
+
+token_sound : (d : Data) (k : EventKind) → token_event_at d ≡ Ok k → OfKind event.Token d k
+unfolding token_event_at
+token_sound d k e =
+    let a = bind_ok (moment_in field.At d) _ k e in
+    let b = bind_ok (record_in field.Token d) _ k a.2 in
+    let g = bind_ok (token_at b.0) _ k b.2 in
+    subst (OfKind event.Token d) (ok_is (kind.Token a.0 g.0) k g.2) (
+      (
+        (moment_exact field.At).sound d a.0 a.1,
+        token_in.sound d g.0 (both_steps (record_in field.Token d) token_at b.0 g.0 b.1 g.1),
+      ),
+      refl,
+    )
+
+service_sound : (d : Data) (k : EventKind) → service_at d ≡ Ok k → OfKind event.Service d k
+unfolding service_at
+service_sound d k e =
+    let a = bind_ok (ci_in 36 field.EvseUid d) _ k e in
+    let b = bind_ok (truth_in field.InService d) _ k a.2 in
+    subst (OfKind event.Service d) (ok_is (kind.Service a.0 b.0) k b.2) (
+      (
+        (ci_exact 36 field.EvseUid).sound d a.0 a.1,
+        (truth_exact field.InService).sound d b.0 b.1,
+      ),
+      refl,
+    )
+
+charger_sound : (w : ChargerWord) (d : Data) (k : EventKind) → charger_at w d ≡ Ok k → OfKind (event.Charger w) d k
+unfolding charger_at
+charger_sound w d k e =
+    let a = bind_ok (moment_in field.At d) _ k e in
+    let b = bind_ok (report_at w d) _ k a.2 in
+    let r = report_sound w d b.0 b.1 in
+    subst (OfKind (event.Charger w) d) (ok_is (kind.Charger a.0 b.0) k b.2) (((moment_exact field.At).sound d a.0 a.1, r.0), ap (λ (v : ChargerWord). event.Charger v) r.1)
+
+deliver_sound : (d : Data) (k : EventKind) → deliver_at d ≡ Ok k → OfKind event.Deliver d k
+unfolding deliver_at
+deliver_sound d k e =
+    let a = bind_ok (moment_in field.At d) _ k e in
+    let b = bind_ok (party_in field.From d) _ k a.2 in
+    let g = bind_ok (whole_in field.Serial d) _ k b.2 in
+    subst (OfKind event.Deliver d) (ok_is (kind.Deliver a.0 b.0 g.0) k g.2) (
+      (
+        (moment_exact field.At).sound d a.0 a.1,
+        (party_exact field.From).sound d b.0 b.1,
+        (whole_exact field.Serial).sound d g.0 g.1,
+      ),
+      refl,
+    )
+
+kind_sound : (w : EventWord) (d : Data) (k : EventKind) → kind_at w d ≡ Ok k → OfKind w d k
+unfolding kind_at
+kind_sound event.Submit d k e = submit_sound d k e
+kind_sound event.Token d k e = token_sound d k e
+kind_sound event.Service d k e = service_sound d k e
+kind_sound (event.Charger w) d k e = charger_sound w d k e
+kind_sound event.Deliver d k e = deliver_sound d k e
+kind_sound event.Tick d k e = let a = bind_ok (moment_in field.At d) _ k e in subst (OfKind event.Tick d) (ok_is (kind.Tick a.0) k a.2) ((moment_exact field.At).sound d a.0 a.1, refl)
+kind_sound event.Restart d k e = subst (OfKind event.Restart d) (ok_is kind.Restart k e) (tt, refl)
+kind_sound event.Refused d k e = subst (OfKind event.Refused d) (ok_is kind.Refused k e) (tt, refl)
+
+kind_complete : (d : Data) (k : EventKind) → IsKind d k → kind_at (word_of_kind k) d ≡ Ok k
+unfolding kind_at submit_at token_event_at service_at charger_at deliver_at
+kind_complete d (kind.Submit at operator what) p = rw (
+  (moment_exact field.At).complete d at p.0,
+  (party_exact field.Operator).complete d operator p.1,
+  (known_exact order_of_word field.Order).complete d (word_of_order what) p.2,
+  order_complete d what p.3,
+) refl
+kind_complete d (kind.Token at token) p =
+    let inner = bind_ok (record_in field.Token d) token_at token (token_in.complete d token p.1) in
+    rw ((moment_exact field.At).complete d at p.0, inner.1, inner.2) refl
+kind_complete d (kind.Service evse_uid in_service) p = rw (
+  (ci_exact 36 field.EvseUid).complete d evse_uid p.0,
+  (truth_exact field.InService).complete d in_service p.1,
+) refl
+kind_complete d (kind.Charger at what) p = rw (
+  (moment_exact field.At).complete d at p.0,
+  report_complete d what p.1,
+) refl
+kind_complete d (kind.Deliver at from serial) p = rw (
+  (moment_exact field.At).complete d at p.0,
+  (party_exact field.From).complete d from p.1,
+  (whole_exact field.Serial).complete d serial p.2,
+) refl
+kind_complete d (kind.Tick at) p = rw ((moment_exact field.At).complete d at p) refl
+kind_complete d kind.Restart p = refl
+kind_complete d kind.Refused p = refl
+
+-- ---- the line
+
+pub event_exact : Exact event_at IsEvent
+unfolding event_at
+event_exact = record {
+  sound = λ d x e.
+      let a = bind_ok (known_in event_of_word field.Event d) _ x e in
+      let b = bind_ok (party_in field.Node d) _ x a.2 in
+      let g = bind_ok (kind_at a.0 d) _ x b.2 in
+      let k = kind_sound a.0 d g.0 g.1 in
+      subst (IsEvent d) (ok_is _ x g.2) (record {
+        event = subst (Required (IsWord event_of_word) field.Event d) (sym k.1) ((known_exact event_of_word field.Event).sound d a.0 a.1);
+        node = (party_exact field.Node).sound d b.0 b.1;
+        kind = k.0;
+      });
+  complete = λ d x p. rw (
+    (known_exact event_of_word field.Event).complete d (word_of_kind x.kind) p.event,
+    (party_exact field.Node).complete d x.node p.node,
+    kind_complete d x.kind p.kind,
+  ) refl;
+}
+
+-- a line's tree is read just where it is an event's
+pub event_of_line_exact : Exact event_of_line IsEventLine
+unfolding event_of_line
+event_of_line_exact = as_record_exact field.Line event_at IsEvent event_exact
+
+pub event_found : (line : List ℕ) (x : Event) → event_in line ≡ Ok x → SpellsEvent line x
+unfolding event_in
+event_found line x e =
+    let h = line_sound event_of_line IsEventLine event_of_line_exact line x e in
+    record { tree = h.0; of_line = h.1; form = h.2 }
+
+pub event_only : (line : List ℕ) (x : Event) → SpellsEvent line x → event_in line ≡ Ok x
+unfolding event_in
+event_only line x h = line_complete event_of_line IsEventLine event_of_line_exact line x h.tree h.of_line h.form
