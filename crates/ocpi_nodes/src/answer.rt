@@ -2,6 +2,7 @@
 
 ghost use Rattle.std.specs.Prelude.{◌≡◌, ◌≢◌, ◌++◌, ◌∷◌, ℕ, List, [], Option, None, Some, Ok, Err, true, IfOk, IfErr, IfSome, OnOk, codes, string_bytes};
 ghost use Rattle.ocpi_json.specs.Fault.{Fails};
+ghost use Rattle.ocpi_json.specs.Packets.{packet_in};
 ghost use Rattle.ocpi_json.specs.SiteLines.{site_in};
 ghost use Rattle.ocpi_types.specs.declared.site.SiteLine.{SiteLine as SiteLineOf};
 ghost use Rattle.operator_core.specs.State.{opening};
@@ -116,7 +117,29 @@ fn answer_site(
     }
 }
 
-/// Hands a packet to the operator, and writes what it sends.
+/// Hands a packet that was read to the operator, and writes what it sends.
+fn answer_read(
+    alloc: Global,
+    running: &mut Running,
+    packet: &Packet,
+    output: &mut String,
+) -> Result<Turn, AllocError>
+    ensures { IfOk result (λ turn. (out : List ℕ) × (string_bytes output.new ≡ string_bytes output.old ++ out)
+        × ((line : List ℕ) → packet_in line ≡ Ok packet.now → PacketTurn running.old line turn out (Some running.new))) }
+{
+    match running.operator.on_packet(running.at, packet) {
+        Ok(stepped) => {
+            write_packets(alloc, stepped.packets.as_slice(), output)?;
+            Ok(Turn::Taken)
+        }
+        Err(fault) => {
+            refuse(output, fault)?;
+            Ok(Turn::Refused)
+        }
+    }
+}
+
+/// Reads a line's packet and hands it to the operator.
 fn answer_packet(
     alloc: Global,
     running: &mut Running,
@@ -126,18 +149,8 @@ fn answer_packet(
     ensures { IfOk result (λ turn. (out : List ℕ) × (string_bytes output.new ≡ string_bytes output.old ++ out)
         × PacketTurn running.old line.now turn out (Some running.new)) }
 {
-    let packet = match read_packet(alloc, line) {
-        Ok(packet) => packet,
-        Err(fault) => {
-            refuse(output, fault)?;
-            return Ok(Turn::Refused);
-        }
-    };
-    match running.operator.on_packet(running.at, &packet) {
-        Ok(stepped) => {
-            write_packets(alloc, stepped.packets.as_slice(), output)?;
-            Ok(Turn::Taken)
-        }
+    match read_packet(alloc, line) {
+        Ok(packet) => answer_read(alloc, running, &packet, output),
         Err(fault) => {
             refuse(output, fault)?;
             Ok(Turn::Refused)
