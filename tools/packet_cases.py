@@ -1,10 +1,10 @@
 #!/usr/bin/env python3
-"""Writes the cases of the program `packet_lines`: packets and site lines, and what each must give.
+"""Writes the cases of the program `packet_lines`: packets, site lines, setup lines and event lines, and what each must give.
 
     tools/packet_cases.py          writes crates/packet_lines/stdin and crates/packet_lines/stdout
 
-Line n of `stdout` is what line n of `stdin` must give. Each case says what it must give, and the tables in
-`packet_forms` say it once more: where the two differ, nothing is written. To see where the program differs:
+Line n of `stdout` is what line n of `stdin` must give. Each case of a packet or a site says what it must give, and the tables in
+`packet_forms` say it once more: where the two differ, nothing is written. Those of setups and events are in `event_cases`. To see where the program differs:
 
     (cd crates/packet_lines && rt run < stdin) | diff crates/packet_lines/stdout -
 """
@@ -13,6 +13,7 @@ import copy
 import pathlib
 import sys
 
+from event_cases import CASES as EVENT_CASES
 from packet_forms import (
     BAD_NUMBER_TOKEN,
     BODIES,
@@ -490,6 +491,7 @@ def main():
     add_texts()
     add_lines()
     add_sites()
+    CASES.extend(EVENT_CASES)
     if any("\n" in line or not line for line, _ in CASES):
         sys.exit("a case is not one line")
     write_files()

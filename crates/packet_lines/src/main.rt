@@ -1,12 +1,13 @@
 //! Reads each line of the standard input as a packet, and writes the line that is written for that packet, or why the
-//! line is refused, as `refused 4 Missing(token)`. What follows `site ` is read as a site line, and is `taken` or refused.
+//! line is refused, as `refused 4 Missing(token)`. What follows `site `, `setup ` or `event ` is read as such a line, and is
+//! `taken` or refused.
 //!
 //! It is a test of `ocpi_json`, and of `copy`: its cases are the lines of the file `stdin` beside what they must give,
 //! `stdout`, which `tools/packet_cases.py` writes. It also serves to see what is wrong with a line. Lines end at LF; empty
 //! ones are skipped.
 #![tactic(auto)]
 
-use ocpi_json::{JsonFault, read_packet, read_site, write_packet};
+use ocpi_json::{JsonFault, read_event, read_packet, read_setup, read_site, write_packet};
 use std::alloc::Global;
 use std::io::{self, BufWriter, Read, Write};
 use std::process::ExitCode;
@@ -36,14 +37,25 @@ fn write_answers(rt: &HostRuntime) -> io::Result<()> {
 
 /// Writes what a line gives.
 fn write_answer<W: Write>(alloc: Global, line: &[u8], output: &mut W) -> io::Result<()> {
-    let answer = match line.strip_prefix(b"site ") {
-        Some(site_line) => take_site(alloc, site_line),
-        None => write_again(alloc, line),
-    };
-    match answer {
+    match answer(alloc, line) {
         Ok(text) => writeln!(output, "{text}"),
         Err(fault) => writeln!(output, "refused {fault}"),
     }
+}
+
+/// What a line gives, by the word in front of it.
+fn answer(alloc: Global, line: &[u8]) -> Result<String, JsonFault> {
+    if let Some(site_line) = line.strip_prefix(b"site ") {
+        return take_site(alloc, site_line);
+    }
+    if let Some(setup_line) = line.strip_prefix(b"setup ") {
+        return take_setup(alloc, setup_line);
+    }
+    if let Some(event_line) = line.strip_prefix(b"event ") {
+        let _event = read_event(alloc, event_line)?;
+        return Ok(String::from_str(alloc, "taken")?);
+    }
+    write_again(alloc, line)
 }
 
 /// The line that is written for a copy of the packet of a line.
@@ -57,5 +69,12 @@ fn write_again(alloc: Global, line: &[u8]) -> Result<String, JsonFault> {
 fn take_site(alloc: Global, line: &[u8]) -> Result<String, JsonFault> {
     let site_line = read_site(alloc, line)?;
     let _copy = site_line.copy()?;
+    Ok(String::from_str(alloc, "taken")?)
+}
+
+/// Reads and copies a setup line.
+fn take_setup(alloc: Global, line: &[u8]) -> Result<String, JsonFault> {
+    let setup = read_setup(alloc, line)?;
+    let _copy = setup.copy()?;
     Ok(String::from_str(alloc, "taken")?)
 }
