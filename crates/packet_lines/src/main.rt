@@ -8,6 +8,7 @@
 #![tactic(auto)]
 
 use ocpi_json::{JsonFault, read_event, read_packet, read_setup, read_site, write_packet};
+use ocpi_types::Packet;
 use std::alloc::Global;
 use std::io::{self, BufWriter, Read, Write};
 use std::process::ExitCode;
@@ -52,17 +53,30 @@ fn answer(alloc: Global, line: &[u8]) -> Result<String, JsonFault> {
         return take_setup(alloc, setup_line);
     }
     if let Some(event_line) = line.strip_prefix(b"event ") {
-        let _event = read_event(alloc, event_line)?;
-        return Ok(String::from_str(alloc, "taken")?);
+        return take_event(alloc, event_line);
     }
     write_again(alloc, line)
 }
 
 /// The line that is written for a copy of the packet of a line.
 fn write_again(alloc: Global, line: &[u8]) -> Result<String, JsonFault> {
-    let packet = read_packet(alloc, line)?;
-    let copy = packet.copy()?;
-    Ok(write_packet(alloc, &copy)?)
+    match read_packet(alloc, line) {
+        Ok(packet) => write_copy(alloc, &packet),
+        Err(fault) => Err(fault),
+    }
+}
+
+/// The line that is written for a copy of a packet.
+fn write_copy(alloc: Global, packet: &Packet) -> Result<String, JsonFault> {
+    match packet.copy() {
+        Ok(copy) => write_one(alloc, &copy),
+        Err(_) => Err(JsonFault::Memory),
+    }
+}
+
+/// The line that is written for a packet.
+fn write_one(alloc: Global, packet: &Packet) -> Result<String, JsonFault> {
+    Ok(write_packet(alloc, packet)?)
 }
 
 /// Reads and copies a site line.
@@ -77,4 +91,12 @@ fn take_setup(alloc: Global, line: &[u8]) -> Result<String, JsonFault> {
     let setup = read_setup(alloc, line)?;
     let _copy = setup.copy()?;
     Ok(String::from_str(alloc, "taken")?)
+}
+
+/// Reads an event line.
+fn take_event(alloc: Global, line: &[u8]) -> Result<String, JsonFault> {
+    match read_event(alloc, line) {
+        Ok(_) => Ok(String::from_str(alloc, "taken")?),
+        Err(fault) => Err(fault),
+    }
 }
