@@ -1,4 +1,4 @@
--- The claims that are kept stay those of the open starts.
+-- The claims that are kept stay those of the open commands.
 use Rattle.std.proofs.Common.{◌≡◌, ℕ, Bool, true, false, cond, List, ◌⊎◌, inl, inr, refl, sym, ap, subst, ◌∙◌}
 use Rattle.std.specs.Prelude.{Option, Some, None}
 use Rattle.std.specs.declared.cmp.Ordering.{Ordering}
@@ -8,10 +8,13 @@ use Rattle.std.specs.FinMap.{FinMap, get, insert, empty, get-empty, get-insert}
 use Rattle.ocpi_text.specs.Text.{key}
 use Rattle.tables.specs.Keys.{text_cmp, text_total, text_exact, text_number_cmp, text_number_total, text_number_exact}
 use Rattle.tables.proofs.Maps.{of_insert, get-insert_same, get-insert_other}
-use Rattle.operator_core.specs.declared.open_start.OpenStart.{OpenStart}
-use Rattle.operator_core.specs.State.{OpenStarts, Claim, ByStart, Claims, IsFree}
-use Rattle.site.specs.Places.{Claimed}
-use Rattle.operator_core.specs.Claimed.{IsIndexed}
+use Rattle.ocpi_types.specs.declared.stored.OpenCommand.{OpenCommand}
+use Rattle.site.specs.declared.claim.Claim.{Claim}
+use Rattle.site.specs.declared.claim.Claim.TheVariants.{OpenStart}
+use Rattle.site.specs.Places.{Claims as ClaimMap}
+use Rattle.command_book.specs.Stored.{OpenCommands}
+use Rattle.operator_core.specs.State.{Takes, Claims, IsFree}
+use Rattle.operator_core.specs.Claimed.{IsIndexed, claimed_for}
 
 pub none_some : {X : Type 0} (x : X) (o : Option X) → o ≡ None → o ≡ Some x → ⊥
 none_some x o a b = cc
@@ -34,44 +37,63 @@ module _ {K X : Type 0} {R : K → K → Ordering} (o : IsTotalOrder R) (m : Fin
       go false = has
 
 pub unclaimed : (evse : List ℕ) (c : Claim) → Claims empty evse c → ⊥
-unclaimed evse (ByStart p n) (o, has, at) = none_some o _ (get-empty text_number_cmp (p, n)) has
+unclaimed evse (OpenStart p n) (o, has, at) = none_some o _ (get-empty text_number_cmp (p, n)) has
+unclaimed evse other h = h
 
 pub indexed_empty : IsIndexed empty empty
-indexed_empty = record { sound = λ e h. absurd (none_some tt _ (get-empty text_cmp e) h); complete = λ e c h. absurd (unclaimed e c h) }
+indexed_empty evse c = (λ h. absurd (none_some c _ (get-empty text_cmp evse) h), λ h. absurd (unclaimed evse c h))
 
--- the claims after a start is opened
-pub claims_opened : (starts : OpenStarts) (p : List ℕ) (n : ℕ) (o : OpenStart) (evse : List ℕ) (c : Claim) → Claims (insert starts (p, n) o) evse c →
-    ((c ≡ ByStart p n) × (key o.place.evse_uid ≡ evse)) ⊎ Claims starts evse c
-claims_opened starts p n o evse (ByStart q m) (x, has, at) =
-    elim (of_insert text_number_total text_number_exact starts (p, n) o (q, m) x has) [
-      | inl i ↦ inl (ap (λ (k : List ℕ × ℕ). ByStart k.0 k.1) i.0, ap (λ (y : OpenStart). key y.place.evse_uid) i.1 ∙ at)
-      | inr i ↦ inr (x, i, at)
+-- a command takes one EVSE at most
+takes_one : (o : OpenCommand) (a b : List ℕ) → Takes o a → Takes o b → a ≡ b
+takes_one o a b (u, named_u, at_u) (v, named_v, at_v) =
+    let same : u ≡ v = cc in
+    sym at_u ∙ ap key same ∙ at_v
+
+-- the claims after a command is opened
+pub claims_opened : (pending : OpenCommands) (p : List ℕ) (n : ℕ) (o : OpenCommand) (evse : List ℕ) (c : Claim) → Claims (insert pending (p, n) o) evse c →
+    ((c ≡ OpenStart p n) × Takes o evse) ⊎ Claims pending evse c
+claims_opened pending p n o evse (OpenStart q m) (x, has, (uid, named, at)) =
+    elim (of_insert text_number_total text_number_exact pending (p, n) o (q, m) x has) [
+      | inl i ↦ inl (ap (λ (k : List ℕ × ℕ). OpenStart k.0 k.1) i.0, (uid, ap (λ (y : OpenCommand). y.evse_uid) i.1 ∙ named, at))
+      | inr i ↦ inr (x, i, (uid, named, at))
     ]
+claims_opened pending p n o evse other h = inr h
 
--- a claim still stands once a new start is opened
-pub claims_kept : (starts : OpenStarts) (p : List ℕ) (n : ℕ) (o : OpenStart) → get starts (p, n) ≡ None → (evse : List ℕ) (c : Claim) → Claims starts evse c → Claims (insert starts (p, n) o) evse c
-claims_kept starts p n o none evse (ByStart q m) (x, has, at) =
-    (x, get-insert_other text_number_total text_number_exact starts (p, n) o (q, m) (λ same. none_some x _ none (ap (get starts) (sym same) ∙ has)) ∙ has, at)
+-- a claim still stands once a new command is opened
+pub claims_kept : (pending : OpenCommands) (p : List ℕ) (n : ℕ) (o : OpenCommand) → get pending (p, n) ≡ None → (evse : List ℕ) (c : Claim) → Claims pending evse c → Claims (insert pending (p, n) o) evse c
+claims_kept pending p n o none evse (OpenStart q m) (x, has, at) =
+    (x, get-insert_other text_number_total text_number_exact pending (p, n) o (q, m) (λ same. none_some x _ none (ap (get pending) (sym same) ∙ has)) ∙ has, at)
+claims_kept pending p n o none evse other h = h
 
-module _ (claimed : Claimed) (starts : OpenStarts) (h : IsIndexed claimed starts) where
-  pub indexed_start : (p : List ℕ) (n : ℕ) (o : OpenStart) → get starts (p, n) ≡ None → IsIndexed (insert claimed (key o.place.evse_uid) tt) (insert starts (p, n) o)
-  indexed_start p n o none = record {
-    sound = λ e has. elim (of_insert text_total text_exact claimed (key o.place.evse_uid) tt e tt has) [
-      | inl i ↦ (ByStart p n, (o, get-insert_same text_number_total text_number_exact starts (p, n) o, sym i.0))
-      | inr i ↦ let c = h.sound e i in (c.0, claims_kept starts p n o none e c.0 c.1)
-    ];
-    complete = λ e c x. elim (claims_opened starts p n o e c x) [
-      | inl i ↦ subst (λ z. get (insert claimed (key o.place.evse_uid) tt) z ≡ Some tt) i.1 (get-insert_same text_total text_exact claimed (key o.place.evse_uid) tt)
-      | inr i ↦ stays text_total claimed (key o.place.evse_uid) e tt (h.complete e c i)
-    ];
-  }
-
-  pub unclaimed_free : (evse : List ℕ) → get claimed evse ≡ None → IsFree starts evse
-  unclaimed_free evse none c has = none_some tt _ none (h.complete evse c has)
-
-  pub free_unclaimed : (evse : List ℕ) → IsFree starts evse → get claimed evse ≡ None
-  free_unclaimed evse free = go (get claimed evse) refl
+module _ (claims : ClaimMap) (pending : OpenCommands) (h : IsIndexed claims pending) where
+  pub indexed_open : (p : List ℕ) (n : ℕ) (o : OpenCommand) → get pending (p, n) ≡ None → ((evse : List ℕ) → Takes o evse → IsFree pending evse) →
+      IsIndexed (claimed_for p n o.evse_uid claims) (insert pending (p, n) o)
+  indexed_open p n o none free = go o.evse_uid refl
     where
-      go : (o : Option (Unit {0})) → get claimed evse ≡ o → o ≡ None
+      go : (u : Option (List ℕ)) → o.evse_uid ≡ u → IsIndexed (claimed_for p n u claims) (insert pending (p, n) o)
+      go None e evse c = (
+        λ has. claims_kept pending p n o none evse c ((h evse c).0 has),
+        λ x. elim (claims_opened pending p n o evse c x) [ inl i ↦ absurd (none_some i.1.0 o.evse_uid e i.1.1) | inr i ↦ (h evse c).1 i ],
+      )
+      go (Some uid) e evse c = (
+        λ has. elim (of_insert text_total text_exact claims (key uid) (OpenStart p n) evse c has) [
+          | inl i ↦ subst (Claims (insert pending (p, n) o) evse) i.1 (o, get-insert_same text_number_total text_number_exact pending (p, n) o, (uid, e, sym i.0))
+          | inr i ↦ claims_kept pending p n o none evse c ((h evse c).0 i)
+        ],
+        λ x. elim (claims_opened pending p n o evse c x) [
+          | inl i ↦
+              let at : evse ≡ key uid = takes_one o evse (key uid) i.1 (uid, e, refl) in
+              ap (get (insert claims (key uid) (OpenStart p n))) at ∙ get-insert_same text_total text_exact claims (key uid) (OpenStart p n) ∙ ap (λ (z : Claim). Some z) (sym i.0)
+          | inr i ↦ get-insert_other text_total text_exact claims (key uid) (OpenStart p n) evse (λ same. free evse (uid, e, sym same) c i) ∙ (h evse c).1 i
+        ],
+      )
+
+  pub unclaimed_free : (evse : List ℕ) → get claims evse ≡ None → IsFree pending evse
+  unclaimed_free evse none c has = none_some c _ none ((h evse c).1 has)
+
+  pub free_unclaimed : (evse : List ℕ) → IsFree pending evse → get claims evse ≡ None
+  free_unclaimed evse free = go (get claims evse) refl
+    where
+      go : (o : Option Claim) → get claims evse ≡ o → o ≡ None
       go None e = refl
-      go (Some x) e = let c = h.sound evse (e ∙ refl) in absurd (free c.0 c.1)
+      go (Some c) e = absurd (free c ((h evse c).0 e))

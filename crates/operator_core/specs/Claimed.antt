@@ -1,38 +1,44 @@
--- The claims that are kept beside the open starts.
-use Rattle.std.specs.Prelude.{◌≡◌, ℕ, List, [], ◌∷◌, Some, slice_get, ⊤}
+-- The claims that are kept beside the open commands.
+use Rattle.std.specs.Prelude.{◌≡◌, ◌↔◌, ℕ, List, [], ◌∷◌, Option, Some, None, slice_get, ⊤}
 use Rattle.std.specs.FinMap.{get, insert}
 use Rattle.ocpi_text.specs.Text.{key}
 use Rattle.ocpi_types.specs.declared.rows.Row.TheVariants as row
 use Rattle.ocpi_types.specs.declared.rows.Change.{Change}
 use Rattle.ocpi_types.specs.declared.rows.Change.TheVariants.{Put, Drop}
 use Rattle.ocpi_types.specs.declared.site.Site.{Site}
-use Rattle.site.specs.Places.{Claimed, IsEvse}
-use Rattle.operator_core.specs.State.{OpenStarts, Claim, Claims}
+use Rattle.site.specs.declared.claim.Claim.{Claim}
+use Rattle.site.specs.declared.claim.Claim.TheVariants.{OpenStart}
+use Rattle.site.specs.Places.{Claims as ClaimMap, IsEvse}
+use Rattle.command_book.specs.Stored.{OpenCommands}
+use Rattle.operator_core.specs.State.{Claims}
 
--- the kept claims are those of the open starts
-pub record IsIndexed (claimed : Claimed) (starts : OpenStarts) : Type 0 where
-  pub sound : (evse : List ℕ) → get claimed evse ≡ Some tt → (c : Claim) × Claims starts evse c
-  pub complete : (evse : List ℕ) (c : Claim) → Claims starts evse c → get claimed evse ≡ Some tt
+-- the kept claims are those of the open commands
+abbrev pub IsIndexed : ClaimMap → OpenCommands → Type 0
+IsIndexed claims pending = (evse : List ℕ) (c : Claim) → (get claims evse ≡ Some c) ↔ Claims pending evse c
 
--- the claims after a change of a row: a start that is opened claims its EVSE
-abbrev pub claimed_after : Change → Claimed → Claimed
-claimed_after (Put (row.Count counter n)) m = m
-claimed_after (Put (row.Reply p n body)) m = m
-claimed_after (Put (row.Spent p reference)) m = m
-claimed_after (Put (row.Pending p n command place deadline)) m = insert m (key place.evse_uid) tt
-claimed_after (Drop k) m = m
+-- the EVSE that a command takes, if it takes one, is claimed for it
+abbrev pub claimed_for : List ℕ → ℕ → Option (List ℕ) → ClaimMap → ClaimMap
+claimed_for p n None m = m
+claimed_for p n (Some uid) m = insert m (key uid) (OpenStart p n)
 
-abbrev pub claimed_all : List Change → Claimed → Claimed
+-- the claims after a change of a row: a command that is opened claims the EVSE that it takes
+abbrev pub claimed_after : Change → ClaimMap → ClaimMap
+claimed_after (Put (row.Pending p n o)) m = claimed_for p n o.evse_uid m
+claimed_after other m = m
+
+abbrev pub claimed_all : List Change → ClaimMap → ClaimMap
 claimed_all [] m = m
 claimed_all (c ∷ cs) m = claimed_all cs (claimed_after c m)
 
--- a start that is opened is at an EVSE of the site
+-- an EVSE that is named is one of the site
+abbrev pub IsOfSite : Site → Option (List ℕ) → Type 0
+IsOfSite site None = ⊤
+IsOfSite site (Some uid) = IsEvse site.locations (key uid)
+
+-- a command that is opened takes an EVSE of the site, if it takes one
 abbrev pub IsAtSite : Site → Change → Type 0
-IsAtSite site (Put (row.Count counter n)) = ⊤
-IsAtSite site (Put (row.Reply p n body)) = ⊤
-IsAtSite site (Put (row.Spent p reference)) = ⊤
-IsAtSite site (Put (row.Pending p n command place deadline)) = IsEvse site.locations (key place.evse_uid)
-IsAtSite site (Drop k) = ⊤
+IsAtSite site (Put (row.Pending p n o)) = IsOfSite site o.evse_uid
+IsAtSite site other = ⊤
 
 abbrev pub AreAtSite : Site → List Change → Type 0
 AreAtSite site cs = (k : ℕ) (c : Change) → slice_get cs k ≡ Some c → IsAtSite site c

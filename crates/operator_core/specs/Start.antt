@@ -10,7 +10,8 @@ use Rattle.ocpi_types.specs.declared.commands.StartSession.{StartSession}
 use Rattle.operator_core.specs.declared.decision.Decision.{Decision}
 use Rattle.operator_core.specs.declared.decision.Decision.TheVariants.{Refused, Rejected, Accepted}
 use Rattle.site.specs.Places.{IsLocation, Fits}
-use Rattle.operator_core.specs.State.{Spent, OpenStarts, IsFree}
+use Rattle.command_book.specs.Stored.{OpenCommands}
+use Rattle.operator_core.specs.State.{Spent, IsFree}
 
 -- the token is another provider's, or a connector is named without its EVSE
 abbrev pub IsMismatched : List ℕ → StartSession → Type 0
@@ -38,13 +39,13 @@ pub record IsPlaced (site : Site) (sender : List ℕ) (c : StartSession) (l : Lo
   pub location : IsLocation site.locations c.location_id l
 
 -- the lines of the table: the first that applies decides
-pub data StartLine (site : Site) (spent : Spent) (starts : OpenStarts) (sender : List ℕ) (c : StartSession) (d : Decision) : Type 0 where
-  Mismatched : IsMismatched sender c → d ≡ Refused 2001 → StartLine site spent starts sender c d
-  UnknownLocation : ¬ IsMismatched sender c → ((l : Location) → IsLocation site.locations c.location_id l → ⊥) → d ≡ Refused 2003 → StartLine site spent starts sender c d
-  NoPlace : (l : Location) → IsPlaced site sender c l → ((e : Evse) (k : Connector) → IsPlace l c e k → ⊥) → d ≡ Rejected → StartLine site spent starts sender c d
+pub data StartLine (site : Site) (spent : Spent) (pending : OpenCommands) (sender : List ℕ) (c : StartSession) (d : Decision) : Type 0 where
+  Mismatched : IsMismatched sender c → d ≡ Refused 2001 → StartLine site spent pending sender c d
+  UnknownLocation : ¬ IsMismatched sender c → ((l : Location) → IsLocation site.locations c.location_id l → ⊥) → d ≡ Refused 2003 → StartLine site spent pending sender c d
+  NoPlace : (l : Location) → IsPlaced site sender c l → ((e : Evse) (k : Connector) → IsPlace l c e k → ⊥) → d ≡ Rejected → StartLine site spent pending sender c d
   Barred : (l : Location) → IsPlaced site sender c l → (e : Evse) (k : Connector) → IsPlace l c e k → IsBarred spent (key sender) c → d ≡ Rejected →
-      StartLine site spent starts sender c d
+      StartLine site spent pending sender c d
   Occupied : (l : Location) → IsPlaced site sender c l → (e : Evse) (k : Connector) → IsPlace l c e k → ¬ IsBarred spent (key sender) c →
-      ((f : Evse) (j : Connector) → IsPlace l c f j → IsFree starts (key f.uid) → ⊥) → d ≡ Rejected → StartLine site spent starts sender c d
+      ((f : Evse) (j : Connector) → IsPlace l c f j → IsFree pending (key f.uid) → ⊥) → d ≡ Rejected → StartLine site spent pending sender c d
   Taken : (l : Location) → IsPlaced site sender c l → (e : Evse) (k : Connector) → IsPlace l c e k → ¬ IsBarred spent (key sender) c →
-      IsFree starts (key e.uid) → d ≡ Accepted (record { evse_uid = e.uid; connector_id = k.id }) → StartLine site spent starts sender c d
+      IsFree pending (key e.uid) → d ≡ Accepted (record { evse_uid = e.uid; connector_id = k.id }) → StartLine site spent pending sender c d

@@ -8,15 +8,21 @@ use Rattle.ocpi_types.specs.declared.packet.Packet.{Packet}
 use Rattle.ocpi_types.specs.declared.packet.Body.{Body}
 use Rattle.ocpi_types.specs.declared.packet.Body.TheVariants as body
 use Rattle.ocpi_types.specs.declared.commands.StartSession.{StartSession}
-use Rattle.ocpi_types.specs.declared.replies.CommandResponse.{CommandResponse}
+use Rattle.ocpi_types.specs.Stored.{body_of_reply}
+use Rattle.ocpi_types.specs.declared.rows.Place.{Place}
+use Rattle.ocpi_types.specs.declared.stored.Command.TheVariants as command
+use Rattle.ocpi_types.specs.declared.stored.OpenCommand.{OpenCommand}
+use Rattle.ocpi_types.specs.declared.stored.Reply.{Reply}
+use Rattle.ocpi_types.specs.declared.stored.Reply.TheVariants as reply
 use Rattle.ocpi_types.specs.declared.replies.CommandResponse.TheVariants as response
 use Rattle.ocpi_types.specs.declared.words.CommandResponseType.TheVariants as result
 use Rattle.operator_core.specs.declared.decision.Decision.{Decision}
 use Rattle.operator_core.specs.declared.decision.Decision.TheVariants.{Refused, Rejected, Accepted}
+use Rattle.command_book.specs.Stored as commands
 use Rattle.operator_core.specs.Providers.{IsProvider}
 use Rattle.operator_core.specs.State.{State}
 use Rattle.operator_core.specs.Start.{StartLine}
-use Rattle.operator_core.specs.Moves.{Out, begin, say, numbered, keep_reply, open_start, spend}
+use Rattle.operator_core.specs.Moves.{Out, begin, say, numbered, keep_reply, open_command, spend}
 
 -- the kinds of packet that an operator takes
 abbrev pub IsTaken : Body → Type 0
@@ -36,20 +42,24 @@ timeout = 30
 abbrev pub deadline : ℕ → ℕ
 deadline at = min (at + 1000 * timeout) last_moment
 
-abbrev pub responded : ℕ → Decision → CommandResponse
-responded at (Refused status) = response.Refused at status
-responded at Rejected = response.Done at (record { result = result.Rejected; timeout = timeout })
-responded at (Accepted place) = response.Done at (record { result = result.Accepted; timeout = timeout })
+abbrev pub responded : ℕ → Decision → Reply
+responded at (Refused status) = reply.CommandResponse (response.Refused at status)
+responded at Rejected = reply.CommandResponse (response.Done at (record { result = result.Rejected; timeout = timeout }))
+responded at (Accepted place) = reply.CommandResponse (response.Done at (record { result = result.Accepted; timeout = timeout }))
+
+-- a start that takes a place at that moment
+abbrev pub taken_up : ℕ → StartSession → Place → OpenCommand
+taken_up at c place = commands.open_command (command.StartSession c) (Some place) (deadline at)
 
 -- a reply to the request of that number is sent
-abbrev pub answer : List ℕ → ℕ → CommandResponse → State → Out
-answer to n reply s = numbered (say to n (body.CommandResponse reply) (begin s))
+abbrev pub answer : List ℕ → ℕ → Reply → State → Out
+answer to n r s = numbered (say to n (body_of_reply r) (begin s))
 
 -- what follows from the decision, beside the reply, at the provider of that key
 abbrev pub carried_out : ℕ → List ℕ → ℕ → StartSession → Decision → Out → Out
 carried_out at p n c (Refused status) o = o
 carried_out at p n c Rejected o = o
-carried_out at p n c (Accepted place) o = spend p c.authorization_reference (open_start p n (record { command = c; place = place; deadline = deadline at }) o)
+carried_out at p n c (Accepted place) o = spend p c.authorization_reference (open_command p n (taken_up at c place) o)
 
 -- a START_SESSION is decided: its reply is sent and kept
 abbrev pub started : ℕ → List ℕ → List ℕ → ℕ → StartSession → Decision → State → Out
@@ -58,9 +68,9 @@ started at to p n c d s = carried_out at p n c d (keep_reply p n (responded at d
 -- a request that has a kept reply gets that reply again; another is decided. Replies go to the provider as the
 -- site spells it
 pub data RequestLine (s : State) (at : ℕ) (q : Packet) (to : List ℕ) (out : Out) : Type 0 where
-  Again : (reply : CommandResponse) → get s.replies (key q.from, q.request) ≡ Some reply → out ≡ answer to q.request reply s → RequestLine s at q to out
-  Started : get s.replies (key q.from, q.request) ≡ None → (c : StartSession) → q.body ≡ body.StartSession c →
-      (d : Decision) → StartLine s.site s.spent s.open_starts q.from c d → out ≡ started at to (key q.from) q.request c d s → RequestLine s at q to out
+  Again : (r : Reply) → get s.commands.replies (key q.from, q.request) ≡ Some r → out ≡ answer to q.request r s → RequestLine s at q to out
+  Started : get s.commands.replies (key q.from, q.request) ≡ None → (c : StartSession) → q.body ≡ body.StartSession c →
+      (d : Decision) → StartLine s.site s.spent s.commands.pending q.from c d → out ≡ started at to (key q.from) q.request c d s → RequestLine s at q to out
 
 -- one step of an operator: a packet comes at a moment
 pub record OperatorStep (s : State) (at : ℕ) (q : Packet) (out : Out) : Type 0 where

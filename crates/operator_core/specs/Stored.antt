@@ -1,50 +1,55 @@
 -- What an operator stores, and what changes of rows make of it.
-use Rattle.std.specs.Prelude.{◌≡◌, ℕ, List, [], ◌∷◌, Some, slice_get, IsTrue, ⊤}
+use Rattle.std.specs.Prelude.{◌≡◌, ◌≢◌, ℕ, List, [], ◌∷◌, Some, slice_get, IsTrue, ⊤}
 use Rattle.std.specs.FinMap.{FinMap, insert, remove, contains_key}
-use Rattle.tables.specs.Keys.{text_number_cmp, text_pair_cmp}
+use Rattle.tables.specs.Keys.{text_pair_cmp}
+use Rattle.ocpi_types.specs.Rows.{key_of}
 use Rattle.ocpi_types.specs.declared.rows.Row.{Row}
 use Rattle.ocpi_types.specs.declared.rows.Row.TheVariants as row
 use Rattle.ocpi_types.specs.declared.rows.RowKey.{RowKey}
 use Rattle.ocpi_types.specs.declared.rows.RowKey.TheVariants as keys
 use Rattle.ocpi_types.specs.declared.rows.Change.{Change}
 use Rattle.ocpi_types.specs.declared.rows.Change.TheVariants.{Put, Drop}
-use Rattle.ocpi_types.specs.declared.rows.Counter.{Counter}
-use Rattle.ocpi_types.specs.declared.rows.Counter.TheVariants.{Serial, Request, Session, Cdr, Reference}
-use Rattle.operator_core.specs.State.{State, Replies, Spent, OpenStarts}
+use Rattle.ocpi_types.specs.declared.rows.Counter.TheVariants.{Serial}
+use Rattle.command_book.specs.Stored as commands
+use Rattle.command_book.specs.Room as command_room
+use Rattle.operator_core.specs.State.{State, Spent}
+use Rattle.operator_core.specs.Rows.{change_key}
 
 pub record Rows : Type 0 where
   -- the number of the last packet that was sent
   pub serial : ℕ
-  pub replies : Replies
+  pub commands : commands.Rows
   pub spent : Spent
-  pub open_starts : OpenStarts
 
 abbrev pub rows_of : State → Rows
-rows_of s = record { serial = s.serial; replies = s.replies; spent = s.spent; open_starts = s.open_starts }
+rows_of s = record { serial = s.serial; commands = s.commands; spent = s.spent }
 
 abbrev pub with_rows : Rows → State → State
-with_rows r s = record s { serial = r.serial; replies = r.replies; spent = r.spent; open_starts = r.open_starts }
+with_rows r s = record s { serial = r.serial; commands = r.commands; spent = r.spent }
 
--- a counter gave that number last; an operator has the counter of packets alone
-abbrev pub counted : Counter → ℕ → Rows → Rows
-counted Serial n s = record s { serial = n }
-counted Request n s = s
-counted Session n s = s
-counted Cdr n s = s
-counted Reference n s = s
+-- the counter of packets, which is all that an operator counts so far
+abbrev pub counted : Row → ℕ → ℕ
+counted (row.Count Serial n) m = n
+counted other m = m
 
+abbrev pub uncounted : RowKey → ℕ → ℕ
+uncounted (keys.Count Serial) m = 0
+uncounted other m = m
+
+abbrev pub spending : Row → Spent → Spent
+spending (row.Spent p reference) m = insert m (p, reference) tt
+spending other m = m
+
+abbrev pub unspending : RowKey → Spent → Spent
+unspending (keys.Spent p reference) m = remove m (p, reference)
+unspending other m = m
+
+-- each kind of row belongs to one part
 abbrev pub put_row : Row → Rows → Rows
-put_row (row.Count counter n) s = counted counter n s
-put_row (row.Reply p n body) s = record s { replies = insert s.replies (p, n) body }
-put_row (row.Spent p reference) s = record s { spent = insert s.spent (p, reference) tt }
-put_row (row.Pending p n command place deadline) s =
-    record s { open_starts = insert s.open_starts (p, n) (record { command = command; place = place; deadline = deadline }) }
+put_row r s = record { serial = counted r s.serial; commands = commands.put_row r s.commands; spent = spending r s.spent }
 
 abbrev pub drop_row : RowKey → Rows → Rows
-drop_row (keys.Count counter) s = counted counter 0 s
-drop_row (keys.Reply p n) s = record s { replies = remove s.replies (p, n) }
-drop_row (keys.Spent p reference) s = record s { spent = remove s.spent (p, reference) }
-drop_row (keys.Pending p n) s = record s { open_starts = remove s.open_starts (p, n) }
+drop_row k s = record { serial = uncounted k s.serial; commands = commands.drop_row k s.commands; spent = unspending k s.spent }
 
 abbrev pub changed : Change → Rows → Rows
 changed (Put r) s = put_row r s
@@ -57,20 +62,24 @@ changed_all (c ∷ cs) s = changed_all cs (changed c s)
 
 -- the keys that have a row, or room for one
 pub record Rooms : Type 0 where
-  pub replies : FinMap text_number_cmp (Unit {0})
+  pub commands : command_room.Rooms
   pub spent : FinMap text_pair_cmp (Unit {0})
-  pub open_starts : FinMap text_number_cmp (Unit {0})
+
+abbrev pub HasSpentRoom : FinMap text_pair_cmp (Unit {0}) → Row → Type 0
+HasSpentRoom m (row.Spent p reference) = IsTrue (contains_key m (p, reference))
+HasSpentRoom m other = ⊤
 
 abbrev pub HasRoomOf : Rooms → Row → Type 0
-HasRoomOf s (row.Count counter n) = ⊤
-HasRoomOf s (row.Reply p n body) = IsTrue (contains_key s.replies (p, n))
-HasRoomOf s (row.Spent p reference) = IsTrue (contains_key s.spent (p, reference))
-HasRoomOf s (row.Pending p n command place deadline) = IsTrue (contains_key s.open_starts (p, n))
+HasRoomOf s r = command_room.HasRoomOf s.commands r × HasSpentRoom s.spent r
 
 -- the change takes no memory
 abbrev pub HasRoom : Rooms → Change → Type 0
 HasRoom s (Put r) = HasRoomOf s r
 HasRoom s (Drop k) = ⊤
+
+-- each change of a list passes
+abbrev pub Each : (Change → Type 0) → List Change → Type 0
+Each P cs = (k : ℕ) (c : Change) → slice_get cs k ≡ Some c → P c
 
 abbrev pub HasRooms : Rooms → List Change → Type 0
 HasRooms s cs = (k : ℕ) (c : Change) → slice_get cs k ≡ Some c → HasRoom s c
@@ -78,6 +87,15 @@ HasRooms s cs = (k : ℕ) (c : Change) → slice_get cs k ≡ Some c → HasRoom
 -- what has room keeps it
 abbrev pub KeepsRoom : Rooms → Rooms → Type 0
 KeepsRoom s t = (c : Change) → HasRoom s c → HasRoom t c
+
+-- what has room and another key keeps it
+abbrev pub KeepsOtherRoom : RowKey → Rooms → Rooms → Type 0
+KeepsOtherRoom k s t = (c : Change) → change_key c ≢ k → HasRoom s c → HasRoom t c
+
+-- no two changes are of one row
+abbrev pub AreApart : List Change → Type 0
+AreApart [] = ⊤
+AreApart (c ∷ cs) = Each (λ d. change_key d ≢ change_key c) cs × AreApart cs
 
 -- the rows, and the room that is taken beside them
 pub record Held : Type 0 where

@@ -1,32 +1,33 @@
-//! What an operator stores: its counter of packets, what it has answered, which references are spent and which starts are
-//! open.
+//! What an operator stores: its counter of packets, what it has answered, which commands are open and which references are
+//! spent.
 
 ghost use Rattle.std.specs.Prelude.{◌≡◌, OnOk, IsOk, IsTrue, None, false};
 ghost use Rattle.std.specs.FinMap as map;
+ghost use Rattle.ocpi_types.specs.Rows.{key_of};
+ghost use Rattle.command_book.specs.Stored.{no_rows};
+ghost use Rattle.operator_core.specs.Rows.{change_key};
 ghost use Rattle.operator_core.specs.Start.{IsSpent};
-ghost use Rattle.operator_core.specs.Stored.{HasRoom, HasRoomOf, HasRooms, KeepsRoom, changed, changed_all, counted, put_row, drop_row};
+ghost use Rattle.operator_core.specs.Stored.{AreApart, HasRoom, HasRoomOf, HasRooms, KeepsOtherRoom, KeepsRoom, changed, changed_all, put_row, drop_row};
 
-use crate::open_start::OpenStart;
-use ocpi_text::{CiText, Party, Whole};
-use ocpi_types::{Change, CommandResponse, Counter, Row, RowKey};
+use command_book::CommandBook;
+use ocpi_text::{CiKey, CiText, PartyKey, Whole};
+use ocpi_types::{Change, Counter, Reply, Row, RowKey};
 use std::alloc::{AllocError, Global};
 use std::marker::Model;
 use tables::Table;
 
-/// The rows of an operator, each kind in a table by its key, and the room that is taken beside them. Providers and
-/// references are in key form.
+/// The rows of an operator, and the room that is taken beside them.
 #[derive(Drop)]
 pub struct Books {
     serial: Whole,
-    replies: Table<(Party, Whole), CommandResponse>,
-    spent: Table<(Party, CiText<36>), ()>,
-    open_starts: Table<(Party, Whole), OpenStart>,
+    commands: CommandBook,
+    spent: Table<(PartyKey, CiKey<36>), ()>,
 }
 
 impl Model for Books {
     ghost use Rattle.std.specs.FinMap as map;
     ghost use Rattle.std.specs.Coded.{codes};
-    ghost use Rattle.tables.specs.Keys.{text_number_cmp, text_pair_cmp};
+    ghost use Rattle.tables.specs.Keys.{text_pair_cmp};
     ghost use Rattle.tables.specs.Tables.{shown_of, rooms_of};
     ghost use Rattle.operator_core.specs.Stored.{Held};
 
@@ -35,30 +36,20 @@ impl Model for Books {
     ghost coded = { Prim.hlevel (codes, map.code) };
 
     ghost view = { λ b. record {
-      rows = record {
-        serial = b.serial;
-        replies = shown_of text_number_cmp b.replies;
-        spent = shown_of text_pair_cmp b.spent;
-        open_starts = shown_of text_number_cmp b.open_starts;
-      };
-      rooms = record {
-        replies = rooms_of text_number_cmp b.replies;
-        spent = rooms_of text_pair_cmp b.spent;
-        open_starts = rooms_of text_number_cmp b.open_starts;
-      };
+      rows = record { serial = b.serial; commands = b.commands.rows; spent = shown_of text_pair_cmp b.spent };
+      rooms = record { commands = b.commands.rooms; spent = rooms_of text_pair_cmp b.spent };
     } };
 }
 
 impl Books {
     /// No packet was sent, nothing is answered, and nothing is open.
     pub fn new(alloc: Global) -> Books
-        ensures { result.rows ≡ record { serial = 0; replies = map.empty; spent = map.empty; open_starts = map.empty } }
+        ensures { result.rows ≡ record { serial = 0; commands = no_rows; spent = map.empty } }
     {
         Books {
             serial: Whole::new(0).unwrap(),
-            replies: Table::new(alloc),
+            commands: CommandBook::new(alloc),
             spent: Table::new(alloc),
-            open_starts: Table::new(alloc),
         }
     }
 
@@ -70,14 +61,14 @@ impl Books {
     }
 
     /// The reply that a request got.
-    pub fn reply(&self, provider: Party, number: Whole) -> Option<CommandResponse>
-        ensures { result ≡ map.get self.now.rows.replies (provider, number) }
+    pub fn reply(&self, provider: PartyKey, number: Whole) -> Option<Reply>
+        ensures { result ≡ map.get self.now.rows.commands.replies (provider, number) }
     {
-        self.replies.get((provider, number)).copied()
+        self.commands.reply_kept(provider, number)
     }
 
     /// Whether there is a reference, and the provider used it before.
-    pub fn is_spent(&self, provider: Party, reference: &Option<CiText<36>>) -> bool
+    pub fn is_spent(&self, provider: PartyKey, reference: &Option<CiText<36>>) -> bool
         ensures yes { IsTrue result → IsSpent self.now.rows.spent provider reference.now }
         ensures no { result ≡ false → IsSpent self.now.rows.spent provider reference.now → ⊥ }
     {
@@ -94,23 +85,14 @@ impl Books {
         ensures room { OnOk result (HasRoomOf self.new.rooms row.now) }
         ensures again { HasRoomOf self.old.rooms row.now → IsOk result }
     {
-        match row {
-            Row::Count { .. } => Ok(()),
-            Row::Reply {
-                provider,
-                number,
-                ..
-            } => self.replies.reserve((*provider, *number)),
-            Row::Spent {
-                provider,
-                reference,
-            } => self.spent.reserve((*provider, *reference)),
-            Row::Pending {
-                provider,
-                number,
-                ..
-            } => self.open_starts.reserve((*provider, *number)),
+        if let Row::Spent {
+            provider,
+            reference,
+        } = row
+        {
+            return self.spent.reserve((*provider, *reference));
         }
+        self.commands.reserve_row(row)
     }
 
     /// Takes the memory that a change needs. An error is want of memory, for a change that has no room.
@@ -139,67 +121,43 @@ impl Books {
         Ok(())
     }
 
-    /// Sets a counter.
-    fn count(&mut self, counter: Counter, last: Whole)
-        ensures rows { self.new.rows ≡ counted counter last self.old.rows }
-        ensures rooms { self.new.rooms ≡ self.old.rooms }
-    {
-        match counter {
-            Counter::Serial => self.serial = last,
-            Counter::Request => {}
-            Counter::Session => {}
-            Counter::Cdr => {}
-            Counter::Reference => {}
-        }
-    }
-
     /// Puts a row. It takes no memory.
     fn put_row(&mut self, row: Row)
         requires { HasRoomOf self.old.rooms row }
         ensures rows { self.new.rows ≡ put_row row self.old.rows }
-        ensures rooms { self.new.rooms ≡ self.old.rooms }
+        ensures keeps { KeepsOtherRoom (key_of row) self.old.rooms self.new.rooms }
     {
-        match row {
-            Row::Count { counter, last } => self.count(counter, last),
-            Row::Reply {
-                provider,
-                number,
-                body,
-            } => self.replies.put((provider, number), body),
+        match &row {
+            Row::Count {
+                counter: Counter::Serial,
+                last,
+            } => self.serial = *last,
             Row::Spent {
                 provider,
                 reference,
-            } => self.spent.put((provider, reference), ()),
-            Row::Pending {
-                provider,
-                number,
-                command,
-                place,
-                deadline,
-            } => self.open_starts.put(
-                (provider, number),
-                OpenStart {
-                    command,
-                    place,
-                    deadline,
-                },
-            ),
+            } => self.spent.put((*provider, *reference), ()),
+            _ => {}
         }
+        self.commands.put_row(row);
     }
 
     /// Drops a row. It takes no memory.
     fn drop_row(&mut self, key: RowKey)
         ensures rows { self.new.rows ≡ drop_row key self.old.rows }
-        ensures rooms { self.new.rooms ≡ self.old.rooms }
+        ensures keeps { KeepsOtherRoom key self.old.rooms self.new.rooms }
     {
-        match key {
-            RowKey::Count { counter } => self.count(counter, Whole::new(0).unwrap()),
-            RowKey::Reply { provider, number } => self.replies.clear((provider, number)),
+        self.commands.drop_row(key);
+        match &key {
+            RowKey::Count {
+                counter: Counter::Serial,
+            } => self.serial = Whole::new(0).unwrap(),
             RowKey::Spent {
                 provider,
                 reference,
-            } => self.spent.clear((provider, reference)),
-            RowKey::Pending { provider, number } => self.open_starts.clear((provider, number)),
+            } => {
+                self.spent.remove((*provider, *reference));
+            }
+            _ => {}
         }
     }
 
@@ -207,7 +165,7 @@ impl Books {
     fn carry_out(&mut self, change: Change)
         requires { HasRoom self.old.rooms change }
         ensures rows { self.new.rows ≡ changed change self.old.rows }
-        ensures rooms { self.new.rooms ≡ self.old.rooms }
+        ensures keeps { KeepsOtherRoom (change_key change) self.old.rooms self.new.rooms }
     {
         match change {
             Change::Put(row) => self.put_row(row),
@@ -215,9 +173,10 @@ impl Books {
         }
     }
 
-    /// Carries changes out, in order. It takes no memory and cannot fail.
+    /// Carries changes of different rows out, in order. It takes no memory and cannot fail.
     pub fn apply(&mut self, changes: Vec<Change>)
-        requires { HasRooms self.old.rooms changes.items }
+        requires room { HasRooms self.old.rooms changes.items }
+        requires apart { AreApart changes.items }
         ensures { self.new.rows ≡ changed_all changes.items self.old.rows }
     {
         for change in changes {

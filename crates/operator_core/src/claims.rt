@@ -4,36 +4,30 @@ ghost use Rattle.std.specs.Prelude.{◌≡◌};
 ghost use Rattle.operator_core.specs.Claimed.{AreAtSite, IsAtSite, claimed_after, claimed_all};
 
 use ocpi_types::{Change, Row};
-use site::Places;
+use site::{Claim, Places};
 
-/// Claims the EVSE of a start that a row opens. It takes no memory.
-fn claim_row(places: &mut Places, row: &Row)
-    requires { IsAtSite places.old.site (Change.Put row.now) }
-    ensures { places.new ≡ record places.old { claimed = claimed_after (Change.Put row.now) places.old.claimed } }
-{
-    match row {
-        Row::Count { .. } => {}
-        Row::Reply { .. } => {}
-        Row::Spent { .. } => {}
-        Row::Pending { place, .. } => places.claim(&place.evse_uid),
-    }
-}
-
-/// Claims the EVSE of a start that a change opens. It takes no memory.
+/// Claims the EVSE that a command takes which a change opens, if it takes one. It takes no memory.
 fn claim(places: &mut Places, change: &Change)
     requires { IsAtSite places.old.site change.now }
-    ensures { places.new ≡ record places.old { claimed = claimed_after change.now places.old.claimed } }
+    ensures { places.new ≡ record places.old { claims = claimed_after change.now places.old.claims } }
 {
-    match change {
-        Change::Put(row) => claim_row(places, row),
-        Change::Drop(_) => {}
+    if let Change::Put(Row::Pending {
+        provider,
+        number,
+        open,
+    }) = change
+    {
+        if let Some(evse_uid) = &open.evse_uid {
+            let (provider, number) = (*provider, *number);
+            places.put_claim(evse_uid, Claim::OpenStart { provider, number });
+        }
     }
 }
 
-/// Claims the EVSE of each start that changes open. It takes no memory.
+/// Claims the EVSE of each command that changes open. It takes no memory.
 pub fn claim_all(places: &mut Places, changes: &[Change])
     requires { AreAtSite places.old.site changes.now }
-    ensures { places.new ≡ record places.old { claimed = claimed_all changes.now places.old.claimed } }
+    ensures { places.new ≡ record places.old { claims = claimed_all changes.now places.old.claims } }
 {
     for change in changes {
         claim(places, change);

@@ -3,6 +3,7 @@
 ghost use Rattle.std.specs.Prelude.{◌≡◌, ◌∷◌, [], ◌+◌, IfOk, IfSome, IfNone, IfErr, OnErr, None, List, ℕ};
 ghost use Rattle.std.specs.FinMap as map;
 ghost use Rattle.ocpi_text.specs.Text.{key};
+ghost use Rattle.ocpi_types.specs.Stored.{body_of_reply};
 ghost use Rattle.operator_core.specs.Providers.{IsProvider};
 ghost use Rattle.operator_core.specs.Steps.{responded};
 
@@ -11,44 +12,41 @@ use crate::claims::claim_all;
 use crate::decision::Decision;
 use crate::fault::OperatorFault;
 use crate::providers::find_provider;
-use crate::request::Request;
+use crate::request::{Request, TIMEOUT};
 use crate::rows::{copies, count_row, pending_row, push_spent_row, reply_row};
 use crate::start::decide;
 use crate::stepped::Stepped;
 use ocpi_text::{Moment, Party, Whole};
 use ocpi_types::{
-    Body, CommandResponse, CommandResponseType, Packet, Parties, Place, ResponseData, SiteLine,
-    StartSession,
+    Body, CommandResponse, CommandResponseType, Packet, Parties, Place, Reply, ResponseData,
+    SiteLine, StartSession,
 };
 use site::Places;
 use std::alloc::{AllocError, Global};
 use std::marker::Model;
 
-/// The seconds within which a result follows.
-const TIMEOUT: u64 = 30;
-
 /// The response with a result.
-fn done(at: Moment, result_word: CommandResponseType) -> CommandResponse
-    ensures { result ≡ CommandResponse.Done at (record { result = result_word; timeout = 30 }) }
+fn done(at: Moment, result_word: CommandResponseType) -> Reply
+    ensures { result ≡ Reply.CommandResponse (CommandResponse.Done at (record { result = result_word; timeout = 30 })) }
 {
-    CommandResponse::Done {
+    Reply::CommandResponse(CommandResponse::Done {
         timestamp: at,
         response: ResponseData {
             result: result_word,
             timeout: Whole::new(TIMEOUT).unwrap(),
         },
-    }
+    })
 }
 
 /// The reply that a decision gives.
-fn respond(decision: &Decision, at: Moment) -> CommandResponse
+fn respond(decision: &Decision, at: Moment) -> Reply
     ensures { result ≡ responded at decision.now }
 {
     match decision {
-        Decision::Refused(status) => CommandResponse::Refused {
+        Decision::Refused(status) => Reply::CommandResponse(CommandResponse::Refused {
             timestamp: at,
             status_code: *status,
-        },
+        }),
         Decision::Rejected => done(at, CommandResponseType::Rejected),
         Decision::Accepted(_) => done(at, CommandResponseType::Accepted),
     }
@@ -79,13 +77,11 @@ impl Model for Operator {
       providers = o.parties.providers;
       site = o.places.site;
       serial = o.books.rows.serial;
-      replies = o.books.rows.replies;
+      commands = o.books.rows.commands;
       spent = o.books.rows.spent;
-      open_starts = o.books.rows.open_starts;
     } };
 
-    ghost invariant = { λ o. IsIndexed o.places.claimed o.books.rows.open_starts
-        × IsConsistent o.books.rows.replies o.books.rows.spent o.books.rows.open_starts };
+    ghost invariant = { λ o. IsIndexed o.places.claims o.books.rows.commands.pending × IsConsistent o.books.rows.commands o.books.rows.spent };
 }
 
 impl Operator {
@@ -119,9 +115,9 @@ impl Operator {
     }
 
     /// What holds of every operator at any time, which its type keeps: each EVSE has at most one claim; each reference of
-    /// a provider is carried by at most one open start, and is spent; each open start was answered.
+    /// a provider is carried by at most one open start, and is spent; each open command was answered.
     pub fn consistency(&self)
-        ensures { IsConsistent self.now.replies self.now.spent self.now.open_starts }
+        ensures { IsConsistent self.now.commands self.now.spent }
     {
         // The invariant is known once a field is looked at.
         let _books = &self.books;
@@ -160,21 +156,21 @@ impl Operator {
     }
 
     /// The packet that answers a request.
-    fn answer(&self, request: &Request, reply: &CommandResponse) -> Result<Vec<Packet>, AllocError>
-        ensures { IfOk result (λ x. x.items ≡ record { from = self.now.party; to = request.now.from; serial = request.now.serial; request = request.now.number; body = Body.CommandResponse reply.now } ∷ []) }
+    fn answer(&self, request: &Request, reply: &Reply) -> Result<Vec<Packet>, AllocError>
+        ensures { IfOk result (λ x. x.items ≡ record { from = self.now.party; to = request.now.from; serial = request.now.serial; request = request.now.number; body = body_of_reply reply.now } ∷ []) }
     {
         let packet = Packet {
             from: *self.parties.operator(),
             to: request.from,
             serial: request.serial,
             request: request.number,
-            body: Body::CommandResponse(*reply),
+            body: reply.into_body(),
         };
         Ok(vec![in self.alloc; packet]?)
     }
 
     /// The step that sends a kept reply again.
-    fn again(&self, request: &Request, reply: &CommandResponse) -> Result<Stepped, AllocError>
+    fn again(&self, request: &Request, reply: &Reply) -> Result<Stepped, AllocError>
         requires { request.now.serial ≡ self.now.serial + 1 }
         ensures { IfOk result (λ x. planned self.now x ≡ answer request.now.from request.now.number reply.now self.now) }
     {
@@ -184,7 +180,7 @@ impl Operator {
     }
 
     /// The step that sends a reply, and keeps it.
-    fn refuse(&self, request: &Request, reply: &CommandResponse) -> Result<Stepped, AllocError>
+    fn refuse(&self, request: &Request, reply: &Reply) -> Result<Stepped, AllocError>
         requires { request.now.serial ≡ self.now.serial + 1 }
         ensures { IfOk result (λ x. planned self.now x ≡ keep_reply request.now.provider request.now.number reply.now (answer request.now.from request.now.number reply.now self.now)) }
     {
@@ -198,17 +194,16 @@ impl Operator {
     fn accept(
         &self,
         request: &Request,
-        reply: &CommandResponse,
+        reply: &Reply,
         command: &StartSession,
         place: Place,
     ) -> Result<Stepped, AllocError>
         requires { request.now.serial ≡ self.now.serial + 1 }
         ensures { IfOk result (λ x. planned self.now x ≡ carried_out request.now.at request.now.provider request.now.number command.now (Decision.Accepted place) (keep_reply request.now.provider request.now.number reply.now (answer request.now.from request.now.number reply.now self.now))) }
     {
-        let deadline = request.at.after(1000 * TIMEOUT);
         let mut rows = vec![in self.alloc; count_row(request)]?;
         rows.push(reply_row(request, reply))?;
-        rows.push(pending_row(request, command, place, deadline)?)?;
+        rows.push(pending_row(request, command, place)?)?;
         push_spent_row(&mut rows, request, command.authorization_reference)?;
         let packets = self.answer(request, reply)?;
         Ok(Stepped { rows, packets })
@@ -223,7 +218,7 @@ impl Operator {
     ) -> Result<Stepped, AllocError>
         requires serial { request.now.serial ≡ self.now.serial + 1 }
         requires provider { request.now.provider ≡ key sender.now }
-        ensures { IfOk result (λ x. (d : Decision) × StartLine self.now.site self.now.spent self.now.open_starts sender.now command.now d × (planned self.now x ≡ started request.now.at request.now.from request.now.provider request.now.number command.now d self.now)) }
+        ensures { IfOk result (λ x. (d : Decision) × StartLine self.now.site self.now.spent self.now.commands.pending sender.now command.now d × (planned self.now x ≡ started request.now.at request.now.from request.now.provider request.now.number command.now d self.now)) }
     {
         let decision = decide(&self.places, &self.books, sender, request.provider, command);
         let reply = respond(&decision, request.at);

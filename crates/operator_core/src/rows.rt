@@ -3,10 +3,11 @@
 ghost use Rattle.std.specs.Prelude.{◌≡◌, ◌++◌, IfOk, IsNone, IsOk, OnOk};
 ghost use Rattle.ocpi_types.specs.declared.rows.Counter.{Counter as CounterOf};
 ghost use Rattle.operator_core.specs.Moves.{spent_rows};
+ghost use Rattle.operator_core.specs.Steps.{taken_up};
 
-use crate::request::Request;
-use ocpi_text::{CiText, Moment};
-use ocpi_types::{Change, CommandResponse, Counter, Place, Row, StartSession};
+use crate::request::{Request, TIMEOUT};
+use ocpi_text::CiText;
+use ocpi_types::{Change, Command, Counter, OpenCommand, Place, Reply, Row, StartSession};
 use std::alloc::{AllocError, Global};
 
 /// The row of the counter of packets.
@@ -20,32 +21,35 @@ pub fn count_row(request: &Request) -> Change
 }
 
 /// The row of a kept reply.
-pub fn reply_row(request: &Request, reply: &CommandResponse) -> Change
+pub fn reply_row(request: &Request, reply: &Reply) -> Change
     ensures { result ≡ Change.Put (Row.Reply request.now.provider request.now.number reply.now) }
 {
     Change::Put(Row::Reply {
-        provider: request.provider,
+        sender: request.provider,
         number: request.number,
-        body: *reply,
+        reply: *reply,
     })
 }
 
-/// The row of a start that takes a place until a deadline.
+/// The row of a start that takes a place until its result.
 pub fn pending_row(
     request: &Request,
     command: &StartSession,
     place: Place,
-    deadline: Moment,
 ) -> Result<Change, AllocError>
-    ensures { IfOk result (λ x. x ≡ Change.Put (Row.Pending request.now.provider request.now.number command.now place deadline)) }
+    ensures { IfOk result (λ x. x ≡ Change.Put (Row.Pending request.now.provider request.now.number (taken_up request.now.at command.now place))) }
 {
     let command = command.copy()?;
+    let open = OpenCommand {
+        command: Command::StartSession(command),
+        evse_uid: Some(place.evse_uid),
+        connector_id: Some(place.connector_id),
+        deadline: request.at.after(1000 * TIMEOUT),
+    };
     Ok(Change::Put(Row::Pending {
         provider: request.provider,
         number: request.number,
-        command,
-        place,
-        deadline,
+        open,
     }))
 }
 

@@ -11,7 +11,7 @@ use Rattle.ocpi_types.specs.declared.site.Evse.{Evse}
 use Rattle.ocpi_types.specs.declared.site.Connector.{Connector}
 use Rattle.tables.specs.Keys.{text_cmp}
 use Rattle.tables.specs.Tables.{HasNone}
-use Rattle.site.specs.Places.{Claimed, IsLocation, IsNamed, IsChosen, Fits, IsEvse, IsUnclaimed}
+use Rattle.site.specs.Places.{Claims, IsLocation, IsNamed, IsChosen, Fits, IsEvse, IsUnclaimed}
 use Rattle.site.specs.Positions.{Position, position_cmp, IsEvseAt, HasEvse, OneEvseEach, FindsLocations, FindsEvses, IsCandidate}
 use Rattle.site.proofs.Apart.{contained, place}
 use Rattle.site.proofs.Indexing.{one_evse}
@@ -62,7 +62,7 @@ module _ (locations : List Location) where
         | f ∷ fs ↦ λ at first. first f refl
       ] h.1 first
 
-  module _ (index : FinMap text_cmp Position) (claimed rooms : Claimed) (free : FinMap position_cmp (Unit {0})) (h : FindsEvses locations (λ p. Unit {0}) index claimed rooms free) where
+  module _ (index : FinMap text_cmp Position) (claims : Claims) (rooms : FinMap text_cmp (Unit {0})) (free : FinMap position_cmp (Unit {0})) (h : FindsEvses locations (λ p. Unit {0}) index claims rooms free) where
     module _ (one : OneEvseEach locations) (at : ℕ) (uid : List ℕ) where
       -- where the EVSE of a uid stands, if it is one of the location
       stands_there : (e : Evse) → IsCandidate locations at (Some uid) e → (j : ℕ) × IsEvseAt locations (at, j) e × HasEvse locations (at, j) (key uid)
@@ -97,18 +97,18 @@ module _ (locations : List Location) where
         no_uid none = let has = h.sound (key uid) p known in none has.evse has.at
 
     module _ (at : ℕ) where
-      -- an EVSE at a free position is not claimed
-      pub free_there : (j : ℕ) (e : Evse) → get free (at, j) ≡ Some tt → IsEvseAt locations (at, j) e → IsUnclaimed claimed (key e.uid)
+      -- an EVSE at a free position is not claims
+      pub free_there : (j : ℕ) (e : Evse) → get free (at, j) ≡ Some tt → IsEvseAt locations (at, j) e → IsUnclaimed claims (key e.uid)
       free_there j e is there =
           let was = h.free_sound (at, j) is in
           let same : was.1.evse ≡ e = one_evse locations (at, j) was.1.evse e was.1.at there in
-          subst (λ (x : Evse). IsUnclaimed claimed (key x.uid)) same (subst (IsUnclaimed claimed) (sym was.1.same) was.2)
+          subst (λ (x : Evse). IsUnclaimed claims (key x.uid)) same (subst (IsUnclaimed claims) (sym was.1.same) was.2)
 
       -- and stands at its position
       pub free_stands : (j : ℕ) → get free (at, j) ≡ Some tt → ((e : Evse) → IsEvseAt locations (at, j) e → ⊥) → ⊥
       free_stands j is none = let was = h.free_sound (at, j) is in none was.1.evse was.1.at
 
-      pub none_free : HasNone position_cmp free (λ q. q.0 ≡ at) → (uid : Option (List ℕ)) (e : Evse) → IsCandidate locations at uid e → IsUnclaimed claimed (key e.uid) → ⊥
+      pub none_free : HasNone position_cmp free (λ q. q.0 ≡ at) → (uid : Option (List ℕ)) (e : Evse) → IsCandidate locations at uid e → IsUnclaimed claims (key e.uid) → ⊥
       none_free none uid e c unclaimed =
           let p = position_of at uid e c in
           let is : get free (at, p.0) ≡ Some tt = h.free_complete (key e.uid) (at, p.0) tt (record { evse = e; at = p.1; same = refl }) unclaimed in

@@ -13,7 +13,8 @@ use Rattle.ocpi_types.specs.declared.site.Location.{Location}
 use Rattle.ocpi_types.specs.declared.site.Evse.{Evse}
 use Rattle.tables.specs.Keys.{text_cmp, text_total, text_exact, pair_exact}
 use Rattle.tables.proofs.Maps.{of_insert, get-insert_same, get-insert_other, get-remove_other, of_remove}
-use Rattle.site.specs.Places.{Claimed}
+use Rattle.site.specs.Places.{Claims}
+use Rattle.site.specs.declared.claim.Claim.{Claim}
 use Rattle.site.specs.Positions.{Position, position_cmp, IsEvseAt, HasEvse, HasLocation, OneEvseEach, FindsLocations, FindsEvses, IsBefore}
 
 pub position_total : IsTotalOrder position_cmp
@@ -92,8 +93,8 @@ module _ (locations : List Location) where
   all_locations index h = record { sound = h.sound; complete = λ id i b has. h.complete id i (slice_get_within locations i has.location has.stands) has }
 
   -- the index of no EVSE
-  pub no_evse : (claimed rooms : Claimed) → FindsEvses locations (IsBefore 0 0) empty claimed rooms empty
-  no_evse claimed rooms = record {
+  pub no_evse : (claims : Claims) (rooms : FinMap text_cmp (Unit {0})) → FindsEvses locations (IsBefore 0 0) empty claims rooms empty
+  no_evse claims rooms = record {
     sound = λ uid p e. absurd (none_some p _ (get-empty text_cmp uid) e);
     complete = λ uid p b h. absurd (none_before_first p b);
     room = λ uid p b h. absurd (none_before_first p b);
@@ -105,9 +106,9 @@ module _ (locations : List Location) where
       none_before_first p (inl h) = omega arith
       none_before_first p (inr h) = omega (arith, h.1)
 
-  module _ (index : FinMap text_cmp Position) (claimed rooms : Claimed) (free : FinMap position_cmp (Unit {0})) where
+  module _ (index : FinMap text_cmp Position) (claims : Claims) (rooms : FinMap text_cmp (Unit {0})) (free : FinMap position_cmp (Unit {0})) where
     -- at fewer positions
-    fewer : (P Q : Position → Type 0) → ((uid : List ℕ) (p : Position) → HasEvse locations p uid → Q p → P p) → FindsEvses locations P index claimed rooms free → FindsEvses locations Q index claimed rooms free
+    fewer : (P Q : Position → Type 0) → ((uid : List ℕ) (p : Position) → HasEvse locations p uid → Q p → P p) → FindsEvses locations P index claims rooms free → FindsEvses locations Q index claims rooms free
     fewer P Q within h = record {
       sound = h.sound;
       complete = λ uid p b has. h.complete uid p (within uid p has b) has;
@@ -117,11 +118,11 @@ module _ (locations : List Location) where
     }
 
     -- one more EVSE, while none is claimed
-    module _ (P Q : Position → Type 0) (p : Position) (uid : List ℕ) (or_here : (q : Position) → Q q → P q ⊎ (q ≡ p)) (h : FindsEvses locations P index claimed rooms free) (here : HasEvse locations p uid) where
+    module _ (P Q : Position → Type 0) (p : Position) (uid : List ℕ) (or_here : (q : Position) → Q q → P q ⊎ (q ≡ p)) (h : FindsEvses locations P index claims rooms free) (here : HasEvse locations p uid) where
       its_uid : (q : Position) (other : List ℕ) → q ≡ p → HasEvse locations q other → uid ≡ other
       its_uid q other is has = one_uid locations p uid other here (subst (λ z. HasEvse locations z other) is has)
 
-      one_more : ((other : List ℕ) → get claimed other ≡ None) → FindsEvses locations Q (insert index uid p) claimed (insert rooms uid tt) (insert free p tt)
+      one_more : ((other : List ℕ) → get claims other ≡ None) → FindsEvses locations Q (insert index uid p) claims (insert rooms uid tt) (insert free p tt)
       one_more unclaimed = record {
         sound = λ other q e. elim (of_insert text_total text_exact index uid p other q e) [
           | inl at ↦ subst (λ z. HasEvse locations z other) at.1 (subst (HasEvse locations p) (sym at.0) here)
@@ -146,8 +147,8 @@ module _ (locations : List Location) where
       }
 
     -- the next EVSE of a location
-    pub next_evse : (i j : ℕ) (uid : List ℕ) → ((other : List ℕ) → get claimed other ≡ None) → FindsEvses locations (IsBefore i j) index claimed rooms free → HasEvse locations (i, j) uid →
-        FindsEvses locations (IsBefore i (j + 1)) (insert index uid (i, j)) claimed (insert rooms uid tt) (insert free (i, j) tt)
+    pub next_evse : (i j : ℕ) (uid : List ℕ) → ((other : List ℕ) → get claims other ≡ None) → FindsEvses locations (IsBefore i j) index claims rooms free → HasEvse locations (i, j) uid →
+        FindsEvses locations (IsBefore i (j + 1)) (insert index uid (i, j)) claims (insert rooms uid tt) (insert free (i, j) tt)
     next_evse i j uid unclaimed h here = one_more (IsBefore i j) (IsBefore i (j + 1)) (i, j) uid or_here h here unclaimed
       where
         or_here : (q : Position) → IsBefore i (j + 1) q → IsBefore i j q ⊎ (q ≡ (i, j))
@@ -155,8 +156,8 @@ module _ (locations : List Location) where
         or_here q (inr at) = elim (below_more j q.1 at.1) [ inl less ↦ inl (inr (at.0, less)) | inr is ↦ inr (λ k. (at.0 k, is k)) ]
 
     -- the next location
-    pub next_location : (i j : ℕ) (l : Location) → slice_get locations i ≡ Some l → length l.evses ≤ j → FindsEvses locations (IsBefore i j) index claimed rooms free →
-        FindsEvses locations (IsBefore (i + 1) 0) index claimed rooms free
+    pub next_location : (i j : ℕ) (l : Location) → slice_get locations i ≡ Some l → length l.evses ≤ j → FindsEvses locations (IsBefore i j) index claims rooms free →
+        FindsEvses locations (IsBefore (i + 1) 0) index claims rooms free
     next_location i j l stands all h = fewer (IsBefore i j) (IsBefore (i + 1) 0) within h
       where
         in_location : (q : Position) (e : Evse) → IsEvseAt locations q e → q.0 ≡ i → q.1 < j
@@ -170,21 +171,21 @@ module _ (locations : List Location) where
         within uid q has (inr at) = absurd (omega (arith, at.1))
 
     -- all EVSEs
-    pub all_evses : FindsEvses locations (IsBefore (length locations) 0) index claimed rooms free → FindsEvses locations (λ p. Unit {0}) index claimed rooms free
+    pub all_evses : FindsEvses locations (IsBefore (length locations) 0) index claims rooms free → FindsEvses locations (λ p. Unit {0}) index claims rooms free
     all_evses h = fewer (IsBefore (length locations) 0) (λ p. Unit {0}) (λ uid p has b. inl (slice_get_within locations p.0 has.at.location has.at.stands)) h
 
     -- an EVSE is claimed
-    pub claimed_one : (p : Position) (uid : List ℕ) → OneEvseEach locations → FindsEvses locations (λ p. Unit {0}) index claimed rooms free → HasEvse locations p uid →
-        FindsEvses locations (λ p. Unit {0}) index (insert claimed uid tt) rooms (remove free p)
-    claimed_one p uid one h here = record {
+    pub claimed_one : (p : Position) (uid : List ℕ) (x : Claim) → OneEvseEach locations → FindsEvses locations (λ p. Unit {0}) index claims rooms free → HasEvse locations p uid →
+        FindsEvses locations (λ p. Unit {0}) index (insert claims uid x) rooms (remove free p)
+    claimed_one p uid x one h here = record {
       sound = h.sound;
       complete = h.complete;
       room = h.room;
       free_sound = λ q e.
           let old = of_remove position_total position_exact free p q tt e in
           let was = h.free_sound q old.1 in
-          (was.0, was.1, get-insert_other text_total text_exact claimed uid tt was.0 (λ same. old.0 (one was.0 q p was.1 (subst (HasEvse locations p) (sym same) here))) ∙ was.2);
+          (was.0, was.1, get-insert_other text_total text_exact claims uid x was.0 (λ same. old.0 (one was.0 q p was.1 (subst (HasEvse locations p) (sym same) here))) ∙ was.2);
       free_complete = λ other q b has none.
-          get-remove_other position_total position_exact free p q (λ is. none_some tt _ (ap (get (insert claimed uid tt)) (one_uid locations p uid other here (subst (λ z. HasEvse locations z other) is has)) ∙ none) (get-insert_same text_total text_exact claimed uid tt))
-          ∙ h.free_complete other q tt has (none_before text_total claimed uid other tt none);
+          get-remove_other position_total position_exact free p q (λ is. none_some x _ (ap (get (insert claims uid x)) (one_uid locations p uid other here (subst (λ z. HasEvse locations z other) is has)) ∙ none) (get-insert_same text_total text_exact claims uid x))
+          ∙ h.free_complete other q tt has (none_before text_total claims uid other x none);
     }

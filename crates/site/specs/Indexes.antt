@@ -9,7 +9,7 @@ use Rattle.site.specs.Positions.{Position, position_cmp, FindsLocations, FindsEv
 
 -- the EVSEs at the positions of P are found by them
 abbrev pub HaveEvses : List Location → (Position → Type 0) → Indexes → Type 0
-HaveEvses locations P t = FindsEvses locations P (shown_of text_cmp t.evses) (shown_of text_cmp t.claimed) (rooms_of text_cmp t.claimed) (shown_of position_cmp t.free)
+HaveEvses locations P t = FindsEvses locations P (shown_of text_cmp t.evses) (shown_of text_cmp t.claims) (rooms_of text_cmp t.claims) (shown_of position_cmp t.free)
 
 -- no other position has room in the table of those that are free
 abbrev pub HasFreeAlone : Indexes → Type 0
@@ -25,7 +25,7 @@ pub record AreIndexes (locations : List Location) (t : Indexes) : Type 0 where
 pub record AddsEvse (uid : List ℕ) (p : Position) (t u : Indexes) : Type 0 where
   pub locations_stay : u.locations ≡ t.locations
   pub evse : shown_of text_cmp u.evses ≡ insert (shown_of text_cmp t.evses) uid p
-  pub claimed_stay : shown_of text_cmp u.claimed ≡ shown_of text_cmp t.claimed
-  pub room : rooms_of text_cmp u.claimed ≡ insert (rooms_of text_cmp t.claimed) uid tt
+  pub claims_stay : shown_of text_cmp u.claims ≡ shown_of text_cmp t.claims
+  pub room : rooms_of text_cmp u.claims ≡ insert (rooms_of text_cmp t.claims) uid tt
   pub free_there : shown_of position_cmp u.free ≡ insert (shown_of position_cmp t.free) p tt
   pub free_room : rooms_of position_cmp u.free ≡ insert (rooms_of position_cmp t.free) p tt

@@ -8,15 +8,16 @@ use Rattle.ocpi_types.specs.declared.site.Location.{Location}
 use Rattle.ocpi_types.specs.declared.site.Evse.{Evse}
 use Rattle.ocpi_types.specs.declared.site.Connector.{Connector}
 use Rattle.tables.specs.Keys.{text_cmp}
+use Rattle.site.specs.declared.claim.Claim.{Claim}
 
--- the EVSEs that are claimed, by the keys of their uids
-abbrev pub Claimed : Type 0
-Claimed = FinMap text_cmp (Unit {0})
+-- the claims on EVSEs, by the keys of their uids
+abbrev pub Claims : Type 0
+Claims = FinMap text_cmp Claim
 
--- a site, and its EVSEs that are claimed
+-- a site, and the claims on its EVSEs
 pub record Placed : Type 0 where
   pub site : Site
-  pub claimed : Claimed
+  pub claims : Claims
 
 -- a location of the list that has the id
 pub record IsLocation (locations : List Location) (id : List ℕ) (l : Location) : Type 0 where
@@ -48,5 +49,5 @@ pub record IsEvse (locations : List Location) (uid : List ℕ) : Type 0 where
   pub same : key evse.uid ≡ uid
 
 -- the EVSE of that key is not claimed
-abbrev pub IsUnclaimed : Claimed → List ℕ → Type 0
-IsUnclaimed claimed uid = get claimed uid ≡ None
+abbrev pub IsUnclaimed : Claims → List ℕ → Type 0
+IsUnclaimed claims uid = get claims uid ≡ None

@@ -7,7 +7,7 @@ use Rattle.ocpi_text.specs.Text.{key}
 use Rattle.ocpi_types.specs.declared.site.Location.{Location}
 use Rattle.ocpi_types.specs.declared.site.Evse.{Evse}
 use Rattle.tables.specs.Keys.{text_cmp, pair_cmp}
-use Rattle.site.specs.Places.{Claimed, IsNamed}
+use Rattle.site.specs.Places.{Claims, IsNamed}
 
 -- the position of an EVSE: that of its location in the list, and its own in the location's list
 abbrev pub Position : Type 0
@@ -46,12 +46,12 @@ pub record FindsLocations (locations : List Location) (P : ℕ → Type 0) (inde
 
 -- the index finds EVSEs by their uids, and `free` has those that are not claimed: each of those at the positions of P;
 -- each of these has room for a claim
-pub record FindsEvses (locations : List Location) (P : Position → Type 0) (index : FinMap text_cmp Position) (claimed rooms : Claimed) (free : FinMap position_cmp (Unit {0})) : Type 0 where
+pub record FindsEvses (locations : List Location) (P : Position → Type 0) (index : FinMap text_cmp Position) (claims : Claims) (rooms : FinMap text_cmp (Unit {0})) (free : FinMap position_cmp (Unit {0})) : Type 0 where
   pub sound : (uid : List ℕ) (p : Position) → get index uid ≡ Some p → HasEvse locations p uid
   pub complete : (uid : List ℕ) (p : Position) → P p → HasEvse locations p uid → IsTrue (contains_key index uid)
   pub room : (uid : List ℕ) (p : Position) → P p → HasEvse locations p uid → IsTrue (contains_key rooms uid)
-  pub free_sound : (p : Position) → get free p ≡ Some tt → (uid : List ℕ) × HasEvse locations p uid × (get claimed uid ≡ None)
-  pub free_complete : (uid : List ℕ) (p : Position) → P p → HasEvse locations p uid → get claimed uid ≡ None → get free p ≡ Some tt
+  pub free_sound : (p : Position) → get free p ≡ Some tt → (uid : List ℕ) × HasEvse locations p uid × (get claims uid ≡ None)
+  pub free_complete : (uid : List ℕ) (p : Position) → P p → HasEvse locations p uid → get claims uid ≡ None → get free p ≡ Some tt
 
 -- the positions before that of the EVSE j of the location i
 abbrev pub IsBefore : ℕ → ℕ → Position → Type 0

@@ -8,7 +8,8 @@ ghost use Rattle.tables.specs.Tables.{shown_of};
 ghost use Rattle.site.specs.Indexes.{HaveEvses, HasFreeAlone, AreIndexes, AddsEvse};
 ghost use Rattle.site.specs.Positions.{IsBefore};
 
-use ocpi_text::CiText;
+use crate::claim::Claim;
+use ocpi_text::{CiKey, CiText};
 use ocpi_types::Location;
 use std::alloc::{AllocError, Global};
 use tables::Table;
@@ -18,11 +19,11 @@ use tables::Table;
 #[derive(Drop)]
 pub(crate) struct Indexes {
     /// The position of each location, by its id.
-    pub(crate) locations: Table<CiText<36>, usize>,
+    pub(crate) locations: Table<CiKey<36>, usize>,
     /// The position of each EVSE, by its uid.
-    pub(crate) evses: Table<CiText<36>, (usize, usize)>,
-    /// The uids of the EVSEs that are claimed. Each EVSE has room.
-    pub(crate) claimed: Table<CiText<36>, ()>,
+    pub(crate) evses: Table<CiKey<36>, (usize, usize)>,
+    /// The claim on each EVSE that has one, by its uid. Each EVSE has room.
+    pub(crate) claims: Table<CiKey<36>, Claim>,
     /// The positions of the EVSEs that are not claimed.
     pub(crate) free: Table<(usize, usize), ()>,
 }
@@ -34,7 +35,7 @@ impl Indexes {
     {
         let uid = uid.key();
         self.evses.insert(uid, position)?;
-        self.claimed.reserve(uid)?;
+        self.claims.reserve(uid)?;
         self.free.insert(position, ())?;
         Ok(())
     }
@@ -42,11 +43,11 @@ impl Indexes {
     /// Adds the EVSEs of the location that stands at `i`, where those of the locations before it are added.
     fn add_evses(&mut self, locations: &[Location], i: usize) -> Result<(), AllocError>
         requires within { i < length locations.now }
-        requires unclaimed { shown_of text_cmp self.old.claimed ≡ map.empty }
+        requires unclaimed { shown_of text_cmp self.old.claims ≡ map.empty }
         requires before { HaveEvses locations.now (IsBefore i 0) self.old }
         requires free_alone { HasFreeAlone self.old }
         ensures found { OnOk result (HaveEvses locations.now (IsBefore (i + 1) 0) self.new) }
-        ensures unclaimed { OnOk result (shown_of text_cmp self.new.claimed ≡ map.empty) }
+        ensures unclaimed { OnOk result (shown_of text_cmp self.new.claims ≡ map.empty) }
         ensures free_alone { OnOk result (HasFreeAlone self.new) }
         ensures locations_stay { OnOk result (self.new.locations ≡ self.old.locations) }
     {
@@ -59,12 +60,12 @@ impl Indexes {
     /// The indexes of the locations, where no EVSE is claimed. An error is want of memory.
     pub(crate) fn new(alloc: Global, locations: &[Location]) -> Result<Indexes, AllocError>
         ensures found { IfOk result (λ t. AreIndexes locations.now t) }
-        ensures unclaimed { IfOk result (λ t. shown_of text_cmp t.claimed ≡ map.empty) }
+        ensures unclaimed { IfOk result (λ t. shown_of text_cmp t.claims ≡ map.empty) }
     {
         let mut indexes = Indexes {
             locations: Table::new(alloc),
             evses: Table::new(alloc),
-            claimed: Table::new(alloc),
+            claims: Table::new(alloc),
             free: Table::new(alloc),
         };
         for (i, location) in locations.iter().enumerate() {

@@ -9,6 +9,7 @@ ghost use Rattle.ocpi_types.specs.declared.site.Connector.{Connector};
 ghost use Rattle.site.specs.Places.{IsLocation, IsEvse, Fits, IsUnclaimed};
 ghost use Rattle.site.specs.Positions.{IsCandidate};
 
+use crate::claim::Claim;
 use crate::evses::{evse_at, place_of};
 use crate::indexes::Indexes;
 use ocpi_text::CiText;
@@ -37,7 +38,7 @@ impl Model for Places {
 
     ghost coded = { Prim.hlevel (codes, map.code) };
 
-    ghost view = { λ p. record { site = p.site; claimed = shown_of text_cmp p.indexes.claimed } };
+    ghost view = { λ p. record { site = p.site; claims = shown_of text_cmp p.indexes.claims } };
 
     ghost invariant = { λ p. OneEvseEach p.site.locations × AreIndexes p.site.locations p.indexes };
 }
@@ -45,7 +46,7 @@ impl Model for Places {
 impl Places {
     /// The site, with no EVSE claimed. An error is want of memory.
     pub fn new(alloc: Global, site: Site) -> Result<Places, AllocError>
-        ensures { IfOk result (λ p. p ≡ record { site = site; claimed = map.empty }) }
+        ensures { IfOk result (λ p. p ≡ record { site = site; claims = map.empty }) }
     {
         let indexes = Indexes::new(alloc, site.locations.as_slice())?;
         Ok(Places { site, indexes })
@@ -105,8 +106,8 @@ impl Places {
     /// The first EVSE of the location that stands there of those that are not claimed.
     fn first_free_evse(&self, at: usize) -> Option<&Evse>
         ensures found { IfSome result (λ e. IsCandidate self.now.site.locations at None e.now) }
-        ensures free { IfSome result (λ e. IsUnclaimed self.now.claimed (key e.now.uid)) }
-        ensures none { IfNone result ((e : Evse) → IsCandidate self.now.site.locations at None e → IsUnclaimed self.now.claimed (key e.uid) → ⊥) }
+        ensures free { IfSome result (λ e. IsUnclaimed self.now.claims (key e.now.uid)) }
+        ensures none { IfNone result ((e : Evse) → IsCandidate self.now.site.locations at None e → IsUnclaimed self.now.claims (key e.uid) → ⊥) }
     {
         let (place, _) = self.indexes.free.first_with(at, 0)?;
         evse_at(self.site.locations.as_slice(), (at, place))
@@ -116,15 +117,15 @@ impl Places {
     /// named.
     fn free_evse(&self, at: usize, uid: &Option<CiText<36>>) -> Option<&Evse>
         ensures found { IfSome result (λ e. IsCandidate self.now.site.locations at uid.now e.now) }
-        ensures free { IfSome result (λ e. IsUnclaimed self.now.claimed (key e.now.uid)) }
+        ensures free { IfSome result (λ e. IsUnclaimed self.now.claims (key e.now.uid)) }
         ensures sole { IfSome result (λ e. IsSome uid.now → (f : Evse) → IsCandidate self.now.site.locations at uid.now f → f ≡ e.now) }
-        ensures none { IfNone result ((e : Evse) → IsCandidate self.now.site.locations at uid.now e → IsUnclaimed self.now.claimed (key e.uid) → ⊥) }
+        ensures none { IfNone result ((e : Evse) → IsCandidate self.now.site.locations at uid.now e → IsUnclaimed self.now.claims (key e.uid) → ⊥) }
     {
         match uid {
             None => self.first_free_evse(at),
             Some(uid) => {
                 let evse = self.named_evse(at, uid)?;
-                if self.indexes.claimed.contains(evse.uid.key()) {
+                if self.indexes.claims.contains(evse.uid.key()) {
                     return None;
                 }
                 Some(evse)
@@ -140,21 +141,21 @@ impl Places {
         connector_id: &Option<CiText<36>>,
     ) -> Option<Place>
         requires { IsSome connector_id.now × IsNone evse_uid.now → ⊥ }
-        ensures found { IfSome result (λ p. (l : Location) → slice_get self.now.site.locations at ≡ Some l → (e : Evse) × (k : Connector) × Fits l.evses evse_uid.now connector_id.now e k × IsUnclaimed self.now.claimed (key e.uid) × (p ≡ record { evse_uid = e.uid; connector_id = k.id })) }
-        ensures none { IfNone result ((l : Location) → slice_get self.now.site.locations at ≡ Some l → (e : Evse) (k : Connector) → Fits l.evses evse_uid.now connector_id.now e k → IsUnclaimed self.now.claimed (key e.uid) → ⊥) }
+        ensures found { IfSome result (λ p. (l : Location) → slice_get self.now.site.locations at ≡ Some l → (e : Evse) × (k : Connector) × Fits l.evses evse_uid.now connector_id.now e k × IsUnclaimed self.now.claims (key e.uid) × (p ≡ record { evse_uid = e.uid; connector_id = k.id })) }
+        ensures none { IfNone result ((l : Location) → slice_get self.now.site.locations at ≡ Some l → (e : Evse) (k : Connector) → Fits l.evses evse_uid.now connector_id.now e k → IsUnclaimed self.now.claims (key e.uid) → ⊥) }
     {
         let evse = self.free_evse(at, evse_uid)?;
         place_of(evse, connector_id)
     }
 
-    /// Claims the EVSE of a uid, which may be claimed already. It takes no memory.
-    pub fn claim(&mut self, evse: &CiText<36>)
+    /// Claims the EVSE of a uid, in place of the claim on it if there is one. It takes no memory.
+    pub fn put_claim(&mut self, evse: &CiText<36>, claim: Claim)
         requires { IsEvse self.old.site.locations (key evse.now) }
-        ensures { self.new ≡ record self.old { claimed = map.insert self.old.claimed (key evse.now) tt } }
+        ensures { self.new ≡ record self.old { claims = map.insert self.old.claims (key evse.now) claim } }
     {
         let uid = evse.key();
         let position = *self.indexes.evses.get(uid).unwrap();
-        self.indexes.claimed.put(uid, ());
+        self.indexes.claims.put(uid, claim);
         self.indexes.free.remove(position);
     }
 }

@@ -10,8 +10,8 @@ use Rattle.operator_core.proofs.operator.Operator.decide.Goals as goal
 pub returns-in_ok-again-in-Some-clause-step : goal.returns-in_ok-again-in-Some-clause-step
 returns-in_ok-again-in-Some-clause-step c =
     let r : IsRequest c.args.self.now c.args.at c.args.packet.now c.in_ok-request.request = c.in_ok-request.ensures.request in
-    let held = ap (λ (z : State). z.replies) c.self.view_is in
-    let has : get c.args.self.now.replies (key c.args.packet.now.from, c.args.packet.now.request) ≡ Some c.in-Some.reply = cc in
+    let held = ap (λ (z : State). z.commands.replies) c.self.view_is in
+    let has : get c.args.self.now.commands.replies (key c.args.packet.now.from, c.args.packet.now.request) ≡ Some c.in-Some.reply = cc in
     record {
       to = r.to;
       kind = (c.in-StartSession.command, c.in-StartSession.is);
@@ -24,8 +24,8 @@ returns-in_ok-again-in-Some-clause-step c =
 pub returns-in_ok-start-in-None-clause-step : goal.returns-in_ok-start-in-None-clause-step
 returns-in_ok-start-in-None-clause-step c =
     let r : IsRequest c.args.self.now c.args.at c.args.packet.now c.in_ok-request.request = c.in_ok-request.ensures.request in
-    let held = ap (λ (z : State). z.replies) c.self.view_is in
-    let new : get c.args.self.now.replies (key c.args.packet.now.from, c.args.packet.now.request) ≡ None = cc in
+    let held = ap (λ (z : State). z.commands.replies) c.self.view_is in
+    let new : get c.args.self.now.commands.replies (key c.args.packet.now.from, c.args.packet.now.request) ≡ None = cc in
     let step = rw (r.moment, r.provider, r.number) at c.in_ok-start-in-None.ensures in
     record {
       to = r.to;

@@ -1,9 +1,13 @@
 use Rattle.ocpi_text.specs.Text.{key}
-use Rattle.operator_core.proofs.Applied.{step_at_site, step_indexed, step_consistent}
+use Rattle.operator_core.proofs.Applied.{step_apart, step_at_site, step_indexed, step_consistent}
 use Rattle.operator_core.proofs.ClaimChanges.{step_claims}
 use Rattle.operator_core.proofs.Consistency.{unopened}
 use Rattle.operator_core.proofs.RowChanges.{step_changes}
 use Rattle.operator_core.proofs.operator.Operator.on_packet.Goals as goal
+
+pub apply-requires-clause-apart : goal.apply-requires-clause-apart
+apply-requires-clause-apart c =
+    rw (c.in_ok-stored.ensures, c.as_slice.ensures.value) (step_apart _ c.args.at c.args.packet.now _ (rw (← c.self.view_is) at c.in_ok-stepped.ensures.step))
 
 pub claim_all-requires : goal.claim_all-requires
 claim_all-requires c = rw c.as_slice-3.ensures.value (step_at_site _ c.args.at c.args.packet.now _ (rw (← c.self.view_is) at c.in_ok-stepped.ensures.step))
@@ -18,7 +22,7 @@ pub returns-clause-claims : goal.returns-clause-claims
 returns-clause-claims c =
     let step = rw (← c.self.view_is) at c.in_ok-stepped.ensures.step in
     rw (c.claim_all.ensures, c.apply.ensures, c.in_ok-stored.ensures, c.as_slice.ensures.value, c.in_ok-make_room.ensures.rows, ← c.self.view_is)
-    (step_claims _ c.args.at c.args.packet.now _ (unopened _ _ _ c.self.invariant.1 (key c.args.packet.now.from, c.args.packet.now.request)) step)
+    (step_claims _ c.args.at c.args.packet.now _ (unopened _ _ c.self.invariant.1 (key c.args.packet.now.from, c.args.packet.now.request)) step)
 
 pub returns-clause-rows : goal.returns-clause-rows
 returns-clause-rows c =

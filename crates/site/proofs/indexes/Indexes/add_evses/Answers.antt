@@ -16,7 +16,7 @@ loop-j-preserved c =
     subst (λ (es : List Evse). slice_get es c.loop-j.j ≡ Some evse) evses (slice_get_read _ _ c.loop-j.j evse refl c.loop-j-test.true c.evse-item.is) in
     record {
       found = evse_added c.args.locations.now c.args.i c.loop-j.j location evse c.loop-j.self c.add_evse.new.self stands within c.loop-j.invariant.found c.loop-j.invariant.unclaimed c.in_ok-add_evse.ensures;
-      unclaimed = c.in_ok-add_evse.ensures.claimed_stay ∙ c.loop-j.invariant.unclaimed;
+      unclaimed = c.in_ok-add_evse.ensures.claims_stay ∙ c.loop-j.invariant.unclaimed;
       free_alone = free_added _ _ _ _ c.loop-j.invariant.free_alone c.in_ok-add_evse.ensures;
       locations_stay = c.in_ok-add_evse.ensures.locations_stay ∙ c.loop-j.invariant.locations_stay;
     }

@@ -9,7 +9,7 @@ use Rattle.site.proofs.indexes.Indexes.add_evses.Given as goal
 abbrev pub invariant-loop-j : goal.invariant-loop-j
 invariant-loop-j l = record {
   found : HaveEvses l.locations (IsBefore l.i l.j) l.self;
-  unclaimed : shown_of text_cmp l.self.claimed ≡ empty;
+  unclaimed : shown_of text_cmp l.self.claims ≡ empty;
   free_alone : HasFreeAlone l.self;
   locations_stay : l.self.locations ≡ l.initial.self.locations;
 }

@@ -10,6 +10,6 @@ abbrev pub invariant-loop-i : goal.invariant-loop-i
 invariant-loop-i l = record {
   located : FindsLocations l.locations (λ j. j < l.i) (shown_of text_cmp l.indexes.locations);
   found : HaveEvses l.locations (IsBefore l.i 0) l.indexes;
-  unclaimed : shown_of text_cmp l.indexes.claimed ≡ empty;
+  unclaimed : shown_of text_cmp l.indexes.claims ≡ empty;
   free_alone : HasFreeAlone l.indexes;
 }

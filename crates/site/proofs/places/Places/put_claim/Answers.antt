@@ -7,7 +7,7 @@ use Rattle.tables.specs.Tables.{shown_of}
 use Rattle.site.specs.Positions.{Position, position_cmp}
 use Rattle.site.proofs.Finding.{known_uid}
 use Rattle.site.proofs.Indexing.{claimed_one}
-use Rattle.site.proofs.places.Places.claim.Goals as goal
+use Rattle.site.proofs.places.Places.put_claim.Goals as goal
 
 lent : {A : Type 0} (r : Option (Bor A)) → is_some (option_copied r) ≡ true → is_some r ≡ true
 lent None e = e
@@ -28,7 +28,7 @@ invariant_of-self c =
     let known : get (shown_of text_cmp c.self.inside.indexes.evses) (key c.args.evse.now) ≡ Some c.unwrap-position.result.now =
     ap (get (shown_of text_cmp c.self.inside.indexes.evses)) (sym c.key-uid.ensures) ∙ sym c.get.ensures ∙ ap (λ (r : Option (Bor Position)). option_copied r) c.unwrap-position.ensures in
     let there = c.self.invariant.1.evses_found.sound (key c.args.evse.now) c.unwrap-position.result.now known in
-    let claimed = claimed_one _ _ _ _ _ c.unwrap-position.result.now (key c.args.evse.now) c.self.invariant.0 c.self.invariant.1.evses_found there in (
+    let claimed = claimed_one _ _ _ _ _ c.unwrap-position.result.now (key c.args.evse.now) c.args.claim c.self.invariant.0 c.self.invariant.1.evses_found there in (
       c.self.invariant.0,
       record {
         locations_found = c.self.invariant.1.locations_found;
