@@ -25,6 +25,7 @@ pub mod ReadAgain
 pub mod ReadSites
 pub mod Repeats
 pub mod ReplyLemmas
+pub mod RowKeyLemmas
 pub mod Said
 pub mod Seen
 pub mod SessionLemmas

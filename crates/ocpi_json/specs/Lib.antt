@@ -17,6 +17,7 @@ pub mod Packets
 pub mod Pieces
 pub mod Quote
 pub mod ReplyForms
+pub mod RowKeys
 pub mod SeenIds
 pub mod SessionForms
 pub mod SetupForms

@@ -1,0 +1,201 @@
+-- The text of a key tells the key, and the parts of a key are read just from the texts that they make.
+use Rattle.std.proofs.Common.{◌≡◌, ℕ, ◌<◌, ◌≤◌, ◌^◌, Bool, true, false, cond, List, [], ◌∷◌, ◌++◌, length, take, drop, get_or, decimal, Option, Some, None, Result, Ok, Err, refl, sym, subst, ap, ◌∙◌, arith, length-append, eqb-true, eq-eqb}
+use Rattle.std.specs.Prelude.{◌==◌, ◌&&◌, nat_lt, nat_le, unwrap_or}
+use Rattle.std.specs.Char.{is_ascii_digit}
+use Rattle.std.specs.List.{list_all}
+use Rattle.std.specs.Str.{IsCharBoundary, IsUtf8, all_ascii_digits, bytes_eq}
+use Rattle.std.specs.Str.Parse.{digits_value}
+use Rattle.std.proofs.lemmas.Bool.{and_parts, and_from, ne_eqb}
+use Rattle.std.proofs.lemmas.Bool.Decides.{nat_tests}
+use Rattle.std.proofs.lemmas.Fmt.{digits_decimal, decimal_nonempty, first_decimal, digits_value-decimal, decimal-digits_value}
+use Rattle.std.proofs.lemmas.List.{take_at, drop_at, drop_more, take-append-drop, get_or-append_right}
+use Rattle.std.proofs.lemmas.Slice.Eq.{bytes_eq-Decides}
+use Rattle.std.proofs.lemmas.Str.{IsCharBoundary-after_ascii}
+use Rattle.ocpi_text.specs.Party.{party_at, is_party_shape}
+use Rattle.ocpi_text.specs.Text.{ci_text, key}
+use Rattle.ocpi_text.specs.Whole.{is_whole, max_whole, whole_at}
+use Rattle.ocpi_text.specs.declared.fault.TextFault.{TextFault}
+use Rattle.ocpi_text.specs.declared.fault.TextFault.TheVariants.{TooLong, BadNumber, NumberTooLarge}
+use Rattle.ocpi_text.proofs.Again.{ci_again, whole_again}
+use Rattle.ocpi_text.proofs.Digits.{own, digits_same, has_digits}
+use Rattle.ocpi_text.proofs.Parties.{party_parts, ci_text_is}
+use Rattle.ocpi_types.specs.Rows.{counter_name}
+use Rattle.ocpi_types.specs.Words.{token_type_word}
+use Rattle.ocpi_types.specs.declared.rows.Counter.{Counter}
+use Rattle.ocpi_types.specs.declared.rows.Counter.TheVariants as counter
+use Rattle.ocpi_types.specs.declared.rows.RowKey.{RowKey}
+use Rattle.ocpi_types.specs.declared.rows.RowKey.TheVariants as keys
+use Rattle.ocpi_types.specs.declared.words.TokenType.{TokenType}
+use Rattle.ocpi_types.specs.declared.words.TokenType.TheVariants as type
+use Rattle.ocpi_json.specs.Fits.{FitsCi}
+use Rattle.ocpi_json.specs.RowKeys.{row_kind_word, row_kind_of, kind_of_key, key_text, IsPartyKey, IsCiKey, KeyFits, KeysAreApart, counter_at, in_key_form, ci_key_at, taken, number_at, front_party, joined, party_number_at, party_id_at}
+use Rattle.ocpi_json.specs.declared.row_keys.PartyId.{PartyId}
+use Rattle.ocpi_json.specs.declared.row_keys.PartyNumber.{PartyNumber}
+use Rattle.ocpi_json.specs.declared.row_kinds.RowKind.{RowKind}
+use Rattle.ocpi_json.specs.declared.row_kinds.RowKind.TheVariants as kind
+
+some_is : {X : Type 0} (x y : X) → Some x ≡ Some y → x ≡ y
+some_is x y e = cc
+
+-- ---- a party in front of a stroke
+
+six : (p : List ℕ) → IsPartyKey p → length p ≡ 6
+six p h = (party_parts p h.party).characters
+
+front_is : (p r : List ℕ) → IsPartyKey p → take 6 (p ++ 47 ∷ r) ≡ p
+front_is p r h = take_at p (47 ∷ r) 6 (six p h)
+
+stroke_is : (p r : List ℕ) → IsPartyKey p → get_or (p ++ 47 ∷ r) 6 0 ≡ 47
+stroke_is p r h = get_or-append_right p (47 ∷ r) 6 6 0 (six p h) (omega arith)
+
+behind_is : (p r : List ℕ) → IsPartyKey p → drop 7 (p ++ 47 ∷ r) ≡ r
+behind_is p r h =
+    let n = six p h in
+    let some : 6 < length (p ++ 47 ∷ r) = omega (arith, length-append p (47 ∷ r)) in
+    let whole = sym (drop_more (p ++ 47 ∷ r) 6 0 some) ∙ drop_at p (47 ∷ r) 6 n in
+    ap (drop 1) whole
+
+-- a text with a stroke at that place is longer
+pub reaches : (s : List ℕ) → (get_or s 6 0 == 47) ≡ true → 6 < length s
+reaches [] e = absurd cc
+reaches (a ∷ []) e = absurd cc
+reaches (a ∷ b ∷ []) e = absurd cc
+reaches (a ∷ b ∷ c ∷ []) e = absurd cc
+reaches (a ∷ b ∷ c ∷ d ∷ []) e = absurd cc
+reaches (a ∷ b ∷ c ∷ d ∷ f ∷ []) e = absurd cc
+reaches (a ∷ b ∷ c ∷ d ∷ f ∷ g ∷ []) e = absurd cc
+reaches (a ∷ b ∷ c ∷ d ∷ f ∷ g ∷ h ∷ r) e = omega arith
+
+-- so it may be cut behind the stroke
+pub cut_behind : (s : List ℕ) → IsUtf8 s → (get_or s 6 0 == 47) ≡ true → IsCharBoundary s 7
+cut_behind s u e = let is = eqb-true (get_or s 6 0) 47 e in IsCharBoundary-after_ascii s 6 u (reaches s e) (omega arith)
+
+apart_at_stroke : (s : List ℕ) → (get_or s 6 0 == 47) ≡ true → s ≡ take 6 s ++ 47 ∷ drop 7 s
+apart_at_stroke s e =
+    let tail : drop 6 s ≡ 47 ∷ drop 7 s = drop_more s 6 0 (reaches s e) ∙ ap (λ (x : ℕ). x ∷ drop 7 s) (eqb-true (get_or s 6 0) 47 e) in
+    sym (take-append-drop 6 s) ∙ ap (λ (l : List ℕ). take 6 s ++ l) tail
+
+-- ---- the text tells the key
+
+-- what a text stands for among the keys of a kind; of no meaning for texts of no key
+type_told : List ℕ → TokenType
+type_told r = cond (get_or r 0 0 == 79) type.Other (cond (get_or r 0 0 == 82) type.Rfid (cond (get_or r 1 0 == 68) type.AdHocUser type.AppUser))
+
+uid_told : TokenType → List ℕ → List ℕ
+uid_told type.AdHocUser r = drop 12 r
+uid_told type.AppUser r = drop 9 r
+uid_told type.Other r = drop 6 r
+uid_told type.Rfid r = drop 5 r
+
+told : RowKind → List ℕ → RowKey
+told kind.Count s = keys.Count (unwrap_or (counter_at s) counter.Serial)
+told kind.Reply s = keys.Reply (take 6 s) (digits_value 10 (drop 7 s))
+told kind.Token s = keys.Token (take 6 s) (type_told (drop 7 s)) (uid_told (type_told (drop 7 s)) (drop 7 s))
+told kind.Push s = keys.Push (digits_value 10 s)
+told kind.Service s = keys.Service s
+told kind.Spent s = keys.Spent (take 6 s) (drop 7 s)
+told kind.Mark s = keys.Mark (take 6 s) (drop 7 s)
+told kind.Reservation s = keys.Reservation (take 6 s) (drop 7 s)
+told kind.Pending s = keys.Pending (take 6 s) (digits_value 10 (drop 7 s))
+told kind.Result s = keys.Result (take 6 s) (digits_value 10 (drop 7 s))
+told kind.Session s = keys.Session (take 6 s) (drop 7 s)
+told kind.Cdr s = keys.Cdr (take 6 s) (drop 7 s)
+told kind.Command s = keys.Command (digits_value 10 s)
+
+counter_told : (c : Counter) → counter_at (counter_name c) ≡ Some c
+counter_told counter.Serial = refl
+counter_told counter.Request = refl
+counter_told counter.Session = refl
+counter_told counter.Cdr = refl
+counter_told counter.Reference = refl
+
+type_again : (t : TokenType) (uid : List ℕ) → type_told (token_type_word t ++ 47 ∷ uid) ≡ t
+unfolding type_told
+type_again type.AdHocUser uid = refl
+type_again type.AppUser uid = refl
+type_again type.Other uid = refl
+type_again type.Rfid uid = refl
+
+uid_again : (t : TokenType) (uid : List ℕ) → uid_told t (token_type_word t ++ 47 ∷ uid) ≡ uid
+unfolding uid_told
+uid_again type.AdHocUser uid = refl
+uid_again type.AppUser uid = refl
+uid_again type.Other uid = refl
+uid_again type.Rfid uid = refl
+
+number_again : (n : ℕ) → n ≤ max_whole → digits_value 10 (decimal n) ≡ n
+number_again n le = digits_value-decimal own n (omega arith)
+
+told_again : (k : RowKey) → KeyFits k → told (kind_of_key k) (key_text k) ≡ k
+unfolding told key_text
+told_again (keys.Count c) fits = rw (counter_told c) refl
+told_again (keys.Reply p n) fits = rw (front_is p (decimal n) fits.0, behind_is p (decimal n) fits.0, number_again n fits.1) refl
+told_again (keys.Token p t uid) fits =
+    let rest = token_type_word t ++ 47 ∷ uid in
+    rw (front_is p rest fits.0, behind_is p rest fits.0, type_again t uid, uid_again t uid) refl
+told_again (keys.Push n) fits = rw (number_again n fits) refl
+told_again (keys.Service uid) fits = refl
+told_again (keys.Spent p id) fits = rw (front_is p id fits.0, behind_is p id fits.0) refl
+told_again (keys.Mark p id) fits = rw (front_is p id fits.0, behind_is p id fits.0) refl
+told_again (keys.Reservation p id) fits = rw (front_is p id fits.0, behind_is p id fits.0) refl
+told_again (keys.Pending p n) fits = rw (front_is p (decimal n) fits.0, behind_is p (decimal n) fits.0, number_again n fits.1) refl
+told_again (keys.Result p n) fits = rw (front_is p (decimal n) fits.0, behind_is p (decimal n) fits.0, number_again n fits.1) refl
+told_again (keys.Session p id) fits = rw (front_is p id fits.0, behind_is p id fits.0) refl
+told_again (keys.Cdr p id) fits = rw (front_is p id fits.0, behind_is p id fits.0) refl
+told_again (keys.Command n) fits = rw (number_again n fits) refl
+
+pub kind_again : (k : RowKind) → row_kind_of (row_kind_word k) ≡ Some k
+kind_again kind.Count = refl
+kind_again kind.Reply = refl
+kind_again kind.Token = refl
+kind_again kind.Push = refl
+kind_again kind.Service = refl
+kind_again kind.Spent = refl
+kind_again kind.Mark = refl
+kind_again kind.Reservation = refl
+kind_again kind.Pending = refl
+kind_again kind.Result = refl
+kind_again kind.Session = refl
+kind_again kind.Cdr = refl
+kind_again kind.Command = refl
+
+same_kind : (k l : RowKind) → row_kind_word k ≡ row_kind_word l → k ≡ l
+same_kind k l e = some_is k l (sym (kind_again k) ∙ ap row_kind_of e ∙ kind_again l)
+
+pub keys_are_apart : KeysAreApart
+keys_are_apart k l fits others = (
+  λ h. sym (told_again k fits) ∙ ap (λ (i : RowKind). told i (key_text k)) (same_kind (kind_of_key k) (kind_of_key l) h.0) ∙ ap (told (kind_of_key l)) h.1 ∙ told_again l others,
+  λ e. (ap (λ (m : RowKey). row_kind_word (kind_of_key m)) e, ap key_text e),
+)
+
+-- ---- a reader of a key's text finds a value just where the value fits and makes that text
+
+pub record Reads {X : Type 0} (reader : List ℕ → Option X) (Fits : X → Type 0) (text : X → List ℕ) : Type 0 where
+  pub sound : (s : List ℕ) (x : X) → reader s ≡ Some x → Fits x × (s ≡ text x)
+  pub complete : (x : X) → Fits x → reader (text x) ≡ Some x
+
+counter_by : (s : List ℕ) (c d : Counter) (b : Bool) (o : Option Counter) → bytes_eq s (counter_name d) ≡ b → cond b (Some d) o ≡ Some c → (o ≡ Some c → s ≡ counter_name c) → s ≡ counter_name c
+counter_by s c d true o t e rest = (bytes_eq-Decides s (counter_name d)).0 t ∙ ap counter_name (some_is d c e)
+counter_by s c d false o t e rest = rest e
+
+no_counter : (s : List ℕ) (c : Counter) → None ≡ Some c → s ≡ counter_name c
+no_counter s c e = absurd cc
+
+counter_sound : (s : List ℕ) (c : Counter) → counter_at s ≡ Some c → s ≡ counter_name c
+counter_sound s c e =
+    counter_by s c counter.Serial _ _ refl e (λ e. counter_by s c counter.Request _ _ refl e (λ e. counter_by s c counter.Session _ _ refl e (λ e.
+    counter_by s c counter.Cdr _ _ refl e (λ e. counter_by s c counter.Reference _ _ refl e (no_counter s c)))))
+
+pub counter_reads : Reads counter_at (λ c. Unit {0}) counter_name
+counter_reads = record { sound = λ s c e. (tt, counter_sound s c e); complete = λ c fits. counter_told c }
+
+own_by : (s t : List ℕ) (b : Bool) → bytes_eq (key s) s ≡ b → cond b (Some s) None ≡ Some t → (s ≡ t) × (key t ≡ t)
+own_by s t true test e = let is = some_is s t e in (is, subst (λ (u : List ℕ). key u ≡ u) is ((bytes_eq-Decides (key s) s).0 test))
+own_by s t false test e = absurd cc
+
+own_sound : (r : Result (List ℕ) TextFault) (t : List ℕ) → in_key_form r ≡ Some t → (r ≡ Ok t) × (key t ≡ t)
+own_sound (Ok s) t e = let both = own_by s t (bytes_eq (key s) s) refl e in (ap (λ (u : List ℕ). Ok u) both.0, both.1)
+own_sound (Err f) t e = absurd cc
+
+pub own_complete : (r : Result (List ℕ) TextFault) (t : List ℕ) → r ≡ Ok t → key t ≡ t → in_key_form r ≡ Some t
+own_complete r t e own = rw (e, (bytes_eq-Decides (key t) t).1 own) refl
