@@ -27,7 +27,7 @@ use Rattle.ocpi_types.specs.declared.rows.RowKey.{RowKey}
 use Rattle.ocpi_types.specs.declared.rows.RowKey.TheVariants as keys
 use Rattle.ocpi_types.specs.declared.words.TokenType.{TokenType}
 use Rattle.ocpi_types.specs.declared.words.TokenType.TheVariants as type
-use Rattle.ocpi_json.specs.Fits.{FitsCi}
+use Rattle.json_text.specs.Fits.{FitsCi}
 use Rattle.ocpi_json.specs.RowKeys.{row_kind_word, row_kind_of, kind_of_key, key_text, IsPartyKey, IsCiKey, KeyFits, KeysAreApart, counter_at, in_key_form, ci_key_at, taken, number_at, front_party, joined, party_number_at, party_id_at}
 use Rattle.ocpi_json.specs.declared.row_keys.PartyId.{PartyId}
 use Rattle.ocpi_json.specs.declared.row_keys.PartyNumber.{PartyNumber}

@@ -11,7 +11,7 @@ use Rattle.ocpi_types.specs.declared.rows.Counter.{Counter}
 use Rattle.ocpi_types.specs.declared.rows.Counter.TheVariants as counter
 use Rattle.ocpi_types.specs.declared.rows.RowKey.{RowKey}
 use Rattle.ocpi_types.specs.declared.rows.RowKey.TheVariants as keys
-use Rattle.ocpi_json.specs.Fits.{FitsCi}
+use Rattle.json_text.specs.Fits.{FitsCi}
 use Rattle.ocpi_json.specs.declared.row_keys.PartyId.{PartyId}
 use Rattle.ocpi_json.specs.declared.row_keys.PartyNumber.{PartyNumber}
 use Rattle.ocpi_json.specs.declared.row_kinds.RowKind.{RowKind}

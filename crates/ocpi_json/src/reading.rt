@@ -2,7 +2,7 @@
 
 ghost use Rattle.std.specs.Prelude.{List, Ok, IfOk};
 ghost use Rattle.ocpi_json.specs.EventForms.{SpellsEvent, event_in};
-ghost use Rattle.ocpi_json.specs.Fault.{Gives};
+ghost use Rattle.json_text.specs.Fault.{Gives};
 ghost use Rattle.ocpi_json.specs.Packets.{SpellsPacket, packet_in};
 ghost use Rattle.ocpi_json.specs.SetupForms.{SpellsSetup, setup_in};
 ghost use Rattle.ocpi_json.specs.SiteLines.{SpellsSiteLine, site_in};
@@ -12,11 +12,10 @@ ghost use Rattle.ocpi_types.specs.declared.setup.Node.{Node};
 ghost use Rattle.ocpi_types.specs.declared.site.SiteLine.{SiteLine};
 
 use crate::events::event_of_line;
-use crate::fault::JsonFault;
-use crate::lines::line_tree;
 use crate::packets::packet_of_line;
 use crate::setups::setup_of_line;
-use crate::sites::site_of_line;
+use json_text::{JsonFault, line_tree};
+use ocpi_forms::site_of_line;
 use ocpi_types::{Event, Packet, Setup, SiteLine};
 use std::alloc::Global;
 

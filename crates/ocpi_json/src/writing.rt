@@ -1,10 +1,11 @@
 //! Packets to lines.
 
 ghost use Rattle.std.specs.Prelude.{◌≡◌, ◌≤◌, length, IfOk, Ok, string_bytes};
-ghost use Rattle.ocpi_json.specs.Line.{max_line};
+ghost use Rattle.json_text.specs.Line.{max_line};
 ghost use Rattle.ocpi_json.specs.Packets.{packet_in, packet_text};
 
-use crate::record_writer::{Record, RecordWriter};
+use crate::packets::write_members;
+use json_text::RecordWriter;
 use ocpi_types::Packet;
 use std::alloc::{AllocError, Global};
 
@@ -17,6 +18,6 @@ pub fn write_packet(alloc: Global, packet: &Packet) -> Result<String, AllocError
     ensures again { IfOk result (λ s. length (string_bytes s) ≤ max_line → packet_in (string_bytes s) ≡ Ok packet.now) }
 {
     let mut out = RecordWriter::new(alloc)?;
-    packet.write(&mut out)?;
+    write_members(packet, &mut out)?;
     Ok(out.into_text())
 }

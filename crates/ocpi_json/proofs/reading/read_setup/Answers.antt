@@ -1,4 +1,4 @@
-use Rattle.ocpi_json.proofs.LineTrees.{found_in, only_in}
+use Rattle.json_text.proofs.LineTrees.{found_in, only_in}
 use Rattle.ocpi_json.proofs.SetupLemmas.{setup_found, setup_only}
 use Rattle.ocpi_json.proofs.reading.read_setup.Goals as goal
 

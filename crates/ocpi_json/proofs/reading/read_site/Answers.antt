@@ -1,4 +1,4 @@
-use Rattle.ocpi_json.proofs.LineTrees.{found_in, only_in}
+use Rattle.json_text.proofs.LineTrees.{found_in, only_in}
 use Rattle.ocpi_json.proofs.ReadSites.{site_found, site_only}
 use Rattle.ocpi_json.proofs.reading.read_site.Goals as goal
 
