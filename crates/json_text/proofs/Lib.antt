@@ -27,6 +27,7 @@ pub mod TaggedTokens
 pub mod TaggedTrees
 pub mod Tags
 pub mod TextBytes
+pub mod TextTrees
 pub mod UnquoteRuns
 pub mod Unquoting
 pub mod WellFormed

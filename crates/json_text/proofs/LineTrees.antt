@@ -36,15 +36,15 @@ or_some : (o : Option Data) (d : Data) → tree_or o ≡ Ok d → o ≡ Some d
 or_some (Some x) d e = cc
 or_some None d e = absurd cc
 
-record IsNamed (quoted : List ℕ) (d : Data) : Type 0 where
-  names : has_number_name quoted ≡ false
-  json : read quoted ≡ Some d
+pub record IsNamed (quoted : List ℕ) (d : Data) : Type 0 where
+  pub names : has_number_name quoted ≡ false
+  pub json : read quoted ≡ Some d
 
 named_by : (quoted : List ℕ) (d : Data) (b : Bool) → has_number_name quoted ≡ b → cond b (Err Syntax) (tree_or (read quoted)) ≡ Ok d → IsNamed quoted d
 named_by quoted d true n e = absurd cc
 named_by quoted d false n e = record { names = n; json = or_some (read quoted) d e }
 
-named_sound : (quoted : List ℕ) (d : Data) → tree_of quoted ≡ Ok d → IsNamed quoted d
+pub named_sound : (quoted : List ℕ) (d : Data) → tree_of quoted ≡ Ok d → IsNamed quoted d
 unfolding tree_of
 named_sound quoted d e = named_by quoted d (has_number_name quoted) refl e
 

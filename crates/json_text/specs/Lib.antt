@@ -11,4 +11,5 @@ pub mod Numbers
 pub mod Pieces
 pub mod Quote
 pub mod Tagged
+pub mod Texts
 pub mod Unquote

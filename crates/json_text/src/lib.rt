@@ -12,6 +12,7 @@ mod one_pass;
 mod quote;
 mod record_writer;
 mod same;
+mod texts;
 mod unquote;
 
 pub use fault::JsonFault;
@@ -20,4 +21,5 @@ pub use lines::line_tree;
 pub use quote::{quote_numbers, quoted_numbers_are_json_numbers, quoting_goes_by_pieces};
 pub use record_writer::RecordWriter;
 pub use same::{is_same_id, is_same_party};
+pub use texts::text_tree;
 pub use unquote::{unquote_numbers, unquoting_undoes_quoting};

@@ -53,6 +53,17 @@ fn tree_by_quoting(alloc: Global, text: &str) -> Result<Value, JsonFault>
     tree_of(alloc, &quoted)
 }
 
+/// The tree of a text of any length, or its first refusal.
+pub fn utf8_tree(alloc: Global, text: &str) -> Result<Value, JsonFault>
+    ensures { GivesBy view result (tree_in text.now) }
+{
+    match tree_of_text(alloc, text) {
+        Ok(tree) => Ok(tree),
+        Err(Stop::Memory) => Err(JsonFault::Memory),
+        Err(Stop::Declined) => tree_by_quoting(alloc, text),
+    }
+}
+
 /// The JSON tree of a line. Each number is a text there, as written, behind U+0001, so none is
 /// read as floating point.
 ///
@@ -64,9 +75,5 @@ pub fn line_tree(alloc: Global, line: &[u8]) -> Result<Value, JsonFault>
     ensures { GivesBy view result (tree_at line.now) }
 {
     let text = text_of(line)?;
-    match tree_of_text(alloc, text) {
-        Ok(tree) => Ok(tree),
-        Err(Stop::Memory) => Err(JsonFault::Memory),
-        Err(Stop::Declined) => tree_by_quoting(alloc, text),
-    }
+    utf8_tree(alloc, text)
 }

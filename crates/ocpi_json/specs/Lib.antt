@@ -4,6 +4,8 @@ pub use Rattle.json_text.specs.Quote
 pub use Rattle.ocpi_forms.specs.Sites
 pub mod EventForms
 pub mod Packets
+pub mod RowForms
 pub mod RowKeys
 pub mod SetupForms
 pub mod SiteLines
+pub mod StoredForms

@@ -44,7 +44,7 @@ enum EventWord {
 
 /// What is ordered, by the word of the member `order`.
 #[derive(Clone, Copy)]
-enum OrderWord {
+pub enum OrderWord {
     StartSession,
     StopSession,
     ReserveNow,
@@ -84,7 +84,7 @@ fn event_word(word: &str) -> Option<EventWord>
 }
 
 /// The order that a word names, if there is one.
-fn order_word(word: &str) -> Option<OrderWord>
+pub fn order_word(word: &str) -> Option<OrderWord>
     ensures { result ≡ order_of_word word.now }
 {
     match word {

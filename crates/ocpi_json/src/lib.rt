@@ -1,5 +1,5 @@
 //! OCPI 2.2.1 as lines of JSON: packets, site lines, setups and events, read with the first fault told, and packets
-//! written.
+//! written; and the rows of a node, whose texts are JSON, read and written.
 #![tactic(auto)]
 
 mod events;
@@ -7,7 +7,9 @@ mod packets;
 mod reading;
 mod row_keys;
 mod row_kinds;
+mod rows;
 mod setups;
+mod stored;
 mod writing;
 
 pub use json_text::{
@@ -15,7 +17,7 @@ pub use json_text::{
     quoting_goes_by_pieces, the_last_of_a_repeated_name_counts, unquote_numbers,
     unquoting_undoes_quoting,
 };
-pub use reading::{read_event, read_packet, read_setup, read_site};
+pub use reading::{read_event, read_packet, read_row, read_setup, read_site};
 pub use row_keys::{row_keys_are_apart, write_key};
 pub use row_kinds::RowKind;
-pub use writing::write_packet;
+pub use writing::{write_packet, write_row};

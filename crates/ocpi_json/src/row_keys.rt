@@ -2,8 +2,7 @@
 //! decimal digits without leading zeros, and a stroke between the parts. A party has six characters always, so that an
 //! id behind it may have strokes of its own.
 
-ghost use Rattle.std.specs.Prelude.{◌≡◌, ◌≤◌, ◌==◌, ◌++◌, ◌∷◌, true, IfOk, IfSome, decimal, drop, slice_index, string_bytes};
-ghost use Rattle.ocpi_text.specs.Whole.{max_whole};
+ghost use Rattle.std.specs.Prelude.{◌≡◌, ◌==◌, ◌++◌, ◌∷◌, true, IfOk, IfSome, decimal, drop, slice_index, string_bytes};
 ghost use Rattle.ocpi_types.specs.Words.{token_type_word};
 ghost use Rattle.ocpi_json.specs.RowKeys.{IsCiKey, IsPartyKey, KeyFits, KeysAreApart, key_text, counter_at, ci_key_at, number_at, front_party, party_number_at, party_id_at};
 
@@ -112,13 +111,87 @@ pub fn party_id_of(key: &str) -> Option<PartyId>
     Some(PartyId { party, id })
 }
 
+/// What the type of a party's key keeps.
+fn kept_party(key: &PartyKey)
+    ensures { IsPartyKey key.now }
+{
+    let party = key.text();
+    let _text = party.as_str();
+}
+
+/// What the type of an id's key keeps.
+fn kept_id<const MAX: usize>(key: &CiKey<MAX>)
+    ensures { IsCiKey MAX key.now }
+{
+    let id = key.text();
+    let _text = id.as_str();
+}
+
+/// What the types of a key's parts keep.
+pub fn kept_key(key: &RowKey)
+    ensures { KeyFits key.now }
+{
+    match key {
+        RowKey::Count { .. } => {}
+        RowKey::Reply { sender, number } => {
+            kept_party(sender);
+            let _number = number.value();
+        }
+        RowKey::Token { party, uid, .. } => {
+            kept_party(party);
+            kept_id(uid);
+        }
+        RowKey::Push { number } => {
+            let _number = number.value();
+        }
+        RowKey::Service { evse_uid } => kept_id(evse_uid),
+        RowKey::Spent {
+            provider,
+            reference,
+        } => {
+            kept_party(provider);
+            kept_id(reference);
+        }
+        RowKey::Mark {
+            provider,
+            reservation_id,
+        } => {
+            kept_party(provider);
+            kept_id(reservation_id);
+        }
+        RowKey::Reservation {
+            provider,
+            reservation_id,
+        } => {
+            kept_party(provider);
+            kept_id(reservation_id);
+        }
+        RowKey::Pending { provider, number } => {
+            kept_party(provider);
+            let _number = number.value();
+        }
+        RowKey::Result { provider, number } => {
+            kept_party(provider);
+            let _number = number.value();
+        }
+        RowKey::Session { operator, id } => {
+            kept_party(operator);
+            kept_id(id);
+        }
+        RowKey::Cdr { operator, id } => {
+            kept_party(operator);
+            kept_id(id);
+        }
+        RowKey::Command { number } => {
+            let _number = number.value();
+        }
+    }
+}
+
 /// The text `PARTY/NUMBER`.
 fn with_number(alloc: Global, party: &PartyKey, number: Whole) -> Result<String, AllocError>
-    ensures text { IfOk result (λ s. string_bytes s ≡ party.now ++ 47 ∷ decimal number) }
-    ensures party { IsPartyKey party.now }
-    ensures number { number ≤ max_whole }
+    ensures { IfOk result (λ s. string_bytes s ≡ party.now ++ 47 ∷ decimal number) }
 {
-    let party = party.text();
     format!(in alloc; "{}/{}", party.as_str(), number.value())
 }
 
@@ -128,12 +201,8 @@ fn with_id<const MAX: usize>(
     party: &PartyKey,
     id: &CiKey<MAX>,
 ) -> Result<String, AllocError>
-    ensures text { IfOk result (λ s. string_bytes s ≡ party.now ++ 47 ∷ id.now) }
-    ensures party { IsPartyKey party.now }
-    ensures id { IsCiKey MAX id.now }
+    ensures { IfOk result (λ s. string_bytes s ≡ party.now ++ 47 ∷ id.now) }
 {
-    let party = party.text();
-    let id = id.text();
     format!(in alloc; "{}/{}", party.as_str(), id.as_str())
 }
 
@@ -144,30 +213,9 @@ fn with_type(
     token_type: TokenType,
     uid: &CiKey<36>,
 ) -> Result<String, AllocError>
-    ensures text { IfOk result (λ s. string_bytes s ≡ party.now ++ 47 ∷ (token_type_word token_type ++ 47 ∷ uid.now)) }
-    ensures party { IsPartyKey party.now }
-    ensures uid { IsCiKey 36 uid.now }
+    ensures { IfOk result (λ s. string_bytes s ≡ party.now ++ 47 ∷ (token_type_word token_type ++ 47 ∷ uid.now)) }
 {
-    let party = party.text();
-    let uid = uid.text();
     format!(in alloc; "{}/{}/{}", party.as_str(), token_type.word(), uid.as_str())
-}
-
-/// The text of a number alone.
-fn number_alone(alloc: Global, number: Whole) -> Result<String, AllocError>
-    ensures text { IfOk result (λ s. string_bytes s ≡ decimal number) }
-    ensures number { number ≤ max_whole }
-{
-    format!(in alloc; "{}", number.value())
-}
-
-/// The text of an id alone.
-fn id_alone(alloc: Global, id: &CiKey<36>) -> Result<String, AllocError>
-    ensures text { IfOk result (λ s. string_bytes s ≡ id.now) }
-    ensures id { IsCiKey 36 id.now }
-{
-    let id = id.text();
-    String::from_str(alloc, id.as_str())
 }
 
 /// The text under which the row of that key is stored among the rows of its kind: `count` has the counter's name,
@@ -178,6 +226,7 @@ pub fn write_key(alloc: Global, key: &RowKey) -> Result<String, AllocError>
     ensures text { IfOk result (λ s. string_bytes s ≡ key_text key.now) }
     ensures fits { KeyFits key.now }
 {
+    kept_key(key);
     match key {
         RowKey::Count { counter } => String::from_str(alloc, counter.name()),
         RowKey::Reply { sender, number } => with_number(alloc, sender, *number),
@@ -186,8 +235,8 @@ pub fn write_key(alloc: Global, key: &RowKey) -> Result<String, AllocError>
             token_type,
             uid,
         } => with_type(alloc, party, *token_type, uid),
-        RowKey::Push { number } => number_alone(alloc, *number),
-        RowKey::Service { evse_uid } => id_alone(alloc, evse_uid),
+        RowKey::Push { number } => number.write(alloc),
+        RowKey::Service { evse_uid } => String::from_str(alloc, evse_uid.as_str()),
         RowKey::Spent {
             provider,
             reference,
@@ -204,7 +253,7 @@ pub fn write_key(alloc: Global, key: &RowKey) -> Result<String, AllocError>
         RowKey::Result { provider, number } => with_number(alloc, provider, *number),
         RowKey::Session { operator, id } => with_id(alloc, operator, id),
         RowKey::Cdr { operator, id } => with_id(alloc, operator, id),
-        RowKey::Command { number } => number_alone(alloc, *number),
+        RowKey::Command { number } => number.write(alloc),
     }
 }
 
