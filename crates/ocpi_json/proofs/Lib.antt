@@ -2,5 +2,8 @@ pub mod EventLemmas
 pub mod PacketLemmas
 pub mod ReadSites
 pub mod RowKeyLemmas
+pub mod RowLemmas
 pub mod SetupLemmas
+pub mod StoredLemmas
 pub mod WrittenPackets
+pub mod WrittenRows

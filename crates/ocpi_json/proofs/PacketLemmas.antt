@@ -90,7 +90,7 @@ kind_again kind.PutSession = refl
 kind_again kind.PostCdr = refl
 kind_again kind.Ack = refl
 
-kind_begins : (k : PacketKind) → is_tagged (kind_word k) ≡ false
+pub kind_begins : (k : PacketKind) → is_tagged (kind_word k) ≡ false
 kind_begins kind.StartSession = refl
 kind_begins kind.StopSession = refl
 kind_begins kind.ReserveNow = refl

@@ -1,24 +1,25 @@
 -- The text of a key tells the key, and the parts of a key are read just from the texts that they make.
-use Rattle.std.proofs.Common.{◌≡◌, ℕ, ◌<◌, ◌≤◌, ◌^◌, Bool, true, false, cond, List, [], ◌∷◌, ◌++◌, length, take, drop, get_or, decimal, Option, Some, None, Result, Ok, Err, refl, sym, subst, ap, ◌∙◌, arith, length-append, eqb-true, eq-eqb}
+use Rattle.std.proofs.Common.{◌≡◌, ℕ, zero, suc, ◌<◌, ◌≤◌, ◌^◌, Bool, true, false, cond, List, [], ◌∷◌, ◌++◌, length, take, drop, get_or, decimal, Option, Some, None, Result, Ok, Err, refl, sym, subst, ap, ◌∙◌, arith, length-append, eqb-true, eq-eqb}
 use Rattle.std.specs.Prelude.{◌==◌, ◌&&◌, nat_lt, nat_le, unwrap_or}
 use Rattle.std.specs.Char.{is_ascii_digit}
 use Rattle.std.specs.List.{list_all}
-use Rattle.std.specs.Str.{IsCharBoundary, IsUtf8, all_ascii_digits, bytes_eq}
+use Rattle.std.specs.Str.{IsCharBoundary, IsUtf8, all_ascii_digits, bytes_eq, chars}
 use Rattle.std.specs.Str.Parse.{digits_value}
 use Rattle.std.proofs.lemmas.Bool.{and_parts, and_from, ne_eqb}
 use Rattle.std.proofs.lemmas.Bool.Decides.{nat_tests}
-use Rattle.std.proofs.lemmas.Fmt.{digits_decimal, decimal_nonempty, first_decimal, digits_value-decimal, decimal-digits_value}
+use Rattle.std.proofs.lemmas.Fmt.{digits_decimal, decimal_nonempty, first_decimal, decimal_digit, digits_value-decimal, decimal-digits_value}
 use Rattle.std.proofs.lemmas.List.{take_at, drop_at, drop_more, take-append-drop, get_or-append_right}
 use Rattle.std.proofs.lemmas.Slice.Eq.{bytes_eq-Decides}
 use Rattle.std.proofs.lemmas.Str.{IsCharBoundary-after_ascii}
 use Rattle.ocpi_text.specs.Party.{party_at, is_party_shape}
-use Rattle.ocpi_text.specs.Text.{ci_text, key}
+use Rattle.ocpi_text.specs.Text.{ci_text, is_ascii_text, key}
 use Rattle.ocpi_text.specs.Whole.{is_whole, max_whole, whole_at}
 use Rattle.ocpi_text.specs.declared.fault.TextFault.{TextFault}
-use Rattle.ocpi_text.specs.declared.fault.TextFault.TheVariants.{TooLong, BadNumber, NumberTooLarge}
+use Rattle.ocpi_text.specs.declared.fault.TextFault.TheVariants.{TooLong, NotPrintable, BadNumber, NumberTooLarge}
 use Rattle.ocpi_text.proofs.Again.{ci_again, whole_again}
 use Rattle.ocpi_text.proofs.Digits.{own, digits_same, has_digits}
 use Rattle.ocpi_text.proofs.Parties.{party_parts, ci_text_is}
+use Rattle.ocpi_text.proofs.Text.{printable_length}
 use Rattle.ocpi_types.specs.Rows.{counter_name}
 use Rattle.ocpi_types.specs.Words.{token_type_word}
 use Rattle.ocpi_types.specs.declared.rows.Counter.{Counter}
@@ -36,6 +37,16 @@ use Rattle.ocpi_json.specs.declared.row_kinds.RowKind.TheVariants as kind
 
 some_is : {X : Type 0} (x y : X) → Some x ≡ Some y → x ≡ y
 some_is x y e = cc
+
+abbrev own_text : List ℕ → Result (List ℕ) TextFault
+own_text s = Ok s
+
+abbrev own_number : ℕ → Result ℕ TextFault
+own_number n = Ok n
+
+and_false : (b : Bool) → (b && false) ≡ false
+and_false true = refl
+and_false false = refl
 
 -- ---- a party in front of a stroke
 
@@ -199,3 +210,171 @@ own_sound (Err f) t e = absurd cc
 
 pub own_complete : (r : Result (List ℕ) TextFault) (t : List ℕ) → r ≡ Ok t → key t ≡ t → in_key_form r ≡ Some t
 own_complete r t e own = rw (e, (bytes_eq-Decides (key t) t).1 own) refl
+
+-- ---- a text in key form
+
+fits_by : (max : ℕ) (s t : List ℕ) (long printable : Bool) → nat_lt max (length (chars s)) ≡ long → is_ascii_text s ≡ printable
+    → cond long (Err TooLong) (cond printable (own_text s) (Err NotPrintable)) ≡ Ok t → FitsCi max s
+fits_by max s t true printable l p e = absurd cc
+fits_by max s t false false l p e = absurd cc
+fits_by max s t false true l p e =
+    let same = printable_length s p in
+    let short : length (chars s) ≤ max = grind (arith, nat_tests) in
+    record { printable = p; short = omega arith }
+
+ci_fits : (max : ℕ) (s t : List ℕ) → ci_text max s ≡ Ok t → FitsCi max t
+ci_fits max s t e = subst (FitsCi max) (sym (ci_text_is max s t e)) (fits_by max s t (nat_lt max (length (chars s))) (is_ascii_text s) refl refl e)
+
+pub ci_key_reads : (max : ℕ) → Reads (ci_key_at max) (IsCiKey max) (λ t. t)
+unfolding ci_key_at
+ci_key_reads max = record {
+  sound = λ s t e.
+      let both = own_sound (ci_text max s) t e in
+      (record { fits = ci_fits max s t both.0; own = both.1 }, sym (ci_text_is max s t both.0));
+  complete = λ t h. own_complete (ci_text max t) t (ci_again max t h.fits.printable h.fits.short) h.own;
+}
+
+-- ---- a number in digits
+
+taken_ok : (r : Result ℕ TextFault) (n : ℕ) → taken r ≡ Some n → r ≡ Ok n
+taken_ok (Ok m) n e = ap (λ (k : ℕ). Ok k) (some_is m n e)
+taken_ok (Err f) n e = absurd cc
+
+record IsWhole (s : List ℕ) (n : ℕ) : Type 0 where
+  digits : is_whole s ≡ true
+  value : digits_value 10 s ≡ n
+  bound : n ≤ max_whole
+
+whole_by : (s : List ℕ) (n : ℕ) (whole small : Bool) → is_whole s ≡ whole → nat_le (digits_value 10 s) max_whole ≡ small
+    → cond whole (cond small (own_number (digits_value 10 s)) (Err NumberTooLarge)) (Err BadNumber) ≡ Ok n → IsWhole s n
+whole_by s n false small w l e = absurd cc
+whole_by s n true false w l e = absurd cc
+whole_by s n true true w l e = let value : digits_value 10 s ≡ n = cc in record { digits = w; value = value; bound = grind (arith, nat_tests) }
+
+whole_parts : (s : List ℕ) (n : ℕ) → whole_at s ≡ Ok n → IsWhole s n
+whole_parts s n e = whole_by s n (is_whole s) (nat_le (digits_value 10 s) max_whole) refl refl e
+
+only_zero : (s : List ℕ) → 0 < length s → (nat_lt 1 (length s) && (get_or s 0 0 == 48)) ≡ false → get_or s 0 0 ≡ 48 → length s ≡ 1
+only_zero s some test first =
+    let is : (get_or s 0 0 == 48) ≡ true = eq-eqb _ _ first in
+    grind (arith, nat_tests)
+
+all_digits : (s : List ℕ) → is_whole s ≡ true → all_ascii_digits s ≡ true
+unfolding is_whole
+all_digits s w = digits_same s ∙ (and_parts (nat_lt 0 (length s)) (list_all is_ascii_digit s) w).1
+
+decimal_is : (s : List ℕ) (n : ℕ) → (nat_lt 1 (length s) && (get_or s 0 0 == 48)) ≡ false → IsWhole s n → s ≡ decimal n
+decimal_is s n test h =
+    let some = has_digits s h.digits in
+    let value = h.value in
+    let bound = h.bound in
+    let same = decimal-digits_value own s (all_digits s h.digits) some (only_zero s some test) (omega arith) in
+    sym same ∙ ap decimal value
+
+number_by : (s : List ℕ) (n : ℕ) (leads : Bool) → (nat_lt 1 (length s) && (get_or s 0 0 == 48)) ≡ leads → cond leads None (taken (whole_at s)) ≡ Some n → (n ≤ max_whole) × (s ≡ decimal n)
+number_by s n true test e = absurd cc
+number_by s n false test e = let h = whole_parts s n (taken_ok (whole_at s) n e) in (h.bound, decimal_is s n test h)
+
+no_zero : (n : ℕ) → n ≤ max_whole → (nat_lt 1 (length (decimal n)) && (get_or (decimal n) 0 0 == 48)) ≡ false
+no_zero zero le = rw (decimal_digit 0 (omega arith)) refl
+no_zero (suc n) le =
+    let first = first_decimal (suc n) (omega arith) (omega arith) in
+    let other : (get_or (decimal (suc n)) 0 0 == 48) ≡ false = ne_eqb _ _ (omega arith) in
+    rw other (and_false (nat_lt 1 (length (decimal (suc n)))))
+
+pub number_reads : Reads number_at (λ n. n ≤ max_whole) decimal
+unfolding number_at
+number_reads = record {
+  sound = λ s n e. number_by s n (nat_lt 1 (length s) && (get_or s 0 0 == 48)) refl e;
+  complete = λ n le. rw (no_zero n le, whole_again n le) refl;
+}
+
+-- ---- a party and another part
+
+party_text_by : (s t : List ℕ) (shape : Bool) → cond shape (ci_text 6 s) (Err TooLong) ≡ Ok t → t ≡ s
+party_text_by s t true e = ci_text_is 6 s t e
+party_text_by s t false e = absurd cc
+
+party_text_is : (s t : List ℕ) → party_at s ≡ Ok t → t ≡ s
+unfolding party_at
+party_text_is s t e = party_text_by s t (is_party_shape s) e
+
+record IsFront (s p : List ℕ) : Type 0 where
+  stroke : (get_or s 6 0 == 47) ≡ true
+  party : IsPartyKey p
+  front : take 6 s ≡ p
+
+front_by : (s p : List ℕ) (stroke : Bool) → (get_or s 6 0 == 47) ≡ stroke → cond stroke (in_key_form (party_at (take 6 s))) None ≡ Some p → IsFront s p
+front_by s p false test e = absurd cc
+front_by s p true test e =
+    let both = own_sound (party_at (take 6 s)) p e in
+    let is = party_text_is (take 6 s) p both.0 in
+    record { stroke = test; party = record { party = subst (λ (t : List ℕ). party_at t ≡ Ok p) (sym is) both.0; own = both.1 }; front = sym is }
+
+front_sound : (s p : List ℕ) → front_party s ≡ Some p → IsFront s p
+unfolding front_party
+front_sound s p e = front_by s p (get_or s 6 0 == 47) refl e
+
+front_complete : (p r : List ℕ) → IsPartyKey p → front_party (p ++ 47 ∷ r) ≡ Some p
+unfolding front_party
+front_complete p r h =
+    let test : (get_or (p ++ 47 ∷ r) 6 0 == 47) ≡ true = eq-eqb _ _ (stroke_is p r h) in
+    rw (test, front_is p r h) (own_complete (party_at p) p h.party h.own)
+
+whole_text : (s p : List ℕ) → IsFront s p → s ≡ p ++ 47 ∷ drop 7 s
+whole_text s p h = apart_at_stroke s h.stroke ∙ ap (λ (l : List ℕ). l ++ 47 ∷ drop 7 s) h.front
+
+joined_ok : {A B X : Type 0} (f : A → B → X) (a : Option A) (b : Option B) (x : X) → joined f a b ≡ Some x → (u : A) × (v : B) × (a ≡ Some u) × (b ≡ Some v) × (f u v ≡ x)
+joined_ok f (Some u) (Some v) x e = (u, v, refl, refl, some_is (f u v) x e)
+joined_ok f (Some u) None x e = absurd cc
+joined_ok f None b x e = absurd cc
+
+pub record FitsPartyNumber (k : PartyNumber) : Type 0 where
+  pub party : IsPartyKey k.party
+  pub number : k.number ≤ max_whole
+
+pub record FitsPartyId (k : PartyId) : Type 0 where
+  pub party : IsPartyKey k.party
+  pub id : IsCiKey 36 k.id
+
+pub party_number_reads : Reads party_number_at FitsPartyNumber (λ k. k.party ++ 47 ∷ decimal k.number)
+unfolding party_number_at
+party_number_reads = record {
+  sound = λ s k e.
+      let parts = joined_ok _ (front_party s) (number_at (drop 7 s)) k e in
+      let front = front_sound s parts.0 parts.2 in
+      let number = number_reads.sound (drop 7 s) parts.1 parts.3 in
+      subst (λ (k : PartyNumber). FitsPartyNumber k × (s ≡ k.party ++ 47 ∷ decimal k.number)) parts.4
+      (record { party = front.party; number = number.0 }, whole_text s parts.0 front ∙ ap (λ (l : List ℕ). parts.0 ++ 47 ∷ l) number.1);
+  complete = λ k h.
+      rw (front_complete k.party (decimal k.number) h.party, behind_is k.party (decimal k.number) h.party, number_reads.complete k.number h.number) refl;
+}
+
+pub party_id_reads : Reads party_id_at FitsPartyId (λ k. k.party ++ 47 ∷ k.id)
+unfolding party_id_at
+party_id_reads = record {
+  sound = λ s k e.
+      let parts = joined_ok _ (front_party s) (ci_key_at 36 (drop 7 s)) k e in
+      let front = front_sound s parts.0 parts.2 in
+      let id = (ci_key_reads 36).sound (drop 7 s) parts.1 parts.3 in
+      subst (λ (k : PartyId). FitsPartyId k × (s ≡ k.party ++ 47 ∷ k.id)) parts.4
+      (record { party = front.party; id = id.0 }, whole_text s parts.0 front ∙ ap (λ (l : List ℕ). parts.0 ++ 47 ∷ l) id.1);
+  complete = λ k h.
+      rw (front_complete k.party k.id h.party, behind_is k.party k.id h.party, (ci_key_reads 36).complete k.id h.id) refl;
+}
+
+-- ---- the kind's word tells the kind
+
+kind_by : (s : List ℕ) (k l : RowKind) (b : Bool) (o : Option RowKind) → bytes_eq s (row_kind_word l) ≡ b → cond b (Some l) o ≡ Some k → (o ≡ Some k → s ≡ row_kind_word k) → s ≡ row_kind_word k
+kind_by s k l true o t e rest = (bytes_eq-Decides s (row_kind_word l)).0 t ∙ ap row_kind_word (some_is l k e)
+kind_by s k l false o t e rest = rest e
+
+no_kind : (s : List ℕ) (k : RowKind) → None ≡ Some k → s ≡ row_kind_word k
+no_kind s k e = absurd cc
+
+pub kind_sound : (s : List ℕ) (k : RowKind) → row_kind_of s ≡ Some k → s ≡ row_kind_word k
+kind_sound s k e =
+    kind_by s k kind.Count _ _ refl e (λ e. kind_by s k kind.Reply _ _ refl e (λ e. kind_by s k kind.Token _ _ refl e (λ e. kind_by s k kind.Push _ _ refl e (λ e.
+    kind_by s k kind.Service _ _ refl e (λ e. kind_by s k kind.Spent _ _ refl e (λ e. kind_by s k kind.Mark _ _ refl e (λ e. kind_by s k kind.Reservation _ _ refl e (λ e.
+    kind_by s k kind.Pending _ _ refl e (λ e. kind_by s k kind.Result _ _ refl e (λ e. kind_by s k kind.Session _ _ refl e (λ e. kind_by s k kind.Cdr _ _ refl e (λ e.
+    kind_by s k kind.Command _ _ refl e (no_kind s k)))))))))))))

@@ -16,7 +16,7 @@ use Rattle.json_text.specs.declared.fault.JsonFault.TheVariants.{UnknownKind, Wr
 use Rattle.json_text.specs.Fault.{Read, ◌>>=◌}
 use Rattle.json_text.specs.Fields.{as_record, known, party_in, whole_in, word_in}
 use Rattle.json_text.specs.Form.{Required, IsParty, IsRecord, IsWhole, IsWord}
-use Rattle.json_text.specs.Line.{HasTextTree, text_tree}
+use Rattle.json_text.specs.Texts.{HasTextTree, text_tree}
 use Rattle.json_text.specs.Members.{Member, text, whole, object_of, json_text}
 use Rattle.ocpi_forms.specs.Bodies.{BodyFits}
 use Rattle.ocpi_forms.specs.CdrForms.{cdr_at, IsCdr, cdr_members, CdrFits}

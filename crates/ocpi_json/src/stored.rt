@@ -359,16 +359,16 @@ pub fn write_reservation(
 
 /// Writes an open command.
 #[tactic(auto, unfolding(crate::specs::StoredForms::open_command_members))]
-pub fn write_open_command(open: &OpenCommand, out: &mut RecordWriter) -> Result<(), AllocError>
-    ensures tokens { OnOk result (out.new ≡ said out.old (open_command_members open.now)) }
-    ensures fits { OnOk result (OpenCommandFits open.now) }
+pub fn write_open_command(command: &OpenCommand, out: &mut RecordWriter) -> Result<(), AllocError>
+    ensures tokens { OnOk result (out.new ≡ said out.old (open_command_members command.now)) }
+    ensures fits { OnOk result (OpenCommandFits command.now) }
 {
     out.begin()?;
-    write_command(&open.command, out)?;
-    out.optional_ci(Field::ConnectorId, open.connector_id)?;
-    out.moment(Field::Deadline, open.deadline)?;
-    out.optional_ci(Field::EvseUid, open.evse_uid)?;
-    out.word(Field::Kind, &open.command.kind())?;
+    write_command(&command.command, out)?;
+    out.optional_ci(Field::ConnectorId, command.connector_id)?;
+    out.moment(Field::Deadline, command.deadline)?;
+    out.optional_ci(Field::EvseUid, command.evse_uid)?;
+    out.word(Field::Kind, &command.command.kind())?;
     out.end()
 }
 
