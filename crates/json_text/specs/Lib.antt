@@ -10,5 +10,6 @@ pub mod Nesting
 pub mod Numbers
 pub mod Pieces
 pub mod Quote
+pub mod Tag
 pub mod Tagged
 pub mod Unquote
