@@ -13,8 +13,9 @@ use Rattle.ocpi_types.specs.declared.field.Field.{Field}
 use Rattle.ocpi_types.specs.Fields.{name_of}
 use Rattle.json_text.specs.declared.fault.JsonFault.TheVariants.{WrongForm}
 use Rattle.json_text.specs.Fault.{Fails, Gives, Read, ◌>>=◌}
-use Rattle.json_text.specs.Fields.{required, present, optional, is_absent, is_none_or_null, some_of, as_text, as_number, as_truth, as_record, text_in, number_in, ci_in, free_in, moment_in, truth_in, word_in, whole_in, e4_in, quantity_in, not_negative, party_in, country_in, party_id_in, record_in, formed, listed, is_tagged}
+use Rattle.json_text.specs.Fields.{required, present, optional, is_absent, is_none_or_null, some_of, as_text, as_number, as_truth, as_record, text_in, number_in, ci_in, free_in, moment_in, truth_in, word_in, whole_in, e4_in, quantity_in, not_negative, party_in, country_in, party_id_in, record_in, formed, listed, known, known_in}
 use Rattle.json_text.specs.Form.{Has, Required, Optional, IsText, IsNumber, TextOf, NumberOf, IsCi, IsFree, IsParty, IsMoment, IsWhole, IsE4, IsQuantity, IsWord, IsTruth, IsRecord}
+use Rattle.json_text.specs.Tag.{is_tagged}
 pub use Rattle.json_text.proofs.Steps.{done, ok_is, bind_ok}
 
 pub record Exact {X : Type 0} (reader : Data → Read X) (P : Data → X → Type 0) : Type 0 where

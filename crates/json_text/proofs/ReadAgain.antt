@@ -10,12 +10,11 @@ use Rattle.json.specs.Tree.{json_tokens}
 use Rattle.json.proofs.Printed.Trees.{value-json_tokens}
 use Rattle.serde_json.specs.Data.{Data, array, object, Members, no_members, member, put}
 use Rattle.serde_json.specs.Read.{converted}
-use Rattle.json_text.specs.Fields.{is_tagged}
 use Rattle.json_text.specs.Line.{max_line, tree_at}
 use Rattle.json_text.specs.Members.{Member, object_of, json_text, said}
-use Rattle.json_text.specs.Names.{begins_with_tag}
 use Rattle.json_text.specs.Tagged as one
 use Rattle.json_text.specs.Tagged.{tree_in}
+use Rattle.json_text.specs.Tag.{is_tagged}
 use Rattle.json_text.proofs.MemberForms.{tree}
 use Rattle.json_text.proofs.Said.{said_is}
 use Rattle.json_text.proofs.Tagged.{cmp, tagged, tagged_items, tagged_members}
@@ -64,16 +63,12 @@ above_none (json.member k j ms) = (tt, above_none ms)
 
 -- ---- the tree
 
-text_untagged : (s : List ℕ) → is_tagged s ≡ false → begins_with_tag s ≡ false
-text_untagged [] h = refl
-text_untagged (x ∷ s) h = h
-
 mutual
   made : (j : json.Json) → IsSound j → one.tagged j ≡ Some (tagged j)
   made json.null h = refl
   made (json.boolean b) h = refl
   made (json.number s) h = refl
-  made (json.string s) h = rw (text_untagged s h) refl
+  made (json.string s) h = rw h refl
   made (json.array js) h = ap (option_map array) (items_made js h)
   made (json.object ms) h = ap (option_map object) (members_made ms no_members h (above_none ms))
 

@@ -11,8 +11,9 @@ use Rattle.json.proofs.Printed.Trees.{value-json_tokens}
 use Rattle.json.proofs.Unique.Spelling.{value-json_tokens_back}
 use Rattle.serde_json.specs.Data.{Data, array, object, Items, item, Members, no_members, put}
 use Rattle.serde_json.specs.Read.{of_json, of_items, of_members, converted, read}
-use Rattle.json_text.specs.Names.{begins_with_tag, has_number_name_in, has_number_name}
+use Rattle.json_text.specs.Names.{has_number_name_in, has_number_name}
 use Rattle.json_text.specs.Tagged.{tagged, tagged_items, tagged_members, tree_in}
+use Rattle.json_text.specs.Tag.{is_tagged}
 use Rattle.json_text.proofs.LineTrees.{named_complete}
 use Rattle.json_text.proofs.TaggedTexts.{tag_token, lexed}
 use Rattle.json_text.proofs.TaggedTokens.{AreClean, punctuated}
@@ -101,7 +102,7 @@ mutual
   made json.null d e = (e, λ rest h. (tt, h))
   made (json.boolean b) d e = (e, λ rest h. (tt, h))
   made (json.number s) d e = (e, λ rest h. (tt, h))
-  made (json.string s) d e = let u = untagged (begins_with_tag s) _ d e in (u.1, λ rest h. (u.0, h))
+  made (json.string s) d e = let u = untagged (is_tagged s) _ d e in (u.1, λ rest h. (u.0, h))
   made (json.array js) d e =
       let ds = mapped array (tagged_items js) d e in
       let m = items_made js ds.0 ds.1 in
@@ -123,7 +124,7 @@ mutual
   members_made : (ms : json.Members) (found ds : Members) → tagged_members ms found ≡ Some ds → (of_members (members_with_tags ms) found ≡ Some ds) × Clean (members_tokens ms)
   members_made json.no_members found ds e = (e, λ rest h. (tt, h))
   members_made (json.member k j ms) found ds e =
-      let u = untagged (begins_with_tag k) _ ds e in
+      let u = untagged (is_tagged k) _ ds e in
       let first = then_some (λ (d : Data). tagged_members ms (put k d found)) (tagged j) ds u.1 in
       let m = made j first.0 first.1 in
       let n = members_made ms (put k first.0 found) ds first.2 in

@@ -7,9 +7,9 @@ use Rattle.std.proofs.lemmas.Bool.Decides.{nat_tests}
 use Rattle.json.specs.Text.{code_unit, short_escape, is_high_surrogate, is_low_surrogate, surrogate_pair, Within, plain, after_backslash, after_u, after_high, prepend, content}
 use Rattle.json.specs.Word.{is_operator, is_space}
 use Rattle.json.specs.Lex.{Lexeme, operator, space, other, Mode, between, in_string, lex_byte, lex}
-use Rattle.json_text.specs.Names.{begins_with_tag}
 use Rattle.json_text.specs.Pieces as pieces
 use Rattle.json_text.specs.Pieces.{Character, escaped, characters_text, AreCharacters, IsTagged}
+use Rattle.json_text.specs.Tag.{is_tagged}
 use Rattle.json_text.proofs.Steps.{test_is, test_is_not, is_not_test}
 
 -- what stands before the quote that ends the string: characters, behind a backslash the first of which is escaped by it
@@ -219,10 +219,10 @@ string_first xs s e =
       are = c.shape.2;
     }
 
-tag_first : (o : Option (List ℕ)) (s : List ℕ) → prepend (encode_utf8 1) o ≡ Some s → begins_with_tag s ≡ true
+tag_first : (o : Option (List ℕ)) (s : List ℕ) → prepend (encode_utf8 1) o ≡ Some s → is_tagged s ≡ true
 unfolding encode_utf8
 tag_first None s e = absurd cc
-tag_first (Some t) s e = ap (λ (o : Option (List ℕ)). begins_with_tag (bytes_or o)) (sym e)
+tag_first (Some t) s e = ap (λ (o : Option (List ℕ)). is_tagged (bytes_or o)) (sym e)
   where
     bytes_or : Option (List ℕ) → List ℕ
     bytes_or None = []
@@ -233,7 +233,7 @@ unfolding content code_unit
 tag_content more = refl
 
 -- a string that is written with the tag in front is read with it
-pub read_with_tag : (cs : List Character) (s : List ℕ) → content plain (characters_text cs ++ 34 ∷ []) ≡ Some s → IsTagged cs → begins_with_tag s ≡ true
+pub read_with_tag : (cs : List Character) (s : List ℕ) → content plain (characters_text cs ++ 34 ∷ []) ≡ Some s → IsTagged cs → is_tagged s ≡ true
 read_with_tag cs s e t =
     let there : content plain (characters_text cs ++ 34 ∷ []) ≡ prepend (encode_utf8 1) (content plain (t.0 ++ 34 ∷ [])) =
     ap (λ (x : List ℕ). content plain (x ++ 34 ∷ [])) t.1 ∙ ap (content plain) (append_assoc (codes "\\u0001") t.0 (34 ∷ [])) ∙ tag_content (t.0 ++ 34 ∷ []) in

@@ -14,12 +14,12 @@ use Rattle.json.specs.Print.{IsNumber, escape, quoted}
 use Rattle.json.proofs.Printed.Numbers.{in_word-ended, number_alone, lex-number}
 use Rattle.json.proofs.Printed.Strings.{content-escape, lex-escape}
 use Rattle.json_text.specs.declared.quote.Mode.TheVariants.{Between}
-use Rattle.json_text.specs.Names.{begins_with_tag}
 use Rattle.json_text.specs.Numbers.{IsJsonNumber}
 use Rattle.json_text.specs.Pieces as pieces
 use Rattle.json_text.specs.Pieces.{begins_number, Stops, characters_text, piece_text, quoted_piece, IsTagged}
 use Rattle.json_text.specs.Quote as quoting
 use Rattle.json_text.specs.Quote.{is_number_char, quote_from, ending, before}
+use Rattle.json_text.specs.Tag.{is_tagged}
 use Rattle.json_text.proofs.JsonNumbers.{no_empty_number, number_from_json}
 use Rattle.json_text.proofs.PieceQuoting.{piece_quotes}
 use Rattle.json_text.proofs.PlainQuoting.{copies_char, copies_more, quoted_number}
@@ -51,8 +51,8 @@ IsClean begin_object = Unit {0}
 IsClean end_object = Unit {0}
 IsClean begin_array = Unit {0}
 IsClean end_array = Unit {0}
-IsClean (key s) = begins_with_tag s ≡ false
-IsClean (string s) = begins_with_tag s ≡ false
+IsClean (key s) = is_tagged s ≡ false
+IsClean (string s) = is_tagged s ≡ false
 IsClean (number s) = Unit {0}
 IsClean (boolean b) = Unit {0}
 IsClean null = Unit {0}
@@ -248,7 +248,7 @@ string_lexes : (cs s rest : List ℕ) → content plain (cs ++ 34 ∷ rest) ≡ 
 unfolding lex
 string_lexes cs s rest e l = ap₂ (λ o l. token (string_token o) ∷ l) e l
 
-string_front : (xs s : List ℕ) → IsString xs s → begins_with_tag s ≡ false → Front (34 ∷ xs)
+string_front : (xs s : List ℕ) → IsString xs s → is_tagged s ≡ false → Front (34 ∷ xs)
 string_front xs s st clean =
     let text = characters_text st.characters in
     let lexes : (rest : List ℕ) → lex between (34 ∷ (text ++ 34 ∷ rest)) ≡ token (string s) ∷ lex between rest =

@@ -8,8 +8,8 @@ use Rattle.serde_json.specs.Data.{Data, array, object, Items, no_items, item, Me
 use Rattle.serde_json.specs.Read.{converted}
 use Rattle.serde_json.specs.View.{view, items_view}
 use Rattle.serde_json.specs.declared.value.Value.{Value}
-use Rattle.json_text.specs.Names.{begins_with_tag}
 use Rattle.json_text.specs.Tagged.{tagged, tagged_items, tagged_members}
+use Rattle.json_text.specs.Tag.{is_tagged}
 
 -- ---- what was read, and what it is made
 
@@ -41,7 +41,7 @@ with_item : (j : json.Json) (d : Data) → tagged j ≡ Some d → (o : Option (
 with_item j d e None = refl
 with_item j d e (Some p) = rw e (twice (item d) p.1 (tagged_items p.0))
 
-with_member : (k : List ℕ) (j : json.Json) (d : Data) (old : Members) → begins_with_tag k ≡ false → tagged j ≡ Some d → (o : Option (json.Members × List Token))
+with_member : (k : List ℕ) (j : json.Json) (d : Data) (old : Members) → is_tagged k ≡ false → tagged j ≡ Some d → (o : Option (json.Members × List Token))
     → converted (λ ms. tagged_members ms old) (parse_map (json.member k j) o) ≡ converted (λ ms. tagged_members ms (put k d old)) o
 with_member k j d old b e None = refl
 with_member k j d old b e (Some p) = rw (b, e) refl
@@ -54,11 +54,11 @@ without_item : (j : json.Json) → tagged j ≡ None → (o : Option (json.Items
 without_item j e None = refl
 without_item j e (Some p) = rw e
 
-without_member : (k : List ℕ) (j : json.Json) (old : Members) → begins_with_tag k ≡ false → tagged j ≡ None → (o : Option (json.Members × List Token)) → converted (λ ms. tagged_members ms old) (parse_map (json.member k j) o) ≡ None
+without_member : (k : List ℕ) (j : json.Json) (old : Members) → is_tagged k ≡ false → tagged j ≡ None → (o : Option (json.Members × List Token)) → converted (λ ms. tagged_members ms old) (parse_map (json.member k j) o) ≡ None
 without_member k j old b e None = refl
 without_member k j old b e (Some p) = rw (b, e)
 
-with_tagged_name : (k : List ℕ) (j : json.Json) (old : Members) → begins_with_tag k ≡ true → (o : Option (json.Members × List Token)) → converted (λ ms. tagged_members ms old) (parse_map (json.member k j) o) ≡ None
+with_tagged_name : (k : List ℕ) (j : json.Json) (old : Members) → is_tagged k ≡ true → (o : Option (json.Members × List Token)) → converted (λ ms. tagged_members ms old) (parse_map (json.member k j) o) ≡ None
 with_tagged_name k j old b None = refl
 with_tagged_name k j old b (Some p) = rw b
 
@@ -80,12 +80,12 @@ module _ (p : Parse json.Json) where
   item_refused (suc n) ts going e = ap (λ o. converted tagged_items (items_step p (items p n) ts o)) going ∙ no_item (items p n) (p ts) e
 
   module _ (old : Members) where
-    no_member : (k : List ℕ) (more : Parse json.Members) (o : Option (json.Json × List Token)) → begins_with_tag k ≡ false → converted tagged o ≡ None
+    no_member : (k : List ℕ) (more : Parse json.Members) (o : Option (json.Json × List Token)) → is_tagged k ≡ false → converted tagged o ≡ None
         → converted (λ ms. tagged_members ms old) (option_and_then (λ q. parse_map (json.member k q.0) (more q.1)) o) ≡ None
     no_member k more None b e = refl
     no_member k more (Some q) b e = without_member k q.0 old b (refused q.1 (tagged q.0) e) (more q.1)
 
-    pub member_refused : (n : ℕ) (k : List ℕ) (ts s : List Token) → begins_with_tag k ≡ false → read_key ts ≡ Some (Some k, s) → converted tagged (p s) ≡ None → converted (λ ms. tagged_members ms old) (members p n ts) ≡ None
+    pub member_refused : (n : ℕ) (k : List ℕ) (ts s : List Token) → is_tagged k ≡ false → read_key ts ≡ Some (Some k, s) → converted tagged (p s) ≡ None → converted (λ ms. tagged_members ms old) (members p n ts) ≡ None
     unfolding members
     member_refused zero k ts s b key e = refl
     member_refused (suc n) k ts s b key e = rw key (no_member k (members p n) (p s) b e)
@@ -93,17 +93,17 @@ module _ (p : Parse json.Json) where
     pub key_refused : (n : ℕ) (ts : List Token) → read_key ts ≡ None → converted (λ ms. tagged_members ms old) (members p n ts) ≡ None
     key_refused n ts e = ap (converted (λ ms. tagged_members ms old)) (members_no_key p n ts e)
 
-    no_name : (k : List ℕ) (more : Parse json.Members) (o : Option (json.Json × List Token)) → begins_with_tag k ≡ true
+    no_name : (k : List ℕ) (more : Parse json.Members) (o : Option (json.Json × List Token)) → is_tagged k ≡ true
         → converted (λ ms. tagged_members ms old) (option_and_then (λ q. parse_map (json.member k q.0) (more q.1)) o) ≡ None
     no_name k more None b = refl
     no_name k more (Some q) b = with_tagged_name k q.0 old b (more q.1)
 
-    pub name_refused : (n : ℕ) (k : List ℕ) (ts s : List Token) → begins_with_tag k ≡ true → read_key ts ≡ Some (Some k, s) → converted (λ ms. tagged_members ms old) (members p n ts) ≡ None
+    pub name_refused : (n : ℕ) (k : List ℕ) (ts s : List Token) → is_tagged k ≡ true → read_key ts ≡ Some (Some k, s) → converted (λ ms. tagged_members ms old) (members p n ts) ≡ None
     unfolding members
     name_refused zero k ts s b key = refl
     name_refused (suc n) k ts s b key = rw key (no_name k (members p n) (p s) b)
 
-    pub member_read : (n : ℕ) (k : List ℕ) (ts s r : List Token) (d : Data) → 0 < n → begins_with_tag k ≡ false → read_key ts ≡ Some (Some k, s) → converted tagged (p s) ≡ Some (d, r)
+    pub member_read : (n : ℕ) (k : List ℕ) (ts s r : List Token) (d : Data) → 0 < n → is_tagged k ≡ false → read_key ts ≡ Some (Some k, s) → converted tagged (p s) ≡ Some (d, r)
         → converted (λ ms. tagged_members ms old) (members p n ts) ≡ converted (λ ms. tagged_members ms (put k d old)) (members p (n - 1) r)
     member_read n k ts s r d some untagged key e =
         let j = converted_some tagged (p s) d r e in

@@ -3,7 +3,7 @@ use Rattle.std.proofs.Common.{◌≡◌, ℕ, ◌<◌, List, [], ◌∷◌, leng
 use Rattle.std.proofs.lemmas.Bool.Decides.{nat_tests}
 use Rattle.std.specs.Str.{IsUtf8, IsCharBoundary}
 use Rattle.std.proofs.lemmas.Str.{IsCharBoundary-after_ascii}
-use Rattle.json_text.specs.Fields.{is_tagged}
+use Rattle.json_text.specs.Tag.{is_tagged}
 
 tag_is : (s : List ℕ) → IsTrue (is_tagged s) → get_or s 0 0 ≡ 1
 tag_is s h = grind (arith, nat_tests)

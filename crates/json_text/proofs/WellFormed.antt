@@ -12,11 +12,10 @@ use Rattle.ocpi_text.proofs.Again.{ci_begins, free_begins, moment_begins}
 use Rattle.ocpi_types.specs.declared.field.Field.{Field}
 use Rattle.ocpi_types.specs.declared.field.Field.TheVariants.{Line}
 use Rattle.ocpi_types.specs.Fields.{name_of}
-use Rattle.json_text.specs.Fields.{is_tagged}
 use Rattle.json_text.specs.Fits.{FitsCi, FitsFree, FitsOption, FitsOptionalMoment}
-use Rattle.json_text.specs.Names.{begins_with_tag}
 use Rattle.json_text.specs.Members.{Member, and_before, members_of, object_of, items_of, objects, strings}
 use Rattle.json_text.specs.Numbers.{IsJsonNumber}
+use Rattle.json_text.specs.Tag.{is_tagged}
 use Rattle.json_text.proofs.DecimalNumbers.{e4_number}
 use Rattle.json_text.proofs.Digits.{whole_number}
 use Rattle.json_text.proofs.Tagged.{cmp, is_less, greater_is, comes_before, before_all, ascends}
@@ -42,7 +41,7 @@ abbrev mutual
 
   pub AreSoundMembers : json.Members → Type 0
   AreSoundMembers json.no_members = Unit {0}
-  AreSoundMembers (json.member k j ms) = (begins_with_tag k ≡ false) × (IsSound j × (Follow k ms × AreSoundMembers ms))
+  AreSoundMembers (json.member k j ms) = (is_tagged k ≡ false) × (IsSound j × (Follow k ms × AreSoundMembers ms))
 
 -- no deeper than most
 pub record IsWell (most : ℕ) (j : json.Json) : Type 0 where
@@ -66,7 +65,7 @@ pub ◌and◌ : {A B : Type 0} → A → B → A × B
 a and b = (a, b)
 
 -- no member's name begins with the tag
-named : (f : Field) → begins_with_tag (name_of f) ≡ false
+named : (f : Field) → is_tagged (name_of f) ≡ false
 unfolding name_of
 named Line = refl
 named f = refl

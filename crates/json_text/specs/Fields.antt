@@ -1,5 +1,5 @@
 -- One member of an object, by its name: its value, or its fault.
-use Rattle.std.specs.Prelude.{ℕ, ℤ, pos, int_le, ◌++◌, ◌==◌, slice_index, drop, List, [], ◌∷◌, Bool, true, false, Option, Some, None, Result, Ok, Err, if◌then◌else◌}
+use Rattle.std.specs.Prelude.{ℕ, ℤ, pos, int_le, ◌++◌, drop, List, [], ◌∷◌, Bool, true, false, Option, Some, None, Result, Ok, Err, if◌then◌else◌}
 use Rattle.serde_json.specs.Data.{Data, null, boolean, number, string, array, object, Items, no_items, item}
 use Rattle.serde_json.specs.Find.{get}
 use Rattle.ocpi_text.specs.declared.fault.TextFault.{TextFault}
@@ -12,6 +12,7 @@ use Rattle.ocpi_types.specs.declared.field.Field.{Field}
 use Rattle.ocpi_types.specs.Fields.{name_of}
 use Rattle.json_text.specs.declared.fault.JsonFault.TheVariants.{Missing, WrongForm, UnknownWord, UnknownKind}
 use Rattle.json_text.specs.Fault.{Read, ◌>>=◌}
+use Rattle.json_text.specs.Tag.{is_tagged}
 
 -- a member that is absent or null
 abbrev pub present : Field → Option Data → Read Data
@@ -47,10 +48,6 @@ unfoldable pub optional : {X : Type 0} → (Field → Data → Read X) → Field
 optional reader f d = if is_absent f d then Ok None else some_of (reader f d)
 
 -- ---- kinds of JSON value
-
--- a number token, which stands here as a text
-abbrev pub is_tagged : List ℕ → Bool
-is_tagged s = slice_index s 0 == 1
 
 abbrev pub as_text : Field → Data → Read (List ℕ)
 as_text f (string s) = if is_tagged s then Err (WrongForm f) else Ok s

@@ -11,7 +11,7 @@ use Rattle.ocpi_text.specs.Decimal.{e4_at}
 use Rattle.ocpi_types.specs.declared.field.Field.{Field}
 use Rattle.ocpi_types.specs.declared.field.Field.TheVariants as field
 use Rattle.ocpi_types.specs.Fields.{name_of}
-use Rattle.json_text.specs.Fields.{is_tagged}
+use Rattle.json_text.specs.Tag.{is_tagged}
 
 -- v stands under the member's name, and is not null
 pub record Has (f : Field) (d v : Data) : Type 0 where

@@ -10,6 +10,7 @@ pub mod Nesting
 pub mod Numbers
 pub mod Pieces
 pub mod Quote
+pub mod Tag
 pub mod Tagged
 pub mod Texts
 pub mod Unquote

@@ -1,5 +1,5 @@
 -- The tree of a line of bytes.
-use Rattle.std.specs.Prelude.{◌≡◌, ◌≤◌, ℕ, List, length, nat_lt, false, Option, Some, None, Ok, Err, if◌then◌else◌}
+use Rattle.std.specs.Prelude.{◌≡◌, ◌<◌, ◌≤◌, ◌⊎◌, ℕ, List, length, nat_lt, false, Option, Some, None, Ok, Err, if◌then◌else◌}
 use Rattle.std.specs.Str.{IsUtf8, is_utf8}
 use Rattle.serde_json.specs.Data.{Data}
 use Rattle.serde_json.specs.Read.{read}
@@ -11,6 +11,10 @@ use Rattle.json_text.specs.Quote.{quote}
 -- the bytes of the longest line
 abbrev pub max_line : ℕ
 max_line = 1048576
+
+-- a line that is too long, or no UTF-8
+abbrev pub IsNoText : List ℕ → Type 0
+IsNoText line = (max_line < length line) ⊎ (¬ IsUtf8 line)
 
 unfoldable pub text_of : List ℕ → Read (List ℕ)
 text_of line = if nat_lt max_line (length line) then Err Syntax else if is_utf8 line then Ok line else Err Syntax

@@ -1,12 +1,8 @@
 -- Numbers that stand where an object's name has to stand.
-use Rattle.std.specs.Prelude.{ℕ, List, [], ◌∷◌, ◌||◌, ◌==◌, Bool, false}
+use Rattle.std.specs.Prelude.{ℕ, List, [], ◌∷◌, ◌||◌, Bool, false}
 use Rattle.json.specs.Token.{Token, begin_object, end_object, begin_array, end_array, key, string, number, boolean, null, bad}
 use Rattle.json.specs.Lex.{tokens}
-
--- a text that begins with U+0001, as each quoted number does
-abbrev pub begins_with_tag : List ℕ → Bool
-begins_with_tag [] = false
-begins_with_tag (x ∷ s) = x == 1
+use Rattle.json_text.specs.Tag.{is_tagged}
 
 -- a string with a colon behind it, white space aside, is a token of its own: a key
 abbrev pub is_number_name : Token → Bool
@@ -14,7 +10,7 @@ is_number_name begin_object = false
 is_number_name end_object = false
 is_number_name begin_array = false
 is_number_name end_array = false
-is_number_name (key s) = begins_with_tag s
+is_number_name (key s) = is_tagged s
 is_number_name (string s) = false
 is_number_name (number s) = false
 is_number_name (boolean b) = false

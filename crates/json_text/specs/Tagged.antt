@@ -6,8 +6,8 @@ use Rattle.serde_json.specs.Data.{Data, null, boolean, string, array, object, It
 use Rattle.serde_json.specs.Read.{max_depth}
 use Rattle.json_text.specs.Fault.{Read, ◌>>=◌}
 use Rattle.json_text.specs.Line.{tree_of}
-use Rattle.json_text.specs.Names.{begins_with_tag}
 use Rattle.json_text.specs.Quote.{quote}
+use Rattle.json_text.specs.Tag.{is_tagged}
 
 -- of a text: its numbers quoted, and then its tree, or the first refusal
 abbrev pub tree_in : List ℕ → Read Data
@@ -19,7 +19,7 @@ abbrev mutual
   tagged json.null = Some null
   tagged (json.boolean b) = Some (boolean b)
   tagged (json.number s) = Some (string (1 ∷ s))
-  tagged (json.string s) = if begins_with_tag s then None else Some (string s)
+  tagged (json.string s) = if is_tagged s then None else Some (string s)
   tagged (json.array js) = option_map array (tagged_items js)
   tagged (json.object ms) = option_map object (tagged_members ms no_members)
 
@@ -29,7 +29,7 @@ abbrev mutual
 
   pub tagged_members : json.Members → Members → Option Members
   tagged_members json.no_members found = Some found
-  tagged_members (json.member k j ms) found = if begins_with_tag k then None else option_and_then (λ d. tagged_members ms (put k d found)) (tagged j)
+  tagged_members (json.member k j ms) found = if is_tagged k then None else option_and_then (λ d. tagged_members ms (put k d found)) (tagged j)
 
 -- the tree of a text of JSON that nests no deeper than 127 and in which no text and no name begins with U+0001
 abbrev pub tagged_tree : List ℕ → Option Data

@@ -23,7 +23,7 @@ pub enum JsonFault {
     WrongForm(Field),
     /// A word that is not in the member's list.
     UnknownWord(Field),
-    /// A kind of packet that is not known.
+    /// A kind of packet, an event or an order that is not known.
     UnknownKind,
     /// Memory ran out.
     Memory,

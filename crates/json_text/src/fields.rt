@@ -1,12 +1,13 @@
 //! One member of an object, by its name.
 
-ghost use Rattle.std.specs.Prelude.{◌≡◌, ◌≤◌, ◌*◌, drop, IsTrue, IfOk, Ok};
+ghost use Rattle.std.specs.Prelude.{◌≡◌, ◌≤◌, ◌*◌, IfOk, Ok};
 ghost use Rattle.serde_json.specs.View.{view, items_view};
 ghost use Rattle.ocpi_text.specs.Party.{country_at, party_id_at};
 ghost use Rattle.json_text.specs.Fault.{Gives, IsBy};
-ghost use Rattle.json_text.specs.Fields.{as_record, as_text, is_tagged, is_absent, optional, required, text_in, number_in, truth_in, record_in, list_in, ci_in, free_in, moment_in, word_in, whole_in, e4_in, quantity_in, party_in, country_in, party_id_in};
+ghost use Rattle.json_text.specs.Fields.{as_record, as_text, is_absent, optional, required, text_in, number_in, truth_in, record_in, list_in, ci_in, free_in, moment_in, word_in, whole_in, e4_in, quantity_in, party_in, country_in, party_id_in};
 
 use crate::fault::JsonFault;
+use crate::tag::{behind_tag, is_tagged};
 use ocpi_text::{CiText, E4, FreeText, Moment, Party, Quantity, ShortText, TextFault, Whole};
 use ocpi_types::{Field, Word};
 use serde_json::Value;
@@ -33,24 +34,6 @@ pub fn is_absent(object: &Value, field: Field) -> bool
         None => true,
         Some(value) => value.is_null(),
     }
-}
-
-/// A number token, which stands as a text.
-fn is_tagged(text: &str) -> bool
-    ensures { result ≡ is_tagged text.now }
-{
-    match text.as_bytes() {
-        [first, ..] => *first == 1,
-        [] => false,
-    }
-}
-
-/// The token behind the tag.
-fn behind_tag(text: &str) -> &str
-    requires { IsTrue (is_tagged text.now) }
-    ensures { result.now ≡ drop 1 text.now }
-{
-    &text[1..]
 }
 
 /// A value of that name as a text.

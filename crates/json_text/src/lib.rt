@@ -12,6 +12,7 @@ mod one_pass;
 mod quote;
 mod record_writer;
 mod same;
+mod tag;
 mod texts;
 mod unquote;
 

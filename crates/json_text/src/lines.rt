@@ -1,7 +1,9 @@
 //! Lines of bytes to trees.
 
-ghost use Rattle.json_text.specs.Fault.{GivesBy};
-ghost use Rattle.json_text.specs.Line.{text_of, tree_of, tree_at};
+ghost use Rattle.std.specs.Prelude.{◌≡◌, Err};
+ghost use Rattle.json_text.specs.declared.fault.JsonFault.TheVariants.{Syntax};
+ghost use Rattle.json_text.specs.Fault.{GivesBy, IsBy};
+ghost use Rattle.json_text.specs.Line.{IsNoText, text_of, tree_of, tree_at};
 ghost use Rattle.json_text.specs.Tagged.{tree_in};
 ghost use Rattle.serde_json.specs.View.{view};
 
@@ -17,7 +19,7 @@ const MAX_LINE: usize = 1_048_576;
 
 #[tactic(auto, unfolding(crate::specs::Line::text_of))]
 fn text_of(line: &[u8]) -> Result<&str, JsonFault>
-    ensures { GivesBy (λ s. s.now) result (text_of line.now) }
+    ensures { IsBy (λ s. s.now) result (text_of line.now) }
 {
     if line.len() > MAX_LINE {
         return Err(JsonFault::Syntax);
@@ -69,10 +71,12 @@ pub fn utf8_tree(alloc: Global, text: &str) -> Result<Value, JsonFault>
 ///
 /// Refused, in this order: a line of more than 1,048,576 bytes or that is no UTF-8 (`Syntax`);
 /// what [`quote_numbers`] refuses; a text that is no JSON, that nests deeper than 127 arrays and
-/// objects, or in which a name of an object is a number (`Syntax`).
+/// objects, or in which a name of an object is a number (`Syntax`). Only the first needs no memory.
 #[tactic(auto, unfolding(crate::specs::Line::tree_at))]
 pub fn line_tree(alloc: Global, line: &[u8]) -> Result<Value, JsonFault>
-    ensures { GivesBy view result (tree_at line.now) }
+    ensures exact { GivesBy view result (tree_at line.now) }
+    // No memory is taken to refuse a line that is too long or no UTF-8.
+    ensures unread { IsNoText line.now → result ≡ Err Syntax }
 {
     let text = text_of(line)?;
     utf8_tree(alloc, text)

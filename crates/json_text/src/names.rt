@@ -2,22 +2,17 @@
 
 ghost use Rattle.std.specs.Prelude.{◌≡◌, IfOk};
 ghost use Rattle.json.specs.Reads.{token_of};
-ghost use Rattle.json_text.specs.Names.{begins_with_tag, is_number_name, has_number_name};
+ghost use Rattle.json_text.specs.Names.{is_number_name, has_number_name};
 
+use crate::tag::is_tagged;
 use json::{Reader, Scratch, Token};
 use std::alloc::{AllocError, Global};
-
-pub(crate) fn begins_with_tag(text: &str) -> bool
-    ensures { result ≡ begins_with_tag text.now }
-{
-    text.as_bytes().first() == Some(&1)
-}
 
 fn is_number_name(token: &Token<'_>) -> bool
     ensures { result ≡ is_number_name (token_of token.now) }
 {
     match token {
-        Token::Key(name) => begins_with_tag(name),
+        Token::Key(name) => is_tagged(name),
         _ => false,
     }
 }

@@ -8,7 +8,7 @@ ghost use Rattle.serde_json.specs.View.{view, items_view, members_view};
 ghost use Rattle.json_text.specs.Tagged.{tagged, tagged_items, tagged_members, tagged_tree, tree_in};
 ghost use Rattle.json_text.specs.declared.one_pass.Stop.TheVariants.{Declined, Memory};
 
-use crate::names::begins_with_tag;
+use crate::tag::is_tagged;
 use json::{Invalid, Reader, Scratch, Token};
 use serde_json::{Map, Value};
 use std::alloc::{AllocError, AllocFailed, Global};
@@ -71,7 +71,7 @@ fn read(alloc: Global, reader: &mut Reader<'_>, depth: usize) -> Result<Value, S
     let token = reader.next().ok_or(Stop::Declined)?;
     match token {
         Token::String(text) => {
-            if begins_with_tag(text) {
+            if is_tagged(text) {
                 return Err(Stop::Declined);
             }
             Ok(Value::String(String::from_str(alloc, text)?))
@@ -131,7 +131,7 @@ fn read_members(
 {
     let mut found = Map::new(alloc);
     'members: while let Some(name) = reader.next_key()? {
-        if begins_with_tag(name) {
+        if is_tagged(name) {
             return Err(Stop::Declined);
         }
         let key = String::from_str(alloc, name)?;

@@ -17,11 +17,12 @@ use Rattle.ocpi_types.specs.declared.words.AllowedType.{AllowedType}
 use Rattle.ocpi_types.specs.declared.words.AllowedType.TheVariants as allowed
 use Rattle.ocpi_forms.specs.AuthorizationForms.{uid_at, evse_uids_in, location_references_at, location_references_in, location_references_members, LocationReferencesFits, IsLocationReferences, authorize_at, authorize_members, AuthorizeFits, IsAuthorize, authorization_info_at, authorization_info_members, AuthorizationInfoFits, IsAuthorizationInfo, reply_at, authorization_at, authorization_members, AuthorizationFits, IsAuthorization}
 use Rattle.json_text.specs.Fault.{◌>>=◌}
-use Rattle.json_text.specs.Fields.{is_tagged, as_text, ci_in, moment_in, word_in, record_in, optional}
+use Rattle.json_text.specs.Fields.{as_text, ci_in, moment_in, word_in, record_in, optional}
 use Rattle.json_text.specs.Form.{Required, Optional, IsCi, IsMoment, IsWhole, IsRecord, IsList}
 use Rattle.json_text.specs.Members.{object_of}
 use Rattle.ocpi_forms.specs.Statuses.{status_in, IsStatus}
 use Rattle.ocpi_forms.specs.Tokens.{token_at, token_members, IsToken}
+use Rattle.json_text.specs.Tag.{is_tagged}
 use Rattle.json_text.proofs.Elements.{every_exact}
 use Rattle.json_text.proofs.Exact.{Exact, done, ok_is, bind_ok, both_steps, text_exact, formed_ok, ci_exact, moment_exact, word_exact, optional_exact, optional_ci_exact, optional_word_exact, inner_exact}
 use Rattle.json_text.proofs.MemberForms.{tree, ci_form, word_form, whole_form, moment_form, inner_form, optional_ci_form, optional_word_form, optional_inner_form, optional_uids_form}

@@ -16,11 +16,12 @@ use Rattle.ocpi_types.specs.declared.replies.CommandResponse.TheVariants as resp
 use Rattle.ocpi_types.specs.declared.replies.CommandResult.{CommandResult}
 use Rattle.ocpi_types.specs.declared.replies.Ack.{Ack}
 use Rattle.json_text.specs.Fault.{◌>>=◌}
-use Rattle.json_text.specs.Fields.{is_tagged, free_in, moment_in, word_in, whole_in, record_in}
+use Rattle.json_text.specs.Fields.{free_in, moment_in, word_in, whole_in, record_in}
 use Rattle.json_text.specs.Form.{Required, IsMoment, IsWhole, IsRecord}
 use Rattle.json_text.specs.Members.{object_of}
 use Rattle.ocpi_forms.specs.ReplyForms.{response_data_at, IsResponseData, response_data_members, ResponseDataFits, response_at, command_response_at, IsCommandResponse, command_response_members, CommandResponseFits, command_result_at, IsCommandResult, command_result_members, CommandResultFits, ack_at, IsAck, ack_members, AckFits}
 use Rattle.ocpi_forms.specs.Statuses.{status_in, IsStatus}
+use Rattle.json_text.specs.Tag.{is_tagged}
 use Rattle.json_text.proofs.Exact.{Exact, done, ok_is, bind_ok, both_steps, free_exact, moment_exact, word_exact, whole_exact, inner_exact}
 use Rattle.json_text.proofs.MemberForms.{tree, free_form, word_form, whole_form, moment_form, inner_form}
 use Rattle.ocpi_forms.proofs.StatusLemmas.{status_exact, status_form, status_well}

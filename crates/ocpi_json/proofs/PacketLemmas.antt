@@ -9,13 +9,15 @@ use Rattle.ocpi_types.specs.declared.field.Field.TheVariants as field
 use Rattle.ocpi_types.specs.declared.packet.Packet.{Packet}
 use Rattle.ocpi_types.specs.declared.words.PacketKind.{PacketKind}
 use Rattle.ocpi_types.specs.declared.words.PacketKind.TheVariants as kind
-use Rattle.json_text.specs.Fields.{is_tagged, party_in, whole_in, record_in, known_in}
-use Rattle.json_text.specs.Form.{Required, IsWord, IsRecord}
+use Rattle.json_text.specs.Fields.{party_in, whole_in, record_in, known_in}
+use Rattle.json_text.specs.Form.{Required, IsParty, IsWhole, IsWord, IsRecord}
 use Rattle.json_text.specs.Members.{object_of}
 use Rattle.ocpi_forms.proofs.BodyLemmas.{OfKind, body_exact, body_form, body_well}
 use Rattle.ocpi_forms.specs.Bodies.{body_at, IsBody, body_members}
-use Rattle.ocpi_json.specs.Packets.{packet_at, packet_of_line, packet_in, IsPacket, IsPacketLine, SpellsPacket, packet_members, packet_json, PacketFits}
-use Rattle.json_text.proofs.Exact.{Exact, ok_is, bind_ok, both_steps, of_text, whole_exact, party_exact, as_record_exact, inner_exact}
+use Rattle.ocpi_json.specs.declared.packets.Envelope.{Envelope}
+use Rattle.ocpi_json.specs.Packets.{envelope_at, packet_at, packet_of_line, packet_in, IsPacket, IsPacketLine, SpellsPacket, packet_members, packet_json, PacketFits}
+use Rattle.json_text.specs.Tag.{is_tagged}
+use Rattle.json_text.proofs.Exact.{Exact, ok_is, bind_ok, both_steps, known_exact, whole_exact, party_exact, as_record_exact, inner_exact}
 use Rattle.json_text.proofs.LineTrees.{line_sound, line_complete}
 use Rattle.json_text.proofs.MemberForms.{tree, party_form, word_form, whole_form, inner_form, party_begins}
 use Rattle.json_text.proofs.Tagged.{ascends}
@@ -23,39 +25,62 @@ use Rattle.json_text.proofs.WellFormed.{◌and◌, IsWell, record_well, text_wel
 
 -- ---- reading
 
-pub packet_exact : Exact packet_at IsPacket
-unfolding packet_at
-packet_exact = record {
-  sound = λ d p e.
-      let a = bind_ok (party_in field.From d) _ p e in
-      let b = bind_ok (party_in field.To d) _ p a.2 in
-      let g = bind_ok (whole_in field.Serial d) _ p b.2 in
-      let h = bind_ok (whole_in field.Request d) _ p g.2 in
-      let i = bind_ok (known_in kind_of_word field.Kind d) _ p h.2 in
-      let j = bind_ok (record_in field.Body d) _ p i.2 in
-      let k = bind_ok (body_at i.0 j.0) _ p j.2 in
-      let carried = (inner_exact field.Body (body_at i.0) (OfKind i.0) (body_exact i.0)).sound d k.0 (both_steps (record_in field.Body d) (body_at i.0) j.0 k.0 j.1 k.1) in
-      let of_kind = carried.2.form.1 in
-      subst (IsPacket d) (ok_is _ p k.2) (record {
+record IsEnvelope (d : Data) (v : Envelope) : Type 0 where
+  from : Required IsParty field.From d v.from
+  to : Required IsParty field.To d v.to
+  serial : Required IsWhole field.Serial d v.serial
+  request : Required IsWhole field.Request d v.request
+  kind : Required (IsWord kind_of_word) field.Kind d v.kind
+
+envelope_exact : Exact envelope_at IsEnvelope
+unfolding envelope_at
+envelope_exact = record {
+  sound = λ d v e.
+      let a = bind_ok (party_in field.From d) _ v e in
+      let b = bind_ok (party_in field.To d) _ v a.2 in
+      let g = bind_ok (whole_in field.Serial d) _ v b.2 in
+      let h = bind_ok (whole_in field.Request d) _ v g.2 in
+      let i = bind_ok (known_in kind_of_word field.Kind d) _ v h.2 in
+      subst (IsEnvelope d) (ok_is _ v i.2) (record {
         from = (party_exact field.From).sound d a.0 a.1;
         to = (party_exact field.To).sound d b.0 b.1;
         serial = (whole_exact field.Serial).sound d g.0 g.1;
         request = (whole_exact field.Request).sound d h.0 h.1;
-        kind = subst (Required (IsWord kind_of_word) field.Kind d) (sym of_kind) ((known_exact kind_of_word field.Kind).sound d i.0 i.1);
+        kind = (known_exact kind_of_word field.Kind).sound d i.0 i.1;
+      });
+  complete = λ d v h. rw (
+    (party_exact field.From).complete d v.from h.from,
+    (party_exact field.To).complete d v.to h.to,
+    (whole_exact field.Serial).complete d v.serial h.serial,
+    (whole_exact field.Request).complete d v.request h.request,
+    (known_exact kind_of_word field.Kind).complete d v.kind h.kind,
+  ) refl;
+}
+
+pub packet_exact : Exact packet_at IsPacket
+unfolding packet_at
+packet_exact = record {
+  sound = λ d p e.
+      let v = bind_ok (envelope_at d) _ p e in
+      let j = bind_ok (record_in field.Body d) _ p v.2 in
+      let k = bind_ok (body_at v.0.kind j.0) _ p j.2 in
+      let has = envelope_exact.sound d v.0 v.1 in
+      let carried = (inner_exact field.Body (body_at v.0.kind) (OfKind v.0.kind) (body_exact v.0.kind)).sound d k.0 (both_steps (record_in field.Body d) (body_at v.0.kind) j.0 k.0 j.1 k.1) in
+      let of_kind = carried.2.form.1 in
+      subst (IsPacket d) (ok_is _ p k.2) (record {
+        from = has.from;
+        to = has.to;
+        serial = has.serial;
+        request = has.request;
+        kind = subst (Required (IsWord kind_of_word) field.Kind d) (sym of_kind) has.kind;
         body = (carried.0, carried.1, record { members = carried.2.members; is_object = carried.2.is_object; form = carried.2.form.0 });
       });
   complete = λ d p h.
+      let head : Envelope = record { from = p.from; to = p.to; serial = p.serial; request = p.request; kind = kind_of p.body } in
+      let has : IsEnvelope d head = record { from = h.from; to = h.to; serial = h.serial; request = h.request; kind = h.kind } in
       let carried : Required (IsRecord (OfKind (kind_of p.body))) field.Body d p.body = (h.body.0, h.body.1, record { members = h.body.2.members; is_object = h.body.2.is_object; form = (h.body.2.form, refl) }) in
       let inner = bind_ok (record_in field.Body d) (body_at (kind_of p.body)) p.body ((inner_exact field.Body (body_at (kind_of p.body)) (OfKind (kind_of p.body)) (body_exact (kind_of p.body))).complete d p.body carried) in
-      rw (
-        (party_exact field.From).complete d p.from h.from,
-        (party_exact field.To).complete d p.to h.to,
-        (whole_exact field.Serial).complete d p.serial h.serial,
-        (whole_exact field.Request).complete d p.request h.request,
-        (known_exact kind_of_word field.Kind).complete d (kind_of p.body) h.kind,
-        inner.1,
-        inner.2,
-      ) refl;
+      rw (envelope_exact.complete d head has, inner.1, inner.2) refl;
 }
 
 -- a line's tree is read just where it is a packet's

@@ -10,6 +10,7 @@ use Rattle.ocpi_types.specs.Words.{kind_word, kind_of_word}
 use Rattle.ocpi_types.specs.declared.field.Field.TheVariants as field
 use Rattle.ocpi_types.specs.declared.packet.Packet.{Packet}
 use Rattle.ocpi_types.specs.declared.words.PacketKind.{PacketKind}
+use Rattle.ocpi_json.specs.declared.packets.Envelope.{Envelope}
 use Rattle.ocpi_forms.specs.Bodies.{body_at, IsBody, body_members, BodyFits}
 use Rattle.json_text.specs.Fault.{Read, ◌>>=◌}
 use Rattle.json_text.specs.Fields.{party_in, whole_in, record_in, known_in, as_record}
@@ -19,17 +20,23 @@ use Rattle.json_text.specs.Members.{Member, text, whole, inner, object_of, json_
 
 -- ---- reading
 
--- member by member, in the order in which faults are told: the kind is tried before the body is looked at
-unfoldable pub packet_at : Data → Read Packet
-packet_at d = do
+-- whose the packet is, under which numbers and of which kind, in the order in which faults are told
+unfoldable pub envelope_at : Data → Read Envelope
+envelope_at d = do
   from ← party_in field.From d
   to ← party_in field.To d
   serial ← whole_in field.Serial d
   request ← whole_in field.Request d
   kind ← known_in kind_of_word field.Kind d
+  Ok (record { from = from; to = to; serial = serial; request = request; kind = kind })
+
+-- the kind is tried before the body is looked at
+unfoldable pub packet_at : Data → Read Packet
+packet_at d = do
+  envelope ← envelope_at d
   inner ← record_in field.Body d
-  body ← body_at kind inner
-  Ok (record { from = from; to = to; serial = serial; request = request; body = body })
+  body ← body_at envelope.kind inner
+  Ok (record { from = envelope.from; to = envelope.to; serial = envelope.serial; request = envelope.request; body = body })
 
 -- a line that is no object is told as such
 unfoldable pub packet_of_line : Data → Read Packet

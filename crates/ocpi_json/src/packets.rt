@@ -7,11 +7,12 @@ ghost use Rattle.ocpi_types.specs.declared.field.Field.TheVariants as field;
 ghost use Rattle.json_text.specs.Fault.{Gives};
 ghost use Rattle.json_text.specs.Fields.{known_in};
 ghost use Rattle.json_text.specs.Members.{said};
-ghost use Rattle.ocpi_json.specs.Packets.{packet_at, packet_of_line, IsPacketLine, packet_members, PacketFits};
+ghost use Rattle.ocpi_json.specs.Packets.{envelope_at, packet_at, packet_of_line, IsPacketLine, packet_members, PacketFits};
 
 use json_text::fields::{as_record, party_in, record_in, text_in, whole_in};
 use json_text::{JsonFault, RecordWriter};
 use ocpi_forms::{body_of, write_record};
+use ocpi_text::{Party, Whole};
 use ocpi_types::{Field, Packet, PacketKind, Word};
 use serde_json::Value;
 use std::alloc::{AllocError, Global};
@@ -27,21 +28,46 @@ fn kind_of(object: &Value) -> Result<PacketKind, JsonFault>
     }
 }
 
-#[tactic(auto, unfolding(crate::specs::Packets::packet_at))]
-fn packet_of(alloc: Global, object: &Value) -> Result<Packet, JsonFault>
-    ensures { Gives result (packet_at (view object.now)) }
+/// Whose a packet is, under which numbers and of which kind.
+#[derive(Clone, Copy)]
+struct Envelope {
+    from: Party,
+    to: Party,
+    serial: Whole,
+    request: Whole,
+    kind: PacketKind,
+}
+
+#[tactic(auto, unfolding(crate::specs::Packets::envelope_at))]
+fn envelope_of(object: &Value) -> Result<Envelope, JsonFault>
+    ensures { result ≡ envelope_at (view object.now) }
 {
     let from = party_in(object, Field::From)?;
     let to = party_in(object, Field::To)?;
     let serial = whole_in(object, Field::Serial)?;
     let request = whole_in(object, Field::Request)?;
     let kind = kind_of(object)?;
-    let body = body_of(alloc, kind, record_in(object, Field::Body)?)?;
-    Ok(Packet {
+    Ok(Envelope {
         from,
         to,
         serial,
         request,
+        kind,
+    })
+}
+
+#[tactic(auto, unfolding(crate::specs::Packets::packet_at))]
+fn packet_of(alloc: Global, object: &Value) -> Result<Packet, JsonFault>
+    ensures { Gives result (packet_at (view object.now)) }
+{
+    let envelope = envelope_of(object)?;
+    let inner = record_in(object, Field::Body)?;
+    let body = body_of(alloc, envelope.kind, inner)?;
+    Ok(Packet {
+        from: envelope.from,
+        to: envelope.to,
+        serial: envelope.serial,
+        request: envelope.request,
         body,
     })
 }

@@ -1,6 +1,8 @@
 //! Lines to packets, site lines, setups and events, and stored texts to rows.
 
-ghost use Rattle.std.specs.Prelude.{List, Ok, IfOk};
+ghost use Rattle.std.specs.Prelude.{◌≡◌, List, Ok, Err, IfOk};
+ghost use Rattle.json_text.specs.declared.fault.JsonFault.TheVariants.{Syntax};
+ghost use Rattle.json_text.specs.Line.{IsNoText};
 ghost use Rattle.ocpi_json.specs.EventForms.{SpellsEvent, event_in};
 ghost use Rattle.json_text.specs.Fault.{Gives};
 ghost use Rattle.ocpi_json.specs.Packets.{SpellsPacket, packet_in};
@@ -25,7 +27,8 @@ use std::alloc::Global;
 
 #[tactic(auto, unfolding(crate::specs::Packets::packet_in))]
 fn packet_in(alloc: Global, line: &[u8]) -> Result<Packet, JsonFault>
-    ensures { Gives result (packet_in line.now) }
+    ensures exact { Gives result (packet_in line.now) }
+    ensures unread { IsNoText line.now → result ≡ Err Syntax }
 {
     let tree = line_tree(alloc, line)?;
     packet_of_line(alloc, &tree)
@@ -45,13 +48,16 @@ pub fn read_packet(alloc: Global, line: &[u8]) -> Result<Packet, JsonFault>
     ensures only { (p : Packet) → SpellsPacket line.now p → Gives result (Ok p) }
     // Which packet, or which refusal, it is.
     ensures exact { Gives result (packet_in line.now) }
+    // No memory is taken to refuse a line that is too long or no UTF-8.
+    ensures unread { IsNoText line.now → result ≡ Err Syntax }
 {
     packet_in(alloc, line)
 }
 
 #[tactic(auto, unfolding(crate::specs::SiteLines::site_in))]
 fn site_in(alloc: Global, line: &[u8]) -> Result<SiteLine, JsonFault>
-    ensures { Gives result (site_in line.now) }
+    ensures exact { Gives result (site_in line.now) }
+    ensures unread { IsNoText line.now → result ≡ Err Syntax }
 {
     let tree = line_tree(alloc, line)?;
     site_of_line(alloc, &tree)
@@ -69,13 +75,16 @@ pub fn read_site(alloc: Global, line: &[u8]) -> Result<SiteLine, JsonFault>
     ensures only { (l : SiteLine) → SpellsSiteLine line.now l → Gives result (Ok l) }
     // Which site line, or which refusal, it is.
     ensures exact { Gives result (site_in line.now) }
+    // No memory is taken to refuse a line that is too long or no UTF-8.
+    ensures unread { IsNoText line.now → result ≡ Err Syntax }
 {
     site_in(alloc, line)
 }
 
 #[tactic(auto, unfolding(crate::specs::SetupForms::setup_in))]
 fn setup_in(alloc: Global, line: &[u8]) -> Result<Setup, JsonFault>
-    ensures { Gives result (setup_in line.now) }
+    ensures exact { Gives result (setup_in line.now) }
+    ensures unread { IsNoText line.now → result ≡ Err Syntax }
 {
     let tree = line_tree(alloc, line)?;
     setup_of_line(alloc, &tree)
@@ -94,13 +103,16 @@ pub fn read_setup(alloc: Global, line: &[u8]) -> Result<Setup, JsonFault>
     ensures only { (s : List Node) → SpellsSetup line.now s → Gives result (Ok s) }
     // Which setup, or which refusal, it is.
     ensures exact { Gives result (setup_in line.now) }
+    // No memory is taken to refuse a line that is too long or no UTF-8.
+    ensures unread { IsNoText line.now → result ≡ Err Syntax }
 {
     setup_in(alloc, line)
 }
 
 #[tactic(auto, unfolding(crate::specs::EventForms::event_in))]
 fn event_in(alloc: Global, line: &[u8]) -> Result<Event, JsonFault>
-    ensures { Gives result (event_in line.now) }
+    ensures exact { Gives result (event_in line.now) }
+    ensures unread { IsNoText line.now → result ≡ Err Syntax }
 {
     let tree = line_tree(alloc, line)?;
     event_of_line(&tree)
@@ -118,6 +130,8 @@ pub fn read_event(alloc: Global, line: &[u8]) -> Result<Event, JsonFault>
     ensures only { (e : Event) → SpellsEvent line.now e → Gives result (Ok e) }
     // Which event, or which refusal, it is.
     ensures exact { Gives result (event_in line.now) }
+    // No memory is taken to refuse a line that is too long or no UTF-8.
+    ensures unread { IsNoText line.now → result ≡ Err Syntax }
 {
     event_in(alloc, line)
 }

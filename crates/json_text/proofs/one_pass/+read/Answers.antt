@@ -8,8 +8,8 @@ use Rattle.serde_json.specs.Read.{converted}
 use Rattle.serde_json.specs.View.{view, members_view}
 use Rattle.serde_json.specs.declared.value.Value.{Value, String, Bool, Null, the_lemmas}
 use Rattle.serde_json.proofs.Views.{view-Array, view-Object, members_view-insert_entry}
-use Rattle.json_text.specs.Names.{begins_with_tag}
 use Rattle.json_text.specs.Tagged.{tagged, tagged_items, tagged_members}
+use Rattle.json_text.specs.Tag.{is_tagged}
 use Rattle.json_text.proofs.TaggedTrees.{tagged_array, tagged_object, item_read, items_over, member_read, members_over, item_refused, member_refused, key_refused, name_refused, items_before, items_before_none, one_more_item, none_before}
 use Rattle.json_text.proofs.one_pass.+read.Goals as goal
 
@@ -44,11 +44,11 @@ read-returns-in_err-read_members-in-BeginObject-clause-declined t c refused =
     let opened = ap (converted tagged) (ap (value c.args.depth) (first ∙ ap (λ k. token_of k ∷ c.next.new.self) c.in-BeginObject.is) ∙ value-begin_object c.args.depth c.next.new.self (omega arith)) ∙ tagged_object (members (value (c.args.depth - 1)) (length c.next.new.self) c.next.new.self) in
     opened ∙ ap (parse_map object) (c.read_members.ensures.declined (grind arith))
 
-pub read-returns-then-begins_with_tag-clause-declined : goal.read-returns-then-begins_with_tag-clause-declined
-read-returns-then-begins_with_tag-clause-declined t c refused =
+pub read-returns-then-is_tagged-clause-declined : goal.read-returns-then-is_tagged-clause-declined
+read-returns-then-is_tagged-clause-declined t c refused =
     let first : c.args.reader.now ≡ token_of c.in_ok-token.token ∷ c.next.new.self = grind arith in
     let is : c.args.reader.now ≡ Token.string c.in-String.text.now ∷ c.next.new.self = grind (arith, first) in
-    let tag : begins_with_tag c.in-String.text.now ≡ true = grind arith in
+    let tag : is_tagged c.in-String.text.now ≡ true = grind arith in
     ap (converted tagged) (ap (value c.args.depth) is ∙ value_is c.args.depth _) ∙ rw tag
 
 pub read-returns-in-EndObject-clause-declined : goal.read-returns-in-EndObject-clause-declined
@@ -62,7 +62,7 @@ read-returns-in_ok-from_str-in-String-clause-ok t c =
     let first : c.args.reader.now ≡ token_of c.in_ok-token.token ∷ c.next.new.self = grind arith in
     let is : c.args.reader.now ≡ Token.string c.in-String.text.now ∷ c.next.new.self = grind (arith, first) in
     let seen : view (String c.in_ok-from_str-in-String.field-0) ≡ string c.in-String.text.now = search (rules, the_lemmas) in
-    let untagged : begins_with_tag c.in-String.text.now ≡ false = grind arith in
+    let untagged : is_tagged c.in-String.text.now ≡ false = grind arith in
     ap (converted tagged) (ap (value c.args.depth) is ∙ value_is c.args.depth _) ∙ rw (untagged, seen)
 
 pub read-returns-in_ok-tagged_number-in-Number-clause-ok : goal.read-returns-in_ok-tagged_number-in-Number-clause-ok
@@ -152,8 +152,8 @@ read_members-returns-in_err-name-clause-declined t c refused =
     let old = members_view l.found.entries in
     l.invariant.2 ∙ key_refused p old n l.reader c.in_err-name.ensures.value
 
-pub read_members-returns-then-begins_with_tag-clause-declined : goal.read_members-returns-then-begins_with_tag-clause-declined
-read_members-returns-then-begins_with_tag-clause-declined t c refused =
+pub read_members-returns-then-is_tagged-clause-declined : goal.read_members-returns-then-is_tagged-clause-declined
+read_members-returns-then-is_tagged-clause-declined t c refused =
     let p = value c.args.depth in
     let l = c.members in
     let n = l.invariant.0 in
@@ -161,7 +161,7 @@ read_members-returns-then-begins_with_tag-clause-declined t c refused =
     let k = c.in-Some.name.now in
     let s = c.next_key.new.self in
     let named : read_key l.reader ≡ Some (Some k, s) = grind arith in
-    let tag : begins_with_tag k ≡ true = grind arith in
+    let tag : is_tagged k ≡ true = grind arith in
     l.invariant.2 ∙ name_refused p old n k l.reader s tag named
 
 pub read_members-returns-in_err-member-clause-declined : goal.read_members-returns-in_err-member-clause-declined
@@ -173,7 +173,7 @@ read_members-returns-in_err-member-clause-declined t c refused =
     let k = c.in-Some.name.now in
     let s = c.next_key.new.self in
     let named : read_key l.reader ≡ Some (Some k, s) = grind arith in
-    let untagged : begins_with_tag k ≡ false = grind arith in
+    let untagged : is_tagged k ≡ false = grind arith in
     l.invariant.2 ∙ member_refused p old n k l.reader s untagged named (c.read.ensures.declined (grind arith))
 
 pub read_members-members-preserved : goal.read_members-members-preserved
@@ -185,7 +185,7 @@ read_members-members-preserved t c =
     let k = c.in-Some.name.now in
     let s = c.next_key.new.self in
     let named : read_key l.reader ≡ Some (Some k, s) = grind arith in
-    let untagged : begins_with_tag k ≡ false = grind arith in
+    let untagged : is_tagged k ≡ false = grind arith in
     let done = c.in_ok-member.ensures in
     let v = c.in_ok-member.member in
     let r = c.read.new.reader in
