@@ -17,29 +17,19 @@ use Rattle.ocpi_json.specs.declared.events.EventWord.{EventWord}
 use Rattle.ocpi_json.specs.declared.events.EventWord.TheVariants as event
 use Rattle.ocpi_json.specs.declared.events.OrderWord.{OrderWord}
 use Rattle.ocpi_json.specs.declared.events.OrderWord.TheVariants as command
-use Rattle.ocpi_json.specs.EventForms.{event_of_word, order_of_word, word_of_report, word_of_order, word_of_kind, known, known_in, start_order_at, reserve_order_at, unlock_order_at, order_at, submit_at, token_event_at, service_at, swipe_at, meter_at, command_number_at, report_at, charger_at, deliver_at, kind_at, event_at, event_of_line, event_in, HasCommandNumber, IsOrder, IsReport, IsKind, IsEvent, IsEventLine, SpellsEvent}
-use Rattle.ocpi_json.specs.Fault.{Read, ◌>>=◌}
-use Rattle.ocpi_json.specs.Fields.{ci_in, moment_in, party_in, quantity_in, record_in, truth_in, whole_in, word_in, optional}
-use Rattle.ocpi_json.specs.Form.{Required, IsRecord, IsWord}
-use Rattle.ocpi_json.specs.Tokens.{token_at, IsToken}
-use Rattle.ocpi_json.proofs.Exact.{Exact, ok_is, bind_ok, both_steps, of_text, as_record_exact, ci_exact, inner_exact, moment_exact, optional_ci_exact, party_exact, quantity_exact, truth_exact, whole_exact, word_exact}
-use Rattle.ocpi_json.proofs.LineTrees.{line_sound, line_complete}
-use Rattle.ocpi_json.proofs.TokenLemmas.{token_exact}
+use Rattle.ocpi_json.specs.EventForms.{event_of_word, order_of_word, word_of_report, word_of_order, word_of_kind, start_order_at, reserve_order_at, unlock_order_at, order_at, submit_at, token_event_at, service_at, swipe_at, meter_at, command_number_at, report_at, charger_at, deliver_at, kind_at, event_at, event_of_line, event_in, HasCommandNumber, IsOrder, IsReport, IsKind, IsEvent, IsEventLine, SpellsEvent}
+use Rattle.json_text.specs.Fault.{Read, ◌>>=◌}
+use Rattle.json_text.specs.Fields.{ci_in, known_in, moment_in, party_in, quantity_in, record_in, truth_in, whole_in, word_in, optional}
+use Rattle.json_text.specs.Form.{Required, IsRecord, IsWord}
+use Rattle.ocpi_forms.specs.Tokens.{token_at, IsToken}
+use Rattle.json_text.proofs.Exact.{Exact, ok_is, bind_ok, both_steps, as_record_exact, ci_exact, known_exact, inner_exact, moment_exact, optional_ci_exact, party_exact, quantity_exact, truth_exact, whole_exact, word_exact}
+use Rattle.json_text.proofs.LineTrees.{line_sound, line_complete}
+use Rattle.ocpi_forms.proofs.TokenLemmas.{token_exact}
 
 -- what the answer of an exact reader says of the form, where nothing allocates
 pub found_by : {X : Type 0} {reader : Data → Read X} {P : Data → X → Type 0} → Exact reader P → (d : Data) (r : Read X) → r ≡ reader d → IfOk r (λ x. P d x)
 found_by h d (Ok x) e = h.sound d x (sym e)
 found_by h d (Err f) e = tt
-
--- ---- words
-
-known_ok : {X : Type 0} (o : Option X) (x : X) → known o ≡ Ok x → o ≡ Some x
-known_ok (Some y) x e = ap (λ z. Some z) (ok_is y x e)
-known_ok None x e = absurd cc
-
-known_exact : {X : Type 0} (words : List ℕ → Option X) (f : Field) → Exact (known_in words f) (Required (IsWord words) f)
-unfolding known_in
-known_exact words f = of_text f (λ s. known (words s)) (λ s x. words s ≡ Some x) (λ s x e. known_ok (words s) x e) (λ s x e. rw e refl)
 
 -- ---- orders
 

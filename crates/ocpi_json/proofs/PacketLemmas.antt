@@ -6,118 +6,81 @@ use Rattle.ocpi_types.specs.Fields.{name_of}
 use Rattle.ocpi_types.specs.Kinds.{kind_of}
 use Rattle.ocpi_types.specs.Words.{kind_word, kind_of_word}
 use Rattle.ocpi_types.specs.declared.field.Field.TheVariants as field
-use Rattle.ocpi_types.specs.declared.packet.Body.{Body}
-use Rattle.ocpi_types.specs.declared.packet.Body.TheVariants as body
 use Rattle.ocpi_types.specs.declared.packet.Packet.{Packet}
 use Rattle.ocpi_types.specs.declared.words.PacketKind.{PacketKind}
 use Rattle.ocpi_types.specs.declared.words.PacketKind.TheVariants as kind
-use Rattle.ocpi_json.specs.AuthorizationForms.{authorize_at, authorization_at}
-use Rattle.ocpi_json.specs.CdrForms.{cdr_at}
-use Rattle.ocpi_json.specs.CommandForms.{start_session_at, stop_session_at, reserve_now_at, cancel_reservation_at, unlock_connector_at}
-use Rattle.ocpi_json.specs.Fields.{is_tagged, party_in, whole_in, record_in}
-use Rattle.ocpi_json.specs.Form.{Required, IsWord, IsRecord}
-use Rattle.ocpi_json.specs.Members.{object_of}
-use Rattle.ocpi_json.specs.Packets.{known, kind_in, body_at, packet_at, packet_of_line, packet_in, IsBody, IsPacket, IsPacketLine, SpellsPacket, body_members, packet_members, packet_json, BodyFits, PacketFits}
-use Rattle.ocpi_json.specs.ReplyForms.{command_response_at, command_result_at, ack_at}
-use Rattle.ocpi_json.specs.SessionForms.{session_at}
-use Rattle.ocpi_json.specs.Tokens.{token_at}
-use Rattle.ocpi_json.proofs.AuthorizationLemmas.{authorize_exact, authorization_exact, authorize_form, authorization_form, authorize_well, authorization_well}
-use Rattle.ocpi_json.proofs.CdrLemmas.{cdr_exact, cdr_form, cdr_well}
-use Rattle.ocpi_json.proofs.CommandLemmas.{start_session_exact, stop_session_exact, reserve_now_exact, cancel_reservation_exact, unlock_connector_exact, start_session_form, stop_session_form, reserve_now_form, cancel_reservation_form, unlock_connector_form, start_session_well, stop_session_well, reserve_now_well, cancel_reservation_well, unlock_connector_well}
-use Rattle.ocpi_json.proofs.Exact.{Exact, ok_is, bind_ok, both_steps, of_text, whole_exact, party_exact, as_record_exact, inner_exact}
-use Rattle.ocpi_json.proofs.LineTrees.{line_sound, line_complete}
-use Rattle.ocpi_json.proofs.MemberForms.{tree, party_form, word_form, whole_form, inner_form, party_begins}
-use Rattle.ocpi_json.proofs.ReplyLemmas.{command_response_exact, command_result_exact, ack_exact, command_response_form, command_result_form, ack_form, command_response_well, command_result_well, ack_well}
-use Rattle.ocpi_json.proofs.SessionLemmas.{session_exact, session_form, session_well}
-use Rattle.ocpi_json.proofs.Tagged.{ascends}
-use Rattle.ocpi_json.proofs.TokenLemmas.{token_exact, token_form, token_well}
-use Rattle.ocpi_json.proofs.WellFormed.{◌and◌, IsWell, record_well, text_well, whole_well}
+use Rattle.json_text.specs.Fields.{party_in, whole_in, record_in, known_in}
+use Rattle.json_text.specs.Form.{Required, IsParty, IsWhole, IsWord, IsRecord}
+use Rattle.json_text.specs.Members.{object_of}
+use Rattle.ocpi_forms.proofs.BodyLemmas.{OfKind, body_exact, body_form, body_well}
+use Rattle.ocpi_forms.specs.Bodies.{body_at, IsBody, body_members}
+use Rattle.ocpi_json.specs.declared.packets.Envelope.{Envelope}
+use Rattle.ocpi_json.specs.Packets.{envelope_at, packet_at, packet_of_line, packet_in, IsPacket, IsPacketLine, SpellsPacket, packet_members, packet_json, PacketFits}
+use Rattle.json_text.specs.Tag.{is_tagged}
+use Rattle.json_text.proofs.Exact.{Exact, ok_is, bind_ok, both_steps, known_exact, whole_exact, party_exact, as_record_exact, inner_exact}
+use Rattle.json_text.proofs.LineTrees.{line_sound, line_complete}
+use Rattle.json_text.proofs.MemberForms.{tree, party_form, word_form, whole_form, inner_form, party_begins}
+use Rattle.json_text.proofs.Tagged.{ascends}
+use Rattle.json_text.proofs.WellFormed.{◌and◌, IsWell, record_well, text_well, whole_well}
 
 -- ---- reading
 
--- what is read of a kind has the form of that kind
-abbrev pub OfKind : PacketKind → Data → Body → Type 0
-OfKind k d b = IsBody d b × (kind_of b ≡ k)
+record IsEnvelope (d : Data) (v : Envelope) : Type 0 where
+  from : Required IsParty field.From d v.from
+  to : Required IsParty field.To d v.to
+  serial : Required IsWhole field.Serial d v.serial
+  request : Required IsWhole field.Request d v.request
+  kind : Required (IsWord kind_of_word) field.Kind d v.kind
 
-body_sound : (k : PacketKind) (d : Data) (b : Body) → body_at k d ≡ Ok b → OfKind k d b
-unfolding body_at
-body_sound kind.StartSession d b e = let a = bind_ok (start_session_at d) _ b e in subst (OfKind kind.StartSession d) (ok_is (body.StartSession a.0) b a.2) (start_session_exact.sound d a.0 a.1, refl)
-body_sound kind.StopSession d b e = let a = bind_ok (stop_session_at d) _ b e in subst (OfKind kind.StopSession d) (ok_is (body.StopSession a.0) b a.2) (stop_session_exact.sound d a.0 a.1, refl)
-body_sound kind.ReserveNow d b e = let a = bind_ok (reserve_now_at d) _ b e in subst (OfKind kind.ReserveNow d) (ok_is (body.ReserveNow a.0) b a.2) (reserve_now_exact.sound d a.0 a.1, refl)
-body_sound kind.CancelReservation d b e = let a = bind_ok (cancel_reservation_at d) _ b e in subst (OfKind kind.CancelReservation d) (ok_is (body.CancelReservation a.0) b a.2) (cancel_reservation_exact.sound d a.0 a.1, refl)
-body_sound kind.UnlockConnector d b e = let a = bind_ok (unlock_connector_at d) _ b e in subst (OfKind kind.UnlockConnector d) (ok_is (body.UnlockConnector a.0) b a.2) (unlock_connector_exact.sound d a.0 a.1, refl)
-body_sound kind.CommandResponse d b e = let a = bind_ok (command_response_at d) _ b e in subst (OfKind kind.CommandResponse d) (ok_is (body.CommandResponse a.0) b a.2) (command_response_exact.sound d a.0 a.1, refl)
-body_sound kind.CommandResult d b e = let a = bind_ok (command_result_at d) _ b e in subst (OfKind kind.CommandResult d) (ok_is (body.CommandResult a.0) b a.2) (command_result_exact.sound d a.0 a.1, refl)
-body_sound kind.PutToken d b e = let a = bind_ok (token_at d) _ b e in subst (OfKind kind.PutToken d) (ok_is (body.PutToken a.0) b a.2) (token_exact.sound d a.0 a.1, refl)
-body_sound kind.Authorize d b e = let a = bind_ok (authorize_at d) _ b e in subst (OfKind kind.Authorize d) (ok_is (body.Authorize a.0) b a.2) (authorize_exact.sound d a.0 a.1, refl)
-body_sound kind.Authorization d b e = let a = bind_ok (authorization_at d) _ b e in subst (OfKind kind.Authorization d) (ok_is (body.Authorization a.0) b a.2) (authorization_exact.sound d a.0 a.1, refl)
-body_sound kind.PutSession d b e = let a = bind_ok (session_at d) _ b e in subst (OfKind kind.PutSession d) (ok_is (body.PutSession a.0) b a.2) (session_exact.sound d a.0 a.1, refl)
-body_sound kind.PostCdr d b e = let a = bind_ok (cdr_at d) _ b e in subst (OfKind kind.PostCdr d) (ok_is (body.PostCdr a.0) b a.2) (cdr_exact.sound d a.0 a.1, refl)
-body_sound kind.Ack d b e = let a = bind_ok (ack_at d) _ b e in subst (OfKind kind.Ack d) (ok_is (body.Ack a.0) b a.2) (ack_exact.sound d a.0 a.1, refl)
-
-body_complete : (d : Data) (b : Body) → IsBody d b → body_at (kind_of b) d ≡ Ok b
-unfolding body_at
-body_complete d (body.StartSession b) p = rw (start_session_exact.complete d b p) refl
-body_complete d (body.StopSession b) p = rw (stop_session_exact.complete d b p) refl
-body_complete d (body.ReserveNow b) p = rw (reserve_now_exact.complete d b p) refl
-body_complete d (body.CancelReservation b) p = rw (cancel_reservation_exact.complete d b p) refl
-body_complete d (body.UnlockConnector b) p = rw (unlock_connector_exact.complete d b p) refl
-body_complete d (body.CommandResponse b) p = rw (command_response_exact.complete d b p) refl
-body_complete d (body.CommandResult b) p = rw (command_result_exact.complete d b p) refl
-body_complete d (body.PutToken b) p = rw (token_exact.complete d b p) refl
-body_complete d (body.Authorize b) p = rw (authorize_exact.complete d b p) refl
-body_complete d (body.Authorization b) p = rw (authorization_exact.complete d b p) refl
-body_complete d (body.PutSession b) p = rw (session_exact.complete d b p) refl
-body_complete d (body.PostCdr b) p = rw (cdr_exact.complete d b p) refl
-body_complete d (body.Ack b) p = rw (ack_exact.complete d b p) refl
-
-body_exact : (k : PacketKind) → Exact (body_at k) (OfKind k)
-body_exact k = record {
-  sound = body_sound k;
-  complete = λ d b p. ap (λ l. body_at l d) (sym p.1) ∙ body_complete d b p.0;
+envelope_exact : Exact envelope_at IsEnvelope
+unfolding envelope_at
+envelope_exact = record {
+  sound = λ d v e.
+      let a = bind_ok (party_in field.From d) _ v e in
+      let b = bind_ok (party_in field.To d) _ v a.2 in
+      let g = bind_ok (whole_in field.Serial d) _ v b.2 in
+      let h = bind_ok (whole_in field.Request d) _ v g.2 in
+      let i = bind_ok (known_in kind_of_word field.Kind d) _ v h.2 in
+      subst (IsEnvelope d) (ok_is _ v i.2) (record {
+        from = (party_exact field.From).sound d a.0 a.1;
+        to = (party_exact field.To).sound d b.0 b.1;
+        serial = (whole_exact field.Serial).sound d g.0 g.1;
+        request = (whole_exact field.Request).sound d h.0 h.1;
+        kind = (known_exact kind_of_word field.Kind).sound d i.0 i.1;
+      });
+  complete = λ d v h. rw (
+    (party_exact field.From).complete d v.from h.from,
+    (party_exact field.To).complete d v.to h.to,
+    (whole_exact field.Serial).complete d v.serial h.serial,
+    (whole_exact field.Request).complete d v.request h.request,
+    (known_exact kind_of_word field.Kind).complete d v.kind h.kind,
+  ) refl;
 }
-
-known_ok : (o : Option PacketKind) (k : PacketKind) → known o ≡ Ok k → o ≡ Some k
-known_ok (Some l) k e = ap (λ x. Some x) (ok_is l k e)
-known_ok None k e = absurd cc
-
-kind_exact : Exact kind_in (Required (IsWord kind_of_word) field.Kind)
-unfolding kind_in
-kind_exact = of_text field.Kind (λ s. known (kind_of_word s)) (λ s k. kind_of_word s ≡ Some k) (λ s k e. known_ok (kind_of_word s) k e) (λ s k e. rw e refl)
 
 pub packet_exact : Exact packet_at IsPacket
 unfolding packet_at
 packet_exact = record {
   sound = λ d p e.
-      let a = bind_ok (party_in field.From d) _ p e in
-      let b = bind_ok (party_in field.To d) _ p a.2 in
-      let g = bind_ok (whole_in field.Serial d) _ p b.2 in
-      let h = bind_ok (whole_in field.Request d) _ p g.2 in
-      let i = bind_ok (kind_in d) _ p h.2 in
-      let j = bind_ok (record_in field.Body d) _ p i.2 in
-      let k = bind_ok (body_at i.0 j.0) _ p j.2 in
-      let carried = (inner_exact field.Body (body_at i.0) (OfKind i.0) (body_exact i.0)).sound d k.0 (both_steps (record_in field.Body d) (body_at i.0) j.0 k.0 j.1 k.1) in
+      let v = bind_ok (envelope_at d) _ p e in
+      let j = bind_ok (record_in field.Body d) _ p v.2 in
+      let k = bind_ok (body_at v.0.kind j.0) _ p j.2 in
+      let has = envelope_exact.sound d v.0 v.1 in
+      let carried = (inner_exact field.Body (body_at v.0.kind) (OfKind v.0.kind) (body_exact v.0.kind)).sound d k.0 (both_steps (record_in field.Body d) (body_at v.0.kind) j.0 k.0 j.1 k.1) in
       let of_kind = carried.2.form.1 in
       subst (IsPacket d) (ok_is _ p k.2) (record {
-        from = (party_exact field.From).sound d a.0 a.1;
-        to = (party_exact field.To).sound d b.0 b.1;
-        serial = (whole_exact field.Serial).sound d g.0 g.1;
-        request = (whole_exact field.Request).sound d h.0 h.1;
-        kind = subst (Required (IsWord kind_of_word) field.Kind d) (sym of_kind) (kind_exact.sound d i.0 i.1);
+        from = has.from;
+        to = has.to;
+        serial = has.serial;
+        request = has.request;
+        kind = subst (Required (IsWord kind_of_word) field.Kind d) (sym of_kind) has.kind;
         body = (carried.0, carried.1, record { members = carried.2.members; is_object = carried.2.is_object; form = carried.2.form.0 });
       });
   complete = λ d p h.
+      let head : Envelope = record { from = p.from; to = p.to; serial = p.serial; request = p.request; kind = kind_of p.body } in
+      let has : IsEnvelope d head = record { from = h.from; to = h.to; serial = h.serial; request = h.request; kind = h.kind } in
       let carried : Required (IsRecord (OfKind (kind_of p.body))) field.Body d p.body = (h.body.0, h.body.1, record { members = h.body.2.members; is_object = h.body.2.is_object; form = (h.body.2.form, refl) }) in
       let inner = bind_ok (record_in field.Body d) (body_at (kind_of p.body)) p.body ((inner_exact field.Body (body_at (kind_of p.body)) (OfKind (kind_of p.body)) (body_exact (kind_of p.body))).complete d p.body carried) in
-      rw (
-        (party_exact field.From).complete d p.from h.from,
-        (party_exact field.To).complete d p.to h.to,
-        (whole_exact field.Serial).complete d p.serial h.serial,
-        (whole_exact field.Request).complete d p.request h.request,
-        kind_exact.complete d (kind_of p.body) h.kind,
-        inner.1,
-        inner.2,
-      ) refl;
+      rw (envelope_exact.complete d head has, inner.1, inner.2) refl;
 }
 
 -- a line's tree is read just where it is a packet's
@@ -152,7 +115,7 @@ kind_again kind.PutSession = refl
 kind_again kind.PostCdr = refl
 kind_again kind.Ack = refl
 
-kind_begins : (k : PacketKind) → is_tagged (kind_word k) ≡ false
+pub kind_begins : (k : PacketKind) → is_tagged (kind_word k) ≡ false
 kind_begins kind.StartSession = refl
 kind_begins kind.StopSession = refl
 kind_begins kind.ReserveNow = refl
@@ -166,42 +129,6 @@ kind_begins kind.Authorization = refl
 kind_begins kind.PutSession = refl
 kind_begins kind.PostCdr = refl
 kind_begins kind.Ack = refl
-
-body_form : (b : Body) → BodyFits b → IsBody (tree (body_members b)) b
-unfolding body_members
-body_form (body.StartSession b) fits = start_session_form b fits
-body_form (body.StopSession b) fits = stop_session_form b fits
-body_form (body.ReserveNow b) fits = reserve_now_form b fits
-body_form (body.CancelReservation b) fits = cancel_reservation_form b fits
-body_form (body.UnlockConnector b) fits = unlock_connector_form b fits
-body_form (body.CommandResponse b) fits = command_response_form b fits
-body_form (body.CommandResult b) fits = command_result_form b fits
-body_form (body.PutToken b) fits = token_form b fits
-body_form (body.Authorize b) fits = authorize_form b fits
-body_form (body.Authorization b) fits = authorization_form b fits
-body_form (body.PutSession b) fits = session_form b fits
-body_form (body.PostCdr b) fits = cdr_form b fits
-body_form (body.Ack b) fits = ack_form b fits
-
-deeper : (least most : ℕ) (j : json.Json) → least ≤ most → IsWell least j → IsWell most j
-deeper least most j le w = record { sound = w.sound; shallow = let s = w.shallow in omega arith }
-
--- a body nests no deeper than 5
-body_well : (b : Body) → BodyFits b → IsWell 5 (object_of (body_members b))
-unfolding body_members
-body_well (body.StartSession b) fits = deeper _ 5 _ (omega arith) (start_session_well b fits)
-body_well (body.StopSession b) fits = deeper _ 5 _ (omega arith) (stop_session_well b fits)
-body_well (body.ReserveNow b) fits = deeper _ 5 _ (omega arith) (reserve_now_well b fits)
-body_well (body.CancelReservation b) fits = deeper _ 5 _ (omega arith) (cancel_reservation_well b fits)
-body_well (body.UnlockConnector b) fits = deeper _ 5 _ (omega arith) (unlock_connector_well b fits)
-body_well (body.CommandResponse b) fits = deeper _ 5 _ (omega arith) (command_response_well b fits)
-body_well (body.CommandResult b) fits = deeper _ 5 _ (omega arith) (command_result_well b fits)
-body_well (body.PutToken b) fits = deeper _ 5 _ (omega arith) (token_well b fits)
-body_well (body.Authorize b) fits = deeper _ 5 _ (omega arith) (authorize_well b fits)
-body_well (body.Authorization b) fits = deeper _ 5 _ (omega arith) (authorization_well b fits)
-body_well (body.PutSession b) fits = deeper _ 5 _ (omega arith) (session_well b fits)
-body_well (body.PostCdr b) fits = deeper _ 5 _ (omega arith) (cdr_well b fits)
-body_well (body.Ack b) fits = deeper _ 5 _ (omega arith) (ack_well b fits)
 
 pub packet_ascends : (p : Packet) → ascends (packet_members p) ≡ true
 unfolding packet_members name_of

@@ -1,11 +1,11 @@
 -- A site line is read just where its bytes spell it.
 use Rattle.std.proofs.Common.{◌≡◌, ℕ, List, Ok}
 use Rattle.ocpi_types.specs.declared.site.SiteLine.{SiteLine}
-use Rattle.ocpi_json.specs.SiteForm.{IsSiteLineTree}
+use Rattle.ocpi_forms.specs.SiteForm.{IsSiteLineTree}
 use Rattle.ocpi_json.specs.SiteLines.{SpellsSiteLine, site_in}
-use Rattle.ocpi_json.specs.Sites.{site_of_line}
-use Rattle.ocpi_json.proofs.LineTrees.{line_sound, line_complete}
-use Rattle.ocpi_json.proofs.SiteForm.{site_of_line_exact}
+use Rattle.ocpi_forms.specs.Sites.{site_of_line}
+use Rattle.json_text.proofs.LineTrees.{line_sound, line_complete}
+use Rattle.ocpi_forms.proofs.SiteForm.{site_of_line_exact}
 
 pub site_found : (line : List ℕ) (l : SiteLine) → site_in line ≡ Ok l → SpellsSiteLine line l
 unfolding site_in

@@ -8,15 +8,16 @@ use Rattle.ocpi_types.specs.declared.field.Field.TheVariants as field
 use Rattle.ocpi_types.specs.declared.setup.Node.{Node}
 use Rattle.ocpi_types.specs.declared.setup.Node.TheVariants as node
 use Rattle.ocpi_types.specs.declared.site.Site.{Site}
-use Rattle.ocpi_json.specs.Fields.{party_in, optional, each_after}
-use Rattle.ocpi_json.specs.Form.{Required, Optional, IsParty, IsRecord}
+use Rattle.json_text.specs.Fields.{party_in, optional, each_after}
+use Rattle.json_text.specs.Form.{Required, Optional, IsParty, IsRecord}
 use Rattle.ocpi_json.specs.SetupForms.{new_party_in, site_under, node_of, node_at, node_element, setup_at, setup_of_line, setup_in, site_of, IsNode, IsSetup, IsSetupLine, SpellsSetup}
-use Rattle.ocpi_json.specs.SiteForm.{IsSite}
-use Rattle.ocpi_json.specs.Sites.{counted_in, site_at}
-use Rattle.ocpi_json.proofs.Elements.{Apart, ExactBeside, IsListing, record_beside, listing_exact, new_among_sound, new_among_complete, differ_from_new, new_from_differ}
-use Rattle.ocpi_json.proofs.Exact.{Exact, ok_is, bind_ok, both_steps, party_exact, as_record_exact, inner_exact, optional_exact}
-use Rattle.ocpi_json.proofs.LineTrees.{line_sound, line_complete}
-use Rattle.ocpi_json.proofs.SiteForm.{site_exact}
+use Rattle.ocpi_forms.specs.SiteForm.{IsSite}
+use Rattle.json_text.specs.Lists.{counted_in}
+use Rattle.ocpi_forms.specs.Sites.{site_at}
+use Rattle.json_text.proofs.Elements.{Apart, ExactBeside, IsListing, record_beside, listing_exact, new_among_sound, new_among_complete, differ_from_new, new_from_differ}
+use Rattle.json_text.proofs.Exact.{Exact, ok_is, bind_ok, both_steps, party_exact, as_record_exact, inner_exact, optional_exact}
+use Rattle.json_text.proofs.LineTrees.{line_sound, line_complete}
+use Rattle.ocpi_forms.proofs.SiteForm.{site_exact}
 
 record IsNewParty (earlier : List (List ℕ)) (d : Data) (party : List ℕ) : Type 0 where
   form : Required IsParty field.Party d party

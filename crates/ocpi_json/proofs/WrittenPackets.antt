@@ -5,12 +5,12 @@ use Rattle.json.specs.Lex.{tokens}
 use Rattle.json.specs.Print.{print}
 use Rattle.json.specs.Token.{Token}
 use Rattle.ocpi_types.specs.declared.packet.Packet.{Packet}
-use Rattle.ocpi_json.specs.Line.{max_line}
-use Rattle.ocpi_json.specs.Members.{said}
+use Rattle.json_text.specs.Line.{max_line}
+use Rattle.json_text.specs.Members.{said}
 use Rattle.ocpi_json.specs.Packets.{packet_members, packet_json, packet_text, packet_in, PacketFits}
 use Rattle.ocpi_json.proofs.PacketLemmas.{packet_well, packet_again}
-use Rattle.ocpi_json.proofs.ReadAgain.{text_is, tree_again}
-use Rattle.ocpi_json.proofs.WellFormed.{IsWell}
+use Rattle.json_text.proofs.ReadAgain.{text_is, tree_again}
+use Rattle.json_text.proofs.WellFormed.{IsWell}
 
 pub packet_text_is : (p : Packet) (ts : List Token) → ts ≡ said [] (packet_members p) → print ts ≡ packet_text p
 packet_text_is p ts written = text_is ts (packet_members p) written

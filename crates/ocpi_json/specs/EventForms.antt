@@ -21,12 +21,11 @@ use Rattle.ocpi_json.specs.declared.events.EventWord.{EventWord}
 use Rattle.ocpi_json.specs.declared.events.EventWord.TheVariants as event
 use Rattle.ocpi_json.specs.declared.events.OrderWord.{OrderWord}
 use Rattle.ocpi_json.specs.declared.events.OrderWord.TheVariants as command
-use Rattle.ocpi_json.specs.declared.fault.JsonFault.TheVariants.{UnknownKind}
-use Rattle.ocpi_json.specs.Fault.{Read, ◌>>=◌}
-use Rattle.ocpi_json.specs.Fields.{as_record, text_in, ci_in, moment_in, party_in, quantity_in, record_in, truth_in, whole_in, word_in, optional}
-use Rattle.ocpi_json.specs.Form.{Required, Optional, IsCi, IsMoment, IsParty, IsQuantity, IsRecord, IsTruth, IsWhole, IsWord}
-use Rattle.ocpi_json.specs.Line.{HasTree, tree_at}
-use Rattle.ocpi_json.specs.Tokens.{token_at, IsToken}
+use Rattle.json_text.specs.Fault.{Read, ◌>>=◌}
+use Rattle.json_text.specs.Fields.{as_record, ci_in, known_in, moment_in, party_in, quantity_in, record_in, truth_in, whole_in, word_in, optional}
+use Rattle.json_text.specs.Form.{Required, Optional, IsCi, IsMoment, IsParty, IsQuantity, IsRecord, IsTruth, IsWhole, IsWord}
+use Rattle.json_text.specs.Line.{HasTree, tree_at}
+use Rattle.ocpi_forms.specs.Tokens.{token_at, IsToken}
 
 -- ---- words
 
@@ -84,16 +83,6 @@ word_of_kind kind.Restart = event.Restart
 word_of_kind kind.Refused = event.Refused
 
 -- ---- reading, in the order in which faults are told
-
--- a word that names a kind, or does not
-abbrev pub known : {X : Type 0} → Option X → Read X
-known (Some x) = Ok x
-known None = Err UnknownKind
-
-unfoldable pub known_in : {X : Type 0} → (List ℕ → Option X) → Field → Data → Read X
-known_in words f d = do
-  word ← text_in f d
-  known (words word)
 
 unfoldable pub start_order_at : Data → Read Order
 start_order_at d = do

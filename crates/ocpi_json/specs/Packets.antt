@@ -8,63 +8,35 @@ use Rattle.ocpi_text.specs.Whole.{max_whole}
 use Rattle.ocpi_types.specs.Kinds.{kind_of}
 use Rattle.ocpi_types.specs.Words.{kind_word, kind_of_word}
 use Rattle.ocpi_types.specs.declared.field.Field.TheVariants as field
-use Rattle.ocpi_types.specs.declared.packet.Body.{Body}
-use Rattle.ocpi_types.specs.declared.packet.Body.TheVariants as body
 use Rattle.ocpi_types.specs.declared.packet.Packet.{Packet}
 use Rattle.ocpi_types.specs.declared.words.PacketKind.{PacketKind}
-use Rattle.ocpi_types.specs.declared.words.PacketKind.TheVariants as kind
-use Rattle.ocpi_json.specs.declared.fault.JsonFault.TheVariants.{UnknownKind}
-use Rattle.ocpi_json.specs.AuthorizationForms.{authorize_at, authorization_at, IsAuthorize, IsAuthorization, authorize_members, authorization_members, AuthorizeFits, AuthorizationFits}
-use Rattle.ocpi_json.specs.CdrForms.{cdr_at, IsCdr, cdr_members, CdrFits}
-use Rattle.ocpi_json.specs.CommandForms.{start_session_at, stop_session_at, reserve_now_at, cancel_reservation_at, unlock_connector_at, IsStartSession, IsStopSession, IsReserveNow, IsCancelReservation, IsUnlockConnector, start_session_members, stop_session_members, reserve_now_members, cancel_reservation_members, unlock_connector_members, StartSessionFits, StopSessionFits, ReserveNowFits, CancelReservationFits, UnlockConnectorFits}
-use Rattle.ocpi_json.specs.Fault.{Read, ◌>>=◌}
-use Rattle.ocpi_json.specs.Fields.{party_in, whole_in, record_in, text_in, as_record}
-use Rattle.ocpi_json.specs.Form.{Required, IsParty, IsWhole, IsWord, IsRecord}
-use Rattle.ocpi_json.specs.Line.{HasTree, tree_at}
-use Rattle.ocpi_json.specs.Members.{Member, text, whole, inner, object_of, json_text}
-use Rattle.ocpi_json.specs.ReplyForms.{command_response_at, command_result_at, ack_at, IsCommandResponse, IsCommandResult, IsAck, command_response_members, command_result_members, ack_members, CommandResponseFits, CommandResultFits, AckFits}
-use Rattle.ocpi_json.specs.SessionForms.{session_at, IsSession, session_members, SessionFits}
-use Rattle.ocpi_json.specs.Tokens.{token_at, IsToken, token_members, TokenFits}
+use Rattle.ocpi_json.specs.declared.packets.Envelope.{Envelope}
+use Rattle.ocpi_forms.specs.Bodies.{body_at, IsBody, body_members, BodyFits}
+use Rattle.json_text.specs.Fault.{Read, ◌>>=◌}
+use Rattle.json_text.specs.Fields.{party_in, whole_in, record_in, known_in, as_record}
+use Rattle.json_text.specs.Form.{Required, IsParty, IsWhole, IsWord, IsRecord}
+use Rattle.json_text.specs.Line.{HasTree, tree_at}
+use Rattle.json_text.specs.Members.{Member, text, whole, inner, object_of, json_text}
 
 -- ---- reading
 
--- a word that names a kind, or does not
-abbrev pub known : Option PacketKind → Read PacketKind
-known (Some k) = Ok k
-known None = Err UnknownKind
-
-unfoldable pub kind_in : Data → Read PacketKind
-kind_in d = do
-  word ← text_in field.Kind d
-  known (kind_of_word word)
-
--- what a packet of that kind carries
-unfoldable pub body_at : PacketKind → Data → Read Body
-body_at kind.StartSession d = start_session_at d >>= λ b. Ok (body.StartSession b)
-body_at kind.StopSession d = stop_session_at d >>= λ b. Ok (body.StopSession b)
-body_at kind.ReserveNow d = reserve_now_at d >>= λ b. Ok (body.ReserveNow b)
-body_at kind.CancelReservation d = cancel_reservation_at d >>= λ b. Ok (body.CancelReservation b)
-body_at kind.UnlockConnector d = unlock_connector_at d >>= λ b. Ok (body.UnlockConnector b)
-body_at kind.CommandResponse d = command_response_at d >>= λ b. Ok (body.CommandResponse b)
-body_at kind.CommandResult d = command_result_at d >>= λ b. Ok (body.CommandResult b)
-body_at kind.PutToken d = token_at d >>= λ b. Ok (body.PutToken b)
-body_at kind.Authorize d = authorize_at d >>= λ b. Ok (body.Authorize b)
-body_at kind.Authorization d = authorization_at d >>= λ b. Ok (body.Authorization b)
-body_at kind.PutSession d = session_at d >>= λ b. Ok (body.PutSession b)
-body_at kind.PostCdr d = cdr_at d >>= λ b. Ok (body.PostCdr b)
-body_at kind.Ack d = ack_at d >>= λ b. Ok (body.Ack b)
-
--- member by member, in the order in which faults are told: the kind is tried before the body is looked at
-unfoldable pub packet_at : Data → Read Packet
-packet_at d = do
+-- whose the packet is, under which numbers and of which kind, in the order in which faults are told
+unfoldable pub envelope_at : Data → Read Envelope
+envelope_at d = do
   from ← party_in field.From d
   to ← party_in field.To d
   serial ← whole_in field.Serial d
   request ← whole_in field.Request d
-  kind ← kind_in d
+  kind ← known_in kind_of_word field.Kind d
+  Ok (record { from = from; to = to; serial = serial; request = request; kind = kind })
+
+-- the kind is tried before the body is looked at
+unfoldable pub packet_at : Data → Read Packet
+packet_at d = do
+  envelope ← envelope_at d
   inner ← record_in field.Body d
-  body ← body_at kind inner
-  Ok (record { from = from; to = to; serial = serial; request = request; body = body })
+  body ← body_at envelope.kind inner
+  Ok (record { from = envelope.from; to = envelope.to; serial = envelope.serial; request = envelope.request; body = body })
 
 -- a line that is no object is told as such
 unfoldable pub packet_of_line : Data → Read Packet
@@ -75,21 +47,6 @@ unfoldable pub packet_in : List ℕ → Read Packet
 packet_in line = tree_at line >>= packet_of_line
 
 -- ---- the form
-
-abbrev pub IsBody : Data → Body → Type 0
-IsBody d (body.StartSession b) = IsStartSession d b
-IsBody d (body.StopSession b) = IsStopSession d b
-IsBody d (body.ReserveNow b) = IsReserveNow d b
-IsBody d (body.CancelReservation b) = IsCancelReservation d b
-IsBody d (body.UnlockConnector b) = IsUnlockConnector d b
-IsBody d (body.CommandResponse b) = IsCommandResponse d b
-IsBody d (body.CommandResult b) = IsCommandResult d b
-IsBody d (body.PutToken b) = IsToken d b
-IsBody d (body.Authorize b) = IsAuthorize d b
-IsBody d (body.Authorization b) = IsAuthorization d b
-IsBody d (body.PutSession b) = IsSession d b
-IsBody d (body.PostCdr b) = IsCdr d b
-IsBody d (body.Ack b) = IsAck d b
 
 pub record IsPacket (d : Data) (p : Packet) : Type 0 where
   pub from : Required IsParty field.From d p.from
@@ -111,21 +68,6 @@ pub record SpellsPacket (line : List ℕ) (p : Packet) : Type 0 where
 
 -- ---- what is written, in the byte order of the names
 
-unfoldable pub body_members : Body → List Member
-body_members (body.StartSession b) = start_session_members b
-body_members (body.StopSession b) = stop_session_members b
-body_members (body.ReserveNow b) = reserve_now_members b
-body_members (body.CancelReservation b) = cancel_reservation_members b
-body_members (body.UnlockConnector b) = unlock_connector_members b
-body_members (body.CommandResponse b) = command_response_members b
-body_members (body.CommandResult b) = command_result_members b
-body_members (body.PutToken b) = token_members b
-body_members (body.Authorize b) = authorize_members b
-body_members (body.Authorization b) = authorization_members b
-body_members (body.PutSession b) = session_members b
-body_members (body.PostCdr b) = cdr_members b
-body_members (body.Ack b) = ack_members b
-
 unfoldable pub packet_members : Packet → List Member
 packet_members p =
     inner field.Body (body_members p.body)
@@ -144,21 +86,6 @@ abbrev pub packet_text : Packet → List ℕ
 packet_text p = json_text (packet_json p)
 
 -- ---- what the types keep
-
-abbrev pub BodyFits : Body → Type 0
-BodyFits (body.StartSession b) = StartSessionFits b
-BodyFits (body.StopSession b) = StopSessionFits b
-BodyFits (body.ReserveNow b) = ReserveNowFits b
-BodyFits (body.CancelReservation b) = CancelReservationFits b
-BodyFits (body.UnlockConnector b) = UnlockConnectorFits b
-BodyFits (body.CommandResponse b) = CommandResponseFits b
-BodyFits (body.CommandResult b) = CommandResultFits b
-BodyFits (body.PutToken b) = TokenFits b
-BodyFits (body.Authorize b) = AuthorizeFits b
-BodyFits (body.Authorization b) = AuthorizationFits b
-BodyFits (body.PutSession b) = SessionFits b
-BodyFits (body.PostCdr b) = CdrFits b
-BodyFits (body.Ack b) = AckFits b
 
 pub record PacketFits (p : Packet) : Type 0 where
   pub from : party_at p.from ≡ Ok p.from

@@ -8,12 +8,13 @@ use Rattle.ocpi_types.specs.declared.field.Field.TheVariants as field
 use Rattle.ocpi_types.specs.declared.setup.Node.{Node}
 use Rattle.ocpi_types.specs.declared.setup.Node.TheVariants as node
 use Rattle.ocpi_types.specs.declared.site.Site.{Site}
-use Rattle.ocpi_json.specs.Fault.{Read, ◌>>=◌}
-use Rattle.ocpi_json.specs.Fields.{as_record, party_in, record_in, optional, each_after}
-use Rattle.ocpi_json.specs.Form.{Required, Optional, IsParty, IsRecord, IsList}
-use Rattle.ocpi_json.specs.Line.{HasTree, tree_at}
-use Rattle.ocpi_json.specs.SiteForm.{IsSite}
-use Rattle.ocpi_json.specs.Sites.{new_among, counted_in, site_at}
+use Rattle.json_text.specs.Fault.{Read, ◌>>=◌}
+use Rattle.json_text.specs.Fields.{as_record, party_in, record_in, optional, each_after}
+use Rattle.json_text.specs.Form.{Required, Optional, IsParty, IsRecord, IsList}
+use Rattle.json_text.specs.Line.{HasTree, tree_at}
+use Rattle.ocpi_forms.specs.SiteForm.{IsSite}
+use Rattle.json_text.specs.Lists.{new_among, counted_in}
+use Rattle.ocpi_forms.specs.Sites.{site_at}
 
 -- ---- reading, in the order in which faults are told
 

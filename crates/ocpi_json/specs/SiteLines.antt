@@ -2,10 +2,10 @@
 use Rattle.std.specs.Prelude.{ℕ, List}
 use Rattle.serde_json.specs.Data.{Data}
 use Rattle.ocpi_types.specs.declared.site.SiteLine.{SiteLine}
-use Rattle.ocpi_json.specs.Fault.{Read, ◌>>=◌}
-use Rattle.ocpi_json.specs.Line.{HasTree, tree_at}
-use Rattle.ocpi_json.specs.SiteForm.{IsSiteLineTree}
-use Rattle.ocpi_json.specs.Sites.{site_of_line}
+use Rattle.json_text.specs.Fault.{Read, ◌>>=◌}
+use Rattle.json_text.specs.Line.{HasTree, tree_at}
+use Rattle.ocpi_forms.specs.SiteForm.{IsSiteLineTree}
+use Rattle.ocpi_forms.specs.Sites.{site_of_line}
 
 -- the line has a tree of the site line's form
 pub record SpellsSiteLine (line : List ℕ) (l : SiteLine) : Type 0 where

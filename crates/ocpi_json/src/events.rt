@@ -2,15 +2,16 @@
 
 ghost use Rattle.std.specs.Prelude.{◌≡◌, IfOk, Ok};
 ghost use Rattle.serde_json.specs.View.{view};
-ghost use Rattle.ocpi_json.specs.EventForms.{event_of_word, order_of_word, known_in, start_order_at, reserve_order_at, unlock_order_at, order_at, submit_at, token_event_at, service_at, swipe_at, meter_at, command_number_at, report_at, charger_at, deliver_at, kind_at, event_at, event_of_line, IsEventLine};
+ghost use Rattle.ocpi_json.specs.EventForms.{event_of_word, order_of_word, start_order_at, reserve_order_at, unlock_order_at, order_at, submit_at, token_event_at, service_at, swipe_at, meter_at, command_number_at, report_at, charger_at, deliver_at, kind_at, event_at, event_of_line, IsEventLine};
+ghost use Rattle.json_text.specs.Fields.{known_in};
 ghost use Rattle.ocpi_types.specs.declared.field.Field.TheVariants as field;
 
-use crate::fault::JsonFault;
-use crate::fields::{
+use json_text::JsonFault;
+use json_text::fields::{
     as_record, ci_in, moment_in, optional_ci_in, party_in, quantity_in, record_in, text_in,
     truth_in, whole_in, word_in,
 };
-use crate::tokens::token_of;
+use ocpi_forms::token_of;
 use ocpi_text::{Party, Whole};
 use ocpi_types::{ChargerEvent, Event, EventKind, Field, Order};
 use serde_json::Value;
@@ -43,7 +44,7 @@ enum EventWord {
 
 /// What is ordered, by the word of the member `order`.
 #[derive(Clone, Copy)]
-enum OrderWord {
+pub enum OrderWord {
     StartSession,
     StopSession,
     ReserveNow,
@@ -83,7 +84,7 @@ fn event_word(word: &str) -> Option<EventWord>
 }
 
 /// The order that a word names, if there is one.
-fn order_word(word: &str) -> Option<OrderWord>
+pub fn order_word(word: &str) -> Option<OrderWord>
     ensures { result ≡ order_of_word word.now }
 {
     match word {
@@ -97,7 +98,7 @@ fn order_word(word: &str) -> Option<OrderWord>
 }
 
 /// The word of the event. One that names none is `UnknownKind`.
-#[tactic(auto, unfolding(crate::specs::EventForms::known_in))]
+#[tactic(auto, unfolding(json_text::specs::Fields::known_in))]
 fn event_word_of(object: &Value) -> Result<EventWord, JsonFault>
     ensures { result ≡ known_in event_of_word field.Event (view object.now) }
 {
@@ -108,7 +109,7 @@ fn event_word_of(object: &Value) -> Result<EventWord, JsonFault>
 }
 
 /// The word of the order. One that names none is `UnknownKind`.
-#[tactic(auto, unfolding(crate::specs::EventForms::known_in))]
+#[tactic(auto, unfolding(json_text::specs::Fields::known_in))]
 fn order_word_of(object: &Value) -> Result<OrderWord, JsonFault>
     ensures { result ≡ known_in order_of_word field.Order (view object.now) }
 {

@@ -1,29 +1,26 @@
 //! Packets: an envelope that says whose the packet is and under which numbers, and what it carries.
 
-ghost use Rattle.std.specs.Prelude.{◌≡◌, IfOk, Ok};
+ghost use Rattle.std.specs.Prelude.{◌≡◌, IfOk, Ok, OnOk};
 ghost use Rattle.serde_json.specs.View.{view};
-ghost use Rattle.ocpi_json.specs.Fault.{Gives};
-ghost use Rattle.ocpi_json.specs.Packets.{kind_in, body_at, packet_at, packet_of_line, IsPacketLine, body_members, packet_members, BodyFits, PacketFits};
+ghost use Rattle.ocpi_types.specs.Words.{kind_of_word};
+ghost use Rattle.ocpi_types.specs.declared.field.Field.TheVariants as field;
+ghost use Rattle.json_text.specs.Fault.{Gives};
+ghost use Rattle.json_text.specs.Fields.{known_in};
+ghost use Rattle.json_text.specs.Members.{said};
+ghost use Rattle.ocpi_json.specs.Packets.{envelope_at, packet_at, packet_of_line, IsPacketLine, packet_members, PacketFits};
 
-use crate::authorizations::{authorization_of, authorize_of};
-use crate::cdrs::cdr_of;
-use crate::commands::{
-    cancel_reservation_of, reserve_now_of, start_session_of, stop_session_of, unlock_connector_of,
-};
-use crate::fault::JsonFault;
-use crate::fields::{as_record, party_in, record_in, text_in, whole_in};
-use crate::record_writer::{Record, RecordWriter};
-use crate::replies::{ack_of, command_response_of, command_result_of};
-use crate::sessions::session_of;
-use crate::tokens::token_of;
-use ocpi_types::{Body, Field, Packet, PacketKind, Word};
+use json_text::fields::{as_record, party_in, record_in, text_in, whole_in};
+use json_text::{JsonFault, RecordWriter};
+use ocpi_forms::{body_of, write_record};
+use ocpi_text::{Party, Whole};
+use ocpi_types::{Field, Packet, PacketKind, Word};
 use serde_json::Value;
 use std::alloc::{AllocError, Global};
 
 /// The kind of a packet. A word that names none is `UnknownKind`.
-#[tactic(auto, unfolding(crate::specs::Packets::kind_in))]
+#[tactic(auto, unfolding(json_text::specs::Fields::known_in))]
 fn kind_of(object: &Value) -> Result<PacketKind, JsonFault>
-    ensures { result ≡ kind_in (view object.now) }
+    ensures { result ≡ known_in kind_of_word field.Kind (view object.now) }
 {
     match PacketKind::of_word(text_in(object, Field::Kind)?) {
         Some(kind) => Ok(kind),
@@ -31,47 +28,46 @@ fn kind_of(object: &Value) -> Result<PacketKind, JsonFault>
     }
 }
 
-/// What a packet of that kind carries.
-#[tactic(auto, unfolding(crate::specs::Packets::body_at))]
-fn body_of(alloc: Global, kind: PacketKind, object: &Value) -> Result<Body, JsonFault>
-    ensures { Gives result (body_at kind (view object.now)) }
-{
-    match kind {
-        PacketKind::StartSession => Ok(Body::StartSession(start_session_of(alloc, object)?)),
-        PacketKind::StopSession => Ok(Body::StopSession(stop_session_of(alloc, object)?)),
-        PacketKind::ReserveNow => Ok(Body::ReserveNow(reserve_now_of(alloc, object)?)),
-        PacketKind::CancelReservation => Ok(Body::CancelReservation(cancel_reservation_of(
-            alloc, object,
-        )?)),
-        PacketKind::UnlockConnector => Ok(Body::UnlockConnector(unlock_connector_of(
-            alloc, object,
-        )?)),
-        PacketKind::CommandResponse => Ok(Body::CommandResponse(command_response_of(object)?)),
-        PacketKind::CommandResult => Ok(Body::CommandResult(command_result_of(alloc, object)?)),
-        PacketKind::PutToken => Ok(Body::PutToken(token_of(object)?)),
-        PacketKind::Authorize => Ok(Body::Authorize(authorize_of(alloc, object)?)),
-        PacketKind::Authorization => Ok(Body::Authorization(authorization_of(object)?)),
-        PacketKind::PutSession => Ok(Body::PutSession(session_of(object)?)),
-        PacketKind::PostCdr => Ok(Body::PostCdr(cdr_of(alloc, object)?)),
-        PacketKind::Ack => Ok(Body::Ack(ack_of(object)?)),
-    }
+/// Whose a packet is, under which numbers and of which kind.
+#[derive(Clone, Copy)]
+struct Envelope {
+    from: Party,
+    to: Party,
+    serial: Whole,
+    request: Whole,
+    kind: PacketKind,
 }
 
-#[tactic(auto, unfolding(crate::specs::Packets::packet_at))]
-fn packet_of(alloc: Global, object: &Value) -> Result<Packet, JsonFault>
-    ensures { Gives result (packet_at (view object.now)) }
+#[tactic(auto, unfolding(crate::specs::Packets::envelope_at))]
+fn envelope_of(object: &Value) -> Result<Envelope, JsonFault>
+    ensures { result ≡ envelope_at (view object.now) }
 {
     let from = party_in(object, Field::From)?;
     let to = party_in(object, Field::To)?;
     let serial = whole_in(object, Field::Serial)?;
     let request = whole_in(object, Field::Request)?;
     let kind = kind_of(object)?;
-    let body = body_of(alloc, kind, record_in(object, Field::Body)?)?;
-    Ok(Packet {
+    Ok(Envelope {
         from,
         to,
         serial,
         request,
+        kind,
+    })
+}
+
+#[tactic(auto, unfolding(crate::specs::Packets::packet_at))]
+fn packet_of(alloc: Global, object: &Value) -> Result<Packet, JsonFault>
+    ensures { Gives result (packet_at (view object.now)) }
+{
+    let envelope = envelope_of(object)?;
+    let inner = record_in(object, Field::Body)?;
+    let body = body_of(alloc, envelope.kind, inner)?;
+    Ok(Packet {
+        from: envelope.from,
+        to: envelope.to,
+        serial: envelope.serial,
+        request: envelope.request,
         body,
     })
 }
@@ -95,45 +91,18 @@ pub fn packet_of_line(alloc: Global, tree: &Value) -> Result<Packet, JsonFault>
     line_packet(alloc, tree)
 }
 
-impl Record for Body {
-    ghost members = { body_members };
-
-    ghost fits = { BodyFits };
-
-    #[tactic(auto, unfolding(crate::specs::Packets::body_members))]
-    fn write(&self, out: &mut RecordWriter) -> Result<(), AllocError> {
-        match self {
-            Body::StartSession(body) => body.write(out),
-            Body::StopSession(body) => body.write(out),
-            Body::ReserveNow(body) => body.write(out),
-            Body::CancelReservation(body) => body.write(out),
-            Body::UnlockConnector(body) => body.write(out),
-            Body::CommandResponse(body) => body.write(out),
-            Body::CommandResult(body) => body.write(out),
-            Body::PutToken(body) => body.write(out),
-            Body::Authorize(body) => body.write(out),
-            Body::Authorization(body) => body.write(out),
-            Body::PutSession(body) => body.write(out),
-            Body::PostCdr(body) => body.write(out),
-            Body::Ack(body) => body.write(out),
-        }
-    }
-}
-
-impl Record for Packet {
-    ghost members = { packet_members };
-
-    ghost fits = { PacketFits };
-
-    #[tactic(auto, unfolding(crate::specs::Packets::packet_members))]
-    fn write(&self, out: &mut RecordWriter) -> Result<(), AllocError> {
-        out.begin()?;
-        out.record(Field::Body, &self.body)?;
-        out.party(Field::From, &self.from)?;
-        out.word(Field::Kind, &self.body.kind())?;
-        out.whole(Field::Request, self.request)?;
-        out.whole(Field::Serial, self.serial)?;
-        out.party(Field::To, &self.to)?;
-        out.end()
-    }
+/// Writes a packet: its envelope, and in it what the packet carries. It fails for want of memory alone.
+#[tactic(auto, unfolding(crate::specs::Packets::packet_members))]
+pub fn write_members(packet: &Packet, out: &mut RecordWriter) -> Result<(), AllocError>
+    ensures tokens { OnOk result (out.new ≡ said out.old (packet_members packet.now)) }
+    ensures fits { OnOk result (PacketFits packet.now) }
+{
+    out.begin()?;
+    write_record(out, Field::Body, &packet.body)?;
+    out.party(Field::From, &packet.from)?;
+    out.word(Field::Kind, &packet.body.kind())?;
+    out.whole(Field::Request, packet.request)?;
+    out.whole(Field::Serial, packet.serial)?;
+    out.party(Field::To, &packet.to)?;
+    out.end()
 }

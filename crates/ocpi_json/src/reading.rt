@@ -1,28 +1,34 @@
-//! Lines to packets, site lines, setups and events.
+//! Lines to packets, site lines, setups and events, and stored texts to rows.
 
-ghost use Rattle.std.specs.Prelude.{List, Ok, IfOk};
+ghost use Rattle.std.specs.Prelude.{◌≡◌, List, Ok, Err, IfOk};
+ghost use Rattle.json_text.specs.declared.fault.JsonFault.TheVariants.{Syntax};
+ghost use Rattle.json_text.specs.Line.{IsNoText};
 ghost use Rattle.ocpi_json.specs.EventForms.{SpellsEvent, event_in};
-ghost use Rattle.ocpi_json.specs.Fault.{Gives};
+ghost use Rattle.json_text.specs.Fault.{Gives};
 ghost use Rattle.ocpi_json.specs.Packets.{SpellsPacket, packet_in};
+ghost use Rattle.ocpi_json.specs.RowForms.{SpellsRow, row_in};
 ghost use Rattle.ocpi_json.specs.SetupForms.{SpellsSetup, setup_in};
 ghost use Rattle.ocpi_json.specs.SiteLines.{SpellsSiteLine, site_in};
 ghost use Rattle.ocpi_types.specs.declared.events.Event.{Event};
 ghost use Rattle.ocpi_types.specs.declared.packet.Packet.{Packet};
+ghost use Rattle.ocpi_types.specs.declared.rows.Row.{Row};
 ghost use Rattle.ocpi_types.specs.declared.setup.Node.{Node};
 ghost use Rattle.ocpi_types.specs.declared.site.SiteLine.{SiteLine};
 
 use crate::events::event_of_line;
-use crate::fault::JsonFault;
-use crate::lines::line_tree;
 use crate::packets::packet_of_line;
+use crate::row_kinds::RowKind;
+use crate::rows::row_of_text;
 use crate::setups::setup_of_line;
-use crate::sites::site_of_line;
-use ocpi_types::{Event, Packet, Setup, SiteLine};
+use json_text::{JsonFault, line_tree, text_tree};
+use ocpi_forms::site_of_line;
+use ocpi_types::{Event, Packet, Row, Setup, SiteLine, Word};
 use std::alloc::Global;
 
 #[tactic(auto, unfolding(crate::specs::Packets::packet_in))]
 fn packet_in(alloc: Global, line: &[u8]) -> Result<Packet, JsonFault>
-    ensures { Gives result (packet_in line.now) }
+    ensures exact { Gives result (packet_in line.now) }
+    ensures unread { IsNoText line.now → result ≡ Err Syntax }
 {
     let tree = line_tree(alloc, line)?;
     packet_of_line(alloc, &tree)
@@ -42,13 +48,16 @@ pub fn read_packet(alloc: Global, line: &[u8]) -> Result<Packet, JsonFault>
     ensures only { (p : Packet) → SpellsPacket line.now p → Gives result (Ok p) }
     // Which packet, or which refusal, it is.
     ensures exact { Gives result (packet_in line.now) }
+    // No memory is taken to refuse a line that is too long or no UTF-8.
+    ensures unread { IsNoText line.now → result ≡ Err Syntax }
 {
     packet_in(alloc, line)
 }
 
 #[tactic(auto, unfolding(crate::specs::SiteLines::site_in))]
 fn site_in(alloc: Global, line: &[u8]) -> Result<SiteLine, JsonFault>
-    ensures { Gives result (site_in line.now) }
+    ensures exact { Gives result (site_in line.now) }
+    ensures unread { IsNoText line.now → result ≡ Err Syntax }
 {
     let tree = line_tree(alloc, line)?;
     site_of_line(alloc, &tree)
@@ -66,13 +75,16 @@ pub fn read_site(alloc: Global, line: &[u8]) -> Result<SiteLine, JsonFault>
     ensures only { (l : SiteLine) → SpellsSiteLine line.now l → Gives result (Ok l) }
     // Which site line, or which refusal, it is.
     ensures exact { Gives result (site_in line.now) }
+    // No memory is taken to refuse a line that is too long or no UTF-8.
+    ensures unread { IsNoText line.now → result ≡ Err Syntax }
 {
     site_in(alloc, line)
 }
 
 #[tactic(auto, unfolding(crate::specs::SetupForms::setup_in))]
 fn setup_in(alloc: Global, line: &[u8]) -> Result<Setup, JsonFault>
-    ensures { Gives result (setup_in line.now) }
+    ensures exact { Gives result (setup_in line.now) }
+    ensures unread { IsNoText line.now → result ≡ Err Syntax }
 {
     let tree = line_tree(alloc, line)?;
     setup_of_line(alloc, &tree)
@@ -91,13 +103,16 @@ pub fn read_setup(alloc: Global, line: &[u8]) -> Result<Setup, JsonFault>
     ensures only { (s : List Node) → SpellsSetup line.now s → Gives result (Ok s) }
     // Which setup, or which refusal, it is.
     ensures exact { Gives result (setup_in line.now) }
+    // No memory is taken to refuse a line that is too long or no UTF-8.
+    ensures unread { IsNoText line.now → result ≡ Err Syntax }
 {
     setup_in(alloc, line)
 }
 
 #[tactic(auto, unfolding(crate::specs::EventForms::event_in))]
 fn event_in(alloc: Global, line: &[u8]) -> Result<Event, JsonFault>
-    ensures { Gives result (event_in line.now) }
+    ensures exact { Gives result (event_in line.now) }
+    ensures unread { IsNoText line.now → result ≡ Err Syntax }
 {
     let tree = line_tree(alloc, line)?;
     event_of_line(&tree)
@@ -115,6 +130,54 @@ pub fn read_event(alloc: Global, line: &[u8]) -> Result<Event, JsonFault>
     ensures only { (e : Event) → SpellsEvent line.now e → Gives result (Ok e) }
     // Which event, or which refusal, it is.
     ensures exact { Gives result (event_in line.now) }
+    // No memory is taken to refuse a line that is too long or no UTF-8.
+    ensures unread { IsNoText line.now → result ≡ Err Syntax }
 {
     event_in(alloc, line)
+}
+
+#[tactic(auto, unfolding(crate::specs::RowForms::row_in))]
+fn row_in(alloc: Global, kind: &str, key: &str, text: &[u8]) -> Result<Row, JsonFault>
+    ensures { Gives result (row_in kind.now key.now text.now) }
+{
+    let Some(kind) = RowKind::of_word(kind) else {
+        return Err(JsonFault::UnknownKind);
+    };
+    let tree = text_tree(alloc, text)?;
+    row_of_text(alloc, kind, key, &tree)
+}
+
+/// The row that is stored under that kind and key with that text, of any length.
+///
+/// Refused, in this order: a kind of row that is not known (`UnknownKind`); the text as [`read_packet`] refuses, but for
+/// its length, with the members of its kind in the order in which they are listed here; a key that is not of its kind's
+/// form or not the row's own (`WrongForm` of `key`).
+///
+/// | kind | key | members of the text |
+/// |---|---|---|
+/// | `count` | `serial`, `request`, `session`, `cdr` or `reference` | `last` |
+/// | `reply` | `PARTY/NUMBER` | `kind`, `body` |
+/// | `token` | `PARTY/TYPE/UID` | the token's |
+/// | `push` | `NUMBER` | `kind`, `body`, `to` |
+/// | `service` | the EVSE's uid | none |
+/// | `spent` | `PARTY/REFERENCE` | none |
+/// | `mark` | `PARTY/RESERVATION` | `number` |
+/// | `reservation` | `PARTY/RESERVATION` | `evse_uid`, `expiry_date`, `location_id`, `token` |
+/// | `pending` | `PARTY/NUMBER` | `kind`, `body`, `connector_id`, `deadline`, `evse_uid` |
+/// | `result` | `PARTY/NUMBER` | `result` |
+/// | `session` | `PARTY/ID` | the session's |
+/// | `cdr` | `PARTY/ID` | the charge detail record's |
+/// | `command` | `NUMBER` | `answer`, `kind`, `body`, `result`, `to` |
+///
+/// A `kind` in a text that is none of those that such a row carries is `UnknownKind`, told before `body` is looked at. In a
+/// key numbers are in decimal digits without leading zeros, and texts have no letters `a` to `z`.
+pub fn read_row(alloc: Global, kind: &str, key: &str, text: &[u8]) -> Result<Row, JsonFault>
+    // What is read is spelled so.
+    ensures found { IfOk result (SpellsRow kind.now key.now text.now) }
+    // What is spelled so is read, unless memory runs out.
+    ensures only { (r : Row) → SpellsRow kind.now key.now text.now r → Gives result (Ok r) }
+    // Which row, or which refusal, it is.
+    ensures exact { Gives result (row_in kind.now key.now text.now) }
+{
+    row_in(alloc, kind, key, text)
 }

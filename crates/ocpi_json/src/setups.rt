@@ -4,14 +4,14 @@ ghost use Rattle.std.specs.Prelude.{◌≡◌, map, IfOk, Ok};
 ghost use Rattle.serde_json.specs.View.{view};
 ghost use Rattle.ocpi_text.specs.Text.{key};
 ghost use Rattle.ocpi_types.specs.Setups.{node_key};
-ghost use Rattle.ocpi_json.specs.Fault.{Gives};
+ghost use Rattle.json_text.specs.Fault.{Gives};
 ghost use Rattle.ocpi_json.specs.SetupForms.{node_at, node_element, setup_at, setup_of_line, IsSetupLine};
-ghost use Rattle.ocpi_json.specs.Sites.{is_among};
+ghost use Rattle.json_text.specs.Lists.{is_among};
 
-use crate::fault::JsonFault;
-use crate::fields::{as_record, is_absent, party_in, record_in};
-use crate::lists::{ElementReader, counted_in, elements};
-use crate::sites::{is_same_party, site_of};
+use json_text::fields::{as_record, is_absent, party_in, record_in};
+use json_text::lists::{ElementReader, counted_in, elements};
+use json_text::{JsonFault, is_same_party};
+use ocpi_forms::site_of;
 use ocpi_text::Party;
 use ocpi_types::{Field, Node, Setup};
 use serde_json::Value;
@@ -25,7 +25,7 @@ fn has_node(before: &[Node], party: &Party) -> bool
 }
 
 /// A node, beside those before it: an operator where it has a site, which is neither absent nor null.
-#[tactic(auto, unfolding(crate::specs::SetupForms::node_at, crate::specs::SetupForms::new_party_in, crate::specs::Fields::optional))]
+#[tactic(auto, unfolding(crate::specs::SetupForms::node_at, crate::specs::SetupForms::new_party_in, json_text::specs::Fields::optional))]
 fn node_of(alloc: Global, before: &[Node], object: &Value) -> Result<Node, JsonFault>
     ensures { Gives result (node_at before.now (view object.now)) }
 {

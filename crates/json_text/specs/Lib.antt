@@ -1,0 +1,16 @@
+pub mod Fault
+pub mod Fields
+pub mod Fits
+pub mod Form
+pub mod Line
+pub mod Lists
+pub mod Members
+pub mod Names
+pub mod Nesting
+pub mod Numbers
+pub mod Pieces
+pub mod Quote
+pub mod Tag
+pub mod Tagged
+pub mod Texts
+pub mod Unquote

@@ -1,0 +1,26 @@
+//! Lines of JSON as trees in which a number stands as it was written, the members of such trees, and records written as
+//! JSON.
+#![tactic(auto)]
+
+mod fault;
+pub mod fields;
+mod laws;
+mod lines;
+pub mod lists;
+mod names;
+mod one_pass;
+mod quote;
+mod record_writer;
+mod same;
+mod tag;
+mod texts;
+mod unquote;
+
+pub use fault::JsonFault;
+pub use laws::{lines_nest_no_deeper_than_127, the_last_of_a_repeated_name_counts};
+pub use lines::line_tree;
+pub use quote::{quote_numbers, quoted_numbers_are_json_numbers, quoting_goes_by_pieces};
+pub use record_writer::RecordWriter;
+pub use same::{is_same_id, is_same_party};
+pub use texts::text_tree;
+pub use unquote::{unquote_numbers, unquoting_undoes_quoting};

@@ -1,0 +1,334 @@
+//! Records as JSON, written member by member.
+
+ghost use Rattle.std.specs.Prelude.{◌≡◌, ◌≤◌, ◌<◌, ◌++◌, ◌∷◌, [], map, option_map, unsigned_abs, All, IfOk, IfSome, IsUtf8, Ok, OnOk, string_bytes, ℕ, List};
+ghost use Rattle.json.specs.Lex.{tokens};
+ghost use Rattle.json.specs.Print.{print};
+ghost use Rattle.json.specs.Token.{key, string, number, boolean, begin_array, end_array};
+ghost use Rattle.ocpi_text.specs.Decimal.{e4_limit};
+ghost use Rattle.ocpi_text.specs.Moment.{last_moment};
+ghost use Rattle.ocpi_text.specs.Party.{party_at, country_of, party_id_of};
+ghost use Rattle.ocpi_text.specs.Whole.{max_whole};
+ghost use Rattle.ocpi_types.specs.Fields.{name_of};
+ghost use Rattle.json_text.specs.Fits.{FitsCi, FitsFree, FitsOption, FitsOptionalMoment, FitsQuantity};
+ghost use Rattle.json_text.specs.Members as member;
+ghost use Rattle.json_text.specs.Members.{Member, and_member, and_values, begun, ended, said};
+
+use json::Writer;
+use ocpi_text::{CiText, E4, FreeText, Moment, Party, Quantity, ShortText, Whole};
+use ocpi_types::{EvseUids, Field, Word};
+use std::alloc::{AllocError, Global};
+use std::marker::Model;
+
+/// The bytes that are taken at once.
+const ROOM: usize = 1024;
+
+/// A text of JSON that is being written, seen as its tokens.
+#[derive(Drop)]
+pub struct RecordWriter {
+    alloc: Global,
+    out: Writer,
+}
+
+impl Model for RecordWriter {
+    ghost use Rattle.std.specs.Prelude.{List, [], ◌≡◌};
+    ghost use Rattle.json.specs.Token.{Token, tokens_code};
+
+    ghost Value = { List Token };
+
+    ghost coded = { tokens_code };
+
+    ghost view = { λ w. w.out.tokens };
+
+    ghost invariant = { λ w. w.out.before ≡ [] };
+}
+
+impl RecordWriter {
+    /// An empty text, with room for most packets.
+    pub fn new(alloc: Global) -> Result<RecordWriter, AllocError>
+        ensures { IfOk result (λ w. w ≡ []) }
+    {
+        let out = Vec::with_capacity(alloc, ROOM)?;
+        Ok(RecordWriter {
+            alloc,
+            out: Writer::new(out),
+        })
+    }
+
+    /// What was written, without spaces.
+    pub fn into_text(self) -> String
+        ensures text { string_bytes result ≡ print self }
+        ensures utf8 { IsUtf8 (print self) }
+        ensures again { tokens (print self) ≡ self }
+    {
+        match String::from_utf8(self.out.into_inner()) {
+            Ok(text) => text,
+            Err(_) => unreachable!(),
+        }
+    }
+
+    /// Opens an object.
+    #[tactic(auto, unfolding(crate::specs::Members::begun))]
+    pub fn begin(&mut self) -> Result<(), AllocError>
+        ensures { OnOk result (self.new ≡ begun self.old) }
+    {
+        self.out.begin_object()
+    }
+
+    /// Closes an object.
+    #[tactic(auto, unfolding(crate::specs::Members::ended))]
+    pub fn end(&mut self) -> Result<(), AllocError>
+        ensures { OnOk result (self.new ≡ ended self.old) }
+    {
+        self.out.end_object()
+    }
+
+    /// The name of a member, whose value comes next.
+    pub fn name(&mut self, field: Field) -> Result<(), AllocError>
+        ensures { OnOk result (self.new ≡ self.old ++ key (name_of field) ∷ []) }
+    {
+        self.out.key(field.name())
+    }
+
+    /// A text.
+    #[tactic(auto, unfolding(crate::specs::Members::and_member))]
+    pub fn text(&mut self, field: Field, text: &str) -> Result<(), AllocError>
+        ensures { OnOk result (self.new ≡ and_member self.old (member.text field text.now)) }
+    {
+        self.name(field)?;
+        self.out.string(text)
+    }
+
+    /// A text that is compared without case.
+    pub fn ci<const MAX: usize>(
+        &mut self,
+        field: Field,
+        text: CiText<MAX>,
+    ) -> Result<(), AllocError>
+        ensures member { OnOk result (self.new ≡ and_member self.old (member.text field text.entry)) }
+        ensures fits { FitsCi MAX text.entry }
+    {
+        self.text(field, text.as_str())
+    }
+
+    /// The same, where there is one.
+    #[tactic(auto, unfolding(crate::specs::Members::and_member))]
+    pub fn optional_ci<const MAX: usize>(
+        &mut self,
+        field: Field,
+        text: Option<CiText<MAX>>,
+    ) -> Result<(), AllocError>
+        ensures member { OnOk result (self.new ≡ and_member self.old (member.optional_text field text.entry)) }
+        ensures fits { FitsOption MAX text.entry }
+    {
+        match text {
+            Some(text) => self.ci(field, text),
+            None => Ok(()),
+        }
+    }
+
+    /// A text that is compared exactly.
+    pub fn free<const MAX: usize>(
+        &mut self,
+        field: Field,
+        text: &FreeText<MAX>,
+    ) -> Result<(), AllocError>
+        ensures member { OnOk result (self.new ≡ and_member self.old (member.text field text.now)) }
+        ensures fits { FitsFree MAX text.now }
+    {
+        self.text(field, text.as_str())
+    }
+
+    /// A short text that is compared exactly.
+    pub fn short<const MAX: usize, const BYTES: usize>(
+        &mut self,
+        field: Field,
+        text: &ShortText<MAX, BYTES>,
+    ) -> Result<(), AllocError>
+        ensures member { OnOk result (self.new ≡ and_member self.old (member.text field text.now)) }
+        ensures fits { FitsFree MAX text.now }
+    {
+        self.text(field, text.as_str())
+    }
+
+    /// A party, as `BE/BEC`.
+    pub fn party(&mut self, field: Field, party: &Party) -> Result<(), AllocError>
+        ensures member { OnOk result (self.new ≡ and_member self.old (member.text field party.now)) }
+        ensures fits { party_at party.now ≡ Ok party.now }
+    {
+        self.text(field, party.as_str())
+    }
+
+    /// The country of a party, which has its id under another name.
+    pub fn country(&mut self, field: Field, party: &Party) -> Result<(), AllocError>
+        ensures member { OnOk result (self.new ≡ and_member self.old (member.text field (country_of party.now))) }
+        ensures fits { party_at party.now ≡ Ok party.now }
+    {
+        // The type keeps the party's form, and `as_str` tells it.
+        let _party = party.as_str();
+        self.text(field, party.country())
+    }
+
+    /// The id of a party in its country.
+    pub fn party_id(&mut self, field: Field, party: &Party) -> Result<(), AllocError>
+        ensures member { OnOk result (self.new ≡ and_member self.old (member.text field (party_id_of party.now))) }
+        ensures fits { party_at party.now ≡ Ok party.now }
+    {
+        // The type keeps the party's form, and `as_str` tells it.
+        let _party = party.as_str();
+        self.text(field, party.party_id())
+    }
+
+    /// A word of a closed list.
+    pub fn word<W: Word>(&mut self, field: Field, word: &W) -> Result<(), AllocError>
+        ensures { OnOk result (self.new ≡ and_member self.old (member.text field (W.spelling word.now))) }
+    {
+        self.text(field, word.word())
+    }
+
+    /// The same, where there is one.
+    #[tactic(auto, unfolding(crate::specs::Members::and_member))]
+    pub fn optional_word<W: Word>(
+        &mut self,
+        field: Field,
+        word: &Option<W>,
+    ) -> Result<(), AllocError>
+        ensures { OnOk result (self.new ≡ and_member self.old (member.optional_text field (option_map W.spelling word.now))) }
+    {
+        match word {
+            Some(word) => self.word(field, word),
+            None => Ok(()),
+        }
+    }
+
+    /// A number in digits.
+    #[tactic(auto, unfolding(crate::specs::Members::and_member))]
+    pub fn number(&mut self, field: Field, number: u64) -> Result<(), AllocError>
+        ensures { OnOk result (self.new ≡ and_member self.old (member.whole field number)) }
+    {
+        self.name(field)?;
+        self.out.u64(number)
+    }
+
+    /// A whole number.
+    pub fn whole(&mut self, field: Field, number: Whole) -> Result<(), AllocError>
+        ensures member { OnOk result (self.new ≡ and_member self.old (member.whole field number)) }
+        ensures fits { number ≤ max_whole }
+    {
+        self.number(field, number.value())
+    }
+
+    /// A moment.
+    pub fn moment(&mut self, field: Field, moment: Moment) -> Result<(), AllocError>
+        ensures member { OnOk result (self.new ≡ and_member self.old (member.moment field moment)) }
+        ensures fits { moment ≤ last_moment }
+    {
+        // The type keeps the bound, and `millis` tells it.
+        let _millis = moment.millis();
+        let text = moment.write(self.alloc)?;
+        self.text(field, &text)
+    }
+
+    /// The same, where there is one.
+    #[tactic(auto, unfolding(crate::specs::Members::and_member))]
+    pub fn optional_moment(
+        &mut self,
+        field: Field,
+        moment: Option<Moment>,
+    ) -> Result<(), AllocError>
+        ensures member { OnOk result (self.new ≡ and_member self.old (member.optional_moment field moment)) }
+        ensures fits { FitsOptionalMoment moment }
+    {
+        match moment {
+            Some(moment) => self.moment(field, moment),
+            None => Ok(()),
+        }
+    }
+
+    /// True or false.
+    #[tactic(auto, unfolding(crate::specs::Members::and_member))]
+    pub fn truth(&mut self, field: Field, truth: bool) -> Result<(), AllocError>
+        ensures { OnOk result (self.new ≡ and_member self.old (member.truth field truth)) }
+    {
+        self.name(field)?;
+        self.out.boolean(truth)
+    }
+
+    /// A number of four decimals.
+    #[tactic(auto, unfolding(crate::specs::Members::and_member), using(crate::proofs::DecimalNumbers::e4_written))]
+    pub fn e4(&mut self, field: Field, number: E4) -> Result<(), AllocError>
+        ensures member { OnOk result (self.new ≡ and_member self.old (member.e4 field number)) }
+        ensures fits { unsigned_abs number < e4_limit }
+    {
+        // The type keeps the bound, and `units` tells it.
+        let _units = number.units();
+        let text = number.write(self.alloc)?;
+        self.name(field)?;
+        self.out.number(&text)
+    }
+
+    /// A number of four decimals that is not negative.
+    pub fn quantity(&mut self, field: Field, number: Quantity) -> Result<(), AllocError>
+        ensures member { OnOk result (self.new ≡ and_member self.old (member.e4 field number)) }
+        ensures fits { FitsQuantity number }
+    {
+        self.e4(field, number.value())
+    }
+
+    /// Opens a list.
+    pub fn begin_list(&mut self) -> Result<(), AllocError>
+        ensures { OnOk result (self.new ≡ self.old ++ begin_array ∷ []) }
+    {
+        self.out.begin_array()
+    }
+
+    /// Closes a list.
+    pub fn end_list(&mut self) -> Result<(), AllocError>
+        ensures { OnOk result (self.new ≡ self.old ++ end_array ∷ []) }
+    {
+        self.out.end_array()
+    }
+
+    fn value(&mut self, text: &str) -> Result<(), AllocError>
+        ensures { OnOk result (self.new ≡ self.old ++ string text.now ∷ []) }
+    {
+        self.out.string(text)
+    }
+
+    fn strings<const MAX: usize>(&mut self, texts: &[CiText<MAX>]) -> Result<(), AllocError>
+        ensures values { OnOk result (self.new ≡ and_values self.old (member.strings texts.now)) }
+        ensures fits { OnOk result (All (FitsCi MAX) texts.now) }
+    {
+        for text in texts {
+            self.value(text.as_str())?;
+        }
+        Ok(())
+    }
+
+    /// A list of texts that are compared without case.
+    #[tactic(auto, using(crate::proofs::Said::list_said))]
+    pub fn ci_list<const MAX: usize>(
+        &mut self,
+        field: Field,
+        texts: &[CiText<MAX>],
+    ) -> Result<(), AllocError>
+        ensures member { OnOk result (self.new ≡ and_member self.old (member.listed field (member.strings texts.now))) }
+        ensures fits { OnOk result (All (FitsCi MAX) texts.now) }
+    {
+        self.name(field)?;
+        self.begin_list()?;
+        self.strings(texts)?;
+        self.end_list()
+    }
+
+    /// The uids of EVSEs, where they are given.
+    #[tactic(auto, unfolding(crate::specs::Members::and_member))]
+    pub fn optional_uids(&mut self, field: Field, uids: &Option<EvseUids>) -> Result<(), AllocError>
+        ensures member { OnOk result (self.new ≡ and_member self.old (member.optional_listed field (option_map member.strings uids.now))) }
+        ensures fits { OnOk result (IfSome uids.now (All (FitsCi 36))) }
+    {
+        match uids {
+            Some(uids) => self.ci_list(field, uids.as_slice()),
+            None => Ok(()),
+        }
+    }
+}

@@ -1,0 +1,12 @@
+pub mod AuthorizationLemmas
+pub mod BodyLemmas
+pub mod CdrLemmas
+pub mod CdrLocationLemmas
+pub mod ChargingPeriodLemmas
+pub mod CommandLemmas
+pub mod ReplyLemmas
+pub mod Seen
+pub mod SessionLemmas
+pub mod SiteForm
+pub mod StatusLemmas
+pub mod TokenLemmas

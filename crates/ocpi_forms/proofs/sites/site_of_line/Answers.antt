@@ -1,0 +1,10 @@
+use Rattle.serde_json.specs.View.{view}
+use Rattle.json_text.proofs.Exact.{found_from, only_from}
+use Rattle.ocpi_forms.proofs.SiteForm.{site_of_line_exact}
+use Rattle.ocpi_forms.proofs.sites.site_of_line.Goals as goal
+
+pub returns-clause-found : goal.returns-clause-found
+returns-clause-found c = found_from site_of_line_exact (view c.args.tree.now) _ c.line_site.ensures
+
+pub returns-clause-only : goal.returns-clause-only
+returns-clause-only c = only_from site_of_line_exact (view c.args.tree.now) _ c.line_site.ensures

@@ -1,0 +1,13 @@
+pub mod AuthorizationForms
+pub mod Bodies
+pub mod CdrForms
+pub mod CdrLocationForms
+pub mod ChargingPeriodForms
+pub mod CommandForms
+pub mod ReplyForms
+pub mod SeenIds
+pub mod SessionForms
+pub mod SiteForm
+pub mod Sites
+pub mod Statuses
+pub mod Tokens

@@ -1,5 +1,0 @@
-use Rattle.ocpi_json.proofs.Repeats.{last_counts}
-use Rattle.ocpi_json.proofs.laws.the_last_of_a_repeated_name_counts.Goals as goal
-
-pub returns : goal.returns
-returns c = last_counts

@@ -1,5 +1,0 @@
-use Rattle.ocpi_json.proofs.PieceQuoting.{quoted_by_pieces, pieces_by_quoting}
-use Rattle.ocpi_json.proofs.quote.quoting_goes_by_pieces.Goals as goal
-
-pub returns : goal.returns
-returns c = λ text read. (pieces_by_quoting text read, quoted_by_pieces text read)

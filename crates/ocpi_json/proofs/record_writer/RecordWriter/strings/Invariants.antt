@@ -1,8 +1,0 @@
-use Rattle.std.proofs.Common.{take}
-use Rattle.json.specs.Json as json
-use Rattle.ocpi_json.specs.Fits.{FitsCi}
-use Rattle.ocpi_json.proofs.Said.{Wrote}
-use Rattle.ocpi_json.proofs.record_writer.RecordWriter.strings.Given as goal
-
-abbrev pub invariant-loop-text : goal.invariant-loop-text
-invariant-loop-text g l = Wrote (json.string) (FitsCi g.row.MAX) l.initial.self (take l.text-index l.texts) l.self

@@ -1,5 +1,0 @@
-use Rattle.ocpi_json.proofs.Seen.{LocationsSoFar}
-use Rattle.ocpi_json.proofs.sites.location_elements.Given as goal
-
-abbrev pub invariant-loop-value : goal.invariant-loop-value
-invariant-loop-value l = LocationsSoFar l.values l.value-index l.locations.items l.seen

@@ -1,0 +1,226 @@
+-- Rows: the text of a row by its kind, beside the key under which it is stored.
+use Rattle.std.specs.Prelude.{◌≡◌, ◌≤◌, ℕ, List, [], ◌∷◌, Option, Some, None, Ok, Err, if◌then◌else◌}
+use Rattle.std.specs.Str.{bytes_eq}
+use Rattle.serde_json.specs.Data.{Data}
+use Rattle.ocpi_text.specs.Party.{party_at}
+use Rattle.ocpi_text.specs.Whole.{max_whole}
+use Rattle.ocpi_types.specs.Rows.{key_of}
+use Rattle.ocpi_types.specs.Stored.{body_of_reply, body_of_push}
+use Rattle.ocpi_types.specs.Words.{result_of, result_word}
+use Rattle.ocpi_types.specs.declared.field.Field.TheVariants as field
+use Rattle.ocpi_types.specs.declared.rows.Row.{Row}
+use Rattle.ocpi_types.specs.declared.rows.Row.TheVariants as row
+use Rattle.ocpi_types.specs.declared.rows.RowKey.TheVariants as keys
+use Rattle.ocpi_types.specs.declared.words.CommandResultType.{CommandResultType}
+use Rattle.json_text.specs.declared.fault.JsonFault.TheVariants.{UnknownKind, WrongForm}
+use Rattle.json_text.specs.Fault.{Read, ◌>>=◌}
+use Rattle.json_text.specs.Fields.{as_record, known, party_in, whole_in, word_in}
+use Rattle.json_text.specs.Form.{Required, IsParty, IsRecord, IsWhole, IsWord}
+use Rattle.json_text.specs.Texts.{HasTextTree, text_tree}
+use Rattle.json_text.specs.Members.{Member, text, whole, object_of, json_text}
+use Rattle.ocpi_forms.specs.Bodies.{BodyFits}
+use Rattle.ocpi_forms.specs.CdrForms.{cdr_at, IsCdr, cdr_members, CdrFits}
+use Rattle.ocpi_forms.specs.SessionForms.{session_at, IsSession, session_members, SessionFits}
+use Rattle.ocpi_forms.specs.Tokens.{token_at, IsToken, token_members, TokenFits}
+use Rattle.ocpi_json.specs.RowKeys.{KeyFits, ci_key_at, counter_at, key_text, kind_of_key, number_at, party_id_at, party_number_at, row_kind_of, row_kind_word}
+use Rattle.ocpi_json.specs.StoredForms.{CarriesPush, CarriesReply, IsOpenCommand, IsReservation, IsSentCommand, OpenCommandFits, ReservationFits, SentCommandFits, carried_at, open_command_at, open_command_members, push_at, push_members, push_of_word, reply_at, reply_members, reply_of_word, reservation_at, reservation_members, sent_command_at, sent_command_members}
+use Rattle.ocpi_json.specs.declared.row_kinds.RowKind.{RowKind}
+use Rattle.ocpi_json.specs.declared.row_kinds.RowKind.TheVariants as kind
+
+-- ---- reading: the text first, then the key
+
+-- the parts of the key, where it is of its kind's form
+abbrev pub keyed : {X : Type 0} → Option X → Read X
+keyed (Some x) = Ok x
+keyed None = Err (WrongForm field.Key)
+
+-- the row, where the key is its own
+unfoldable pub own_key : List ℕ → Row → Read Row
+own_key key r = if bytes_eq key (key_text (key_of r)) then Ok r else Err (WrongForm field.Key)
+
+unfoldable pub count_at : List ℕ → Data → Read Row
+count_at key d = do
+  last ← whole_in field.Last d
+  counter ← keyed (counter_at key)
+  Ok (row.Count counter last)
+
+unfoldable pub reply_row_at : List ℕ → Data → Read Row
+reply_row_at key d = do
+  reply ← carried_at reply_of_word reply_at d
+  k ← keyed (party_number_at key)
+  Ok (row.Reply k.party k.number reply)
+
+unfoldable pub token_row_at : List ℕ → Data → Read Row
+token_row_at key d = token_at d >>= λ t. own_key key (row.Token t)
+
+unfoldable pub push_row_at : List ℕ → Data → Read Row
+push_row_at key d = do
+  push ← carried_at push_of_word push_at d
+  to ← party_in field.To d
+  number ← keyed (number_at key)
+  Ok (row.Push number to push)
+
+unfoldable pub service_row_at : List ℕ → Data → Read Row
+service_row_at key d = keyed (ci_key_at 36 key) >>= λ uid. Ok (row.Service uid)
+
+unfoldable pub spent_at : List ℕ → Data → Read Row
+spent_at key d = keyed (party_id_at key) >>= λ k. Ok (row.Spent k.party k.id)
+
+unfoldable pub mark_at : List ℕ → Data → Read Row
+mark_at key d = do
+  number ← whole_in field.Number d
+  k ← keyed (party_id_at key)
+  Ok (row.Mark k.party k.id number)
+
+unfoldable pub reservation_row_at : List ℕ → Data → Read Row
+reservation_row_at key d = do
+  reservation ← reservation_at d
+  k ← keyed (party_id_at key)
+  Ok (row.Reservation k.party k.id reservation)
+
+unfoldable pub pending_at : List ℕ → Data → Read Row
+pending_at key d = do
+  command ← open_command_at d
+  k ← keyed (party_number_at key)
+  Ok (row.Pending k.party k.number command)
+
+unfoldable pub result_row_at : List ℕ → Data → Read Row
+result_row_at key d = do
+  result ← word_in result_of field.Result d
+  k ← keyed (party_number_at key)
+  Ok (row.Result k.party k.number result)
+
+unfoldable pub session_row_at : List ℕ → Data → Read Row
+session_row_at key d = session_at d >>= λ s. own_key key (row.Session s)
+
+unfoldable pub cdr_row_at : List ℕ → Data → Read Row
+cdr_row_at key d = cdr_at d >>= λ c. own_key key (row.Cdr c)
+
+unfoldable pub command_row_at : List ℕ → Data → Read Row
+command_row_at key d = do
+  command ← sent_command_at d
+  number ← keyed (number_at key)
+  Ok (row.Command number command)
+
+unfoldable pub row_at : RowKind → List ℕ → Data → Read Row
+row_at kind.Count key d = count_at key d
+row_at kind.Reply key d = reply_row_at key d
+row_at kind.Token key d = token_row_at key d
+row_at kind.Push key d = push_row_at key d
+row_at kind.Service key d = service_row_at key d
+row_at kind.Spent key d = spent_at key d
+row_at kind.Mark key d = mark_at key d
+row_at kind.Reservation key d = reservation_row_at key d
+row_at kind.Pending key d = pending_at key d
+row_at kind.Result key d = result_row_at key d
+row_at kind.Session key d = session_row_at key d
+row_at kind.Cdr key d = cdr_row_at key d
+row_at kind.Command key d = command_row_at key d
+
+-- a text that is no object is told as such
+unfoldable pub row_of_text : RowKind → List ℕ → Data → Read Row
+row_of_text k key d = as_record field.Line d >>= row_at k key
+
+-- the row that a kind, a key and a text spell, or the first refusal
+unfoldable pub row_in : List ℕ → List ℕ → List ℕ → Read Row
+row_in word key text = do
+  k ← known (row_kind_of word)
+  d ← text_tree text
+  row_of_text k key d
+
+-- ---- the form
+
+-- what a row's text says of it
+abbrev pub IsRowText : Data → Row → Type 0
+IsRowText d (row.Count counter last) = Required IsWhole field.Last d last
+IsRowText d (row.Reply sender number reply) = CarriesReply d reply
+IsRowText d (row.Token t) = IsToken d t
+IsRowText d (row.Push number to push) = CarriesPush d push × Required IsParty field.To d to
+IsRowText d (row.Service evse_uid) = Unit {0}
+IsRowText d (row.Spent provider reference) = Unit {0}
+IsRowText d (row.Mark provider reservation_id number) = Required IsWhole field.Number d number
+IsRowText d (row.Reservation provider reservation_id r) = IsReservation d r
+IsRowText d (row.Pending provider number open_command) = IsOpenCommand d open_command
+IsRowText d (row.Result provider number result) = Required (IsWord result_of) field.Result d result
+IsRowText d (row.Session s) = IsSession d s
+IsRowText d (row.Cdr c) = IsCdr d c
+IsRowText d (row.Command number command) = IsSentCommand d command
+
+-- what the types keep of a key; a token's, a session's and a charge detail record's comes from the text
+abbrev pub OwnKeyFits : Row → Type 0
+OwnKeyFits (row.Count counter last) = Unit {0}
+OwnKeyFits (row.Reply sender number reply) = KeyFits (keys.Reply sender number)
+OwnKeyFits (row.Token t) = Unit {0}
+OwnKeyFits (row.Push number to push) = KeyFits (keys.Push number)
+OwnKeyFits (row.Service evse_uid) = KeyFits (keys.Service evse_uid)
+OwnKeyFits (row.Spent provider reference) = KeyFits (keys.Spent provider reference)
+OwnKeyFits (row.Mark provider reservation_id number) = KeyFits (keys.Mark provider reservation_id)
+OwnKeyFits (row.Reservation provider reservation_id r) = KeyFits (keys.Reservation provider reservation_id)
+OwnKeyFits (row.Pending provider number open_command) = KeyFits (keys.Pending provider number)
+OwnKeyFits (row.Result provider number result) = KeyFits (keys.Result provider number)
+OwnKeyFits (row.Session s) = Unit {0}
+OwnKeyFits (row.Cdr c) = Unit {0}
+OwnKeyFits (row.Command number command) = KeyFits (keys.Command number)
+
+-- the tree of a row's text, beside the row's kind and key
+pub record IsRow (k : RowKind) (key : List ℕ) (d : Data) (r : Row) : Type 0 where
+  pub kind : kind_of_key (key_of r) ≡ k
+  pub key_is : key_text (key_of r) ≡ key
+  pub fits : OwnKeyFits r
+  pub form : IsRowText d r
+
+-- the word is the kind's, the key the row's, and the text has a tree of the row's form
+pub record SpellsRow (word key text : List ℕ) (r : Row) : Type 0 where
+  pub kind : row_kind_word (kind_of_key (key_of r)) ≡ word
+  pub key_is : key_text (key_of r) ≡ key
+  pub fits : OwnKeyFits r
+  pub tree : Data
+  pub of_text : HasTextTree text tree
+  pub form : IsRecord IsRowText tree r
+
+-- ---- what is written, in the byte order of the names
+
+unfoldable pub count_members : ℕ → List Member
+count_members last = whole field.Last last ∷ []
+
+unfoldable pub mark_members : ℕ → List Member
+mark_members number = whole field.Number number ∷ []
+
+unfoldable pub result_members : CommandResultType → List Member
+result_members result = text field.Result (result_word result) ∷ []
+
+unfoldable pub row_members : Row → List Member
+row_members (row.Count counter last) = count_members last
+row_members (row.Reply sender number reply) = reply_members reply
+row_members (row.Token t) = token_members t
+row_members (row.Push number to push) = push_members to push
+row_members (row.Service evse_uid) = []
+row_members (row.Spent provider reference) = []
+row_members (row.Mark provider reservation_id number) = mark_members number
+row_members (row.Reservation provider reservation_id r) = reservation_members r
+row_members (row.Pending provider number open_command) = open_command_members open_command
+row_members (row.Result provider number result) = result_members result
+row_members (row.Session s) = session_members s
+row_members (row.Cdr c) = cdr_members c
+row_members (row.Command number command) = sent_command_members command
+
+-- the text of a row
+abbrev pub row_text : Row → List ℕ
+row_text r = json_text (object_of (row_members r))
+
+-- ---- what the types keep
+
+abbrev pub RowTextFits : Row → Type 0
+RowTextFits (row.Count counter last) = last ≤ max_whole
+RowTextFits (row.Reply sender number reply) = BodyFits (body_of_reply reply)
+RowTextFits (row.Token t) = TokenFits t
+RowTextFits (row.Push number to push) = BodyFits (body_of_push push) × (party_at to ≡ Ok to)
+RowTextFits (row.Service evse_uid) = Unit {0}
+RowTextFits (row.Spent provider reference) = Unit {0}
+RowTextFits (row.Mark provider reservation_id number) = number ≤ max_whole
+RowTextFits (row.Reservation provider reservation_id r) = ReservationFits r
+RowTextFits (row.Pending provider number open_command) = OpenCommandFits open_command
+RowTextFits (row.Result provider number result) = Unit {0}
+RowTextFits (row.Session s) = SessionFits s
+RowTextFits (row.Cdr c) = CdrFits c
+RowTextFits (row.Command number command) = SentCommandFits command
