@@ -1,0 +1,155 @@
+//! Hands packets to an operator, and writes what each step gives: the packets that are sent, each as its line, and then
+//! the changes of rows, as `put KIND KEY TEXT` or `drop KIND KEY`. A line that is refused gives `refused N Name`.
+//!
+//! The first line of the standard input is a site line. Each other is a moment, a space and a packet. It is a test of
+//! `operator_core`: its cases are the lines of the file `stdin`, and what they must give stands in `stdout`. Lines end at
+//! LF; empty ones are skipped.
+//!
+//! A step that runs out of memory is made once more. So where an allocation of a step fails, whichever it is, the output is
+//! the same as with ample memory, since the step leaves the operator as it was; where another fails, the program ends with
+//! status 1 and a beginning of that output. `bench/fail_allocations.sh` lets each of them fail in turn.
+#![tactic(auto)]
+
+use ocpi_json::{JsonFault, RowKind, read_packet, read_site, write_key, write_packet, write_row};
+use ocpi_text::Moment;
+use ocpi_types::{Change, Field, Packet, Row, RowKey, Word};
+use operator_core::{Operator, OperatorFault, Stepped};
+use std::alloc::Global;
+use std::io::{self, BufWriter, Read, Write};
+use std::process::ExitCode;
+use std::str;
+
+fn main(rt: HostRuntime) -> ExitCode {
+    match write_steps(&rt) {
+        Ok(()) => ExitCode::SUCCESS,
+        Err(error) => {
+            let _ = eprintln!(rt; "{error}");
+            ExitCode::FAILURE
+        }
+    }
+}
+
+/// Writes what the lines of the standard input give.
+fn write_steps(rt: &HostRuntime) -> io::Result<()> {
+    let alloc = rt.alloc();
+    let mut input = Vec::new(alloc);
+    rt.reader().read_to_end(&mut input)?;
+    let mut output = BufWriter::new(alloc, io::writer(rt))?;
+    let end = input.iter().position(|byte| *byte == b'\n').unwrap_or(input.len());
+    match open(alloc, &input[..end]) {
+        Ok(mut operator) => take_lines(alloc, &mut operator, &input[end..], &mut output)?,
+        Err(fault) => writeln!(output, "refused {fault}")?,
+    }
+    output.flush()
+}
+
+/// The operator of a site line.
+fn open(alloc: Global, line: &[u8]) -> Result<Operator, JsonFault> {
+    let site_line = read_site(alloc, line)?;
+    Ok(Operator::new(alloc, site_line)?)
+}
+
+/// Writes what each of the lines gives.
+fn take_lines<W: Write>(
+    alloc: Global,
+    operator: &mut Operator,
+    lines: &[u8],
+    output: &mut W,
+) -> io::Result<()> {
+    for line in lines.split(|byte| *byte == b'\n') {
+        if !line.is_empty() {
+            take_line(alloc, operator, line, output)?;
+        }
+    }
+    Ok(())
+}
+
+/// Writes what a line gives.
+fn take_line<W: Write>(
+    alloc: Global,
+    operator: &mut Operator,
+    line: &[u8],
+    output: &mut W,
+) -> io::Result<()> {
+    match read_line(alloc, line) {
+        Ok((at, packet)) => take_packet(alloc, operator, at, &packet, output),
+        Err(fault) => writeln!(output, "refused {fault}"),
+    }
+}
+
+/// The moment and the packet of a line.
+fn read_line(alloc: Global, line: &[u8]) -> Result<(Moment, Packet), JsonFault> {
+    let Some(space) = line.iter().position(|byte| *byte == b' ') else {
+        return Err(JsonFault::Syntax);
+    };
+    let at = read_moment(&line[..space])?;
+    let packet = read_packet(alloc, &line[space..])?;
+    Ok((at, packet))
+}
+
+/// The moment that a text spells.
+fn read_moment(text: &[u8]) -> Result<Moment, JsonFault> {
+    let Ok(text) = str::from_utf8(text) else {
+        return Err(JsonFault::Syntax);
+    };
+    match Moment::read(text) {
+        Ok(at) => Ok(at),
+        Err(_) => Err(JsonFault::WrongForm(Field::At)),
+    }
+}
+
+/// Hands a packet to the operator, and writes what the step gives.
+fn take_packet<W: Write>(
+    alloc: Global,
+    operator: &mut Operator,
+    at: Moment,
+    packet: &Packet,
+    output: &mut W,
+) -> io::Result<()> {
+    match stepped(operator, at, packet) {
+        Ok(step) => write_step(alloc, &step, output),
+        Err(fault) => writeln!(output, "refused {fault}"),
+    }
+}
+
+/// The step of a packet, tried once more where memory ran out.
+fn stepped(operator: &mut Operator, at: Moment, packet: &Packet) -> Result<Stepped, OperatorFault> {
+    match operator.on_packet(at, packet) {
+        Err(OperatorFault::Memory) => operator.on_packet(at, packet),
+        answer => answer,
+    }
+}
+
+/// Writes the packets that a step sends and the rows that it changes.
+fn write_step<W: Write>(alloc: Global, step: &Stepped, output: &mut W) -> io::Result<()> {
+    for packet in step.packets.as_slice() {
+        let line = write_packet(alloc, packet)?;
+        writeln!(output, "{line}")?;
+    }
+    for change in step.rows.as_slice() {
+        write_change(alloc, change, output)?;
+    }
+    Ok(())
+}
+
+/// Writes a change of a row.
+fn write_change<W: Write>(alloc: Global, change: &Change, output: &mut W) -> io::Result<()> {
+    match change {
+        Change::Put(row) => write_put(alloc, row, output),
+        Change::Drop(key) => write_drop(alloc, key, output),
+    }
+}
+
+/// Writes a row that is put.
+fn write_put<W: Write>(alloc: Global, row: &Row, output: &mut W) -> io::Result<()> {
+    let row_key = row.key();
+    let (kind, key) = (RowKind::of_key(&row_key).word(), write_key(alloc, &row_key)?);
+    let text = write_row(alloc, row)?;
+    writeln!(output, "put {kind} {key} {text}")
+}
+
+/// Writes which row is dropped.
+fn write_drop<W: Write>(alloc: Global, row_key: &RowKey, output: &mut W) -> io::Result<()> {
+    let (kind, key) = (RowKind::of_key(row_key).word(), write_key(alloc, row_key)?);
+    writeln!(output, "drop {kind} {key}")
+}
