@@ -1,17 +1,17 @@
 -- The claims that are kept stay those of the open commands.
 use Rattle.std.proofs.Common.{◌≡◌, ℕ, Bool, true, false, cond, List, ◌⊎◌, inl, inr, refl, sym, ap, subst, ◌∙◌}
-use Rattle.std.specs.Prelude.{Option, Some, None}
+use Rattle.std.specs.Prelude.{Option, Some, None, IsTrue, is_some, not, ◌&&◌}
 use Rattle.std.specs.declared.cmp.Ordering.{Ordering}
 use Rattle.std.specs.Ordering.{eq_by_cmp}
 use Rattle.std.specs.Cmp.{IsTotalOrder}
-use Rattle.std.specs.FinMap.{FinMap, get, insert, empty, get-empty, get-insert}
+use Rattle.std.specs.FinMap.{FinMap, get, insert, empty, contains_key, get-empty, get-insert}
 use Rattle.ocpi_text.specs.Text.{key}
 use Rattle.tables.specs.Keys.{text_cmp, text_total, text_exact, text_number_cmp, text_number_total, text_number_exact}
 use Rattle.tables.proofs.Maps.{of_insert, get-insert_same, get-insert_other}
 use Rattle.ocpi_types.specs.declared.stored.OpenCommand.{OpenCommand}
 use Rattle.site.specs.declared.claim.Claim.{Claim}
 use Rattle.site.specs.declared.claim.Claim.TheVariants.{OpenStart}
-use Rattle.site.specs.Places.{Claims as ClaimMap}
+use Rattle.site.specs.Places.{Claims as ClaimMap, Idle, is_free}
 use Rattle.command_book.specs.Stored.{OpenCommands}
 use Rattle.operator_core.specs.State.{Takes, Claims, IsFree}
 use Rattle.operator_core.specs.Claimed.{IsIndexed, claimed_for}
@@ -88,12 +88,19 @@ module _ (claims : ClaimMap) (pending : OpenCommands) (h : IsIndexed claims pend
         ],
       )
 
-  pub unclaimed_free : (evse : List ℕ) → get claims evse ≡ None → IsFree pending evse
-  unclaimed_free evse none c has = none_some c _ none ((h evse c).1 has)
+  module _ (out : Idle) (all : out ≡ empty) (evse : List ℕ) where
+    none_out : contains_key out evse ≡ false
+    none_out = ap (λ (m : Idle). contains_key m evse) all ∙ ap is_some (get-empty text_cmp evse)
 
-  pub free_unclaimed : (evse : List ℕ) → IsFree pending evse → get claims evse ≡ None
-  free_unclaimed evse free = go (get claims evse) refl
-    where
-      go : (o : Option Claim) → get claims evse ≡ o → o ≡ None
-      go None e = refl
-      go (Some c) e = absurd (free c ((h evse c).0 e))
+    pub unclaimed_free : IsTrue (is_free claims out evse) → IsFree pending evse
+    unclaimed_free free c has =
+        let there : contains_key claims evse ≡ true = ap is_some ((h evse c).1 has) in
+        let never : false ≡ true = sym (ap (λ b. not b && not (contains_key out evse)) there) ∙ free in
+        cc
+
+    pub free_unclaimed : IsFree pending evse → IsTrue (is_free claims out evse)
+    free_unclaimed free = go (get claims evse) refl
+      where
+        go : (o : Option Claim) → get claims evse ≡ o → IsTrue (is_free claims out evse)
+        go None e = λ i. not (is_some (e i)) && not (none_out i)
+        go (Some c) e = absurd (free c ((h evse c).0 e))

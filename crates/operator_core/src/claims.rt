@@ -19,7 +19,7 @@ fn claim(places: &mut Places, change: &Change)
     {
         if let Some(evse_uid) = &open.evse_uid {
             let (provider, number) = (*provider, *number);
-            places.put_claim(evse_uid, Claim::OpenStart { provider, number });
+            places.put_claim(evse_uid.key(), Claim::OpenStart { provider, number });
         }
     }
 }

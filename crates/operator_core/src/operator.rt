@@ -63,6 +63,7 @@ pub struct Operator {
 
 impl Model for Operator {
     ghost use Rattle.std.specs.FinMap as map;
+    ghost use Rattle.std.specs.Prelude.{◌≡◌};
     ghost use Rattle.std.specs.Coded.{codes};
     ghost use Rattle.operator_core.specs.State.{State};
     ghost use Rattle.operator_core.specs.Claimed.{IsIndexed};
@@ -81,7 +82,9 @@ impl Model for Operator {
       spent = o.books.rows.spent;
     } };
 
-    ghost invariant = { λ o. IsIndexed o.places.claims o.books.rows.commands.pending × IsConsistent o.books.rows.commands o.books.rows.spent };
+    ghost invariant = { λ o. IsIndexed o.places.claims o.books.rows.commands.pending
+        × (o.places.out_of_service ≡ map.empty)
+        × IsConsistent o.books.rows.commands o.books.rows.spent };
 }
 
 impl Operator {
