@@ -3,7 +3,7 @@ use Rattle.std.specs.Prelude.{◌≡◌, ℕ, ◌+◌, ◌<◌, max, ℤ, pos, �
 use Rattle.ocpi_types.specs.declared.sessions.Session.{Session}
 use Rattle.ocpi_types.specs.declared.words.SessionStatus.{SessionStatus}
 use Rattle.ocpi_types.specs.declared.words.SessionStatus.TheVariants.{Active, Completed, Invalid, Pending}
-use Rattle.session_state.specs.declared.openings.Opening.{Opening}
+use Rattle.ocpi_types.specs.declared.sessions.Opening.{Opening}
 use Rattle.session_state.specs.Costs.{cost, price_of, most_kwh}
 
 -- a session: its newest version, and what a kilowatt-hour costs

@@ -32,12 +32,12 @@ impl Model for CdrDraft {
 }
 
 /// The draft of a COMPLETED version with that end and cost.
-pub(crate) fn draft_of(version: Version, end: Moment, total_cost: Price) -> CdrDraft
-    requires { IsBill version end total_cost }
-    ensures { result ≡ version }
+pub(crate) fn draft_of(version: &Version, end: Moment, total_cost: Price) -> CdrDraft
+    requires { IsBill version.now end total_cost }
+    ensures { result ≡ version.now }
 {
     CdrDraft {
-        version,
+        version: *version,
         end,
         total_cost,
     }
@@ -51,31 +51,6 @@ fn energy_name() -> ShortText<64, 256>
         unreachable!()
     };
     name
-}
-
-/// The one period of a session, in which all its energy was charged.
-fn periods_of(
-    alloc: Global,
-    start_date_time: Moment,
-    kwh: Quantity,
-) -> Result<NonEmpty<ChargingPeriod>, AllocError>
-    ensures { IfOk result (λ l. l ≡ energy_period start_date_time kwh ∷ []) }
-{
-    let dimension = CdrDimension {
-        dimension_type: energy_name(),
-        volume: kwh.value(),
-    };
-    let Some(dimensions) = NonEmpty::new(vec![in alloc; dimension]?) else {
-        unreachable!()
-    };
-    let period = ChargingPeriod {
-        start_date_time,
-        dimensions,
-    };
-    let Some(periods) = NonEmpty::new(vec![in alloc; period]?) else {
-        unreachable!()
-    };
-    Ok(periods)
 }
 
 /// The hours from one moment to another, rounded down to ten-thousandths.
@@ -99,8 +74,7 @@ impl CdrDraft {
         ensures issued { IfOk result (λ cdr. cdr ≡ cdr_of self id location) }
         ensures refused { IfErr result (λ r. r ≡ record { fault = Memory; value = (self, location) }) }
     {
-        let Ok(charging_periods) = periods_of(alloc, self.version.start_date_time, self.version.kwh)
-        else {
+        let Ok(charging_periods) = self.periods(alloc) else {
             return Err(Refused {
                 fault: SessionFault::Memory,
                 value: (self, location),
@@ -128,6 +102,27 @@ impl CdrDraft {
             total_time: hours(version.start_date_time, end),
             last_updated: version.last_updated,
         })
+    }
+
+    /// The one period of the session, in which all its energy was charged.
+    fn periods(&self, alloc: Global) -> Result<NonEmpty<ChargingPeriod>, AllocError>
+        ensures { IfOk result (λ l. l ≡ energy_period self.now.start_date_time self.now.kwh ∷ []) }
+    {
+        let dimension = CdrDimension {
+            dimension_type: energy_name(),
+            volume: self.version.kwh.value(),
+        };
+        let Some(dimensions) = NonEmpty::new(vec![in alloc; dimension]?) else {
+            unreachable!()
+        };
+        let period = ChargingPeriod {
+            start_date_time: self.version.start_date_time,
+            dimensions,
+        };
+        let Some(periods) = NonEmpty::new(vec![in alloc; period]?) else {
+            unreachable!()
+        };
+        Ok(periods)
     }
 
     /// Spends the draft without a record, in an event that is refused.

@@ -43,8 +43,9 @@ fn has_cost(version: &Version, price: PricePerKwh) -> bool
     let Some(total) = version.total_cost else {
         return false;
     };
+    let total = total.excl_vat.units();
     match cost_of(version.kwh, price) {
-        Some(cost) => cost.excl_vat.units() == total.excl_vat.units(),
+        Some(cost) => cost.excl_vat.units() == total,
         None => false,
     }
 }

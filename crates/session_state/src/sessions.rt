@@ -1,6 +1,6 @@
 //! Sessions and their moves.
 
-ghost use Rattle.std.specs.Prelude.{◌≡◌, ◌↔◌, ◌<◌, max, pos, None, Some, MatchOption, IfOk, IfErr, IsErr, IsTrue};
+ghost use Rattle.std.specs.Prelude.{◌≡◌, ◌↔◌, ◌<◌, max, pos, None, Some, IfSome, IsNone, IfOk, IfErr, IsErr, IsTrue};
 ghost use Rattle.ocpi_text.specs.Moment.{last_moment};
 ghost use Rattle.session_state.specs.Versions.{Priced, HasCost, IsIn, CanRead, first_version, next_stamp, activated, metered, ended, completed, voided};
 ghost use Rattle.session_state.specs.Pasts.{MayFollow};
@@ -9,10 +9,9 @@ ghost use Rattle.session_state.specs.declared.fault.SessionFault.TheVariants.{St
 use crate::costs::{MOST_KWH, cost_of_reading};
 use crate::drafts::{CdrDraft, draft_of};
 use crate::fault::{Refused, stamp_end};
-use crate::openings::Opening;
 use crate::states::{Active, Completed, Invalid, Pending, State};
 use ocpi_text::{E4, Moment, Quantity};
-use ocpi_types::{Price, PricePerKwh, Session as Version, SessionStatus};
+use ocpi_types::{Opening, Price, PricePerKwh, Session as Version, SessionStatus};
 use std::marker::Model;
 
 /// A session in the state `S`: its newest version, and what a kilowatt-hour costs. The version has the status of the
@@ -32,17 +31,6 @@ impl<S: State> Model for Session<S> {
     ghost view = { λ s. record { version = s.version; price = s.price } };
 
     ghost invariant = { λ s. IsIn S.status s.price s.version };
-}
-
-/// When a version is updated that follows another. None, where the other was updated at the last moment.
-fn next_stamp(at: Moment, before: Moment) -> Option<Moment>
-    ensures { MatchOption result (before ≡ last_moment) (λ m. (before < last_moment) × (m ≡ next_stamp at before)) }
-{
-    let next = before.after(1);
-    if next.millis() == before.millis() {
-        return None;
-    }
-    Some(later_of(at, next))
 }
 
 /// The later of two moments.
@@ -108,6 +96,30 @@ impl<S: State> Session<S> {
     {
         &self.version
     }
+
+    /// The newest version's total cost.
+    fn total_cost(&self) -> Price
+        ensures { self.now.version.total_cost ≡ Some result }
+    {
+        let Some(total_cost) = self.version.total_cost else {
+            unreachable!()
+        };
+        total_cost
+    }
+
+    /// When the next version is updated. None, where the newest was updated at the last moment.
+    fn next_stamp(&self, at: Moment) -> Option<Moment>
+        ensures none { IsNone result ↔ (self.now.version.last_updated ≡ last_moment) }
+        ensures some { IfSome result (λ m. m ≡ next_stamp at self.now.version.last_updated) }
+        ensures later { IfSome result (λ m. self.now.version.last_updated < m) }
+    {
+        let before = self.version.last_updated;
+        let next = before.after(1);
+        if next.millis() == before.millis() {
+            return None;
+        }
+        Some(later_of(at, next))
+    }
 }
 
 impl Session<Pending> {
@@ -119,7 +131,7 @@ impl Session<Pending> {
         ensures refused { IfErr result (λ r. r ≡ record { fault = StampEnd; value = self }) }
         ensures exact { IsErr result ↔ (self.version.last_updated ≡ last_moment) }
     {
-        let Some(last_updated) = next_stamp(at, self.version.last_updated) else {
+        let Some(last_updated) = self.next_stamp(at) else {
             return Err(stamp_end(self));
         };
         let version = Version {
@@ -144,14 +156,16 @@ impl Session<Pending> {
         ensures refused { IfErr result (λ r. r ≡ record { fault = StampEnd; value = self }) }
         ensures exact { IsErr result ↔ (self.version.last_updated ≡ last_moment) }
     {
-        let Some(last_updated) = next_stamp(at, self.version.last_updated) else {
+        let Some(last_updated) = self.next_stamp(at) else {
             return Err(stamp_end(self));
         };
+        let before = self.version;
+        let end = later_of(at, before.start_date_time);
         let version = Version {
-            end_date_time: Some(later_of(at, self.version.start_date_time)),
+            end_date_time: Some(end),
             status: SessionStatus::Invalid,
             last_updated,
-            ..self.version
+            ..before
         };
         Ok(Session {
             version,
@@ -183,7 +197,7 @@ impl Session<Active> {
         ensures refused { IfErr result (λ r. r ≡ record { fault = StampEnd; value = self }) }
         ensures exact { IsErr result ↔ (self.version.last_updated ≡ last_moment) }
     {
-        let Some(last_updated) = next_stamp(at, self.version.last_updated) else {
+        let Some(last_updated) = self.next_stamp(at) else {
             return Err(stamp_end(self));
         };
         let version = Version {
@@ -212,24 +226,24 @@ impl Session<Active> {
         ensures refused { IfErr result (λ r. r ≡ record { fault = StampEnd; value = self }) }
         ensures exact { IsErr result ↔ (self.version.last_updated ≡ last_moment) }
     {
-        let Some(last_updated) = next_stamp(at, self.version.last_updated) else {
+        let Some(last_updated) = self.next_stamp(at) else {
             return Err(stamp_end(self));
         };
-        let Some(total_cost) = self.version.total_cost else {
-            unreachable!()
-        };
-        let end = later_of(at, self.version.start_date_time);
+        let before = self.version;
+        let total_cost = self.total_cost();
+        let end = later_of(at, before.start_date_time);
         let version = Version {
             end_date_time: Some(end),
             status: SessionStatus::Completed,
             last_updated,
-            ..self.version
+            ..before
         };
+        let draft = draft_of(&version, end, total_cost);
         let session = Session {
             version,
             price: self.price,
             state: Completed,
         };
-        Ok((session, draft_of(version, end, total_cost)))
+        Ok((session, draft))
     }
 }
