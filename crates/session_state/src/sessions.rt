@@ -97,6 +97,13 @@ impl<S: State> Session<S> {
         &self.version
     }
 
+    /// An equal session.
+    pub fn copy(&self) -> Session<S>
+        ensures { result ≡ self.now }
+    {
+        session_in(self.state, self.version, self.price)
+    }
+
     /// The newest version's total cost.
     fn total_cost(&self) -> Price
         ensures { self.now.version.total_cost ≡ Some result }
