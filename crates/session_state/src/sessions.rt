@@ -46,27 +46,24 @@ pub fn start(opening: Opening, at: Moment) -> Session<Pending>
 {
     let nothing = no_energy();
     let excl_vat = nothing.value();
-    Session {
-        version: Version {
-            party: opening.party,
-            id: opening.id,
-            start_date_time: at,
-            end_date_time: None,
-            kwh: nothing,
-            cdr_token: opening.cdr_token,
-            auth_method: opening.auth_method,
-            authorization_reference: opening.authorization_reference,
-            location_id: opening.location_id,
-            evse_uid: opening.evse_uid,
-            connector_id: opening.connector_id,
-            currency: opening.currency,
-            total_cost: Some(Price { excl_vat }),
-            status: SessionStatus::Pending,
-            last_updated: at,
-        },
-        price: opening.price,
-        state: Pending,
-    }
+    let version = Version {
+        party: opening.party,
+        id: opening.id,
+        start_date_time: at,
+        end_date_time: None,
+        kwh: nothing,
+        cdr_token: opening.cdr_token,
+        auth_method: opening.auth_method,
+        authorization_reference: opening.authorization_reference,
+        location_id: opening.location_id,
+        evse_uid: opening.evse_uid,
+        connector_id: opening.connector_id,
+        currency: opening.currency,
+        total_cost: Some(Price { excl_vat }),
+        status: SessionStatus::Pending,
+        last_updated: at,
+    };
+    session_in(Pending, version, opening.price)
 }
 
 /// The session of a version that is in that state.
@@ -147,11 +144,7 @@ impl Session<Pending> {
             last_updated,
             ..self.version
         };
-        Ok(Session {
-            version,
-            price: self.price,
-            state: Active,
-        })
+        Ok(session_in(Active, version, self.price))
     }
 
     /// The session ends before it is charged: it is INVALID, and ends at that moment, though not before its start.
@@ -174,11 +167,7 @@ impl Session<Pending> {
             last_updated,
             ..before
         };
-        Ok(Session {
-            version,
-            price: self.price,
-            state: Invalid,
-        })
+        Ok(session_in(Invalid, version, self.price))
     }
 }
 
@@ -213,11 +202,7 @@ impl Session<Active> {
             last_updated,
             ..self.version
         };
-        Ok(Session {
-            version,
-            price: self.price,
-            state: Active,
-        })
+        Ok(session_in(Active, version, self.price))
     }
 
     /// The charging ends: the session is COMPLETED, and ends at that moment, though not before its start. With it comes
@@ -246,11 +231,6 @@ impl Session<Active> {
             ..before
         };
         let draft = draft_of(&version, end, total_cost);
-        let session = Session {
-            version,
-            price: self.price,
-            state: Completed,
-        };
-        Ok((session, draft))
+        Ok((session_in(Completed, version, self.price), draft))
     }
 }
