@@ -1,0 +1,6 @@
+pub mod Costs
+pub mod Versions
+pub mod Pasts
+pub mod Records
+pub mod Resuming
+pub mod FaultText

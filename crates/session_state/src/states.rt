@@ -1,0 +1,42 @@
+//! The states of a session.
+
+ghost use Rattle.ocpi_types.specs.declared.words.SessionStatus.{SessionStatus};
+ghost use Rattle.ocpi_types.specs.declared.words.SessionStatus.TheVariants as status;
+
+/// A state of a session.
+pub trait State: Copy {
+    /// The status of its versions (OCPI 2.2.1, Sessions: SessionStatus).
+    ghost status: { SessionStatus };
+}
+
+/// The session is authorized, and no energy has flowed yet.
+#[derive(Clone, Copy)]
+pub struct Pending;
+
+impl State for Pending {
+    ghost status = { status.Pending };
+}
+
+/// Energy may flow.
+#[derive(Clone, Copy)]
+pub struct Active;
+
+impl State for Active {
+    ghost status = { status.Active };
+}
+
+/// The session has ended, and is billed.
+#[derive(Clone, Copy)]
+pub struct Completed;
+
+impl State for Completed {
+    ghost status = { status.Completed };
+}
+
+/// The session has ended before energy flowed, and is not billed.
+#[derive(Clone, Copy)]
+pub struct Invalid;
+
+impl State for Invalid {
+    ghost status = { status.Invalid };
+}
