@@ -1,0 +1,59 @@
+-- The room that rows of a command book have.
+use Rattle.std.proofs.Common.{◌≡◌, ◌≢◌, ℕ, inl, inr, false, refl, sym, ap, subst, ◌∙◌}
+use Rattle.std.specs.Prelude.{Option, Some, None, is_some, IsTrue}
+use Rattle.std.specs.FinMap.{FinMap, get, insert, remove, contains_key}
+use Rattle.tables.specs.Keys.{text_number_cmp, text_number_total, text_number_exact}
+use Rattle.tables.proofs.Maps.{get-insert_same, get-insert_other, get-remove_same, get-remove_other}
+use Rattle.ocpi_types.specs.Rows.{key_of}
+use Rattle.ocpi_types.specs.declared.rows.Row.{Row}
+use Rattle.ocpi_types.specs.declared.rows.Row.TheVariants as row
+use Rattle.ocpi_types.specs.declared.rows.RowKey.{RowKey}
+use Rattle.ocpi_types.specs.declared.rows.RowKey.TheVariants as keys
+use Rattle.command_book.specs.Stored.{Request}
+use Rattle.command_book.specs.Queue.{Queue, unqueued}
+use Rattle.command_book.proofs.Cases.{told}
+use Rattle.command_book.proofs.Queued.{deadline_total, deadline_exact}
+use Rattle.command_book.specs.Room.{Rooms, HasRoomOf, KeepsRoom, KeepsOtherRoom}
+
+-- the room of each kind of row is kept, where its key passes
+pub record KeepsKinds (P : RowKey → Type 0) (s t : Rooms) : Type 0 where
+  pub replies : (q : Request) → P (keys.Reply q.0 q.1) → IsTrue (contains_key s.replies q) → IsTrue (contains_key t.replies q)
+  pub pending : (q : Request) → P (keys.Pending q.0 q.1) → IsTrue (contains_key s.pending q) → IsTrue (contains_key t.pending q)
+  pub results : (q : Request) → P (keys.Result q.0 q.1) → IsTrue (contains_key s.results q) → IsTrue (contains_key t.results q)
+  pub deadlines : (d : ℕ) (q : Request) → P (keys.Pending q.0 q.1) → IsTrue (contains_key s.deadlines (d, q)) → IsTrue (contains_key t.deadlines (d, q))
+
+kept : (P : RowKey → Type 0) (s t : Rooms) → KeepsKinds P s t → (r : Row) → P (key_of r) → HasRoomOf s r → HasRoomOf t r
+kept P s t h (row.Reply p n reply) passes had = h.replies (p, n) passes had
+kept P s t h (row.Pending p n o) passes had = (h.pending (p, n) passes had.0, h.deadlines o.deadline (p, n) passes had.1)
+kept P s t h (row.Result p n result) passes had = h.results (p, n) passes had
+kept P s t h other passes had = tt
+
+pub keeps_room : (s t : Rooms) → KeepsKinds (λ k. Unit {0}) s t → KeepsRoom s t
+keeps_room s t h r had = kept (λ k. Unit {0}) s t h r tt had
+
+pub keeps_other_room : (k : RowKey) (s t : Rooms) → KeepsKinds (λ q. q ≢ k) s t → KeepsOtherRoom k s t
+keeps_other_room k s t h r apart had = kept (λ q. q ≢ k) s t h r apart had
+
+-- room by another deadline, or of another request, stays in the queue
+pub still_queued : (queue : Queue) (k : Request) (out : Option ℕ) (d : ℕ) (q : Request) → ((e : ℕ) → out ≡ Some e → (d, q) ≢ (e, k)) → IsTrue (contains_key queue (d, q)) → IsTrue (contains_key (unqueued out k queue) (d, q))
+still_queued queue k None d q apart had = had
+still_queued queue k (Some e) d q apart had = subst (λ o. IsTrue (is_some o)) (sym (get-remove_other deadline_total deadline_exact queue (e, k) (d, q) (apart e refl))) had
+
+pub not_queued : (queue : Queue) (k : Request) (d : ℕ) → contains_key (unqueued (Some d) k queue) (d, k) ≡ false
+not_queued queue k d = ap is_some (get-remove_same deadline_total deadline_exact queue (d, k))
+
+module _ {X : Type 0} (m : FinMap text_number_cmp X) (k : Request) where
+  pub still_there : (q : Request) → q ≢ k → IsTrue (contains_key m q) → IsTrue (contains_key (remove m k) q)
+  still_there q apart had = subst (λ o. IsTrue (is_some o)) (sym (get-remove_other text_number_total text_number_exact m k q apart)) had
+
+  pub gone : contains_key (remove m k) k ≡ false
+  gone = ap is_some (get-remove_same text_number_total text_number_exact m k)
+
+  pub still_after : (v : X) (q : Request) → IsTrue (contains_key m q) → IsTrue (contains_key (insert m k v) q)
+  still_after v q had = elim (told text_number_total text_number_exact q k) [
+    | inl same ↦ subst (λ o. IsTrue (is_some o)) (sym (ap (get (insert m k v)) same ∙ get-insert_same text_number_total text_number_exact m k v)) tt
+    | inr apart ↦ subst (λ o. IsTrue (is_some o)) (sym (get-insert_other text_number_total text_number_exact m k v q apart)) had
+  ]
+
+pub given_back : (queue : Queue) (k : Request) (out : Option ℕ) (d : ℕ) → out ≡ Some d → contains_key (unqueued out k queue) (d, k) ≡ false
+given_back queue k out d e = subst (λ o. contains_key (unqueued o k queue) (d, k) ≡ false) (sym e) (not_queued queue k d)

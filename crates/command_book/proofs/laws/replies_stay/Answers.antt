@@ -1,0 +1,5 @@
+use Rattle.command_book.proofs.CallRuns as runs
+use Rattle.command_book.proofs.laws.replies_stay.Goals as goal
+
+pub returns : goal.returns
+returns c = runs.replies_stay
