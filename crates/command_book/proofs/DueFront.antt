@@ -4,7 +4,7 @@ use Rattle.std.specs.Prelude.{Option, Some, None, Contains, All, ◌&&◌, nat_l
 use Rattle.std.specs.Option.{option_map}
 use Rattle.std.specs.List.{AllPairs, IsDistinct}
 use Rattle.std.specs.List.Sorted.{IsSorted, IsPermutation}
-use Rattle.std.specs.Ordering.{eq_by_cmp, is_eq, is_lt, nat_cmp, ordering_reverse, ordering_then}
+use Rattle.std.specs.Ordering.{eq_by_cmp, is_eq, is_lt, is_gt, nat_cmp, ordering_reverse, ordering_then}
 use Rattle.std.specs.declared.cmp.Ordering.{Ordering}
 use Rattle.std.specs.declared.cmp.Ordering.TheVariants.{Less, Equal, Greater}
 use Rattle.std.specs.Cmp.{IsTotalOrder, IsEquivalence, eq_by_cmp_equiv}
@@ -14,7 +14,8 @@ use Rattle.std.proofs.lemmas.List.Elements.{Contains-get_or, Contains-append_rig
 use Rattle.std.proofs.lemmas.List.Kept.{AllPairs-cons}
 use Rattle.std.proofs.lemmas.List.Sorted.{sorted_far, ranks_by, Contains-permutation, IsPermutation-sym}
 use Rattle.std.proofs.lemmas.List.Sums.{take_while-cons}
-use Rattle.std.proofs.lemmas.Map.Keys.{IsDistinct-from_apart, IsDistinct-IsPermutation, apart_from_distinct}
+use Rattle.std.proofs.lemmas.Map.Keys.{le_from_not_gt, IsDistinct-from_apart, IsDistinct-IsPermutation, apart_from_distinct}
+use Rattle.std.proofs.lemmas.Bool.Decides.{nat_tests}
 use Rattle.tables.specs.Keys.{text_number_cmp, text_number_total, text_number_exact}
 use Rattle.tables.proofs.Maps.{equal_of_is_eq}
 use Rattle.ocpi_types.specs.declared.stored.OpenCommand.{OpenCommand}
@@ -41,17 +42,20 @@ less Less p = refl
 less Equal p = absurd p
 less Greater p = absurd p
 
-first_rises : (r s : Ordering) → ordering_then r s ≡ Less → (r ≡ Greater → ⊥)
-first_rises Less s h e = cc
-first_rises Equal s h e = cc
-first_rises Greater s h e = cc
+first_not_greater : (r s : Ordering) → ordering_then r s ≡ Less → is_gt r ≡ false
+first_not_greater Less s h = refl
+first_not_greater Equal s h = refl
+first_not_greater Greater s h = absurd (cc)
 
-not_greater : (a b : ℕ) → (nat_cmp a b ≡ Greater → ⊥) → a ≤ b
-not_greater a b h = ?
+early : (a b : ℕ) → nat_le a b ≡ true → a ≤ b
+early a b h = grind (arith, nat_tests)
+
+late : (a b : ℕ) → nat_le a b ≡ false → b < a
+late a b h = grind (arith, nat_tests)
 
 -- an earlier entry has no later deadline
 rises : (a b : ℕ × Request) → deadline_cmp a b ≡ Less → a.0 ≤ b.0
-rises a b h = not_greater a.0 b.0 (first_rises (nat_cmp a.0 b.0) (text_number_cmp a.1 b.1) h)
+rises a b h = le_from_not_gt a.0 b.0 (first_not_greater (nat_cmp a.0 b.0) (text_number_cmp a.1 b.1) h)
 
 below_of : (x : ℕ × Request) (es : List Entry) → T (below_all deadline_cmp x es) → (e : Entry) → Contains es e → deadline_cmp x e.0 ≡ Less
 below_of x [] h e i = absurd (in_none e i)
@@ -69,24 +73,24 @@ module _ (at : ℕ) where
   pub taken : (es : List Entry) (r : Request) → Contains (due_front at es) r → (d : ℕ) × (d ≤ at) × Contains es ((d, r), tt)
   taken [] r h = absurd (in_none r h)
   taken (e ∷ es) r h = elim (nat_le e.0.0 at) as (λ b. nat_le e.0.0 at ≡ b → Contains (cond b (e.0.1 ∷ due_front at es) []) r → (d : ℕ) × (d ≤ at) × Contains (e ∷ es) ((d, r), tt)) [
-    | true ↦ λ early i. elim (Contains-append_cases (e.0.1 ∷ []) (due_front at es) r i) [
-      | inl j ↦ (e.0.0, ?, subst (λ z. Contains (e ∷ es) ((e.0.0, z), tt)) (in_single e.0.1 r j) (in_front e es))
+    | true ↦ λ due i. elim (Contains-append_cases (e.0.1 ∷ []) (due_front at es) r i) [
+      | inl j ↦ (e.0.0, early e.0.0 at due, subst (λ z. Contains (e ∷ es) ((e.0.0, z), tt)) (in_single e.0.1 r j) (in_front e es))
       | inr j ↦ let from = taken es r j in (from.0, from.1, Contains-append_right (e ∷ []) es ((from.0, r), tt) from.2)
     ]
-    | false ↦ λ late i. absurd (in_none r i)
+    | false ↦ λ _ i. absurd (in_none r i)
   ] refl (subst (λ l. Contains l r) (front_step e es) h)
 
   -- what is due is taken
   pub is_taken : (es : List Entry) → T (is_sorted deadline_cmp es) → (d : ℕ) (r : Request) → d ≤ at → Contains es ((d, r), tt) → Contains (due_front at es) r
   is_taken [] h d r due i = absurd (in_none _ i)
   is_taken (e ∷ es) h d r due i = subst (λ l. Contains l r) (sym (front_step e es)) (elim (nat_le e.0.0 at) as (λ b. nat_le e.0.0 at ≡ b → Contains (cond b (e.0.1 ∷ due_front at es) []) r) [
-    | true ↦ λ early. elim (Contains-append_cases (e ∷ []) es ((d, r), tt) i) [
+    | true ↦ λ _. elim (Contains-append_cases (e ∷ []) es ((d, r), tt) i) [
       | inl j ↦ subst (λ z. Contains (z ∷ due_front at es) r) (sym (λ k. (in_single e ((d, r), tt) j k).0.1)) (in_front r (due_front at es))
       | inr j ↦ Contains-append_right (e.0.1 ∷ []) (due_front at es) r (is_taken es (latter _ _ h) d r due j)
     ]
-    | false ↦ λ late. absurd (elim (Contains-append_cases (e ∷ []) es ((d, r), tt) i) [
-      | inl j ↦ let same : e.0.0 ≡ d = (λ k. (in_single e ((d, r), tt) j k).0.0) in ?
-      | inr j ↦ let later = rises e.0 (d, r) (below_of e.0 es (former _ _ h) ((d, r), tt) j) in ?
+    | false ↦ λ behind. absurd (elim (Contains-append_cases (e ∷ []) es ((d, r), tt) i) [
+      | inl j ↦ let same : e.0.0 ≡ d = (λ k. (in_single e ((d, r), tt) j k).0.0) in let after = late e.0.0 at behind in omega arith
+      | inr j ↦ let later = rises e.0 (d, r) (below_of e.0 es (former _ _ h) ((d, r), tt) j) in let after = late e.0.0 at behind in omega arith
     ])
   ] refl)
 
@@ -107,7 +111,7 @@ module _ (at : ℕ) where
       new r i same =
           let from = taken es r i in
           let until : e.0.0 ≡ from.0 = one e.0.0 from.0 r (subst (λ z. Contains (e ∷ es) ((e.0.0, z), tt)) same (in_front e es)) (Contains-append_right (e ∷ []) es _ from.2) in
-          apart_of_less {X = Unit {0}} deadline_total deadline_exact e.0 (from.0, r) (below_of e.0 es (former _ _ h) ((from.0, r), tt) from.2) (λ k. (until k, same k))
+          apart_of_less deadline_total e.0 (from.0, r) (below_of e.0 es (former _ _ h) ((from.0, r), tt) from.2) (λ k. (until k, same k))
 
 module _ {K : Type 0} {R : K → K → Ordering} (o : IsTotalOrder R) where
   turned : (a b : K) (r : Ordering) → R a b ≡ r → is_lt (R b a) ≡ false → is_eq r ≡ false → r ≡ Less
@@ -129,7 +133,7 @@ deadline_stands None d h = none_some d h
 deadline_stands (Some c) d h = (c, refl, cc)
 
 -- the front of the queue, in order, is what is due
-pub due : (queue : Queue) (pending : OpenCommands) (at : ℕ) (requests : List Request) → IsQueue queue pending → IsPermutation (due_front at (entries queue)) requests → IsSorted text_number_cmp requests → AreDue pending at requests
+due : (queue : Queue) (pending : OpenCommands) (at : ℕ) (requests : List Request) → IsQueue queue pending → IsPermutation (due_front at (entries queue)) requests → IsSorted text_number_cmp requests → AreDue pending at requests
 due queue pending at requests h moved up = record {
   exact = λ r. (
     λ i.
@@ -150,3 +154,21 @@ due queue pending at requests h moved up = record {
         let a = (h d r).0 (listed_only deadline_total deadline_exact queue (d, r) tt i) in
         let b = (h e r).0 (listed_only deadline_total deadline_exact queue (e, r) tt j) in
         let c : Some d ≡ Some e = sym a ∙ b in cc
+
+pub due_sorted : (queue : Queue) (pending : OpenCommands) (at : ℕ) (before taken requests : List Request) → IsQueue queue pending → before ≡ [] → taken ≡ before ++ due_front at (entries queue) →
+    IsPermutation taken requests → IsSorted text_number_cmp requests → AreDue pending at requests
+due_sorted queue pending at before taken requests h none is moved up =
+    due queue pending at requests h (subst (λ l. IsPermutation l requests) (is ∙ ap (λ l. l ++ due_front at (entries queue)) none) moved) up
+
+-- one more entry is taken, or the first that is not due ends it
+pub front_more : (at : ℕ) (e : Entry) (es : List Entry) → is_gt (nat_cmp e.0.0 at) ≡ false → due_front at (e ∷ es) ≡ e.0.1 ∷ due_front at es
+front_more at e es h = front_step at e es ∙ ap (λ b. cond b (e.0.1 ∷ due_front at es) []) (let less = le_from_not_gt e.0.0 at h in is_early e.0.0 at less)
+  where
+    is_early : (a b : ℕ) → a ≤ b → nat_le a b ≡ true
+    is_early a b h = grind (arith, nat_tests)
+
+pub front_ends : (at : ℕ) (e : Entry) (es : List Entry) → is_gt (nat_cmp e.0.0 at) ≡ true → due_front at (e ∷ es) ≡ []
+front_ends at e es h = front_step at e es ∙ ap (λ b. cond b (e.0.1 ∷ due_front at es) []) (is_late e.0.0 at h)
+  where
+    is_late : (a b : ℕ) → is_gt (nat_cmp a b) ≡ true → nat_le a b ≡ false
+    is_late a b h = grind (arith, nat_tests)

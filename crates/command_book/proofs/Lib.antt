@@ -1,4 +1,5 @@
 pub mod Cases
+pub mod Steps
 pub mod Queued
 pub mod Roomed
 pub mod RowChanges

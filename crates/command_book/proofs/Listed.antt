@@ -76,13 +76,13 @@ module _ {X : Type 0} (A : X → X → Type 0) where
       AllPairs-cons A x (xs ++ ys) (All-append (A x) xs ys (first_pairs x xs h) (all_of (A x) ys (λ y i. cross x y (in_front x xs) i)))
       (joined xs ys (later_pairs x xs h) g (λ z y i. cross z y (Contains-append_right (x ∷ []) xs z i)))
 
-module _ {K X : Type 0} {R : K → K → Ordering} (o : IsTotalOrder R) (exact : IsAntisymmetric R) where
-  -- a key that is below another is not the other
-  pub apart_of_less : (a b : K) → R a b ≡ Less → a ≢ b
-  apart_of_less a b below same =
-      let tied : is_eq (R a b) ≡ true = subst (λ z. is_eq (R a z) ≡ true) same ((eq_by_cmp_equiv o).refl a) in
-      let f : true ≡ false = sym tied ∙ ap is_eq below in cc
+-- a key that is below another is not the other
+pub apart_of_less : {K : Type 0} {R : K → K → Ordering} (o : IsTotalOrder R) (a b : K) → R a b ≡ Less → a ≢ b
+apart_of_less {R = R} o a b below same =
+    let tied : is_eq (R a b) ≡ true = subst (λ z. is_eq (R a z) ≡ true) same ((eq_by_cmp_equiv o).refl a) in
+    let f : true ≡ false = sym tied ∙ ap is_eq below in cc
 
+module _ {K X : Type 0} {R : K → K → Ordering} (o : IsTotalOrder R) (exact : IsAntisymmetric R) where
   above : (x : K) (es : List (K × X)) → T (below_all R x es) → AllByRecursion (λ y. R x y ≡ Less) (keys_of es)
   above x [] h = tt
   above x (e ∷ es) h = (less (R x e.0) (former _ _ h), above x es (latter _ _ h))
@@ -106,7 +106,7 @@ module _ {K X : Type 0} {R : K → K → Ordering} (o : IsTotalOrder R) (exact :
 
   module _ {Y : Type 0} (f : K × X → Y) (A : Y → Y → Type 0) (apart : (a b : K × X) → R a.0 b.0 ≡ Less → A (f a) (f b)) where
     each_later : (e : K × X) (es : List (K × X)) → T (below_all R e.0 es) → All (λ y. A (f e) (f y)) es
-    each_later e [] h k d bound = absurd (omega arith)
+    each_later e [] h = λ k d bound. absurd (omega arith)
     each_later e (y ∷ ys) h = All-cons (λ z. A (f e) (f z)) y ys (apart e y (less (R e.0 y.0) (former _ _ h))) (each_later e ys (latter _ _ h))
 
     -- what is made of the entries of a map
@@ -124,7 +124,7 @@ module _ {X : Type 0} (m : FinMap text_number_cmp X) (f : Request × X → Row) 
       subst (HasRow s) from.2 (h from.0.0 from.0.1 (listed_only text_number_total text_number_exact m from.0.0 from.0.1 from.1))
 
   rows_apart : ((a b : Request × X) → a.0 ≢ b.0 → Apart (f a) (f b)) → AllPairs Apart (map f (entries m))
-  rows_apart h = each_apart text_number_total text_number_exact f Apart (λ a b below. h a b (apart_of_less {X = X} text_number_total text_number_exact a.0 b.0 below)) (entries m) (entries_sorted m)
+  rows_apart h = each_apart text_number_total text_number_exact f Apart (λ a b below. h a b (apart_of_less text_number_total a.0 b.0 below)) (entries m) (entries_sorted m)
 
   row_listed : (k : Request) (x : X) → get m k ≡ Some x → Contains (map f (entries m)) (f (k, x))
   row_listed k x h = in_map f (entries m) (k, x) (listed text_number_total text_number_exact m k x h)
@@ -212,14 +212,14 @@ put_all (x ∷ xs) t kept apart new r =
       ],
     )
   where
+    earlier : (a : Row) → Contains xs a → key_of x ≢ key_of a
+    earlier a i = subst (λ z. Apart x z) i.2 (first_pairs Apart x xs apart i.0 a i.1)
+
     later : AreNew xs (put_row x t)
     later a q i h = elim ((put_new x t (kept x (in_front x xs)) (λ q h. new x q (in_front x xs) h) q).0 h) [
       | inl e ↦ subst (λ z. key_of z ≢ key_of a) (sym e) (earlier a i)
       | inr g ↦ new a q (Contains-append_right (x ∷ []) xs a i) g
     ]
-
-    earlier : (a : Row) → Contains xs a → key_of x ≢ key_of a
-    earlier a i = subst (λ z. Apart x z) i.2 (first_pairs Apart x xs apart i.0 a i.1)
 
 -- the rows of a command book, put one after the other, give its rows
 pub put_rows_of : (list : List Row) (s : Rows) → AreRowsOf list s → put_rows list no_rows ≡ s

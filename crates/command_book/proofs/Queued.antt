@@ -103,3 +103,9 @@ module _ (queue : Queue) (pending : OpenCommands) (k : Request) where
           λ due. (h.others d r apart).1 (sym is ∙ due),
         )
   ]
+
+-- another deadline than the new one
+pub apart_of_stale : (pending : OpenCommands) (k : Request) (new : ℕ) (stale : Option ℕ) → IfSome stale (λ d. (deadline_of pending k ≡ Some d) × (d ≢ new)) →
+    (e : ℕ) → stale ≡ Some e → ◌≢◌ {A = ℕ × Request} (new, k) (e, k)
+apart_of_stale pending k new None found e is = none_some e is
+apart_of_stale pending k new (Some d) found e is = λ same. let here : d ≡ e = cc in found.1 (here ∙ sym (λ i. (same i).0))

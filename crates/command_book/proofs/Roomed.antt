@@ -35,7 +35,7 @@ pub keeps_other_room : (k : RowKey) (s t : Rooms) → KeepsKinds (λ q. q ≢ k)
 keeps_other_room k s t h r apart had = kept (λ q. q ≢ k) s t h r apart had
 
 -- room by another deadline, or of another request, stays in the queue
-pub still_queued : (queue : Queue) (k : Request) (out : Option ℕ) (d : ℕ) (q : Request) → ((e : ℕ) → out ≡ Some e → (d, q) ≢ (e, k)) → IsTrue (contains_key queue (d, q)) → IsTrue (contains_key (unqueued out k queue) (d, q))
+pub still_queued : (queue : Queue) (k : Request) (out : Option ℕ) (d : ℕ) (q : Request) → ((e : ℕ) → out ≡ Some e → ◌≢◌ {A = ℕ × Request} (d, q) (e, k)) → IsTrue (contains_key queue (d, q)) → IsTrue (contains_key (unqueued out k queue) (d, q))
 still_queued queue k None d q apart had = had
 still_queued queue k (Some e) d q apart had = subst (λ o. IsTrue (is_some o)) (sym (get-remove_other deadline_total deadline_exact queue (e, k) (d, q) (apart e refl))) had
 
@@ -51,7 +51,7 @@ module _ {X : Type 0} (m : FinMap text_number_cmp X) (k : Request) where
 
   pub still_after : (v : X) (q : Request) → IsTrue (contains_key m q) → IsTrue (contains_key (insert m k v) q)
   still_after v q had = elim (told text_number_total text_number_exact q k) [
-    | inl same ↦ subst (λ o. IsTrue (is_some o)) (sym (ap (get (insert m k v)) same ∙ get-insert_same text_number_total text_number_exact m k v)) tt
+    | inl same ↦ subst (λ o. IsTrue (is_some o)) (sym (ap (get (insert m k v)) same ∙ get-insert_same text_number_total text_number_exact m k v)) refl
     | inr apart ↦ subst (λ o. IsTrue (is_some o)) (sym (get-insert_other text_number_total text_number_exact m k v q apart)) had
   ]
 

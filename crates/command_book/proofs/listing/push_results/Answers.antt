@@ -1,7 +1,10 @@
+use Rattle.std.proofs.Common.{◌∷◌, ◌++◌, map, sym, ap, ◌∙◌}
+use Rattle.command_book.specs.Listing.{result_row}
+use Rattle.command_book.proofs.Steps.{one_more, none_left}
 use Rattle.command_book.proofs.listing.push_results.Goals as goal
 
 pub loop-request-preserved : goal.loop-request-preserved
-loop-request-preserved c = ?
+loop-request-preserved c = one_more _ _ _ _ _ _ c.in_ok-push.ensures.items (ap (map result_row) c.in-Some.ensures.steps) c.loop-request.invariant
 
 pub returns : goal.returns
-returns c = ?
+returns c = none_left _ _ _ (ap (map result_row) c.in-None.ensures.steps.0) c.loop-request.invariant ∙ ap (λ l. c.args.rows.now.items ++ map result_row l) (cc)
