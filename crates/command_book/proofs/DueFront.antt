@@ -1,16 +1,16 @@
 -- The front of the queue, and its order.
-use Rattle.std.proofs.Common.{◌≡◌, ◌≢◌, ◌↔◌, ◌<◌, ◌≤◌, ℕ, ◌+◌, zero, suc, List, [], ◌∷◌, ◌++◌, map, ◌⊎◌, inl, inr, true, false, cond, T, Bool, refl, sym, ap, subst, ◌∙◌, arith, length, get_or}
-use Rattle.std.specs.Prelude.{Option, Some, None, Contains, All, ◌&&◌, nat_le, take_while}
+use Rattle.std.proofs.Common.{◌≡◌, ◌≢◌, ◌<◌, ◌≤◌, ℕ, List, [], ◌∷◌, ◌++◌, map, inl, inr, true, false, cond, T, Bool, refl, sym, ap, subst, ◌∙◌, arith, get_or}
+use Rattle.std.specs.Prelude.{Option, Some, None, Contains, ◌&&◌, nat_le, take_while}
 use Rattle.std.specs.Option.{option_map}
-use Rattle.std.specs.List.{AllPairs, IsDistinct}
+use Rattle.std.specs.List.{AllPairs}
 use Rattle.std.specs.List.Sorted.{IsSorted, IsPermutation}
 use Rattle.std.specs.Ordering.{eq_by_cmp, is_eq, is_lt, is_gt, nat_cmp, ordering_reverse, ordering_then}
 use Rattle.std.specs.declared.cmp.Ordering.{Ordering}
 use Rattle.std.specs.declared.cmp.Ordering.TheVariants.{Less, Equal, Greater}
-use Rattle.std.specs.Cmp.{IsTotalOrder, IsEquivalence, eq_by_cmp_equiv}
-use Rattle.std.specs.FinMap.{FinMap, is_sorted, get, entries, entries_sorted}
+use Rattle.std.specs.Cmp.{IsTotalOrder, eq_by_cmp_equiv}
+use Rattle.std.specs.FinMap.{is_sorted, get, entries, entries_sorted}
 use Rattle.std.specs.FinMap.Entries.{below_all}
-use Rattle.std.proofs.lemmas.List.Elements.{Contains-get_or, Contains-append_right, Contains-append_cases}
+use Rattle.std.proofs.lemmas.List.Elements.{Contains-append_right, Contains-append_cases}
 use Rattle.std.proofs.lemmas.List.Kept.{AllPairs-cons}
 use Rattle.std.proofs.lemmas.List.Sorted.{sorted_far, ranks_by, Contains-permutation, IsPermutation-sym}
 use Rattle.std.proofs.lemmas.List.Sums.{take_while-cons}
@@ -20,8 +20,8 @@ use Rattle.tables.specs.Keys.{text_number_cmp, text_number_total, text_number_ex
 use Rattle.tables.proofs.Maps.{equal_of_is_eq}
 use Rattle.ocpi_types.specs.declared.stored.OpenCommand.{OpenCommand}
 use Rattle.command_book.specs.Stored.{Request, OpenCommands}
-use Rattle.command_book.specs.Queue.{deadline_cmp, Queue, deadline_of, IsQueue, due_front}
-use Rattle.command_book.specs.Due.{IsDue, AreDue}
+use Rattle.command_book.specs.Queue.{deadline_cmp, Queue, IsQueue, due_front}
+use Rattle.command_book.specs.Due.{AreDue}
 use Rattle.command_book.proofs.Cases.{none_some}
 use Rattle.command_book.proofs.Queued.{deadline_total, deadline_exact}
 use Rattle.command_book.proofs.Listed.{in_none, in_single, in_front, all_of, no_pairs, listed, listed_only, apart_of_less}
@@ -103,7 +103,7 @@ module _ (at : ℕ) where
   taken_once [] h one = no_pairs (λ a b. a ≢ b)
   taken_once (e ∷ es) h one = subst (AllPairs (λ a b. a ≢ b)) (sym (front_step e es)) (elim (nat_le e.0.0 at) as (λ b. AllPairs (λ a b. a ≢ b) (cond b (e.0.1 ∷ due_front at es) [])) [
     | true ↦ AllPairs-cons (λ a b. a ≢ b) e.0.1 (due_front at es) (all_of (λ (a b : Request). a ≢ b) (λ r. e.0.1 ≢ r) (due_front at es) new)
-    (taken_once es (latter _ _ h) (λ d f r i j. one d f r (Contains-append_right (e ∷ []) es _ i) (Contains-append_right (e ∷ []) es _ j)))
+        (taken_once es (latter _ _ h) (λ d f r i j. one d f r (Contains-append_right (e ∷ []) es _ i) (Contains-append_right (e ∷ []) es _ j)))
     | false ↦ no_pairs (λ (a b : Request). a ≢ b)
   ])
     where
@@ -141,7 +141,7 @@ due queue pending at requests h moved up = record {
         let until = deadline_stands (get pending r) from.0 ((h from.0 r).0 (listed_only deadline_total deadline_exact queue (from.0, r) tt from.2)) in
         record { command = until.0; stands = until.1; past = subst (λ z. z ≤ at) (sym until.2) from.1 },
     λ is. Contains-permutation front requests r moved (is_taken at (entries queue) (entries_sorted queue) is.command.deadline r is.past
-    (listed deadline_total deadline_exact queue (is.command.deadline, r) tt ((h is.command.deadline r).1 (ap (λ (o : Option OpenCommand). option_map (λ (c : OpenCommand). c.deadline) o) is.stands)))),
+        (listed deadline_total deadline_exact queue (is.command.deadline, r) tt ((h is.command.deadline r).1 (ap (λ (o : Option OpenCommand). option_map (λ (c : OpenCommand). c.deadline) o) is.stands)))),
   );
   in_order = rise text_number_total (λ x y e. text_number_exact x y (equal_of_is_eq (text_number_cmp x y) e)) front requests (taken_once at (entries queue) (entries_sorted queue) one) moved up;
 }

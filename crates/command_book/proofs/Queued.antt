@@ -1,11 +1,11 @@
 -- The queue of open commands, as they come and go.
-use Rattle.std.proofs.Common.{◌≡◌, ◌≢◌, ◌↔◌, ℕ, ◌⊎◌, inl, inr, refl, sym, ap, subst, ◌∙◌}
+use Rattle.std.proofs.Common.{◌≡◌, ◌≢◌, ◌↔◌, ℕ, inl, inr, sym, ap, ◌∙◌}
 use Rattle.std.specs.Prelude.{Option, Some, None, IfSome, IfNone}
 use Rattle.std.specs.Option.{option_map}
 use Rattle.std.specs.Ordering.{nat_cmp}
 use Rattle.std.specs.Cmp.{IsTotalOrder, nat_cmp_total}
 use Rattle.std.proofs.lemmas.Cmp.{on_total, then_total}
-use Rattle.std.specs.FinMap.{FinMap, IsAntisymmetric, nat_cmp-IsAntisymmetric, empty, get, insert, remove, get-empty}
+use Rattle.std.specs.FinMap.{IsAntisymmetric, nat_cmp-IsAntisymmetric, empty, get, insert, remove, get-empty}
 use Rattle.tables.specs.Keys.{pair_exact, text_number_cmp, text_number_total, text_number_exact}
 use Rattle.tables.proofs.Maps.{of_insert, of_remove, get-insert_same, get-insert_other, get-remove_same, get-remove_other}
 use Rattle.ocpi_types.specs.declared.stored.OpenCommand.{OpenCommand}

@@ -1,13 +1,12 @@
 -- What stands after a row is put, and after rows are put one after the other.
-use Rattle.std.proofs.Common.{◌≡◌, ◌≢◌, ◌↔◌, ℕ, List, [], ◌∷◌, ◌⊎◌, inl, inr, refl, sym, ap, subst, ◌∙◌}
-use Rattle.std.specs.Prelude.{Option, Some, None, Contains}
-use Rattle.std.specs.FinMap.{FinMap, get, insert, empty, same_map, get-empty}
+use Rattle.std.proofs.Common.{◌≡◌, ◌≢◌, ◌↔◌, ◌⊎◌, inl, inr, sym, ap, ◌∙◌}
+use Rattle.std.specs.Prelude.{Some}
+use Rattle.std.specs.FinMap.{FinMap, get, insert, same_map, get-empty}
 use Rattle.tables.specs.Keys.{text_number_cmp, text_number_total, text_number_exact}
 use Rattle.tables.proofs.Maps.{get-insert_same, get-insert_other}
 use Rattle.ocpi_types.specs.Rows.{key_of}
 use Rattle.ocpi_types.specs.declared.rows.Row.{Row}
 use Rattle.ocpi_types.specs.declared.rows.Row.TheVariants as row
-use Rattle.ocpi_types.specs.declared.rows.RowKey.{RowKey}
 use Rattle.ocpi_types.specs.declared.rows.RowKey.TheVariants as keys
 use Rattle.command_book.specs.Stored.{Request, Rows, no_rows, HasRow, put_row}
 use Rattle.command_book.specs.Listing.{HaveSameRows}
@@ -85,7 +84,6 @@ put_alone (row.Result p n result) s (row.Result q m b) k same h =
     λ i. row.Result (a i) (d i) (sym e i)
 put_alone (row.Result p n result) s other k same h = absurd (cc)
 put_alone other s r k same h = absurd k
-
 
 -- whether a row has the key of one of a command book
 pub same_key : (x r : Row) → IsKept x → (key_of r ≡ key_of x) ⊎ (key_of r ≢ key_of x)

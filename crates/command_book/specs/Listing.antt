@@ -1,5 +1,5 @@
 -- The rows of a command book as a list.
-use Rattle.std.specs.Prelude.{◌≡◌, ◌≢◌, ◌↔◌, ℕ, List, [], ◌∷◌, ◌++◌, map, Contains}
+use Rattle.std.specs.Prelude.{◌≡◌, ◌≢◌, ◌↔◌, List, [], ◌∷◌, ◌++◌, map, Contains}
 use Rattle.std.specs.List.{AllPairs}
 use Rattle.std.specs.FinMap.{entries}
 use Rattle.ocpi_types.specs.Rows.{key_of}

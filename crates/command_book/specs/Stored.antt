@@ -1,5 +1,5 @@
 -- What a command book stores, and what changes of rows make of it. Parties are in the form by which they are compared.
-use Rattle.std.specs.Prelude.{◌≡◌, ℕ, List, Option, Some, None}
+use Rattle.std.specs.Prelude.{◌≡◌, ℕ, List, Option, Some}
 use Rattle.std.specs.Option.{option_map}
 use Rattle.std.specs.FinMap.{FinMap, get, insert, remove, empty}
 use Rattle.tables.specs.Keys.{text_number_cmp}

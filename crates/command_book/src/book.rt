@@ -182,7 +182,9 @@ impl CommandBook {
                 open,
             } => self.reserve_open(*provider, *number, open.deadline),
             Row::Result {
-                provider, number, ..
+                provider,
+                number,
+                ..
             } => self.results.reserve((*provider, *number)),
             _ => Ok(()),
         }

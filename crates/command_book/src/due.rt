@@ -7,7 +7,7 @@ ghost use Rattle.command_book.specs.Due.{AreDue};
 ghost use Rattle.command_book.specs.Queue.{deadline_cmp, due_front};
 
 use crate::book::{CommandBook, Request};
-use ocpi_text::Moment;
+use ocpi_text::{Moment, PartyKey, Whole};
 use std::alloc::{AllocError, Global};
 use tables::Table;
 
@@ -31,7 +31,7 @@ fn push_due(
 impl CommandBook {
     /// The requests whose commands are open with a deadline at or before the moment, by provider and then by number. It costs
     /// what is due, and the order of that.
-    pub fn due(&self, alloc: Global, at: Moment) -> Result<Vec<Request>, AllocError>
+    pub fn due(&self, alloc: Global, at: Moment) -> Result<Vec<(PartyKey, Whole)>, AllocError>
         ensures { IfOk result (λ requests. AreDue self.now.rows.pending at requests.items) }
     {
         let mut due = Vec::new(alloc);

@@ -1,4 +1,4 @@
-use Rattle.std.proofs.Common.{◌∷◌, ◌++◌, map, sym, ap, ◌∙◌}
+use Rattle.std.proofs.Common.{◌++◌, map, ap, ◌∙◌}
 use Rattle.command_book.specs.Listing.{result_row}
 use Rattle.command_book.proofs.Steps.{one_more, none_left}
 use Rattle.command_book.proofs.listing.push_results.Goals as goal

@@ -1,11 +1,8 @@
-use Rattle.std.proofs.Common.{◌≡◌, sym, ap, subst, ◌∙◌}
+use Rattle.std.proofs.Common.{sym, subst, ◌∙◌}
 use Rattle.std.specs.Prelude.{IsTrue}
-use Rattle.std.specs.FinMap.{FinMap, contains_key, insert}
-use Rattle.tables.specs.Keys.{text_number_cmp}
-use Rattle.tables.specs.Tables.{shown_of, rooms_of}
+use Rattle.std.specs.FinMap.{contains_key}
 use Rattle.ocpi_types.specs.declared.rows.RowKey.TheVariants as keys
-use Rattle.command_book.specs.Queue.{deadline_cmp, Queue, IsQueue}
-use Rattle.command_book.specs.Stored.{OpenCommands}
+use Rattle.command_book.specs.Queue.{Queue}
 use Rattle.command_book.proofs.Queued.{apart_of_stale, unqueued_stale, queued_put}
 use Rattle.command_book.proofs.Roomed.{keeps_other_room, still_queued}
 use Rattle.command_book.proofs.book.CommandBook.put_open.Goals as goal
@@ -27,7 +24,7 @@ returns-clause-room c =
     let room = rw (← c.self.view_is) at c.requires in (
       rw c.put-2.ensures.room room.0,
       subst (λ (m : Queue). IsTrue (contains_key m (c.args.command.deadline, (c.args.provider, c.args.number)))) (sym (c.put.ensures.room ∙ c.unqueue.ensures.room))
-      (still_queued _ (c.args.provider, c.args.number) c.stale-stale.result c.args.command.deadline (c.args.provider, c.args.number) (apart_of_stale _ _ _ _ c.stale-stale.ensures.found) room.1),
+          (still_queued _ (c.args.provider, c.args.number) c.stale-stale.result c.args.command.deadline (c.args.provider, c.args.number) (apart_of_stale _ _ _ _ c.stale-stale.ensures.found) room.1),
     )
 
 pub returns-clause-keeps : goal.returns-clause-keeps
@@ -37,5 +34,5 @@ returns-clause-keeps c =
       pending = λ q apart had. rw c.put-2.ensures.room had;
       results = λ q apart had. had;
       deadlines = λ d q apart had. subst (λ (m : Queue). IsTrue (contains_key m (d, q))) (sym (c.put.ensures.room ∙ c.unqueue.ensures.room))
-      (still_queued _ (c.args.provider, c.args.number) c.stale-stale.result d q (λ e is same. apart (λ i. keys.Pending (same i).1.0 (same i).1.1)) had);
+          (still_queued _ (c.args.provider, c.args.number) c.stale-stale.result d q (λ e is same. apart (λ i. keys.Pending (same i).1.0 (same i).1.1)) had);
     }))
