@@ -1,5 +1,9 @@
-//! The calls of the crates that operators and providers are made of, at values from outside.
+//! The calls of the books and of sessions, each by its worked cases.
 #![tactic(auto)]
 
 #[cfg(test)]
+mod commands;
+#[cfg(test)]
 mod sessions;
+#[cfg(test)]
+mod tokens;

@@ -103,7 +103,7 @@ module _ (at : ℕ) where
   taken_once [] h one = no_pairs (λ a b. a ≢ b)
   taken_once (e ∷ es) h one = subst (AllPairs (λ a b. a ≢ b)) (sym (front_step e es)) (elim (nat_le e.0.0 at) as (λ b. AllPairs (λ a b. a ≢ b) (cond b (e.0.1 ∷ due_front at es) [])) [
     | true ↦ AllPairs-cons (λ a b. a ≢ b) e.0.1 (due_front at es) (all_of (λ (a b : Request). a ≢ b) (λ r. e.0.1 ≢ r) (due_front at es) new)
-    (taken_once es (latter _ _ h) (λ d f r i j. one d f r (Contains-append_right (e ∷ []) es _ i) (Contains-append_right (e ∷ []) es _ j)))
+        (taken_once es (latter _ _ h) (λ d f r i j. one d f r (Contains-append_right (e ∷ []) es _ i) (Contains-append_right (e ∷ []) es _ j)))
     | false ↦ no_pairs (λ (a b : Request). a ≢ b)
   ])
     where
@@ -141,7 +141,7 @@ due queue pending at requests h moved up = record {
         let until = deadline_stands (get pending r) from.0 ((h from.0 r).0 (listed_only deadline_total deadline_exact queue (from.0, r) tt from.2)) in
         record { command = until.0; stands = until.1; past = subst (λ z. z ≤ at) (sym until.2) from.1 },
     λ is. Contains-permutation front requests r moved (is_taken at (entries queue) (entries_sorted queue) is.command.deadline r is.past
-    (listed deadline_total deadline_exact queue (is.command.deadline, r) tt ((h is.command.deadline r).1 (ap (λ (o : Option OpenCommand). option_map (λ (c : OpenCommand). c.deadline) o) is.stands)))),
+        (listed deadline_total deadline_exact queue (is.command.deadline, r) tt ((h is.command.deadline r).1 (ap (λ (o : Option OpenCommand). option_map (λ (c : OpenCommand). c.deadline) o) is.stands)))),
   );
   in_order = rise text_number_total (λ x y e. text_number_exact x y (equal_of_is_eq (text_number_cmp x y) e)) front requests (taken_once at (entries queue) (entries_sorted queue) one) moved up;
 }

@@ -85,7 +85,6 @@ put_alone (row.Result p n result) s (row.Result q m b) k same h =
 put_alone (row.Result p n result) s other k same h = absurd (cc)
 put_alone other s r k same h = absurd k
 
-
 -- whether a row has the key of one of a command book
 pub same_key : (x r : Row) → IsKept x → (key_of r ≡ key_of x) ⊎ (key_of r ≢ key_of x)
 same_key (row.Reply p n reply) (row.Reply q m b) k = elim (told text_number_total text_number_exact (q, m) (p, n)) [

@@ -138,7 +138,7 @@ impl CommandBook {
         Some(self.pending.get((provider, number))?.deadline)
     }
 
-    /// The deadline of the command, if it is open and that is another one.
+    /// The deadline by which the command stands in the queue, where that is not `deadline`.
     fn stale(&self, provider: PartyKey, number: Whole, deadline: Moment) -> Option<Moment>
         ensures found { IfSome result (λ d. (deadline_of self.now.rows.pending (provider, number) ≡ Some d) × (d ≢ deadline)) }
         ensures none { IfNone result ((d : ℕ) → deadline_of self.now.rows.pending (provider, number) ≡ Some d → d ≡ deadline) }
@@ -182,7 +182,9 @@ impl CommandBook {
                 open,
             } => self.reserve_open(*provider, *number, open.deadline),
             Row::Result {
-                provider, number, ..
+                provider,
+                number,
+                ..
             } => self.results.reserve((*provider, *number)),
             _ => Ok(()),
         }
@@ -303,6 +305,7 @@ impl CommandBook {
     ) -> Result<(), CommandFault>
         requires { IsStart command → IsSome place }
         ensures ok { OnOk result (self.new.rows ≡ record self.old.rows { pending = map.insert self.old.rows.pending (provider, number) (open_command command place deadline) }) }
+        ensures may { OnOk result (MayOpen self.old.rows (provider, number)) }
         ensures refused { IfErr result (λ e. BarsOpening self.old.rows (provider, number) e) }
         ensures err { OnErr result (self.new.rows ≡ self.old.rows) }
         ensures again { MayOpen self.old.rows (provider, number) → HasRoomOf self.old.rooms (Row.Pending provider number (open_command command place deadline)) → IsOk result }
@@ -332,6 +335,7 @@ impl CommandBook {
         outcome: CommandResultType,
     ) -> Result<(), CommandFault>
         ensures ok { OnOk result (self.new.rows ≡ record self.old.rows { pending = map.remove self.old.rows.pending (provider, number); results = map.insert self.old.rows.results (provider, number) outcome }) }
+        ensures may { OnOk result (MaySettle self.old.rows (provider, number)) }
         ensures refused { IfErr result (λ e. BarsSettling self.old.rows (provider, number) e) }
         ensures err { OnErr result (self.new.rows ≡ self.old.rows) }
         ensures again { MaySettle self.old.rows (provider, number) → HasRoomOf self.old.rooms (Row.Result provider number outcome) → IsOk result }

@@ -18,7 +18,7 @@ pub returns-clause-room : goal.returns-clause-room
 returns-clause-room c = (
   rw c.remove.ensures.room (gone _ (c.args.provider, c.args.number)),
   λ o stands. subst (λ (m : Queue). contains_key m (o.deadline, (c.args.provider, c.args.number)) ≡ false) (sym c.unqueue.ensures.room)
-  (given_back _ (c.args.provider, c.args.number) c.deadline-deadline.result o.deadline (c.deadline-deadline.ensures ∙ ap (λ (f : Option OpenCommand). option_map (λ (d : OpenCommand). d.deadline) f) stands)),
+      (given_back _ (c.args.provider, c.args.number) c.deadline-deadline.result o.deadline (c.deadline-deadline.ensures ∙ ap (λ (f : Option OpenCommand). option_map (λ (d : OpenCommand). d.deadline) f) stands)),
 )
 
 pub returns-clause-keeps : goal.returns-clause-keeps
@@ -28,5 +28,5 @@ returns-clause-keeps c =
       pending = λ q apart had. rw c.remove.ensures.room (still_there _ _ q (λ same. apart (λ i. keys.Pending (same i).0 (same i).1)) had);
       results = λ q apart had. had;
       deadlines = λ d q apart had. subst (λ (m : Queue). IsTrue (contains_key m (d, q))) (sym c.unqueue.ensures.room)
-      (still_queued _ (c.args.provider, c.args.number) c.deadline-deadline.result d q (λ e is same. apart (λ i. keys.Pending (same i).1.0 (same i).1.1)) had);
+          (still_queued _ (c.args.provider, c.args.number) c.deadline-deadline.result d q (λ e is same. apart (λ i. keys.Pending (same i).1.0 (same i).1.1)) had);
     }))

@@ -24,7 +24,7 @@ returns-clause-room c =
     let room = rw (← c.self.view_is) at c.requires in (
       rw c.put-2.ensures.room room.0,
       subst (λ (m : Queue). IsTrue (contains_key m (c.args.command.deadline, (c.args.provider, c.args.number)))) (sym (c.put.ensures.room ∙ c.unqueue.ensures.room))
-      (still_queued _ (c.args.provider, c.args.number) c.stale-stale.result c.args.command.deadline (c.args.provider, c.args.number) (apart_of_stale _ _ _ _ c.stale-stale.ensures.found) room.1),
+          (still_queued _ (c.args.provider, c.args.number) c.stale-stale.result c.args.command.deadline (c.args.provider, c.args.number) (apart_of_stale _ _ _ _ c.stale-stale.ensures.found) room.1),
     )
 
 pub returns-clause-keeps : goal.returns-clause-keeps
@@ -34,5 +34,5 @@ returns-clause-keeps c =
       pending = λ q apart had. rw c.put-2.ensures.room had;
       results = λ q apart had. had;
       deadlines = λ d q apart had. subst (λ (m : Queue). IsTrue (contains_key m (d, q))) (sym (c.put.ensures.room ∙ c.unqueue.ensures.room))
-      (still_queued _ (c.args.provider, c.args.number) c.stale-stale.result d q (λ e is same. apart (λ i. keys.Pending (same i).1.0 (same i).1.1)) had);
+          (still_queued _ (c.args.provider, c.args.number) c.stale-stale.result d q (λ e is same. apart (λ i. keys.Pending (same i).1.0 (same i).1.1)) had);
     }))
