@@ -183,7 +183,10 @@ fn has_reference(answer: &Result<Authorized, TokenFault>, text: &str) -> bool {
 }
 
 /// An operator asks for a token of NL/TNM without its type.
-fn ask(desk: &mut TokenDesk, uid: &'static str) -> Result<Result<Authorized, TokenFault>, TextFault> {
+fn ask(
+    desk: &mut TokenDesk,
+    uid: &'static str,
+) -> Result<Result<Authorized, TokenFault>, TextFault> {
     let party = Party::read("NL/TNM")?;
     let uid = CiText::new(uid)?;
     Ok(desk.authorize(&party, uid.key(), None))
@@ -249,7 +252,10 @@ fn last_number(rt: HostRuntime) -> Result<(), Fail> {
     })?;
     assert!(rt; desk.issue_reference(&party).is_ok());
     assert!(rt; desk.issue_reference(&party).is_err());
-    assert_eq!(rt; authorized_word(&ask(&mut desk, "AA01")?), "numbers used up");
+    assert_eq!(rt;
+        authorized_word(&ask(&mut desk, "AA01")?),
+        "numbers used up"
+    );
     let mut again = TokenDesk::new(rt.alloc());
     for row in desk.rows(rt.alloc())? {
         again.add_row(row)?;

@@ -1,7 +1,7 @@
 -- Each token stands under its own key, whatever is put and dropped.
 use Rattle.std.proofs.Common.{◌≡◌, inl, inr, ap, ◌∙◌}
 use Rattle.std.specs.Prelude.{Some, None, Option}
-use Rattle.std.specs.FinMap.{get, insert, remove, empty, get-empty}
+use Rattle.std.specs.FinMap.{insert, remove, empty, get-empty}
 use Rattle.tables.proofs.Maps.{of_insert, of_remove}
 use Rattle.ocpi_types.specs.declared.token.Token.{Token}
 use Rattle.token_desk.specs.Tokens.{Tokens, TokenKey, token_cmp, token_key, AreKeyed}

@@ -1,13 +1,12 @@
 -- The rows of a desk, and the desk of its rows.
 use Rattle.std.proofs.Common.{◌≡◌, ◌≢◌, ◌↔◌, ℕ, zero, suc, List, [], ◌∷◌, ◌++◌, map, ◌⊎◌, inl, inr, true, false, cond, Bool, refl, sym, ap, subst, ◌∙◌, arith}
-use Rattle.std.specs.Prelude.{Option, Some, None, Contains, AllPairs, All}
-use Rattle.std.specs.List.{AllByRecursion}
+use Rattle.std.specs.Prelude.{Option, Some, None, Contains, AllPairs}
 use Rattle.std.specs.FinMap.{get, insert, empty, entries, entries_sorted, same_map, get-empty, get-insert}
 use Rattle.std.specs.Ordering.{eq_by_cmp}
 use Rattle.std.proofs.lemmas.List.{append-nil}
 use Rattle.std.proofs.lemmas.List.Elements.{Contains-append_left, Contains-append_right, Contains-append_cases, All-map}
 use Rattle.std.proofs.lemmas.List.Kept.{AllPairs-cons}
-use Rattle.tables.proofs.Maps.{of_insert, get-insert_same, get-insert_other, equal_of_is_eq}
+use Rattle.tables.proofs.Maps.{of_insert, get-insert_same}
 use Rattle.ocpi_types.specs.Rows.{key_of}
 use Rattle.ocpi_types.specs.declared.token.Token.{Token}
 use Rattle.ocpi_types.specs.declared.rows.Row.{Row}
@@ -18,7 +17,7 @@ use Rattle.ocpi_types.specs.declared.rows.Counter.TheVariants.{Serial, Request, 
 use Rattle.token_desk.specs.Tokens.{Tokens, TokenKey, token_cmp, token_key, AreKeyed}
 use Rattle.token_desk.specs.TypeOrder.{tokens_total, tokens_exact}
 use Rattle.token_desk.specs.Stored.{Rows, HasRow, AreRowsOf, count_rows, with_token}
-use Rattle.token_desk.proofs.Entries.{in_none, in_single, in_front, no_pairs, in_map, of_map, listed, listed_only, each_apart, all_elements}
+use Rattle.token_desk.proofs.Entries.{in_none, in_single, in_front, in_map, of_map, listed, listed_only, each_apart, all_elements}
 
 abbrev pub token_row : TokenKey × Token → Row
 token_row e = row.Token e.1
@@ -127,7 +126,7 @@ pub listing_is : (s : Rows) → AreKeyed s.tokens → (items front : List Row) (
     items ++ map token_row es ≡ front ++ map token_row all → AreRowsOf s items
 listing_is s keyed items front es all none first every done =
     let is : items ≡ count_rows s.references ++ map token_row (entries s.tokens) =
-        sym (append-nil items) ∙ ap (λ (l : List (TokenKey × Token)). items ++ map token_row l) (sym none) ∙ done ∙ (λ i. first i ++ map token_row (every i)) in
+    sym (append-nil items) ∙ ap (λ (l : List (TokenKey × Token)). items ++ map token_row l) (sym none) ∙ done ∙ (λ i. first i ++ map token_row (every i)) in
     subst (AreRowsOf s) (sym is) (rows_are s keyed)
 
 -- a desk n that has some of the tokens of m, and is still to get the others
@@ -198,11 +197,10 @@ copied_start m n es none all = subst (λ l. Copied m n l) (sym all) (subst (λ x
 
 pub copied_next : (m : Tokens) → AreKeyed m → (s t : Rows) (last : ℕ) (e : TokenKey × Token) (es fs : List (TokenKey × Token)) → es ≡ e ∷ fs → t ≡ with_token e.1 s →
     Copied m s.tokens es × (s.references ≡ last) → Copied m t.tokens fs × (t.references ≡ last)
-copied_next m keyed s t last e es fs steps is h =
-    (
-      subst (λ x. Copied m x fs) (sym (ap (λ (z : Rows). z.tokens) is)) (copied_one m s.tokens keyed e fs (subst (Copied m s.tokens) steps h.0)),
-      ap (λ (z : Rows). z.references) is ∙ h.1,
-    )
+copied_next m keyed s t last e es fs steps is h = (
+  subst (λ x. Copied m x fs) (sym (ap (λ (z : Rows). z.tokens) is)) (copied_one m s.tokens keyed e fs (subst (Copied m s.tokens) steps h.0)),
+  ap (λ (z : Rows). z.references) is ∙ h.1,
+)
 
 pub copied_end : (s t : Rows) (es : List (TokenKey × Token)) → AreKeyed t.tokens → es ≡ [] → Copied t.tokens s.tokens es × (s.references ≡ t.references) → s ≡ t
 copied_end s t es keyed none h =

@@ -1,5 +1,5 @@
 -- References that are given one after the other differ.
-use Rattle.std.proofs.Common.{◌≡◌, ℕ, ◌<◌, ◌≤◌, List, [], ◌∷◌, All, refl, sym, ap, ◌∙◌, arith}
+use Rattle.std.proofs.Common.{◌≡◌, ℕ, ◌<◌, ◌≤◌, List, [], ◌∷◌, All, sym, ap, ◌∙◌, arith}
 use Rattle.std.specs.Prelude.{◌≢◌, Ok, AllPairs}
 use Rattle.std.proofs.lemmas.List.Elements.{All-nil, All-cons}
 use Rattle.std.proofs.lemmas.List.Kept.{AllPairs-cons}
@@ -21,7 +21,7 @@ module _ (party : List ℕ) (is : party_at party ≡ Ok party) where
   apart : (r s : Reference) → r ≡ reference_of party r.number → s ≡ reference_of party s.number → r.number < s.number → s.number ≤ max_whole → Differ r s
   apart r s a b below most same =
       let texts : own_id_text AuthorizationReference party r.number ≡ own_id_text AuthorizationReference party s.number =
-          sym (ap (λ (x : Reference). x.text) a) ∙ same ∙ ap (λ (x : Reference). x.text) b in
+      sym (ap (λ (x : Reference). x.text) a) ∙ same ∙ ap (λ (x : Reference). x.text) b in
       let short : r.number ≤ max_whole = omega arith in
       let numbers : r.number ≡ s.number = (own_ids_are_apart AuthorizationReference AuthorizationReference party party r.number s.number is is short most texts).counter in
       absurd (omega arith)

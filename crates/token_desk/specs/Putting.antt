@@ -1,7 +1,7 @@
 -- Tokens that are put: by an operator, which its provider sends them, and by the provider itself (OCPI 2.2.1, Tokens:
 -- Receiver interface, PUT; Token object, last_updated).
 use Rattle.std.specs.Prelude.{◌≡◌, ◌≢◌, ℕ, ◌+◌, ◌<◌, ◌≤◌, max, List, Option, Some, None, false}
-use Rattle.std.specs.FinMap.{get, contains_key}
+use Rattle.std.specs.FinMap.{get, insert, contains_key}
 use Rattle.ocpi_text.specs.Text.{key}
 use Rattle.ocpi_text.specs.Moment.{last_moment}
 use Rattle.ocpi_types.specs.declared.token.Token.{Token}
@@ -10,7 +10,7 @@ use Rattle.token_desk.specs.declared.answers.TokenPut.TheVariants.{Stored, Kept}
 use Rattle.token_desk.specs.declared.fault.TokenFault.{TokenFault}
 use Rattle.token_desk.specs.declared.fault.TokenFault.TheVariants.{UnknownToken, WrongParty, NumbersUsedUp, Memory}
 use Rattle.token_desk.specs.Tokens.{Tokens, token_key}
-use Rattle.token_desk.specs.Stored.{Rows, Held, with_token}
+use Rattle.token_desk.specs.Stored.{Rows, Rooms, Held, with_token}
 
 -- each token that is held in its place is older
 abbrev pub IsNewer : Tokens → Token → Type 0
@@ -28,6 +28,11 @@ PutLine tokens t Kept = IsNotNewer tokens t
 abbrev pub after_put : Token → TokenPut → Rows → Rows
 after_put t Stored s = with_token t s
 after_put t Kept s = s
+
+-- a token that is stored has room from then on
+abbrev pub rooms_after_put : Token → TokenPut → Rooms → Rooms
+rooms_after_put t Stored rooms = insert rooms (token_key t) tt
+rooms_after_put t Kept rooms = rooms
 
 -- why a token that was sent is refused: it is not the sender's; or memory ran out for one that is to be stored and has no room
 abbrev pub IsPutFault : Held → List ℕ → Token → TokenFault → Type 0
@@ -57,3 +62,7 @@ IsAtEnd tokens t = (u : Token) × (get tokens (token_key t) ≡ Some u) × (u.la
 abbrev pub StoreLine : Rows → ℕ → Token → Option Token → Rows → Type 0
 StoreLine s at t (Some v) new = HasNext s.tokens t × (v ≡ next_version at s.tokens t) × (new ≡ with_token v s)
 StoreLine s at t None new = IsAtEnd s.tokens t × (new ≡ s)
+
+abbrev pub rooms_after_store : Option Token → Rooms → Rooms
+rooms_after_store (Some v) rooms = insert rooms (token_key v) tt
+rooms_after_store None rooms = rooms

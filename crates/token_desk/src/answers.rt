@@ -35,12 +35,7 @@ pub struct Reference {
 #[derive(Clone, Copy)]
 pub enum Authorized {
     /// The token is valid, and a new reference is given with it.
-    Allowed {
-        token: Token,
-        reference: Reference,
-    },
+    Allowed { token: Token, reference: Reference },
     /// The token is not valid.
-    Blocked {
-        token: Token,
-    },
+    Blocked { token: Token },
 }

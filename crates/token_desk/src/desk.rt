@@ -153,11 +153,7 @@ impl TokenDesk {
         ensures again { IsTrue (map.contains_key self.old.rooms (token_key token.now)) → IsOk result }
         ensures err { OnErr result (self.new ≡ self.old) }
     {
-        self.tokens.reserve(table_key(
-            token.party.key(),
-            token.uid.key(),
-            token.token_type,
-        ))
+        self.tokens.reserve(table_key(token.party.key(), token.uid.key(), token.token_type))
     }
 
     /// Puts a token, in the place of the one of its party, type and uid if there is one. It takes no memory.

@@ -6,7 +6,7 @@ ghost use Rattle.ocpi_text.specs.Text.{key};
 ghost use Rattle.ocpi_text.specs.Moment.{last_moment};
 ghost use Rattle.token_desk.specs.declared.fault.TokenFault.TheVariants.{WrongParty};
 ghost use Rattle.token_desk.specs.Tokens.{token_key};
-ghost use Rattle.token_desk.specs.Putting.{IsNewer, IsNotNewer, PutLine, after_put, IsPutFault, next_version, HasNext, IsAtEnd, StoreLine};
+ghost use Rattle.token_desk.specs.Putting.{IsNewer, IsNotNewer, PutLine, after_put, rooms_after_put, IsPutFault, next_version, HasNext, IsAtEnd, StoreLine, rooms_after_store};
 
 use crate::answers::TokenPut;
 use crate::desk::TokenDesk;
@@ -64,6 +64,7 @@ impl TokenDesk {
     pub fn put(&mut self, sender: PartyKey, token: &Token) -> Result<TokenPut, TokenFault>
         ensures line { IfOk result (λ a. (key token.now.party ≡ sender) × PutLine self.old.rows.tokens token.now a) }
         ensures rows { IfOk result (λ a. self.new.rows ≡ after_put token.now a self.old.rows) }
+        ensures rooms { IfOk result (λ a. self.new.rooms ≡ rooms_after_put token.now a self.old.rooms) }
         ensures fault { IfErr result (λ e. IsPutFault self.old sender token.now e) }
         ensures err { OnErr result (self.new ≡ self.old) }
     {
@@ -104,6 +105,7 @@ impl TokenDesk {
     /// changes no row.
     pub fn store(&mut self, at: Moment, token: &Token) -> Result<Option<Token>, AllocError>
         ensures line { IfOk result (λ o. StoreLine self.old.rows at token.now o self.new.rows) }
+        ensures rooms { IfOk result (λ o. self.new.rooms ≡ rooms_after_store o self.old.rooms) }
         ensures again { IsTrue (map.contains_key self.old.rooms (token_key token.now)) → IsOk result }
         ensures err { OnErr result (self.new ≡ self.old) }
     {

@@ -78,6 +78,7 @@ impl TokenDesk {
     /// Adds a row that was stored. An error is want of memory, for a row that has no room, and leaves the desk as it was.
     pub fn add_row(&mut self, row: Row) -> Result<(), AllocError>
         ensures rows { OnOk result (self.new.rows ≡ put_row row self.old.rows) }
+        ensures rooms { OnOk result (self.new.rooms ≡ rooms_with row self.old.rooms) }
         ensures again { HasRoomOf self.old.rooms row → IsOk result }
         ensures err { OnErr result (self.new ≡ self.old) }
     {

@@ -46,12 +46,7 @@ impl TokenDesk {
     /// may begin where its whitelist is ALWAYS or ALLOWED and it is valid. Where its whitelist is ALLOWED_OFFLINE or NEVER
     /// its provider is to be asked, whether it is valid or not. Else, and where there is no such token, nothing follows. It
     /// changes nothing, and takes no memory.
-    pub fn decide(
-        &self,
-        provider: Option<PartyKey>,
-        uid: CiKey<36>,
-        token_type: TokenType,
-    ) -> Swipe
+    pub fn decide(&self, provider: Option<PartyKey>, uid: CiKey<36>, token_type: TokenType) -> Swipe
         ensures { SwipeLine self.now.rows.tokens provider token_type uid result }
     {
         match self.shown(provider, uid, token_type) {

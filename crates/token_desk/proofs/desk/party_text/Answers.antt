@@ -1,4 +1,4 @@
-use Rattle.std.proofs.Common.{◌≡◌, sym, ◌∙◌}
+use Rattle.std.proofs.Common.{◌≡◌, ◌∙◌}
 use Rattle.std.specs.Prelude.{Ok, Err, Result}
 use Rattle.token_desk.proofs.Lookups.{party_fits}
 use Rattle.token_desk.proofs.desk.party_text.Goals as goal

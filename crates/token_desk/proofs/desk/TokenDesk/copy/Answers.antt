@@ -6,7 +6,7 @@ use Rattle.token_desk.proofs.desk.TokenDesk.copy.Goals as goal
 pub loop-token-init : goal.loop-token-init
 loop-token-init c = (
   copied_start _ _ _ (ap (λ (h : Held). h.rows.tokens) c.set_references.ensures ∙ ap (λ (r : Rows). r.tokens) c.new-desk.ensures.rows)
-  (c.into_iter-token-iterator.ensures.into_iter_gives ∙ c.tokens-token-items.ensures),
+      (c.into_iter-token-iterator.ensures.into_iter_gives ∙ c.tokens-token-items.ensures),
   ap (λ (h : Held). h.rows.references) c.set_references.ensures ∙ c.references.ensures,
 )
 

@@ -1,4 +1,4 @@
-use Rattle.token_desk.specs.Swipes.{SwipeLine, Known}
+use Rattle.token_desk.specs.Swipes.{Known}
 use Rattle.token_desk.proofs.desk.TokenDesk.decide.Goals as goal
 
 pub returns-in-Some : goal.returns-in-Some
