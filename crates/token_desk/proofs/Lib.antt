@@ -1,0 +1,5 @@
+pub mod Keyed
+pub mod Lookups
+pub mod Numbers
+pub mod Entries
+pub mod Listed

@@ -1,0 +1,34 @@
+-- What look-ups find: the keys of parties are texts, and the first party of a type and uid.
+use Rattle.std.proofs.Common.{◌≡◌, ℕ, Bool, List, [], true, false, cond, refl, sym, ap, ◌∙◌}
+use Rattle.std.specs.Prelude.{Ok, Err}
+use Rattle.std.specs.Ordering.{ordering_then, is_gt}
+use Rattle.std.proofs.lemmas.Cmp.{tied_itself}
+use Rattle.std.specs.Str.{chars}
+use Rattle.ocpi_text.specs.Text.{ci_text, is_ascii_text}
+use Rattle.ocpi_text.specs.declared.fault.TextFault.TheVariants.{TooLong}
+use Rattle.ocpi_text.specs.Party.{party_at, is_party_shape}
+use Rattle.tables.specs.Keys.{text_cmp}
+use Rattle.tables.specs.Tables.{IsLeast}
+use Rattle.ocpi_types.specs.declared.words.TokenType.{TokenType}
+use Rattle.ocpi_types.specs.declared.token.Token.{Token}
+use Rattle.token_desk.specs.Tokens.{Tokens, TokenKey, token_cmp}
+use Rattle.token_desk.specs.TypeOrder.{type_uids_total}
+use Rattle.token_desk.specs.Swipes.{IsFirst}
+
+-- a party's text is read as a text of six characters
+pub party_fits : (p : List ℕ) → party_at p ≡ Ok p → ci_text 6 p ≡ Ok p
+unfolding party_at
+party_fits p e = go (is_party_shape p) refl
+  where
+    go : (b : Bool) → is_party_shape p ≡ b → ci_text 6 p ≡ Ok p
+    go true shape = sym (ap (λ c. cond c (ci_text 6 p) (Err TooLong)) shape) ∙ e
+    go false shape = absurd (cc)
+
+pub empty_fits : ci_text 6 [] ≡ Ok []
+unfolding is_ascii_text chars
+empty_fits = refl
+
+-- of the tokens of one type and uid, the one with the least key is the first
+pub least_is_first : (m : Tokens) (type : TokenType) (uid p : List ℕ) (t : Token) → IsLeast token_cmp m (λ (q : TokenKey). q.0 ≡ (type, uid)) (((type, uid), p), t) → IsFirst m type uid t
+least_is_first m type uid p t h =
+    (p, h.0, λ q there. ap (λ r. is_gt (ordering_then r (text_cmp p q))) (sym (tied_itself type_uids_total (type, uid))) ∙ h.2 ((type, uid), q) refl there)

@@ -1,0 +1,10 @@
+use Rattle.std.proofs.Common.{◌≡◌, ◌∙◌}
+use Rattle.std.specs.Prelude.{Ok, Err, Result}
+use Rattle.token_desk.proofs.Lookups.{empty_fits}
+use Rattle.token_desk.proofs.desk.least_text.Goals as goal
+
+ok_err : {X E : Type 0} (x : X) (e : E) (r : Result X E) → r ≡ Ok x → r ≡ Err e → ⊥
+ok_err x e r a b = cc
+
+pub unreachable-requires : goal.unreachable-requires
+unreachable-requires c = ok_err _ _ _ (c.new.ensures.exact ∙ empty_fits) c.in-Err.is

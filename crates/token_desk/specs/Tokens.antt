@@ -1,0 +1,38 @@
+-- The tokens that a node holds (OCPI 2.2.1, Tokens: Token object).
+use Rattle.std.specs.Prelude.{◌≡◌, ℕ, List, Some}
+use Rattle.std.specs.Ordering.{nat_cmp}
+use Rattle.std.specs.declared.cmp.Ordering.{Ordering}
+use Rattle.std.specs.FinMap.{FinMap, get}
+use Rattle.ocpi_text.specs.Text.{key}
+use Rattle.tables.specs.Keys.{pair_cmp, text_cmp}
+use Rattle.ocpi_types.specs.declared.words.TokenType.{TokenType}
+use Rattle.ocpi_types.specs.declared.words.TokenType.TheVariants.{AdHocUser, AppUser, Other, Rfid}
+use Rattle.ocpi_types.specs.declared.token.Token.{Token}
+
+-- the place of a type's word among the words, in the order of their bytes
+abbrev pub type_place : TokenType → ℕ
+type_place AdHocUser = 0
+type_place AppUser = 1
+type_place Other = 2
+type_place Rfid = 3
+
+abbrev pub type_cmp : TokenType → TokenType → Ordering
+type_cmp s t = nat_cmp (type_place s) (type_place t)
+
+-- a type and a uid, and then a party; texts in the form by which they are compared
+abbrev pub TokenKey : Type 0
+TokenKey = (TokenType × List ℕ) × List ℕ
+
+abbrev pub token_cmp : TokenKey → TokenKey → Ordering
+token_cmp = pair_cmp (pair_cmp type_cmp text_cmp) text_cmp
+
+-- what tells a token from others: it is one of its party, type and uid
+abbrev pub token_key : Token → TokenKey
+token_key t = ((t.token_type, key t.uid), key t.party)
+
+abbrev pub Tokens : Type 0
+Tokens = FinMap token_cmp Token
+
+-- each token stands under its own key
+abbrev pub AreKeyed : Tokens → Type 0
+AreKeyed tokens = (k : TokenKey) (t : Token) → get tokens k ≡ Some t → k ≡ token_key t

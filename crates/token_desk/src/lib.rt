@@ -1,0 +1,18 @@
+//! The tokens that a node holds, and what it decides by them: whether an operator starts a session for a token that a
+//! driver shows, and whether a provider allows a token (OCPI 2.2.1, Tokens).
+#![tactic(auto)]
+
+mod answers;
+mod authorizing;
+mod desk;
+mod fault;
+pub mod laws;
+mod putting;
+mod references;
+mod stored;
+mod swipes;
+mod type_key;
+
+pub use answers::{Authorized, Reference, Swipe, TokenPut};
+pub use desk::TokenDesk;
+pub use fault::TokenFault;
