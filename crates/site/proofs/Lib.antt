@@ -2,3 +2,4 @@ pub mod Apart
 pub mod Indexing
 pub mod Finding
 pub mod Filling
+pub mod Trees

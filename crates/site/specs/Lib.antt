@@ -1,3 +1,4 @@
 pub mod Places
 pub mod Positions
 pub mod Indexes
+pub mod Flags

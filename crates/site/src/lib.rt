@@ -2,6 +2,7 @@
 #![tactic(auto)]
 
 mod evses;
+mod flags;
 mod indexes;
 mod places;
 
