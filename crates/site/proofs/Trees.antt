@@ -3,7 +3,7 @@ use Rattle.std.proofs.Common.{◌≡◌, ◌≢◌, ℕ, zero, suc, ◌+◌, ◌
 use Rattle.std.specs.Prelude.{Some, slice_get, IsSome}
 use Rattle.std.proofs.lemmas.Bool.{cases_lt}
 use Rattle.std.proofs.lemmas.List.{get_or-drop}
-use Rattle.std.proofs.lemmas.Option.{slice_get-get_or, get_or_from_slice_get}
+use Rattle.std.proofs.lemmas.Option.{slice_get-get_or, get_or_from_slice_get, slice_get_within}
 use Rattle.site.specs.Flags.{IsJoint, IsTree, AreNone}
 
 or_left : (a b : Bool) → a ≡ true → (a || b) ≡ true
@@ -25,6 +25,17 @@ module _ (nodes : List Bool) (k : ℕ) (b : Bool) where
       ∙ ap (λ x. x || get_or nodes (2 * j + 1) false) (sym (get_or-set_other nodes k (2 * j) b false left))
       ∙ ap (λ x. get_or (set nodes k b) (2 * j) false || x) (sym (get_or-set_other nodes k (2 * j + 1) b false right))
 
+  joints_stay : (width : ℕ) → ((j : ℕ) → 0 < j → j < width → IsJoint nodes j) → width ≤ k → (j : ℕ) → 0 < j → j < width → j ≢ k / 2 → IsJoint (set nodes k b) j
+  joints_stay width joint leaf j some inner apart =
+      let here : j ≢ k = omega arith in
+      let left : 2 * j ≢ k = omega arith in
+      let right : 2 * j + 1 ≢ k = omega arith in
+      joint_other j here left right (joint j some inner)
+
+-- a leaf is changed
+pub leaf_changed : (width : ℕ) (nodes : List Bool) (place : ℕ) (b : Bool) → IsTree width nodes → (j : ℕ) → 0 < j → j < width → j ≢ (width + place) / 2 → IsJoint (set nodes (width + place) b) j
+leaf_changed width nodes place b tree = joints_stay nodes (width + place) b width tree.joint (omega arith)
+
 -- a node that is set from the two below it
 pub joint_here : (nodes : List Bool) (k : ℕ) → 0 < k → k < length nodes → IsJoint (set nodes k (get_or nodes (2 * k) false || get_or nodes (2 * k + 1) false)) k
 joint_here nodes k some within =
@@ -34,6 +45,26 @@ joint_here nodes k some within =
     get_or-set_same nodes k b false within
     ∙ ap (λ x. x || get_or nodes (2 * k + 1) false) (sym (get_or-set_other nodes k (2 * k) b false left))
     ∙ ap (λ x. get_or (set nodes k b) (2 * k) false || x) (sym (get_or-set_other nodes k (2 * k + 1) b false right))
+
+-- the node above a changed one is set again
+pub node_changed : (width : ℕ) (nodes : List Bool) (k : ℕ) → length nodes ≡ 2 * width → 1 < k → k < 2 * width → ((j : ℕ) → 0 < j → j < width → j ≢ k / 2 → IsJoint nodes j) →
+    (j : ℕ) → 0 < j → j < width → j ≢ k / 2 / 2 → IsJoint (set nodes (k / 2) (get_or nodes (2 * (k / 2)) false || get_or nodes (2 * (k / 2) + 1) false)) j
+node_changed width nodes k size more within joint j some inner apart = elim (nat_dec j (k / 2)) [
+  | inl same ↦
+      let low : 0 < k / 2 = omega arith in
+      let high : k / 2 < length nodes = omega arith in
+      subst (λ n. IsJoint (set nodes (k / 2) (get_or nodes (2 * (k / 2)) false || get_or nodes (2 * (k / 2) + 1) false)) n) (sym same) (joint_here nodes (k / 2) low high)
+  | inr other ↦
+      let left : 2 * j ≢ k / 2 = omega arith in
+      let right : 2 * j + 1 ≢ k / 2 = omega arith in
+      joint_other nodes (k / 2) (get_or nodes (2 * (k / 2)) false || get_or nodes (2 * (k / 2) + 1) false) j other left right (joint j some inner other)
+]
+  where
+    nat_dec : (a b : ℕ) → (a ≡ b) ⊎ (a ≢ b)
+    nat_dec a b = elim (cases_lt a b) [
+      | inl less ↦ inr (omega arith)
+      | inr most ↦ elim (cases_lt b a) [ inl more ↦ inr (omega arith) | inr least ↦ inl (omega arith) ]
+    ]
 
 pub halves : (k : ℕ) → (k ≡ 2 * (k / 2)) ⊎ (k ≡ 2 * (k / 2) + 1)
 halves k = elim (cases_lt (2 * (k / 2)) k) [ inl less ↦ inr (omega arith) | inr above ↦ inl (omega arith) ]
@@ -69,7 +100,8 @@ module _ (width : ℕ) (nodes : List Bool) (tree : IsTree width nodes) where
   pub none_set : get_or nodes 1 false ≡ false → AreNone (drop width nodes)
   none_set clear i is =
       let leaf : get_or nodes (width + i) false ≡ true = sym (get_or-drop width nodes i false) ∙ get_or_from_slice_get (drop width nodes) i true false is in
-      let within : width + i < 2 * width = ? in
+      let inside : i < length (drop width nodes) = slice_get_within (drop width nodes) i true is in
+      let within : width + i < 2 * width = omega (arith, inside, length-drop width nodes, tree.size) in
       let some : 0 < width + i = omega (arith, tree.wide) in
       let set : get_or nodes 1 false ≡ true = top (width + i) (width + i) (omega arith) some within leaf in
       cc

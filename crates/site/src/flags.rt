@@ -1,6 +1,6 @@
 //! Flags of the places of a list, of which one that is set is found without a walk.
 
-ghost use Rattle.std.specs.Prelude.{◌≡◌, ◌≢◌, ◌*◌, ◌<◌, ◌≤◌, ℕ, true, length, drop, slice_get, slice_set, IfOk, IfSome, IfNone};
+ghost use Rattle.std.specs.Prelude.{◌≡◌, ◌+◌, ◌*◌, ◌<◌, ◌≤◌, ◌||◌, true, false, length, slice_index_or, drop, slice_get, slice_set, IfOk, IfSome, IfNone};
 ghost use Rattle.site.specs.Flags.{IsTree, AreNone, AreFirst};
 
 use std::alloc::{AllocError, Global};
@@ -20,6 +20,14 @@ fn width_of(count: usize) -> usize
     width
 }
 
+/// Whether one of the two nodes below a node is set.
+fn is_joined(nodes: &[bool], k: usize) -> bool
+    requires { 2 * k + 1 < length nodes.now }
+    ensures { result ≡ (slice_index_or nodes.now (2 * k) false || slice_index_or nodes.now (2 * k + 1) false) }
+{
+    nodes[2 * k] || nodes[2 * k + 1]
+}
+
 /// Sets the flag of a place, and then the nodes above it.
 fn set_node(nodes: &mut [bool], width: usize, place: usize, value: bool)
     requires tree { IsTree width nodes.old }
@@ -31,7 +39,7 @@ fn set_node(nodes: &mut [bool], width: usize, place: usize, value: bool)
     nodes[k] = value;
     while k > 1 {
         k /= 2;
-        nodes[k] = nodes[2 * k] || nodes[2 * k + 1];
+        nodes[k] = is_joined(nodes, k);
     }
 }
 

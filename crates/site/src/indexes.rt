@@ -8,7 +8,7 @@ ghost use Rattle.tables.specs.Tables.{shown_of};
 ghost use Rattle.site.specs.Indexes.{HaveEvses, HasFreeAlone, AreIndexes, AddsEvse};
 ghost use Rattle.site.specs.Positions.{IsBefore};
 
-use ocpi_text::CiText;
+use ocpi_text::{CiKey, CiText};
 use ocpi_types::Location;
 use std::alloc::{AllocError, Global};
 use tables::Table;
@@ -18,11 +18,11 @@ use tables::Table;
 #[derive(Drop)]
 pub(crate) struct Indexes {
     /// The position of each location, by its id.
-    pub(crate) locations: Table<CiText<36>, usize>,
+    pub(crate) locations: Table<CiKey<36>, usize>,
     /// The position of each EVSE, by its uid.
-    pub(crate) evses: Table<CiText<36>, (usize, usize)>,
+    pub(crate) evses: Table<CiKey<36>, (usize, usize)>,
     /// The uids of the EVSEs that are claimed. Each EVSE has room.
-    pub(crate) claimed: Table<CiText<36>, ()>,
+    pub(crate) claimed: Table<CiKey<36>, ()>,
     /// The positions of the EVSEs that are not claimed.
     pub(crate) free: Table<(usize, usize), ()>,
 }
