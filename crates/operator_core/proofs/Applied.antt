@@ -6,17 +6,17 @@ use Rattle.ocpi_text.specs.Text.{key}
 use Rattle.ocpi_types.specs.declared.site.Site.{Site}
 use Rattle.ocpi_types.specs.declared.packet.Packet.{Packet}
 use Rattle.ocpi_types.specs.declared.commands.StartSession.{StartSession}
-use Rattle.ocpi_types.specs.declared.replies.CommandResponse.{CommandResponse}
+use Rattle.ocpi_types.specs.declared.stored.Reply.{Reply}
+use Rattle.ocpi_types.specs.declared.stored.Reply.TheVariants as replies
 use Rattle.ocpi_types.specs.declared.rows.Place.{Place}
 use Rattle.ocpi_types.specs.declared.rows.Row.TheVariants as row
 use Rattle.ocpi_types.specs.declared.rows.Counter.TheVariants.{Serial}
 use Rattle.ocpi_types.specs.declared.rows.Change.{Change}
 use Rattle.ocpi_types.specs.declared.rows.Change.TheVariants.{Put}
 use Rattle.site.specs.Places.{Claimed, IsEvse}
-use Rattle.operator_core.specs.declared.open_start.OpenStart.{OpenStart}
 use Rattle.operator_core.specs.declared.decision.Decision.{Decision}
 use Rattle.operator_core.specs.declared.decision.Decision.TheVariants.{Refused, Rejected, Accepted}
-use Rattle.operator_core.specs.State.{State, Spent, OpenStarts}
+use Rattle.operator_core.specs.State.{State, Spent, OpenStarts, OpenStart, open_of}
 use Rattle.operator_core.specs.Stored.{rows_of, changed_all}
 use Rattle.operator_core.specs.Start.{StartLine}
 use Rattle.operator_core.specs.Start as lines
@@ -58,7 +58,7 @@ started_indexed s m at to p n c (Refused status) new h = h
 started_indexed s m at to p n c Rejected new h = h
 started_indexed s m at to p n c (Accepted place) new h =
     let start : OpenStart = record { command = c; place = place; deadline = deadline at } in
-    rw (spent_claims (Put (row.Count Serial _)) (Put (row.Reply p n _)) (Put (row.Pending p n c place (deadline at))) p c.authorization_reference m)
+    rw (spent_claims (Put (row.Count Serial _)) (Put (row.Reply p n _)) (Put (row.Pending p n (open_of start))) p c.authorization_reference m)
     (indexed_start m s.open_starts h p n start new)
 
 line_indexed : (s : State) (m : Claimed) (at : ℕ) (q : Packet) (to : List ℕ) (out : Out) → Holds s → IsIndexed m s.open_starts → RequestLine s at q to out →
@@ -87,7 +87,7 @@ spent_at_site site p (Some x) = more_at_site site (Put (row.Spent p (key x))) []
 counted_at_site : (site : Site) (n : ℕ) (cs : List Change) → AreAtSite site cs → AreAtSite site (Put (row.Count Serial n) ∷ cs)
 counted_at_site site n cs h = more_at_site site (Put (row.Count Serial n)) cs tt h
 
-replied_at_site : (site : Site) (p : List ℕ) (n : ℕ) (r : CommandResponse) (cs : List Change) → AreAtSite site cs → AreAtSite site (Put (row.Reply p n r) ∷ cs)
+replied_at_site : (site : Site) (p : List ℕ) (n : ℕ) (r : Reply) (cs : List Change) → AreAtSite site cs → AreAtSite site (Put (row.Reply p n r) ∷ cs)
 replied_at_site site p n r cs h = more_at_site site (Put (row.Reply p n r)) cs tt h
 
 -- the place that a start takes is one of the site
@@ -105,13 +105,14 @@ accepted_at_site site spent starts sender c d place (lines.Taken l a f j i b fre
 started_at_site : (s : State) (at : ℕ) (to p : List ℕ) (n : ℕ) (c : StartSession) (d : Decision) → ((place : Place) → d ≡ Accepted place → IsEvse s.site.locations (key place.evse_uid)) →
     AreAtSite s.site (started at to p n c d s).changes
 started_at_site s at to p n c (Refused status) h =
-    counted_at_site s.site (s.serial + 1) (Put (row.Reply p n (responded at (Refused status))) ∷ []) (replied_at_site s.site p n (responded at (Refused status)) [] (none_at_site s.site))
+    counted_at_site s.site (s.serial + 1) (Put (row.Reply p n (replies.CommandResponse (responded at (Refused status)))) ∷ []) (replied_at_site s.site p n (replies.CommandResponse (responded at (Refused status))) [] (none_at_site s.site))
 started_at_site s at to p n c Rejected h =
-    counted_at_site s.site (s.serial + 1) (Put (row.Reply p n (responded at Rejected)) ∷ []) (replied_at_site s.site p n (responded at Rejected) [] (none_at_site s.site))
+    counted_at_site s.site (s.serial + 1) (Put (row.Reply p n (replies.CommandResponse (responded at Rejected))) ∷ []) (replied_at_site s.site p n (replies.CommandResponse (responded at Rejected)) [] (none_at_site s.site))
 started_at_site s at to p n c (Accepted place) h =
-    let opened : List Change = Put (row.Pending p n c place (deadline at)) ∷ spent_rows p c.authorization_reference in
-    counted_at_site s.site (s.serial + 1) (Put (row.Reply p n (responded at (Accepted place))) ∷ opened) (replied_at_site s.site p n (responded at (Accepted place)) opened
-    (more_at_site s.site (Put (row.Pending p n c place (deadline at))) (spent_rows p c.authorization_reference) (h place refl) (spent_at_site s.site p c.authorization_reference)))
+    let start : OpenStart = record { command = c; place = place; deadline = deadline at } in
+    let opened : List Change = Put (row.Pending p n (open_of start)) ∷ spent_rows p c.authorization_reference in
+    counted_at_site s.site (s.serial + 1) (Put (row.Reply p n (replies.CommandResponse (responded at (Accepted place)))) ∷ opened) (replied_at_site s.site p n (replies.CommandResponse (responded at (Accepted place))) opened
+    (more_at_site s.site (Put (row.Pending p n (open_of start))) (spent_rows p c.authorization_reference) (h place refl) (spent_at_site s.site p c.authorization_reference)))
 
 line_at_site : (s : State) (at : ℕ) (q : Packet) (to : List ℕ) (out : Out) → RequestLine s at q to out → AreAtSite s.site out.changes
 line_at_site s at q to out (Again reply has x) = rw x (counted_at_site s.site (s.serial + 1) [] (none_at_site s.site))
@@ -123,8 +124,8 @@ pub step_at_site : (s : State) (at : ℕ) (q : Packet) (out : Out) → OperatorS
 step_at_site s at q out step = line_at_site s at q step.provider out step.line
 
 -- a start that is opened with its reference spent, carried out row by row
-pub spent_planned : (s : State) (p : List ℕ) (n : ℕ) (r : CommandResponse) (o : OpenStart) (k : ℕ) (reference : Option (List ℕ)) →
-    changed_all (Put (row.Count Serial k) ∷ (Put (row.Reply p n r) ∷ (Put (row.Pending p n o.command o.place o.deadline) ∷ [])) ++ spent_rows p reference) (rows_of s)
-    ≡ record (changed_all (Put (row.Count Serial k) ∷ (Put (row.Reply p n r) ∷ (Put (row.Pending p n o.command o.place o.deadline) ∷ []))) (rows_of s)) { spent = spent_after p reference s.spent }
+pub spent_planned : (s : State) (p : List ℕ) (n : ℕ) (r : Reply) (o : OpenStart) (k : ℕ) (reference : Option (List ℕ)) →
+    changed_all (Put (row.Count Serial k) ∷ (Put (row.Reply p n r) ∷ (Put (row.Pending p n (open_of o)) ∷ [])) ++ spent_rows p reference) (rows_of s)
+    ≡ record (changed_all (Put (row.Count Serial k) ∷ (Put (row.Reply p n r) ∷ (Put (row.Pending p n (open_of o)) ∷ []))) (rows_of s)) { spent = spent_after p reference s.spent }
 spent_planned s p n r o k None = refl
 spent_planned s p n r o k (Some x) = refl

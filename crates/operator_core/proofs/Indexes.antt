@@ -5,11 +5,12 @@ use Rattle.std.specs.declared.cmp.Ordering.{Ordering}
 use Rattle.std.specs.Ordering.{eq_by_cmp}
 use Rattle.std.specs.Cmp.{IsTotalOrder}
 use Rattle.std.specs.FinMap.{FinMap, get, insert, empty, get-empty, get-insert}
+use Rattle.std.proofs.lemmas.Option.{same_Some}
 use Rattle.ocpi_text.specs.Text.{key}
 use Rattle.tables.specs.Keys.{text_cmp, text_total, text_exact, text_number_cmp, text_number_total, text_number_exact}
 use Rattle.tables.proofs.Maps.{of_insert, get-insert_same, get-insert_other}
-use Rattle.operator_core.specs.declared.open_start.OpenStart.{OpenStart}
-use Rattle.operator_core.specs.State.{OpenStarts, Claim, ByStart, Claims, IsFree}
+use Rattle.ocpi_types.specs.declared.stored.OpenCommand.{OpenCommand}
+use Rattle.operator_core.specs.State.{OpenStarts, OpenStart, Claim, ByStart, Claims, IsFree, Takes, open_of}
 use Rattle.site.specs.Places.{Claimed}
 use Rattle.operator_core.specs.Claimed.{IsIndexed}
 
@@ -39,25 +40,31 @@ unclaimed evse (ByStart p n) (o, has, at) = none_some o _ (get-empty text_number
 pub indexed_empty : IsIndexed empty empty
 indexed_empty = record { sound = λ e h. absurd (none_some tt _ (get-empty text_cmp e) h); complete = λ e c h. absurd (unclaimed e c h) }
 
+-- a start takes its place's EVSE
+takes_place : (o : OpenStart) (x : OpenCommand) (evse : List ℕ) → open_of o ≡ x → Takes x evse → key o.place.evse_uid ≡ evse
+takes_place o x evse same (uid, is, at) =
+    let taken : Some o.place.evse_uid ≡ Some uid = ap (λ (z : OpenCommand). z.evse_uid) same ∙ is in
+    ap key (same_Some o.place.evse_uid uid taken) ∙ at
+
 -- the claims after a start is opened
-pub claims_opened : (starts : OpenStarts) (p : List ℕ) (n : ℕ) (o : OpenStart) (evse : List ℕ) (c : Claim) → Claims (insert starts (p, n) o) evse c →
+pub claims_opened : (starts : OpenStarts) (p : List ℕ) (n : ℕ) (o : OpenStart) (evse : List ℕ) (c : Claim) → Claims (insert starts (p, n) (open_of o)) evse c →
     ((c ≡ ByStart p n) × (key o.place.evse_uid ≡ evse)) ⊎ Claims starts evse c
 claims_opened starts p n o evse (ByStart q m) (x, has, at) =
-    elim (of_insert text_number_total text_number_exact starts (p, n) o (q, m) x has) [
-      | inl i ↦ inl (ap (λ (k : List ℕ × ℕ). ByStart k.0 k.1) i.0, ap (λ (y : OpenStart). key y.place.evse_uid) i.1 ∙ at)
+    elim (of_insert text_number_total text_number_exact starts (p, n) (open_of o) (q, m) x has) [
+      | inl i ↦ inl (ap (λ (k : List ℕ × ℕ). ByStart k.0 k.1) i.0, takes_place o x evse i.1 at)
       | inr i ↦ inr (x, i, at)
     ]
 
 -- a claim still stands once a new start is opened
-pub claims_kept : (starts : OpenStarts) (p : List ℕ) (n : ℕ) (o : OpenStart) → get starts (p, n) ≡ None → (evse : List ℕ) (c : Claim) → Claims starts evse c → Claims (insert starts (p, n) o) evse c
+pub claims_kept : (starts : OpenStarts) (p : List ℕ) (n : ℕ) (o : OpenStart) → get starts (p, n) ≡ None → (evse : List ℕ) (c : Claim) → Claims starts evse c → Claims (insert starts (p, n) (open_of o)) evse c
 claims_kept starts p n o none evse (ByStart q m) (x, has, at) =
-    (x, get-insert_other text_number_total text_number_exact starts (p, n) o (q, m) (λ same. none_some x _ none (ap (get starts) (sym same) ∙ has)) ∙ has, at)
+    (x, get-insert_other text_number_total text_number_exact starts (p, n) (open_of o) (q, m) (λ same. none_some x _ none (ap (get starts) (sym same) ∙ has)) ∙ has, at)
 
 module _ (claimed : Claimed) (starts : OpenStarts) (h : IsIndexed claimed starts) where
-  pub indexed_start : (p : List ℕ) (n : ℕ) (o : OpenStart) → get starts (p, n) ≡ None → IsIndexed (insert claimed (key o.place.evse_uid) tt) (insert starts (p, n) o)
+  pub indexed_start : (p : List ℕ) (n : ℕ) (o : OpenStart) → get starts (p, n) ≡ None → IsIndexed (insert claimed (key o.place.evse_uid) tt) (insert starts (p, n) (open_of o))
   indexed_start p n o none = record {
     sound = λ e has. elim (of_insert text_total text_exact claimed (key o.place.evse_uid) tt e tt has) [
-      | inl i ↦ (ByStart p n, (o, get-insert_same text_number_total text_number_exact starts (p, n) o, sym i.0))
+      | inl i ↦ (ByStart p n, (open_of o, get-insert_same text_number_total text_number_exact starts (p, n) (open_of o), (o.place.evse_uid, refl, sym i.0)))
       | inr i ↦ let c = h.sound e i in (c.0, claims_kept starts p n o none e c.0 c.1)
     ];
     complete = λ e c x. elim (claims_opened starts p n o e c x) [

@@ -12,25 +12,27 @@ use Rattle.tables.specs.Keys.{text_number_total, text_number_exact, text_pair_to
 use Rattle.tables.proofs.Maps.{equal_of_is_eq, get-insert_same, get-insert_other}
 use Rattle.ocpi_types.specs.declared.packet.Packet.{Packet}
 use Rattle.ocpi_types.specs.declared.commands.StartSession.{StartSession}
-use Rattle.ocpi_types.specs.declared.replies.CommandResponse.{CommandResponse}
+use Rattle.ocpi_types.specs.Rows.{key_of}
+use Rattle.ocpi_types.specs.declared.stored.Reply.{Reply}
+use Rattle.ocpi_types.specs.declared.stored.Reply.TheVariants as replies
 use Rattle.ocpi_types.specs.declared.rows.Row.{Row}
 use Rattle.ocpi_types.specs.declared.rows.Row.TheVariants as row
 use Rattle.ocpi_types.specs.declared.rows.RowKey.TheVariants as keys
 use Rattle.ocpi_types.specs.declared.rows.Change.{Change}
 use Rattle.ocpi_types.specs.declared.rows.Change.TheVariants.{Put}
 use Rattle.ocpi_types.specs.declared.rows.Counter.TheVariants.{Serial, Request, Session, Cdr, Reference}
-use Rattle.operator_core.specs.declared.open_start.OpenStart.{OpenStart}
+use Rattle.ocpi_types.specs.declared.stored.OpenCommand.{OpenCommand}
 use Rattle.operator_core.specs.declared.decision.Decision.{Decision}
 use Rattle.operator_core.specs.declared.decision.Decision.TheVariants.{Refused, Rejected, Accepted}
-use Rattle.operator_core.specs.State.{State}
+use Rattle.operator_core.specs.State.{State, OpenStart, open_of}
 use Rattle.operator_core.specs.Moves.{Out, keep_reply, open_start, spend}
 use Rattle.operator_core.specs.Steps.{OperatorStep, RequestLine, Again, Started, answer, started, responded, deadline}
-use Rattle.operator_core.specs.Rows.{HasRow, row_key, change_key, AreChanges}
+use Rattle.operator_core.specs.Rows.{HasRow, change_key, AreChanges}
 use Rattle.operator_core.proofs.StepFacts.{in_none, in_single}
 
 -- one row is put: it stands, and all that stood under other keys
 abbrev pub Puts : State → Row → State → Type 0
-Puts s x t = (r : Row) → HasRow t r ↔ ((r ≡ x) ⊎ (HasRow s r × (row_key r ≢ row_key x)))
+Puts s x t = (r : Row) → HasRow t r ↔ ((r ≡ x) ⊎ (HasRow s r × (key_of r ≢ key_of x)))
 
 in_keys : (changes : List Change) (c : Change) → Contains changes c → Contains (map change_key changes) (change_key c)
 in_keys changes c h = (h.0, omega (arith, length-map changes change_key, h.1), get_or-map change_key changes h.0 c (change_key c) h.1 ∙ ap change_key h.2)
@@ -39,20 +41,20 @@ no_changes : (s : State) → AreChanges s [] s
 no_changes s r = (λ h. inr (h, λ i. in_none _ i), λ h. elim h [ inl i ↦ absurd (in_none _ i) | inr i ↦ i.0 ])
 
 -- a further row, under a new key
-and_put : (s t u : State) (changes : List Change) (x : Row) → AreChanges s changes t → Puts t x u → ¬ Contains (map change_key changes) (row_key x) → AreChanges s (changes ++ Put x ∷ []) u
+and_put : (s t u : State) (changes : List Change) (x : Row) → AreChanges s changes t → Puts t x u → ¬ Contains (map change_key changes) (key_of x) → AreChanges s (changes ++ Put x ∷ []) u
 and_put s t u changes x before puts new r = (there, back)
   where
-    all : map change_key (changes ++ Put x ∷ []) ≡ map change_key changes ++ row_key x ∷ []
+    all : map change_key (changes ++ Put x ∷ []) ≡ map change_key changes ++ key_of x ∷ []
     all = map-append change_key changes (Put x ∷ [])
 
-    there : HasRow u r → Contains (changes ++ Put x ∷ []) (Put r) ⊎ (HasRow s r × ¬ Contains (map change_key (changes ++ Put x ∷ [])) (row_key r))
+    there : HasRow u r → Contains (changes ++ Put x ∷ []) (Put r) ⊎ (HasRow s r × ¬ Contains (map change_key (changes ++ Put x ∷ [])) (key_of r))
     there h = elim ((puts r).0 h) [
       | inl same ↦ inl (subst (λ z. Contains (changes ++ Put x ∷ []) (Put z)) (sym same) (Contains-push changes (Put x)))
       | inr (stood, apart) ↦ elim ((before r).0 stood) [
         | inl i ↦ inl (Contains-append_left changes (Put x ∷ []) (Put r) i)
         | inr (first, untouched) ↦ inr (
           first,
-          λ i. elim (Contains-push_cases (map change_key changes) (row_key x) (row_key r) (subst (λ l. Contains l (row_key r)) all i)) [
+          λ i. elim (Contains-push_cases (map change_key changes) (key_of x) (key_of r) (subst (λ l. Contains l (key_of r)) all i)) [
             | inl j ↦ untouched j
             | inr j ↦ apart (sym j)
           ],
@@ -60,16 +62,16 @@ and_put s t u changes x before puts new r = (there, back)
       ]
     ]
 
-    back : Contains (changes ++ Put x ∷ []) (Put r) ⊎ (HasRow s r × ¬ Contains (map change_key (changes ++ Put x ∷ [])) (row_key r)) → HasRow u r
+    back : Contains (changes ++ Put x ∷ []) (Put r) ⊎ (HasRow s r × ¬ Contains (map change_key (changes ++ Put x ∷ [])) (key_of r)) → HasRow u r
     back (inl i) = elim (Contains-push_cases changes (Put x) (Put r) i) [
       | inl j ↦ (puts r).1 (inr ((before r).1 (inl j), λ same. new (subst (λ k. Contains (map change_key changes) k) same (in_keys changes (Put r) j))))
       | inr j ↦ (puts r).1 (inl (let same : x ≡ r = cc in sym same))
     ]
-    back (inr (first, untouched)) = (puts r).1 (inr ((before r).1 (inr (first, λ i. untouched (subst (λ l. Contains l (row_key r)) (sym all) (Contains-append_left (map change_key changes) (row_key x ∷ []) (row_key r) i)))), λ same. untouched (subst (λ l. Contains l (row_key r)) (sym all) (subst (λ k. Contains (map change_key changes ++ row_key x ∷ []) k) (sym same) (Contains-push (map change_key changes) (row_key x))))))
+    back (inr (first, untouched)) = (puts r).1 (inr ((before r).1 (inr (first, λ i. untouched (subst (λ l. Contains l (key_of r)) (sym all) (Contains-append_left (map change_key changes) (key_of x ∷ []) (key_of r) i)))), λ same. untouched (subst (λ l. Contains l (key_of r)) (sym all) (subst (λ k. Contains (map change_key changes ++ key_of x ∷ []) k) (sym same) (Contains-push (map change_key changes) (key_of x))))))
 
 -- a row of another key stands as it stood
-other : (A B : Type 0) (x r : Row) → (A → B) → (B → A) → (row_key r ≢ row_key x) → A ↔ ((r ≡ x) ⊎ (B × (row_key r ≢ row_key x)))
-other A B x r f g apart = (λ h. inr (f h, apart), λ y. elim y [ inl e ↦ absurd (apart (ap row_key e)) | inr h ↦ g h.0 ])
+other : (A B : Type 0) (x r : Row) → (A → B) → (B → A) → (key_of r ≢ key_of x) → A ↔ ((r ≡ x) ⊎ (B × (key_of r ≢ key_of x)))
+other A B x r f g apart = (λ h. inr (f h, apart), λ y. elim y [ inl e ↦ absurd (apart (ap key_of e)) | inr h ↦ g h.0 ])
 
 told : {K : Type 0} {R : K → K → Ordering} (o : IsTotalOrder R) (exact : IsAntisymmetric R) (q k : K) → (q ≡ k) ⊎ (q ≢ k)
 told {R = R} o exact q k = elim (eq_by_cmp R q k) as (λ b. eq_by_cmp R q k ≡ b → (q ≡ k) ⊎ (q ≢ k)) [
@@ -93,15 +95,9 @@ puts_serial s (row.Count Serial n) = (
     | inr h ↦ absurd (h.1 refl)
   ],
 )
-puts_serial s (row.Count Request n) = other _ _ _ _ (λ h. h) (λ h. h) (λ e. cc)
-puts_serial s (row.Count Session n) = other _ _ _ _ (λ h. h) (λ h. h) (λ e. cc)
-puts_serial s (row.Count Cdr n) = other _ _ _ _ (λ h. h) (λ h. h) (λ e. cc)
-puts_serial s (row.Count Reference n) = other _ _ _ _ (λ h. h) (λ h. h) (λ e. cc)
-puts_serial s (row.Reply q m c) = other _ _ _ _ (λ h. h) (λ h. h) (λ e. cc)
-puts_serial s (row.Spent q r) = other _ _ _ _ (λ h. h) (λ h. h) (λ e. cc)
-puts_serial s (row.Pending q m c place d) = other _ _ _ _ (λ h. h) (λ h. h) (λ e. cc)
+puts_serial s r = other _ _ _ _ (λ h. h) (λ h. h) (λ e. cc)
 
-puts_reply : (s : State) (p : List ℕ) (n : ℕ) (b : CommandResponse) → Puts s (row.Reply p n b) (record s { replies = insert s.replies (p, n) b })
+puts_reply : (s : State) (p : List ℕ) (n : ℕ) (b : Reply) → Puts s (row.Reply p n b) (record s { replies = insert s.replies (p, n) b })
 puts_reply s p n b (row.Reply q m c) = (
   λ h. elim (inserted text_number_total text_number_exact s.replies (p, n) b (q, m) c h) [
     | inl i ↦ let a : q ≡ p = ap (λ (k : List ℕ × ℕ). k.0) i.0 in let d : m ≡ n = ap (λ (k : List ℕ × ℕ). k.1) i.0 in let e = i.1 in inl (cc)
@@ -113,34 +109,21 @@ puts_reply s p n b (row.Reply q m c) = (
     | inr h ↦ get-insert_other text_number_total text_number_exact s.replies (p, n) b (q, m) (λ same. h.1 (let a : q ≡ p = ap (λ (k : List ℕ × ℕ). k.0) same in let d : m ≡ n = ap (λ (k : List ℕ × ℕ). k.1) same in cc)) ∙ h.0
   ],
 )
-puts_reply s p n b (row.Count Serial m) = other _ _ _ _ (λ h. h) (λ h. h) (λ e. cc)
-puts_reply s p n b (row.Count Request m) = other _ _ _ _ (λ h. h) (λ h. h) (λ e. cc)
-puts_reply s p n b (row.Count Session m) = other _ _ _ _ (λ h. h) (λ h. h) (λ e. cc)
-puts_reply s p n b (row.Count Cdr m) = other _ _ _ _ (λ h. h) (λ h. h) (λ e. cc)
-puts_reply s p n b (row.Count Reference m) = other _ _ _ _ (λ h. h) (λ h. h) (λ e. cc)
-puts_reply s p n b (row.Spent q r) = other _ _ _ _ (λ h. h) (λ h. h) (λ e. cc)
-puts_reply s p n b (row.Pending q m c place d) = other _ _ _ _ (λ h. h) (λ h. h) (λ e. cc)
+puts_reply s p n b r = other _ _ _ _ (λ h. h) (λ h. h) (λ e. cc)
 
-puts_start : (s : State) (p : List ℕ) (n : ℕ) (o : OpenStart) → Puts s (row.Pending p n o.command o.place o.deadline) (record s { open_starts = insert s.open_starts (p, n) o })
-puts_start s p n o (row.Pending q m c place d) = (
-  λ h. elim (inserted text_number_total text_number_exact s.open_starts (p, n) o (q, m) _ h) [
-    | inl i ↦ inl (λ j. row.Pending (i.0 j).0 (i.0 j).1 (sym i.1 j).command (sym i.1 j).place (sym i.1 j).deadline)
-    | inr i ↦ inr (i.1, λ e. i.0 (let a : q ≡ p = cc in let b : m ≡ n = cc in λ j. (a j, b j)))
+puts_start : (s : State) (p : List ℕ) (n : ℕ) (o : OpenCommand) → Puts s (row.Pending p n o) (record s { open_starts = insert s.open_starts (p, n) o })
+puts_start s p n o (row.Pending q m c) = (
+  λ h. elim (inserted text_number_total text_number_exact s.open_starts (p, n) o (q, m) c h) [
+    | inl i ↦ let a : q ≡ p = ap (λ (k : List ℕ × ℕ). k.0) i.0 in let d : m ≡ n = ap (λ (k : List ℕ × ℕ). k.1) i.0 in let e = i.1 in inl (cc)
+    | inr i ↦ inr (i.1, λ e. i.0 (let a : q ≡ p = cc in let d : m ≡ n = cc in λ j. (a j, d j)))
   ],
   λ y. elim y [
-    | inl e ↦
-        let a : q ≡ p = cc in let b : m ≡ n = cc in let f : o.command ≡ c = cc in let g : o.place ≡ place = cc in let h : o.deadline ≡ d = cc in
-        ap (get (insert s.open_starts (p, n) o)) (λ j. (a j, b j)) ∙ get-insert_same text_number_total text_number_exact s.open_starts (p, n) o ∙ ap Some (λ j. record { command = f j; place = g j; deadline = h j })
-    | inr h ↦ get-insert_other text_number_total text_number_exact s.open_starts (p, n) o (q, m) (λ same. h.1 (let a : q ≡ p = ap (λ (k : List ℕ × ℕ). k.0) same in let b : m ≡ n = ap (λ (k : List ℕ × ℕ). k.1) same in cc)) ∙ h.0
+    | inl e ↦ let a : q ≡ p = cc in let d : m ≡ n = cc in let f : o ≡ c = cc in
+        ap (get (insert s.open_starts (p, n) o)) (λ j. (a j, d j)) ∙ get-insert_same text_number_total text_number_exact s.open_starts (p, n) o ∙ ap Some f
+    | inr h ↦ get-insert_other text_number_total text_number_exact s.open_starts (p, n) o (q, m) (λ same. h.1 (let a : q ≡ p = ap (λ (k : List ℕ × ℕ). k.0) same in let d : m ≡ n = ap (λ (k : List ℕ × ℕ). k.1) same in cc)) ∙ h.0
   ],
 )
-puts_start s p n o (row.Count Serial m) = other _ _ _ _ (λ h. h) (λ h. h) (λ e. cc)
-puts_start s p n o (row.Count Request m) = other _ _ _ _ (λ h. h) (λ h. h) (λ e. cc)
-puts_start s p n o (row.Count Session m) = other _ _ _ _ (λ h. h) (λ h. h) (λ e. cc)
-puts_start s p n o (row.Count Cdr m) = other _ _ _ _ (λ h. h) (λ h. h) (λ e. cc)
-puts_start s p n o (row.Count Reference m) = other _ _ _ _ (λ h. h) (λ h. h) (λ e. cc)
-puts_start s p n o (row.Spent q r) = other _ _ _ _ (λ h. h) (λ h. h) (λ e. cc)
-puts_start s p n o (row.Reply q m c) = other _ _ _ _ (λ h. h) (λ h. h) (λ e. cc)
+puts_start s p n o r = other _ _ _ _ (λ h. h) (λ h. h) (λ e. cc)
 
 puts_spent : (s : State) (p r : List ℕ) → Puts s (row.Spent p r) (record s { spent = insert s.spent (p, r) tt })
 puts_spent s p r (row.Spent q x) = (
@@ -154,15 +137,9 @@ puts_spent s p r (row.Spent q x) = (
     | inr h ↦ get-insert_other text_pair_total text_pair_exact s.spent (p, r) tt (q, x) (λ same. h.1 (let a : q ≡ p = ap (λ (k : List ℕ × List ℕ). k.0) same in let b : x ≡ r = ap (λ (k : List ℕ × List ℕ). k.1) same in cc)) ∙ h.0
   ],
 )
-puts_spent s p r (row.Count Serial m) = other _ _ _ _ (λ h. h) (λ h. h) (λ e. cc)
-puts_spent s p r (row.Count Request m) = other _ _ _ _ (λ h. h) (λ h. h) (λ e. cc)
-puts_spent s p r (row.Count Session m) = other _ _ _ _ (λ h. h) (λ h. h) (λ e. cc)
-puts_spent s p r (row.Count Cdr m) = other _ _ _ _ (λ h. h) (λ h. h) (λ e. cc)
-puts_spent s p r (row.Count Reference m) = other _ _ _ _ (λ h. h) (λ h. h) (λ e. cc)
-puts_spent s p r (row.Reply q m c) = other _ _ _ _ (λ h. h) (λ h. h) (λ e. cc)
-puts_spent s p r (row.Pending q m c place d) = other _ _ _ _ (λ h. h) (λ h. h) (λ e. cc)
+puts_spent s p r x = other _ _ _ _ (λ h. h) (λ h. h) (λ e. cc)
 
-module _ (s : State) (to p : List ℕ) (n : ℕ) (r : CommandResponse) where
+module _ (s : State) (to p : List ℕ) (n : ℕ) (r : Reply) where
   abbrev counted : State
   counted = (answer to n r s).state
 
@@ -183,7 +160,7 @@ module _ (s : State) (to p : List ℕ) (n : ℕ) (r : CommandResponse) where
     no_start h = elim (Contains-push_cases (keys.Count Serial ∷ []) (keys.Reply p n) (keys.Pending p n) h) [ inl i ↦ let e = in_single _ _ i in cc | inr i ↦ (cc) ]
 
     start_changes : AreChanges s opened.changes opened.state
-    start_changes = and_put s kept.state opened.state kept.changes (row.Pending p n start.command start.place start.deadline) reply_changes (puts_start kept.state p n start) no_start
+    start_changes = and_put s kept.state opened.state kept.changes (row.Pending p n (open_of start)) reply_changes (puts_start kept.state p n (open_of start)) no_start
 
     no_spent : (x : List ℕ) → ¬ Contains (keys.Count Serial ∷ (keys.Reply p n ∷ (keys.Pending p n ∷ []))) (keys.Spent p x)
     no_spent x h = elim (Contains-push_cases (keys.Count Serial ∷ (keys.Reply p n ∷ [])) (keys.Pending p n) (keys.Spent p x) h) [
@@ -196,9 +173,9 @@ module _ (s : State) (to p : List ℕ) (n : ℕ) (r : CommandResponse) where
     spend_changes (Some x) = and_put s opened.state (spend p (Some x) opened).state opened.changes (row.Spent p (key x)) start_changes (puts_spent opened.state p (key x)) (no_spent (key x))
 
 started_changes : (s : State) (at : ℕ) (to p : List ℕ) (n : ℕ) (c : StartSession) (d : Decision) → AreChanges s (started at to p n c d s).changes (started at to p n c d s).state
-started_changes s at to p n c (Refused status) = reply_changes s to p n (responded at (Refused status))
-started_changes s at to p n c Rejected = reply_changes s to p n (responded at Rejected)
-started_changes s at to p n c (Accepted place) = spend_changes s to p n (responded at (Accepted place)) (record { command = c; place = place; deadline = deadline at }) c.authorization_reference
+started_changes s at to p n c (Refused status) = reply_changes s to p n (replies.CommandResponse (responded at (Refused status)))
+started_changes s at to p n c Rejected = reply_changes s to p n (replies.CommandResponse (responded at Rejected))
+started_changes s at to p n c (Accepted place) = spend_changes s to p n (replies.CommandResponse (responded at (Accepted place))) (record { command = c; place = place; deadline = deadline at }) c.authorization_reference
 
 line_changes : (s : State) (at : ℕ) (q : Packet) (to : List ℕ) (out : Out) → RequestLine s at q to out → AreChanges s out.changes out.state
 line_changes s at q to out (Again reply has x) = rw x (answer_changes s to (key q.from) q.request reply)

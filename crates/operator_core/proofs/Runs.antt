@@ -5,12 +5,12 @@ use Rattle.std.specs.FinMap.{get}
 use Rattle.std.proofs.lemmas.List.Elements.{Contains-append_cases}
 use Rattle.ocpi_text.specs.Text.{key}
 use Rattle.ocpi_types.specs.declared.packet.Packet.{Packet}
-use Rattle.ocpi_types.specs.declared.packet.Body.TheVariants as body
-use Rattle.ocpi_types.specs.declared.replies.CommandResponse.{CommandResponse}
+use Rattle.ocpi_types.specs.declared.stored.Reply.{Reply}
+use Rattle.ocpi_types.specs.Stored.{body_of_reply}
 use Rattle.ocpi_types.specs.declared.rows.Change.{Change}
 use Rattle.ocpi_types.specs.declared.rows.Change.TheVariants.{Put}
 use Rattle.ocpi_types.specs.declared.rows.Row.TheVariants as row
-use Rattle.operator_core.specs.State.{State, OneClaimEach}
+use Rattle.operator_core.specs.State.{State, OneClaimEach, open_of}
 use Rattle.operator_core.specs.Moves.{Out}
 use Rattle.operator_core.specs.Laws.{Event, Happens, Stepped, Refused, Run, sent, Opens, OneClaim, OneStart, OneAnswer, RepliesStay, Numbered}
 use Rattle.operator_core.proofs.Consistency.{consistent_empty}
@@ -32,11 +32,11 @@ pub one_claim : OneClaim
 one_claim line es t run = one_runs es _ t run consistent_empty.one_claim
 
 -- replies are kept for good
-stay_happens : (s t : State) (e : Event) → Happens s e t → (k : List ℕ × ℕ) (r : CommandResponse) → get s.replies k ≡ Some r → get t.replies k ≡ Some r
+stay_happens : (s t : State) (e : Event) → Happens s e t → (k : List ℕ × ℕ) (r : Reply) → get s.replies k ≡ Some r → get t.replies k ≡ Some r
 stay_happens s t e (Stepped step) k r h = (step_facts s e.at e.packet (out_of e t) step).stay k r h
 stay_happens s t e (Refused f due same c p) k r h = ap (λ (z : State). get z.replies k) same ∙ h
 
-stay_runs : (es : List Event) (s t : State) → Run s es t → (k : List ℕ × ℕ) (r : CommandResponse) → get s.replies k ≡ Some r → get t.replies k ≡ Some r
+stay_runs : (es : List Event) (s t : State) → Run s es t → (k : List ℕ × ℕ) (r : Reply) → get s.replies k ≡ Some r → get t.replies k ≡ Some r
 stay_runs [] s t run k r h = ap (λ (z : State). get z.replies k) run ∙ h
 stay_runs (e ∷ es) s t (u, first, rest) k r h = stay_runs es u t rest k r (stay_happens s u e first k r h)
 
@@ -45,8 +45,8 @@ replies_stay s t es run k r h = stay_runs es s t run k r h
 
 -- each packet that was sent is a kept reply
 record IsKept (t : State) (x : Packet) : Type 0 where
-  reply : CommandResponse
-  is_reply : x.body ≡ body.CommandResponse reply
+  reply : Reply
+  is_reply : x.body ≡ body_of_reply reply
   kept : get t.replies (key x.to, x.request) ≡ Some reply
 
 kept_happens : (s t : State) (e : Event) → Happens s e t → (x : Packet) → Contains e.packets x → IsKept t x
@@ -71,7 +71,7 @@ one_answer line es t run x y hx hy to request =
     let bk = b.kept in
     let same : Some a.reply ≡ Some b.reply = sym ak ∙ ap (λ (k : List ℕ × ℕ). get t.replies k) (λ i. (to i, request i)) ∙ bk in
     let replies : a.reply ≡ b.reply = cc in
-    a.is_reply ∙ ap body.CommandResponse replies ∙ sym b.is_reply
+    a.is_reply ∙ ap body_of_reply replies ∙ sym b.is_reply
 
 -- a spent reference opens no start
 spent_happens : (s t : State) (e : Event) → Happens s e t → (k : List ℕ × List ℕ) → get s.spent k ≡ Some tt → get t.spent k ≡ Some tt
@@ -83,7 +83,7 @@ opens_happens s t e (Stepped step) p reference (n, c, place, deadline, stores, (
     subst (λ z. (get s.spent (p, z) ≡ Some tt → ⊥) × (get t.spent (p, z) ≡ Some tt)) is
     ((step_facts s e.at e.packet (out_of e t) step).opens p n c place deadline spelled stores named)
 opens_happens s t e (Refused f due same none packets) p reference (n, c, place, deadline, stores, (spelled, named, is)) =
-    absurd (in_none (Put (row.Pending p n c place deadline)) (subst (λ (l : List Change). Contains l (Put (row.Pending p n c place deadline))) none stores))
+    absurd (in_none (Put (row.Pending p n (open_of (record { command = c; place = place; deadline = deadline })))) (subst (λ (l : List Change). Contains l (Put (row.Pending p n (open_of (record { command = c; place = place; deadline = deadline }))))) none stores))
 
 no_more : (es : List Event) (s t : State) → Run s es t → (p reference : List ℕ) → get s.spent (p, reference) ≡ Some tt → (i : ℕ) (e : Event) → slice_get es i ≡ Some e → Opens e p reference → ⊥
 no_more [] s t run p reference spent i e at opens = cc

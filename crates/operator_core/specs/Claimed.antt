@@ -1,5 +1,5 @@
 -- The claims that are kept beside the open starts.
-use Rattle.std.specs.Prelude.{◌≡◌, ℕ, List, [], ◌∷◌, Some, slice_get, ⊤}
+use Rattle.std.specs.Prelude.{◌≡◌, ℕ, List, [], ◌∷◌, Option, Some, None, slice_get, ⊤}
 use Rattle.std.specs.FinMap.{get, insert}
 use Rattle.ocpi_text.specs.Text.{key}
 use Rattle.ocpi_types.specs.declared.rows.Row.TheVariants as row
@@ -14,25 +14,29 @@ pub record IsIndexed (claimed : Claimed) (starts : OpenStarts) : Type 0 where
   pub sound : (evse : List ℕ) → get claimed evse ≡ Some tt → (c : Claim) × Claims starts evse c
   pub complete : (evse : List ℕ) (c : Claim) → Claims starts evse c → get claimed evse ≡ Some tt
 
+-- the claims after an EVSE was taken, where one was
+abbrev pub claimed_of : Option (List ℕ) → Claimed → Claimed
+claimed_of None m = m
+claimed_of (Some evse) m = insert m (key evse) tt
+
 -- the claims after a change of a row: a start that is opened claims its EVSE
 abbrev pub claimed_after : Change → Claimed → Claimed
-claimed_after (Put (row.Count counter n)) m = m
-claimed_after (Put (row.Reply p n body)) m = m
-claimed_after (Put (row.Spent p reference)) m = m
-claimed_after (Put (row.Pending p n command place deadline)) m = insert m (key place.evse_uid) tt
-claimed_after (Drop k) m = m
+claimed_after (Put (row.Pending p n o)) m = claimed_of o.evse_uid m
+claimed_after c m = m
 
 abbrev pub claimed_all : List Change → Claimed → Claimed
 claimed_all [] m = m
 claimed_all (c ∷ cs) m = claimed_all cs (claimed_after c m)
 
+-- what was taken is an EVSE of the site
+abbrev pub IsTakenAt : Site → Option (List ℕ) → Type 0
+IsTakenAt site None = ⊤
+IsTakenAt site (Some evse) = IsEvse site.locations (key evse)
+
 -- a start that is opened is at an EVSE of the site
 abbrev pub IsAtSite : Site → Change → Type 0
-IsAtSite site (Put (row.Count counter n)) = ⊤
-IsAtSite site (Put (row.Reply p n body)) = ⊤
-IsAtSite site (Put (row.Spent p reference)) = ⊤
-IsAtSite site (Put (row.Pending p n command place deadline)) = IsEvse site.locations (key place.evse_uid)
-IsAtSite site (Drop k) = ⊤
+IsAtSite site (Put (row.Pending p n o)) = IsTakenAt site o.evse_uid
+IsAtSite site c = ⊤
 
 abbrev pub AreAtSite : Site → List Change → Type 0
 AreAtSite site cs = (k : ℕ) (c : Change) → slice_get cs k ≡ Some c → IsAtSite site c

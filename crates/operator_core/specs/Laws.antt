@@ -6,13 +6,13 @@ use Rattle.ocpi_text.specs.Text.{key}
 use Rattle.ocpi_types.specs.declared.site.SiteLine.{SiteLine}
 use Rattle.ocpi_types.specs.declared.packet.Packet.{Packet}
 use Rattle.ocpi_types.specs.declared.commands.StartSession.{StartSession}
-use Rattle.ocpi_types.specs.declared.replies.CommandResponse.{CommandResponse}
+use Rattle.ocpi_types.specs.declared.stored.Reply.{Reply}
 use Rattle.ocpi_types.specs.declared.rows.Place.{Place}
 use Rattle.ocpi_types.specs.declared.rows.Change.{Change}
 use Rattle.ocpi_types.specs.declared.rows.Change.TheVariants.{Put}
 use Rattle.ocpi_types.specs.declared.rows.Row.TheVariants as row
 use Rattle.operator_core.specs.declared.fault.OperatorFault.{OperatorFault}
-use Rattle.operator_core.specs.State.{State, opening, OneClaimEach}
+use Rattle.operator_core.specs.State.{State, opening, open_of, OneClaimEach}
 use Rattle.operator_core.specs.Start.{Names}
 use Rattle.operator_core.specs.Steps.{OperatorStep}
 use Rattle.operator_core.specs.Faults.{IsDue}
@@ -40,7 +40,7 @@ sent es = flat_map (λ e. e.packets) es
 
 -- the event opens a start of a provider, both in key form, with a reference in key form
 abbrev pub Opens : Event → List ℕ → List ℕ → Type 0
-Opens e p reference = (n : ℕ) × (c : StartSession) × (place : Place) × (deadline : ℕ) × Contains e.changes (Put (row.Pending p n c place deadline)) × Names c reference
+Opens e p reference = (n : ℕ) × (c : StartSession) × (place : Place) × (deadline : ℕ) × Contains e.changes (Put (row.Pending p n (open_of (record { command = c; place = place; deadline = deadline })))) × Names c reference
 
 -- each EVSE has at most one claim
 abbrev pub OneClaim : Type 0
@@ -58,7 +58,7 @@ OneAnswer = (line : SiteLine) (es : List Event) (t : State) → Run (opening lin
 
 -- a reply is kept for good
 abbrev pub RepliesStay : Type 0
-RepliesStay = (s t : State) (es : List Event) → Run s es t → (k : List ℕ × ℕ) (reply : CommandResponse) → get s.replies k ≡ Some reply → get t.replies k ≡ Some reply
+RepliesStay = (s t : State) (es : List Event) → Run s es t → (k : List ℕ × ℕ) (reply : Reply) → get s.replies k ≡ Some reply → get t.replies k ≡ Some reply
 
 -- the packets are numbered from 1, each by the next number
 abbrev pub Numbered : Type 0

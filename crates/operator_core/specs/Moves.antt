@@ -4,13 +4,12 @@ use Rattle.std.specs.FinMap.{insert}
 use Rattle.ocpi_text.specs.Text.{key}
 use Rattle.ocpi_types.specs.declared.packet.Packet.{Packet}
 use Rattle.ocpi_types.specs.declared.packet.Body.{Body}
-use Rattle.ocpi_types.specs.declared.replies.CommandResponse.{CommandResponse}
+use Rattle.ocpi_types.specs.declared.stored.Reply.{Reply}
 use Rattle.ocpi_types.specs.declared.rows.Change.{Change}
 use Rattle.ocpi_types.specs.declared.rows.Change.TheVariants.{Put}
 use Rattle.ocpi_types.specs.declared.rows.Row.TheVariants as row
 use Rattle.ocpi_types.specs.declared.rows.Counter.TheVariants.{Serial}
-use Rattle.operator_core.specs.declared.open_start.OpenStart.{OpenStart}
-use Rattle.operator_core.specs.State.{State, Spent}
+use Rattle.operator_core.specs.State.{State, Spent, OpenStart, open_of}
 
 -- what a step leaves, the changes of rows that it makes, and the packets that it sends, in order
 pub record Out : Type 0 where
@@ -33,16 +32,16 @@ say to request body o = record {
 abbrev pub numbered : Out → Out
 numbered o = record o { changes = Put (row.Count Serial o.state.serial) ∷ o.changes }
 
-abbrev pub keep_reply : List ℕ → ℕ → CommandResponse → Out → Out
-keep_reply p n body o = record o {
-  state = record o.state { replies = insert o.state.replies (p, n) body };
-  changes = o.changes ++ Put (row.Reply p n body) ∷ [];
+abbrev pub keep_reply : List ℕ → ℕ → Reply → Out → Out
+keep_reply p n reply o = record o {
+  state = record o.state { replies = insert o.state.replies (p, n) reply };
+  changes = o.changes ++ Put (row.Reply p n reply) ∷ [];
 }
 
 abbrev pub open_start : List ℕ → ℕ → OpenStart → Out → Out
 open_start p n start o = record o {
-  state = record o.state { open_starts = insert o.state.open_starts (p, n) start };
-  changes = o.changes ++ Put (row.Pending p n start.command start.place start.deadline) ∷ [];
+  state = record o.state { open_starts = insert o.state.open_starts (p, n) (open_of start) };
+  changes = o.changes ++ Put (row.Pending p n (open_of start)) ∷ [];
 }
 
 -- the reference, where there is one, may not be used again

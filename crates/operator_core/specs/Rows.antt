@@ -4,7 +4,7 @@ use Rattle.std.specs.FinMap.{get}
 use Rattle.ocpi_types.specs.declared.rows.Row.{Row}
 use Rattle.ocpi_types.specs.declared.rows.Row.TheVariants as row
 use Rattle.ocpi_types.specs.declared.rows.RowKey.{RowKey}
-use Rattle.ocpi_types.specs.declared.rows.RowKey.TheVariants as keys
+use Rattle.ocpi_types.specs.Rows.{key_of}
 use Rattle.ocpi_types.specs.declared.rows.Change.{Change}
 use Rattle.ocpi_types.specs.declared.rows.Change.TheVariants.{Put, Drop}
 use Rattle.ocpi_types.specs.declared.rows.Counter.{Counter}
@@ -19,24 +19,19 @@ HasCount s Session n = ⊥
 HasCount s Cdr n = ⊥
 HasCount s Reference n = ⊥
 
--- a row that stands: a counter that has given no number has none
+-- a row that stands: a counter that has given no number has none, nor do the kinds that an operator does not store
 abbrev pub HasRow : State → Row → Type 0
 HasRow s (row.Count counter n) = HasCount s counter n
-HasRow s (row.Reply p n body) = get s.replies (p, n) ≡ Some body
+HasRow s (row.Reply p n reply) = get s.replies (p, n) ≡ Some reply
 HasRow s (row.Spent p reference) = get s.spent (p, reference) ≡ Some tt
-HasRow s (row.Pending p n command place deadline) = get s.open_starts (p, n) ≡ Some (record { command = command; place = place; deadline = deadline })
-
-abbrev pub row_key : Row → RowKey
-row_key (row.Count counter n) = keys.Count counter
-row_key (row.Reply p n body) = keys.Reply p n
-row_key (row.Spent p reference) = keys.Spent p reference
-row_key (row.Pending p n command place deadline) = keys.Pending p n
+HasRow s (row.Pending p n o) = get s.open_starts (p, n) ≡ Some o
+HasRow s r = ⊥
 
 abbrev pub change_key : Change → RowKey
-change_key (Put r) = row_key r
+change_key (Put r) = key_of r
 change_key (Drop k) = k
 
 -- the changes lead from the rows of one state to those of the other: what stands is what was put, and what stood
 -- under a key that was neither put nor dropped
 abbrev pub AreChanges : State → List Change → State → Type 0
-AreChanges s changes t = (r : Row) → HasRow t r ↔ (Contains changes (Put r) ⊎ (HasRow s r × ¬ Contains (map change_key changes) (row_key r)))
+AreChanges s changes t = (r : Row) → HasRow t r ↔ (Contains changes (Put r) ⊎ (HasRow s r × ¬ Contains (map change_key changes) (key_of r)))

@@ -5,20 +5,37 @@ use Rattle.ocpi_text.specs.Text.{key}
 use Rattle.tables.specs.Keys.{text_number_cmp, text_pair_cmp}
 use Rattle.ocpi_types.specs.declared.site.Site.{Site}
 use Rattle.ocpi_types.specs.declared.site.SiteLine.{SiteLine}
-use Rattle.ocpi_types.specs.declared.replies.CommandResponse.{CommandResponse}
-use Rattle.operator_core.specs.declared.open_start.OpenStart.{OpenStart}
+use Rattle.ocpi_types.specs.declared.commands.StartSession.{StartSession}
+use Rattle.ocpi_types.specs.declared.rows.Place.{Place}
+use Rattle.ocpi_types.specs.declared.stored.Command.TheVariants as command
+use Rattle.ocpi_types.specs.declared.stored.OpenCommand.{OpenCommand}
+use Rattle.ocpi_types.specs.declared.stored.Reply.{Reply}
 
 -- the reply to each request, by sender and request number
 abbrev pub Replies : Type 0
-Replies = FinMap text_number_cmp CommandResponse
+Replies = FinMap text_number_cmp Reply
 
 -- the authorization references that were used, by provider and reference
 abbrev pub Spent : Type 0
 Spent = FinMap text_pair_cmp (Unit {0})
 
+-- a START_SESSION that took a place, and has its result by the deadline
+pub record OpenStart : Type 0 where
+  pub command : StartSession
+  pub place : Place
+  pub deadline : ℕ
+
+-- as it is stored
+abbrev pub open_of : OpenStart → OpenCommand
+open_of o = record { command = command.StartSession o.command; evse_uid = Some o.place.evse_uid; connector_id = Some o.place.connector_id; deadline = o.deadline }
+
 -- the starts whose result is awaited, by provider and request number
 abbrev pub OpenStarts : Type 0
-OpenStarts = FinMap text_number_cmp OpenStart
+OpenStarts = FinMap text_number_cmp OpenCommand
+
+-- the EVSE of that key was taken
+abbrev pub Takes : OpenCommand → List ℕ → Type 0
+Takes o evse = (uid : List ℕ) × (o.evse_uid ≡ Some uid) × (key uid ≡ evse)
 
 pub record State : Type 0 where
   pub party : List ℕ
@@ -40,7 +57,7 @@ pub data Claim : Type 0 where
 
 -- the claims on the EVSE of a key, gathered from the open starts
 abbrev pub Claims : OpenStarts → List ℕ → Claim → Type 0
-Claims starts evse (ByStart p n) = (o : OpenStart) × (get starts (p, n) ≡ Some o) × (key o.place.evse_uid ≡ evse)
+Claims starts evse (ByStart p n) = (o : OpenCommand) × (get starts (p, n) ≡ Some o) × Takes o evse
 
 abbrev pub HasClaim : State → List ℕ → Claim → Type 0
 HasClaim s evse c = Claims s.open_starts evse c

@@ -10,6 +10,9 @@ use Rattle.ocpi_types.specs.declared.packet.Body.TheVariants as body
 use Rattle.ocpi_types.specs.declared.commands.StartSession.{StartSession}
 use Rattle.ocpi_types.specs.declared.replies.CommandResponse.{CommandResponse}
 use Rattle.ocpi_types.specs.declared.replies.CommandResponse.TheVariants as response
+use Rattle.ocpi_types.specs.declared.stored.Reply.{Reply}
+use Rattle.ocpi_types.specs.declared.stored.Reply.TheVariants as replies
+use Rattle.ocpi_types.specs.Stored.{body_of_reply}
 use Rattle.ocpi_types.specs.declared.words.CommandResponseType.TheVariants as result
 use Rattle.operator_core.specs.declared.decision.Decision.{Decision}
 use Rattle.operator_core.specs.declared.decision.Decision.TheVariants.{Refused, Rejected, Accepted}
@@ -42,8 +45,8 @@ responded at Rejected = response.Done at (record { result = result.Rejected; tim
 responded at (Accepted place) = response.Done at (record { result = result.Accepted; timeout = timeout })
 
 -- a reply to the request of that number is sent
-abbrev pub answer : List ℕ → ℕ → CommandResponse → State → Out
-answer to n reply s = numbered (say to n (body.CommandResponse reply) (begin s))
+abbrev pub answer : List ℕ → ℕ → Reply → State → Out
+answer to n reply s = numbered (say to n (body_of_reply reply) (begin s))
 
 -- what follows from the decision, beside the reply, at the provider of that key
 abbrev pub carried_out : ℕ → List ℕ → ℕ → StartSession → Decision → Out → Out
@@ -53,12 +56,12 @@ carried_out at p n c (Accepted place) o = spend p c.authorization_reference (ope
 
 -- a START_SESSION is decided: its reply is sent and kept
 abbrev pub started : ℕ → List ℕ → List ℕ → ℕ → StartSession → Decision → State → Out
-started at to p n c d s = carried_out at p n c d (keep_reply p n (responded at d) (answer to n (responded at d) s))
+started at to p n c d s = let reply = replies.CommandResponse (responded at d) in carried_out at p n c d (keep_reply p n reply (answer to n reply s))
 
 -- a request that has a kept reply gets that reply again; another is decided. Replies go to the provider as the
 -- site spells it
 pub data RequestLine (s : State) (at : ℕ) (q : Packet) (to : List ℕ) (out : Out) : Type 0 where
-  Again : (reply : CommandResponse) → get s.replies (key q.from, q.request) ≡ Some reply → out ≡ answer to q.request reply s → RequestLine s at q to out
+  Again : (reply : Reply) → get s.replies (key q.from, q.request) ≡ Some reply → out ≡ answer to q.request reply s → RequestLine s at q to out
   Started : get s.replies (key q.from, q.request) ≡ None → (c : StartSession) → q.body ≡ body.StartSession c →
       (d : Decision) → StartLine s.site s.spent s.open_starts q.from c d → out ≡ started at to (key q.from) q.request c d s → RequestLine s at q to out
 

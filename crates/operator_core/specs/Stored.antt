@@ -33,18 +33,20 @@ counted Session n s = s
 counted Cdr n s = s
 counted Reference n s = s
 
+-- a row of a kind that an operator does not store changes nothing
 abbrev pub put_row : Row → Rows → Rows
 put_row (row.Count counter n) s = counted counter n s
-put_row (row.Reply p n body) s = record s { replies = insert s.replies (p, n) body }
+put_row (row.Reply p n reply) s = record s { replies = insert s.replies (p, n) reply }
 put_row (row.Spent p reference) s = record s { spent = insert s.spent (p, reference) tt }
-put_row (row.Pending p n command place deadline) s =
-    record s { open_starts = insert s.open_starts (p, n) (record { command = command; place = place; deadline = deadline }) }
+put_row (row.Pending p n o) s = record s { open_starts = insert s.open_starts (p, n) o }
+put_row r s = s
 
 abbrev pub drop_row : RowKey → Rows → Rows
 drop_row (keys.Count counter) s = counted counter 0 s
 drop_row (keys.Reply p n) s = record s { replies = remove s.replies (p, n) }
 drop_row (keys.Spent p reference) s = record s { spent = remove s.spent (p, reference) }
 drop_row (keys.Pending p n) s = record s { open_starts = remove s.open_starts (p, n) }
+drop_row k s = s
 
 abbrev pub changed : Change → Rows → Rows
 changed (Put r) s = put_row r s
@@ -62,10 +64,10 @@ pub record Rooms : Type 0 where
   pub open_starts : FinMap text_number_cmp (Unit {0})
 
 abbrev pub HasRoomOf : Rooms → Row → Type 0
-HasRoomOf s (row.Count counter n) = ⊤
-HasRoomOf s (row.Reply p n body) = IsTrue (contains_key s.replies (p, n))
+HasRoomOf s (row.Reply p n reply) = IsTrue (contains_key s.replies (p, n))
 HasRoomOf s (row.Spent p reference) = IsTrue (contains_key s.spent (p, reference))
-HasRoomOf s (row.Pending p n command place deadline) = IsTrue (contains_key s.open_starts (p, n))
+HasRoomOf s (row.Pending p n o) = IsTrue (contains_key s.open_starts (p, n))
+HasRoomOf s r = ⊤
 
 -- the change takes no memory
 abbrev pub HasRoom : Rooms → Change → Type 0

@@ -6,21 +6,19 @@ ghost use Rattle.std.specs.FinMap as map;
 ghost use Rattle.operator_core.specs.Start.{IsSpent};
 ghost use Rattle.operator_core.specs.Stored.{HasRoom, HasRoomOf, HasRooms, KeepsRoom, changed, changed_all, counted, put_row, drop_row};
 
-use crate::open_start::OpenStart;
-use ocpi_text::{CiText, Party, Whole};
-use ocpi_types::{Change, CommandResponse, Counter, Row, RowKey};
+use ocpi_text::{CiKey, CiText, PartyKey, Whole};
+use ocpi_types::{Change, Counter, OpenCommand, Reply, Row, RowKey};
 use std::alloc::{AllocError, Global};
 use std::marker::Model;
 use tables::Table;
 
-/// The rows of an operator, each kind in a table by its key, and the room that is taken beside them. Providers and
-/// references are in key form.
+/// The rows of an operator, each kind in a table by its key, and the room that is taken beside them.
 #[derive(Drop)]
 pub struct Books {
     serial: Whole,
-    replies: Table<(Party, Whole), CommandResponse>,
-    spent: Table<(Party, CiText<36>), ()>,
-    open_starts: Table<(Party, Whole), OpenStart>,
+    replies: Table<(PartyKey, Whole), Reply>,
+    spent: Table<(PartyKey, CiKey<36>), ()>,
+    open_starts: Table<(PartyKey, Whole), OpenCommand>,
 }
 
 impl Model for Books {
@@ -70,14 +68,14 @@ impl Books {
     }
 
     /// The reply that a request got.
-    pub fn reply(&self, provider: Party, number: Whole) -> Option<CommandResponse>
+    pub fn reply(&self, provider: PartyKey, number: Whole) -> Option<Reply>
         ensures { result ≡ map.get self.now.rows.replies (provider, number) }
     {
         self.replies.get((provider, number)).copied()
     }
 
     /// Whether there is a reference, and the provider used it before.
-    pub fn is_spent(&self, provider: Party, reference: &Option<CiText<36>>) -> bool
+    pub fn is_spent(&self, provider: PartyKey, reference: &Option<CiText<36>>) -> bool
         ensures yes { IsTrue result → IsSpent self.now.rows.spent provider reference.now }
         ensures no { result ≡ false → IsSpent self.now.rows.spent provider reference.now → ⊥ }
     {
@@ -87,7 +85,8 @@ impl Books {
         }
     }
 
-    /// Takes the memory that a row needs. An error is want of memory, for a row that has no room.
+    /// Takes the memory that a row needs: none, for a row of a kind that an operator does not store. An error is want of
+    /// memory, for a row that has no room.
     fn reserve_row(&mut self, row: &Row) -> Result<(), AllocError>
         ensures rows { self.new.rows ≡ self.old.rows }
         ensures keeps { KeepsRoom self.old.rooms self.new.rooms }
@@ -95,21 +94,15 @@ impl Books {
         ensures again { HasRoomOf self.old.rooms row.now → IsOk result }
     {
         match row {
-            Row::Count { .. } => Ok(()),
-            Row::Reply {
-                provider,
-                number,
-                ..
-            } => self.replies.reserve((*provider, *number)),
+            Row::Reply { sender, number, .. } => self.replies.reserve((*sender, *number)),
             Row::Spent {
                 provider,
                 reference,
             } => self.spent.reserve((*provider, *reference)),
             Row::Pending {
-                provider,
-                number,
-                ..
+                provider, number, ..
             } => self.open_starts.reserve((*provider, *number)),
+            _ => Ok(()),
         }
     }
 
@@ -153,7 +146,7 @@ impl Books {
         }
     }
 
-    /// Puts a row. It takes no memory.
+    /// Puts a row. One of a kind that an operator does not store changes nothing. It takes no memory.
     fn put_row(&mut self, row: Row)
         requires { HasRoomOf self.old.rooms row }
         ensures rows { self.new.rows ≡ put_row row self.old.rows }
@@ -162,10 +155,10 @@ impl Books {
         match row {
             Row::Count { counter, last } => self.count(counter, last),
             Row::Reply {
-                provider,
+                sender,
                 number,
-                body,
-            } => self.replies.put((provider, number), body),
+                reply,
+            } => self.replies.put((sender, number), reply),
             Row::Spent {
                 provider,
                 reference,
@@ -173,33 +166,26 @@ impl Books {
             Row::Pending {
                 provider,
                 number,
-                command,
-                place,
-                deadline,
-            } => self.open_starts.put(
-                (provider, number),
-                OpenStart {
-                    command,
-                    place,
-                    deadline,
-                },
-            ),
+                open,
+            } => self.open_starts.put((provider, number), open),
+            _ => {}
         }
     }
 
-    /// Drops a row. It takes no memory.
+    /// Drops a row. One of a kind that an operator does not store changes nothing. It takes no memory.
     fn drop_row(&mut self, key: RowKey)
         ensures rows { self.new.rows ≡ drop_row key self.old.rows }
         ensures rooms { self.new.rooms ≡ self.old.rooms }
     {
         match key {
             RowKey::Count { counter } => self.count(counter, Whole::new(0).unwrap()),
-            RowKey::Reply { provider, number } => self.replies.clear((provider, number)),
+            RowKey::Reply { sender, number } => self.replies.clear((sender, number)),
             RowKey::Spent {
                 provider,
                 reference,
             } => self.spent.clear((provider, reference)),
             RowKey::Pending { provider, number } => self.open_starts.clear((provider, number)),
+            _ => {}
         }
     }
 

@@ -1,10 +1,21 @@
 //! The claims that changes of rows make.
 
 ghost use Rattle.std.specs.Prelude.{◌≡◌};
-ghost use Rattle.operator_core.specs.Claimed.{AreAtSite, IsAtSite, claimed_after, claimed_all};
+ghost use Rattle.operator_core.specs.Claimed.{AreAtSite, IsAtSite, IsTakenAt, claimed_after, claimed_all, claimed_of};
 
+use ocpi_text::CiText;
 use ocpi_types::{Change, Row};
 use site::Places;
+
+/// Claims an EVSE, where one is taken. It takes no memory.
+fn claim_evse(places: &mut Places, evse_uid: &Option<CiText<36>>)
+    requires { IsTakenAt places.old.site evse_uid.now }
+    ensures { places.new ≡ record places.old { claimed = claimed_of evse_uid.now places.old.claimed } }
+{
+    if let Some(evse_uid) = evse_uid {
+        places.claim(evse_uid);
+    }
+}
 
 /// Claims the EVSE of a start that a row opens. It takes no memory.
 fn claim_row(places: &mut Places, row: &Row)
@@ -12,10 +23,8 @@ fn claim_row(places: &mut Places, row: &Row)
     ensures { places.new ≡ record places.old { claimed = claimed_after (Change.Put row.now) places.old.claimed } }
 {
     match row {
-        Row::Count { .. } => {}
-        Row::Reply { .. } => {}
-        Row::Spent { .. } => {}
-        Row::Pending { place, .. } => places.claim(&place.evse_uid),
+        Row::Pending { open, .. } => claim_evse(places, &open.evse_uid),
+        _ => {}
     }
 }
 

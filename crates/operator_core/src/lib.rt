@@ -7,7 +7,6 @@ mod claims;
 mod decision;
 mod fault;
 pub mod laws;
-mod open_start;
 mod operator;
 mod providers;
 mod request;
@@ -17,6 +16,5 @@ mod stepped;
 
 pub use decision::Decision;
 pub use fault::OperatorFault;
-pub use open_start::OpenStart;
 pub use operator::Operator;
 pub use stepped::Stepped;

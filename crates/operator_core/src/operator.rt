@@ -17,7 +17,7 @@ use crate::start::decide;
 use crate::stepped::Stepped;
 use ocpi_text::{Moment, Party, Whole};
 use ocpi_types::{
-    Body, CommandResponse, CommandResponseType, Packet, Parties, Place, ResponseData, SiteLine,
+    CommandResponse, CommandResponseType, Body, Packet, Parties, Place, Reply, ResponseData, SiteLine,
     StartSession,
 };
 use site::Places;
@@ -89,6 +89,7 @@ impl Model for Operator {
 }
 
 impl Operator {
+    ghost use Rattle.ocpi_types.specs.Stored.{body_of_reply};
     ghost use Rattle.operator_core.specs.State.{opening};
     ghost use Rattle.operator_core.specs.Start.{StartLine};
     ghost use Rattle.operator_core.specs.Steps.{answer, started, carried_out, IsTaken, OperatorStep};
@@ -160,21 +161,21 @@ impl Operator {
     }
 
     /// The packet that answers a request.
-    fn answer(&self, request: &Request, reply: &CommandResponse) -> Result<Vec<Packet>, AllocError>
-        ensures { IfOk result (λ x. x.items ≡ record { from = self.now.party; to = request.now.from; serial = request.now.serial; request = request.now.number; body = Body.CommandResponse reply.now } ∷ []) }
+    fn answer(&self, request: &Request, reply: &Reply) -> Result<Vec<Packet>, AllocError>
+        ensures { IfOk result (λ x. x.items ≡ record { from = self.now.party; to = request.now.from; serial = request.now.serial; request = request.now.number; body = body_of_reply reply.now } ∷ []) }
     {
         let packet = Packet {
             from: *self.parties.operator(),
             to: request.from,
             serial: request.serial,
             request: request.number,
-            body: Body::CommandResponse(*reply),
+            body: reply.into_body(),
         };
         Ok(vec![in self.alloc; packet]?)
     }
 
     /// The step that sends a kept reply again.
-    fn again(&self, request: &Request, reply: &CommandResponse) -> Result<Stepped, AllocError>
+    fn again(&self, request: &Request, reply: &Reply) -> Result<Stepped, AllocError>
         requires { request.now.serial ≡ self.now.serial + 1 }
         ensures { IfOk result (λ x. planned self.now x ≡ answer request.now.from request.now.number reply.now self.now) }
     {
@@ -184,7 +185,7 @@ impl Operator {
     }
 
     /// The step that sends a reply, and keeps it.
-    fn refuse(&self, request: &Request, reply: &CommandResponse) -> Result<Stepped, AllocError>
+    fn refuse(&self, request: &Request, reply: &Reply) -> Result<Stepped, AllocError>
         requires { request.now.serial ≡ self.now.serial + 1 }
         ensures { IfOk result (λ x. planned self.now x ≡ keep_reply request.now.provider request.now.number reply.now (answer request.now.from request.now.number reply.now self.now)) }
     {
@@ -198,7 +199,7 @@ impl Operator {
     fn accept(
         &self,
         request: &Request,
-        reply: &CommandResponse,
+        reply: &Reply,
         command: &StartSession,
         place: Place,
     ) -> Result<Stepped, AllocError>
@@ -226,7 +227,7 @@ impl Operator {
         ensures { IfOk result (λ x. (d : Decision) × StartLine self.now.site self.now.spent self.now.open_starts sender.now command.now d × (planned self.now x ≡ started request.now.at request.now.from request.now.provider request.now.number command.now d self.now)) }
     {
         let decision = decide(&self.places, &self.books, sender, request.provider, command);
-        let reply = respond(&decision, request.at);
+        let reply = Reply::CommandResponse(respond(&decision, request.at));
         match &decision {
             Decision::Refused(_) => self.refuse(request, &reply),
             Decision::Rejected => self.refuse(request, &reply),

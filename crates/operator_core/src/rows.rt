@@ -2,11 +2,12 @@
 
 ghost use Rattle.std.specs.Prelude.{◌≡◌, ◌++◌, IfOk, IsNone, IsOk, OnOk};
 ghost use Rattle.ocpi_types.specs.declared.rows.Counter.{Counter as CounterOf};
+ghost use Rattle.operator_core.specs.State.{open_of};
 ghost use Rattle.operator_core.specs.Moves.{spent_rows};
 
 use crate::request::Request;
 use ocpi_text::{CiText, Moment};
-use ocpi_types::{Change, CommandResponse, Counter, Place, Row, StartSession};
+use ocpi_types::{Change, Command, Counter, OpenCommand, Place, Reply, Row, StartSession};
 use std::alloc::{AllocError, Global};
 
 /// The row of the counter of packets.
@@ -20,13 +21,13 @@ pub fn count_row(request: &Request) -> Change
 }
 
 /// The row of a kept reply.
-pub fn reply_row(request: &Request, reply: &CommandResponse) -> Change
+pub fn reply_row(request: &Request, reply: &Reply) -> Change
     ensures { result ≡ Change.Put (Row.Reply request.now.provider request.now.number reply.now) }
 {
     Change::Put(Row::Reply {
-        provider: request.provider,
+        sender: request.provider,
         number: request.number,
-        body: *reply,
+        reply: *reply,
     })
 }
 
@@ -37,15 +38,18 @@ pub fn pending_row(
     place: Place,
     deadline: Moment,
 ) -> Result<Change, AllocError>
-    ensures { IfOk result (λ x. x ≡ Change.Put (Row.Pending request.now.provider request.now.number command.now place deadline)) }
+    ensures { IfOk result (λ x. x ≡ Change.Put (Row.Pending request.now.provider request.now.number (open_of (record { command = command.now; place = place; deadline = deadline })))) }
 {
     let command = command.copy()?;
     Ok(Change::Put(Row::Pending {
         provider: request.provider,
         number: request.number,
-        command,
-        place,
-        deadline,
+        open: OpenCommand {
+            command: Command::StartSession(command),
+            evse_uid: Some(place.evse_uid),
+            connector_id: Some(place.connector_id),
+            deadline,
+        },
     }))
 }
 

@@ -7,7 +7,7 @@ ghost use Rattle.operator_core.specs.Claimed.{IsIndexed};
 
 use crate::books::Books;
 use crate::decision::Decision;
-use ocpi_text::Party;
+use ocpi_text::{Party, PartyKey};
 use ocpi_types::{RefusalCode, StartSession};
 use site::Places;
 
@@ -34,21 +34,21 @@ fn is_mismatched(sender: &Party, command: &StartSession) -> bool
         || (command.connector_id.is_some() && command.evse_uid.is_none())
 }
 
-/// Whether the token is not valid, or its reference was used before. The provider is the sender in key form.
-fn is_barred(books: &Books, provider: Party, command: &StartSession) -> bool
+/// Whether the token is not valid, or its reference was used before.
+fn is_barred(books: &Books, provider: PartyKey, command: &StartSession) -> bool
     ensures yes { IsTrue result → IsBarred books.now.rows.spent provider command.now }
     ensures no { result ≡ false → ¬ IsBarred books.now.rows.spent provider command.now }
 {
     !command.token.valid || books.is_spent(provider, &command.authorization_reference)
 }
 
-/// The decision on a START_SESSION, by the first line of its table that applies. The provider is the sender in
-/// key form, and the claims on places are those of the open starts.
+/// The decision on a START_SESSION, by the first line of its table that applies. The provider is the sender's key, and
+/// the claims on places are those of the open starts.
 pub fn decide(
     places: &Places,
     books: &Books,
     sender: &Party,
-    provider: Party,
+    provider: PartyKey,
     command: &StartSession,
 ) -> Decision
     requires provider { provider ≡ key sender.now }
