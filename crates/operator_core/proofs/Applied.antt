@@ -13,7 +13,8 @@ use Rattle.ocpi_types.specs.declared.rows.Row.TheVariants as row
 use Rattle.ocpi_types.specs.declared.rows.Counter.TheVariants.{Serial}
 use Rattle.ocpi_types.specs.declared.rows.Change.{Change}
 use Rattle.ocpi_types.specs.declared.rows.Change.TheVariants.{Put}
-use Rattle.site.specs.Places.{Claimed, IsEvse}
+use Rattle.site.specs.Places.{IsEvse}
+use Rattle.site.specs.Places as places
 use Rattle.operator_core.specs.declared.decision.Decision.{Decision}
 use Rattle.operator_core.specs.declared.decision.Decision.TheVariants.{Refused, Rejected, Accepted}
 use Rattle.operator_core.specs.State.{State, Spent, OpenStarts, OpenStart, open_of}
@@ -48,27 +49,27 @@ pub step_consistent : (s : State) (at : ℕ) (q : Packet) (out : Out) → Holds 
 step_consistent s at q out h step = line_consistent s at q step.provider out h step.line
 
 -- a reference that is spent claims nothing
-spent_claims : (a b c : Change) (p : List ℕ) (reference : Option (List ℕ)) (m : Claimed) → claimed_all (a ∷ (b ∷ (c ∷ [])) ++ spent_rows p reference) m ≡ claimed_all (a ∷ (b ∷ (c ∷ []))) m
+spent_claims : (a b c : Change) (p : List ℕ) (reference : Option (List ℕ)) (m : places.Claims) → claimed_all (a ∷ (b ∷ (c ∷ [])) ++ spent_rows p reference) m ≡ claimed_all (a ∷ (b ∷ (c ∷ []))) m
 spent_claims a b c p None m = refl
 spent_claims a b c p (Some x) m = refl
 
-started_indexed : (s : State) (m : Claimed) (at : ℕ) (to p : List ℕ) (n : ℕ) (c : StartSession) (d : Decision) → get s.open_starts (p, n) ≡ None → IsIndexed m s.open_starts →
+started_indexed : (s : State) (m : places.Claims) (at : ℕ) (to p : List ℕ) (n : ℕ) (c : StartSession) (d : Decision) → get s.open_starts (p, n) ≡ None → ((place : Place) → d ≡ Accepted place → MayOpen s.spent s.open_starts p c place) → IsIndexed m s.open_starts →
     IsIndexed (claimed_all (started at to p n c d s).changes m) (started at to p n c d s).state.open_starts
-started_indexed s m at to p n c (Refused status) new h = h
-started_indexed s m at to p n c Rejected new h = h
-started_indexed s m at to p n c (Accepted place) new h =
+started_indexed s m at to p n c (Refused status) new may h = h
+started_indexed s m at to p n c Rejected new may h = h
+started_indexed s m at to p n c (Accepted place) new may h =
     let start : OpenStart = record { command = c; place = place; deadline = deadline at } in
     rw (spent_claims (Put (row.Count Serial _)) (Put (row.Reply p n _)) (Put (row.Pending p n (open_of start))) p c.authorization_reference m)
-    (indexed_start m s.open_starts h p n start new)
+    (indexed_start m s.open_starts h p n start new (may place refl).free)
 
-line_indexed : (s : State) (m : Claimed) (at : ℕ) (q : Packet) (to : List ℕ) (out : Out) → Holds s → IsIndexed m s.open_starts → RequestLine s at q to out →
+line_indexed : (s : State) (m : places.Claims) (at : ℕ) (q : Packet) (to : List ℕ) (out : Out) → Holds s → IsIndexed m s.open_starts → RequestLine s at q to out →
     IsIndexed (claimed_all out.changes m) out.state.open_starts
 line_indexed s m at q to out holds h (Again reply has x) = rw x h
 line_indexed s m at q to out holds h (Started none c is d line x) =
-    rw x (started_indexed s m at to (key q.from) q.request c d (unopened _ _ _ holds (key q.from, q.request) none) h)
+    rw x (started_indexed s m at to (key q.from) q.request c d (unopened _ _ _ holds (key q.from, q.request) none) (λ place e. accepted_may_open s.site s.spent s.open_starts q.from c d place line e) h)
 
 -- the claims that are kept are those of the open starts after a step as before it
-pub step_indexed : (s : State) (m : Claimed) (at : ℕ) (q : Packet) (out : Out) → Holds s → IsIndexed m s.open_starts → OperatorStep s at q out →
+pub step_indexed : (s : State) (m : places.Claims) (at : ℕ) (q : Packet) (out : Out) → Holds s → IsIndexed m s.open_starts → OperatorStep s at q out →
     IsIndexed (claimed_all out.changes m) out.state.open_starts
 step_indexed s m at q out holds h step = line_indexed s m at q step.provider out holds h step.line
 

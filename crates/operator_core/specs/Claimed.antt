@@ -6,25 +6,28 @@ use Rattle.ocpi_types.specs.declared.rows.Row.TheVariants as row
 use Rattle.ocpi_types.specs.declared.rows.Change.{Change}
 use Rattle.ocpi_types.specs.declared.rows.Change.TheVariants.{Put, Drop}
 use Rattle.ocpi_types.specs.declared.site.Site.{Site}
-use Rattle.site.specs.Places.{Claimed, IsEvse}
-use Rattle.operator_core.specs.State.{OpenStarts, Claim, Claims}
+use Rattle.site.specs.declared.claim.Claim.{Claim}
+use Rattle.site.specs.declared.claim.Claim.TheVariants as claim
+use Rattle.site.specs.Places.{IsEvse}
+use Rattle.site.specs.Places as places
+use Rattle.operator_core.specs.State.{OpenStarts, Claims}
 
 -- the kept claims are those of the open starts
-pub record IsIndexed (claimed : Claimed) (starts : OpenStarts) : Type 0 where
-  pub sound : (evse : List ℕ) → get claimed evse ≡ Some tt → (c : Claim) × Claims starts evse c
-  pub complete : (evse : List ℕ) (c : Claim) → Claims starts evse c → get claimed evse ≡ Some tt
+pub record IsIndexed (kept : places.Claims) (starts : OpenStarts) : Type 0 where
+  pub sound : (evse : List ℕ) (c : Claim) → get kept evse ≡ Some c → Claims starts evse c
+  pub complete : (evse : List ℕ) (c : Claim) → Claims starts evse c → get kept evse ≡ Some c
 
--- the claims after an EVSE was taken, where one was
-abbrev pub claimed_of : Option (List ℕ) → Claimed → Claimed
-claimed_of None m = m
-claimed_of (Some evse) m = insert m (key evse) tt
+-- the claims after a start took an EVSE, where one was taken
+abbrev pub claimed_of : List ℕ → ℕ → Option (List ℕ) → places.Claims → places.Claims
+claimed_of p n None m = m
+claimed_of p n (Some evse) m = insert m (key evse) (claim.OpenStart p n)
 
 -- the claims after a change of a row: a start that is opened claims its EVSE
-abbrev pub claimed_after : Change → Claimed → Claimed
-claimed_after (Put (row.Pending p n o)) m = claimed_of o.evse_uid m
+abbrev pub claimed_after : Change → places.Claims → places.Claims
+claimed_after (Put (row.Pending p n o)) m = claimed_of p n o.evse_uid m
 claimed_after c m = m
 
-abbrev pub claimed_all : List Change → Claimed → Claimed
+abbrev pub claimed_all : List Change → places.Claims → places.Claims
 claimed_all [] m = m
 claimed_all (c ∷ cs) m = claimed_all cs (claimed_after c m)
 

@@ -4,6 +4,8 @@ use Rattle.std.specs.FinMap.{FinMap, get, empty}
 use Rattle.ocpi_text.specs.Text.{key}
 use Rattle.tables.specs.Keys.{text_number_cmp, text_pair_cmp}
 use Rattle.ocpi_types.specs.declared.site.Site.{Site}
+use Rattle.site.specs.declared.claim.Claim.{Claim}
+use Rattle.site.specs.declared.claim.Claim.TheVariants as claim
 use Rattle.ocpi_types.specs.declared.site.SiteLine.{SiteLine}
 use Rattle.ocpi_types.specs.declared.commands.StartSession.{StartSession}
 use Rattle.ocpi_types.specs.declared.rows.Place.{Place}
@@ -51,13 +53,11 @@ pub record State : Type 0 where
 abbrev pub opening : SiteLine → State
 opening line = record { party = line.parties.operator; providers = line.parties.providers; site = line.site; serial = 0; replies = empty; spent = empty; open_starts = empty }
 
--- what an EVSE is claimed by
-pub data Claim : Type 0 where
-  ByStart : (provider : List ℕ) (number : ℕ) → Claim
-
 -- the claims on the EVSE of a key, gathered from the open starts
 abbrev pub Claims : OpenStarts → List ℕ → Claim → Type 0
-Claims starts evse (ByStart p n) = (o : OpenCommand) × (get starts (p, n) ≡ Some o) × Takes o evse
+Claims starts evse (claim.OpenStart p n) = (o : OpenCommand) × (get starts (p, n) ≡ Some o) × Takes o evse
+Claims starts evse (claim.Live p session) = ⊥
+Claims starts evse (claim.Reserved p reservation) = ⊥
 
 abbrev pub HasClaim : State → List ℕ → Claim → Type 0
 HasClaim s evse c = Claims s.open_starts evse c

@@ -64,6 +64,7 @@ pub struct Operator {
 }
 
 impl Model for Operator {
+    ghost use Rattle.std.specs.Prelude.{◌≡◌};
     ghost use Rattle.std.specs.FinMap as map;
     ghost use Rattle.std.specs.Coded.{codes};
     ghost use Rattle.operator_core.specs.State.{State};
@@ -84,7 +85,8 @@ impl Model for Operator {
       open_starts = o.books.rows.open_starts;
     } };
 
-    ghost invariant = { λ o. IsIndexed o.places.claimed o.books.rows.open_starts
+    ghost invariant = { λ o. IsIndexed o.places.claims o.books.rows.open_starts
+        × (o.places.out_of_service ≡ map.empty)
         × IsConsistent o.books.rows.replies o.books.rows.spent o.books.rows.open_starts };
 }
 

@@ -1,6 +1,7 @@
 //! How a START_SESSION is decided (OCPI 2.2.1, Commands: StartSession).
 
 ghost use Rattle.std.specs.Prelude.{◌≡◌, IsTrue, false};
+ghost use Rattle.std.specs.FinMap as map;
 ghost use Rattle.ocpi_text.specs.Text.{key};
 ghost use Rattle.operator_core.specs.Start.{IsMismatched, IsBarred, StartLine};
 ghost use Rattle.operator_core.specs.Claimed.{IsIndexed};
@@ -43,7 +44,7 @@ fn is_barred(books: &Books, provider: PartyKey, command: &StartSession) -> bool
 }
 
 /// The decision on a START_SESSION, by the first line of its table that applies. The provider is the sender's key, and
-/// the claims on places are those of the open starts.
+/// the claims on places are those of the open starts, and each EVSE is in service.
 pub fn decide(
     places: &Places,
     books: &Books,
@@ -52,7 +53,8 @@ pub fn decide(
     command: &StartSession,
 ) -> Decision
     requires provider { provider ≡ key sender.now }
-    requires claims { IsIndexed places.now.claimed books.now.rows.open_starts }
+    requires claims { IsIndexed places.now.claims books.now.rows.open_starts }
+    requires in_service { places.now.out_of_service ≡ map.empty }
     ensures { StartLine places.now.site books.now.rows.spent books.now.rows.open_starts sender.now command.now result }
 {
     if is_mismatched(sender, command) {

@@ -6,7 +6,7 @@
 //! `bench/fail_allocations.sh` lets each of them fail in turn.
 
 use ocpi_json::{JsonFault, read_packet, read_site, write_packet};
-use ocpi_text::Moment;
+use ocpi_text::{CiText, Moment};
 use ocpi_types::{Change, Packet, Row};
 use operator_core::{Operator, OperatorFault, Stepped};
 use std::alloc::{AllocError, Global};
@@ -72,13 +72,9 @@ fn row_text(alloc: Global, row: &Row) -> Result<String, AllocError> {
             let (name, last) = (counter.name(), last.value());
             format!(in alloc; "count {name} {last}")
         }
-        Row::Reply {
-            provider,
-            number,
-            ..
-        } => {
-            let (provider, number) = (provider.as_str(), number.value());
-            format!(in alloc; "reply {provider} {number}")
+        Row::Reply { sender, number, .. } => {
+            let (sender, number) = (sender.as_str(), number.value());
+            format!(in alloc; "reply {sender} {number}")
         }
         Row::Spent {
             provider,
@@ -90,15 +86,25 @@ fn row_text(alloc: Global, row: &Row) -> Result<String, AllocError> {
         Row::Pending {
             provider,
             number,
-            place,
-            deadline,
-            ..
+            open,
         } => {
             let (provider, number) = (provider.as_str(), number.value());
-            let (evse, connector) = (place.evse_uid.as_str(), place.connector_id.as_str());
-            let deadline = deadline.write(alloc)?;
+            let (evse, connector) = (
+                spelled(&open.evse_uid),
+                spelled(&open.connector_id),
+            );
+            let deadline = open.deadline.write(alloc)?;
             format!(in alloc; "pending {provider} {number} {evse} {connector} {deadline}")
         }
+        _ => format!(in alloc; "another row"),
+    }
+}
+
+/// The text, or the empty one.
+fn spelled(text: &Option<CiText<36>>) -> &str {
+    match text {
+        None => "",
+        Some(text) => text.as_str(),
     }
 }
 

@@ -27,7 +27,7 @@ returns-in-None c =
     let allowed = rw c.requires.provider at (c.if-is_barred.ensures.no refl) in
     let none = rw c.in-None.is at c.free_place.ensures.none in
     lines.Occupied at.0 (record { matched = c.if-is_mismatched.ensures.no refl; location = at.2 }) place.0 place.1 place.2 allowed
-    (λ f j fits free. none at.0 at.1 f j fits (free_unclaimed _ _ c.requires.claims (key f.uid) free)) refl
+    (λ f j fits free. none at.0 at.1 f j fits (free_unclaimed _ _ c.requires.claims _ c.requires.in_service (key f.uid) free)) refl
 
 pub returns-in-Some-free_place : goal.returns-in-Some-free_place
 returns-in-Some-free_place c =
@@ -36,4 +36,4 @@ returns-in-Some-free_place c =
     let found = rw c.in-Some-free_place.is at c.free_place.ensures.found in
     let place = found at.0 at.1 in
     lines.Taken at.0 (record { matched = c.if-is_mismatched.ensures.no refl; location = at.2 }) place.0 place.1 place.2 allowed
-    (unclaimed_free _ _ c.requires.claims (key place.0.uid) place.3) (ap Accepted place.4)
+    (unclaimed_free _ _ c.requires.claims _ c.requires.in_service (key place.0.uid) place.3) (ap Accepted place.4)

@@ -12,13 +12,13 @@ pub invariant_of-self-2 : goal.invariant_of-self-2
 invariant_of-self-2 c =
     let step = rw (← c.self.view_is) at c.in_ok-stepped.ensures.step in
     rw (c.claim_all.ensures, c.as_slice-3.ensures.value, c.apply.ensures, c.in_ok-stored.ensures, c.as_slice.ensures.value, c.in_ok-make_room.ensures.rows)
-    (step_indexed _ _ c.args.at c.args.packet.now _ c.self.invariant.1 c.self.invariant.0 step, step_consistent _ c.args.at c.args.packet.now _ c.self.invariant.1 step)
+    (step_indexed _ _ c.args.at c.args.packet.now _ c.self.invariant.2 c.self.invariant.0 step, c.self.invariant.1, step_consistent _ c.args.at c.args.packet.now _ c.self.invariant.2 step)
 
 pub returns-clause-claims : goal.returns-clause-claims
 returns-clause-claims c =
     let step = rw (← c.self.view_is) at c.in_ok-stepped.ensures.step in
     rw (c.claim_all.ensures, c.apply.ensures, c.in_ok-stored.ensures, c.as_slice.ensures.value, c.in_ok-make_room.ensures.rows, ← c.self.view_is)
-    (step_claims _ c.args.at c.args.packet.now _ (unopened _ _ _ c.self.invariant.1 (key c.args.packet.now.from, c.args.packet.now.request)) step)
+    (step_claims _ c.args.at c.args.packet.now _ (unopened _ _ _ c.self.invariant.2 (key c.args.packet.now.from, c.args.packet.now.request)) step)
 
 pub returns-clause-rows : goal.returns-clause-rows
 returns-clause-rows c =
