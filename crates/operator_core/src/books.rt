@@ -100,7 +100,9 @@ impl Books {
                 reference,
             } => self.spent.reserve((*provider, *reference)),
             Row::Pending {
-                provider, number, ..
+                provider,
+                number,
+                ..
             } => self.open_starts.reserve((*provider, *number)),
             _ => Ok(()),
         }

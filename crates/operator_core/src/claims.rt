@@ -8,12 +8,7 @@ use ocpi_types::{Change, Row};
 use site::{Claim, Places};
 
 /// Claims the EVSE that a start took, where it took one. It takes no memory.
-fn claim_evse(
-    places: &mut Places,
-    provider: PartyKey,
-    number: Whole,
-    evse_uid: &Option<CiText<36>>,
-)
+fn claim_evse(places: &mut Places, provider: PartyKey, number: Whole, evse_uid: &Option<CiText<36>>)
     requires { IsTakenAt places.old.site evse_uid.now }
     ensures { places.new ≡ record places.old { claims = claimed_of provider number evse_uid.now places.old.claims } }
 {

@@ -17,8 +17,8 @@ use crate::start::decide;
 use crate::stepped::Stepped;
 use ocpi_text::{Moment, Party, Whole};
 use ocpi_types::{
-    CommandResponse, CommandResponseType, Body, Packet, Parties, Place, Reply, ResponseData, SiteLine,
-    StartSession,
+    Body, CommandResponse, CommandResponseType, Packet, Parties, Place, Reply, ResponseData,
+    SiteLine, StartSession,
 };
 use site::Places;
 use std::alloc::{AllocError, Global};

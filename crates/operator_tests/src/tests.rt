@@ -89,10 +89,7 @@ fn row_text(alloc: Global, row: &Row) -> Result<String, AllocError> {
             open,
         } => {
             let (provider, number) = (provider.as_str(), number.value());
-            let (evse, connector) = (
-                spelled(&open.evse_uid),
-                spelled(&open.connector_id),
-            );
+            let (evse, connector) = (spelled(&open.evse_uid), spelled(&open.connector_id));
             let deadline = open.deadline.write(alloc)?;
             format!(in alloc; "pending {provider} {number} {evse} {connector} {deadline}")
         }
