@@ -6,4 +6,6 @@ mod commands;
 #[cfg(test)]
 mod sessions;
 #[cfg(test)]
+mod sites;
+#[cfg(test)]
 mod tokens;

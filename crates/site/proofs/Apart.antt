@@ -8,10 +8,10 @@ use Rattle.std.proofs.lemmas.Option.{same_Some, slice_get_within, get_or_from_sl
 use Rattle.std.specs.Option.{option_map}
 use Rattle.ocpi_text.specs.Text.{key}
 use Rattle.ocpi_types.specs.Apart.{DifferFrom, AllDiffer}
-use Rattle.ocpi_types.specs.Locations.{evse_keys, site_evse_keys}
+use Rattle.ocpi_types.specs.Locations.{evse_keys, location_keys, site_evse_keys}
 use Rattle.ocpi_types.specs.declared.site.Location.{Location}
 use Rattle.ocpi_types.specs.declared.site.Evse.{Evse}
-use Rattle.site.specs.Positions.{OneEvseEach}
+use Rattle.site.specs.Positions.{OneEvseEach, OneLocationEach}
 
 module _ {X : Type 0} (xs : List X) where
   -- what stands at a place is in the list
@@ -78,3 +78,9 @@ one_evse_each locations apart uid p q g h =
     let same = one_piece (λ (l : Location). evse_keys l.evses) [] locations p.0 p.1 q.0 q.1 g.at.location h.at.location uid apart
     g.at.stands (at_key g.at.location.evses p.1 g.evse uid g.at.within g.same) h.at.stands (at_key h.at.location.evses q.1 h.evse uid h.at.within h.same) in
     λ i. (same.0 i, same.1 i)
+
+pub one_location_each : (locations : List Location) → AllDiffer (location_keys locations) → OneLocationEach locations
+one_location_each locations apart id i j g h = one_place [] (location_keys locations) i j id apart (at_id i g.location g.stands g.same) (at_id j h.location h.stands h.same)
+  where
+    at_id : (k : ℕ) (l : Location) → slice_get locations k ≡ Some l → key l.id ≡ id → slice_get (location_keys locations) k ≡ Some id
+    at_id k l at same = slice_get-map (λ (l : Location). key l.id) locations k ∙ ap (option_map (λ (l : Location). key l.id)) at ∙ ap (λ u. Some u) same

@@ -1,20 +1,19 @@
 -- What the indexes of a site find is what is looked for.
-use Rattle.std.proofs.Common.{◌≡◌, ℕ, zero, suc, false, List, [], ◌∷◌, refl, sym, ap, subst, arith}
+use Rattle.std.proofs.Common.{◌≡◌, ℕ, Bool, true, false, List, [], ◌∷◌, refl, sym, ap, subst, ◌∙◌}
 use Rattle.std.specs.Prelude.{◌≢◌, Option, Some, None, IsTrue, IsSome, IsNone, IfSome, IfNone, Contains, is_some, slice_get}
-use Rattle.std.specs.Ordering.{nat_cmp}
-use Rattle.std.specs.BTreeMap.Range.{IsLeBy}
 use Rattle.std.specs.FinMap.{FinMap, get, contains_key}
-use Rattle.std.proofs.lemmas.Bool.Decides.{nat_tests}
+use Rattle.std.proofs.lemmas.Option.{same_Some}
 use Rattle.ocpi_text.specs.Text.{key}
 use Rattle.ocpi_types.specs.declared.site.Location.{Location}
 use Rattle.ocpi_types.specs.declared.site.Evse.{Evse}
 use Rattle.ocpi_types.specs.declared.site.Connector.{Connector}
 use Rattle.tables.specs.Keys.{text_cmp}
-use Rattle.tables.specs.Tables.{HasNone}
-use Rattle.site.specs.Places.{Claims, IsLocation, IsNamed, IsChosen, Fits, IsEvse, IsUnclaimed}
-use Rattle.site.specs.Positions.{Position, position_cmp, IsEvseAt, HasEvse, OneEvseEach, FindsLocations, FindsEvses, IsCandidate}
+use Rattle.site.specs.Flags.{AreNone}
+use Rattle.site.specs.Places.{Idle, IsLocation, IsNamed, IsChosen, Fits, IsEvse}
+use Rattle.site.specs.Positions.{Position, IsEvseAt, HasEvse, HasLocation, OneEvseEach, OneLocationEach, FindsLocations, FindsEvses, IsFlag, Marks, IsCandidate}
 use Rattle.site.proofs.Apart.{contained, place}
 use Rattle.site.proofs.Indexing.{one_evse}
+use Rattle.site.proofs.Marking.{one_flag}
 
 pub none_then : {X P Q : Type 0} (r : Option X) → IfNone r P → (P → Q) → IfNone r Q
 none_then None p f = f p
@@ -24,10 +23,6 @@ pub none_from : {X P : Type 0} (r : Option X) → P → IfNone r P
 none_from None p = p
 none_from (Some x) p = tt
 
-pub zero_least : (n : ℕ) → IsLeBy nat_cmp 0 n
-zero_least zero = refl
-zero_least (suc n) = grind (arith, nat_tests)
-
 module _ (locations : List Location) where
   module _ (index : FinMap text_cmp ℕ) (f : FindsLocations locations (λ i. Unit {0}) index) (id : List ℕ) where
     pub found_location : (r : Option ℕ) → r ≡ get index (key id) → IfSome r (λ i. (l : Location) × (slice_get locations i ≡ Some l) × IsLocation locations id l)
@@ -35,6 +30,14 @@ module _ (locations : List Location) where
     found_location (Some i) e =
         let h = f.sound (key id) i (sym e) in
         (h.location, h.stands, record { listed = contained locations i h.location h.stands; same = h.same })
+
+    -- no other location has the id
+    pub sole_location : OneLocationEach locations → (r : Option ℕ) → r ≡ get index (key id) → IfSome r (λ i. (l : Location) → IsLocation locations id l → slice_get locations i ≡ Some l)
+    sole_location one None e = tt
+    sole_location one (Some i) e = λ l is.
+        let p = place locations l is.listed in
+        let same : p.0 ≡ i = one (key id) p.0 i (record { location = l; stands = p.1; same = is.same }) (f.sound (key id) i (sym e)) in
+        ap (slice_get locations) (sym same) ∙ p.1
 
     pub no_location : (r : Option ℕ) → r ≡ get index (key id) → IfNone r ((l : Location) → IsLocation locations id l → ⊥)
     no_location None e = λ l is.
@@ -62,7 +65,24 @@ module _ (locations : List Location) where
         | f ∷ fs ↦ λ at first. first f refl
       ] h.1 first
 
-  module _ (index : FinMap text_cmp Position) (claims : Claims) (rooms : FinMap text_cmp (Unit {0})) (free : FinMap position_cmp (Unit {0})) (h : FindsEvses locations (λ p. Unit {0}) index claims rooms free) where
+  -- an EVSE of the site stands at a position
+  pub standing : (uid : List ℕ) → IsEvse locations uid → (p : Position) × HasEvse locations p uid
+  standing uid e =
+      let i = place locations e.location e.listed in
+      let j = place e.location.evses e.evse e.within in
+      ((i.0, j.0), record { evse = e.evse; at = record { location = e.location; stands = i.1; within = j.1 }; same = e.same })
+
+  -- and what stands at one is of the site
+  pub of_site : (p : Position) (uid : List ℕ) → HasEvse locations p uid → IsEvse locations uid
+  of_site p uid has = record {
+    location = has.at.location;
+    evse = has.evse;
+    listed = contained locations p.0 has.at.location has.at.stands;
+    within = contained has.at.location.evses p.1 has.evse has.at.within;
+    same = has.same;
+  }
+
+  module _ (index : FinMap text_cmp Position) (claim_rooms service_rooms : Idle) (h : FindsEvses locations (λ p. Unit {0}) index claim_rooms service_rooms) where
     module _ (one : OneEvseEach locations) (at : ℕ) (uid : List ℕ) where
       -- where the EVSE of a uid stands, if it is one of the location
       stands_there : (e : Evse) → IsCandidate locations at (Some uid) e → (j : ℕ) × IsEvseAt locations (at, j) e × HasEvse locations (at, j) (key uid)
@@ -96,32 +116,44 @@ module _ (locations : List Location) where
         pub no_uid : ((e : Evse) → IsEvseAt locations p e → ⊥) → ⊥
         no_uid none = let has = h.sound (key uid) p known in none has.evse has.at
 
-    module _ (at : ℕ) where
-      -- an EVSE at a free position is not claims
-      pub free_there : (j : ℕ) (e : Evse) → get free (at, j) ≡ Some tt → IsEvseAt locations (at, j) e → IsUnclaimed claims (key e.uid)
-      free_there j e is there =
-          let was = h.free_sound (at, j) is in
-          let same : was.1.evse ≡ e = one_evse locations (at, j) was.1.evse e was.1.at there in
-          subst (λ (x : Evse). IsUnclaimed claims (key x.uid)) same (subst (IsUnclaimed claims) (sym was.1.same) was.2)
+    -- where the EVSE of a key stands, if it is one of the site
+    pub known_evse : (uid : List ℕ) → IsEvse locations uid → IsTrue (contains_key index uid)
+    known_evse uid e = let has = standing uid e in h.complete uid has.0 tt has.1
 
-      -- and stands at its position
-      pub free_stands : (j : ℕ) → get free (at, j) ≡ Some tt → ((e : Evse) → IsEvseAt locations (at, j) e → ⊥) → ⊥
-      free_stands j is none = let was = h.free_sound (at, j) is in none was.1.evse was.1.at
+    pub unknown_evse : (uid : List ℕ) → get index uid ≡ None → IsEvse locations uid → ⊥
+    unknown_evse uid none e =
+        let there : IsTrue (is_some (get index uid)) = known_evse uid e in
+        let absent : is_some (get index uid) ≡ false = ap is_some none in
+        cc
 
-      pub none_free : HasNone position_cmp free (λ q. q.0 ≡ at) → (uid : Option (List ℕ)) (e : Evse) → IsCandidate locations at uid e → IsUnclaimed claims (key e.uid) → ⊥
-      none_free none uid e c unclaimed =
-          let p = position_of at uid e c in
-          let is : get free (at, p.0) ≡ Some tt = h.free_complete (key e.uid) (at, p.0) tt (record { evse = e; at = p.1; same = refl }) unclaimed in
-          let absent : get free (at, p.0) ≡ None = none (at, p.0) refl in
-          cc
+    pub evse_known : (uid : List ℕ) → IsTrue (contains_key index uid) → IsEvse locations uid
+    evse_known uid known = go (get index uid) refl
+      where
+        go : (o : Option Position) → get index uid ≡ o → IsEvse locations uid
+        go None e = let absent : is_some (get index uid) ≡ false = ap is_some e in absurd (cc)
+        go (Some p) e = of_site p uid (h.sound uid p e)
 
-    -- where the EVSE of a uid stands, and what it has
-    pub known_uid : (uid : List ℕ) → IsEvse locations uid → IsSome (get index uid) × IsTrue (contains_key rooms uid)
-    known_uid uid e =
-        let i = place locations e.location e.listed in
-        let j = place e.location.evses e.evse e.within in
-        let has : HasEvse locations (i.0, j.0) uid = record { evse = e.evse; at = record { location = e.location; stands = i.1; within = j.1 }; same = e.same } in
-        (h.complete uid (i.0, j.0) tt has, h.room uid (i.0, j.0) tt has)
+  module _ (flags : List (List Bool)) (test : List ℕ → Bool) (m : Marks locations flags test) (at : ℕ) where
+    -- an EVSE at a position whose flag is set passes the test
+    pub marked_there : (j : ℕ) (e : Evse) → IsFlag flags (at, j) true → IsEvseAt locations (at, j) e → IsTrue (test (key e.uid))
+    marked_there j e is there =
+        let right = m.right (key e.uid) (at, j) (record { evse = e; at = there; same = refl }) in
+        sym (one_flag flags (at, j) true (test (key e.uid)) is right)
+
+    -- and stands there
+    pub marked_stands : (j : ℕ) → IsFlag flags (at, j) true → ((e : Evse) → IsEvseAt locations (at, j) e → ⊥) → ⊥
+    marked_stands j is none = let was = m.no_others (at, j) is in none was.1.evse was.1.at
+
+    its_flag : (e : Evse) → IsCandidate locations at None e → IsTrue (test (key e.uid)) → (j : ℕ) × IsFlag flags (at, j) true
+    its_flag e c passes =
+        let p = position_of at None e c in
+        (p.0, subst (IsFlag flags (at, p.0)) passes (m.right (key e.uid) (at, p.0) (record { evse = e; at = p.1; same = refl })))
+
+    -- where no flag of the location is set, none of its EVSEs passes
+    pub none_marked : ((j : ℕ) → IsFlag flags (at, j) true → ⊥) → (e : Evse) → IsCandidate locations at None e → IsTrue (test (key e.uid)) → ⊥
+    none_marked none e c passes =
+        let p = position_of at None e c in
+        none p.0 (subst (IsFlag flags (at, p.0)) passes (m.right (key e.uid) (at, p.0) (record { evse = e; at = p.1; same = refl })))
 
   -- an EVSE of a location of the list is one of the site
   pub evse_of_site : (at : ℕ) (l : Location) (e : Evse) → slice_get locations at ≡ Some l → Contains l.evses e → IsEvse locations (key e.uid)

@@ -1,4 +1,4 @@
--- What finds the locations and EVSEs of a site stays right as it is filled, and when an EVSE is claimed.
+-- What finds the locations and EVSEs of a site stays right as it is filled.
 use Rattle.std.proofs.Common.{◌≡◌, ℕ, ◌<◌, ◌≤◌, ◌+◌, Bool, true, false, cond, ◌⊎◌, inl, inr, List, refl, sym, ap, subst, ◌∙◌, length, arith}
 use Rattle.std.specs.Prelude.{Option, Some, None, IsTrue, is_some, slice_get}
 use Rattle.std.specs.declared.cmp.Ordering.{Ordering}
@@ -13,15 +13,8 @@ use Rattle.ocpi_types.specs.declared.site.Location.{Location}
 use Rattle.ocpi_types.specs.declared.site.Evse.{Evse}
 use Rattle.tables.specs.Keys.{text_cmp, text_total, text_exact, pair_exact}
 use Rattle.tables.proofs.Maps.{of_insert, get-insert_same, get-insert_other, get-remove_other, of_remove}
-use Rattle.site.specs.Places.{Claims}
-use Rattle.site.specs.declared.claim.Claim.{Claim}
-use Rattle.site.specs.Positions.{Position, position_cmp, IsEvseAt, HasEvse, HasLocation, OneEvseEach, FindsLocations, FindsEvses, IsBefore}
-
-pub position_total : IsTotalOrder position_cmp
-position_total = then_total (on_total (λ (p : Position). p.0) nat_cmp_total) (on_total (λ (p : Position). p.1) nat_cmp_total)
-
-pub position_exact : IsAntisymmetric position_cmp
-position_exact = pair_exact nat_cmp nat_cmp nat_cmp-IsAntisymmetric nat_cmp-IsAntisymmetric
+use Rattle.site.specs.Places.{Idle}
+use Rattle.site.specs.Positions.{Position, IsEvseAt, HasEvse, HasLocation, OneEvseEach, FindsLocations, FindsEvses, IsBefore}
 
 none_some : {X : Type 0} (x : X) (o : Option X) → o ≡ None → o ≡ Some x → ⊥
 none_some x o a b = cc
@@ -35,29 +28,13 @@ module _ {K X : Type 0} {R : K → K → Ordering} (o : IsTotalOrder R) (m : Fin
       go true = refl
       go false = has
 
-  -- what has none after an insert had none
-  none_before : get (insert m k v) q ≡ None → get m q ≡ None
-  none_before none = go (eq_by_cmp R q k) (sym (get-insert o m k v q) ∙ none)
-    where
-      go : (t : Bool) → cond t (Some v) (get m q) ≡ None → get m q ≡ None
-      go true e = absurd (cc)
-      go false e = e
-
-  -- a value that is put in again stands wherever it stood
-  stays : get m q ≡ Some v → get (insert m k v) q ≡ Some v
-  stays has = get-insert o m k v q ∙ go (eq_by_cmp R q k)
-    where
-      go : (t : Bool) → cond t (Some v) (get m q) ≡ Some v
-      go true = refl
-      go false = has
-
 -- a position has one EVSE
 pub one_evse : (locations : List Location) (p : Position) (e f : Evse) → IsEvseAt locations p e → IsEvseAt locations p f → e ≡ f
 one_evse locations p e f g h =
     let l : g.location ≡ h.location = same_Some g.location h.location (sym g.stands ∙ h.stands) in
     same_Some e f (sym g.within ∙ ap (λ (x : Location). slice_get x.evses p.1) l ∙ h.within)
 
-one_uid : (locations : List Location) (p : Position) (uid other : List ℕ) → HasEvse locations p uid → HasEvse locations p other → uid ≡ other
+pub one_uid : (locations : List Location) (p : Position) (uid other : List ℕ) → HasEvse locations p uid → HasEvse locations p other → uid ≡ other
 one_uid locations p uid other g h = sym g.same ∙ ap (λ (e : Evse). key e.uid) (one_evse locations p g.evse h.evse g.at h.at) ∙ h.same
 
 -- one more index is below, or is that number
@@ -93,37 +70,35 @@ module _ (locations : List Location) where
   all_locations index h = record { sound = h.sound; complete = λ id i b has. h.complete id i (slice_get_within locations i has.location has.stands) has }
 
   -- the index of no EVSE
-  pub no_evse : (claims : Claims) (rooms : FinMap text_cmp (Unit {0})) → FindsEvses locations (IsBefore 0 0) empty claims rooms empty
-  no_evse claims rooms = record {
+  pub no_evse : (claim_rooms service_rooms : Idle) → FindsEvses locations (IsBefore 0 0) empty claim_rooms service_rooms
+  no_evse claim_rooms service_rooms = record {
     sound = λ uid p e. absurd (none_some p _ (get-empty text_cmp uid) e);
     complete = λ uid p b h. absurd (none_before_first p b);
     room = λ uid p b h. absurd (none_before_first p b);
-    free_sound = λ p e. absurd (none_some tt _ (get-empty position_cmp p) e);
-    free_complete = λ uid p b h c. absurd (none_before_first p b);
+    service_room = λ uid p b h. absurd (none_before_first p b);
   }
     where
       none_before_first : (p : Position) → IsBefore 0 0 p → ⊥
       none_before_first p (inl h) = omega arith
       none_before_first p (inr h) = omega (arith, h.1)
 
-  module _ (index : FinMap text_cmp Position) (claims : Claims) (rooms : FinMap text_cmp (Unit {0})) (free : FinMap position_cmp (Unit {0})) where
+  module _ (index : FinMap text_cmp Position) (claim_rooms service_rooms : Idle) where
     -- at fewer positions
-    fewer : (P Q : Position → Type 0) → ((uid : List ℕ) (p : Position) → HasEvse locations p uid → Q p → P p) → FindsEvses locations P index claims rooms free → FindsEvses locations Q index claims rooms free
+    fewer : (P Q : Position → Type 0) → ((uid : List ℕ) (p : Position) → HasEvse locations p uid → Q p → P p) → FindsEvses locations P index claim_rooms service_rooms → FindsEvses locations Q index claim_rooms service_rooms
     fewer P Q within h = record {
       sound = h.sound;
       complete = λ uid p b has. h.complete uid p (within uid p has b) has;
       room = λ uid p b has. h.room uid p (within uid p has b) has;
-      free_sound = h.free_sound;
-      free_complete = λ uid p b has none. h.free_complete uid p (within uid p has b) has none;
+      service_room = λ uid p b has. h.service_room uid p (within uid p has b) has;
     }
 
-    -- one more EVSE, while none is claimed
-    module _ (P Q : Position → Type 0) (p : Position) (uid : List ℕ) (or_here : (q : Position) → Q q → P q ⊎ (q ≡ p)) (h : FindsEvses locations P index claims rooms free) (here : HasEvse locations p uid) where
+    -- one more EVSE
+    module _ (P Q : Position → Type 0) (p : Position) (uid : List ℕ) (or_here : (q : Position) → Q q → P q ⊎ (q ≡ p)) (h : FindsEvses locations P index claim_rooms service_rooms) (here : HasEvse locations p uid) where
       its_uid : (q : Position) (other : List ℕ) → q ≡ p → HasEvse locations q other → uid ≡ other
       its_uid q other is has = one_uid locations p uid other here (subst (λ z. HasEvse locations z other) is has)
 
-      one_more : ((other : List ℕ) → get claims other ≡ None) → FindsEvses locations Q (insert index uid p) claims (insert rooms uid tt) (insert free p tt)
-      one_more unclaimed = record {
+      one_more : FindsEvses locations Q (insert index uid p) (insert claim_rooms uid tt) (insert service_rooms uid tt)
+      one_more = record {
         sound = λ other q e. elim (of_insert text_total text_exact index uid p other q e) [
           | inl at ↦ subst (λ z. HasEvse locations z other) at.1 (subst (HasEvse locations p) (sym at.0) here)
           | inr old ↦ h.sound other q old
@@ -133,31 +108,27 @@ module _ (locations : List Location) where
           | inr is ↦ subst (λ z. IsTrue (contains_key (insert index uid p) z)) (its_uid q other is has) (ap is_some (get-insert_same text_total text_exact index uid p))
         ];
         room = λ other q b has. elim (or_here q b) [
-          | inl old ↦ still text_total rooms uid other tt (h.room other q old has)
-          | inr is ↦ subst (λ z. IsTrue (contains_key (insert rooms uid tt) z)) (its_uid q other is has) (ap is_some (get-insert_same text_total text_exact rooms uid tt))
+          | inl old ↦ still text_total claim_rooms uid other tt (h.room other q old has)
+          | inr is ↦ subst (λ z. IsTrue (contains_key (insert claim_rooms uid tt) z)) (its_uid q other is has) (ap is_some (get-insert_same text_total text_exact claim_rooms uid tt))
         ];
-        free_sound = λ q e. elim (of_insert position_total position_exact free p tt q tt e) [
-          | inl at ↦ (uid, subst (λ z. HasEvse locations z uid) (sym at.0) here, unclaimed uid)
-          | inr old ↦ h.free_sound q old
-        ];
-        free_complete = λ other q b has none. elim (or_here q b) [
-          | inl old ↦ stays position_total free p q tt (h.free_complete other q old has none)
-          | inr is ↦ subst (λ z. get (insert free p tt) z ≡ Some tt) (sym is) (get-insert_same position_total position_exact free p tt)
+        service_room = λ other q b has. elim (or_here q b) [
+          | inl old ↦ still text_total service_rooms uid other tt (h.service_room other q old has)
+          | inr is ↦ subst (λ z. IsTrue (contains_key (insert service_rooms uid tt) z)) (its_uid q other is has) (ap is_some (get-insert_same text_total text_exact service_rooms uid tt))
         ];
       }
 
     -- the next EVSE of a location
-    pub next_evse : (i j : ℕ) (uid : List ℕ) → ((other : List ℕ) → get claims other ≡ None) → FindsEvses locations (IsBefore i j) index claims rooms free → HasEvse locations (i, j) uid →
-        FindsEvses locations (IsBefore i (j + 1)) (insert index uid (i, j)) claims (insert rooms uid tt) (insert free (i, j) tt)
-    next_evse i j uid unclaimed h here = one_more (IsBefore i j) (IsBefore i (j + 1)) (i, j) uid or_here h here unclaimed
+    pub next_evse : (i j : ℕ) (uid : List ℕ) → FindsEvses locations (IsBefore i j) index claim_rooms service_rooms → HasEvse locations (i, j) uid →
+        FindsEvses locations (IsBefore i (j + 1)) (insert index uid (i, j)) (insert claim_rooms uid tt) (insert service_rooms uid tt)
+    next_evse i j uid h here = one_more (IsBefore i j) (IsBefore i (j + 1)) (i, j) uid or_here h here
       where
         or_here : (q : Position) → IsBefore i (j + 1) q → IsBefore i j q ⊎ (q ≡ (i, j))
         or_here q (inl less) = inl (inl less)
         or_here q (inr at) = elim (below_more j q.1 at.1) [ inl less ↦ inl (inr (at.0, less)) | inr is ↦ inr (λ k. (at.0 k, is k)) ]
 
     -- the next location
-    pub next_location : (i j : ℕ) (l : Location) → slice_get locations i ≡ Some l → length l.evses ≤ j → FindsEvses locations (IsBefore i j) index claims rooms free →
-        FindsEvses locations (IsBefore (i + 1) 0) index claims rooms free
+    pub next_location : (i j : ℕ) (l : Location) → slice_get locations i ≡ Some l → length l.evses ≤ j → FindsEvses locations (IsBefore i j) index claim_rooms service_rooms →
+        FindsEvses locations (IsBefore (i + 1) 0) index claim_rooms service_rooms
     next_location i j l stands all h = fewer (IsBefore i j) (IsBefore (i + 1) 0) within h
       where
         in_location : (q : Position) (e : Evse) → IsEvseAt locations q e → q.0 ≡ i → q.1 < j
@@ -171,21 +142,5 @@ module _ (locations : List Location) where
         within uid q has (inr at) = absurd (omega (arith, at.1))
 
     -- all EVSEs
-    pub all_evses : FindsEvses locations (IsBefore (length locations) 0) index claims rooms free → FindsEvses locations (λ p. Unit {0}) index claims rooms free
+    pub all_evses : FindsEvses locations (IsBefore (length locations) 0) index claim_rooms service_rooms → FindsEvses locations (λ p. Unit {0}) index claim_rooms service_rooms
     all_evses h = fewer (IsBefore (length locations) 0) (λ p. Unit {0}) (λ uid p has b. inl (slice_get_within locations p.0 has.at.location has.at.stands)) h
-
-    -- an EVSE is claimed
-    pub claimed_one : (p : Position) (uid : List ℕ) (x : Claim) → OneEvseEach locations → FindsEvses locations (λ p. Unit {0}) index claims rooms free → HasEvse locations p uid →
-        FindsEvses locations (λ p. Unit {0}) index (insert claims uid x) rooms (remove free p)
-    claimed_one p uid x one h here = record {
-      sound = h.sound;
-      complete = h.complete;
-      room = h.room;
-      free_sound = λ q e.
-          let old = of_remove position_total position_exact free p q tt e in
-          let was = h.free_sound q old.1 in
-          (was.0, was.1, get-insert_other text_total text_exact claims uid x was.0 (λ same. old.0 (one was.0 q p was.1 (subst (HasEvse locations p) (sym same) here))) ∙ was.2);
-      free_complete = λ other q b has none.
-          get-remove_other position_total position_exact free p q (λ is. none_some x _ (ap (get (insert claims uid x)) (one_uid locations p uid other here (subst (λ z. HasEvse locations z other) is has)) ∙ none) (get-insert_same text_total text_exact claims uid x))
-          ∙ h.free_complete other q tt has (none_before text_total claims uid other x none);
-    }

@@ -1,3 +1,5 @@
+pub mod FaultText
+pub mod Flags
+pub mod Indexes
 pub mod Places
 pub mod Positions
-pub mod Indexes

@@ -1,7 +1,7 @@
--- The places of a site, each found by its key (OCPI 2.2.1, Locations: Location, EVSE and Connector object), and the claims
--- on its EVSEs.
-use Rattle.std.specs.Prelude.{◌≡◌, ℕ, List, Option, Some, None, Contains, slice_get}
-use Rattle.std.specs.FinMap.{FinMap, get}
+-- The places of a site, each found by its key (OCPI 2.2.1, Locations: Location, EVSE and Connector object), the claims on its
+-- EVSEs, and which of these are out of service.
+use Rattle.std.specs.Prelude.{◌≡◌, ℕ, Bool, true, false, not, ◌&&◌, List, Option, Some, None, Contains, IsTrue, slice_get}
+use Rattle.std.specs.FinMap.{FinMap, get, insert, remove, contains_key}
 use Rattle.ocpi_text.specs.Text.{key}
 use Rattle.ocpi_types.specs.declared.site.Site.{Site}
 use Rattle.ocpi_types.specs.declared.site.Location.{Location}
@@ -9,15 +9,22 @@ use Rattle.ocpi_types.specs.declared.site.Evse.{Evse}
 use Rattle.ocpi_types.specs.declared.site.Connector.{Connector}
 use Rattle.tables.specs.Keys.{text_cmp}
 use Rattle.site.specs.declared.claim.Claim.{Claim}
+use Rattle.site.specs.declared.claim.SiteFault.{SiteFault}
+use Rattle.site.specs.declared.claim.SiteFault.TheVariants.{UnknownLocation, UnknownEvse, Claimed, OutOfService}
 
--- the claims on EVSEs, by the keys of their uids
+-- the claim on each EVSE that is claimed, by the key of its uid
 abbrev pub Claims : Type 0
 Claims = FinMap text_cmp Claim
 
--- a site, and the claims on its EVSEs
+-- the EVSEs that are out of service, by the keys of their uids
+abbrev pub Idle : Type 0
+Idle = FinMap text_cmp (Unit {0})
+
+-- a site, the claims on its EVSEs, and its EVSEs that are out of service
 pub record Placed : Type 0 where
   pub site : Site
   pub claims : Claims
+  pub out_of_service : Idle
 
 -- a location of the list that has the id
 pub record IsLocation (locations : List Location) (id : List ℕ) (l : Location) : Type 0 where
@@ -48,6 +55,26 @@ pub record IsEvse (locations : List Location) (uid : List ℕ) : Type 0 where
   pub within : Contains location.evses evse
   pub same : key evse.uid ≡ uid
 
--- the EVSE of that key is not claimed
-abbrev pub IsUnclaimed : Claims → List ℕ → Type 0
-IsUnclaimed claims uid = get claims uid ≡ None
+-- the EVSE of that key is claimed, whatever by
+abbrev pub is_claimed : Claims → List ℕ → Bool
+is_claimed claims uid = contains_key claims uid
+
+-- the EVSE of that key is not out of service
+abbrev pub works : Idle → List ℕ → Bool
+works out uid = not (contains_key out uid)
+
+-- the EVSE of that key is not claimed and not out of service
+abbrev pub is_free : Claims → Idle → List ℕ → Bool
+is_free claims out uid = not (contains_key claims uid) && not (contains_key out uid)
+
+-- the EVSEs out of service, once that EVSE is put in service or out of it
+abbrev pub with_service : Bool → List ℕ → Idle → Idle
+with_service true uid out = remove out uid
+with_service false uid out = insert out uid tt
+
+-- why an EVSE may not be claimed: the first that applies
+abbrev pub IsRefused : Placed → List ℕ → SiteFault → Type 0
+IsRefused p evse UnknownLocation = ⊥
+IsRefused p evse UnknownEvse = ¬ IsEvse p.site.locations evse
+IsRefused p evse Claimed = IsEvse p.site.locations evse × IsTrue (is_claimed p.claims evse)
+IsRefused p evse OutOfService = IsEvse p.site.locations evse × (is_claimed p.claims evse ≡ false) × (works p.out_of_service evse ≡ false)

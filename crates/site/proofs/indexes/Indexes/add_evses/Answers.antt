@@ -2,7 +2,7 @@ use Rattle.std.proofs.Common.{◌≡◌, ◌≤◌, length, refl, sym, ap, subst
 use Rattle.std.proofs.lemmas.Option.{slice_get_read}
 use Rattle.ocpi_types.specs.declared.site.Location.{Location}
 use Rattle.ocpi_types.specs.declared.site.Evse.{Evse}
-use Rattle.site.proofs.Filling.{evse_added, free_added}
+use Rattle.site.proofs.Filling.{evse_added}
 use Rattle.site.proofs.Indexing.{next_location}
 use Rattle.site.proofs.indexes.Indexes.add_evses.Goals as goal
 
@@ -15,9 +15,11 @@ loop-j-preserved c =
     let within : slice_get location.evses c.loop-j.j ≡ Some evse =
     subst (λ (es : List Evse). slice_get es c.loop-j.j ≡ Some evse) evses (slice_get_read _ _ c.loop-j.j evse refl c.loop-j-test.true c.evse-item.is) in
     record {
-      found = evse_added c.args.locations.now c.args.i c.loop-j.j location evse c.loop-j.self c.add_evse.new.self stands within c.loop-j.invariant.found c.loop-j.invariant.unclaimed c.in_ok-add_evse.ensures;
+      found = evse_added c.args.locations.now c.args.i c.loop-j.j location evse c.loop-j.self c.add_evse.new.self stands within c.loop-j.invariant.found c.in_ok-add_evse.ensures;
       unclaimed = c.in_ok-add_evse.ensures.claims_stay ∙ c.loop-j.invariant.unclaimed;
-      free_alone = free_added _ _ _ _ c.loop-j.invariant.free_alone c.in_ok-add_evse.ensures;
+      in_service = c.in_ok-add_evse.ensures.out_of_service_stay ∙ c.loop-j.invariant.in_service;
+      working_stay = c.in_ok-add_evse.ensures.working_stay ∙ c.loop-j.invariant.working_stay;
+      free_stay = c.in_ok-add_evse.ensures.free_stay ∙ c.loop-j.invariant.free_stay;
       locations_stay = c.in_ok-add_evse.ensures.locations_stay ∙ c.loop-j.invariant.locations_stay;
     }
 
@@ -27,4 +29,4 @@ returns-clause-found c =
     let evses : c.as_slice-evse-items.result.now ≡ location.evses = c.as_slice-evse-items.ensures.value ∙ ap (λ (x : Location). x.evses) (sym c.index-locations-i.is) in
     let stands : slice_get c.args.locations.now c.args.i ≡ Some location = slice_get_read _ _ c.args.i location refl c.requires.within c.index-locations-i.is in
     let all : length location.evses ≤ c.loop-j.j = subst (λ (es : List Evse). length es ≤ c.loop-j.j) evses c.loop-j-test.false in
-    next_location _ _ _ _ _ c.args.i c.loop-j.j location stands all c.loop-j.invariant.found
+    next_location _ _ _ _ c.args.i c.loop-j.j location stands all c.loop-j.invariant.found

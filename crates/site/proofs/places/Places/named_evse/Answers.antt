@@ -4,23 +4,23 @@ use Rattle.site.proofs.places.Places.named_evse.Goals as goal
 
 pub returns-in_err-position-clause-none : goal.returns-in_err-position-clause-none
 returns-in_err-position-clause-none c =
-    rw (← c.self.view_is) (none_from c.from_residual.result (unknown_uid _ _ _ _ _ c.self.invariant.1.evses_found c.self.invariant.0 c.args.at c.args.uid.now (cc c.in_err-position.ensures)))
+    rw (← c.self.view_is) (none_from c.from_residual.result (unknown_uid _ _ _ _ c.self.invariant.2.evses_found c.self.invariant.1 c.args.at c.args.uid.now (cc c.in_err-position.ensures)))
 
 pub returns-then-position-at-clause-none : goal.returns-then-position-at-clause-none
 returns-then-position-at-clause-none c =
-    rw (← c.self.view_is) (other_location _ _ _ _ _ c.self.invariant.1.evses_found c.self.invariant.0 c.args.at c.args.uid.now c.in_ok-position.field-0.now (cc c.in_ok-position.ensures) c.if-position-at.true)
+    rw (← c.self.view_is) (other_location _ _ _ _ c.self.invariant.2.evses_found c.self.invariant.1 c.args.at c.args.uid.now c.in_ok-position.field-0.now (cc c.in_ok-position.ensures) c.if-position-at.true)
 
 pub returns-clause-found : goal.returns-clause-found
 returns-clause-found c =
     rw (← c.self.view_is) (IfSome_then c.evse_at.result (rw c.as_slice.ensures.value at c.evse_at.ensures.found)
-    (λ e there. found_uid _ _ _ _ _ c.self.invariant.1.evses_found c.self.invariant.0 c.args.at c.args.uid.now c.in_ok-position.field-0.now (cc c.in_ok-position.ensures) c.if-position-at.false e.now there))
+    (λ e there. found_uid _ _ _ _ c.self.invariant.2.evses_found c.self.invariant.1 c.args.at c.args.uid.now c.in_ok-position.field-0.now (cc c.in_ok-position.ensures) c.if-position-at.false e.now there))
 
 pub returns-clause-sole : goal.returns-clause-sole
 returns-clause-sole c =
     rw (← c.self.view_is) (IfSome_then c.evse_at.result (rw c.as_slice.ensures.value at c.evse_at.ensures.found)
-    (λ e there. sole_uid _ _ _ _ _ c.self.invariant.1.evses_found c.self.invariant.0 c.args.at c.args.uid.now c.in_ok-position.field-0.now (cc c.in_ok-position.ensures) e.now there))
+    (λ e there. sole_uid _ _ _ _ c.self.invariant.2.evses_found c.self.invariant.1 c.args.at c.args.uid.now c.in_ok-position.field-0.now (cc c.in_ok-position.ensures) e.now there))
 
 pub returns-clause-none : goal.returns-clause-none
 returns-clause-none c =
     rw (← c.self.view_is) (none_then c.evse_at.result (rw c.as_slice.ensures.value at c.evse_at.ensures.none)
-    (λ none. absurd (no_uid _ _ _ _ _ c.self.invariant.1.evses_found c.self.invariant.0 c.args.at c.args.uid.now c.in_ok-position.field-0.now (cc c.in_ok-position.ensures) none)))
+    (λ none. absurd (no_uid _ _ _ _ c.self.invariant.2.evses_found c.self.invariant.1 c.args.at c.args.uid.now c.in_ok-position.field-0.now (cc c.in_ok-position.ensures) none)))

@@ -1,12 +1,12 @@
-use Rattle.std.proofs.Common.{◌≡◌, refl, sym, ap, ◌∙◌, true, Option, Some, None, Bor}
+use Rattle.std.proofs.Common.{◌≡◌, refl, sym, ap, ◌∙◌, true, List, ℕ, Option, Some, None, Bor}
 use Rattle.std.specs.Prelude.{is_some, option_copied}
-use Rattle.std.specs.FinMap.{FinMap, get, remove}
-use Rattle.ocpi_text.specs.Text.{key}
+use Rattle.std.specs.FinMap.{get, contains_key}
 use Rattle.tables.specs.Keys.{text_cmp}
 use Rattle.tables.specs.Tables.{shown_of}
-use Rattle.site.specs.Positions.{Position, position_cmp}
-use Rattle.site.proofs.Finding.{known_uid}
-use Rattle.site.proofs.Indexing.{claimed_one}
+use Rattle.site.specs.Places.{Claims, Idle}
+use Rattle.site.specs.Positions.{Position, HasEvse}
+use Rattle.site.proofs.Finding.{known_evse}
+use Rattle.site.proofs.Remarking.{flags_stand, inserted_other, remarked}
 use Rattle.site.proofs.places.Places.put_claim.Goals as goal
 
 lent : {A : Type 0} (r : Option (Bor A)) → is_some (option_copied r) ≡ true → is_some r ≡ true
@@ -14,25 +14,24 @@ lent None e = e
 lent (Some x) e = refl
 
 pub unwrap-position-requires : goal.unwrap-position-requires
-unwrap-position-requires c =
-    let known = known_uid _ _ _ _ _ c.self.invariant.1.evses_found (key c.args.evse.now) (rw (← c.self.view_is) at c.requires) in
-    lent c.get.result (rw (c.get.ensures, c.key-uid.ensures) known.0)
+unwrap-position-requires c = lent c.get.result (rw c.get.ensures (known_evse _ _ _ _ c.self.invariant.2.evses_found c.args.evse (rw (← c.self.view_is) at c.requires)))
 
-pub put-requires : goal.put-requires
-put-requires c =
-    let known = known_uid _ _ _ _ _ c.self.invariant.1.evses_found (key c.args.evse.now) (rw (← c.self.view_is) at c.requires) in
-    rw c.key-uid.ensures known.1
+pub put_claim-requires-clause-room : goal.put_claim-requires-clause-room
+put_claim-requires-clause-room c =
+    let known : get (shown_of text_cmp c.self.inside.indexes.evses) c.args.evse ≡ Some c.unwrap-position.result.now = sym c.get.ensures ∙ ap (λ (r : Option (Bor Position)). option_copied r) c.unwrap-position.ensures in
+    c.self.invariant.2.evses_found.room c.args.evse c.unwrap-position.result.now tt (c.self.invariant.2.evses_found.sound c.args.evse c.unwrap-position.result.now known)
+
+pub put_claim-requires-clause-flags : goal.put_claim-requires-clause-flags
+put_claim-requires-clause-flags c =
+    let known : get (shown_of text_cmp c.self.inside.indexes.evses) c.args.evse ≡ Some c.unwrap-position.result.now = sym c.get.ensures ∙ ap (λ (r : Option (Bor Position)). option_copied r) c.unwrap-position.ensures in
+    flags_stand _ c.self.invariant.1 _ c.self.invariant.2 c.args.evse c.unwrap-position.result.now (c.self.invariant.2.evses_found.sound c.args.evse c.unwrap-position.result.now known)
 
 pub invariant_of-self : goal.invariant_of-self
 invariant_of-self c =
-    let known : get (shown_of text_cmp c.self.inside.indexes.evses) (key c.args.evse.now) ≡ Some c.unwrap-position.result.now =
-    ap (get (shown_of text_cmp c.self.inside.indexes.evses)) (sym c.key-uid.ensures) ∙ sym c.get.ensures ∙ ap (λ (r : Option (Bor Position)). option_copied r) c.unwrap-position.ensures in
-    let there = c.self.invariant.1.evses_found.sound (key c.args.evse.now) c.unwrap-position.result.now known in
-    let claimed = claimed_one _ _ _ _ _ c.unwrap-position.result.now (key c.args.evse.now) c.args.claim c.self.invariant.0 c.self.invariant.1.evses_found there in (
+    let known : get (shown_of text_cmp c.self.inside.indexes.evses) c.args.evse ≡ Some c.unwrap-position.result.now = sym c.get.ensures ∙ ap (λ (r : Option (Bor Position)). option_copied r) c.unwrap-position.ensures in (
       c.self.invariant.0,
-      record {
-        locations_found = c.self.invariant.1.locations_found;
-        evses_found = rw (c.put.ensures.shown, c.put.ensures.room, c.remove.ensures.shown, c.key-uid.ensures) claimed;
-        free_alone = c.remove.ensures.room ∙ ap (λ (m : FinMap position_cmp (Unit {0})). remove m c.unwrap-position.result.now) c.self.invariant.1.free_alone ∙ sym c.remove.ensures.shown;
-      },
+      c.self.invariant.1,
+      remarked _ c.self.invariant.1 _ c.self.invariant.2 c.args.evse c.unwrap-position.result.now (c.self.invariant.2.evses_found.sound c.args.evse c.unwrap-position.result.now known) c.put_claim.new.self c.put_claim.ensures.marks
+      (λ q apart. ap (λ (m : Claims). contains_key m q) c.put_claim.ensures.claims ∙ inserted_other (shown_of text_cmp c.self.inside.indexes.claims) c.args.evse c.args.claim q apart)
+      (λ q apart. ap (λ (m : Idle). contains_key m q) c.put_claim.ensures.out_of_service),
     )
