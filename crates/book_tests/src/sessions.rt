@@ -3,9 +3,9 @@
 use ocpi_text::{CiText, E4, FreeText, Moment, Party, Quantity, ShortText, TextFault};
 use ocpi_types::{
     AuthMethod, CdrLocation, CdrToken, GeoLocation, Opening, PricePerKwh, Session as Version,
-    SessionStatus, TokenType, Word,
+    TokenType,
 };
-use session_state::{Active, Refused, Resumed, Session, SessionFault, resume, start};
+use session_state::{Active, Resumed, Session, SessionFault, resume, start};
 use std::alloc::Global;
 use std::test::Fail;
 
@@ -79,14 +79,14 @@ fn cost_of(kwh: i64, price: i64, at: Moment) -> Option<i64> {
 #[test]
 fn costs_are_rounded_down(rt: HostRuntime) -> Result<(), Fail> {
     let rows = [
-        (123_456, 2_500, 30_864),
-        (3, 2_500, 0),
-        (30_000, 2_500, 7_500),
-        (10_000_000_000, 100_000_000, 100_000_000_000_000),
+        (123_456, 2_500, Some(30_864)),
+        (3, 2_500, Some(0)),
+        (10_000_000_000, 100_000_000, Some(100_000_000_000_000)),
+        (10_000_000_001, 2_500, None),
     ];
     let at = after_ten(0)?;
     for (kwh, price, cost) in rows {
-        assert_eq!(rt; cost_of(kwh, price, at), Some(cost));
+        assert_eq!(rt; cost_of(kwh, price, at), cost);
     }
     Ok(())
 }
@@ -106,80 +106,26 @@ fn readings_follow_one_another(rt: HostRuntime) -> Result<(), Fail> {
         assert_eq!(rt; session.version().last_updated, ten.after(stamp));
     }
     assert_eq!(rt; cost_in(session.version()), Some(7_500));
+    assert!(rt; metered(session, ten, 29_999).is_none());
     Ok(())
 }
 
-/// Whether that reading may follow another.
-fn may_follow(first: i64, second: i64, at: Moment) -> Option<bool> {
-    let session = metered(charging(2_500, at)?, at, first)?;
-    Some(session.can_meter(energy(second)?))
-}
-
-#[test]
-fn readings_have_limits(rt: HostRuntime) -> Result<(), Fail> {
-    let rows = [
-        (30_000, 29_999, Some(false)),
-        (30_000, 30_000, Some(true)),
-        (0, 10_000_000_000, Some(true)),
-        (0, 10_000_000_001, Some(false)),
-    ];
-    let at = after_ten(0)?;
-    for (first, second, follows) in rows {
-        assert_eq!(rt; may_follow(first, second, at), follows);
-    }
-    Ok(())
-}
-
-/// The session as it was, where the refusal is that of the last moment.
-fn at_stamp_end<T: Drop>(refused: Refused<T>) -> Option<T> {
-    let Refused { fault, value } = refused;
-    if fault == SessionFault::StampEnd {
-        Some(value)
-    } else {
-        None
-    }
-}
-
-/// The version of a session that began at the last moment, after each of its moves was refused.
-fn pending_at_the_end(last: Moment) -> Option<Version> {
-    let session = start(opening(price_of(2_500)?).ok()?, last);
-    let session = at_stamp_end(session.activate(last).err()?)?;
-    let session = at_stamp_end(session.void(last).err()?)?;
-    Some(*session.version())
-}
-
-/// The version of a session that was charged from the last moment on, after each of its moves was refused.
-fn active_at_the_end(last: Moment) -> Option<Version> {
+/// The fault and the last update of a session that was charged from the last moment on, after a reading then.
+fn read_at(last: Moment) -> Option<(SessionFault, Moment)> {
     let session = start(opening(price_of(2_500)?).ok()?, after_ten(0).ok()?);
     let session = session.activate(last).ok()?;
     let kwh = energy(10_000)?;
     if !session.can_meter(kwh) {
         return None;
     }
-    let session = at_stamp_end(session.meter(last, kwh).err()?)?;
-    match session.complete(last) {
-        Ok((_session, draft)) => {
-            draft.give_up();
-            None
-        }
-        Err(refused) => Some(*at_stamp_end(refused)?.version()),
-    }
+    let refused = session.meter(last, kwh).err()?;
+    Some((refused.fault, refused.value.version().last_updated))
 }
 
 #[test]
 fn no_version_follows_the_last_moment(rt: HostRuntime) -> Result<(), Fail> {
     let last = Moment::read("9999-12-31T23:59:59.999Z")?;
-    let version = pending_at_the_end(last).ok_or("moved")?;
-    assert_eq!(rt;
-        (version.status.word(), version.last_updated),
-        ("PENDING", last)
-    );
-    let version = active_at_the_end(last).ok_or("moved")?;
-    assert_eq!(rt;
-        (version.status.word(), version.last_updated),
-        ("ACTIVE", last)
-    );
-    assert_eq!(rt; version.kwh.value().units(), 0);
+    assert_eq!(rt; read_at(last), Some((SessionFault::StampEnd, last)));
     Ok(())
 }
 
@@ -190,15 +136,18 @@ fn coordinates(alloc: Global) -> Result<GeoLocation, TextFault> {
     })
 }
 
-/// Three texts of that many characters at most.
-fn texts<const A: usize, const B: usize, const C: usize>(
-    alloc: Global,
-    [a, b, c]: [&str; 3],
-) -> Result<(FreeText<A>, FreeText<B>, FreeText<C>), TextFault> {
-    let a = FreeText::new(alloc, a)?;
-    let b = FreeText::new(alloc, b)?;
-    let c = FreeText::new(alloc, c)?;
-    Ok((a, b, c))
+fn address(alloc: Global) -> Result<(FreeText<45>, FreeText<45>, FreeText<3>), TextFault> {
+    let address = FreeText::new(alloc, "Korenmarkt 1")?;
+    let city = FreeText::new(alloc, "Gent")?;
+    let country = FreeText::new(alloc, "BEL")?;
+    Ok((address, city, country))
+}
+
+fn connector(alloc: Global) -> Result<(FreeText<64>, FreeText<64>, FreeText<64>), TextFault> {
+    let standard = FreeText::new(alloc, "IEC_62196_T2")?;
+    let format = FreeText::new(alloc, "SOCKET")?;
+    let power_type = FreeText::new(alloc, "AC_3_PHASE")?;
+    Ok((standard, format, power_type))
 }
 
 /// E1 at LOC1.
@@ -206,11 +155,8 @@ fn location(alloc: Global) -> Result<CdrLocation, TextFault> {
     let (id, evse_uid) = (CiText::new("LOC1")?, CiText::new("E1")?);
     let (evse_id, connector_id) = (CiText::new("BE*BEC*E1")?, CiText::new("1")?);
     let coordinates = coordinates(alloc)?;
-    let (address, city, country) = texts(alloc, ["Korenmarkt 1", "Gent", "BEL"])?;
-    let (connector_standard, connector_format, connector_power_type) = texts(
-        alloc,
-        ["IEC_62196_T2", "SOCKET", "AC_3_PHASE"],
-    )?;
+    let (address, city, country) = address(alloc)?;
+    let (connector_standard, connector_format, connector_power_type) = connector(alloc)?;
     Ok(CdrLocation {
         id,
         address,
@@ -259,41 +205,17 @@ fn a_completed_session_is_billed(rt: HostRuntime) -> Result<(), Fail> {
     Ok(())
 }
 
-/// The state that a version is resumed in.
-fn resumed_state(version: Version, price: PricePerKwh) -> &'static str {
-    match resume(version, price) {
-        Ok(Resumed::Pending(_)) => "PENDING",
-        Ok(Resumed::Active(_)) => "ACTIVE",
-        Ok(Resumed::Completed(_)) => "COMPLETED",
-        Ok(Resumed::Invalid(_)) => "INVALID",
-        Err(_) => "none",
-    }
-}
-
-/// The state that a version of 1.0000 kWh at 0.2500 is resumed in, with another status and energy.
-fn changed_state(status: SessionStatus, kwh: i64, at: Moment) -> Option<&'static str> {
+/// Whether the newest version of an ACTIVE session of 1.0000 kWh at 0.2500 is resumed as that, at another price.
+fn is_resumed(price: i64, at: Moment) -> Option<bool> {
     let session = metered(charging(2_500, at)?, at, 10_000)?;
-    let version = Version {
-        status,
-        kwh: energy(kwh)?,
-        ..*session.version()
-    };
-    Some(resumed_state(version, price_of(2_500)?))
+    let resumed = resume(*session.version(), price_of(price)?);
+    Some(matches!(resumed, Ok(Resumed::Active(_))))
 }
 
 #[test]
-fn versions_are_resumed(rt: HostRuntime) -> Result<(), Fail> {
-    let rows = [
-        (SessionStatus::Pending, 10_000, "PENDING"),
-        (SessionStatus::Active, 10_003, "ACTIVE"),
-        (SessionStatus::Completed, 10_000, "COMPLETED"),
-        (SessionStatus::Invalid, 10_000, "INVALID"),
-        (SessionStatus::Reservation, 10_000, "none"),
-        (SessionStatus::Active, 10_004, "none"),
-    ];
+fn versions_are_resumed_at_their_price(rt: HostRuntime) -> Result<(), Fail> {
     let at = after_ten(0)?;
-    for (status, kwh, state) in rows {
-        assert_eq!(rt; changed_state(status, kwh, at), Some(state));
-    }
+    assert_eq!(rt; is_resumed(2_500, at), Some(true));
+    assert_eq!(rt; is_resumed(2_501, at), Some(false));
     Ok(())
 }

@@ -1,5 +1,5 @@
 -- What energy costs. All numbers are ten-thousandths: of a kilowatt-hour, of the currency.
-use Rattle.std.specs.Prelude.{◌≡◌, ℤ, pos, ◌*ℤ◌, Option, Some}
+use Rattle.std.specs.Prelude.{ℤ, pos, ◌*ℤ◌}
 use Rattle.std.specs.Int.{int_div_euclid}
 use Rattle.ocpi_types.specs.declared.sessions.Price.{Price}
 

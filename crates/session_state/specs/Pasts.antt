@@ -3,7 +3,7 @@ use Rattle.std.specs.Prelude.{◌≡◌, ℕ, ◌<◌, ℤ, ◌≤ℤ◌, List, 
 use Rattle.ocpi_text.specs.Moment.{last_moment}
 use Rattle.ocpi_types.specs.declared.sessions.Session.{Session}
 use Rattle.ocpi_types.specs.declared.words.SessionStatus.{SessionStatus}
-use Rattle.ocpi_types.specs.declared.words.SessionStatus.TheVariants.{Active, Completed, Invalid, Pending, Reservation}
+use Rattle.ocpi_types.specs.declared.words.SessionStatus.TheVariants.{Active, Completed, Invalid, Pending}
 use Rattle.ocpi_types.specs.declared.sessions.Opening.{Opening}
 use Rattle.session_state.specs.Versions.{HasCost, CanRead, first_version, activated, metered, completed, voided}
 

@@ -1,10 +1,10 @@
 -- The versions of a session (OCPI 2.2.1, Sessions: Session object and SessionStatus).
-use Rattle.std.specs.Prelude.{◌≡◌, ℕ, ◌+◌, ◌<◌, max, ℤ, pos, ◌≤ℤ◌, Some, None, ⊤}
+use Rattle.std.specs.Prelude.{◌≡◌, ℕ, ◌+◌, max, ℤ, pos, ◌≤ℤ◌, Some, None}
 use Rattle.ocpi_types.specs.declared.sessions.Session.{Session}
 use Rattle.ocpi_types.specs.declared.words.SessionStatus.{SessionStatus}
 use Rattle.ocpi_types.specs.declared.words.SessionStatus.TheVariants.{Active, Completed, Invalid, Pending}
 use Rattle.ocpi_types.specs.declared.sessions.Opening.{Opening}
-use Rattle.session_state.specs.Costs.{cost, price_of, most_kwh}
+use Rattle.session_state.specs.Costs.{price_of, most_kwh}
 
 -- a session: its newest version, and what a kilowatt-hour costs
 pub record Priced : Type 0 where

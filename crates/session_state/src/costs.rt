@@ -17,10 +17,7 @@ pub(crate) fn cost_of(kwh: Quantity, price: PricePerKwh) -> Option<Price>
     let energy = kwh.value().units().unsigned_abs();
     let price = price.value().units().unsigned_abs();
     let cost = u128::from(energy) * u128::from(price) / 10_000;
-    if cost >= 1_000_000_000_000_000 {
-        return None;
-    }
-    let excl_vat = E4::new(cost as i64)?;
+    let excl_vat = E4::new(i64::try_from(cost).ok()?)?;
     Some(Price { excl_vat })
 }
 
