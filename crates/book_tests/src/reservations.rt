@@ -3,9 +3,7 @@
 
 use ocpi_text::{CiKey, CiText, Moment, Party, PartyKey, ShortText, TextFault, Whole};
 use ocpi_types::{Reservation, Token, TokenType, WhitelistType};
-use reservation_book::{
-    CancelOutcome, ReservationBook, ReservationFault, Standing, TokenAt,
-};
+use reservation_book::{CancelOutcome, ReservationBook, ReservationFault, Standing, TokenAt};
 use std::alloc::{AllocError, Global};
 use std::process::Abort;
 use std::test::Fail;
@@ -40,7 +38,7 @@ struct Turn {
     answer: &'static str,
 }
 
-fn turn(
+fn ask(
     call: Call,
     number: u64,
     location: &'static str,
@@ -183,14 +181,14 @@ fn play(rt: &impl Abort, alloc: Global, turns: &[Turn]) -> Result<(), Fail> {
 #[test]
 fn replaced(rt: HostRuntime) -> Result<(), Fail> {
     let turns = [
-        turn(Call::Reserve, 1, "LOC1", "E1", 3_600, "taken"),
-        turn(Call::Reserve, 2, "loc1", "E2", 7_200, "taken"),
-        turn(Call::Standing, 0, "", "", 0, "E2"),
-        turn(Call::Use, 0, "LOC1", "E1", 0, "none"),
-        turn(Call::Reserve, 3, "LOC2", "E3", 7_200, "2 OtherLocation"),
-        turn(Call::Mark, 0, "", "", 0, "2"),
-        turn(Call::Use, 0, "LOC1", "e2", 0, "E2"),
-        turn(Call::Use, 0, "LOC1", "", 0, "none"),
+        ask(Call::Reserve, 1, "LOC1", "E1", 3_600, "taken"),
+        ask(Call::Reserve, 2, "loc1", "E2", 7_200, "taken"),
+        ask(Call::Standing, 0, "", "", 0, "E2"),
+        ask(Call::Use, 0, "LOC1", "E1", 0, "none"),
+        ask(Call::Reserve, 3, "LOC2", "E3", 7_200, "2 OtherLocation"),
+        ask(Call::Mark, 0, "", "", 0, "2"),
+        ask(Call::Use, 0, "LOC1", "e2", 0, "E2"),
+        ask(Call::Use, 0, "LOC1", "", 0, "none"),
     ];
     play(&rt, rt.alloc(), turns.as_slice())
 }
@@ -199,14 +197,14 @@ fn replaced(rt: HostRuntime) -> Result<(), Fail> {
 #[test]
 fn stale(rt: HostRuntime) -> Result<(), Fail> {
     let turns = [
-        turn(Call::Cancel, 5, "", "", 0, "none"),
-        turn(Call::Reserve, 4, "LOC1", "E1", 3_600, "1 Stale"),
-        turn(Call::Standing, 0, "", "", 0, "none"),
-        turn(Call::Reserve, 5, "LOC1", "E1", 3_600, "taken"),
-        turn(Call::Note, 4, "", "", 0, "1 Stale"),
-        turn(Call::Note, 6, "", "", 0, "taken"),
-        turn(Call::Cancel, 5, "", "", 0, "1 Stale"),
-        turn(Call::Cancel, 6, "", "", 0, "E1"),
+        ask(Call::Cancel, 5, "", "", 0, "none"),
+        ask(Call::Reserve, 4, "LOC1", "E1", 3_600, "1 Stale"),
+        ask(Call::Standing, 0, "", "", 0, "none"),
+        ask(Call::Reserve, 5, "LOC1", "E1", 3_600, "taken"),
+        ask(Call::Note, 4, "", "", 0, "1 Stale"),
+        ask(Call::Note, 6, "", "", 0, "taken"),
+        ask(Call::Cancel, 5, "", "", 0, "1 Stale"),
+        ask(Call::Cancel, 6, "", "", 0, "E1"),
     ];
     play(&rt, rt.alloc(), turns.as_slice())
 }
@@ -215,12 +213,12 @@ fn stale(rt: HostRuntime) -> Result<(), Fail> {
 #[test]
 fn expires(rt: HostRuntime) -> Result<(), Fail> {
     let turns = [
-        turn(Call::Reserve, 1, "LOC1", "E1", 3_600, "taken"),
-        turn(Call::Reserve, 2, "LOC1", "E2", 7_200, "taken"),
-        turn(Call::Expire, 0, "", "", 7_199, "none"),
-        turn(Call::Expire, 0, "", "", 7_200, "E2"),
-        turn(Call::Expire, 0, "", "", 7_200, "none"),
-        turn(Call::Mark, 0, "", "", 0, "2"),
+        ask(Call::Reserve, 1, "LOC1", "E1", 3_600, "taken"),
+        ask(Call::Reserve, 2, "LOC1", "E2", 7_200, "taken"),
+        ask(Call::Expire, 0, "", "", 7_199, "none"),
+        ask(Call::Expire, 0, "", "", 7_200, "E2"),
+        ask(Call::Expire, 0, "", "", 7_200, "none"),
+        ask(Call::Mark, 0, "", "", 0, "2"),
     ];
     play(&rt, rt.alloc(), turns.as_slice())
 }

@@ -10,7 +10,7 @@ use Rattle.std.specs.declared.cmp.Ordering.TheVariants.{Less, Equal, Greater}
 use Rattle.std.specs.Cmp.{IsTotalOrder, eq_by_cmp_equiv}
 use Rattle.std.specs.FinMap.{FinMap, IsAntisymmetric, find, is_sorted, get, entries, entries_sorted, get-entries}
 use Rattle.std.specs.FinMap.Entries.{below_all}
-use Rattle.std.proofs.lemmas.List.{get_or-map, length-map}
+use Rattle.std.proofs.lemmas.List.{append_assoc, append-nil, get_or-map, length-map}
 use Rattle.std.proofs.lemmas.List.Elements.{All-cons, All-append, All-map, Contains-get_or, Contains-append_left, Contains-append_right, Contains-append_cases, Contains-push_cases}
 use Rattle.std.proofs.lemmas.List.Kept.{AllPairs-cons}
 use Rattle.std.proofs.lemmas.Map.Keys.{IsDistinct-from_sorted}
@@ -134,3 +134,11 @@ module _ {K X : Type 0} {R : K → K → Ordering} (o : IsTotalOrder R) (exact :
     pub each_apart : (es : List (K × X)) → T (is_sorted R es) → AllPairs A (map f es)
     each_apart [] h = no_pairs A
     each_apart (e ∷ es) h = AllPairs-cons A (f e) (map f es) (All-map (A (f e)) f es (each_later e es (former _ _ h))) (each_apart es (latter _ _ h))
+
+-- a list that grows at its end by what is left
+module _ {Y : Type 0} (xs ys : List Y) where
+  pub one_more : (zs : List Y) (y : Y) (now later : List Y) → zs ≡ xs ++ y ∷ [] → now ≡ y ∷ later → xs ++ now ≡ ys → zs ++ later ≡ ys
+  one_more zs y now later grown left is = ap (λ l. l ++ later) grown ∙ append_assoc xs (y ∷ []) later ∙ ap (λ l. xs ++ l) (sym left) ∙ is
+
+  pub none_left : (now : List Y) → now ≡ [] → xs ++ now ≡ ys → xs ≡ ys
+  none_left now left is = sym (append-nil xs) ∙ ap (λ l. xs ++ l) (sym left) ∙ is

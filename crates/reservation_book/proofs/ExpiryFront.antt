@@ -41,10 +41,10 @@ module _ (at : ℕ) (m : Reservations) (index : FinMap expiry_cmp (Unit {0})) (h
   front_more list e left f x is now = record {
     expired = λ y i. elim (Contains-push_cases list x y i) [ inl j ↦ f.expired y j | inr j ↦ subst (HasExpired at m) j now ];
     joined =
-      ap (λ l. l ++ map (λ (d : Expiry × Unit {0}). d.0) left) (map-append expiry_at list (x ∷ []))
-      ∙ append_assoc (map expiry_at list) (expiry_at x ∷ []) (map (λ (d : Expiry × Unit {0}). d.0) left)
-      ∙ ap (λ z. map expiry_at list ++ (z ∷ map (λ (d : Expiry × Unit {0}). d.0) left)) is
-      ∙ f.joined;
+        ap (λ l. l ++ map (λ (d : Expiry × Unit {0}). d.0) left) (map-append expiry_at list (x ∷ []))
+        ∙ append_assoc (map expiry_at list) (expiry_at x ∷ []) (map (λ (d : Expiry × Unit {0}). d.0) left)
+        ∙ ap (λ z. map expiry_at list ++ (z ∷ map (λ (d : Expiry × Unit {0}). d.0) left)) is
+        ∙ f.joined;
   }
 
   module _ (list : List Standing) (left : List (Expiry × Unit {0})) (f : IsFront at m index list left) where

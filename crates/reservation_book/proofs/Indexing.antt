@@ -93,5 +93,5 @@ module _ {K I V : Type 0} {R : K → K → Ordering} {S : I → I → Ordering} 
 
 -- what is no value is none
 pub none_else : {X : Type 0} (a : Option X) → ((x : X) → a ≡ Some x → ⊥) → a ≡ None
-none_else None no = refl
-none_else (Some x) no = absurd (no x refl)
+none_else None none = refl
+none_else (Some x) none = absurd (none x refl)

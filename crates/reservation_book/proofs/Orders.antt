@@ -133,3 +133,51 @@ module _ {K X : Type 0} {R : K → K → Ordering} (m : FinMap R X) (P B : K →
 
   pub none_within : HasNone R m B → HasNone R m P
   none_within none q p = none q (within q p)
+
+-- what a search among the places finds, from the place of the token on
+module _ (t : TokenAt) (m : FinMap place_cmp (Unit {0})) (a : Place) where
+  module _ (f : IsPlaceFor t a) (no_evse : a.1.1 ≡ []) (no_id : a.1.2 ≡ []) where
+    any_within : (q : Place) → IsPlaceFor t q → IsLeBy place_cmp a q
+    any_within q g = least_for t a q f no_evse no_id g
+
+    pub any_none : HasNone place_cmp m (IsLeBy place_cmp a) → HasNone place_cmp m (IsPlaceFor t)
+    any_none = none_within m (IsPlaceFor t) (IsLeBy place_cmp a) any_within
+
+    pub any_some : (e : Place × Unit {0}) → IsLeast place_cmp m (IsLeBy place_cmp a) e → IsPlaceFor t e.0 → IsLeast place_cmp m (IsPlaceFor t) e
+    any_some = first_passes m (IsPlaceFor t) (IsLeBy place_cmp a) any_within
+
+    pub any_fails : (e : Place × Unit {0}) → IsLeast place_cmp m (IsLeBy place_cmp a) e → (IsPlaceFor t e.0 → ⊥) → HasNone place_cmp m (IsPlaceFor t)
+    any_fails e h = first_fails m (IsPlaceFor t) (IsLeBy place_cmp a) any_within e h (λ q g high. token_between t a e.0 q f g h.1 high)
+
+  module _ (evse : List ℕ) (f : IsPlaceOn t evse a) (no_id : a.1.2 ≡ []) where
+    on_within : (q : Place) → IsPlaceOn t evse q → IsLeBy place_cmp a q
+    on_within q g = least_on t evse a q f no_id g
+
+    pub on_none : HasNone place_cmp m (IsLeBy place_cmp a) → HasNone place_cmp m (IsPlaceOn t evse)
+    on_none = none_within m (IsPlaceOn t evse) (IsLeBy place_cmp a) on_within
+
+    pub on_some : (e : Place × Unit {0}) → IsLeast place_cmp m (IsLeBy place_cmp a) e → IsPlaceOn t evse e.0 → IsLeast place_cmp m (IsPlaceOn t evse) e
+    on_some = first_passes m (IsPlaceOn t evse) (IsLeBy place_cmp a) on_within
+
+    pub on_fails : (e : Place × Unit {0}) → IsLeast place_cmp m (IsLeBy place_cmp a) e → (IsPlaceOn t evse e.0 → ⊥) → HasNone place_cmp m (IsPlaceOn t evse)
+    on_fails e h = first_fails m (IsPlaceOn t evse) (IsLeBy place_cmp a) on_within e h (λ q g high. evse_between t evse a e.0 q f g h.1 high)
+
+  module _ (after : List ℕ × List ℕ) (f : IsPlaceFor t a) (evse : a.1.1 ≡ after.0) (id : a.1.2 ≡ after.1) where
+    spots : (q : Place) → IsPlaceFor t q → place_cmp a q ≡ text_pair_cmp after (q.1.1, q.1.2)
+    spots q g = by_spot a q (same_groups t a q f g) (same_types t a q f g) ∙ ap (λ (z : List ℕ × List ℕ). text_pair_cmp z (q.1.1, q.1.2)) (λ i. (evse i, id i))
+
+    after_within : (q : Place) → IsPlaceAfter t after q → IsLtBy place_cmp a q
+    after_within q g = spots q g.is_for ∙ g.later
+
+    is_after : (e : Place × Unit {0}) → IsLeast place_cmp m (IsLtBy place_cmp a) e → IsPlaceFor t e.0 → IsPlaceAfter t after e.0
+    is_after e h g = record { is_for = g; later = sym (spots e.0 g) ∙ h.1 }
+
+    pub after_none : HasNone place_cmp m (IsLtBy place_cmp a) → HasNone place_cmp m (IsPlaceAfter t after)
+    after_none = none_within m (IsPlaceAfter t after) (IsLtBy place_cmp a) after_within
+
+    pub after_some : (e : Place × Unit {0}) → IsLeast place_cmp m (IsLtBy place_cmp a) e → IsPlaceFor t e.0 → IsLeast place_cmp m (IsPlaceAfter t after) e
+    after_some e h g = first_passes m (IsPlaceAfter t after) (IsLtBy place_cmp a) after_within e h (is_after e h g)
+
+    pub after_fails : (e : Place × Unit {0}) → IsLeast place_cmp m (IsLtBy place_cmp a) e → (IsPlaceFor t e.0 → ⊥) → HasNone place_cmp m (IsPlaceAfter t after)
+    after_fails e h fails =
+        first_fails m (IsPlaceAfter t after) (IsLtBy place_cmp a) after_within e h (λ q g high. is_after e h (token_between t a e.0 q f g.is_for (ap is_gt h.1) high)) (λ g. fails g.is_for)

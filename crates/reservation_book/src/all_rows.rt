@@ -13,10 +13,7 @@ use ocpi_types::{Reservation, Row};
 use std::alloc::{AllocError, Global};
 use tables::Table;
 
-fn push_marks(
-    marks: &Table<ReservationKey, Whole>,
-    rows: &mut Vec<Row>,
-) -> Result<(), AllocError>
+fn push_marks(marks: &Table<ReservationKey, Whole>, rows: &mut Vec<Row>) -> Result<(), AllocError>
     ensures { OnOk result (rows.new.items ≡ rows.old.items ++ map mark_row (entries (shown_of text_pair_cmp marks.now))) }
 {
     for (key, number) in marks.iter() {

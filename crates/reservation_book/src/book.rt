@@ -137,12 +137,7 @@ impl ReservationBook {
     }
 
     /// The next of the provider's reservations for the token at the location, after the one on that EVSE with that id.
-    pub fn next_for(
-        &self,
-        token: &TokenAt,
-        evse_uid: CiKey<36>,
-        id: CiKey<36>,
-    ) -> Option<Standing>
+    pub fn next_for(&self, token: &TokenAt, evse_uid: CiKey<36>, id: CiKey<36>) -> Option<Standing>
         ensures some { IfSome result (λ x. IsNextFor self.now.rows.reservations token.now (evse_uid, id) x) }
         ensures none { IfNone result ((x : Standing) → IsFor self.now.rows.reservations token.now x → IsLtBy text_pair_cmp (evse_uid, id) (spot x) → ⊥) }
     {

@@ -93,7 +93,8 @@ impl Listings {
         ensures room { OnOk result (HaveRoom self.new key.now reservation.now) }
         ensures again { HaveRoom self.old key.now reservation.now → IsOk result }
     {
-        self.expiring.reserve((reservation.expiry_date, key.0, key.1))?;
+        self.expiring
+            .reserve((reservation.expiry_date, key.0, key.1))?;
         self.places.reserve(place_key(key, reservation))
     }
 
@@ -105,7 +106,8 @@ impl Listings {
         ensures expiring_room { rooms_of expiry_cmp self.new.expiring ≡ rooms_of expiry_cmp self.old.expiring }
         ensures places_room { rooms_of place_cmp self.new.places ≡ rooms_of place_cmp self.old.places }
     {
-        self.expiring.put((reservation.expiry_date, key.0, key.1), ());
+        self.expiring
+            .put((reservation.expiry_date, key.0, key.1), ());
         self.places.put(place_key(key, reservation), ());
     }
 
@@ -126,7 +128,8 @@ impl Listings {
         ensures expiring_room { (q : Expiry) → (q ≡ expiry_key key.now reservation.now → ⊥) → IsTrue (map.contains_key (rooms_of expiry_cmp self.old.expiring) q) → IsTrue (map.contains_key (rooms_of expiry_cmp self.new.expiring) q) }
         ensures places_room { (q : Place) → (q ≡ place_key key.now reservation.now → ⊥) → IsTrue (map.contains_key (rooms_of place_cmp self.old.places) q) → IsTrue (map.contains_key (rooms_of place_cmp self.new.places) q) }
     {
-        self.expiring.release((reservation.expiry_date, key.0, key.1));
+        self.expiring
+            .release((reservation.expiry_date, key.0, key.1));
         self.places.release(place_key(key, reservation));
     }
 
@@ -158,7 +161,8 @@ impl Listings {
         ensures expiring_room { rooms_of expiry_cmp self.new.expiring ≡ map.remove (rooms_of expiry_cmp self.old.expiring) (expiry_key key.now reservation.now) }
         ensures places_room { rooms_of place_cmp self.new.places ≡ map.remove (rooms_of place_cmp self.old.places) (place_key key.now reservation.now) }
     {
-        self.expiring.remove((reservation.expiry_date, key.0, key.1));
+        self.expiring
+            .remove((reservation.expiry_date, key.0, key.1));
         self.places.remove(place_key(key, reservation));
     }
 }
@@ -189,6 +193,14 @@ fn is_for(place: &PlaceKey, token: &TokenAt) -> bool
 {
     let group = (token.provider, token.location_id, token.uid);
     place.0.cmp(&group).is_eq() && place.1.0 == type_number(token.token_type)
+}
+
+/// Whether it is the place of a reservation for the token on the EVSE.
+fn is_on(place: &PlaceKey, token: &TokenAt, evse_uid: CiKey<36>) -> bool
+    ensures yes { IsTrue result → IsPlaceOn token.now evse_uid place.now }
+    ensures no { result ≡ false → IsPlaceOn token.now evse_uid place.now → ⊥ }
+{
+    is_for(place, token) && place.1.1.cmp(&evse_uid).is_eq()
 }
 
 impl Listings {
@@ -228,7 +240,7 @@ impl Listings {
         let Some((place, _)) = self.places.first_from(from) else {
             return None;
         };
-        if is_for(&place, token) && place.1.1.cmp(&evse_uid).is_eq() {
+        if is_on(&place, token, evse_uid) {
             Some(place)
         } else {
             None
