@@ -57,17 +57,17 @@ made_by (Expire at) s u h k r new none =
 
 pub new_reservations_are_newer : NewReservationsAreNewer
 new_reservations_are_newer [] s t h k r new none = absurd (none_some r _ none (subst (λ (z : Rows). get z.reservations k ≡ Some r) h new))
-new_reservations_are_newer (c ∷ cs) s t h k r new none = go (get h.0.reservations k) refl
+new_reservations_are_newer (c ∷ cs) s t h k r new none = go (get h.0.reservations k) refl (new_reservations_are_newer cs h.0 t h.2 k r new)
   where
-    go : (a : Option Reservation) → get h.0.reservations k ≡ a → IsMade (c ∷ cs) s.marks k
-    go None absent =
-        let later = new_reservations_are_newer cs h.0 t h.2 k r new absent in record {
-          number = later.number;
-          reservation = later.reservation;
-          listed = Contains-append_right (c ∷ []) cs _ later.listed;
-          in_time = λ m e. let first = one_call c s h.0 h.1 k m e in let a = first.2 in let b = later.in_time first.0 first.1 in omega arith;
+    go : (a : Option Reservation) → get h.0.reservations k ≡ a → (get h.0.reservations k ≡ None → IsMade cs h.0.marks k) → IsMade (c ∷ cs) s.marks k
+    go None absent later =
+        let made = later absent in record {
+          number = made.number;
+          reservation = made.reservation;
+          listed = Contains-append_right (c ∷ []) cs _ made.listed;
+          in_time = λ m e. let first = one_call c s h.0 h.1 k m e in let a = first.2 in let b = made.in_time first.0 first.1 in omega arith;
         }
-    go (Some x) has =
+    go (Some x) has later =
         let by = made_by c s h.0 h.1 k x has none in record {
           number = by.0;
           reservation = by.1;

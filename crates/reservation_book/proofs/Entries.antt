@@ -69,38 +69,39 @@ module _ {X : Type 0} (A : X → X → Type 0) where
       AllPairs-cons A x (xs ++ ys) (All-append (A x) xs ys (first_pairs x xs h) (all_of (A x) ys (λ y i. cross x y (in_front x xs) i)))
       (joined xs ys (later_pairs x xs h) g (λ z y i. cross z y (Contains-append_right (x ∷ []) xs z i)))
 
-module _ {K : Type 0} {R : K → K → Ordering} where
+module _ {K : Type 0} where
+  all_front : (P : K → Type 0) (xs ys : List K) → AllByRecursion P (xs ++ ys) → AllByRecursion P xs
+  all_front P [] ys h = tt
+  all_front P (x ∷ xs) ys h = (h.0, all_front P xs ys h.1)
+
+  each_of : (P : K → Type 0) (xs : List K) → AllByRecursion P xs → (y : K) → Contains xs y → P y
+  each_of P [] h y i = absurd (in_none y i)
+  each_of P (x ∷ xs) h y i = elim (Contains-append_cases (x ∷ []) xs y i) [ inl j ↦ subst P (in_single x y j) h.0 | inr j ↦ each_of P xs h.1 y j ]
+
+module _ {K : Type 0} (R : K → K → Ordering) where
   -- parts of a sorted list
   pub sorted_back : (xs ys : List K) → IsStrictlySortedBy R (xs ++ ys) → IsStrictlySortedBy R ys
   unfolding IsStrictlySortedBy
   sorted_back [] ys h = h
   sorted_back (x ∷ xs) ys h = sorted_back xs ys h.1
 
-  all_front : (P : K → Type 0) (xs ys : List K) → AllByRecursion P (xs ++ ys) → AllByRecursion P xs
-  all_front P [] ys h = tt
-  all_front P (x ∷ xs) ys h = (h.0, all_front P xs ys h.1)
-
   pub sorted_front : (xs ys : List K) → IsStrictlySortedBy R (xs ++ ys) → IsStrictlySortedBy R xs
   unfolding IsStrictlySortedBy
   sorted_front [] ys h = tt
   sorted_front (x ∷ xs) ys h = (all_front (λ y. R x y ≡ Less) xs ys h.0, sorted_front xs ys h.1)
-
-  each_of : (P : K → Type 0) (xs : List K) → AllByRecursion P xs → (y : K) → Contains xs y → P y
-  each_of P [] h y i = absurd (in_none y i)
-  each_of P (x ∷ xs) h y i = elim (Contains-append_cases (x ∷ []) xs y i) [ inl j ↦ subst P (in_single x y j) h.0 | inr j ↦ each_of P xs h.1 y j ]
 
   -- the first of a sorted list is below the others
   pub first_below : (x y : K) (xs : List K) → IsStrictlySortedBy R (x ∷ xs) → Contains xs y → R x y ≡ Less
   unfolding IsStrictlySortedBy
   first_below x y xs h i = each_of (λ z. R x z ≡ Less) xs h.0 y i
 
-module _ {K X : Type 0} {R : K → K → Ordering} (o : IsTotalOrder R) (exact : IsAntisymmetric R) where
-  -- a key that is below another is not the other
-  pub apart_of_less : (a b : K) → R a b ≡ Less → a ≢ b
-  apart_of_less a b below same =
-      let tied : is_eq (R a b) ≡ true = subst (λ z. is_eq (R a z) ≡ true) same ((eq_by_cmp_equiv o).refl a) in
-      let f : true ≡ false = sym tied ∙ ap is_eq below in cc
+-- a key that is below another is not the other
+pub apart_of_less : {K : Type 0} {R : K → K → Ordering} (o : IsTotalOrder R) (a b : K) → R a b ≡ Less → a ≢ b
+apart_of_less {R = R} o a b below same =
+    let tied : is_eq (R a b) ≡ true = subst (λ z. is_eq (R a z) ≡ true) same ((eq_by_cmp_equiv o).refl a) in
+    let f : true ≡ false = sym tied ∙ ap is_eq below in cc
 
+module _ {K X : Type 0} {R : K → K → Ordering} (o : IsTotalOrder R) (exact : IsAntisymmetric R) where
   above : (x : K) (es : List (K × X)) → T (below_all R x es) → AllByRecursion (λ y. R x y ≡ Less) (keys_of es)
   above x [] h = tt
   above x (e ∷ es) h = (less (R x e.0) (former _ _ h), above x es (latter _ _ h))
@@ -127,7 +128,7 @@ module _ {K X : Type 0} {R : K → K → Ordering} (o : IsTotalOrder R) (exact :
 
   module _ {Y : Type 0} (f : K × X → Y) (A : Y → Y → Type 0) (apart : (a b : K × X) → R a.0 b.0 ≡ Less → A (f a) (f b)) where
     each_later : (e : K × X) (es : List (K × X)) → T (below_all R e.0 es) → All (λ y. A (f e) (f y)) es
-    each_later e [] h k d bound = absurd (omega arith)
+    each_later e [] h = λ k d bound. absurd (omega arith)
     each_later e (y ∷ ys) h = All-cons (λ z. A (f e) (f z)) y ys (apart e y (less (R e.0 y.0) (former _ _ h))) (each_later e ys (latter _ _ h))
 
     -- what is made of the entries of a map

@@ -1,12 +1,13 @@
 -- The front of the queue of expiries has those that have expired, in order.
-use Rattle.std.proofs.Common.{◌≡◌, ℕ, ◌<◌, ◌≤◌, List, [], ◌∷◌, ◌++◌, map, inl, inr, true, false, Bool, cond, refl, sym, ap, subst, ◌∙◌, arith}
+use Rattle.std.proofs.Common.{◌≡◌, ℕ, ◌<◌, ◌≤◌, ◌+◌, suc, take, length, get_or, List, [], ◌∷◌, ◌++◌, map, inl, inr, true, false, Bool, cond, refl, sym, ap, subst, ◌∙◌, arith}
 use Rattle.std.specs.Prelude.{Option, Some, None, Contains, nat_le}
 use Rattle.std.specs.Ordering.{nat_cmp, ordering_then, is_gt}
 use Rattle.std.specs.declared.cmp.Ordering.{Ordering}
 use Rattle.std.specs.declared.cmp.Ordering.TheVariants.{Less}
 use Rattle.std.specs.List.Sorted.{IsStrictlySortedBy}
 use Rattle.std.specs.FinMap.{FinMap, get, remove, entries}
-use Rattle.std.proofs.lemmas.List.{append_assoc, map-append}
+use Rattle.std.proofs.lemmas.List.{append_assoc, map-append, take_all}
+use Rattle.std.proofs.Math.Seq.{take-suc}
 use Rattle.std.proofs.lemmas.List.Elements.{Contains-append_left, Contains-append_right, Contains-append_cases, Contains-push_cases}
 use Rattle.std.proofs.lemmas.Map.Keys.{le_from_not_gt}
 use Rattle.std.proofs.lemmas.Option.{same_Some}
@@ -22,7 +23,7 @@ use Rattle.reservation_book.specs.Listed.{Indexes}
 use Rattle.reservation_book.specs.Calls.{HasExpired, expiry_at, AreExpired, IsFront, Expires, not_expired, ended, ended_each}
 use Rattle.reservation_book.proofs.Orders.{expiry_total, expiry_exact, first_le}
 use Rattle.reservation_book.proofs.Indexing.{same_or_not}
-use Rattle.reservation_book.proofs.Entries.{in_none, in_single, in_front, in_map, of_map, sorted_back, sorted_front, first_below, keys_in_order, listed}
+use Rattle.reservation_book.proofs.Entries.{in_none, in_single, in_front, in_map, of_map, sorted_back, sorted_front, first_below, keys_in_order, listed, listed_only}
 
 -- what comes later in the order does not expire earlier
 not_earlier : (a b : Expiry) → expiry_cmp a b ≡ Less → a.0 ≤ b.0
@@ -51,10 +52,15 @@ module _ (at : ℕ) (m : Reservations) (index : FinMap expiry_cmp (Unit {0})) (h
     in_order : IsStrictlySortedBy expiry_cmp (map expiry_at list ++ map (λ (d : Expiry × Unit {0}). d.0) left)
     in_order = subst (IsStrictlySortedBy expiry_cmp) (sym f.joined) (keys_in_order expiry_total expiry_exact index)
 
+    one_standing : (y x : Standing) → Stands m y → Stands m x → ◌≡◌ {A = Key} (y.provider, y.id) (x.provider, x.id) → y ≡ x
+    one_standing y x sy sx same =
+        let r = same_Some y.reservation x.reservation (sym sy ∙ ap (get m) same ∙ sx) in
+        λ i. record { provider = (same i).0; id = (same i).1; reservation = r i }
+
     whole : ((q : Expiry) → Contains (map (λ (d : Expiry × Unit {0}). d.0) left) q → q.0 ≤ at → ⊥) → AreExpired at m list
     whole late = record {
       exact = λ x. (f.expired x, complete x);
-      in_order = sorted_front (map expiry_at list) _ in_order;
+      in_order = sorted_front expiry_cmp (map expiry_at list) _ in_order;
     }
       where
         complete : (x : Standing) → HasExpired at m x → Contains list x
@@ -68,11 +74,6 @@ module _ (at : ℕ) (m : Reservations) (index : FinMap expiry_cmp (Unit {0})) (h
               | inr i ↦ absurd (late (expiry_at x) i e.1)
             ]
 
-        one_standing : (y x : Standing) → Stands m y → Stands m x → ◌≡◌ {A = Key} (y.provider, y.id) (x.provider, x.id) → y ≡ x
-        one_standing y x sy sx same =
-            let r = same_Some y.reservation x.reservation (sym sy ∙ ap (get m) same ∙ sx) in
-            λ i. record { provider = (same i).0; id = (same i).1; reservation = r i }
-
   -- the whole queue was taken, or the first that is left expires later
   pub front_all : (list : List Standing) → IsFront at m index list [] → AreExpired at m list
   front_all list f = whole list [] f (λ q i _. in_none q i)
@@ -81,14 +82,51 @@ module _ (at : ℕ) (m : Reservations) (index : FinMap expiry_cmp (Unit {0})) (h
   front_until list e left f later = whole list (e ∷ left) f (λ q i soon. elim (Contains-append_cases (e.0 ∷ []) (map (λ (d : Expiry × Unit {0}). d.0) left) q i) [
     | inl j ↦ let same = ap (λ (z : Expiry). z.0) (in_single e.0 q j) in omega arith
     | inr j ↦
-        let below = not_earlier e.0 q (first_below e.0 q (map (λ (d : Expiry × Unit {0}). d.0) left) (sorted_back (map expiry_at list) _ (in_order list (e ∷ left) f)) j) in
+        let below = not_earlier e.0 q (first_below expiry_cmp e.0 q (map (λ (d : Expiry × Unit {0}). d.0) left) (sorted_back expiry_cmp (map expiry_at list) _ (in_order list (e ∷ left) f)) j) in
         omega arith
   ])
+
+  -- the next of the queue stands
+  pub next_stands : (list : List Standing) (e : Expiry × Unit {0}) (left rest : List (Expiry × Unit {0})) → rest ≡ e ∷ left → IsFront at m index list rest → (r : Reservation) × (get m (e.0.1, e.0.2) ≡ Some r) × (r.expiry_date ≡ e.0.0)
+  next_stands list e left rest is f =
+      let among : Contains (map (λ (d : Expiry × Unit {0}). d.0) (entries index)) e.0 = subst (λ l. Contains l e.0) f.joined
+          (Contains-append_right (map expiry_at list) (map (λ (d : Expiry × Unit {0}). d.0) rest) e.0 (subst (λ l. Contains (map (λ (d : Expiry × Unit {0}). d.0) l) e.0) (sym is) (in_front e.0 (map (λ (d : Expiry × Unit {0}). d.0) left)))) in
+      let d = of_map (λ (d : Expiry × Unit {0}). d.0) (entries index) e.0 among in
+      stands_at e.0 (ap (get index) (sym d.2) ∙ listed_only expiry_total expiry_exact index d.0.0 tt d.1)
+
+  -- it is taken
+  pub next_more : (list : List Standing) (e : Expiry × Unit {0}) (left rest : List (Expiry × Unit {0})) → rest ≡ e ∷ left → IsFront at m index list rest → (x : Standing) → x.provider ≡ e.0.1 → x.id ≡ e.0.2 →
+      get m (e.0.1, e.0.2) ≡ Some x.reservation → e.0.0 ≤ at → IsFront at m index (list ++ x ∷ []) left
+  next_more list e left rest is f x provider id stands due =
+      let there = next_stands list e left rest is f in
+      let same : x.reservation ≡ there.0 = same_Some x.reservation there.0 (sym stands ∙ there.1) in
+      let when : x.reservation.expiry_date ≡ e.0.0 = ap (λ (r : Reservation). r.expiry_date) same ∙ there.2 in
+      front_more list e left (subst (λ l. IsFront at m index list l) is f) x (λ i. (when i, provider i, id i))
+      (subst (λ (k : Key). get m k ≡ Some x.reservation) (λ i. (sym provider i, sym id i)) stands, subst (λ n. n ≤ at) (sym when) due)
+
+  -- it expires later
+  pub next_later : (list : List Standing) (e : Expiry × Unit {0}) (left rest : List (Expiry × Unit {0})) → rest ≡ e ∷ left → IsFront at m index list rest → at < e.0.0 → AreExpired at m list
+  next_later list e left rest is f later = front_until list e left (subst (λ l. IsFront at m index list l) is f) later
+
+  pub none_next : (list : List Standing) (rest : List (Expiry × Unit {0})) → rest ≡ [] → IsFront at m index list rest → AreExpired at m list
+  none_next list rest is f = front_all list (subst (λ l. IsFront at m index list l) is f)
 
 -- reservations end one after the other
 pub each_then : (xs : List Standing) (x : Standing) (s : Rows) → ended_each (xs ++ x ∷ []) s ≡ ended (x.provider, x.id) (ended_each xs s)
 each_then [] x s = refl
 each_then (y ∷ ys) x s = each_then ys x (ended (y.provider, y.id) s)
+
+pub each_next : (xs : List Standing) (i : ℕ) (d : Standing) (s : Rows) → i < length xs → ended_each (take (i + 1) xs) s ≡ ended ((get_or xs i d).provider, (get_or xs i d).id) (ended_each (take i xs) s)
+each_next xs i d s within =
+    let next : i + 1 ≡ suc i = omega arith in
+    ap (λ n. ended_each (take n xs) s) next ∙ ap (λ l. ended_each l s) (take-suc xs i d within) ∙ each_then (take i xs) (get_or xs i d) s
+
+pub each_stepped : (xs : List Standing) (i : ℕ) (x : Standing) (s t u : Rows) → i < length xs → x ≡ get_or xs i x → t ≡ ended_each (take i xs) s → u ≡ ended (x.provider, x.id) t → u ≡ ended_each (take (i + 1) xs) s
+each_stepped xs i x s t u within is was now =
+    now ∙ ap (ended (x.provider, x.id)) was ∙ ap (λ (z : Standing). ended (z.provider, z.id) (ended_each (take i xs) s)) is ∙ sym (each_next xs i x s within)
+
+pub each_taken : (xs : List Standing) (i : ℕ) (s : Rows) → length xs ≤ i → ended_each (take i xs) s ≡ ended_each xs s
+each_taken xs i s all = ap (λ l. ended_each l s) (take_all i xs all)
 
 same_marks : (xs : List Standing) (s : Rows) → (ended_each xs s).marks ≡ s.marks
 same_marks [] s = refl

@@ -43,65 +43,65 @@ module _ {X : Type 0} (m : FinMap text_pair_cmp X) (f : Key × X → Row) (s : R
       subst (HasRow s) from.2 (h from.0.0 from.0.1 (listed_only text_pair_total text_pair_exact m from.0.0 from.0.1 from.1))
 
   rows_apart : ((a b : Key × X) → a.0 ≢ b.0 → Apart (f a) (f b)) → AllPairs Apart (map f (entries m))
-  rows_apart h = each_apart text_pair_total text_pair_exact f Apart (λ a b below. h a b (apart_of_less {X = X} text_pair_total text_pair_exact a.0 b.0 below)) (entries m) (entries_sorted m)
+  rows_apart h = each_apart text_pair_total text_pair_exact f Apart (λ a b below. h a b (apart_of_less text_pair_total a.0 b.0 below)) (entries m) (entries_sorted m)
 
   row_listed : (k : Key) (x : X) → get m k ≡ Some x → Contains (map f (entries m)) (f (k, x))
   row_listed k x h = in_map f (entries m) (k, x) (listed text_pair_total text_pair_exact m k x h)
 
--- the rows of each kind, one after the other
-pub rows_are : (s : Rows) → AreRowsOf (rows_of s) s
-rows_are s = record { exact = λ r. (stand r, stands r); apart = differ }
-  where
-    marks : List Row
-    marks = map mark_row (entries s.marks)
+module _ (s : Rows) where
+  abbrev marks : List Row
+  marks = map mark_row (entries s.marks)
 
-    reservations : List Row
-    reservations = map reservation_row (entries s.reservations)
+  abbrev reservations : List Row
+  reservations = map reservation_row (entries s.reservations)
 
-    stand : (r : Row) → Contains (rows_of s) r → HasRow s r
-    unfolding marks reservations
-    stand r h = elim (Contains-append_cases marks reservations r h) [
-      | inl i ↦ rows_stand s.marks mark_row s (λ k x e. e) r i
-      | inr i ↦ rows_stand s.reservations reservation_row s (λ k x e. e) r i
-    ]
+  stand : (r : Row) → Contains (rows_of s) r → HasRow s r
+  stand r h = elim (Contains-append_cases marks reservations r h) [
+    | inl i ↦ rows_stand s.marks mark_row s (λ k x e. e) r i
+    | inr i ↦ rows_stand s.reservations reservation_row s (λ k x e. e) r i
+  ]
 
-    stands : (r : Row) → HasRow s r → Contains (rows_of s) r
-    unfolding marks reservations
-    stands (row.Mark p id n) h = Contains-append_left marks reservations _ (row_listed s.marks mark_row s (p, id) n h)
-    stands (row.Reservation p id r) h = Contains-append_right marks reservations _ (row_listed s.reservations reservation_row s (p, id) r h)
-    stands other h = absurd h
+  stands : (r : Row) → HasRow s r → Contains (rows_of s) r
+  stands (row.Mark p id n) h = Contains-append_left marks reservations _ (row_listed s.marks mark_row s (p, id) n h)
+  stands (row.Reservation p id r) h = Contains-append_right marks reservations _ (row_listed s.reservations reservation_row s (p, id) r h)
+  stands other h = absurd h
 
-    cross : (x y : Row) → Contains marks x → Contains reservations y → Apart x y
-    unfolding marks reservations
-    cross x y i j =
-        let a = of_map mark_row (entries s.marks) x i in
-        let b = of_map reservation_row (entries s.reservations) y j in
-        subst (λ z. Apart z y) a.2 (subst (λ z. Apart (mark_row a.0) z) b.2 (λ e. absurd (cc)))
+  cross : (x y : Row) → Contains marks x → Contains reservations y → Apart x y
+  cross x y i j =
+      let a = of_map mark_row (entries s.marks) x i in
+      let b = of_map reservation_row (entries s.reservations) y j in
+      subst (λ z. Apart z y) a.2 (subst (λ z. Apart (mark_row a.0) z) b.2 (λ e. absurd (cc)))
 
-    differ : AllPairs Apart (rows_of s)
-    unfolding marks reservations
-    differ =
-        joined Apart marks reservations
-        (rows_apart s.marks mark_row s (λ a b apart e. apart (let p : a.0.0 ≡ b.0.0 = cc in let n : a.0.1 ≡ b.0.1 = cc in λ i. (p i, n i))))
-        (rows_apart s.reservations reservation_row s (λ a b apart e. apart (let p : a.0.0 ≡ b.0.0 = cc in let n : a.0.1 ≡ b.0.1 = cc in λ i. (p i, n i)))) cross
+  differ : AllPairs Apart (rows_of s)
+  differ =
+      joined Apart marks reservations
+      (rows_apart s.marks mark_row s (λ a b apart e. apart (let p : a.0.0 ≡ b.0.0 = cc in let n : a.0.1 ≡ b.0.1 = cc in λ i. (p i, n i))))
+      (rows_apart s.reservations reservation_row s (λ a b apart e. apart (let p : a.0.0 ≡ b.0.0 = cc in let n : a.0.1 ≡ b.0.1 = cc in λ i. (p i, n i)))) cross
 
-module _ {K X : Type 0} {R : K → K → Ordering} (o : IsTotalOrder R) (exact : IsAntisymmetric R) where
+  -- the rows of each kind, one after the other
+  pub rows_are : AreRowsOf (rows_of s) s
+  rows_are = record { exact = λ r. (stand r, stands r); apart = differ }
+
+module _ {K X : Type 0} {R : K → K → Ordering} where
   -- entries are put one after the other
-  pub insert_all : List (K × X) → FinMap R X → FinMap R X
-  unfolding insert_all
+  abbrev insert_all : List (K × X) → FinMap R X → FinMap R X
   insert_all [] m = m
   insert_all (e ∷ es) m = insert_all es (insert m e.0 e.1)
 
-  or_else : Option X → Option X → Option X
-  or_else None b = b
-  or_else (Some x) b = Some x
+abbrev or_else : {X : Type 0} → Option X → Option X → Option X
+or_else None b = b
+or_else (Some x) b = Some x
 
+only_found : {X : Type 0} (a : Option X) → or_else a None ≡ a
+only_found None = refl
+only_found (Some x) = refl
+
+module _ {K X : Type 0} {R : K → K → Ordering} (o : IsTotalOrder R) (exact : IsAntisymmetric R) where
   first_alone : (k : K) (es : List (K × X)) → T (below_all R k es) → find R k es ≡ None
   first_alone k [] h = refl
   first_alone k (e ∷ es) h = ap (λ r. cond (is_eq r) (Some e.1) (find R k es)) (less (R k e.0) (former _ _ h)) ∙ first_alone k es (latter _ _ h)
 
   all_found : (es : List (K × X)) (m : FinMap R X) → T (is_sorted R es) → (q : K) → get (insert_all es m) q ≡ or_else (find R q es) (get m q)
-  unfolding insert_all or_else
   all_found [] m h q = refl
   all_found (e ∷ es) m h q =
       all_found es (insert m e.0 e.1) (latter _ _ h) q ∙ ap (or_else (find R q es)) (get-insert o m e.0 e.1 q)
@@ -109,11 +109,6 @@ module _ {K X : Type 0} {R : K → K → Ordering} (o : IsTotalOrder R) (exact :
         | true ↦ λ tied. ap (λ z. or_else z (Some e.1)) (ap (λ z. find R z es) (exact q e.0 (equal_of_is_eq (R q e.0) tied)) ∙ first_alone e.0 es (former _ _ h))
         | false ↦ λ _. refl
       ] refl
-
-  only_found : (a : Option X) → or_else a None ≡ a
-  unfolding or_else
-  only_found None = refl
-  only_found (Some x) = refl
 
   -- the entries of a map give it
   pub all_entries : (m : FinMap R X) → insert_all (entries m) empty ≡ m
@@ -123,13 +118,11 @@ put_append : (a b : List Row) (s : Rows) → put_rows (a ++ b) s ≡ put_rows b 
 put_append [] b s = refl
 put_append (r ∷ rs) b s = put_append rs b (put_row r s)
 
-put_marks : (es : List (Key × ℕ)) (s : Rows) → put_rows (map mark_row es) s ≡ record s { marks = insert_all text_pair_total text_pair_exact es s.marks }
-unfolding insert_all
+put_marks : (es : List (Key × ℕ)) (s : Rows) → put_rows (map mark_row es) s ≡ record s { marks = insert_all es s.marks }
 put_marks [] s = refl
 put_marks (e ∷ es) s = put_marks es (put_row (mark_row e) s)
 
-put_reservations : (es : List (Key × Reservation)) (s : Rows) → put_rows (map reservation_row es) s ≡ record s { reservations = insert_all text_pair_total text_pair_exact es s.reservations }
-unfolding insert_all
+put_reservations : (es : List (Key × Reservation)) (s : Rows) → put_rows (map reservation_row es) s ≡ record s { reservations = insert_all es s.reservations }
 put_reservations [] s = refl
 put_reservations (e ∷ es) s = put_reservations es (put_row (reservation_row e) s)
 

@@ -96,7 +96,8 @@ impl ReservationBook {
     pub fn copy(&self, alloc: Global) -> Result<ReservationBook, AllocError>
         ensures { IfOk result (λ b. b.rows ≡ self.now.rows) }
     {
-        let rows = self.rows(alloc)?;
+        let mut rows = Vec::new(alloc);
+        self.push_rows(&mut rows)?;
         let mut copy = ReservationBook::new(alloc);
         copy.add_rows(rows)?;
         Ok(copy)

@@ -1,6 +1,6 @@
 //! The reservations that have expired (OCPI 2.2.1, Commands: ReserveNow, expiry_date).
 
-ghost use Rattle.std.specs.Prelude.{◌≡◌, [], IfOk, OnOk};
+ghost use Rattle.std.specs.Prelude.{◌≡◌, ◌<◌, ◌≤◌, [], IfOk, IsTrue, OnOk, false};
 ghost use Rattle.tables.specs.Keys.{text_pair_cmp};
 ghost use Rattle.tables.specs.Tables.{shown_of};
 ghost use Rattle.reservation_book.specs.Listed.{AreListed};
@@ -14,6 +14,14 @@ use ocpi_types::Reservation;
 use std::alloc::{AllocError, Global};
 use tables::Table;
 
+/// Whether a moment is later than another.
+fn is_later(moment: Moment, than: Moment) -> bool
+    ensures yes { IsTrue result → than < moment }
+    ensures no { result ≡ false → moment ≤ than }
+{
+    moment.millis() > than.millis()
+}
+
 /// Adds the reservations whose expiry is at or before a moment to an empty list.
 fn push_expired(
     expired: &mut Vec<Standing>,
@@ -26,7 +34,7 @@ fn push_expired(
     ensures { OnOk result (AreExpired at (shown_of text_pair_cmp reservations.now) expired.new.items) }
 {
     for (expiry, _) in listings.expiring.iter() {
-        if expiry.0 > at {
+        if is_later(expiry.0, at) {
             return Ok(());
         }
         expired.push(standing_of(reservations, &(expiry.1, expiry.2)))?;

@@ -1,7 +1,7 @@
 use Rattle.std.proofs.Common.{◌≡◌, ◌∷◌, [], List, length, sym, ap, ◌∙◌, arith}
 use Rattle.std.specs.Vec.Iter.{into_iter_items}
 use Rattle.reservation_book.specs.Rows.{put_rows}
-use Rattle.reservation_book.proofs.all_rows.ReservationBook.add_rows.Goals as goal
+use Rattle.reservation_book.proofs.book.ReservationBook.add_rows.Goals as goal
 
 nothing_left : {X : Type 0} (l : List X) → length l ≡ 0 → l ≡ []
 nothing_left [] h = cc

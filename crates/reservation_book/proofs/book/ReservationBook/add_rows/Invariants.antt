@@ -1,7 +1,7 @@
 use Rattle.std.proofs.Common.{◌≡◌, length}
 use Rattle.std.specs.Vec.Iter.{into_iter_items, into_iter_len}
 use Rattle.reservation_book.specs.Rows.{put_rows}
-use Rattle.reservation_book.proofs.all_rows.ReservationBook.add_rows.Given as goal
+use Rattle.reservation_book.proofs.book.ReservationBook.add_rows.Given as goal
 
 abbrev pub invariant-loop-row : goal.invariant-loop-row
 invariant-loop-row l =
