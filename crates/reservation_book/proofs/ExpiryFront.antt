@@ -90,7 +90,7 @@ module _ (at : ℕ) (m : Reservations) (index : FinMap expiry_cmp (Unit {0})) (h
   pub next_stands : (list : List Standing) (e : Expiry × Unit {0}) (left rest : List (Expiry × Unit {0})) → rest ≡ e ∷ left → IsFront at m index list rest → (r : Reservation) × (get m (e.0.1, e.0.2) ≡ Some r) × (r.expiry_date ≡ e.0.0)
   next_stands list e left rest is f =
       let among : Contains (map (λ (d : Expiry × Unit {0}). d.0) (entries index)) e.0 = subst (λ l. Contains l e.0) f.joined
-          (Contains-append_right (map expiry_at list) (map (λ (d : Expiry × Unit {0}). d.0) rest) e.0 (subst (λ l. Contains (map (λ (d : Expiry × Unit {0}). d.0) l) e.0) (sym is) (in_front e.0 (map (λ (d : Expiry × Unit {0}). d.0) left)))) in
+      (Contains-append_right (map expiry_at list) (map (λ (d : Expiry × Unit {0}). d.0) rest) e.0 (subst (λ l. Contains (map (λ (d : Expiry × Unit {0}). d.0) l) e.0) (sym is) (in_front e.0 (map (λ (d : Expiry × Unit {0}). d.0) left)))) in
       let d = of_map (λ (d : Expiry × Unit {0}). d.0) (entries index) e.0 among in
       stands_at e.0 (ap (get index) (sym d.2) ∙ listed_only expiry_total expiry_exact index d.0.0 tt d.1)
 

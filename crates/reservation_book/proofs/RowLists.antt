@@ -30,7 +30,7 @@ pub rows_are_all : RowsAreAll
 rows_are_all s t same =
     let marks = same_map text_pair_total text_pair_exact s.marks t.marks (λ q. same_option (get s.marks q) (get t.marks q) (λ n. (same (row.Mark q.0 q.1 n)).0) (λ n. (same (row.Mark q.0 q.1 n)).1)) in
     let reservations = same_map text_pair_total text_pair_exact s.reservations t.reservations
-        (λ q. same_option (get s.reservations q) (get t.reservations q) (λ r. (same (row.Reservation q.0 q.1 r)).0) (λ r. (same (row.Reservation q.0 q.1 r)).1)) in
+    (λ q. same_option (get s.reservations q) (get t.reservations q) (λ r. (same (row.Reservation q.0 q.1 r)).0) (λ r. (same (row.Reservation q.0 q.1 r)).1)) in
     λ i. record { reservations = reservations i; marks = marks i }
 
 abbrev Apart : Row → Row → Type 0
