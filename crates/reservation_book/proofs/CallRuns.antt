@@ -1,15 +1,15 @@
 -- What holds over any list of calls.
-use Rattle.std.proofs.Common.{◌≡◌, ℕ, ◌≤◌, List, [], ◌∷◌, ◌++◌, inl, inr, refl, sym, ap, subst, ◌∙◌, arith}
+use Rattle.std.proofs.Common.{◌≡◌, ℕ, [], ◌∷◌, inl, inr, refl, sym, ap, subst, ◌∙◌, arith}
 use Rattle.std.specs.Prelude.{Option, Some, None, Contains}
-use Rattle.std.specs.FinMap.{FinMap, get, insert, remove}
+use Rattle.std.specs.FinMap.{get, insert, remove}
 use Rattle.std.proofs.lemmas.List.Elements.{Contains-append_right}
 use Rattle.ocpi_types.specs.declared.stored.Reservation.{Reservation}
-use Rattle.tables.specs.Keys.{text_pair_cmp, text_pair_total, text_pair_exact}
+use Rattle.tables.specs.Keys.{text_pair_total, text_pair_exact}
 use Rattle.tables.proofs.Maps.{of_insert, of_remove, get-insert_same, get-insert_other}
 use Rattle.reservation_book.specs.Places.{Key}
 use Rattle.reservation_book.specs.Rows.{Rows, Marks}
 use Rattle.reservation_book.specs.Refusals.{IsInTime}
-use Rattle.reservation_book.specs.Calls.{Call, Reserve, Note, Cancel, Use, Expire, Leaves, Calls, NoMarkFalls, MarksNeverFall, IsMade, NewReservationsAreNewer, not_expired}
+use Rattle.reservation_book.specs.Calls.{Call, Reserve, Note, Cancel, Use, Expire, Leaves, NoMarkFalls, MarksNeverFall, IsMade, NewReservationsAreNewer, not_expired}
 use Rattle.reservation_book.proofs.Indexing.{none_some, same_or_not}
 use Rattle.reservation_book.proofs.Entries.{in_front}
 

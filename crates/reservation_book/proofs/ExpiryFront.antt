@@ -1,20 +1,19 @@
 -- The front of the queue of expiries has those that have expired, in order.
-use Rattle.std.proofs.Common.{◌≡◌, ℕ, ◌<◌, ◌≤◌, ◌+◌, suc, take, length, get_or, List, [], ◌∷◌, ◌++◌, map, inl, inr, true, false, Bool, cond, refl, sym, ap, subst, ◌∙◌, arith}
+use Rattle.std.proofs.Common.{◌≡◌, ℕ, ◌<◌, ◌≤◌, ◌+◌, suc, take, length, get_or, List, [], ◌∷◌, ◌++◌, map, inl, inr, true, false, cond, refl, sym, ap, subst, ◌∙◌, arith}
 use Rattle.std.specs.Prelude.{Option, Some, None, Contains, nat_le}
-use Rattle.std.specs.Ordering.{nat_cmp, ordering_then, is_gt}
-use Rattle.std.specs.declared.cmp.Ordering.{Ordering}
+use Rattle.std.specs.Ordering.{is_gt}
 use Rattle.std.specs.declared.cmp.Ordering.TheVariants.{Less}
 use Rattle.std.specs.List.Sorted.{IsStrictlySortedBy}
 use Rattle.std.specs.FinMap.{FinMap, get, remove, entries}
 use Rattle.std.proofs.lemmas.List.{append_assoc, map-append, take_all}
 use Rattle.std.proofs.Math.Seq.{take-suc}
-use Rattle.std.proofs.lemmas.List.Elements.{Contains-append_left, Contains-append_right, Contains-append_cases, Contains-push_cases}
+use Rattle.std.proofs.lemmas.List.Elements.{Contains-append_right, Contains-append_cases, Contains-push_cases}
 use Rattle.std.proofs.lemmas.Map.Keys.{le_from_not_gt}
 use Rattle.std.proofs.lemmas.Option.{same_Some}
 use Rattle.std.proofs.lemmas.Bool.{leb-true, le-leb}
 use Rattle.ocpi_types.specs.declared.stored.Reservation.{Reservation}
-use Rattle.tables.specs.Keys.{text_pair_cmp, text_pair_total, text_pair_exact}
-use Rattle.tables.proofs.Maps.{get-remove_same, get-remove_other, of_remove}
+use Rattle.tables.specs.Keys.{text_pair_total, text_pair_exact}
+use Rattle.tables.proofs.Maps.{get-remove_same, get-remove_other}
 use Rattle.reservation_book.specs.declared.standing.Standing.{Standing}
 use Rattle.reservation_book.specs.Places.{Key, Expiry, expiry_cmp, expiry_key, expiry_of}
 use Rattle.reservation_book.specs.Rows.{Rows, Reservations}

@@ -2,21 +2,18 @@
 use Rattle.std.proofs.Common.{◌≡◌, ℕ, List, true, refl, sym, ap, subst, ◌∙◌, arith}
 use Rattle.std.specs.Prelude.{Option, Some, None, IfNone, IsTrue, is_some}
 use Rattle.std.specs.Ordering.{is_gt}
-use Rattle.std.specs.declared.cmp.Ordering.TheVariants.{Less}
 use Rattle.std.specs.BTreeMap.Range.{IsLeBy, IsLtBy}
 use Rattle.std.specs.FinMap.{FinMap, get, contains_key}
 use Rattle.std.proofs.lemmas.Option.{same_Some}
-use Rattle.ocpi_text.specs.Text.{key}
-use Rattle.ocpi_types.specs.declared.stored.Reservation.{Reservation}
 use Rattle.ocpi_types.specs.declared.words.TokenType.{TokenType}
 use Rattle.ocpi_types.specs.declared.words.TokenType.TheVariants.{AdHocUser, AppUser, Other, Rfid}
 use Rattle.tables.specs.Keys.{text_pair_cmp}
 use Rattle.tables.specs.Tables.{IsLeast, HasNone}
 use Rattle.reservation_book.specs.declared.standing.Standing.{Standing}
 use Rattle.reservation_book.specs.declared.standing.TokenAt.{TokenAt}
-use Rattle.reservation_book.specs.Places.{Key, Place, place_cmp, type_number, place_key, place_of}
+use Rattle.reservation_book.specs.Places.{Place, place_cmp, type_number, place_key, place_of}
 use Rattle.reservation_book.specs.Rows.{Reservations}
-use Rattle.reservation_book.specs.Tokens.{IsToken, Stands, IsFor, IsOn, spot, IsFirstFor, IsNextFor}
+use Rattle.reservation_book.specs.Tokens.{Stands, IsFor, IsOn, spot, IsFirstFor, IsNextFor}
 use Rattle.reservation_book.specs.Listed.{Indexes, IsPlaceFor, IsPlaceOn, IsPlaceAfter, IsPlaceNamed}
 use Rattle.reservation_book.proofs.Orders.{by_spot, same_groups, same_types}
 

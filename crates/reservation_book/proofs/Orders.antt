@@ -10,7 +10,7 @@ use Rattle.std.specs.FinMap.{FinMap, IsAntisymmetric, nat_cmp-IsAntisymmetric, g
 use Rattle.std.proofs.lemmas.Cmp.{on_total, then_total, tied_itself}
 use Rattle.tables.specs.Keys.{text_cmp, text_pair_cmp, text_total, text_exact, pair_exact, triple_exact, empty_text_least}
 use Rattle.tables.specs.Tables.{IsLeast, HasNone}
-use Rattle.reservation_book.specs.Places.{Expiry, Group, Place, triple_cmp, expiry_cmp, group_cmp, place_cmp, type_number}
+use Rattle.reservation_book.specs.Places.{Place, triple_cmp, expiry_cmp, group_cmp, place_cmp}
 use Rattle.reservation_book.specs.declared.standing.TokenAt.{TokenAt}
 use Rattle.reservation_book.specs.Listed.{IsPlaceFor, IsPlaceOn, IsPlaceAfter}
 

@@ -1,14 +1,14 @@
 -- The lists of reservations stay right when a reservation is put or ends, and the room of others is kept.
-use Rattle.std.proofs.Common.{◌≡◌, ℕ, List, refl, sym, ap, subst, ◌∙◌}
-use Rattle.std.specs.Prelude.{Some, None, IsTrue}
-use Rattle.std.specs.FinMap.{FinMap, get, insert, remove, empty, contains_key}
+use Rattle.std.proofs.Common.{◌≡◌, refl, ap}
+use Rattle.std.specs.Prelude.{Some, None}
+use Rattle.std.specs.FinMap.{get, insert, remove, empty}
 use Rattle.ocpi_types.specs.declared.stored.Reservation.{Reservation}
-use Rattle.tables.specs.Keys.{text_pair_cmp, text_pair_total, text_pair_exact}
-use Rattle.tables.specs.Tables.{shown_of, rooms_of}
+use Rattle.tables.specs.Keys.{text_pair_total, text_pair_exact}
+use Rattle.tables.specs.Tables.{shown_of}
 use Rattle.reservation_book.specs.declared.listings.Listings.{Listings}
-use Rattle.reservation_book.specs.Places.{Key, Expiry, Place, expiry_cmp, place_cmp, expiry_key, place_key, expiry_of, place_of}
+use Rattle.reservation_book.specs.Places.{Key, expiry_cmp, place_cmp, expiry_key, place_key, expiry_of, place_of}
 use Rattle.reservation_book.specs.Rows.{Reservations}
-use Rattle.reservation_book.specs.Listed.{AreListed, HaveRoom}
+use Rattle.reservation_book.specs.Listed.{AreListed}
 use Rattle.reservation_book.proofs.Orders.{expiry_total, expiry_exact, place_total, place_exact}
 use Rattle.reservation_book.proofs.Indexing.{nothing_listed, listed, relisted, unlisted, none_unlisted}
 

@@ -1,6 +1,6 @@
 -- The room that is kept.
 use Rattle.std.proofs.Common.{◌≡◌, ℕ, List, true, false, refl, sym, ap, subst, ◌∙◌}
-use Rattle.std.specs.Prelude.{◌≢◌, Option, IsTrue, is_some}
+use Rattle.std.specs.Prelude.{Option, IsTrue, is_some}
 use Rattle.std.specs.declared.cmp.Ordering.{Ordering}
 use Rattle.std.specs.Cmp.{IsTotalOrder}
 use Rattle.std.specs.FinMap.{FinMap, IsAntisymmetric, contains_key, remove}

@@ -1,10 +1,9 @@
 -- The rows of a reservation book as a list, and the reservation book of that list.
-use Rattle.std.proofs.Common.{◌≡◌, ◌≢◌, ◌↔◌, ℕ, List, [], ◌∷◌, ◌++◌, map, inl, inr, true, false, cond, T, Bool, refl, sym, ap, subst, ◌∙◌}
-use Rattle.std.specs.Prelude.{Option, Some, None, Contains, ◌&&◌}
+use Rattle.std.proofs.Common.{◌≡◌, ◌≢◌, ℕ, List, [], ◌∷◌, ◌++◌, map, inl, inr, true, false, cond, T, refl, sym, ap, subst, ◌∙◌}
+use Rattle.std.specs.Prelude.{Option, Some, None, Contains}
 use Rattle.std.specs.List.{AllPairs}
-use Rattle.std.specs.Ordering.{eq_by_cmp, is_eq, is_lt}
+use Rattle.std.specs.Ordering.{eq_by_cmp, is_eq}
 use Rattle.std.specs.declared.cmp.Ordering.{Ordering}
-use Rattle.std.specs.declared.cmp.Ordering.TheVariants.{Less, Equal, Greater}
 use Rattle.std.specs.Cmp.{IsTotalOrder}
 use Rattle.std.specs.FinMap.{FinMap, IsAntisymmetric, find, is_sorted, get, insert, empty, entries, entries_sorted, get-entries, get-insert, get-empty, same_map}
 use Rattle.std.specs.FinMap.Entries.{below_all}
@@ -16,7 +15,7 @@ use Rattle.ocpi_types.specs.declared.rows.Row.{Row}
 use Rattle.ocpi_types.specs.declared.rows.Row.TheVariants as row
 use Rattle.ocpi_types.specs.declared.stored.Reservation.{Reservation}
 use Rattle.reservation_book.specs.Places.{Key}
-use Rattle.reservation_book.specs.Rows.{Rows, HasRow, HaveSameRows, RowsAreAll, AreRowsOf, no_rows, put_row, put_rows, rows_of, mark_row, reservation_row}
+use Rattle.reservation_book.specs.Rows.{Rows, HasRow, RowsAreAll, AreRowsOf, no_rows, put_row, put_rows, rows_of, mark_row, reservation_row}
 use Rattle.reservation_book.proofs.Entries.{former, latter, less, in_map, of_map, joined, listed, listed_only, each_apart, apart_of_less}
 
 -- two that have the same values are the same

@@ -11,7 +11,7 @@ use Rattle.ocpi_types.specs.declared.rows.RowKey.{RowKey}
 use Rattle.ocpi_types.specs.declared.rows.RowKey.TheVariants as keys
 use Rattle.ocpi_types.specs.declared.stored.Reservation.{Reservation}
 use Rattle.ocpi_types.specs.Rows.{key_of}
-use Rattle.reservation_book.specs.Places.{Key, Place, expiry_cmp, place_cmp, expiry_key, place_key}
+use Rattle.reservation_book.specs.Places.{Key, expiry_cmp, place_cmp, expiry_key, place_key}
 
 abbrev pub Reservations : Type 0
 Reservations = FinMap text_pair_cmp Reservation

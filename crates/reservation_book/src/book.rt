@@ -1,6 +1,6 @@
 //! The reservations that stand, and the marks.
 
-ghost use Rattle.std.specs.Prelude.{◌≡◌, ◌↔◌, ℕ, IfErr, IfNone, IfSome, IsOk, IsSome, IsTrue, OnOk, Err, Some, false};
+ghost use Rattle.std.specs.Prelude.{◌≡◌, IfErr, IfNone, IfSome, IsOk, IsSome, IsTrue, OnOk, Err, Some, false};
 ghost use Rattle.std.specs.FinMap as map;
 ghost use Rattle.std.specs.BTreeMap.Range.{IsLtBy};
 ghost use Rattle.ocpi_text.specs.Text.{key};
@@ -11,7 +11,7 @@ ghost use Rattle.reservation_book.specs.declared.fault.ReservationFault.TheVaria
 ghost use Rattle.reservation_book.specs.declared.standing.Standing.{Standing};
 ghost use Rattle.reservation_book.specs.Places.{Key};
 ghost use Rattle.reservation_book.specs.Rows.{HasPlaces, HasRoomOf, KeepsRoom, KeepsOtherRoom, no_rows, put_row, drop_row};
-ghost use Rattle.reservation_book.specs.Tokens.{IsToken, Stands, IsFor, IsOn, IsFirstFor, IsNextFor, spot};
+ghost use Rattle.reservation_book.specs.Tokens.{IsToken, IsFor, IsOn, IsFirstFor, IsNextFor, spot};
 ghost use Rattle.reservation_book.specs.Refusals.{IsInTime, IsHere, RefusesNumber, RefusesReservation};
 ghost use Rattle.reservation_book.specs.Calls.{marked, reserved, ended};
 ghost use Rattle.ocpi_types.specs.Rows.{key_of};

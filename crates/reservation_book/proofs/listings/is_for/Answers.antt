@@ -1,4 +1,4 @@
-use Rattle.std.proofs.Common.{sym, ap, ◌∙◌}
+use Rattle.std.proofs.Common.{◌∙◌}
 use Rattle.std.proofs.lemmas.Bool.{eqb-true}
 use Rattle.reservation_book.proofs.Orders.{group_total, group_exact}
 use Rattle.reservation_book.proofs.Ties.{same_when_tied, apart_when_not}

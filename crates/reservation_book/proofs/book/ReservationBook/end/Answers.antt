@@ -1,5 +1,4 @@
-use Rattle.std.proofs.Common.{◌≡◌, sym, ◌∙◌}
-use Rattle.std.specs.Prelude.{Some, None}
+use Rattle.std.proofs.Common.{sym, ◌∙◌}
 use Rattle.tables.specs.Keys.{text_pair_total, text_pair_exact}
 use Rattle.reservation_book.proofs.Orders.{expiry_total, expiry_exact, place_total, place_exact}
 use Rattle.reservation_book.proofs.Rooms.{others_keep}
