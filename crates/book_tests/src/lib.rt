@@ -4,6 +4,8 @@
 #[cfg(test)]
 mod commands;
 #[cfg(test)]
+mod reservations;
+#[cfg(test)]
 mod sessions;
 #[cfg(test)]
 mod sites;

@@ -1,0 +1,10 @@
+use Rattle.std.proofs.Common.{◌++◌, map, ap, ◌∙◌}
+use Rattle.reservation_book.specs.Rows.{mark_row}
+use Rattle.reservation_book.proofs.Entries.{one_more, none_left}
+use Rattle.reservation_book.proofs.all_rows.push_marks.Goals as goal
+
+pub loop-key-preserved : goal.loop-key-preserved
+loop-key-preserved c = one_more _ _ _ _ _ _ c.in_ok-push.ensures.items (ap (map mark_row) c.in-Some.ensures.steps) c.loop-key.invariant
+
+pub returns : goal.returns
+returns c = none_left _ _ _ (ap (map mark_row) c.in-None.ensures.steps.0) c.loop-key.invariant ∙ ap (λ l. c.args.rows.now.items ++ map mark_row l) (cc)

@@ -1,0 +1,5 @@
+use Rattle.reservation_book.proofs.Rooms.{keeps_but_reservation}
+use Rattle.reservation_book.proofs.book.ReservationBook.put_row_of.Goals as goal
+
+pub returns-in-Reservation-clause-keeps : goal.returns-in-Reservation-clause-keeps
+returns-in-Reservation-clause-keeps c = rw c.in-Reservation.is (keeps_but_reservation _ _ c.in-Reservation.provider c.in-Reservation.reservation_id c.put_reservation.ensures.marks c.put_reservation.ensures.keeps)

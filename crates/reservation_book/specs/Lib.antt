@@ -1,0 +1,7 @@
+pub mod Rows
+pub mod Places
+pub mod Listed
+pub mod Tokens
+pub mod Refusals
+pub mod Calls
+pub mod FaultText

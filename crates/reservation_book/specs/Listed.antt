@@ -1,0 +1,57 @@
+-- What finds reservations by their expiry and by their place.
+use Rattle.std.specs.Prelude.{◌≡◌, ℕ, List, Option, Some, None, IsTrue}
+use Rattle.std.specs.declared.cmp.Ordering.{Ordering}
+use Rattle.std.specs.FinMap.{FinMap, get, contains_key}
+use Rattle.std.specs.BTreeMap.Range.{IsLtBy}
+use Rattle.tables.specs.Keys.{text_pair_cmp}
+use Rattle.tables.specs.Tables.{shown_of, rooms_of}
+use Rattle.ocpi_types.specs.declared.stored.Reservation.{Reservation}
+use Rattle.reservation_book.specs.Places.{Key, Expiry, Place, expiry_cmp, place_cmp, expiry_key, place_key, expiry_of, place_of, type_number}
+use Rattle.reservation_book.specs.declared.standing.TokenAt.{TokenAt}
+use Rattle.reservation_book.specs.Rows.{Reservations}
+use Rattle.reservation_book.specs.declared.listings.Listings.{Listings}
+
+-- The index has the entry `entry k v` of each value v of the map, at k, and no other. The key is told by the entry.
+pub record Indexes {K I V : Type 0} {R : K → K → Ordering} {S : I → I → Ordering} (entry : K → V → I) (key : I → K) (m : FinMap R V) (index : FinMap S (Unit {0})) : Type 0 where
+  pub sound : (i : I) → get index i ≡ Some tt → (v : V) × (get m (key i) ≡ Some v) × (entry (key i) v ≡ i)
+  pub complete : (k : K) (v : V) → get m k ≡ Some v → get index (entry k v) ≡ Some tt
+
+-- all of these reservations are listed, and no others
+pub record AreListed (m : Reservations) (t : Listings) : Type 0 where
+  pub by_expiry : Indexes expiry_key expiry_of m (shown_of expiry_cmp t.expiring)
+  pub by_place : Indexes place_key place_of m (shown_of place_cmp t.places)
+
+-- they list the same
+pub record ShowSame (t u : Listings) : Type 0 where
+  pub expiring : shown_of expiry_cmp u.expiring ≡ shown_of expiry_cmp t.expiring
+  pub places : shown_of place_cmp u.places ≡ shown_of place_cmp t.places
+
+-- there is room to list the reservation
+pub record HaveRoom (t : Listings) (k : Key) (r : Reservation) : Type 0 where
+  pub expiry : IsTrue (contains_key (rooms_of expiry_cmp t.expiring) (expiry_key k r))
+  pub place : IsTrue (contains_key (rooms_of place_cmp t.places) (place_key k r))
+
+-- what has room keeps it
+pub record KeepRoom (t u : Listings) : Type 0 where
+  pub expiring : (q : Expiry) → IsTrue (contains_key (rooms_of expiry_cmp t.expiring) q) → IsTrue (contains_key (rooms_of expiry_cmp u.expiring) q)
+  pub places : (q : Place) → IsTrue (contains_key (rooms_of place_cmp t.places) q) → IsTrue (contains_key (rooms_of place_cmp u.places) q)
+
+-- the place of a reservation for the token
+pub record IsPlaceFor (t : TokenAt) (q : Place) : Type 0 where
+  pub group_is : q.0 ≡ (t.provider, t.location_id, t.uid)
+  pub type_is : q.1.0 ≡ type_number t.token_type
+
+-- of those, on the EVSE
+pub record IsPlaceOn (t : TokenAt) (evse : List ℕ) (q : Place) : Type 0 where
+  pub is_for : IsPlaceFor t q
+  pub evse_is : q.1.1 ≡ evse
+
+-- of those, on the EVSE if one is named
+abbrev pub IsPlaceNamed : TokenAt → Option (List ℕ) → Place → Type 0
+IsPlaceNamed t None q = IsPlaceFor t q
+IsPlaceNamed t (Some evse) q = IsPlaceOn t evse q
+
+-- of those for the token, after that EVSE and id
+pub record IsPlaceAfter (t : TokenAt) (after : List ℕ × List ℕ) (q : Place) : Type 0 where
+  pub is_for : IsPlaceFor t q
+  pub later : IsLtBy text_pair_cmp after (q.1.1, q.1.2)

@@ -1,0 +1,105 @@
+//! The rows of a reservation book as a list, and a copy of a reservation book.
+
+ghost use Rattle.std.specs.Prelude.{◌≡◌, ◌++◌, IfOk, IsOk, OnErr, OnOk, map};
+ghost use Rattle.std.specs.FinMap.{entries};
+ghost use Rattle.tables.specs.Keys.{text_pair_cmp};
+ghost use Rattle.tables.specs.Tables.{shown_of};
+ghost use Rattle.reservation_book.specs.Rows.{AreRowsOf, HasRoomOf, put_row, put_rows, rows_of, mark_row, reservation_row};
+
+use crate::book::ReservationBook;
+use crate::listings::ReservationKey;
+use ocpi_text::Whole;
+use ocpi_types::{Reservation, Row};
+use std::alloc::{AllocError, Global};
+use tables::Table;
+
+fn push_marks(marks: &Table<ReservationKey, Whole>, rows: &mut Vec<Row>) -> Result<(), AllocError>
+    ensures { OnOk result (rows.new.items ≡ rows.old.items ++ map mark_row (entries (shown_of text_pair_cmp marks.now))) }
+{
+    for (key, number) in marks.iter() {
+        rows.push(Row::Mark {
+            provider: key.0,
+            reservation_id: key.1,
+            number: *number,
+        })?;
+    }
+    Ok(())
+}
+
+fn push_reservations(
+    reservations: &Table<ReservationKey, Reservation>,
+    rows: &mut Vec<Row>,
+) -> Result<(), AllocError>
+    ensures { OnOk result (rows.new.items ≡ rows.old.items ++ map reservation_row (entries (shown_of text_pair_cmp reservations.now))) }
+{
+    for (key, reservation) in reservations.iter() {
+        rows.push(Row::Reservation {
+            provider: key.0,
+            reservation_id: key.1,
+            reservation: *reservation,
+        })?;
+    }
+    Ok(())
+}
+
+impl ReservationBook {
+    /// The rows kind by kind, each in the order of its keys.
+    fn push_rows(&self, rows: &mut Vec<Row>) -> Result<(), AllocError>
+        ensures { OnOk result (rows.new.items ≡ rows.old.items ++ rows_of self.now.rows) }
+    {
+        push_marks(&self.marks, rows)?;
+        push_reservations(&self.reservations, rows)?;
+        Ok(())
+    }
+
+    /// The rows: exactly those that stand, each once.
+    pub fn rows(&self, alloc: Global) -> Result<Vec<Row>, AllocError>
+        ensures { IfOk result (λ rows. AreRowsOf rows.items self.now.rows) }
+    {
+        let mut rows = Vec::new(alloc);
+        self.push_rows(&mut rows)?;
+        Ok(rows)
+    }
+
+    /// Adds a row, in place of the one of its key if there is one; rows of other kinds change nothing. An error is want of
+    /// memory, and leaves the rows as they were.
+    pub fn add_row(&mut self, row: Row) -> Result<(), AllocError>
+        ensures ok { OnOk result (self.new.rows ≡ put_row row self.old.rows) }
+        ensures again { HasRoomOf self.old.rooms row → IsOk result }
+        ensures err { OnErr result (self.new.rows ≡ self.old.rows) }
+    {
+        self.add_row_of(&row)
+    }
+
+    /// As `add_row`.
+    fn add_row_of(&mut self, row: &Row) -> Result<(), AllocError>
+        ensures ok { OnOk result (self.new.rows ≡ put_row row.now self.old.rows) }
+        ensures again { HasRoomOf self.old.rooms row.now → IsOk result }
+        ensures err { OnErr result (self.new.rows ≡ self.old.rows) }
+    {
+        self.reserve_row(row)?;
+        self.put_row_of(row);
+        Ok(())
+    }
+
+    /// Adds rows one after the other.
+    fn add_rows(&mut self, rows: Vec<Row>) -> Result<(), AllocError>
+        ensures { OnOk result (self.new.rows ≡ put_rows rows.items self.old.rows) }
+    {
+        for row in rows {
+            self.add_row(row)?;
+        }
+        Ok(())
+    }
+
+    /// A reservation book with the same rows.
+    pub fn copy(&self, alloc: Global) -> Result<ReservationBook, AllocError>
+        ensures { IfOk result (λ b. b.rows ≡ self.now.rows) }
+    {
+        let mut rows = Vec::new(alloc);
+        self.push_rows(&mut rows)?;
+        let mut copy = ReservationBook::new(alloc);
+        copy.add_rows(rows)?;
+        Ok(copy)
+    }
+}

@@ -1,0 +1,63 @@
+//! The reservations that have expired (OCPI 2.2.1, Commands: ReserveNow, expiry_date).
+
+ghost use Rattle.std.specs.Prelude.{◌≡◌, ◌<◌, ◌≤◌, [], IfOk, IsTrue, OnOk, false};
+ghost use Rattle.tables.specs.Keys.{text_pair_cmp};
+ghost use Rattle.tables.specs.Tables.{shown_of};
+ghost use Rattle.reservation_book.specs.Listed.{AreListed};
+ghost use Rattle.reservation_book.specs.Calls.{AreExpired, ended_each};
+
+use crate::book::{ReservationBook, standing_of};
+use crate::listings::{Listings, ReservationKey};
+use crate::standing::Standing;
+use ocpi_text::Moment;
+use ocpi_types::Reservation;
+use std::alloc::{AllocError, Global};
+use tables::Table;
+
+/// Whether a moment is later than another.
+fn is_later(moment: Moment, than: Moment) -> bool
+    ensures yes { IsTrue result → than < moment }
+    ensures no { result ≡ false → moment ≤ than }
+{
+    moment.millis() > than.millis()
+}
+
+/// Adds the reservations whose expiry is at or before a moment to an empty list.
+fn push_expired(
+    expired: &mut Vec<Standing>,
+    reservations: &Table<ReservationKey, Reservation>,
+    listings: &Listings,
+    at: Moment,
+) -> Result<(), AllocError>
+    requires empty { expired.old.items ≡ [] }
+    requires listed { AreListed (shown_of text_pair_cmp reservations.now) listings.now }
+    ensures { OnOk result (AreExpired at (shown_of text_pair_cmp reservations.now) expired.new.items) }
+{
+    for (expiry, _) in listings.expiring.iter() {
+        if is_later(expiry.0, at) {
+            return Ok(());
+        }
+        expired.push(standing_of(reservations, &(expiry.1, expiry.2)))?;
+    }
+    Ok(())
+}
+
+impl ReservationBook {
+    /// The reservations whose expiry is at or before a moment, in the order of their expiry, then of their providers and ids.
+    pub fn expired(&self, alloc: Global, at: Moment) -> Result<Vec<Standing>, AllocError>
+        ensures { IfOk result (λ v. AreExpired at self.now.rows.reservations v.items) }
+    {
+        let mut expired = Vec::new(alloc);
+        push_expired(&mut expired, &self.reservations, &self.listings, at)?;
+        Ok(expired)
+    }
+
+    /// Ends reservations, one after the other. It takes no memory.
+    pub(crate) fn end_each(&mut self, standing: &[Standing])
+        ensures { self.new.rows ≡ ended_each standing.now self.old.rows }
+    {
+        for reservation in standing {
+            self.end(&(reservation.provider, reservation.id));
+        }
+    }
+}
