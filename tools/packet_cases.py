@@ -1,10 +1,10 @@
 #!/usr/bin/env python3
-"""Writes the cases of the program `packet_lines`: packets, site lines, setup lines and event lines, and what each must give.
+"""Writes the cases of the program `packet_lines`: packets, site lines, setup lines, event lines and rows, and what each must give.
 
     tools/packet_cases.py          writes crates/packet_lines/stdin and crates/packet_lines/stdout
 
 Line n of `stdout` is what line n of `stdin` must give. Each case of a packet or a site says what it must give, and the tables in
-`packet_forms` say it once more: where the two differ, nothing is written. Those of setups and events are in `event_cases`. To see where the program differs:
+`packet_forms` say it once more: where the two differ, nothing is written. Those of setups and events are in `event_cases`, those of rows in `row_cases`. To see where the program differs:
 
     (cd crates/packet_lines && rt run < stdin) | diff crates/packet_lines/stdout -
 """
@@ -40,6 +40,7 @@ from packet_forms import (
     wrong_form,
 )
 from packet_values import GREATEST, LEAST, USUAL, other_kinds, right_values, sample, wrong_values
+from row_cases import CASES as ROW_CASES
 
 TOOLS = pathlib.Path(__file__).resolve().parent
 
@@ -492,6 +493,7 @@ def main():
     add_lines()
     add_sites()
     CASES.extend(EVENT_CASES)
+    CASES.extend(ROW_CASES)
     if any("\n" in line or not line for line, _ in CASES):
         sys.exit("a case is not one line")
     write_files()

@@ -1,6 +1,6 @@
 //! Records that are written as JSON objects, and records within them.
 
-ghost use Rattle.std.specs.Prelude.{◌≡◌, option_map, All, IfSome, OnOk};
+ghost use Rattle.std.specs.Prelude.{◌≡◌, option_map, All, IfSome, List, OnOk};
 ghost use Rattle.json_text.specs.Members as member;
 ghost use Rattle.json_text.specs.Members.{Member, and_member, and_values, said};
 

@@ -5,5 +5,6 @@ pub mod RowKeyLemmas
 pub mod RowLemmas
 pub mod SetupLemmas
 pub mod StoredLemmas
+pub mod Unread
 pub mod WrittenPackets
 pub mod WrittenRows

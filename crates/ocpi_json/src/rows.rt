@@ -226,12 +226,7 @@ fn row_of(alloc: Global, kind: RowKind, key: &str, object: &Value) -> Result<Row
 
 /// The row of that kind and key that the tree of a text spells. A text that is no object is told as such.
 #[tactic(auto, unfolding(crate::specs::RowForms::row_of_text))]
-pub fn row_of_text(
-    alloc: Global,
-    kind: RowKind,
-    key: &str,
-    tree: &Value,
-) -> Result<Row, JsonFault>
+pub fn row_of_text(alloc: Global, kind: RowKind, key: &str, tree: &Value) -> Result<Row, JsonFault>
     ensures { Gives result (row_of_text kind key.now (view tree.now)) }
 {
     row_of(alloc, kind, key, as_record(tree, Field::Line)?)

@@ -5,7 +5,7 @@ ghost use Rattle.json_text.specs.Line.{max_line};
 ghost use Rattle.ocpi_types.specs.Rows.{key_of};
 ghost use Rattle.ocpi_json.specs.Packets.{packet_in, packet_text};
 ghost use Rattle.ocpi_json.specs.RowForms.{row_in, row_text};
-ghost use Rattle.ocpi_json.specs.RowKeys.{key_text, kind_of_key, row_kind_word};
+ghost use Rattle.ocpi_json.specs.RowKeys.{KeyFits, key_text, kind_of_key, row_kind_word};
 
 use crate::packets::write_members;
 use crate::row_keys::kept_key;
@@ -27,6 +27,13 @@ pub fn write_packet(alloc: Global, packet: &Packet) -> Result<String, AllocError
     Ok(out.into_text())
 }
 
+/// What the types of a row's key keep.
+fn kept_row(row: &Row)
+    ensures { KeyFits (key_of row.now) }
+{
+    kept_key(&row.key());
+}
+
 /// The text of a row, which is stored under its kind and its key: no spaces, and the members of each object in the byte
 /// order of their names. Beside that kind and that key it is read as that very row, whatever the row is. It fails for
 /// want of memory alone.
@@ -35,7 +42,7 @@ pub fn write_row(alloc: Global, row: &Row) -> Result<String, AllocError>
     ensures text { IfOk result (λ s. string_bytes s ≡ row_text row.now) }
     ensures again { IfOk result (λ s. row_in (row_kind_word (kind_of_key (key_of row.now))) (key_text (key_of row.now)) (string_bytes s) ≡ Ok row.now) }
 {
-    kept_key(&row.key());
+    kept_row(row);
     let mut out = RecordWriter::new(alloc)?;
     write_text(row, &mut out)?;
     Ok(out.into_text())

@@ -1,14 +1,18 @@
 //! Reads each line of the standard input as a packet, and writes the line that is written for that packet, or why the
 //! line is refused, as `refused 4 Missing(token)`. What follows `site `, `setup ` or `event ` is read as such a line, and is
-//! `taken` or refused.
+//! `taken` or refused. What follows `row ` is a kind, a key and a text with tabs between them, and is read as that row: these
+//! three are written as they are for the row, or the row is refused.
 //!
 //! It is a test of `ocpi_json`, and of `copy`: its cases are the lines of the file `stdin` beside what they must give,
 //! `stdout`, which `tools/packet_cases.py` writes. It also serves to see what is wrong with a line. Lines end at LF; empty
 //! ones are skipped.
 #![tactic(auto)]
 
-use ocpi_json::{JsonFault, read_event, read_packet, read_setup, read_site, write_packet};
-use ocpi_types::Packet;
+use ocpi_json::{
+    JsonFault, RowKind, read_event, read_packet, read_row, read_setup, read_site, write_key,
+    write_packet, write_row,
+};
+use ocpi_types::{Packet, Row, Word};
 use std::alloc::Global;
 use std::io::{self, BufWriter, Read, Write};
 use std::process::ExitCode;
@@ -55,6 +59,9 @@ fn answer(alloc: Global, line: &[u8]) -> Result<String, JsonFault> {
     if let Some(event_line) = line.strip_prefix(b"event ") {
         return take_event(alloc, event_line);
     }
+    if let Some(row) = line.strip_prefix(b"row ") {
+        return take_row(alloc, row);
+    }
     write_again(alloc, line)
 }
 
@@ -99,4 +106,38 @@ fn take_event(alloc: Global, line: &[u8]) -> Result<String, JsonFault> {
         Ok(_) => Ok(String::from_str(alloc, "taken")?),
         Err(fault) => Err(fault),
     }
+}
+
+/// Reads the row of a kind, a key and a text. Where there are not all three it is refused as no JSON.
+fn take_row(alloc: Global, line: &[u8]) -> Result<String, JsonFault> {
+    let Ok(line) = str::from_utf8(line) else {
+        return Err(JsonFault::Syntax);
+    };
+    let Some((kind, rest)) = line.split_once('\t') else {
+        return Err(JsonFault::Syntax);
+    };
+    let Some((key, text)) = rest.split_once('\t') else {
+        return Err(JsonFault::Syntax);
+    };
+    match read_row(alloc, kind, key, text.as_bytes()) {
+        Ok(row) => write_row_copy(alloc, &row),
+        Err(fault) => Err(fault),
+    }
+}
+
+/// What is written for a copy of a row.
+fn write_row_copy(alloc: Global, row: &Row) -> Result<String, JsonFault> {
+    match row.copy() {
+        Ok(copy) => write_one_row(alloc, &copy),
+        Err(_) => Err(JsonFault::Memory),
+    }
+}
+
+/// The kind, the key and the text that are written for a row.
+fn write_one_row(alloc: Global, row: &Row) -> Result<String, JsonFault> {
+    let row_key = row.key();
+    let kind = RowKind::of_key(&row_key).word();
+    let key = write_key(alloc, &row_key)?;
+    let text = write_row(alloc, row)?;
+    Ok(format!(in alloc; "{kind}\t{key}\t{text}")?)
 }

@@ -7,11 +7,5 @@ returns-in_err-text-clause-unread c = λ never.
     let p = err_from_is_err_and c.from_residual.result c.from_residual.ensures.1 in
     rw (p.1, p.2) (told _ _ c.in_err-text.ensures never)
 
-pub returns-in-Ok-clause-unread : goal.returns-in-Ok-clause-unread
-returns-in-Ok-clause-unread c = λ never. absurd (no_text_is_read _ _ c.in_ok-text.ensures never)
-
-pub returns-in-Err-Memory-clause-unread : goal.returns-in-Err-Memory-clause-unread
-returns-in-Err-Memory-clause-unread c = λ never. absurd (no_text_is_read _ _ c.in_ok-text.ensures never)
-
-pub returns-in-Err-Declined-clause-unread : goal.returns-in-Err-Declined-clause-unread
-returns-in-Err-Declined-clause-unread c = λ never. absurd (no_text_is_read _ _ c.in_ok-text.ensures never)
+pub returns-clause-unread : goal.returns-clause-unread
+returns-clause-unread c = λ never. absurd (no_text_is_read _ _ c.in_ok-text.ensures never)
