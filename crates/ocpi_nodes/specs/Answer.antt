@@ -2,9 +2,9 @@
 use Rattle.std.specs.Prelude.{◌≡◌, ℕ, List, [], ◌∷◌, ◌++◌, Option, None, Some, Ok, codes, flat_map}
 use Rattle.ocpi_types.specs.declared.packet.Packet.{Packet}
 use Rattle.ocpi_types.specs.declared.site.SiteLine.{SiteLine}
-use Rattle.ocpi_json.specs.declared.fault.JsonFault.{JsonFault}
-use Rattle.ocpi_json.specs.declared.fault.JsonFault.TheVariants.{Syntax}
-use Rattle.ocpi_json.specs.Fault.{Fails, fault_text as json_fault_text}
+use Rattle.json_text.specs.declared.fault.JsonFault.{JsonFault}
+use Rattle.json_text.specs.declared.fault.JsonFault.TheVariants.{Syntax}
+use Rattle.json_text.specs.Fault.{Fails, fault_text as json_fault_text}
 use Rattle.ocpi_json.specs.Packets.{packet_in, packet_text}
 use Rattle.ocpi_json.specs.SiteLines.{site_in}
 use Rattle.operator_core.specs.declared.fault.OperatorFault.{OperatorFault}

@@ -3,14 +3,14 @@ use Rattle.std.specs.Prelude.{◌≡◌, ℕ, ◌<◌, ◌≤◌, ◌⊎◌, con
 use Rattle.std.proofs.Common.{inl, inr, sym, ap, subst, ◌∙◌, arith, lt-ltb, take_all}
 use Rattle.std.proofs.lemmas.Bool.{cases_lt}
 use Rattle.std.proofs.lemmas.List.{length-take}
-use Rattle.ocpi_json.specs.declared.fault.JsonFault.TheVariants.{Syntax}
-use Rattle.ocpi_json.specs.Fault.{◌>>=◌, Fails}
+use Rattle.json_text.specs.declared.fault.JsonFault.TheVariants.{Syntax}
+use Rattle.json_text.specs.Fault.{◌>>=◌, Fails}
 use Rattle.ocpi_json.specs.Packets.{packet_of_line}
-use Rattle.ocpi_json.specs.Line.{max_line, text_of, tree_of, tree_at}
+use Rattle.json_text.specs.Line.{max_line, text_of, tree_of, tree_at}
 use Rattle.ocpi_json.specs.Packets.{packet_in}
-use Rattle.ocpi_json.specs.Quote.{quote}
+use Rattle.json_text.specs.Quote.{quote}
 use Rattle.ocpi_json.specs.SiteLines.{site_in}
-use Rattle.ocpi_json.specs.Sites.{site_of_line}
+use Rattle.ocpi_forms.specs.Sites.{site_of_line}
 use Rattle.std.specs.Str.{is_utf8}
 use Rattle.ocpi_nodes.specs.declared.answer.Running.{Running}
 use Rattle.line_runs.specs.declared.run.Turn.{Turn}

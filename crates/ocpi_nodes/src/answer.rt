@@ -1,7 +1,7 @@
 //! The program `answer`: one operator, which the first line makes and each other line sends a packet.
 
 ghost use Rattle.std.specs.Prelude.{◌≡◌, ◌≢◌, ◌++◌, ◌∷◌, ℕ, List, [], Option, None, Some, Ok, Err, true, IfOk, IfErr, IfSome, OnOk, codes, string_bytes};
-ghost use Rattle.ocpi_json.specs.Fault.{Fails};
+ghost use Rattle.json_text.specs.Fault.{Fails};
 ghost use Rattle.ocpi_json.specs.Packets.{packet_in};
 ghost use Rattle.ocpi_json.specs.SiteLines.{site_in};
 ghost use Rattle.ocpi_types.specs.declared.site.SiteLine.{SiteLine as SiteLineOf};

@@ -1,6 +1,6 @@
 use Rattle.std.proofs.Common.{refl}
 use Rattle.std.proofs.lemmas.Result.{IfOk-weaker}
-use Rattle.ocpi_json.specs.Fault.{fault_text}
+use Rattle.json_text.specs.Fault.{fault_text}
 use Rattle.ocpi_nodes.specs.Answer.{Unread, refusal_line}
 use Rattle.ocpi_nodes.proofs.answer.answer_packet.Goals as goal
 

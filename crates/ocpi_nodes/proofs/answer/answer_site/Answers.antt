@@ -1,6 +1,6 @@
 use Rattle.std.proofs.Common.{[], Some, refl, sym, ap, string_bytes}
 use Rattle.std.proofs.lemmas.List.{append-nil}
-use Rattle.ocpi_json.specs.Fault.{fault_text}
+use Rattle.json_text.specs.Fault.{fault_text}
 use Rattle.ocpi_nodes.specs.Answer.{Opened, NoSite, refusal_line}
 use Rattle.ocpi_nodes.proofs.answer.answer_site.Goals as goal
 
