@@ -20,7 +20,7 @@ use Rattle.ocpi_types.specs.declared.rows.Row.TheVariants as row
 use Rattle.ocpi_types.specs.declared.rows.RowKey.TheVariants as keys
 use Rattle.ocpi_types.specs.declared.rows.Change.{Change}
 use Rattle.ocpi_types.specs.declared.rows.Change.TheVariants.{Put}
-use Rattle.ocpi_types.specs.declared.rows.Counter.TheVariants.{Serial, Request, Session, Cdr, Reference}
+use Rattle.ocpi_types.specs.declared.rows.Counter.TheVariants.{Serial}
 use Rattle.ocpi_types.specs.declared.stored.OpenCommand.{OpenCommand}
 use Rattle.operator_core.specs.declared.decision.Decision.{Decision}
 use Rattle.operator_core.specs.declared.decision.Decision.TheVariants.{Refused, Rejected, Accepted}
