@@ -2,15 +2,13 @@
 use Rattle.std.proofs.Common.{◌≡◌, ℕ, Bool, true, false, List, [], ◌∷◌, refl, sym, ap, subst, ◌∙◌}
 use Rattle.std.specs.Prelude.{◌≢◌, Option, Some, None, IsTrue, IsSome, IsNone, IfSome, IfNone, Contains, is_some, slice_get}
 use Rattle.std.specs.FinMap.{FinMap, get, contains_key}
-use Rattle.std.proofs.lemmas.Option.{same_Some}
 use Rattle.ocpi_text.specs.Text.{key}
 use Rattle.ocpi_types.specs.declared.site.Location.{Location}
 use Rattle.ocpi_types.specs.declared.site.Evse.{Evse}
 use Rattle.ocpi_types.specs.declared.site.Connector.{Connector}
 use Rattle.tables.specs.Keys.{text_cmp}
-use Rattle.site.specs.Flags.{AreNone}
 use Rattle.site.specs.Places.{Idle, IsLocation, IsNamed, IsChosen, Fits, IsEvse}
-use Rattle.site.specs.Positions.{Position, IsEvseAt, HasEvse, HasLocation, OneEvseEach, OneLocationEach, FindsLocations, FindsEvses, IsFlag, Marks, IsCandidate}
+use Rattle.site.specs.Positions.{Position, IsEvseAt, HasEvse, OneEvseEach, OneLocationEach, FindsLocations, FindsEvses, IsFlag, Marks, IsCandidate}
 use Rattle.site.proofs.Apart.{contained, place}
 use Rattle.site.proofs.Indexing.{one_evse}
 use Rattle.site.proofs.Marking.{one_flag}

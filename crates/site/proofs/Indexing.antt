@@ -2,19 +2,18 @@
 use Rattle.std.proofs.Common.{◌≡◌, ℕ, ◌<◌, ◌≤◌, ◌+◌, Bool, true, false, cond, ◌⊎◌, inl, inr, List, refl, sym, ap, subst, ◌∙◌, length, arith}
 use Rattle.std.specs.Prelude.{Option, Some, None, IsTrue, is_some, slice_get}
 use Rattle.std.specs.declared.cmp.Ordering.{Ordering}
-use Rattle.std.specs.Ordering.{nat_cmp, eq_by_cmp}
-use Rattle.std.specs.Cmp.{IsTotalOrder, nat_cmp_total}
-use Rattle.std.specs.FinMap.{FinMap, IsAntisymmetric, nat_cmp-IsAntisymmetric, get, insert, remove, empty, contains_key, get-empty, get-insert}
+use Rattle.std.specs.Ordering.{eq_by_cmp}
+use Rattle.std.specs.Cmp.{IsTotalOrder}
+use Rattle.std.specs.FinMap.{FinMap, get, insert, empty, contains_key, get-empty, get-insert}
 use Rattle.std.proofs.lemmas.Bool.{cases_lt}
-use Rattle.std.proofs.lemmas.Cmp.{on_total, then_total}
 use Rattle.std.proofs.lemmas.Option.{same_Some, slice_get_within}
 use Rattle.ocpi_text.specs.Text.{key}
 use Rattle.ocpi_types.specs.declared.site.Location.{Location}
 use Rattle.ocpi_types.specs.declared.site.Evse.{Evse}
-use Rattle.tables.specs.Keys.{text_cmp, text_total, text_exact, pair_exact}
-use Rattle.tables.proofs.Maps.{of_insert, get-insert_same, get-insert_other, get-remove_other, of_remove}
+use Rattle.tables.specs.Keys.{text_cmp, text_total, text_exact}
+use Rattle.tables.proofs.Maps.{of_insert, get-insert_same}
 use Rattle.site.specs.Places.{Idle}
-use Rattle.site.specs.Positions.{Position, IsEvseAt, HasEvse, HasLocation, OneEvseEach, FindsLocations, FindsEvses, IsBefore}
+use Rattle.site.specs.Positions.{Position, IsEvseAt, HasEvse, HasLocation, FindsLocations, FindsEvses, IsBefore}
 
 none_some : {X : Type 0} (x : X) (o : Option X) → o ≡ None → o ≡ Some x → ⊥
 none_some x o a b = cc

@@ -1,5 +1,5 @@
 -- Flags of the places of a list, and the tree that finds one of those that are set.
-use Rattle.std.specs.Prelude.{◌≡◌, ◌≢◌, ℕ, ◌+◌, ◌*◌, ◌<◌, ◌≤◌, ◌||◌, Bool, true, false, List, Some, length, slice_get, slice_index_or}
+use Rattle.std.specs.Prelude.{◌≡◌, ℕ, ◌+◌, ◌*◌, ◌<◌, ◌≤◌, ◌||◌, Bool, true, false, List, Some, length, slice_get, slice_index_or}
 
 -- node k is set where one of the two below it is
 abbrev pub IsJoint : List Bool → ℕ → Type 0

@@ -1,7 +1,7 @@
 -- The places of a site, each found by its key (OCPI 2.2.1, Locations: Location, EVSE and Connector object), the claims on its
 -- EVSEs, and which of these are out of service.
 use Rattle.std.specs.Prelude.{◌≡◌, ℕ, Bool, true, false, not, ◌&&◌, List, Option, Some, None, Contains, IsTrue, slice_get}
-use Rattle.std.specs.FinMap.{FinMap, get, insert, remove, contains_key}
+use Rattle.std.specs.FinMap.{FinMap, insert, remove, contains_key}
 use Rattle.ocpi_text.specs.Text.{key}
 use Rattle.ocpi_types.specs.declared.site.Site.{Site}
 use Rattle.ocpi_types.specs.declared.site.Location.{Location}

@@ -1,5 +1,5 @@
 -- Where the locations and EVSEs of a site stand in its lists, and what finds them there.
-use Rattle.std.specs.Prelude.{◌≡◌, ℕ, ◌<◌, ◌⊎◌, Bool, true, List, [], Option, Some, None, Contains, IsTrue, slice_get, slice_set, slice_index_or}
+use Rattle.std.specs.Prelude.{◌≡◌, ℕ, ◌<◌, ◌⊎◌, Bool, true, List, [], Option, Some, Contains, IsTrue, slice_get, slice_set, slice_index_or}
 use Rattle.std.specs.FinMap.{FinMap, get, contains_key}
 use Rattle.ocpi_text.specs.Text.{key}
 use Rattle.ocpi_types.specs.declared.site.Location.{Location}

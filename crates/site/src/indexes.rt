@@ -113,7 +113,12 @@ impl Indexes {
     }
 
     /// Puts the EVSE that stands there in service, or out of it. It takes no memory.
-    pub(crate) fn put_service(&mut self, evse: CiKey<36>, position: (usize, usize), in_service: bool)
+    pub(crate) fn put_service(
+        &mut self,
+        evse: CiKey<36>,
+        position: (usize, usize),
+        in_service: bool,
+    )
         requires room { IsTrue (map.contains_key (rooms_of text_cmp self.old.out_of_service) evse) }
         requires flags { HasFlags position self.old }
         ensures marks { Remarks evse position self.old self.new }

@@ -1,4 +1,4 @@
-use Rattle.std.proofs.Common.{◌-◌, ◌≡◌, ◌≢◌, ◌*◌, ◌/◌, ◌<◌, ◌≤◌, ℕ, length, drop, slice_set}
+use Rattle.std.proofs.Common.{◌-◌, ◌≡◌, ◌≢◌, ◌*◌, ◌/◌, ◌<◌, ℕ, drop, slice_set}
 use Rattle.site.specs.Flags.{IsJoint}
 use Rattle.site.proofs.flags.set_node.Given as goal
 

@@ -1,4 +1,3 @@
-use Rattle.std.proofs.Common.{◌≡◌}
 use Rattle.site.specs.Indexes.{AreAllSet}
 use Rattle.site.proofs.indexes.all_set.Given as goal
 

@@ -1,4 +1,4 @@
-use Rattle.std.proofs.Common.{◌≡◌, ◌&&◌, sym, ◌∙◌}
+use Rattle.std.proofs.Common.{◌&&◌, sym, ◌∙◌}
 use Rattle.std.specs.Prelude.{not}
 use Rattle.site.proofs.Finding.{evse_known, known_evse}
 use Rattle.site.proofs.places.Places.may_claim.Goals as goal

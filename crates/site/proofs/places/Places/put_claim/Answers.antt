@@ -1,10 +1,10 @@
-use Rattle.std.proofs.Common.{◌≡◌, refl, sym, ap, ◌∙◌, true, List, ℕ, Option, Some, None, Bor}
+use Rattle.std.proofs.Common.{◌≡◌, refl, sym, ap, ◌∙◌, true, Option, Some, None, Bor}
 use Rattle.std.specs.Prelude.{is_some, option_copied}
 use Rattle.std.specs.FinMap.{get, contains_key}
 use Rattle.tables.specs.Keys.{text_cmp}
 use Rattle.tables.specs.Tables.{shown_of}
 use Rattle.site.specs.Places.{Claims, Idle}
-use Rattle.site.specs.Positions.{Position, HasEvse}
+use Rattle.site.specs.Positions.{Position}
 use Rattle.site.proofs.Finding.{known_evse}
 use Rattle.site.proofs.Remarking.{flags_stand, inserted_other, remarked}
 use Rattle.site.proofs.places.Places.put_claim.Goals as goal
@@ -32,6 +32,6 @@ invariant_of-self c =
       c.self.invariant.0,
       c.self.invariant.1,
       remarked _ c.self.invariant.1 _ c.self.invariant.2 c.args.evse c.unwrap-position.result.now (c.self.invariant.2.evses_found.sound c.args.evse c.unwrap-position.result.now known) c.put_claim.new.self c.put_claim.ensures.marks
-      (λ q apart. ap (λ (m : Claims). contains_key m q) c.put_claim.ensures.claims ∙ inserted_other (shown_of text_cmp c.self.inside.indexes.claims) c.args.evse c.args.claim q apart)
-      (λ q apart. ap (λ (m : Idle). contains_key m q) c.put_claim.ensures.out_of_service),
+          (λ q apart. ap (λ (m : Claims). contains_key m q) c.put_claim.ensures.claims ∙ inserted_other (shown_of text_cmp c.self.inside.indexes.claims) c.args.evse c.args.claim q apart)
+          (λ q apart. ap (λ (m : Idle). contains_key m q) c.put_claim.ensures.out_of_service),
     )

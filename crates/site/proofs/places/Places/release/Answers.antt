@@ -2,7 +2,7 @@ use Rattle.std.proofs.Common.{◌≡◌, ap, ◌∙◌, Some, None}
 use Rattle.std.specs.FinMap.{get, contains_key}
 use Rattle.tables.specs.Keys.{text_cmp}
 use Rattle.tables.specs.Tables.{shown_of}
-use Rattle.site.specs.Places.{Claims, Idle, Placed}
+use Rattle.site.specs.Places.{Claims, Idle}
 use Rattle.site.proofs.Remarking.{flags_stand, removed_other, remarked, unknown_unclaimed}
 use Rattle.site.proofs.places.Places.release.Goals as goal
 
@@ -22,6 +22,6 @@ invariant_of-self c =
       c.self.invariant.0,
       c.self.invariant.1,
       remarked _ c.self.invariant.1 _ c.self.invariant.2 c.args.evse c.in-Some.position (c.self.invariant.2.evses_found.sound c.args.evse c.in-Some.position known) c.take_claim.new.self c.take_claim.ensures.marks
-      (λ q apart. ap (λ (m : Claims). contains_key m q) c.take_claim.ensures.claims ∙ removed_other (shown_of text_cmp c.self.inside.indexes.claims) c.args.evse q apart)
-      (λ q apart. ap (λ (m : Idle). contains_key m q) c.take_claim.ensures.out_of_service),
+          (λ q apart. ap (λ (m : Claims). contains_key m q) c.take_claim.ensures.claims ∙ removed_other (shown_of text_cmp c.self.inside.indexes.claims) c.args.evse q apart)
+          (λ q apart. ap (λ (m : Idle). contains_key m q) c.take_claim.ensures.out_of_service),
     )

@@ -28,8 +28,8 @@ invariant_of-self c =
       c.self.invariant.0,
       c.self.invariant.1,
       remarked _ c.self.invariant.1 _ c.self.invariant.2 c.args.evse c.in-Some.position (c.self.invariant.2.evses_found.sound c.args.evse c.in-Some.position known) c.put_service.new.self c.put_service.ensures.marks
-      (λ q apart. ap (λ (m : Claims). contains_key m q) c.put_service.ensures.claims)
-      (λ q apart. ap (λ (m : Idle). contains_key m q) c.put_service.ensures.out_of_service ∙ serviced_other c.args.in_service (shown_of text_cmp c.self.inside.indexes.out_of_service) c.args.evse q apart),
+          (λ q apart. ap (λ (m : Claims). contains_key m q) c.put_service.ensures.claims)
+          (λ q apart. ap (λ (m : Idle). contains_key m q) c.put_service.ensures.out_of_service ∙ serviced_other c.args.in_service (shown_of text_cmp c.self.inside.indexes.out_of_service) c.args.evse q apart),
     )
 
 pub returns-clause-known : goal.returns-clause-known
