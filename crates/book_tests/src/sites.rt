@@ -42,7 +42,7 @@ struct Turn {
     answer: &'static str,
 }
 
-fn turn(call: Call, id: &'static str, answer: &'static str) -> Turn {
+fn make_turn(call: Call, id: &'static str, answer: &'static str) -> Turn {
     Turn { call, id, answer }
 }
 
@@ -223,36 +223,36 @@ fn play(rt: &impl Abort, places: &mut Places, turn: &Turn) -> Result<(), TextFau
 fn evses_are_claimed_and_put_out_of_service(rt: HostRuntime) -> Result<(), Fail> {
     let mut places = places(rt.alloc())?;
     let turns = [
-        turn(Call::Location, "loc1", "LOC1"),
-        turn(Call::Location, "LOC7", "1"),
-        turn(Call::FreeAt, "LOC1", "E1"),
-        turn(Call::Claim, "e1", "done"),
-        turn(Call::Claim, "E1", "3"),
-        turn(Call::ClaimOf, "E1", "start"),
-        turn(Call::FreeAt, "LOC1", "E2"),
-        turn(Call::Change, "E1", "done"),
-        turn(Call::ClaimOf, "E1", "session"),
-        turn(Call::Stop, "E2", "done"),
-        turn(Call::FreeAt, "LOC1", "none"),
-        turn(Call::FreeAt, "LOC2", "E3"),
-        turn(Call::Claim, "E2", "4"),
-        turn(Call::Stop, "E1", "done"),
-        turn(Call::Works, "LOC1", "no"),
-        turn(Call::Works, "LOC2", "yes"),
-        turn(Call::InService, "E1", "no"),
-        turn(Call::Claim, "E1", "3"),
-        turn(Call::Release, "E1", "done"),
-        turn(Call::ClaimOf, "E1", "none"),
-        turn(Call::FreeAt, "LOC1", "none"),
-        turn(Call::Serve, "E1", "done"),
-        turn(Call::FreeAt, "LOC1", "E1"),
-        turn(Call::InService, "E1", "yes"),
-        turn(Call::Claim, "E1", "done"),
-        turn(Call::Reserve, "E1", "done"),
-        turn(Call::ClaimOf, "E1", "reservation"),
-        turn(Call::Claim, "E9", "2"),
-        turn(Call::Serve, "E9", "2"),
-        turn(Call::InService, "E9", "no"),
+        make_turn(Call::Location, "loc1", "LOC1"),
+        make_turn(Call::Location, "LOC7", "1"),
+        make_turn(Call::FreeAt, "LOC1", "E1"),
+        make_turn(Call::Claim, "e1", "done"),
+        make_turn(Call::Claim, "E1", "3"),
+        make_turn(Call::ClaimOf, "E1", "start"),
+        make_turn(Call::FreeAt, "LOC1", "E2"),
+        make_turn(Call::Change, "E1", "done"),
+        make_turn(Call::ClaimOf, "E1", "session"),
+        make_turn(Call::Stop, "E2", "done"),
+        make_turn(Call::FreeAt, "LOC1", "none"),
+        make_turn(Call::FreeAt, "LOC2", "E3"),
+        make_turn(Call::Claim, "E2", "4"),
+        make_turn(Call::Stop, "E1", "done"),
+        make_turn(Call::Works, "LOC1", "no"),
+        make_turn(Call::Works, "LOC2", "yes"),
+        make_turn(Call::InService, "E1", "no"),
+        make_turn(Call::Claim, "E1", "3"),
+        make_turn(Call::Release, "E1", "done"),
+        make_turn(Call::ClaimOf, "E1", "none"),
+        make_turn(Call::FreeAt, "LOC1", "none"),
+        make_turn(Call::Serve, "E1", "done"),
+        make_turn(Call::FreeAt, "LOC1", "E1"),
+        make_turn(Call::InService, "E1", "yes"),
+        make_turn(Call::Claim, "E1", "done"),
+        make_turn(Call::Reserve, "E1", "done"),
+        make_turn(Call::ClaimOf, "E1", "reservation"),
+        make_turn(Call::Claim, "E9", "2"),
+        make_turn(Call::Serve, "E9", "2"),
+        make_turn(Call::InService, "E9", "no"),
     ];
     for turn in &turns {
         play(&rt, &mut places, turn)?;
