@@ -1,0 +1,8 @@
+//! What is handed over between operators and providers: the pushes that a node repeats until they are acknowledged, and
+//! the sessions and charge detail records that a provider takes and settles by.
+#![tactic(auto)]
+
+mod currency;
+mod sums;
+
+pub use currency::Currency;
