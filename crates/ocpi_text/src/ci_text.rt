@@ -9,6 +9,7 @@ ghost use Rattle.ocpi_text.specs.Text.{ci_text, exact_text, is_ascii_text, key};
 use crate::cells::printable_cells;
 use crate::characters::char_count;
 use crate::fault::TextFault;
+use crate::keys::CiKey;
 use std::cmp::Ordering;
 use std::marker::Model;
 use std::str;
@@ -88,7 +89,14 @@ impl<const MAX: usize> CiText<MAX> {
     }
 
     /// The text with `a` to `z` made `A` to `Z`, by which it is compared.
-    pub fn key(&self) -> CiText<MAX>
+    pub fn key(&self) -> CiKey<MAX>
+        ensures { result ≡ key self.now }
+    {
+        CiKey::new(self)
+    }
+
+    /// The text with `a` to `z` made `A` to `Z`.
+    pub(crate) fn upper(&self) -> CiText<MAX>
         ensures { result ≡ key self.now }
     {
         let mut cells = self.cells;

@@ -62,7 +62,7 @@ fn joined(letter: u8, country: &[u8], party_id: &[u8], counter: u64) -> [u8; 16]
 fn own_id_bytes(kind: OwnIdKind, party: Party, counter: Whole) -> [u8; 16]
     ensures { result ≡ own_id_bytes kind party counter }
 {
-    let key = party.key();
+    let key = party.upper();
     joined(
         kind_letter(kind),
         key.country().as_bytes(),

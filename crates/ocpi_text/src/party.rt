@@ -10,6 +10,7 @@ ghost use Rattle.ocpi_text.specs.Party.{party_at, is_party_shape, country_at, pa
 use crate::characters::char_count;
 use crate::ci_text::CiText;
 use crate::fault::TextFault;
+use crate::keys::PartyKey;
 use std::alloc::{AllocError, Global};
 use std::cmp::Ordering;
 use std::marker::Model;
@@ -96,11 +97,18 @@ impl Party {
     }
 
     /// The party with `a` to `z` made `A` to `Z`, by which it is compared.
-    pub fn key(&self) -> Party
+    pub fn key(&self) -> PartyKey
+        ensures { result ≡ key self.now }
+    {
+        PartyKey::new(self)
+    }
+
+    /// The party with `a` to `z` made `A` to `Z`.
+    pub(crate) fn upper(&self) -> Party
         ensures { result ≡ key self.now }
     {
         Party {
-            text: self.text.key(),
+            text: self.text.upper(),
         }
     }
 

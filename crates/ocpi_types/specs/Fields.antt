@@ -1,12 +1,13 @@
 -- The names of members, as they are written.
 use Rattle.std.specs.Prelude.{ℕ, List, codes}
 use Rattle.ocpi_types.specs.declared.field.Field.{Field}
-use Rattle.ocpi_types.specs.declared.field.Field.TheVariants.{Line, Address, Allowed, At, AuthMethod, AuthorizationReference, Body, CdrLocation, CdrToken, ChargingPeriods, City, ConnectorFormat, ConnectorId, ConnectorPowerType, ConnectorStandard, Connectors, ContractId, Coordinates, Country, CountryCode, Credit, Currency, Data, Dimensions, EndDateTime, Event, EvseId, EvseUid, EvseUids, Evses, ExclVat, ExpiryDate, Format, From, Id, InService, Issuer, Kind, Kwh, LastUpdated, Latitude, Location, LocationId, Locations, Longitude, Node, Nodes, Number, Operator, Order, Party, PartyId, PowerType, Price, Provider, Providers, Request, ReservationId, ResponseUrl, Result, Serial, SessionId, Site, Standard, StartDateTime, Status, StatusCode, Timeout, Timestamp, To, Token, TokenType, TokenUid, TotalCost, TotalEnergy, TotalTime, TypeOf, Uid, Valid, Volume, Whitelist}
+use Rattle.ocpi_types.specs.declared.field.Field.TheVariants.{Line, Address, Allowed, Answer, At, AuthMethod, AuthorizationReference, Body, CdrLocation, CdrToken, ChargingPeriods, City, ConnectorFormat, ConnectorId, ConnectorPowerType, ConnectorStandard, Connectors, ContractId, Coordinates, Country, CountryCode, Credit, Currency, Data, Deadline, Dimensions, EndDateTime, Event, EvseId, EvseUid, EvseUids, Evses, ExclVat, ExpiryDate, Format, From, Id, InService, Issuer, Key, Kind, Kwh, Last, LastUpdated, Latitude, Location, LocationId, Locations, Longitude, Node, Nodes, Number, Operator, Order, Party, PartyId, PowerType, Price, Provider, Providers, Request, ReservationId, ResponseUrl, Result, Serial, SessionId, Site, Standard, StartDateTime, Status, StatusCode, Timeout, Timestamp, To, Token, TokenType, TokenUid, TotalCost, TotalEnergy, TotalTime, TypeOf, Uid, Valid, Volume, Whitelist}
 
 unfoldable pub name_of : Field → List ℕ
 name_of Line = codes "line"
 name_of Address = codes "address"
 name_of Allowed = codes "allowed"
+name_of Answer = codes "answer"
 name_of At = codes "at"
 name_of AuthMethod = codes "auth_method"
 name_of AuthorizationReference = codes "authorization_reference"
@@ -27,6 +28,7 @@ name_of CountryCode = codes "country_code"
 name_of Credit = codes "credit"
 name_of Currency = codes "currency"
 name_of Data = codes "data"
+name_of Deadline = codes "deadline"
 name_of Dimensions = codes "dimensions"
 name_of EndDateTime = codes "end_date_time"
 name_of Event = codes "event"
@@ -41,8 +43,10 @@ name_of From = codes "from"
 name_of Id = codes "id"
 name_of InService = codes "in_service"
 name_of Issuer = codes "issuer"
+name_of Key = codes "key"
 name_of Kind = codes "kind"
 name_of Kwh = codes "kwh"
+name_of Last = codes "last"
 name_of LastUpdated = codes "last_updated"
 name_of Latitude = codes "latitude"
 name_of Location = codes "location"

@@ -8,4 +8,5 @@ pub mod Memory
 pub mod Parties
 pub mod Rows
 pub mod Setups
+pub mod Stored
 pub mod Words

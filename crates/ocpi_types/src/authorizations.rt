@@ -1,6 +1,7 @@
 //! Whether a token may be used, as an operator asks its provider (OCPI 2.2.1, Tokens: Real-time authorization).
 
-ghost use Rattle.std.specs.Prelude.{◌≡◌, IfOk};
+ghost use Rattle.std.specs.Prelude.{◌≡◌, IfOk, OnErr};
+ghost use Rattle.ocpi_types.specs.Memory.{AuthorizeOwnsMemory, ListOwnsMemory};
 
 use crate::limits::RefusalCode;
 use crate::lists::EvseUids;
@@ -17,9 +18,10 @@ pub struct LocationReferences {
 }
 
 impl LocationReferences {
-    /// An equal place.
+    /// An equal place. Memory is wanted only where it lists EVSEs.
     pub fn copy(&self) -> Result<LocationReferences, AllocError>
-        ensures { IfOk result (λ t. t ≡ self.now) }
+        ensures equal { IfOk result (λ t. t ≡ self.now) }
+        ensures err { OnErr result (ListOwnsMemory self.now.evse_uids) }
     {
         let evse_uids = match &self.evse_uids {
             Some(uids) => Some(uids.copy()?),
@@ -42,9 +44,10 @@ pub struct Authorize {
 }
 
 impl Authorize {
-    /// An equal question.
+    /// An equal question. Memory is wanted only where it lists EVSEs.
     pub fn copy(&self) -> Result<Authorize, AllocError>
-        ensures { IfOk result (λ t. t ≡ self.now) }
+        ensures equal { IfOk result (λ t. t ≡ self.now) }
+        ensures err { OnErr result (AuthorizeOwnsMemory self.now) }
     {
         let location = match &self.location {
             Some(location) => Some(location.copy()?),

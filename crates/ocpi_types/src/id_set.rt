@@ -4,7 +4,7 @@ ghost use Rattle.std.specs.Prelude.{◌≡◌, false, not, IfOk, OnOk, OnErr};
 ghost use Rattle.std.specs.FinSet as set;
 ghost use Rattle.ocpi_text.specs.Text.{key};
 
-use ocpi_text::CiText;
+use ocpi_text::{CiKey, CiText};
 use std::alloc::{AllocError, Global};
 use std::collections::BTreeSet;
 use std::marker::Model;
@@ -12,7 +12,7 @@ use std::marker::Model;
 /// A set of ids, which are compared without case. It is seen as the set of their keys.
 #[derive(Drop)]
 pub struct IdSet {
-    keys: BTreeSet<CiText<36>>,
+    keys: BTreeSet<CiKey<36>>,
 }
 
 impl Model for IdSet {

@@ -1,5 +1,5 @@
 //! The records of OCPI 2.2.1: tokens, commands, sessions, charge detail records, packets, and the sites that operators
-//! configure; and the rows that a node stores.
+//! configure; the setups and events of runs; and the rows that a node stores.
 #![tactic(auto)]
 
 mod apart;
@@ -20,6 +20,7 @@ mod rows;
 mod sessions;
 mod setup;
 mod site;
+mod stored;
 mod token;
 mod words;
 
@@ -36,9 +37,10 @@ pub use parties::Parties;
 pub use price::PricePerKwh;
 pub use replies::{Ack, CommandResponse, CommandResult, ResponseData};
 pub use rows::{Change, Counter, Place, Row, RowKey};
-pub use sessions::{Price, Session};
+pub use sessions::{Opening, Price, Session};
 pub use setup::{Node, Setup};
 pub use site::{Connector, Connectors, Evse, Evses, Location, Locations, Site, SiteLine};
+pub use stored::{Command, OpenCommand, Push, Reply, Reservation, SentCommand};
 pub use token::{CdrToken, Token};
 pub use words::{
     AllowedType, AuthMethod, CommandResponseType, CommandResultType, PacketKind, SessionStatus,

@@ -7,11 +7,14 @@
 
 ghost use Rattle.std.specs.Prelude.{◌≡◌, IfOk, OnErr};
 ghost use Rattle.ocpi_types.specs.Memory.{RowOwnsMemory, ChangeOwnsMemory};
-ghost use Rattle.ocpi_types.specs.Rows.{counter_name};
+ghost use Rattle.ocpi_types.specs.Rows.{counter_name, key_of};
 
-use crate::commands::StartSession;
-use crate::replies::CommandResponse;
-use ocpi_text::{CiText, Moment, Party, Whole};
+use crate::cdrs::Cdr;
+use crate::sessions::Session;
+use crate::stored::{OpenCommand, Push, Reply, Reservation, SentCommand};
+use crate::token::Token;
+use crate::words::{CommandResultType, TokenType};
+use ocpi_text::{CiKey, CiText, Party, PartyKey, Whole};
 use std::alloc::AllocError;
 
 /// What a node numbers, each kind by a counter of its own.
@@ -59,36 +62,144 @@ pub enum Row {
         counter: Counter,
         last: Whole,
     },
-    /// Kind `reply`, under `PARTY/NUMBER`: what was answered to the request of that number of that provider, kept so
-    /// that the request has the same answer when it comes again (OCPI 2.2.1, Commands: CommandResponse).
+    /// Kind `reply`, under `PARTY/NUMBER`: what was answered to the request of that number of that party, kept so that the
+    /// request has the same answer when it comes again.
     Reply {
-        /// In key form.
-        provider: Party,
+        sender: PartyKey,
         number: Whole,
-        body: CommandResponse,
+        reply: Reply,
+    },
+    /// Kind `token`, under `PARTY/TYPE/UID`, which are the token's: a token that is known (OCPI 2.2.1, Tokens: Token
+    /// object).
+    Token {
+        token: Token,
+    },
+    /// Kind `push`, under its number: a request that is sent again until its addressee acknowledges it.
+    Push {
+        number: Whole,
+        to: Party,
+        push: Push,
+    },
+    /// Kind `service`, under the EVSE's uid: the EVSE is out of service.
+    Service {
+        evse_uid: CiKey<36>,
     },
     /// Kind `spent`, under `PARTY/REFERENCE`: an authorization reference of that provider that a start has used, and
     /// that no other start may.
     Spent {
-        /// In key form.
-        provider: Party,
-        /// In key form.
-        reference: CiText<36>,
+        provider: PartyKey,
+        reference: CiKey<36>,
     },
-    /// Kind `pending`, under `PARTY/NUMBER`: a start of that number of that provider that was taken up and has no result
-    /// yet (OCPI 2.2.1, Commands: StartSession).
-    Pending {
-        /// In key form.
-        provider: Party,
+    /// Kind `mark`, under `PARTY/RESERVATION`: requests of that provider about that reservation are stale where their
+    /// number is below this one.
+    Mark {
+        provider: PartyKey,
+        reservation_id: CiKey<36>,
         number: Whole,
-        command: StartSession,
-        place: Place,
-        /// The first tick at this moment or later ends the start by a timeout.
-        deadline: Moment,
+    },
+    /// Kind `reservation`, under `PARTY/RESERVATION`: an EVSE is held for a token of that provider (OCPI 2.2.1, Commands:
+    /// ReserveNow).
+    Reservation {
+        provider: PartyKey,
+        reservation_id: CiKey<36>,
+        reservation: Reservation,
+    },
+    /// Kind `pending`, under `PARTY/NUMBER`: a command of that number of that provider that was accepted and has no result
+    /// yet (OCPI 2.2.1, Commands).
+    Pending {
+        provider: PartyKey,
+        number: Whole,
+        open: OpenCommand,
+    },
+    /// Kind `result`, under `PARTY/NUMBER`: how the command of that number of that provider ended (OCPI 2.2.1, Commands:
+    /// CommandResult).
+    Result {
+        provider: PartyKey,
+        number: Whole,
+        result: CommandResultType,
+    },
+    /// Kind `session`, under `PARTY/ID`, which are the session's: its newest version (OCPI 2.2.1, Sessions: Session object).
+    Session {
+        session: Session,
+    },
+    /// Kind `cdr`, under `PARTY/ID`, which are the charge detail record's (OCPI 2.2.1, CDRs: CDR object).
+    Cdr {
+        cdr: Cdr,
+    },
+    /// Kind `command`, under its number: a command that the provider has sent (OCPI 2.2.1, Commands).
+    Command {
+        number: Whole,
+        command: SentCommand,
     },
 }
 
 impl Row {
+    /// The kind and the key under which the row is stored.
+    pub fn key(&self) -> RowKey
+        ensures { result ≡ key_of self.now }
+    {
+        match self {
+            Row::Count { counter, .. } => RowKey::Count { counter: *counter },
+            Row::Reply { sender, number, .. } => RowKey::Reply {
+                sender: *sender,
+                number: *number,
+            },
+            Row::Token { token } => RowKey::Token {
+                party: token.party.key(),
+                token_type: token.token_type,
+                uid: token.uid.key(),
+            },
+            Row::Push { number, .. } => RowKey::Push { number: *number },
+            Row::Service { evse_uid } => RowKey::Service {
+                evse_uid: *evse_uid,
+            },
+            Row::Spent {
+                provider,
+                reference,
+            } => RowKey::Spent {
+                provider: *provider,
+                reference: *reference,
+            },
+            Row::Mark {
+                provider,
+                reservation_id,
+                ..
+            } => RowKey::Mark {
+                provider: *provider,
+                reservation_id: *reservation_id,
+            },
+            Row::Reservation {
+                provider,
+                reservation_id,
+                ..
+            } => RowKey::Reservation {
+                provider: *provider,
+                reservation_id: *reservation_id,
+            },
+            Row::Pending {
+                provider, number, ..
+            } => RowKey::Pending {
+                provider: *provider,
+                number: *number,
+            },
+            Row::Result {
+                provider, number, ..
+            } => RowKey::Result {
+                provider: *provider,
+                number: *number,
+            },
+            Row::Session { session } => RowKey::Session {
+                operator: session.party.key(),
+                id: session.id.key(),
+            },
+            Row::Cdr { cdr } => RowKey::Cdr {
+                operator: cdr.party.key(),
+                id: cdr.id.key(),
+            },
+            Row::Command { number, .. } => RowKey::Command { number: *number },
+        }
+    }
+
     /// An equal row. Memory is wanted only where the row owns some.
     pub fn copy(&self) -> Result<Row, AllocError>
         ensures equal { IfOk result (λ t. t ≡ self.now) }
@@ -100,13 +211,22 @@ impl Row {
                 last: *last,
             }),
             Row::Reply {
-                provider,
+                sender,
                 number,
-                body,
+                reply,
             } => Ok(Row::Reply {
-                provider: *provider,
+                sender: *sender,
                 number: *number,
-                body: *body,
+                reply: *reply,
+            }),
+            Row::Token { token } => Ok(Row::Token { token: *token }),
+            Row::Push { number, to, push } => Ok(Row::Push {
+                number: *number,
+                to: *to,
+                push: push.copy()?,
+            }),
+            Row::Service { evse_uid } => Ok(Row::Service {
+                evse_uid: *evse_uid,
             }),
             Row::Spent {
                 provider,
@@ -115,18 +235,47 @@ impl Row {
                 provider: *provider,
                 reference: *reference,
             }),
+            Row::Mark {
+                provider,
+                reservation_id,
+                number,
+            } => Ok(Row::Mark {
+                provider: *provider,
+                reservation_id: *reservation_id,
+                number: *number,
+            }),
+            Row::Reservation {
+                provider,
+                reservation_id,
+                reservation,
+            } => Ok(Row::Reservation {
+                provider: *provider,
+                reservation_id: *reservation_id,
+                reservation: *reservation,
+            }),
             Row::Pending {
                 provider,
                 number,
-                command,
-                place,
-                deadline,
+                open,
             } => Ok(Row::Pending {
                 provider: *provider,
                 number: *number,
+                open: open.copy()?,
+            }),
+            Row::Result {
+                provider,
+                number,
+                result,
+            } => Ok(Row::Result {
+                provider: *provider,
+                number: *number,
+                result: *result,
+            }),
+            Row::Session { session } => Ok(Row::Session { session: *session }),
+            Row::Cdr { cdr } => Ok(Row::Cdr { cdr: cdr.copy()? }),
+            Row::Command { number, command } => Ok(Row::Command {
+                number: *number,
                 command: command.copy()?,
-                place: *place,
-                deadline: *deadline,
             }),
         }
     }
@@ -139,19 +288,49 @@ pub enum RowKey {
         counter: Counter,
     },
     Reply {
-        /// In key form.
-        provider: Party,
+        sender: PartyKey,
         number: Whole,
     },
+    Token {
+        party: PartyKey,
+        token_type: TokenType,
+        uid: CiKey<36>,
+    },
+    Push {
+        number: Whole,
+    },
+    Service {
+        evse_uid: CiKey<36>,
+    },
     Spent {
-        /// In key form.
-        provider: Party,
-        /// In key form.
-        reference: CiText<36>,
+        provider: PartyKey,
+        reference: CiKey<36>,
+    },
+    Mark {
+        provider: PartyKey,
+        reservation_id: CiKey<36>,
+    },
+    Reservation {
+        provider: PartyKey,
+        reservation_id: CiKey<36>,
     },
     Pending {
-        /// In key form.
-        provider: Party,
+        provider: PartyKey,
+        number: Whole,
+    },
+    Result {
+        provider: PartyKey,
+        number: Whole,
+    },
+    Session {
+        operator: PartyKey,
+        id: CiKey<36>,
+    },
+    Cdr {
+        operator: PartyKey,
+        id: CiKey<39>,
+    },
+    Command {
         number: Whole,
     },
 }

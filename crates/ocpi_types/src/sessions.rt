@@ -1,5 +1,6 @@
 //! Charging sessions (OCPI 2.2.1, Sessions: Session object).
 
+use crate::price::PricePerKwh;
 use crate::token::CdrToken;
 use crate::words::{AuthMethod, SessionStatus};
 use ocpi_text::{CiText, E4, Moment, Party, Quantity, ShortText};
@@ -33,4 +34,21 @@ pub struct Session {
     pub status: SessionStatus,
     /// Later in each new version.
     pub last_updated: Moment,
+}
+
+/// What stays the same of a session from its first version to its last, and the price of its energy.
+#[derive(Clone, Copy)]
+pub struct Opening {
+    /// The operator: `country_code` and `party_id`.
+    pub party: Party,
+    pub id: CiText<36>,
+    pub cdr_token: CdrToken,
+    pub auth_method: AuthMethod,
+    pub authorization_reference: Option<CiText<36>>,
+    pub location_id: CiText<36>,
+    pub evse_uid: CiText<36>,
+    pub connector_id: CiText<36>,
+    /// An ISO 4217 code, in which the price is.
+    pub currency: ShortText<3, 12>,
+    pub price: PricePerKwh,
 }

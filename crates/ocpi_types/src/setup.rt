@@ -1,6 +1,7 @@
 //! The nodes of a run.
 
-ghost use Rattle.std.specs.Prelude.{◌≡◌, IfOk, SomeIff};
+ghost use Rattle.std.specs.Prelude.{◌≡◌, IfOk, OnErr, SomeIff};
+ghost use Rattle.ocpi_types.specs.Memory.{NodeOwnsMemory};
 ghost use Rattle.ocpi_types.specs.Setups.{AreNodes, node_key, party_of};
 
 use crate::apart::{Identified, differ_from};
@@ -27,9 +28,10 @@ impl Node {
         }
     }
 
-    /// An equal node.
+    /// An equal node. Memory is wanted only where it has a site.
     pub fn copy(&self) -> Result<Node, AllocError>
-        ensures { IfOk result (λ t. t ≡ self.now) }
+        ensures equal { IfOk result (λ t. t ≡ self.now) }
+        ensures err { OnErr result (NodeOwnsMemory self.now) }
     {
         match self {
             Node::Operator { party, site } => Ok(Node::Operator {

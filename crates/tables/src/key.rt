@@ -3,7 +3,7 @@
 ghost use Rattle.std.specs.FinMap.{IsAntisymmetric, nat_cmp-IsAntisymmetric};
 ghost use Rattle.tables.specs.Keys.{pair_exact, triple_exact, text_exact};
 
-use ocpi_text::{CiText, Party, Whole};
+use ocpi_text::{CiKey, CiText, Moment, Party, PartyKey, Whole};
 
 /// A key: a value that is copied, in a total order in which only equal keys tie.
 pub trait TableKey: Copy + Ord {
@@ -30,6 +30,20 @@ impl<A: TableKey, B: TableKey, C: TableKey> TableKey for (A, B, C) {
 
 impl TableKey for Whole {
     ghost exact = { nat_cmp-IsAntisymmetric };
+}
+
+impl TableKey for Moment {
+    ghost exact = { nat_cmp-IsAntisymmetric };
+}
+
+/// By its bytes.
+impl TableKey for PartyKey {
+    ghost exact = { text_exact };
+}
+
+/// By its bytes.
+impl<const MAX: usize> TableKey for CiKey<MAX> {
+    ghost exact = { text_exact };
 }
 
 /// By its bytes, as spelled.
