@@ -3,6 +3,8 @@
 #![tactic(auto)]
 
 mod currency;
+mod equality;
 mod sums;
 
 pub use currency::Currency;
+pub use equality::is_equal;

@@ -5,7 +5,7 @@ ghost use Rattle.std.specs.FinMap as map;
 ghost use Rattle.handover.specs.Owed.{Account, sum_at, seen_by};
 
 use crate::currency::Currency;
-use ocpi_text::Party as PartyKey;
+use ocpi_text::PartyKey;
 use std::alloc::{AllocError, Global};
 use std::marker::Model;
 use tables::Table;
