@@ -1,7 +1,8 @@
 -- Sums over the values of finite maps.
 use Rattle.std.proofs.Common.{◌≡◌, ℕ, ◌*◌, ◌+◌, Bool, true, false, cond, T, List, [], ◌∷◌, map, length, ◌≢◌, ◌⊎◌, inl, inr, refl, sym, ap, subst, ◌∙◌, arith}
 use Rattle.std.proofs.lemmas.Int.{ints}
-use Rattle.std.proofs.Common.{◌<◌, ◌^◌, w64, to_z, of_z}
+use Rattle.ocpi_text.specs.Decimal.{e4_limit}
+use Rattle.std.proofs.Common.{◌<◌, ◌≤◌, ◌^◌, w64, to_z, of_z}
 use mir.Syntax.{w128}
 use mir.Val.{SFits}
 use Rattle.std.specs.Prelude.{unsigned_abs, ℤ, pos, ◌+ℤ◌, ◌-ℤ◌, neg_ℤ, ◌≤ℤ◌, not, ◌&&◌, Option, Some, None, option_map, unwrap_or}
@@ -9,7 +10,7 @@ use Rattle.std.specs.Ordering.{eq_by_cmp, is_lt, is_eq}
 use Rattle.std.specs.declared.cmp.Ordering.{Ordering}
 use Rattle.std.specs.declared.cmp.Ordering.TheVariants.{Less, Equal, Greater}
 use Rattle.std.specs.Cmp.{IsTotalOrder, eq_by_cmp_equiv}
-use Rattle.std.specs.FinMap.{FinMap, IsAntisymmetric, find, put, is_sorted, get, insert, remove, values, entries, entries_sorted, entries-insert, get-entries, get-insert, same_map}
+use Rattle.std.specs.FinMap.{FinMap, IsAntisymmetric, find, put, is_sorted, get, insert, remove, values, entries, entries_sorted, entries-insert, get-entries, get-insert, same_map, len, len-entries}
 use Rattle.tables.specs.Keys.{text_pair_cmp, text_pair_total, text_pair_exact}
 use Rattle.tables.proofs.Maps.{get-insert_same, get-insert_other, get-remove_same, get-remove_other, equal_of_is_eq}
 use Rattle.std.specs.FinMap.Entries.{below_all, by_order}
@@ -46,6 +47,36 @@ module _ {K X : Type 0} (R : K → K → Ordering) (o : IsTotalOrder R) (f : X �
   below_more k m (e ∷ es) p h =
       let first_less : R k e.0 ≡ Less = o.trans k m e.0 p (less (R m e.0) (first _ _ h)) in
       subst (λ r. T (is_lt r && below_all R k es)) (sym first_less) (below_more k m es p (second _ _ h))
+
+  below_tied : (k m : K) (es : List (K × X)) → R k m ≡ Equal → T (below_all R m es) → T (below_all R k es)
+  below_tied k m [] p h = tt
+  below_tied k m (e ∷ es) p h =
+      let first_less : R k e.0 ≡ Less = o.congr k m e.0 p ∙ less (R m e.0) (first _ _ h) in
+      subst (λ r. T (is_lt r && below_all R k es)) (sym first_less) (below_tied k m es p (second _ _ h))
+
+  -- what stands among the later entries is what is found
+  found_later : (q : K) (e : K × X) (es : List (K × X)) (x : X) → T (is_sorted R (e ∷ es)) → find R q es ≡ Some x → find R q (e ∷ es) ≡ Some x
+  found_later q e es x h found = elim (R q e.0) as (λ r. R q e.0 ≡ r → cond (is_eq r) (Some e.1) (find R q es) ≡ Some x) [
+    | Less ↦ λ p. found
+    | Equal ↦ λ p. absurd (let none : find R q es ≡ None = none_below q es (below_tied q e.0 es p (first _ _ h)) in cc)
+    | Greater ↦ λ p. found
+  ] refl
+
+  bounded_total : (es : List (K × X)) → T (is_sorted R es) → ((k : K) (x : X) → find R k es ≡ Some x → unsigned_abs (f x) ≤ e4_limit) →
+      unsigned_abs (total (map f (all_values es))) ≤ e4_limit * length es
+  bounded_total [] h each = omega (arith, ints)
+  bounded_total (e ∷ es) h each =
+      let rest = bounded_total es (second _ _ h) (λ k x found. each k x (found_later k e es x h found)) in
+      let here = each e.0 e.1 (ap (λ b. cond b (Some e.1) (find R e.0 es)) ((eq_by_cmp_equiv o).refl e.0)) in
+      omega (arith, ints)
+
+  -- terms of a limited size, as many as there are keys
+  pub bounded_sum : (m : FinMap R X) (n : ℕ) → ((k : K) (x : X) → get m k ≡ Some x → unsigned_abs (f x) ≤ e4_limit) → len m ≤ n → n < 2 ^ 63 →
+      unsigned_abs (total (map f (values m))) < 2 ^ 120
+  bounded_sum m n each fits small =
+      let most = bounded_total (entries m) (entries_sorted m) (λ k x found. each k x (get-entries m k ∙ found)) in
+      let count = len-entries m in
+      omega (arith, ints)
 
   total_put : (k : K) (v : X) (es : List (K × X)) → T (is_sorted R es) →
       total (map f (all_values (put R k v es))) +ℤ term_at f (find R k es) ≡ total (map f (all_values es)) +ℤ f v

@@ -2,9 +2,12 @@
 //! the sessions and charge detail records that a provider takes and settles by.
 #![tactic(auto)]
 
+mod cdr_book;
 mod currency;
 mod equality;
+mod fault;
 mod sums;
 
 pub use currency::Currency;
 pub use equality::is_equal;
+pub use fault::HandoverFault;
