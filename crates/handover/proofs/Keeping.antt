@@ -106,7 +106,7 @@ module _ (m : Cdrs) (sessions : FinMap session_cmp (Unit {0})) (sums : FinMap te
   cleared k x session currency amount n listed after left had of is neg ns ls less rs =
       let own = kept.own k x had in
       let account : (k.0, currency) ≡ account_of x = λ i. ((own i).0, is i) in
-      let gone : (session, k.1) ≡ ((k.0, key x.session_id), k.1) = λ i. (((sym own i).0, (of i).1), k.1) in
+      let gone : (session, k.1) ≡ ((k.0, key x.session_id), k.1) = ap (λ (s : Texts). (s, k.1)) (of ∙ (λ i. ((sym own i).0, key x.session_id))) in
       let done = kept_clear k x had after (λ a. less a ∙ ap (λ b. sum_at sums a +ℤ seen_by a b amount) account ∙ ap (λ z. sum_at sums a +ℤ seen_by a (account_of x) z) neg) in
       rw (ns, rs) (subst (λ l. IsKept (remove m k) l after rooms) (sym (ls ∙ ap (remove sessions) gone)) done)
 
@@ -169,14 +169,20 @@ module _ (m : Cdrs) (sessions : FinMap session_cmp (Unit {0})) (sums : FinMap te
       (subst (λ l. IsKept (insert m (cdr_key x) x) l after left) (sym (ls ∙ ap (λ q. insert sessions q tt) place))
       (subst (λ r. IsKept (insert m (cdr_key x) x) (insert sessions ((key x.party, key x.session_id), key x.id) tt) after r) (sym rs) done))
 
+nothing_held : (k : Texts) (x : Cdr) → get (empty {R = text_pair_cmp}) k ≡ Some x → ⊥
+nothing_held k x h = let bad : Some x ≡ None = sym h ∙ get-empty text_pair_cmp k in cc
+
+nothing_listed : (q : SessionKey) → get (empty {R = session_cmp}) q ≡ Some tt → ⊥
+nothing_listed q h = let bad : Some tt ≡ None = sym h ∙ get-empty session_cmp q in cc
+
 -- no record is held
 pub kept_none : IsKept empty empty empty empty
 kept_none = record {
-  own = λ k x h. absurd (let none = get-empty text_pair_cmp k in cc);
-  bounded = λ k x h. absurd (let none = get-empty text_pair_cmp k in cc);
-  listed = λ q. (λ h. absurd (let none = get-empty session_cmp q in cc), λ h. absurd (let none = get-empty text_pair_cmp (q.0.0, q.1) in let had = h.1 in cc));
+  own = λ k x h. absurd (nothing_held k x h);
+  bounded = λ k x h. absurd (nothing_held k x h);
+  listed = λ q. (λ h. absurd (nothing_listed q h), λ h. absurd (nothing_held (q.0.0, q.1) h.0 h.1));
   summed = λ a. ap (λ x. unwrap_or x (pos 0)) (get-empty text_pair_cmp a) ∙ sym (ap (λ es. total (map (cost_in a) (map (λ e. e.1) es))) no_entries);
-  roomed = λ k x h. absurd (let none = get-empty text_pair_cmp k in cc);
+  roomed = λ k x h. absurd (nothing_held k x h);
 }
   where
     no_entries : entries (empty {X = Cdr} {R = text_pair_cmp}) ≡ []

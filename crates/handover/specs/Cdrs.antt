@@ -1,7 +1,8 @@
 -- Charge detail records that are held, by operator and id, and what stands beside them.
-use Rattle.std.specs.Prelude.{◌≡◌, ◌↔◌, ℕ, ℤ, ◌<◌, unsigned_abs, List, Some, IsTrue}
+use Rattle.std.specs.Prelude.{◌≡◌, ◌≢◌, ◌↔◌, ℕ, ℤ, ◌<◌, unsigned_abs, List, Some, IsTrue}
 use Rattle.std.specs.FinMap.{FinMap, get, contains_key, values}
 use Rattle.std.specs.declared.cmp.Ordering.{Ordering}
+use Rattle.std.specs.declared.cmp.Ordering.TheVariants.{Less}
 use Rattle.ocpi_text.specs.Text.{key}
 use Rattle.ocpi_text.specs.Decimal.{e4_limit}
 use Rattle.tables.specs.Keys.{pair_cmp, text_cmp, text_pair_cmp}
@@ -25,6 +26,14 @@ cdr_key x = (key x.party, key x.id)
 -- the record of an operator and an id is one of a session
 abbrev pub IsOfSession : Cdrs → SessionKey → Type 0
 IsOfSession m q = (x : Cdr) × (get m (q.0.0, q.1) ≡ Some x) × (key x.session_id ≡ q.0.1)
+
+-- a record of the session is held under another id
+abbrev pub HasOther : Cdrs → List ℕ × List ℕ → List ℕ → Type 0
+HasOther m session id = (i : List ℕ) × IsOfSession m (session, i) × (i ≢ id)
+
+-- a record of the session is held under a later id
+abbrev pub HasLaterId : Cdrs → List ℕ × List ℕ → List ℕ → Type 0
+HasLaterId m session id = (i : List ℕ) × IsOfSession m (session, i) × (text_cmp id i ≡ Less)
 
 -- what stands beside the records: the records of each session, and the sum of each account
 pub record IsKept (m : Cdrs) (sessions : FinMap session_cmp (Unit {0})) (sums : FinMap text_pair_cmp ℤ) (rooms : FinMap text_pair_cmp (Unit {0})) : Type 0 where

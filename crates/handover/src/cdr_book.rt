@@ -6,7 +6,7 @@ ghost use Rattle.ocpi_text.specs.Text.{key};
 ghost use Rattle.ocpi_text.specs.Decimal.{e4_limit};
 ghost use Rattle.ocpi_types.specs.declared.cdrs.Cdr.{Cdr};
 ghost use Rattle.handover.specs.Owed.{owed};
-ghost use Rattle.handover.specs.Cdrs.{HasRoomOfCdr, KeepsCdrRoom, IsOfSession, cdr_key};
+ghost use Rattle.handover.specs.Cdrs.{HasRoomOfCdr, KeepsCdrRoom, HasOther, HasLaterId, cdr_key};
 
 use crate::currency::Currency;
 use crate::sums::Sums;
@@ -96,6 +96,27 @@ impl CdrBook {
         ensures value { option_copied result ≡ map.get self.now.cdrs (operator, id) }
     {
         self.cdrs.get((operator, id))
+    }
+
+    /// Whether a record of a session is held under a later id.
+    fn has_later(&self, session: (PartyKey, CiKey<36>), id: CiKey<39>) -> bool
+        ensures { IsTrue result ↔ HasLaterId self.now.cdrs session id }
+    {
+        let Some(next) = self.sessions.first_after((session, id)) else {
+            return false;
+        };
+        next.0.0.cmp(&session).is_eq()
+    }
+
+    /// Whether a record of a session is held under another id.
+    pub(crate) fn has_other(&self, session: (PartyKey, CiKey<36>), id: CiKey<39>) -> bool
+        ensures { IsTrue result ↔ HasOther self.now.cdrs session id }
+    {
+        let Some(first) = self.sessions.first_with(session, least_id()) else {
+            return false;
+        };
+        let is_itself = first.0.cmp(&id).is_eq();
+        !is_itself || self.has_later(session, id)
     }
 
     /// What is owed to an operator in a currency.

@@ -6,8 +6,12 @@ mod cdr_book;
 mod currency;
 mod equality;
 mod fault;
+mod inbox;
 mod sums;
+mod takings;
 
 pub use currency::Currency;
 pub use equality::is_equal;
 pub use fault::HandoverFault;
+pub use inbox::Inbox;
+pub use takings::{CdrTaking, SessionTaking};
