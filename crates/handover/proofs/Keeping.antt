@@ -15,7 +15,9 @@ use Rattle.ocpi_text.specs.Text.{key}
 use Rattle.ocpi_text.specs.Decimal.{e4_limit}
 use Rattle.ocpi_types.specs.declared.cdrs.Cdr.{Cdr}
 use Rattle.handover.specs.Owed.{Account, account_of, cost_in, seen_by, is_account, owed, sum_at, total}
-use Rattle.handover.specs.Cdrs.{Cdrs, SessionKey, session_cmp, cdr_key, IsOfSession, IsKept}
+use Rattle.std.specs.Prelude.{Result, Err, IsOk, is_ok, is_some}
+use Rattle.handover.specs.Cdrs.{Cdrs, SessionKey, session_cmp, cdr_key, IsOfSession, IsKept, HasOther, HasLaterId, CdrRooms, HasRoomOfCdr, KeepsCdrRoom}
+use Rattle.handover.proofs.Neighbours.{HasElse, HasLater}
 use Rattle.handover.proofs.Totals.{told, term_at, total_insert, total_remove, bounded_sum}
 
 abbrev pub Texts : Type 0
@@ -172,15 +174,15 @@ module _ (m : Cdrs) (sessions : FinMap session_cmp (Unit {0})) (sums : FinMap te
 nothing_held : (k : Texts) (x : Cdr) → get (empty {R = text_pair_cmp}) k ≡ Some x → ⊥
 nothing_held k x h = let bad : Some x ≡ None = sym h ∙ get-empty text_pair_cmp k in cc
 
-nothing_listed : (q : SessionKey) → get (empty {R = session_cmp}) q ≡ Some tt → ⊥
-nothing_listed q h = let bad : Some tt ≡ None = sym h ∙ get-empty session_cmp q in cc
+nothing_listed : (q : SessionKey) (x : Unit {0}) → get (empty {R = session_cmp}) q ≡ Some x → ⊥
+nothing_listed q x h = let bad : Some x ≡ None = sym h ∙ get-empty session_cmp q in cc
 
 -- no record is held
 pub kept_none : IsKept empty empty empty empty
 kept_none = record {
   own = λ k x h. absurd (nothing_held k x h);
   bounded = λ k x h. absurd (nothing_held k x h);
-  listed = λ q. (λ h. absurd (nothing_listed q h), λ h. absurd (nothing_held (q.0.0, q.1) h.0 h.1));
+  listed = λ q. (λ h. absurd (nothing_listed q tt h), λ h. absurd (nothing_held (q.0.0, q.1) h.0 h.1));
   summed = λ a. ap (λ x. unwrap_or x (pos 0)) (get-empty text_pair_cmp a) ∙ sym (ap (λ es. total (map (cost_in a) (map (λ e. e.1) es))) no_entries);
   roomed = λ k x h. absurd (nothing_held k x h);
 }
@@ -198,3 +200,71 @@ put_anew o exact m k v = same_map o exact _ _ (λ q. elim (told o exact q k) [
   | inl same ↦ ap (get (insert (remove m k) k v)) same ∙ get-insert_same o exact (remove m k) k v ∙ sym (ap (get (insert m k v)) same ∙ get-insert_same o exact m k v)
   | inr apart ↦ get-insert_other o exact (remove m k) k v q apart ∙ get-remove_other o exact m k q apart ∙ sym (get-insert_other o exact m k v q apart)
 ])
+
+-- a record under another id of a session, by the index
+pub other_id : (m : Cdrs) (sessions : FinMap session_cmp (Unit {0})) (sums : FinMap text_pair_cmp ℤ) (rooms : FinMap text_pair_cmp (Unit {0})) → IsKept m sessions sums rooms → (session : Texts) (id : List ℕ) →
+    HasElse text_pair_total text_pair_exact text_total text_exact sessions session id ↔ HasOther m session id
+other_id m sessions sums rooms kept session id = (
+  λ h. (h.0, (kept.listed (session, h.0)).0 h.1, h.2),
+  λ h. (h.0, (kept.listed (session, h.0)).1 h.1, h.2),
+)
+
+pub later_id : (m : Cdrs) (sessions : FinMap session_cmp (Unit {0})) (sums : FinMap text_pair_cmp ℤ) (rooms : FinMap text_pair_cmp (Unit {0})) → IsKept m sessions sums rooms → (session : Texts) (id : List ℕ) →
+    HasLater text_pair_total text_pair_exact text_total text_exact sessions session id ↔ HasLaterId m session id
+later_id m sessions sums rooms kept session id = (
+  λ h. (h.0, (kept.listed (session, h.0)).0 h.1, h.2),
+  λ h. (h.0, (kept.listed (session, h.0)).1 h.1, h.2),
+)
+
+-- the room of a record, by its parts
+pub has_cdr_room : (s : CdrRooms) (x : Cdr) (o i e c : List ℕ) → o ≡ key x.party → i ≡ key x.id → e ≡ key x.session_id → c ≡ x.currency →
+    IsTrue (contains_key s.cdrs (o, i)) → IsTrue (contains_key s.sessions ((o, e), i)) → IsTrue (contains_key s.sums (o, c)) → HasRoomOfCdr s x
+has_cdr_room s x o i e c eo ei ee ec h k l = record {
+  of_record = subst (λ q. IsTrue (contains_key s.cdrs q)) (λ j. (eo j, ei j)) h;
+  of_session = subst (λ q. IsTrue (contains_key s.sessions q)) (λ j. ((eo j, ee j), ei j)) k;
+  of_sum = subst (λ q. IsTrue (contains_key s.sums q)) (λ j. (eo j, ec j)) l;
+}
+
+pub cdr_room_parts : (s : CdrRooms) (x : Cdr) (o i e c : List ℕ) → o ≡ key x.party → i ≡ key x.id → e ≡ key x.session_id → c ≡ x.currency → HasRoomOfCdr s x →
+    IsTrue (contains_key s.cdrs (o, i)) × IsTrue (contains_key s.sessions ((o, e), i)) × IsTrue (contains_key s.sums (o, c))
+cdr_room_parts s x o i e c eo ei ee ec h = (
+  subst (λ q. IsTrue (contains_key s.cdrs q)) (λ j. (sym eo j, sym ei j)) h.of_record,
+  subst (λ q. IsTrue (contains_key s.sessions q)) (λ j. ((sym eo j, sym ee j), sym ei j)) h.of_session,
+  subst (λ q. IsTrue (contains_key s.sums q)) (λ j. (sym eo j, sym ec j)) h.of_sum,
+)
+
+pub keeps_cdr_room : (s t : CdrRooms) → ((q : Texts) → IsTrue (contains_key s.cdrs q) → IsTrue (contains_key t.cdrs q)) → ((q : SessionKey) → IsTrue (contains_key s.sessions q) → IsTrue (contains_key t.sessions q)) →
+    ((q : Texts) → IsTrue (contains_key s.sums q) → IsTrue (contains_key t.sums q)) → KeepsCdrRoom s t
+keeps_cdr_room s t f g h x had = record { of_record = f _ had.of_record; of_session = g _ had.of_session; of_sum = h _ had.of_sum }
+
+-- a call that failed did not succeed
+pub failed : {A E : Type 0} {P : Type 0} (r : Result A E) (e : E) → r ≡ Err e → IsOk r → P
+failed r e is ok = absurd (let bad : false ≡ true = sym (ap is_ok is) ∙ ok in cc)
+
+-- the room of another key
+pub other_room : {K : Type 0} {R : K → K → Ordering} (o : IsTotalOrder R) (exact : IsAntisymmetric R) (m n : FinMap R (Unit {0})) (k q : K) → n ≡ remove m k → q ≢ k → IsTrue (contains_key m q) → IsTrue (contains_key n q)
+other_room o exact m n k q is apart had = ap (λ (f : FinMap _ (Unit {0})). contains_key f q) is ∙ ap is_some (get-remove_other o exact m k q apart) ∙ had
+
+-- the room of other records, where that of one was given back
+pub lost_record : (s : CdrRooms) (cdrs : FinMap text_pair_cmp (Unit {0})) (k : Texts) → cdrs ≡ remove s.cdrs k → (x : Cdr) → HasRoomOfCdr s x → cdr_key x ≢ k → HasRoomOfCdr (record { cdrs = cdrs; sessions = s.sessions; sums = s.sums }) x
+lost_record s cdrs k is x had apart = record { of_record = other_room text_pair_total text_pair_exact s.cdrs cdrs k (cdr_key x) is apart had.of_record; of_session = had.of_session; of_sum = had.of_sum }
+
+pub lost_both : (s : CdrRooms) (cdrs : FinMap text_pair_cmp (Unit {0})) (sessions : FinMap session_cmp (Unit {0})) (k session : Texts) → session.0 ≡ k.0 → cdrs ≡ remove s.cdrs k → sessions ≡ remove s.sessions (session, k.1) →
+    (x : Cdr) → HasRoomOfCdr s x → cdr_key x ≢ k → HasRoomOfCdr (record { cdrs = cdrs; sessions = sessions; sums = s.sums }) x
+lost_both s cdrs sessions k session operator is of x had apart = record {
+  of_record = other_room text_pair_total text_pair_exact s.cdrs cdrs k (cdr_key x) is apart had.of_record;
+  of_session = other_room session_total session_exact s.sessions sessions (session, k.1) ((key x.party, key x.session_id), key x.id) of
+      (λ same. apart (let o = ap (λ (q : SessionKey). q.0.0) same ∙ operator in let i = ap (λ (q : SessionKey). q.1) same in λ j. (o j, i j))) had.of_session;
+  of_sum = had.of_sum;
+}
+
+-- no session lists a record that is not held
+pub none_listed : (m : Cdrs) (sessions : FinMap session_cmp (Unit {0})) (sums : FinMap text_pair_cmp ℤ) (rooms : FinMap text_pair_cmp (Unit {0})) → IsKept m sessions sums rooms → (k : Texts) → get m k ≡ None →
+    (o e : List ℕ) → o ≡ k.0 → contains_key sessions ((o, e), k.1) ≡ false
+none_listed m sessions sums rooms kept k none o e is = absent (get sessions ((o, e), k.1)) (λ h.
+  let of = (kept.listed ((o, e), k.1)).0 h in
+  let bad : Some of.0 ≡ None = sym of.1 ∙ ap (λ (p : List ℕ). get m (p, k.1)) is ∙ none in cc)
+  where
+    absent : (r : Option (Unit {0})) → (r ≡ Some tt → ⊥) → is_some r ≡ false
+    absent None h = refl
+    absent (Some tt) h = absurd (h refl)

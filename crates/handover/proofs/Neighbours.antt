@@ -8,6 +8,10 @@ use Rattle.std.specs.Cmp.{IsTotalOrder}
 use Rattle.std.specs.BTreeMap.Range.{IsLeBy, IsLtBy}
 use Rattle.std.specs.FinMap.{FinMap, IsAntisymmetric, get, contains_key}
 use Rattle.std.proofs.lemmas.Cmp.{tied_itself}
+use Rattle.std.specs.Prelude.{cond, not, ◌⊎◌}
+use Rattle.std.proofs.Common.{inl, inr}
+use Rattle.tables.proofs.Maps.{equal_of_is_eq}
+use Rattle.handover.proofs.Totals.{told}
 use Rattle.tables.specs.Keys.{pair_cmp}
 use Rattle.tables.specs.Tables.{IsLeast, HasNone}
 
@@ -92,3 +96,30 @@ module _ {A B : Type 0} {R : A → A → Ordering} {S : B → B → Ordering} (o
 
   pub nothing_else : HasNone (pair_cmp R S) m (λ q. q.0 ≡ a) → HasElse → ⊥
   nothing_else none h = let no = none (a, h.0) refl in let had = h.1 in let bad : Some tt ≡ None = sym had ∙ no in absurd (cc)
+
+  -- whether the first key after it has the first part
+  pub later_iff : (k : A × B) (v : Unit {0}) (flag : Bool) → flag ≡ is_eq (R k.0 a) → IsLeast (pair_cmp R S) m (IsLtBy (pair_cmp R S) (a, b)) (k, v) → IsTrue flag ↔ HasLater
+  later_iff k v flag is least = elim (told o exact k.0 a) [
+    | inl same ↦ (λ t. later_there k least same, λ h. is ∙ ap (λ x. is_eq (R x a)) same ∙ ap is_eq (tied_itself o a))
+    | inr apart ↦ (λ t. absurd (apart (exact k.0 a (equal_of_is_eq (R k.0 a) (sym is ∙ t)))), λ h. absurd (none_later k least apart h))
+  ]
+
+  -- whether another has the first part, where one is the first of them
+  pub else_iff : (d : B) (v : Unit {0}) (flag later : Bool) → flag ≡ is_eq (S d b) → IsLeast (pair_cmp R S) m (λ q. q.0 ≡ a) ((a, d), v) → (IsTrue later ↔ HasLater) → IsTrue (cond (not flag) true later) ↔ HasElse
+  else_iff d v flag later is least tells = elim (told p sole d b) [
+    | inl same ↦
+        let on : flag ≡ true = is ∙ ap (λ x. is_eq (S x b)) same ∙ ap is_eq (tied_itself p b) in
+        let here = subst (λ x. IsLeast (pair_cmp R S) m (λ q. q.0 ≡ a) ((a, x), v)) same least in
+        (
+          λ t. (else_later here).1 (tells.0 (sym (ap (λ f. cond (not f) true later) on) ∙ t)),
+          λ h. ap (λ f. cond (not f) true later) on ∙ tells.1 ((else_later here).0 h),
+        )
+    | inr apart ↦
+        let off : flag ≡ false = is ∙ not_equal (S d b) (λ e. apart (sole d b e)) in
+        (λ t. else_first d least apart, λ h. ap (λ f. cond (not f) true later) off)
+  ]
+    where
+      not_equal : (r : Ordering) → (r ≡ Equal → ⊥) → is_eq r ≡ false
+      not_equal Less h = refl
+      not_equal Equal h = absurd (h refl)
+      not_equal Greater h = refl

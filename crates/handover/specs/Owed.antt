@@ -1,5 +1,6 @@
 -- What is owed to an operator: the sum of the costs of its charge detail records in a currency.
-use Rattle.std.specs.Prelude.{ℕ, ℤ, pos, ◌+ℤ◌, List, [], ◌∷◌, map, Bool, ◌&&◌, cond}
+use Rattle.std.specs.List.{list_any}
+use Rattle.std.specs.Prelude.{◌≡◌, Some, None, ℕ, ℤ, pos, ◌+ℤ◌, List, [], ◌∷◌, map, Bool, ◌&&◌, cond}
 use Rattle.std.specs.Ordering.{eq_by_cmp}
 use Rattle.std.specs.Prelude.{unwrap_or}
 use Rattle.std.specs.FinMap.{FinMap, get}
@@ -41,3 +42,11 @@ sum_at sums a = unwrap_or (get sums a) (pos 0)
 pub record HeldSums : Type 0 where
   pub sums : FinMap text_pair_cmp ℤ
   pub rooms : FinMap text_pair_cmp (Unit {0})
+
+-- an operator and a currency that a record is of
+abbrev pub is_among : Account → List Cdr → Bool
+is_among a cdrs = list_any (λ (x : Cdr). is_account a (account_of x)) cdrs
+
+-- the sum of each account that a record is of, and no other
+abbrev pub AreOwed : List Cdr → FinMap text_pair_cmp ℤ → Type 0
+AreOwed cdrs sums = (a : Account) → get sums a ≡ cond (is_among a cdrs) (Some (owed a cdrs)) None

@@ -66,14 +66,14 @@ fn session_of(cdr: &Cdr) -> (PartyKey, CiKey<36>)
 }
 
 /// The cost of a record, in ten-thousandths.
-fn cost_of(cdr: &Cdr) -> i64
+pub(crate) fn cost_of(cdr: &Cdr) -> i64
     ensures value { result ≡ cdr.now.total_cost.excl_vat }
     ensures bound { unsigned_abs result < e4_limit }
 {
     cdr.total_cost.excl_vat.units()
 }
 
-fn currency_of(cdr: &Cdr) -> Currency
+pub(crate) fn currency_of(cdr: &Cdr) -> Currency
     ensures { result ≡ cdr.now.currency }
 {
     Currency::new(cdr.currency)
@@ -99,23 +99,24 @@ impl CdrBook {
     }
 
     /// Whether a record of a session is held under a later id.
-    fn has_later(&self, session: (PartyKey, CiKey<36>), id: CiKey<39>) -> bool
-        ensures { IsTrue result ↔ HasLaterId self.now.cdrs session id }
+    fn has_later(&self, session: &(PartyKey, CiKey<36>), id: &CiKey<39>) -> bool
+        ensures { IsTrue result ↔ HasLaterId self.now.cdrs session.now id.now }
     {
-        let Some(next) = self.sessions.first_after((session, id)) else {
+        let Some(next) = self.sessions.first_after((*session, *id)) else {
             return false;
         };
-        next.0.0.cmp(&session).is_eq()
+        next.0.0.cmp(session).is_eq()
     }
 
     /// Whether a record of a session is held under another id.
-    pub(crate) fn has_other(&self, session: (PartyKey, CiKey<36>), id: CiKey<39>) -> bool
-        ensures { IsTrue result ↔ HasOther self.now.cdrs session id }
+    pub(crate) fn has_other(&self, session: &(PartyKey, CiKey<36>), id: &CiKey<39>) -> bool
+        ensures others { IsTrue result ↔ HasOther self.now.cdrs session.now id.now }
+        ensures own { (k : List ℕ × List ℕ) (x : Cdr) → map.get self.now.cdrs k ≡ Some x → k ≡ cdr_key x }
     {
-        let Some(first) = self.sessions.first_with(session, least_id()) else {
+        let Some(first) = self.sessions.first_with(*session, least_id()) else {
             return false;
         };
-        let is_itself = first.0.cmp(&id).is_eq();
+        let is_itself = first.0.cmp(id).is_eq();
         !is_itself || self.has_later(session, id)
     }
 
@@ -138,7 +139,8 @@ impl CdrBook {
         let session = (operator, cdr.session_id.key());
         self.cdrs.reserve((operator, id))?;
         self.sessions.reserve((session, id))?;
-        self.sums.reserve(operator, Currency::new(cdr.currency))
+        self.sums.reserve(operator, Currency::new(cdr.currency))?;
+        Ok(())
     }
 
     /// Takes the record of an operator and an id out, if there is one, and keeps its room. It takes no memory.

@@ -65,7 +65,7 @@ fn is_final(status: SessionStatus) -> bool
 
 /// Whether no version is held, or the held one is not final and is older.
 fn is_news(held: Option<&Session>, session: &Session) -> bool
-    ensures { IsTrue result ↔ IsNews (option_copied held) session.now }
+    ensures { IsTrue result ↔ IsNews (option_copied held.entry) session.now }
 {
     match held {
         None => true,
@@ -139,10 +139,11 @@ impl Inbox {
     {
         let operator = cdr.party.key();
         let id = cdr.id.key();
-        if self.cdrs.has_other((operator, cdr.session_id.key()), id) {
+        let session = (operator, cdr.session_id.key());
+        if self.cdrs.has_other(&session, &id) {
             return CdrTaking::Conflict;
         }
-        match self.cdrs.get(operator, id) {
+        match self.held_cdr(&cdr.party, &cdr.id) {
             None => CdrTaking::Taken,
             Some(held) => {
                 if is_equal(held, cdr) {
