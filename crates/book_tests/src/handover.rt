@@ -108,3 +108,218 @@ fn cdr(alloc: Global, id: &str, session_id: &str, currency: &str, cost: i64) -> 
         last_updated: moment(1_800)?,
     })
 }
+
+fn session_text(answer: Result<SessionTaking, HandoverFault>) -> &'static str {
+    match answer {
+        Ok(SessionTaking::Taken) => "taken",
+        Ok(SessionTaking::Kept) => "kept",
+        Err(HandoverFault::WrongParty) => "wrong party",
+        Err(_) => "no",
+    }
+}
+
+fn cdr_text(answer: Result<CdrTaking, HandoverFault>) -> &'static str {
+    match answer {
+        Ok(CdrTaking::Taken) => "taken",
+        Ok(CdrTaking::Kept) => "kept",
+        Ok(CdrTaking::Conflict) => "conflict",
+        Err(HandoverFault::WrongParty) => "wrong party",
+        Err(_) => "no",
+    }
+}
+
+/// A version of a session that BE/BEC hands over to NL/TNM, and what becomes of it.
+#[derive(Clone, Copy)]
+struct Version {
+    provider: &'static str,
+    id: &'static str,
+    /// The second of `last_updated` after 2025-01-01T10:00:00.
+    second: u64,
+    status: SessionStatus,
+    answer: &'static str,
+}
+
+/// Hands versions over, one after the other. The one that is held at last of session 1 is of that second.
+fn take_versions(
+    rt: &impl Abort,
+    alloc: Global,
+    versions: &[Version],
+    last: u64,
+) -> Result<(), Fail> {
+    let own = Party::read("nl/tnm")?;
+    let sender = Party::read("be/bec")?;
+    let mut inbox = Inbox::new(alloc);
+    for version in versions {
+        let session = session(version.provider, version.id, version.second, version.status)?;
+        let answer = inbox.take_session(&own, &sender, &session);
+        assert_eq!(rt; session_text(answer), version.answer);
+    }
+    match inbox.held(&sender, &CiText::new("s1")?) {
+        Some(held) => assert_eq!(rt; held.last_updated.millis(), moment(last)?.millis()),
+        None => assert!(rt; false),
+    }
+    Ok(())
+}
+
+/// A version that comes late, one of the same moment, and one after the last are not taken.
+#[test]
+fn versions_never_go_back(rt: HostRuntime) -> Result<(), Fail> {
+    let version = |second, status, answer| Version {
+        provider: "NL/TNM",
+        id: "S1",
+        second,
+        status,
+        answer,
+    };
+    let versions = [
+        version(10, SessionStatus::Pending, "taken"),
+        version(30, SessionStatus::Active, "taken"),
+        version(20, SessionStatus::Active, "kept"),
+        version(30, SessionStatus::Completed, "kept"),
+        version(40, SessionStatus::Completed, "taken"),
+        version(50, SessionStatus::Active, "kept"),
+        Version {
+            provider: "DE/EMP",
+            id: "S2",
+            second: 10,
+            status: SessionStatus::Pending,
+            answer: "wrong party",
+        },
+    ];
+    take_versions(&rt, rt.alloc(), versions.as_slice(), 40)
+}
+
+/// A charge detail record that BE/BEC hands over to NL/TNM, what becomes of it, and what is owed in EUR then.
+#[derive(Clone, Copy)]
+struct Bill {
+    id: &'static str,
+    session_id: &'static str,
+    currency: &'static str,
+    cost: i64,
+    sender: &'static str,
+    answer: &'static str,
+    owed: i128,
+}
+
+fn billed(
+    id: &'static str,
+    session_id: &'static str,
+    cost: i64,
+    answer: &'static str,
+    owed: i128,
+) -> Bill {
+    Bill {
+        id,
+        session_id,
+        currency: "EUR",
+        cost,
+        sender: "be/bec",
+        answer,
+        owed,
+    }
+}
+
+fn take_bills(rt: &impl Abort, alloc: Global, bills: &[Bill]) -> Result<(), Fail> {
+    let own = Party::read("nl/tnm")?;
+    let operator = Party::read("BE/bec")?;
+    let mut inbox = Inbox::new(alloc);
+    for bill in bills {
+        let cdr = cdr(alloc, bill.id, bill.session_id, bill.currency, bill.cost)?;
+        let answer = inbox.take_cdr(&own, &Party::read(bill.sender)?, cdr);
+        assert_eq!(rt; cdr_text(answer), bill.answer);
+        let owed = inbox.settlement(&operator, ShortText::new("EUR")?);
+        assert_eq!(rt; owed, bill.owed);
+    }
+    Ok(())
+}
+
+/// A record counts once, however often it comes; one that differs in a field, or is of the same session, is in conflict;
+/// a negative cost is taken off.
+#[test]
+fn bills_count_once(rt: HostRuntime) -> Result<(), Fail> {
+    let bills = [
+        billed("C1", "S1", 30_864, "taken", 30_864),
+        billed("C1", "S1", 30_864, "kept", 30_864),
+        billed("C1", "S1", 40_000, "conflict", 30_864),
+        billed("c1", "S1", 30_864, "conflict", 30_864),
+        billed("C2", "s1", 30_864, "conflict", 30_864),
+        Bill {
+            sender: "FR/FRC",
+            ..billed("C3", "S3", 5, "wrong party", 30_864)
+        },
+        Bill {
+            currency: "eur",
+            ..billed("C4", "S4", 7, "taken", 30_864)
+        },
+        billed("C5", "S5", -50_000, "taken", -19_136),
+    ];
+    take_bills(&rt, rt.alloc(), bills.as_slice())
+}
+
+/// What is asked of the pushes to NL/TNM.
+#[derive(Clone, Copy)]
+enum Turn {
+    /// To push a version of session S1, of that second.
+    Session(u64),
+    /// To push the session of that id.
+    Other(&'static str),
+    /// To set the number of the last request.
+    Last(u64),
+    /// To end the push of that number, as a party asks.
+    Ack(&'static str, u64),
+}
+
+fn push_turn(outbox: &mut Outbox, turn: Turn) -> Result<(), TextFault> {
+    let to = Party::read("NL/TNM")?;
+    match turn {
+        Turn::Session(second) => {
+            let session = session("NL/TNM", "S1", second, SessionStatus::Active)?;
+            drop(outbox.new_push(to, Push::PutSession(session)));
+        }
+        Turn::Other(id) => {
+            let session = session("NL/TNM", id, 0, SessionStatus::Active)?;
+            drop(outbox.new_push(to, Push::PutSession(session)));
+        }
+        Turn::Last(number) => {
+            let last = Whole::new(number).ok_or(TextFault::NumberTooLarge)?;
+            outbox.put_row(Row::Count {
+                counter: Counter::Request,
+                last,
+            });
+        }
+        Turn::Ack(from, number) => {
+            let number = Whole::new(number).ok_or(TextFault::NumberTooLarge)?;
+            outbox.ack(&Party::read(from)?, number);
+        }
+    }
+    Ok(())
+}
+
+/// Takes turns, each with the number of the last request and how many pushes there are then.
+fn push_all(rt: &impl Abort, alloc: Global, turns: &[(Turn, u64, usize)]) -> Result<(), Fail> {
+    let mut outbox = Outbox::new(alloc);
+    for (turn, last, count) in turns {
+        push_turn(&mut outbox, *turn)?;
+        assert_eq!(rt; outbox.last_number().value(), *last);
+        assert_eq!(rt; outbox.unacked().count(), *count);
+    }
+    Ok(())
+}
+
+/// A newer version replaces the push of the older one, an addressee alone ends a push, and no number follows the greatest.
+#[test]
+fn pushes_end(rt: HostRuntime) -> Result<(), Fail> {
+    let turns = [
+        (Turn::Session(1), 1, 1),
+        (Turn::Session(2), 2, 1),
+        (Turn::Other("S2"), 3, 2),
+        (Turn::Other("s1"), 4, 2),
+        (Turn::Ack("NL/TNM", 1), 4, 2),
+        (Turn::Ack("DE/EMP", 3), 4, 2),
+        (Turn::Ack("nl/tnm", 3), 4, 1),
+        (Turn::Last(Whole::MAX - 1), Whole::MAX - 1, 1),
+        (Turn::Session(3), Whole::MAX, 1),
+        (Turn::Session(4), Whole::MAX, 1),
+    ];
+    push_all(&rt, rt.alloc(), turns.as_slice())
+}

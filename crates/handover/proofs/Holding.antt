@@ -13,6 +13,8 @@ use Rattle.ocpi_types.specs.declared.rows.RowKey.{RowKey}
 use Rattle.ocpi_types.specs.declared.rows.RowKey.TheVariants as keys
 use Rattle.handover.specs.Cdrs.{Cdrs, CdrRooms, HasOther, cdr_key}
 use Rattle.handover.specs.Inbox.{Sessions, AreOwnSessions, InboxRooms, KeepsRoom, KeepsOtherRoom, IsInConflict, session_key}
+use Rattle.handover.specs.declared.takings.CdrTaking.{CdrTaking}
+use Rattle.handover.specs.declared.takings.CdrTaking.TheVariants.{Taken, Kept, Conflict}
 use Rattle.handover.proofs.Totals.{told}
 use Rattle.handover.proofs.Keeping.{Texts, other_room}
 
@@ -85,3 +87,10 @@ no_conflict m x none same c = elim (told text_total text_exact c.id (key x.id)) 
   | inl is ↦ c.differs (same c.held (ap (λ (i : List ℕ). get m (key x.party, i)) (sym is) ∙ c.stands))
   | inr apart ↦ elim c.alike [ inl is ↦ apart is | inr session ↦ none (c.id, (c.held, c.stands, session), apart) ]
 ]
+
+-- a record that is taken is neither in conflict nor held
+pub not_in_conflict : (t : CdrTaking) (P : Type 0) → t ≡ Taken → ((t ≡ Conflict) ↔ P) → P → ⊥
+not_in_conflict t P is tells h = let bad : Taken ≡ Conflict = sym is ∙ tells.1 h in cc
+
+pub not_kept : (t : CdrTaking) (P A : Type 0) → t ≡ Taken → ((t ≡ Kept) ↔ (A × (P → ⊥))) → (P → ⊥) → A → ⊥
+not_kept t P A is tells none h = let bad : Taken ≡ Kept = sym is ∙ tells.1 (h, none) in cc

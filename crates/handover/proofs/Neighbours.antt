@@ -104,22 +104,10 @@ module _ {A B : Type 0} {R : A → A → Ordering} {S : B → B → Ordering} (o
     | inr apart ↦ (λ t. absurd (apart (exact k.0 a (equal_of_is_eq (R k.0 a) (sym is ∙ t)))), λ h. absurd (none_later k least apart h))
   ]
 
-  -- whether another has the first part, where one is the first of them
-  pub else_iff : (d : B) (v : Unit {0}) (flag later : Bool) → flag ≡ is_eq (S d b) → IsLeast (pair_cmp R S) m (λ q. q.0 ≡ a) ((a, d), v) → (IsTrue later ↔ HasLater) → IsTrue (cond (not flag) true later) ↔ HasElse
-  else_iff d v flag later is least tells = elim (told p sole d b) [
-    | inl same ↦
-        let on : flag ≡ true = is ∙ ap (λ x. is_eq (S x b)) same ∙ ap is_eq (tied_itself p b) in
-        let here = subst (λ x. IsLeast (pair_cmp R S) m (λ q. q.0 ≡ a) ((a, x), v)) same least in
-        (
-          λ t. (else_later here).1 (tells.0 (sym (ap (λ f. cond (not f) true later) on) ∙ t)),
-          λ h. ap (λ f. cond (not f) true later) on ∙ tells.1 ((else_later here).0 h),
-        )
-    | inr apart ↦
-        let off : flag ≡ false = is ∙ not_equal (S d b) (λ e. apart (sole d b e)) in
-        (λ t. else_first d least apart, λ h. ap (λ f. cond (not f) true later) off)
-  ]
-    where
-      not_equal : (r : Ordering) → (r ≡ Equal → ⊥) → is_eq r ≡ false
-      not_equal Less h = refl
-      not_equal Equal h = absurd (h refl)
-      not_equal Greater h = refl
+  -- where the first with its first part is itself, another comes later
+  pub itself_iff : (d : B) (v : Unit {0}) → is_eq (S d b) ≡ true → IsLeast (pair_cmp R S) m (λ q. q.0 ≡ a) ((a, d), v) → HasElse ↔ HasLater
+  itself_iff d v is least = else_later (subst (λ x. IsLeast (pair_cmp R S) m (λ q. q.0 ≡ a) ((a, x), v)) (sole d b (equal_of_is_eq (S d b) is)) least)
+
+  -- and where it is not, that is another
+  pub apart_there : (d : B) (v : Unit {0}) → is_eq (S d b) ≡ false → IsLeast (pair_cmp R S) m (λ q. q.0 ≡ a) ((a, d), v) → HasElse
+  apart_there d v is least = else_first d least (λ same. let tied = ap (λ x. is_eq (S x b)) same ∙ ap is_eq (tied_itself p b) in let bad : false ≡ true = sym is ∙ tied in cc)

@@ -117,7 +117,11 @@ impl CdrBook {
             return false;
         };
         let is_itself = first.0.cmp(id).is_eq();
-        !is_itself || self.has_later(session, id)
+        if is_itself {
+            self.has_later(session, id)
+        } else {
+            true
+        }
     }
 
     /// What is owed to an operator in a currency.

@@ -1,5 +1,5 @@
-//! What is handed over between operators and providers: the pushes that a node repeats until they are acknowledged, and
-//! the sessions and charge detail records that a provider takes and settles by.
+//! What is handed over between operators and providers: the sessions and charge detail records that a provider takes, and what
+//! it owes by them.
 #![tactic(auto)]
 
 mod cdr_book;
@@ -7,6 +7,7 @@ mod currency;
 mod equality;
 mod fault;
 mod inbox;
+mod settle;
 mod sums;
 mod takings;
 
@@ -14,4 +15,5 @@ pub use currency::Currency;
 pub use equality::is_equal;
 pub use fault::HandoverFault;
 pub use inbox::Inbox;
+pub use settle::settle_all;
 pub use takings::{CdrTaking, SessionTaking};

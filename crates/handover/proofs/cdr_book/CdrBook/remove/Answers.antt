@@ -25,5 +25,5 @@ returns-clause-rooms c =
     let gone = ap (λ (v : HeldCdrs). get v.cdrs (c.args.operator, c.args.id)) c.self-2.view_is ∙ ap (λ (m : Cdrs). get m (c.args.operator, c.args.id)) c.clear.ensures.cdrs ∙ get-remove_same text_pair_total text_pair_exact _ _ in
     let unlisted = none_listed _ _ _ _ c.self-2.invariant (c.args.operator, c.args.id) gone c.session_of-session.result.0 c.session_of-session.result.1 (ap (λ (k : Texts). k.0) c.session_of-session.ensures ∙ sym operator) in
     let rooms = ap (λ (v : HeldCdrs). v.rooms) c.self-2.view_is ∙ c.clear.ensures.rooms in
-    rw (← c.self.view_is) (λ x room apart. lost_both _ _ _ (c.args.operator, c.args.id) c.session_of-session.result (ap (λ (k : Texts). k.0) c.session_of-session.ensures ∙ sym operator)
-      (c.release-2.ensures.unused (ap is_some gone)) (c.release-3.ensures.unused unlisted) x (subst (λ r. HasRoomOfCdr r x) (sym rooms) room) apart)
+    λ x room apart. lost_both _ _ _ (c.args.operator, c.args.id) c.session_of-session.result (ap (λ (k : Texts). k.0) c.session_of-session.ensures ∙ sym operator)
+      (c.release-2.ensures.unused (ap is_some gone)) (c.release-3.ensures.unused unlisted) x (subst (λ r. HasRoomOfCdr r x) (sym rooms) room) apart
