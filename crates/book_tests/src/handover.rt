@@ -1,11 +1,11 @@
 //! What is handed over: versions of a session that come in any order, charge detail records that come again or differ,
-//! what is owed by them, and pushes that are replaced and acknowledged.
+//! and what is owed by them.
 
-use handover::{CdrTaking, HandoverFault, Inbox, Outbox, SessionTaking};
-use ocpi_text::{CiText, E4, FreeText, Moment, Party, Quantity, ShortText, TextFault, Whole};
+use handover::{CdrTaking, HandoverFault, Inbox, SessionTaking};
+use ocpi_text::{CiText, E4, FreeText, Moment, Party, Quantity, ShortText, TextFault};
 use ocpi_types::{
-    AuthMethod, Cdr, CdrDimension, CdrLocation, CdrToken, ChargingPeriod, Counter, GeoLocation,
-    NonEmpty, Price, Push, Row, Session, SessionStatus, TokenType,
+    AuthMethod, Cdr, CdrDimension, CdrLocation, CdrToken, ChargingPeriod, GeoLocation, NonEmpty,
+    Price, Session, SessionStatus, TokenType,
 };
 use std::alloc::Global;
 use std::process::Abort;
@@ -78,7 +78,12 @@ fn location(alloc: Global) -> Result<CdrLocation, TextFault> {
 
 fn periods(alloc: Global) -> Result<NonEmpty<ChargingPeriod>, TextFault> {
     let volume = E4::new(123_456).ok_or(TextFault::NumberTooLarge)?;
-    let dimensions = vec![in alloc; CdrDimension { dimension_type: ShortText::new("ENERGY")?, volume }]?;
+    let dimensions = vec![in alloc;
+        CdrDimension {
+            dimension_type: ShortText::new("ENERGY")?,
+            volume
+        },
+    ]?;
     let dimensions = NonEmpty::new(dimensions).ok_or(TextFault::TooLong)?;
     let period = ChargingPeriod {
         start_date_time: moment(0)?,
@@ -88,7 +93,13 @@ fn periods(alloc: Global) -> Result<NonEmpty<ChargingPeriod>, TextFault> {
 }
 
 /// A charge detail record of BE/BEC for a token of NL/TNM.
-fn cdr(alloc: Global, id: &str, session_id: &str, currency: &str, cost: i64) -> Result<Cdr, TextFault> {
+fn cdr(
+    alloc: Global,
+    id: &str,
+    session_id: &str,
+    currency: &str,
+    cost: i64,
+) -> Result<Cdr, TextFault> {
     let excl_vat = E4::new(cost).ok_or(TextFault::NumberTooLarge)?;
     Ok(Cdr {
         party: Party::read("BE/BEC")?,
@@ -254,72 +265,4 @@ fn bills_count_once(rt: HostRuntime) -> Result<(), Fail> {
         billed("C5", "S5", -50_000, "taken", -19_136),
     ];
     take_bills(&rt, rt.alloc(), bills.as_slice())
-}
-
-/// What is asked of the pushes to NL/TNM.
-#[derive(Clone, Copy)]
-enum Turn {
-    /// To push a version of session S1, of that second.
-    Session(u64),
-    /// To push the session of that id.
-    Other(&'static str),
-    /// To set the number of the last request.
-    Last(u64),
-    /// To end the push of that number, as a party asks.
-    Ack(&'static str, u64),
-}
-
-fn push_turn(outbox: &mut Outbox, turn: Turn) -> Result<(), TextFault> {
-    let to = Party::read("NL/TNM")?;
-    match turn {
-        Turn::Session(second) => {
-            let session = session("NL/TNM", "S1", second, SessionStatus::Active)?;
-            drop(outbox.new_push(to, Push::PutSession(session)));
-        }
-        Turn::Other(id) => {
-            let session = session("NL/TNM", id, 0, SessionStatus::Active)?;
-            drop(outbox.new_push(to, Push::PutSession(session)));
-        }
-        Turn::Last(number) => {
-            let last = Whole::new(number).ok_or(TextFault::NumberTooLarge)?;
-            outbox.put_row(Row::Count {
-                counter: Counter::Request,
-                last,
-            });
-        }
-        Turn::Ack(from, number) => {
-            let number = Whole::new(number).ok_or(TextFault::NumberTooLarge)?;
-            outbox.ack(&Party::read(from)?, number);
-        }
-    }
-    Ok(())
-}
-
-/// Takes turns, each with the number of the last request and how many pushes there are then.
-fn push_all(rt: &impl Abort, alloc: Global, turns: &[(Turn, u64, usize)]) -> Result<(), Fail> {
-    let mut outbox = Outbox::new(alloc);
-    for (turn, last, count) in turns {
-        push_turn(&mut outbox, *turn)?;
-        assert_eq!(rt; outbox.last_number().value(), *last);
-        assert_eq!(rt; outbox.unacked().count(), *count);
-    }
-    Ok(())
-}
-
-/// A newer version replaces the push of the older one, an addressee alone ends a push, and no number follows the greatest.
-#[test]
-fn pushes_end(rt: HostRuntime) -> Result<(), Fail> {
-    let turns = [
-        (Turn::Session(1), 1, 1),
-        (Turn::Session(2), 2, 1),
-        (Turn::Other("S2"), 3, 2),
-        (Turn::Other("s1"), 4, 2),
-        (Turn::Ack("NL/TNM", 1), 4, 2),
-        (Turn::Ack("DE/EMP", 3), 4, 2),
-        (Turn::Ack("nl/tnm", 3), 4, 1),
-        (Turn::Last(Whole::MAX - 1), Whole::MAX - 1, 1),
-        (Turn::Session(3), Whole::MAX, 1),
-        (Turn::Session(4), Whole::MAX, 1),
-    ];
-    push_all(&rt, rt.alloc(), turns.as_slice())
 }

@@ -61,14 +61,17 @@ module _ (m : Cdrs) (sessions : FinMap session_cmp (Unit {0})) (sums : FinMap te
       )
       | inr apart ↦ (
         λ h.
-          let had_before = (kept.listed q).0 (sym (get-remove_other session_total session_exact sessions gone q apart) ∙ h) in
-          (had_before.0, get-remove_other text_pair_total text_pair_exact m k (q.0.0, q.1) (λ same. apart (
-            let other : had_before.0 ≡ x = same_value _ _ (sym had_before.1 ∙ ap (get m) same ∙ had) in
-            let of : q.0.1 ≡ key x.session_id = sym had_before.2 ∙ ap (λ (y : Cdr). key y.session_id) other in
-            λ i. (((same i).0, of i), (same i).1))) ∙ had_before.1, had_before.2),
+            let had_before = (kept.listed q).0 (sym (get-remove_other session_total session_exact sessions gone q apart) ∙ h) in (
+              had_before.0,
+              get-remove_other text_pair_total text_pair_exact m k (q.0.0, q.1) (λ same. apart (
+                  let other : had_before.0 ≡ x = same_value _ _ (sym had_before.1 ∙ ap (get m) same ∙ had) in
+                  let of : q.0.1 ≡ key x.session_id = sym had_before.2 ∙ ap (λ (y : Cdr). key y.session_id) other in
+                  λ i. (((same i).0, of i), (same i).1))) ∙ had_before.1,
+              had_before.2,
+            ),
         λ h.
-          let differs : (q.0.0, q.1) ≢ k = λ same. (let none = ap (get (remove m k)) same ∙ get-remove_same text_pair_total text_pair_exact m k in let has = h.1 in let bad : Some h.0 ≡ None = sym has ∙ none in absurd (cc)) in
-          get-remove_other session_total session_exact sessions gone q apart ∙ (kept.listed q).1 (h.0, sym (get-remove_other text_pair_total text_pair_exact m k (q.0.0, q.1) differs) ∙ h.1, h.2),
+            let differs : (q.0.0, q.1) ≢ k = λ same. (let none = ap (get (remove m k)) same ∙ get-remove_same text_pair_total text_pair_exact m k in let has = h.1 in let bad : Some h.0 ≡ None = sym has ∙ none in absurd (cc)) in
+            get-remove_other session_total session_exact sessions gone q apart ∙ (kept.listed q).1 (h.0, sym (get-remove_other text_pair_total text_pair_exact m k (q.0.0, q.1) differs) ∙ h.1, h.2),
       )
     ]
 
@@ -132,9 +135,9 @@ module _ (m : Cdrs) (sessions : FinMap session_cmp (Unit {0})) (sums : FinMap te
       )
       | inr apart ↦ (
         λ h.
-          let had = (kept.listed q).0 (sym (get-insert_other session_total session_exact sessions new tt q apart) ∙ h) in
-          let differs : (q.0.0, q.1) ≢ cdr_key x = λ same. (let bad : Some had.0 ≡ None = sym had.1 ∙ ap (get m) same ∙ none in absurd (cc)) in
-          (had.0, get-insert_other text_pair_total text_pair_exact m (cdr_key x) x (q.0.0, q.1) differs ∙ had.1, had.2),
+            let had = (kept.listed q).0 (sym (get-insert_other session_total session_exact sessions new tt q apart) ∙ h) in
+            let differs : (q.0.0, q.1) ≢ cdr_key x = λ same. (let bad : Some had.0 ≡ None = sym had.1 ∙ ap (get m) same ∙ none in absurd (cc)) in
+            (had.0, get-insert_other text_pair_total text_pair_exact m (cdr_key x) x (q.0.0, q.1) differs ∙ had.1, had.2),
         λ h. elim (put_or_stood (q.0.0, q.1) h.0 h.1) [
           | inl is ↦ absurd (apart (let of : q.0.1 ≡ key x.session_id = sym h.2 ∙ ap (λ (y : Cdr). key y.session_id) (sym is.1) in λ i. (((is.0 i).0, of i), (is.0 i).1)))
           | inr was ↦ get-insert_other session_total session_exact sessions new tt q apart ∙ (kept.listed q).1 (h.0, was.1, h.2)
@@ -262,8 +265,8 @@ lost_both s cdrs sessions k session operator is of x had apart = record {
 pub none_listed : (m : Cdrs) (sessions : FinMap session_cmp (Unit {0})) (sums : FinMap text_pair_cmp ℤ) (rooms : FinMap text_pair_cmp (Unit {0})) → IsKept m sessions sums rooms → (k : Texts) → get m k ≡ None →
     (o e : List ℕ) → o ≡ k.0 → contains_key sessions ((o, e), k.1) ≡ false
 none_listed m sessions sums rooms kept k none o e is = absent (get sessions ((o, e), k.1)) (λ h.
-  let of = (kept.listed ((o, e), k.1)).0 h in
-  let bad : Some of.0 ≡ None = sym of.1 ∙ ap (λ (p : List ℕ). get m (p, k.1)) is ∙ none in cc)
+    let of = (kept.listed ((o, e), k.1)).0 h in
+    let bad : Some of.0 ≡ None = sym of.1 ∙ ap (λ (p : List ℕ). get m (p, k.1)) is ∙ none in cc)
   where
     absent : (r : Option (Unit {0})) → (r ≡ Some tt → ⊥) → is_some r ≡ false
     absent None h = refl

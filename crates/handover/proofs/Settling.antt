@@ -1,7 +1,8 @@
 -- The sums of a list of records, one record after the other.
-use Rattle.std.proofs.Common.{◌≡◌, ℕ, ◌+◌, ◌*◌, ◌≤◌, ◌<◌, ◌^◌, Bool, true, false, cond, List, [], ◌∷◌, ◌++◌, map, length, refl, sym, ap, subst, ◌∙◌, arith}
+use mir.Syntax.{w128}
+use Rattle.std.proofs.Common.{to_z, of_z, w64, zero, suc, ◌≡◌, ℕ, ◌+◌, ◌*◌, ◌≤◌, ◌<◌, ◌^◌, Bool, true, false, cond, List, [], ◌∷◌, ◌++◌, map, length, refl, sym, ap, subst, ◌∙◌, arith}
 use Rattle.std.proofs.lemmas.Int.{ints}
-use Rattle.std.specs.Prelude.{◌||◌, ℤ, pos, ◌+ℤ◌, unsigned_abs, Option, Some, None, unwrap_or}
+use Rattle.std.specs.Prelude.{◌||◌, ℤ, pos, ◌+ℤ◌, unsigned_abs, Option, Some, None, unwrap_or, slice_get, take}
 use Rattle.std.specs.List.{list_any}
 use Rattle.std.specs.Ordering.{eq_by_cmp}
 use Rattle.std.specs.FinMap.{FinMap, get, insert, empty, get-insert, get-empty}
@@ -67,3 +68,27 @@ small_more m k n z v small bound is a =
 
 pub small_start : (a : Account) → unsigned_abs (sum_at empty a) ≤ e4_limit * 0
 small_start a = let none = ap (λ o. unwrap_or o (pos 0)) (get-empty text_pair_cmp a) in omega (arith, ints)
+
+-- one record more
+next_taken : {X : Type 0} (xs : List X) (i : ℕ) (x : X) → slice_get xs i ≡ Some x → take (suc i) xs ≡ take i xs ++ x ∷ []
+next_taken [] i x h = absurd (cc)
+next_taken (y ∷ ys) zero x h = let same : y ≡ x = cc in ap (λ z. z ∷ []) same
+next_taken (y ∷ ys) (suc i) x h = ap (λ zs. y ∷ zs) (next_taken ys i x h)
+
+pub take_next : {X : Type 0} (xs : List X) (i : ℕ) (x : X) → slice_get xs i ≡ Some x → take (i + 1) xs ≡ take i xs ++ x ∷ []
+take_next xs i x h = let next : i + 1 ≡ suc i = omega arith in ap (λ n. take n xs) next ∙ next_taken xs i x h
+
+-- the sums of one record more
+pub settled_more : (cdrs : List Cdr) (i : ℕ) (x : Cdr) (m n : FinMap text_pair_cmp ℤ) (k : Account) (v : ℤ) → slice_get cdrs i ≡ Some x → k ≡ account_of x → v ≡ sum_at m k +ℤ x.total_cost.excl_vat →
+    unsigned_abs x.total_cost.excl_vat < e4_limit → n ≡ insert m k v → AreOwed (take i cdrs) m → ((a : Account) → unsigned_abs (sum_at m a) ≤ e4_limit * i) →
+    AreOwed (take (i + 1) cdrs) n × ((a : Account) → unsigned_abs (sum_at n a) ≤ e4_limit * (i + 1))
+settled_more cdrs i x m n k v at of is small put owed_so_far bound =
+    let value : v ≡ sum_at m (account_of x) +ℤ x.total_cost.excl_vat = is ∙ ap (λ q. sum_at m q +ℤ x.total_cost.excl_vat) of in
+    let same : n ≡ insert m (account_of x) v = put ∙ ap (λ q. insert m q v) of in (
+      subst (λ t. AreOwed t n) (sym (take_next cdrs i x at)) (subst (AreOwed (take i cdrs ++ x ∷ [])) (sym same) (owed_more (take i cdrs) x m v owed_so_far value)),
+      subst (λ t. (a : Account) → unsigned_abs (sum_at t a) ≤ e4_limit * (i + 1)) (sym same) (small_more m (account_of x) i x.total_cost.excl_vat v bound small value),
+    )
+
+-- a sum of costs is far from its type's limits
+pub cost_sum : (s r z y w : ℤ) (n : ℕ) → r ≡ s → y ≡ to_z w64 (of_z w64 w) → w ≡ z → unsigned_abs z < e4_limit → unsigned_abs s ≤ e4_limit * n → n < 2 ^ 64 → to_z w128 (of_z w128 (to_z w128 (of_z w128 r) +ℤ to_z w128 (of_z w128 y))) ≡ s +ℤ z
+cost_sum s r z y w n e f g small bound count = omega (arith, ints)

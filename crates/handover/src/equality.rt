@@ -107,7 +107,10 @@ fn has_same_connector(a: &CdrLocation, b: &CdrLocation) -> bool
         && is_same_text(a.connector_id.as_str(), b.connector_id.as_str())
         && is_same_text(a.connector_standard.as_str(), b.connector_standard.as_str())
         && is_same_text(a.connector_format.as_str(), b.connector_format.as_str())
-        && is_same_text(a.connector_power_type.as_str(), b.connector_power_type.as_str())
+        && is_same_text(
+            a.connector_power_type.as_str(),
+            b.connector_power_type.as_str(),
+        )
 }
 
 fn is_same_location(a: &CdrLocation, b: &CdrLocation) -> bool

@@ -15,12 +15,11 @@ use crate::currency::Currency;
 use crate::equality::is_equal;
 use crate::fault::HandoverFault;
 use crate::takings::{CdrTaking, SessionTaking};
-use ocpi_text::{CiText, Party, ShortText};
+use ocpi_text::{CiKey, CiText, Party, PartyKey, ShortText};
 use ocpi_types::{Cdr, Row, RowKey, Session, SessionStatus};
 use std::alloc::{AllocError, Global};
 use std::marker::Model;
 use tables::Table;
-use ocpi_text::{CiKey, PartyKey};
 
 /// The newest versions of sessions and the charge detail records that a node holds, each by its operator and its id
 /// without case (OCPI 2.2.1, Sessions and CDRs: Receiver Interface). Each call but `settle_all` costs the logarithm of
@@ -101,7 +100,12 @@ impl Inbox {
     /// What becomes of a version of a session that a sender hands over to the party `own`. It is taken where no version
     /// is held, or the held one is neither COMPLETED nor INVALID and is older by `last_updated`. Refused is one whose
     /// token is of another party than `own`, or that is of another party than the sender (`WrongParty`).
-    pub fn session_taking(&self, own: &Party, sender: &Party, session: &Session) -> Result<SessionTaking, HandoverFault>
+    pub fn session_taking(
+        &self,
+        own: &Party,
+        sender: &Party,
+        session: &Session,
+    ) -> Result<SessionTaking, HandoverFault>
         ensures ok { OnOk result (IsOfParties own.now sender.now session.now.cdr_token.party session.now.party) }
         ensures taken { IfOk result (λ t. (t ≡ session_taking.Taken) ↔ IsNews (map.get self.now.rows.sessions (session_key session.now)) session.now) }
         ensures err { IfErr result (λ e. (e ≡ WrongParty) × (IsOfParties own.now sender.now session.now.cdr_token.party session.now.party → ⊥)) }
@@ -120,7 +124,12 @@ impl Inbox {
     /// the same id or session of that operator is held and differs in any field as spelled; it is kept where an equal one
     /// is held, and else taken. Refused is one whose token is of another party than `own`, or that is of another party
     /// than the sender (`WrongParty`).
-    pub fn cdr_taking(&self, own: &Party, sender: &Party, cdr: &Cdr) -> Result<CdrTaking, HandoverFault>
+    pub fn cdr_taking(
+        &self,
+        own: &Party,
+        sender: &Party,
+        cdr: &Cdr,
+    ) -> Result<CdrTaking, HandoverFault>
         ensures ok { OnOk result (IsOfParties own.now sender.now cdr.now.cdr_token.party cdr.now.party) }
         ensures conflict { IfOk result (λ t. (t ≡ cdr_taking.Conflict) ↔ IsInConflict self.now.rows.cdrs cdr.now) }
         ensures kept { IfOk result (λ t. (t ≡ cdr_taking.Kept) ↔ ((map.get self.now.rows.cdrs (cdr_key cdr.now) ≡ Some cdr.now) × (IsInConflict self.now.rows.cdrs cdr.now → ⊥))) }
@@ -157,7 +166,12 @@ impl Inbox {
 
     /// Takes a version of a session that a sender hands over to the party `own`, where `session_taking` says so. Refused
     /// are what it refuses (`WrongParty`), and want of memory for one that is to be taken (`Memory`).
-    pub fn take_session(&mut self, own: &Party, sender: &Party, session: &Session) -> Result<SessionTaking, HandoverFault>
+    pub fn take_session(
+        &mut self,
+        own: &Party,
+        sender: &Party,
+        session: &Session,
+    ) -> Result<SessionTaking, HandoverFault>
         ensures ok { OnOk result (IsOfParties own.now sender.now session.now.cdr_token.party session.now.party) }
         ensures taken { IfOk result (λ t. (t ≡ session_taking.Taken) ↔ IsNews (map.get self.old.rows.sessions (session_key session.now)) session.now) }
         ensures rows { IfOk result (λ t. self.new.rows ≡ with_session t session.now self.old.rows) }
@@ -176,7 +190,12 @@ impl Inbox {
 
     /// Takes a charge detail record that a sender hands over to the party `own`, where `cdr_taking` says so. Refused are
     /// what it refuses (`WrongParty`), and want of memory for one that is to be taken (`Memory`).
-    pub fn take_cdr(&mut self, own: &Party, sender: &Party, cdr: Cdr) -> Result<CdrTaking, HandoverFault>
+    pub fn take_cdr(
+        &mut self,
+        own: &Party,
+        sender: &Party,
+        cdr: Cdr,
+    ) -> Result<CdrTaking, HandoverFault>
         ensures ok { OnOk result (IsOfParties own.now sender.now cdr.cdr_token.party cdr.party) }
         ensures conflict { IfOk result (λ t. (t ≡ cdr_taking.Conflict) ↔ IsInConflict self.old.rows.cdrs cdr) }
         ensures kept { IfOk result (λ t. (t ≡ cdr_taking.Kept) ↔ ((map.get self.old.rows.cdrs (cdr_key cdr) ≡ Some cdr) × (IsInConflict self.old.rows.cdrs cdr → ⊥))) }

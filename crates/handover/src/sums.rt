@@ -51,7 +51,11 @@ impl Sums {
     }
 
     /// Takes the room that a sum needs, where it has none. An error is want of memory.
-    pub(crate) fn reserve(&mut self, operator: PartyKey, currency: Currency) -> Result<(), AllocError>
+    pub(crate) fn reserve(
+        &mut self,
+        operator: PartyKey,
+        currency: Currency,
+    ) -> Result<(), AllocError>
         ensures sums { self.new.sums ≡ self.old.sums }
         ensures room { OnOk result (IsTrue (map.contains_key self.new.rooms (operator, currency))) }
         ensures keeps { (a : Account) → IsTrue (map.contains_key self.old.rooms a) → IsTrue (map.contains_key self.new.rooms a) }

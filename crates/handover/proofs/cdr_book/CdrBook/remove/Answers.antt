@@ -26,4 +26,4 @@ returns-clause-rooms c =
     let unlisted = none_listed _ _ _ _ c.self-2.invariant (c.args.operator, c.args.id) gone c.session_of-session.result.0 c.session_of-session.result.1 (ap (λ (k : Texts). k.0) c.session_of-session.ensures ∙ sym operator) in
     let rooms = ap (λ (v : HeldCdrs). v.rooms) c.self-2.view_is ∙ c.clear.ensures.rooms in
     λ x room apart. lost_both _ _ _ (c.args.operator, c.args.id) c.session_of-session.result (ap (λ (k : Texts). k.0) c.session_of-session.ensures ∙ sym operator)
-      (c.release-2.ensures.unused (ap is_some gone)) (c.release-3.ensures.unused unlisted) x (subst (λ r. HasRoomOfCdr r x) (sym rooms) room) apart
+    (c.release-2.ensures.unused (ap is_some gone)) (c.release-3.ensures.unused unlisted) x (subst (λ r. HasRoomOfCdr r x) (sym rooms) room) apart
