@@ -3,3 +3,5 @@ pub mod Equality
 pub mod FaultText
 pub mod Cdrs
 pub mod Inbox
+pub mod Pushes
+pub mod Outbox

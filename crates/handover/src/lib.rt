@@ -1,5 +1,5 @@
-//! What is handed over between operators and providers: the sessions and charge detail records that a provider takes, and what
-//! it owes by them.
+//! What is handed over between operators and providers: the pushes that a node repeats until they are acknowledged, and
+//! the sessions and charge detail records that a provider takes and settles by.
 #![tactic(auto)]
 
 mod cdr_book;
@@ -7,6 +7,8 @@ mod currency;
 mod equality;
 mod fault;
 mod inbox;
+mod outbox;
+mod push_book;
 mod settle;
 mod sums;
 mod takings;
@@ -15,5 +17,7 @@ pub use currency::Currency;
 pub use equality::is_equal;
 pub use fault::HandoverFault;
 pub use inbox::Inbox;
+pub use outbox::Outbox;
+pub use push_book::Outgoing;
 pub use settle::settle_all;
 pub use takings::{CdrTaking, SessionTaking};
