@@ -1,5 +1,5 @@
 -- Lists of slots in the order of their keys, read as the map of the values and as the map of the room.
-use Rattle.std.proofs.Common.{◌≡◌, Bool, true, false, cond, T, List, [], ◌∷◌, refl, sym, ap, subst, ◌∙◌}
+use Rattle.std.proofs.Common.{◌≡◌, ℕ, ◌+◌, ◌≤◌, Bool, true, false, cond, T, List, [], ◌∷◌, length, refl, sym, ap, subst, ◌∙◌, arith}
 use Rattle.std.specs.Prelude.{Option, Some, None, is_some, ◌&&◌}
 use Rattle.std.specs.Option.{option_flatten}
 use Rattle.std.specs.Ordering.{eq_by_cmp, is_lt, is_eq, is_le}
@@ -13,9 +13,10 @@ use Rattle.std.specs.BTreeMap.{is_at}
 use Rattle.std.specs.BTreeMap.Range.{range_contains, entries_between, entries_from}
 use Rattle.std.specs.declared.ops.Bound.{Bound}
 use Rattle.std.specs.declared.ops.Bound.TheVariants.{Included, Excluded, Unbounded}
-use Rattle.std.specs.FinMap.{FinMap, IsAntisymmetric, is_sorted, get, contains_key, insert, remove, empty, get-from_sorted, get-insert, get-remove, same_map, entries, entries-from_sorted}
+use Rattle.std.specs.FinMap.{FinMap, IsAntisymmetric, is_sorted, get, contains_key, insert, remove, empty, get-from_sorted, get-insert, get-remove, same_map, entries, entries-from_sorted, len, len-entries}
 use Rattle.std.specs.FinMap.Entries.{below_all}
 use Rattle.std.proofs.lemmas.Map.Keys.{sorted_head, sorted_tail}
+use Rattle.std.proofs.lemmas.List.{length-map}
 use Rattle.tables.specs.Tables.{shown_slot, shown, slot_keys, shown_of, rooms_of, entries_after}
 use Rattle.tables.proofs.Ordered.{both, looked, turned, in_order, no_entry, all_pass}
 use Rattle.tables.proofs.Maps.{equal_of_is_eq}
@@ -67,6 +68,14 @@ same_filter : {K X : Type 0} (p r : K → Bool) → ((q : K) → p q ≡ r q) �
 same_filter p r h [] = refl
 same_filter p r h (e ∷ es) = λ i. cond (h e.0 i) (e ∷ same_filter p r h es i) (same_filter p r h es i)
 
+no_longer_slot : {K X : Type 0} (k : K) (v : Option X) (rest : List (K × X)) (n : ℕ) → length rest ≤ n → length (shown_slot k v rest) ≤ n + 1
+no_longer_slot k None rest n h = omega arith
+no_longer_slot k (Some v) rest n h = omega arith
+
+no_longer : {K X : Type 0} (es : List (K × Option X)) → length (shown es) ≤ length es
+no_longer [] = omega arith
+no_longer (e ∷ es) = let one = no_longer_slot e.0 e.1 (shown es) (length es) (no_longer es) in omega arith
+
 module _ {K X : Type 0} (R : K → K → Ordering) where
   above_slot : (q k : K) (o : Option X) (rest : List (K × X)) → R q k ≡ Less → lookup (is_at (R q)) rest ≡ None → lookup (is_at (R q)) (shown_slot k o rest) ≡ None
   above_slot q k None rest l n = n
@@ -117,6 +126,13 @@ module _ {K X : Type 0} (R : K → K → Ordering) where
   -- what is shown, in the order of its keys
   pub listed_shown : (es : List (K × Option X)) → IsStrictlySortedBy R (keys_of es) → entries (shown_of R es) ≡ shown es
   listed_shown es h = entries-from_sorted R (shown es) (sorted_shown es h)
+
+  -- the numbers of the keys that have room, and of those that have a value
+  pub room_len : (es : List (K × Option X)) → IsStrictlySortedBy R (keys_of es) → len (rooms_of R es) ≡ length es
+  room_len es h = len-entries (rooms_of R es) ∙ ap length (entries-from_sorted R (slot_keys es) (sorted_rooms es h)) ∙ length-map es (λ e. (e.0, tt))
+
+  pub shown_len : (es : List (K × Option X)) → IsStrictlySortedBy R (keys_of es) → len (shown_of R es) ≤ length es
+  shown_len es h = rw (len-entries (shown_of R es), listed_shown es h) (no_longer es)
 
   -- and the part of it whose keys lie between two bounds
   visited : (lo : Bound K) (p : K → Bool) → ((q : K) → range_contains R lo Unbounded q ≡ p q) → (es : List (K × Option X)) → IsStrictlySortedBy R (keys_of es) →

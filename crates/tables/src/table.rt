@@ -1,6 +1,6 @@
 //! An ordered map in which room for a key can be taken ahead of its value.
 
-ghost use Rattle.std.specs.Prelude.{◌≡◌, IfSome, IfNone, IsOk, OnOk, OnErr, IsTrue, ⊤, false, option_copied};
+ghost use Rattle.std.specs.Prelude.{◌≡◌, ◌≤◌, ◌<◌, ◌^◌, IfSome, IfNone, IsOk, OnOk, OnErr, IsTrue, ⊤, false, option_copied};
 ghost use Rattle.std.specs.FinMap as map;
 ghost use Rattle.std.specs.BTreeMap.Range.{IsLeBy, IsLtBy, entries_from};
 ghost use Rattle.tables.specs.Keys.{pair_cmp};
@@ -66,6 +66,15 @@ impl<K: TableKey, V> Table<K, V> {
         ensures { result ≡ map.contains_key (rooms_of K.cmp self.now) key }
     {
         self.slots.contains_key(&key)
+    }
+
+    /// The number of keys that have a value, or room for one. It is at least the number of those that have a value.
+    pub fn room_count(&self) -> usize
+        ensures all { result ≡ map.len (rooms_of K.cmp self.now) }
+        ensures most { map.len (shown_of K.cmp self.now) ≤ result }
+        ensures small { result < 2 ^ 63 }
+    {
+        self.slots.len()
     }
 
     /// Each key that has a value with it, in the order of the keys.

@@ -1,0 +1,96 @@
+-- Sessions and records that are held.
+use Rattle.std.proofs.Common.{◌≡◌, ◌≢◌, ◌↔◌, ◌⊎◌, inl, inr, ℕ, true, false, List, refl, sym, ap, subst, ◌∙◌}
+use Rattle.std.specs.Prelude.{Option, Some, None, IsTrue}
+use Rattle.std.specs.FinMap.{FinMap, get, insert, remove, empty, get-empty, contains_key}
+use Rattle.ocpi_text.specs.Text.{key}
+use Rattle.tables.specs.Keys.{text_pair_cmp, text_pair_total, text_pair_exact, text_total, text_exact}
+use Rattle.tables.proofs.Maps.{get-insert_same, get-insert_other, get-remove_same, get-remove_other}
+use Rattle.ocpi_types.specs.declared.sessions.Session.{Session}
+use Rattle.ocpi_types.specs.declared.cdrs.Cdr.{Cdr}
+use Rattle.ocpi_types.specs.declared.rows.Row.{Row}
+use Rattle.ocpi_types.specs.declared.rows.Row.TheVariants as row
+use Rattle.ocpi_types.specs.declared.rows.RowKey.{RowKey}
+use Rattle.ocpi_types.specs.declared.rows.RowKey.TheVariants as keys
+use Rattle.handover.specs.Cdrs.{Cdrs, CdrRooms, HasOther, cdr_key}
+use Rattle.handover.specs.Inbox.{Sessions, AreOwnSessions, InboxRooms, KeepsRoom, KeepsOtherRoom, IsInConflict, session_key}
+use Rattle.handover.specs.declared.takings.CdrTaking.{CdrTaking}
+use Rattle.handover.specs.declared.takings.CdrTaking.TheVariants.{Taken, Kept, Conflict}
+use Rattle.handover.proofs.Totals.{told}
+use Rattle.handover.proofs.Keeping.{Texts, other_room}
+
+pub own_none : AreOwnSessions empty
+own_none k s h = absurd (let bad : Some s ≡ None = sym h ∙ get-empty text_pair_cmp k in cc)
+
+same_value : {A : Type 0} (x y : A) → Some x ≡ Some y → x ≡ y
+same_value x y e = cc
+
+pub own_put : (m : Sessions) → AreOwnSessions m → (k : Texts) (s : Session) → k ≡ session_key s → AreOwnSessions (insert m k s)
+own_put m own k s at q t h = elim (told text_pair_total text_pair_exact q k) [
+  | inl same ↦ same ∙ at ∙ ap session_key (same_value s t (sym (get-insert_same text_pair_total text_pair_exact m k s) ∙ ap (get (insert m k s)) (sym same) ∙ h))
+  | inr apart ↦ own q t (sym (get-insert_other text_pair_total text_pair_exact m k s q apart) ∙ h)
+]
+
+pub own_remove : (m : Sessions) → AreOwnSessions m → (k : Texts) → AreOwnSessions (remove m k)
+own_remove m own k q t h = elim (told text_pair_total text_pair_exact q k) [
+  | inl same ↦ absurd (let bad : Some t ≡ None = sym h ∙ ap (get (remove m k)) same ∙ get-remove_same text_pair_total text_pair_exact m k in cc)
+  | inr apart ↦ own q t (sym (get-remove_other text_pair_total text_pair_exact m k q apart) ∙ h)
+]
+
+-- more room for sessions
+pub keeps_sessions : (s t : FinMap text_pair_cmp (Unit {0})) (c : CdrRooms) → ((q : Texts) → IsTrue (contains_key s q) → IsTrue (contains_key t q)) → KeepsRoom (record { sessions = s; cdrs = c }) (record { sessions = t; cdrs = c })
+keeps_sessions s t c f (row.Session x) h = f _ h
+keeps_sessions s t c f (row.Cdr x) h = h
+keeps_sessions s t c f (row.Count counter last) h = h
+keeps_sessions s t c f (row.Reply sender number reply) h = h
+keeps_sessions s t c f (row.Token token) h = h
+keeps_sessions s t c f (row.Push number to push) h = h
+keeps_sessions s t c f (row.Service evse_uid) h = h
+keeps_sessions s t c f (row.Spent provider reference) h = h
+keeps_sessions s t c f (row.Mark provider id number) h = h
+keeps_sessions s t c f (row.Reservation provider id reservation) h = h
+keeps_sessions s t c f (row.Pending provider number open_command) h = h
+keeps_sessions s t c f (row.Result provider number result) h = h
+keeps_sessions s t c f (row.Command number command) h = h
+
+-- the room of all but one session
+pub keeps_other_sessions : (s t : FinMap text_pair_cmp (Unit {0})) (c : CdrRooms) (k : Texts) → t ≡ remove s k → KeepsOtherRoom (keys.Session k.0 k.1) (record { sessions = s; cdrs = c }) (record { sessions = t; cdrs = c })
+keeps_other_sessions s t c k is (row.Session x) apart h = other_room text_pair_total text_pair_exact s t k (session_key x) is (λ same. apart (λ i. keys.Session (same i).0 (same i).1)) h
+keeps_other_sessions s t c k is (row.Cdr x) apart h = h
+keeps_other_sessions s t c k is (row.Count counter last) apart h = h
+keeps_other_sessions s t c k is (row.Reply sender number reply) apart h = h
+keeps_other_sessions s t c k is (row.Token token) apart h = h
+keeps_other_sessions s t c k is (row.Push number to push) apart h = h
+keeps_other_sessions s t c k is (row.Service evse_uid) apart h = h
+keeps_other_sessions s t c k is (row.Spent provider reference) apart h = h
+keeps_other_sessions s t c k is (row.Mark provider id number) apart h = h
+keeps_other_sessions s t c k is (row.Reservation provider id reservation) apart h = h
+keeps_other_sessions s t c k is (row.Pending provider number open_command) apart h = h
+keeps_other_sessions s t c k is (row.Result provider number result) apart h = h
+keeps_other_sessions s t c k is (row.Command number command) apart h = h
+
+-- one of the session under another id is in conflict
+pub other_conflict : (m : Cdrs) (x : Cdr) → ((k : Texts) (y : Cdr) → get m k ≡ Some y → k ≡ cdr_key y) → HasOther m (key x.party, key x.session_id) (key x.id) → IsInConflict m x
+other_conflict m x own h = record {
+  id = h.0;
+  held = h.1.0;
+  stands = h.1.1;
+  alike = inr h.1.2;
+  differs = λ same. h.2 (ap (λ (k : Texts). k.1) (own (key x.party, h.0) h.1.0 h.1.1) ∙ ap (λ (y : Cdr). key y.id) same);
+}
+
+pub held_conflict : (m : Cdrs) (x y : Cdr) → get m (cdr_key x) ≡ Some y → y ≢ x → IsInConflict m x
+held_conflict m x y had apart = record { id = key x.id; held = y; stands = had; alike = inl refl; differs = apart }
+
+-- and nothing else is
+pub no_conflict : (m : Cdrs) (x : Cdr) → (HasOther m (key x.party, key x.session_id) (key x.id) → ⊥) → ((y : Cdr) → get m (cdr_key x) ≡ Some y → y ≡ x) → IsInConflict m x → ⊥
+no_conflict m x none same c = elim (told text_total text_exact c.id (key x.id)) [
+  | inl is ↦ c.differs (same c.held (ap (λ (i : List ℕ). get m (key x.party, i)) (sym is) ∙ c.stands))
+  | inr apart ↦ elim c.alike [ inl is ↦ apart is | inr session ↦ none (c.id, (c.held, c.stands, session), apart) ]
+]
+
+-- a record that is taken is neither in conflict nor held
+pub not_in_conflict : (t : CdrTaking) (P : Type 0) → t ≡ Taken → ((t ≡ Conflict) ↔ P) → P → ⊥
+not_in_conflict t P is tells h = let bad : Taken ≡ Conflict = sym is ∙ tells.1 h in cc
+
+pub not_kept : (t : CdrTaking) (P A : Type 0) → t ≡ Taken → ((t ≡ Kept) ↔ (A × (P → ⊥))) → (P → ⊥) → A → ⊥
+not_kept t P A is tells none h = let bad : Taken ≡ Kept = sym is ∙ tells.1 (h, none) in cc

@@ -1,0 +1,8 @@
+use Rattle.handover.proofs.Holding.{own_remove, keeps_other_sessions}
+use Rattle.handover.proofs.inbox.Inbox.drop_row.Goals as goal
+
+pub invariant_of-self : goal.invariant_of-self
+invariant_of-self c = rw c.remove.ensures.shown (own_remove _ c.self.invariant _)
+
+pub returns-in-Session-clause-rooms : goal.returns-in-Session-clause-rooms
+returns-in-Session-clause-rooms c = rw (c.in-Session.is, ← c.self.view_is) (keeps_other_sessions _ _ _ (c.in-Session.operator, c.in-Session.id) c.remove.ensures.room)

@@ -1,0 +1,65 @@
+-- Charge detail records that are held, by operator and id, and what stands beside them.
+use Rattle.std.specs.Prelude.{◌≡◌, ◌≢◌, ◌↔◌, ℕ, ℤ, ◌<◌, unsigned_abs, List, Some, IsTrue}
+use Rattle.std.specs.FinMap.{FinMap, get, contains_key, values}
+use Rattle.std.specs.declared.cmp.Ordering.{Ordering}
+use Rattle.std.specs.declared.cmp.Ordering.TheVariants.{Less}
+use Rattle.ocpi_text.specs.Text.{key}
+use Rattle.ocpi_text.specs.Decimal.{e4_limit}
+use Rattle.tables.specs.Keys.{pair_cmp, text_cmp, text_pair_cmp}
+use Rattle.ocpi_types.specs.declared.cdrs.Cdr.{Cdr}
+use Rattle.handover.specs.Owed.{Account, account_of, owed, sum_at}
+
+-- by the operator, in key form, and the id, in key form
+abbrev pub Cdrs : Type 0
+Cdrs = FinMap text_pair_cmp Cdr
+
+-- the operator, the session and the record, in key form
+abbrev pub SessionKey : Type 0
+SessionKey = (List ℕ × List ℕ) × List ℕ
+
+abbrev pub session_cmp : SessionKey → SessionKey → Ordering
+session_cmp = pair_cmp text_pair_cmp text_cmp
+
+abbrev pub cdr_key : Cdr → List ℕ × List ℕ
+cdr_key x = (key x.party, key x.id)
+
+-- the record of an operator and an id is one of a session
+abbrev pub IsOfSession : Cdrs → SessionKey → Type 0
+IsOfSession m q = (x : Cdr) × (get m (q.0.0, q.1) ≡ Some x) × (key x.session_id ≡ q.0.1)
+
+-- a record of the session is held under another id
+abbrev pub HasOther : Cdrs → List ℕ × List ℕ → List ℕ → Type 0
+HasOther m session id = (i : List ℕ) × IsOfSession m (session, i) × (i ≢ id)
+
+-- a record of the session is held under a later id
+abbrev pub HasLaterId : Cdrs → List ℕ × List ℕ → List ℕ → Type 0
+HasLaterId m session id = (i : List ℕ) × IsOfSession m (session, i) × (text_cmp id i ≡ Less)
+
+-- what stands beside the records: the records of each session, and the sum of each account
+pub record IsKept (m : Cdrs) (sessions : FinMap session_cmp (Unit {0})) (sums : FinMap text_pair_cmp ℤ) (rooms : FinMap text_pair_cmp (Unit {0})) : Type 0 where
+  -- each record stands under its own operator and id
+  pub own : (k : List ℕ × List ℕ) (x : Cdr) → get m k ≡ Some x → k ≡ cdr_key x
+  pub bounded : (k : List ℕ × List ℕ) (x : Cdr) → get m k ≡ Some x → unsigned_abs x.total_cost.excl_vat < e4_limit
+  pub listed : (q : SessionKey) → (get sessions q ≡ Some tt) ↔ IsOfSession m q
+  pub summed : (a : Account) → sum_at sums a ≡ owed a (values m)
+  pub roomed : (k : List ℕ × List ℕ) (x : Cdr) → get m k ≡ Some x → IsTrue (contains_key rooms (account_of x))
+
+-- the room that records need
+pub record CdrRooms : Type 0 where
+  pub cdrs : FinMap text_pair_cmp (Unit {0})
+  pub sessions : FinMap session_cmp (Unit {0})
+  pub sums : FinMap text_pair_cmp (Unit {0})
+
+pub record HasRoomOfCdr (s : CdrRooms) (x : Cdr) : Type 0 where
+  pub of_record : IsTrue (contains_key s.cdrs (cdr_key x))
+  pub of_session : IsTrue (contains_key s.sessions ((key x.party, key x.session_id), key x.id))
+  pub of_sum : IsTrue (contains_key s.sums (account_of x))
+
+-- what has room keeps it
+abbrev pub KeepsCdrRoom : CdrRooms → CdrRooms → Type 0
+KeepsCdrRoom s t = (x : Cdr) → HasRoomOfCdr s x → HasRoomOfCdr t x
+
+-- the records, and the room that is taken beside them
+pub record HeldCdrs : Type 0 where
+  pub cdrs : Cdrs
+  pub rooms : CdrRooms

@@ -1,0 +1,7 @@
+pub mod Owed
+pub mod Equality
+pub mod FaultText
+pub mod Cdrs
+pub mod Inbox
+pub mod Pushes
+pub mod Outbox

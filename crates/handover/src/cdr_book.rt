@@ -1,0 +1,209 @@
+//! The charge detail records that are held, with what finds them by their sessions, and what is owed by them.
+
+ghost use Rattle.std.specs.Prelude.{◌≡◌, ◌≢◌, ◌↔◌, ℕ, ◌<◌, unsigned_abs, List, [], Some, None, IsOk, IsTrue, OnOk, option_copied};
+ghost use Rattle.std.specs.FinMap as map;
+ghost use Rattle.ocpi_text.specs.Text.{key};
+ghost use Rattle.ocpi_text.specs.Decimal.{e4_limit};
+ghost use Rattle.ocpi_types.specs.declared.cdrs.Cdr.{Cdr};
+ghost use Rattle.handover.specs.Owed.{owed};
+ghost use Rattle.handover.specs.Cdrs.{HasRoomOfCdr, KeepsCdrRoom, HasOther, HasLaterId, cdr_key};
+
+use crate::currency::Currency;
+use crate::sums::Sums;
+use ocpi_text::{CiKey, CiText, PartyKey};
+use ocpi_types::Cdr;
+use std::alloc::{AllocError, Global};
+use std::marker::Model;
+use tables::Table;
+
+/// Charge detail records by operator and id, those of a session, and the sums of their costs.
+#[derive(Drop)]
+pub(crate) struct CdrBook {
+    cdrs: Table<(PartyKey, CiKey<39>), Cdr>,
+    /// The ids of the records of each operator and session.
+    sessions: Table<((PartyKey, CiKey<36>), CiKey<39>), ()>,
+    sums: Sums,
+}
+
+impl Model for CdrBook {
+    ghost use Rattle.std.specs.FinMap as map;
+    ghost use Rattle.std.specs.Coded.{codes};
+    ghost use Rattle.tables.specs.Keys.{text_pair_cmp};
+    ghost use Rattle.tables.specs.Tables.{shown_of, rooms_of};
+    ghost use Rattle.handover.specs.Cdrs.{HeldCdrs, IsKept, session_cmp};
+
+    ghost Value = { HeldCdrs };
+
+    ghost coded = { Prim.hlevel (codes, map.code) };
+
+    ghost view = { λ b. record {
+      cdrs = shown_of text_pair_cmp b.cdrs;
+      rooms = record {
+        cdrs = rooms_of text_pair_cmp b.cdrs;
+        sessions = rooms_of session_cmp b.sessions;
+        sums = b.sums.rooms;
+      };
+    } };
+
+    ghost invariant = { λ b. IsKept (shown_of text_pair_cmp b.cdrs) (shown_of session_cmp b.sessions) b.sums.sums b.sums.rooms };
+}
+
+/// The least key.
+fn least_id() -> CiKey<39>
+    ensures { result ≡ [] }
+{
+    match CiText::<39>::new("") {
+        Ok(text) => text.key(),
+        Err(_) => unreachable!(),
+    }
+}
+
+/// The operator and the session of a record.
+fn session_of(cdr: &Cdr) -> (PartyKey, CiKey<36>)
+    ensures { result ≡ (key cdr.now.party, key cdr.now.session_id) }
+{
+    (cdr.party.key(), cdr.session_id.key())
+}
+
+/// The cost of a record, in ten-thousandths.
+pub(crate) fn cost_of(cdr: &Cdr) -> i64
+    ensures value { result ≡ cdr.now.total_cost.excl_vat }
+    ensures bound { unsigned_abs result < e4_limit }
+{
+    cdr.total_cost.excl_vat.units()
+}
+
+pub(crate) fn currency_of(cdr: &Cdr) -> Currency
+    ensures { result ≡ cdr.now.currency }
+{
+    Currency::new(cdr.currency)
+}
+
+impl CdrBook {
+    /// No record is held. It takes no memory.
+    pub(crate) fn new(alloc: Global) -> CdrBook
+        ensures { result.cdrs ≡ map.empty }
+    {
+        CdrBook {
+            cdrs: Table::new(alloc),
+            sessions: Table::new(alloc),
+            sums: Sums::new(alloc),
+        }
+    }
+
+    /// The record of an operator and an id.
+    pub(crate) fn get(&self, operator: PartyKey, id: CiKey<39>) -> Option<&Cdr>
+        ensures value { option_copied result ≡ map.get self.now.cdrs (operator, id) }
+    {
+        self.cdrs.get((operator, id))
+    }
+
+    /// Whether a record of a session is held under a later id.
+    fn has_later(&self, session: &(PartyKey, CiKey<36>), id: &CiKey<39>) -> bool
+        ensures { IsTrue result ↔ HasLaterId self.now.cdrs session.now id.now }
+    {
+        let Some(next) = self.sessions.first_after((*session, *id)) else {
+            return false;
+        };
+        next.0.0.cmp(session).is_eq()
+    }
+
+    /// Whether a record of a session is held under another id.
+    pub(crate) fn has_other(&self, session: &(PartyKey, CiKey<36>), id: &CiKey<39>) -> bool
+        ensures others { IsTrue result ↔ HasOther self.now.cdrs session.now id.now }
+        ensures own { (k : List ℕ × List ℕ) (x : Cdr) → map.get self.now.cdrs k ≡ Some x → k ≡ cdr_key x }
+    {
+        let Some(first) = self.sessions.first_with(*session, least_id()) else {
+            return false;
+        };
+        let is_itself = first.0.cmp(id).is_eq();
+        if is_itself {
+            self.has_later(session, id)
+        } else {
+            true
+        }
+    }
+
+    /// What is owed to an operator in a currency.
+    pub(crate) fn owed(&self, operator: PartyKey, currency: Currency) -> i128
+        ensures { result ≡ owed (operator, currency) (map.values self.now.cdrs) }
+    {
+        self.sums.sum(operator, currency)
+    }
+
+    /// Takes the room that a record needs. An error is want of memory, for a record that has none.
+    pub(crate) fn reserve(&mut self, cdr: &Cdr) -> Result<(), AllocError>
+        ensures cdrs { self.new.cdrs ≡ self.old.cdrs }
+        ensures room { OnOk result (HasRoomOfCdr self.new.rooms cdr.now) }
+        ensures keeps { KeepsCdrRoom self.old.rooms self.new.rooms }
+        ensures again { HasRoomOfCdr self.old.rooms cdr.now → IsOk result }
+    {
+        let operator = cdr.party.key();
+        let id = cdr.id.key();
+        let session = (operator, cdr.session_id.key());
+        self.cdrs.reserve((operator, id))?;
+        self.sessions.reserve((session, id))?;
+        self.sums.reserve(operator, Currency::new(cdr.currency))?;
+        Ok(())
+    }
+
+    /// Takes the record of an operator and an id out, if there is one, and keeps its room. It takes no memory.
+    fn clear(&mut self, operator: PartyKey, id: CiKey<39>)
+        ensures cdrs { self.new.cdrs ≡ map.remove self.old.cdrs (operator, id) }
+        ensures rooms { self.new.rooms ≡ self.old.rooms }
+    {
+        let Some(cdr) = self.cdrs.get((operator, id)) else {
+            return;
+        };
+        let session = session_of(cdr);
+        let currency = currency_of(cdr);
+        let cost = cost_of(cdr);
+        let _most = self.cdrs.room_count();
+        self.cdrs.clear((operator, id));
+        self.sessions.clear((session, id));
+        self.sums.add(operator, currency, -cost);
+    }
+
+    /// Puts a record where none of its operator and id is held. It takes no memory.
+    fn fill(&mut self, cdr: Cdr)
+        requires room { HasRoomOfCdr self.old.rooms cdr }
+        requires new { map.get self.old.cdrs (cdr_key cdr) ≡ None }
+        ensures cdrs { self.new.cdrs ≡ map.insert self.old.cdrs (cdr_key cdr) cdr }
+        ensures rooms { self.new.rooms ≡ self.old.rooms }
+    {
+        let operator = cdr.party.key();
+        let id = cdr.id.key();
+        let session = session_of(&cdr);
+        let currency = currency_of(&cdr);
+        let cost = cost_of(&cdr);
+        let _most = self.cdrs.room_count();
+        self.cdrs.put((operator, id), cdr);
+        self.sessions.put((session, id), ());
+        self.sums.add(operator, currency, cost);
+    }
+
+    /// Puts a record, in place of the one of its operator and id if there is one. It takes no memory.
+    pub(crate) fn put(&mut self, cdr: Cdr)
+        requires { HasRoomOfCdr self.old.rooms cdr }
+        ensures cdrs { self.new.cdrs ≡ map.insert self.old.cdrs (cdr_key cdr) cdr }
+        ensures rooms { self.new.rooms ≡ self.old.rooms }
+    {
+        self.clear(cdr.party.key(), cdr.id.key());
+        self.fill(cdr);
+    }
+
+    /// Takes the record of an operator and an id out, if there is one, and gives its room back. It takes no memory.
+    pub(crate) fn remove(&mut self, operator: PartyKey, id: CiKey<39>)
+        ensures cdrs { self.new.cdrs ≡ map.remove self.old.cdrs (operator, id) }
+        ensures rooms { (x : Cdr) → HasRoomOfCdr self.old.rooms x → cdr_key x ≢ (operator, id) → HasRoomOfCdr self.new.rooms x }
+    {
+        let Some(cdr) = self.cdrs.get((operator, id)) else {
+            self.cdrs.release((operator, id));
+            return;
+        };
+        let session = session_of(cdr);
+        self.clear(operator, id);
+        self.cdrs.release((operator, id));
+        self.sessions.release((session, id));
+    }
+}
