@@ -63,12 +63,15 @@ fn token_row_of(alloc: Global, key: &str, object: &Value) -> Result<Row, JsonFau
     ensures { Gives result (token_row_at key.now (view object.now)) }
 {
     let token = token_of(object)?;
-    let row = Row::Token { token };
-    if is_text_of(alloc, key, &row.key())? {
-        Ok(row)
-    } else {
-        Err(JsonFault::WrongForm(Field::Key))
+    let own = RowKey::Token {
+        party: token.party.key(),
+        token_type: token.token_type,
+        uid: token.uid.key(),
+    };
+    if !is_text_of(alloc, key, &own)? {
+        return Err(JsonFault::WrongForm(Field::Key));
     }
+    Ok(Row::Token { token })
 }
 
 #[tactic(auto, unfolding(crate::specs::RowForms::push_row_at))]
@@ -171,12 +174,14 @@ fn session_row_of(alloc: Global, key: &str, object: &Value) -> Result<Row, JsonF
     ensures { Gives result (session_row_at key.now (view object.now)) }
 {
     let session = session_of(object)?;
-    let row = Row::Session { session };
-    if is_text_of(alloc, key, &row.key())? {
-        Ok(row)
-    } else {
-        Err(JsonFault::WrongForm(Field::Key))
+    let own = RowKey::Session {
+        operator: session.party.key(),
+        id: session.id.key(),
+    };
+    if !is_text_of(alloc, key, &own)? {
+        return Err(JsonFault::WrongForm(Field::Key));
     }
+    Ok(Row::Session { session })
 }
 
 #[tactic(auto, unfolding(crate::specs::RowForms::cdr_row_at, crate::specs::RowForms::own_key))]
@@ -184,11 +189,14 @@ fn cdr_row_of(alloc: Global, key: &str, object: &Value) -> Result<Row, JsonFault
     ensures { Gives result (cdr_row_at key.now (view object.now)) }
 {
     let cdr = cdr_of(alloc, object)?;
-    let row = Row::Cdr { cdr };
-    if is_text_of(alloc, key, &row.key())? {
-        Ok(row)
-    } else {
-        Err(JsonFault::WrongForm(Field::Key))
+    let own = RowKey::Cdr {
+        operator: cdr.party.key(),
+        id: cdr.id.key(),
+    };
+    match is_text_of(alloc, key, &own) {
+        Ok(true) => Ok(Row::Cdr { cdr }),
+        Ok(false) => Err(JsonFault::WrongForm(Field::Key)),
+        Err(_) => Err(JsonFault::Memory),
     }
 }
 

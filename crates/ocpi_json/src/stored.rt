@@ -276,6 +276,7 @@ pub fn sent_command_of(alloc: Global, object: &Value) -> Result<SentCommand, Jso
 }
 
 /// The member `body` of a command.
+#[tactic(auto, unfolding(ocpi_forms::specs::Bodies::body_members))]
 fn write_command(command: &Command, out: &mut RecordWriter) -> Result<(), AllocError>
     ensures member { OnOk result (out.new ≡ and_member out.old (body_member (body_of_command command.now))) }
     ensures fits { OnOk result (BodyFits (body_of_command command.now)) }
@@ -290,6 +291,7 @@ fn write_command(command: &Command, out: &mut RecordWriter) -> Result<(), AllocE
 }
 
 /// The member `body` of a reply.
+#[tactic(auto, unfolding(ocpi_forms::specs::Bodies::body_members))]
 fn write_reply_body(reply: &Reply, out: &mut RecordWriter) -> Result<(), AllocError>
     ensures member { OnOk result (out.new ≡ and_member out.old (body_member (body_of_reply reply.now))) }
     ensures fits { OnOk result (BodyFits (body_of_reply reply.now)) }
@@ -302,6 +304,7 @@ fn write_reply_body(reply: &Reply, out: &mut RecordWriter) -> Result<(), AllocEr
 }
 
 /// The member `body` of a push.
+#[tactic(auto, unfolding(ocpi_forms::specs::Bodies::body_members))]
 fn write_push_body(push: &Push, out: &mut RecordWriter) -> Result<(), AllocError>
     ensures member { OnOk result (out.new ≡ and_member out.old (body_member (body_of_push push.now))) }
     ensures fits { OnOk result (BodyFits (body_of_push push.now)) }
