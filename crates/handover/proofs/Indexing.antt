@@ -54,18 +54,18 @@ module _ (m : Pushes) (subjects : FinMap subject_number_cmp (Unit {0})) (indexed
       (λ q at h. elim (told numbered_total numbered_exact q (u, n)) [
         | inl same ↦ not_both tt (get (remove subjects (u, n)) q) h (ap (get (remove subjects (u, n))) same ∙ get-remove_same numbered_total numbered_exact subjects (u, n))
         | inr apart ↦
-          let was = (indexed q).0 (sym (get-remove_other numbered_total numbered_exact subjects (u, n) q apart) ∙ h) in
-          let one : was.0 ≡ x = same_value _ _ (sym was.1 ∙ ap (get m) at ∙ had) in
-          let of : q.0 ≡ u = same_value _ _ (sym was.2 ∙ ap subject_of one ∙ about) in
-          apart (λ i. (of i, at i))
+            let was = (indexed q).0 (sym (get-remove_other numbered_total numbered_exact subjects (u, n) q apart) ∙ h) in
+            let one : was.0 ≡ x = same_value _ _ (sym was.1 ∙ ap (get m) at ∙ had) in
+            let of : q.0 ≡ u = same_value _ _ (sym was.2 ∙ ap subject_of one ∙ about) in
+            apart (λ i. (of i, at i))
       ])
 
   pub clear_none : (x : Outgoing) → get m n ≡ Some x → subject_of x ≡ None → AreIndexed (remove m n) subjects
   clear_none x had about = others subjects (λ q apart. refl)
       (λ q at h.
-        let was = (indexed q).0 h in
-        let one : was.0 ≡ x = same_value _ _ (sym was.1 ∙ ap (get m) at ∙ had) in
-        not_both q.0 (subject_of x) (ap subject_of (sym one) ∙ was.2) about)
+      let was = (indexed q).0 h in
+      let one : was.0 ≡ x = same_value _ _ (sym was.1 ∙ ap (get m) at ∙ had) in
+      not_both q.0 (subject_of x) (ap subject_of (sym one) ∙ was.2) about)
 
   module _ (x : Outgoing) (new : get m n ≡ None) where
     put : get (insert m n x) n ≡ Some x

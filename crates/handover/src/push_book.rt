@@ -136,7 +136,12 @@ impl PushBook {
     }
 
     /// Takes the room that a push needs. An error is want of memory, for a push that has none.
-    pub(crate) fn reserve(&mut self, number: Whole, to: &Party, push: &Push) -> Result<(), AllocError>
+    pub(crate) fn reserve(
+        &mut self,
+        number: Whole,
+        to: &Party,
+        push: &Push,
+    ) -> Result<(), AllocError>
         ensures pushes { self.new.pushes ≡ self.old.pushes }
         ensures room { OnOk result (HasRoomOfPush self.new.rooms number (subject to.now push.now)) }
         ensures keeps { KeepsPushRoom self.old.rooms self.new.rooms }

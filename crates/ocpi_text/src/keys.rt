@@ -132,7 +132,9 @@ impl PartyKey {
     pub(crate) fn new(party: &Party) -> PartyKey
         ensures { result ≡ key party.now }
     {
-        PartyKey { party: party.upper() }
+        PartyKey {
+            party: party.upper(),
+        }
     }
 
     /// The party, where it is spelled as its key.

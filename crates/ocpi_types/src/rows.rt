@@ -177,13 +177,17 @@ impl Row {
                 reservation_id: *reservation_id,
             },
             Row::Pending {
-                provider, number, ..
+                provider,
+                number,
+                ..
             } => RowKey::Pending {
                 provider: *provider,
                 number: *number,
             },
             Row::Result {
-                provider, number, ..
+                provider,
+                number,
+                ..
             } => RowKey::Result {
                 provider: *provider,
                 number: *number,

@@ -52,9 +52,11 @@ module _ (s : State) (to p : List ℕ) (n : ℕ) (r : Reply) (at : key to ≡ p)
           let is = stored_is s to p n r at none o reference may spends q m x h in
           let who : p ≡ q = cc in
           let number : n ≡ m = cc in
-          let what : o ≡ x = cc in
-          (o, ap (get after.state.commands.pending) (λ i. (sym who i, sym number i)) ∙ get-insert_same text_number_total text_number_exact s.commands.pending (p, n) o,
-          subst (λ (z : OpenCommand). Takes z evse) (sym what) takes);
+          let what : o ≡ x = cc in (
+            o,
+            ap (get after.state.commands.pending) (λ i. (sym who i, sym number i)) ∙ get-insert_same text_number_total text_number_exact s.commands.pending (p, n) o,
+            subst (λ (z : OpenCommand). Takes z evse) (sym what) takes,
+          );
     }
 
 started_claims : (s : State) (at : ℕ) (to p : List ℕ) (n : ℕ) (c : StartSession) (d : Decision) → key to ≡ p → get s.commands.replies (p, n) ≡ None → get s.commands.pending (p, n) ≡ None →

@@ -11,11 +11,13 @@ fn claim(places: &mut Places, change: &Change)
     requires { IsAtSite places.old.site change.now }
     ensures { places.new ≡ record places.old { claims = claimed_after change.now places.old.claims } }
 {
-    if let Change::Put(Row::Pending {
-        provider,
-        number,
-        open,
-    }) = change
+    if let Change::Put(
+        Row::Pending {
+            provider,
+            number,
+            open,
+        },
+    ) = change
     {
         if let Some(evse_uid) = &open.evse_uid {
             let (provider, number) = (*provider, *number);

@@ -35,7 +35,10 @@ fn write_steps(rt: &HostRuntime) -> io::Result<()> {
     let mut input = Vec::new(alloc);
     rt.reader().read_to_end(&mut input)?;
     let mut output = BufWriter::new(alloc, io::writer(rt))?;
-    let end = input.iter().position(|byte| *byte == b'\n').unwrap_or(input.len());
+    let end = input
+        .iter()
+        .position(|byte| *byte == b'\n')
+        .unwrap_or(input.len());
     match open(alloc, &input[..end]) {
         Ok(mut operator) => take_lines(alloc, &mut operator, &input[end..], &mut output)?,
         Err(fault) => writeln!(output, "refused {fault}")?,
@@ -143,7 +146,10 @@ fn write_change<W: Write>(alloc: Global, change: &Change, output: &mut W) -> io:
 /// Writes a row that is put.
 fn write_put<W: Write>(alloc: Global, row: &Row, output: &mut W) -> io::Result<()> {
     let row_key = row.key();
-    let (kind, key) = (RowKind::of_key(&row_key).word(), write_key(alloc, &row_key)?);
+    let (kind, key) = (
+        RowKind::of_key(&row_key).word(),
+        write_key(alloc, &row_key)?,
+    );
     let text = write_row(alloc, row)?;
     writeln!(output, "put {kind} {key} {text}")
 }
