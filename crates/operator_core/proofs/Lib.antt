@@ -1,9 +1,0 @@
-pub mod Indexes
-pub mod Spending
-pub mod Consistency
-pub mod StepFacts
-pub mod Runs
-pub mod RowChanges
-pub mod ClaimChanges
-pub mod Room
-pub mod Applied

@@ -1,16 +1,19 @@
--- What the lines of the tables do: each move changes what is stored, with the row that says so, or sends a packet.
-use Rattle.std.specs.Prelude.{ℕ, ◌+◌, Option, Some, None, List, [], ◌∷◌, ◌++◌}
-use Rattle.std.specs.FinMap.{insert}
+-- What steps are made of: changes of rows, from which the state after the step follows, and packets.
+use Rattle.std.specs.Prelude.{ℕ, ◌+◌, Option, Some, None, List, [], ◌∷◌}
 use Rattle.ocpi_text.specs.Text.{key}
 use Rattle.ocpi_types.specs.declared.packet.Packet.{Packet}
 use Rattle.ocpi_types.specs.declared.packet.Body.{Body}
-use Rattle.ocpi_types.specs.declared.stored.OpenCommand.{OpenCommand}
-use Rattle.ocpi_types.specs.declared.stored.Reply.{Reply}
+use Rattle.ocpi_types.specs.declared.packet.Body.TheVariants as body
+use Rattle.ocpi_types.specs.declared.replies.CommandResult.{CommandResult}
+use Rattle.ocpi_types.specs.declared.stored.Push.TheVariants as push
+use Rattle.ocpi_types.specs.declared.words.CommandResultType.{CommandResultType}
 use Rattle.ocpi_types.specs.declared.rows.Change.{Change}
-use Rattle.ocpi_types.specs.declared.rows.Change.TheVariants.{Put}
+use Rattle.ocpi_types.specs.declared.rows.Change.TheVariants.{Put, Drop}
 use Rattle.ocpi_types.specs.declared.rows.Row.TheVariants as row
-use Rattle.ocpi_types.specs.declared.rows.Counter.TheVariants.{Serial}
-use Rattle.operator_core.specs.State.{State, Spent}
+use Rattle.ocpi_types.specs.declared.rows.RowKey.TheVariants as keys
+use Rattle.ocpi_types.specs.declared.rows.Counter.TheVariants.{Serial, Request}
+use Rattle.operator_core.specs.State.{State, Rows}
+use Rattle.operator_core.specs.Stored.{changed_all}
 
 -- what a step leaves, the changes of rows that it makes, and the packets that it sends, in order
 pub record Out : Type 0 where
@@ -18,45 +21,48 @@ pub record Out : Type 0 where
   pub changes : List Change
   pub packets : List Packet
 
-abbrev pub begin : State → Out
-begin s = record { state = s; changes = []; packets = [] }
+-- the state with other rows
+abbrev pub with_rows : Rows → State → State
+with_rows r s = record s { rows = r }
 
--- a packet leaves under the next serial
-abbrev pub say : List ℕ → ℕ → Body → Out → Out
-say to request body o = record {
-  state = record o.state { serial = o.state.serial + 1 };
-  changes = o.changes;
-  packets = o.packets ++ record { from = o.state.party; to = to; serial = o.state.serial + 1; request = request; body = body } ∷ [];
-}
+-- a step that makes these changes and sends these packets
+abbrev pub step : State → List Change → List Packet → Out
+step s changes packets = record { state = with_rows (changed_all changes s.rows) s; changes = changes; packets = packets }
 
--- the counter of packets is stored as it now stands: once in a step that sends any, before its other rows
-abbrev pub numbered : Out → Out
-numbered o = record o { changes = Put (row.Count Serial o.state.serial) ∷ o.changes }
+-- an event that does nothing
+abbrev pub idle : State → Out
+idle s = record { state = s; changes = []; packets = [] }
 
-abbrev pub keep_reply : List ℕ → ℕ → Reply → Out → Out
-keep_reply p n reply o = record o {
-  state = record o.state { commands = record o.state.commands { replies = insert o.state.commands.replies (p, n) reply } };
-  changes = o.changes ++ Put (row.Reply p n reply) ∷ [];
-}
+-- the k-th packet that leaves from here on
+abbrev pub packet_after : State → ℕ → List ℕ → ℕ → Body → Packet
+packet_after s k to request b = record { from = s.party; to = to; serial = s.rows.serial + k; request = request; body = b }
 
--- a command is open from then on
-abbrev pub open_command : List ℕ → ℕ → OpenCommand → Out → Out
-open_command p n command o = record o {
-  state = record o.state { commands = record o.state.commands { pending = insert o.state.commands.pending (p, n) command } };
-  changes = o.changes ++ Put (row.Pending p n command) ∷ [];
-}
+-- so many packets leave: their counter, as it is stored
+abbrev pub serial_row : Rows → ℕ → Change
+serial_row s k = Put (row.Count Serial (s.serial + k))
+
+-- one more request is made: their counter, as it is stored
+abbrev pub request_row : Rows → Change
+request_row s = Put (row.Count Request (s.outbox.last + 1))
 
 -- the reference, where there is one, may not be used again
-abbrev pub spent_after : List ℕ → Option (List ℕ) → Spent → Spent
-spent_after p None m = m
-spent_after p (Some reference) m = insert m (p, key reference) tt
-
 abbrev pub spent_rows : List ℕ → Option (List ℕ) → List Change
 spent_rows p None = []
 spent_rows p (Some reference) = Put (row.Spent p (key reference)) ∷ []
 
-abbrev pub spend : List ℕ → Option (List ℕ) → Out → Out
-spend p reference o = record o {
-  state = record o.state { spent = spent_after p reference o.state.spent };
-  changes = o.changes ++ spent_rows p reference;
-}
+-- the reservation that is used, where one is, ends
+abbrev pub used_rows : List ℕ → Option (List ℕ) → List Change
+used_rows p None = []
+used_rows p (Some id) = Drop (keys.Reservation p id) ∷ []
+
+-- how a command ended, as its provider is told (OCPI 2.2.1, Commands: CommandResult)
+abbrev pub told : List ℕ → CommandResultType → CommandResult
+told url result = record { response_url = url; result = result }
+
+-- how the command of number n of the party `to`, whose key is p, ended: it is kept, and pushed as the next request
+abbrev pub result_rows : Rows → List ℕ → List ℕ → ℕ → List ℕ → CommandResultType → List Change
+result_rows s to p n url result = Put (row.Push (s.outbox.last + 1) to (push.CommandResult (told url result))) ∷ (Put (row.Result p n result) ∷ [])
+
+-- the push of it, as the k-th packet from here on
+abbrev pub result_packet : State → ℕ → List ℕ → List ℕ → CommandResultType → Packet
+result_packet s k to url result = packet_after s k to (s.rows.outbox.last + 1) (body.CommandResult (told url result))

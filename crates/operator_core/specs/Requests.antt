@@ -1,14 +1,12 @@
 -- A request as the operator handles it, and what a step answers.
-use Rattle.std.specs.Prelude.{◌≡◌, ℕ, ◌+◌, ◌<◌}
+use Rattle.std.specs.Prelude.{◌≡◌, ℕ}
 use Rattle.ocpi_text.specs.Text.{key}
-use Rattle.ocpi_text.specs.Whole.{max_whole}
 use Rattle.ocpi_types.specs.declared.packet.Packet.{Packet}
 use Rattle.operator_core.specs.declared.request.Request.{Request}
 use Rattle.operator_core.specs.declared.stepped.Stepped.{Stepped}
 use Rattle.operator_core.specs.Providers.{IsProvider}
 use Rattle.operator_core.specs.State.{State}
-use Rattle.operator_core.specs.Moves.{Out}
-use Rattle.operator_core.specs.Stored.{rows_of, with_rows, changed_all}
+use Rattle.operator_core.specs.Moves.{Out, step}
 
 -- the request that came to this operator in a packet
 pub record IsRequest (s : State) (at : ℕ) (q : Packet) (r : Request) : Type 0 where
@@ -17,12 +15,10 @@ pub record IsRequest (s : State) (at : ℕ) (q : Packet) (r : Request) : Type 0 
   pub provider : r.provider ≡ key q.from
   pub number : r.number ≡ q.request
   pub moment : r.at ≡ at
-  pub room : s.serial < max_whole
-  pub serial : r.serial ≡ s.serial + 1
 
 abbrev pub out_of : State → Stepped → Out
 out_of s x = record { state = s; changes = x.rows.items; packets = x.packets.items }
 
 -- what a step comes to once its changes of rows are carried out
 abbrev pub planned : State → Stepped → Out
-planned s x = record { state = with_rows (changed_all x.rows.items (rows_of s)) s; changes = x.rows.items; packets = x.packets.items }
+planned s x = step s x.rows.items x.packets.items

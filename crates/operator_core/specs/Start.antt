@@ -7,11 +7,14 @@ use Rattle.ocpi_types.specs.declared.site.Location.{Location}
 use Rattle.ocpi_types.specs.declared.site.Evse.{Evse}
 use Rattle.ocpi_types.specs.declared.site.Connector.{Connector}
 use Rattle.ocpi_types.specs.declared.commands.StartSession.{StartSession}
+use Rattle.ocpi_types.specs.declared.words.CommandResponseType.TheVariants as response
+use Rattle.ocpi_types.specs.declared.words.CommandResultType.TheVariants as result
+use Rattle.reservation_book.specs.declared.standing.Standing.{Standing}
 use Rattle.operator_core.specs.declared.decision.Decision.{Decision}
-use Rattle.operator_core.specs.declared.decision.Decision.TheVariants.{Refused, Rejected, Accepted}
+use Rattle.operator_core.specs.declared.decision.Decision.TheVariants.{Refused, Answered, Resulted, Started}
 use Rattle.site.specs.Places.{IsLocation, Fits}
-use Rattle.command_book.specs.Stored.{OpenCommands}
-use Rattle.operator_core.specs.State.{Spent, IsFree}
+use Rattle.operator_core.specs.State.{Rows, Spent, IsFree}
+use Rattle.operator_core.specs.Places.{Works, IsHeldFor}
 
 -- the token is another provider's, or a connector is named without its EVSE
 abbrev pub IsMismatched : List ℕ → StartSession → Type 0
@@ -38,14 +41,28 @@ pub record IsPlaced (site : Site) (sender : List ℕ) (c : StartSession) (l : Lo
   pub matched : ¬ IsMismatched sender c
   pub location : IsLocation site.locations c.location_id l
 
--- the lines of the table: the first that applies decides
-pub data StartLine (site : Site) (spent : Spent) (pending : OpenCommands) (sender : List ℕ) (c : StartSession) (d : Decision) : Type 0 where
-  Mismatched : IsMismatched sender c → d ≡ Refused 2001 → StartLine site spent pending sender c d
-  UnknownLocation : ¬ IsMismatched sender c → ((l : Location) → IsLocation site.locations c.location_id l → ⊥) → d ≡ Refused 2003 → StartLine site spent pending sender c d
-  NoPlace : (l : Location) → IsPlaced site sender c l → ((e : Evse) (k : Connector) → IsPlace l c e k → ⊥) → d ≡ Rejected → StartLine site spent pending sender c d
-  Barred : (l : Location) → IsPlaced site sender c l → (e : Evse) (k : Connector) → IsPlace l c e k → IsBarred spent (key sender) c → d ≡ Rejected →
-      StartLine site spent pending sender c d
-  Occupied : (l : Location) → IsPlaced site sender c l → (e : Evse) (k : Connector) → IsPlace l c e k → ¬ IsBarred spent (key sender) c →
-      ((f : Evse) (j : Connector) → IsPlace l c f j → IsFree pending (key f.uid) → ⊥) → d ≡ Rejected → StartLine site spent pending sender c d
-  Taken : (l : Location) → IsPlaced site sender c l → (e : Evse) (k : Connector) → IsPlace l c e k → ¬ IsBarred spent (key sender) c →
-      IsFree pending (key e.uid) → d ≡ Accepted (record { evse_uid = e.uid; connector_id = k.id }) → StartLine site spent pending sender c d
+-- the command got as far as the EVSEs at its place, of which this is one
+pub record MayTake (site : Site) (s : Rows) (sender : List ℕ) (c : StartSession) (l : Location) (e : Evse) (k : Connector) : Type 0 where
+  pub placed : IsPlaced site sender c l
+  pub place : IsPlace l c e k
+  pub allowed : ¬ IsBarred s.spent (key sender) c
+
+-- no EVSE in service that the command may be about is held by a reservation of the sender for the token
+abbrev pub NoneHeld : Rows → List ℕ → StartSession → Location → Type 0
+NoneHeld s sender c l = (f : Evse) (j : Connector) (x : Standing) → IsPlace l c f j → Works s f → IsHeldFor s sender c.token l f x → ⊥
+
+-- the lines of the table: the first that applies decides. An EVSE that is held for the token goes before one that is free
+pub data StartLine (site : Site) (s : Rows) (sender : List ℕ) (c : StartSession) (d : Decision) : Type 0 where
+  Mismatched : IsMismatched sender c → d ≡ Refused 2001 → StartLine site s sender c d
+  UnknownLocation : ¬ IsMismatched sender c → ((l : Location) → IsLocation site.locations c.location_id l → ⊥) → d ≡ Refused 2003 → StartLine site s sender c d
+  NoPlace : (l : Location) → IsPlaced site sender c l → ((e : Evse) (k : Connector) → IsPlace l c e k → ⊥) → d ≡ Answered response.Rejected → StartLine site s sender c d
+  Barred : (l : Location) → IsPlaced site sender c l → (e : Evse) (k : Connector) → IsPlace l c e k → IsBarred s.spent (key sender) c → d ≡ Answered response.Rejected →
+      StartLine site s sender c d
+  Inoperative : (l : Location) (e : Evse) (k : Connector) → MayTake site s sender c l e k → ((f : Evse) (j : Connector) → IsPlace l c f j → ¬ Works s f) →
+      d ≡ Resulted result.EvseInoperative → StartLine site s sender c d
+  Occupied : (l : Location) (e : Evse) (k : Connector) → MayTake site s sender c l e k → Works s e → NoneHeld s sender c l →
+      ((f : Evse) (j : Connector) → IsPlace l c f j → Works s f → ¬ IsFree s (key f.uid)) → d ≡ Resulted result.EvseOccupied → StartLine site s sender c d
+  Held : (l : Location) (e : Evse) (k : Connector) → MayTake site s sender c l e k → Works s e → (x : Standing) → IsHeldFor s sender c.token l e x →
+      d ≡ Started (record { evse_uid = e.uid; connector_id = k.id }) (Some x.id) → StartLine site s sender c d
+  Free : (l : Location) (e : Evse) (k : Connector) → MayTake site s sender c l e k → Works s e → NoneHeld s sender c l → IsFree s (key e.uid) →
+      d ≡ Started (record { evse_uid = e.uid; connector_id = k.id }) None → StartLine site s sender c d

@@ -10,24 +10,17 @@ use Rattle.ocpi_types.specs.declared.rows.RowKey.TheVariants as keys
 use Rattle.ocpi_types.specs.declared.rows.Change.{Change}
 use Rattle.ocpi_types.specs.declared.rows.Change.TheVariants.{Put, Drop}
 use Rattle.ocpi_types.specs.declared.rows.Counter.TheVariants.{Serial}
+use Rattle.ocpi_types.specs.declared.site.Site.{Site}
 use Rattle.command_book.specs.Stored as commands
 use Rattle.command_book.specs.Room as command_room
-use Rattle.operator_core.specs.State.{State, Spent}
+use Rattle.reservation_book.specs.Rows as booked
+use Rattle.handover.specs.Outbox as outbox
+use Rattle.handover.specs.Pushes.{PushRooms}
+use Rattle.site.specs.Places.{Idle}
+use Rattle.operator_core.specs.State.{Rows, Spent}
 use Rattle.operator_core.specs.Rows.{change_key}
 
-pub record Rows : Type 0 where
-  -- the number of the last packet that was sent
-  pub serial : ℕ
-  pub commands : commands.Rows
-  pub spent : Spent
-
-abbrev pub rows_of : State → Rows
-rows_of s = record { serial = s.serial; commands = s.commands; spent = s.spent }
-
-abbrev pub with_rows : Rows → State → State
-with_rows r s = record s { serial = r.serial; commands = r.commands; spent = r.spent }
-
--- the counter of packets, which is all that an operator counts so far
+-- the counter of packets; that of requests is kept with the pushes
 abbrev pub counted : Row → ℕ → ℕ
 counted (row.Count Serial n) m = n
 counted other m = m
@@ -44,12 +37,34 @@ abbrev pub unspending : RowKey → Spent → Spent
 unspending (keys.Spent p reference) m = remove m (p, reference)
 unspending other m = m
 
+abbrev pub withdrawing : Row → Idle → Idle
+withdrawing (row.Service evse) m = insert m evse tt
+withdrawing other m = m
+
+abbrev pub restoring : RowKey → Idle → Idle
+restoring (keys.Service evse) m = remove m evse
+restoring other m = m
+
 -- each kind of row belongs to one part
 abbrev pub put_row : Row → Rows → Rows
-put_row r s = record { serial = counted r s.serial; commands = commands.put_row r s.commands; spent = spending r s.spent }
+put_row r s = record {
+  serial = counted r s.serial;
+  commands = commands.put_row r s.commands;
+  spent = spending r s.spent;
+  booked = booked.put_row r s.booked;
+  outbox = outbox.put_row r s.outbox;
+  out_of_service = withdrawing r s.out_of_service;
+}
 
 abbrev pub drop_row : RowKey → Rows → Rows
-drop_row k s = record { serial = uncounted k s.serial; commands = commands.drop_row k s.commands; spent = unspending k s.spent }
+drop_row k s = record {
+  serial = uncounted k s.serial;
+  commands = commands.drop_row k s.commands;
+  spent = unspending k s.spent;
+  booked = booked.drop_row k s.booked;
+  outbox = outbox.drop_row k s.outbox;
+  out_of_service = restoring k s.out_of_service;
+}
 
 abbrev pub changed : Change → Rows → Rows
 changed (Put r) s = put_row r s
@@ -60,17 +75,22 @@ abbrev pub changed_all : List Change → Rows → Rows
 changed_all [] s = s
 changed_all (c ∷ cs) s = changed_all cs (changed c s)
 
--- the keys that have a row, or room for one
+-- the keys that have a row, or room for one; EVSEs have room for their service from the start
 pub record Rooms : Type 0 where
   pub commands : command_room.Rooms
   pub spent : FinMap text_pair_cmp (Unit {0})
+  pub booked : booked.Rooms
+  pub outbox : PushRooms
 
 abbrev pub HasSpentRoom : FinMap text_pair_cmp (Unit {0}) → Row → Type 0
 HasSpentRoom m (row.Spent p reference) = IsTrue (contains_key m (p, reference))
 HasSpentRoom m other = ⊤
 
-abbrev pub HasRoomOf : Rooms → Row → Type 0
-HasRoomOf s r = command_room.HasRoomOf s.commands r × HasSpentRoom s.spent r
+pub record HasRoomOf (s : Rooms) (r : Row) : Type 0 where
+  pub commands : command_room.HasRoomOf s.commands r
+  pub spent : HasSpentRoom s.spent r
+  pub booked : booked.HasRoomOf s.booked r
+  pub outbox : outbox.HasRoomOf s.outbox r
 
 -- the change takes no memory
 abbrev pub HasRoom : Rooms → Change → Type 0
@@ -97,7 +117,8 @@ abbrev pub AreApart : List Change → Type 0
 AreApart [] = ⊤
 AreApart (c ∷ cs) = Each (λ d. change_key d ≢ change_key c) cs × AreApart cs
 
--- the rows, and the room that is taken beside them
+-- the site, the rows, and the room that is taken beside them
 pub record Held : Type 0 where
+  pub site : Site
   pub rows : Rows
   pub rooms : Rooms

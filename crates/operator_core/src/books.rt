@@ -1,27 +1,33 @@
-//! What an operator stores: its counter of packets, what it has answered, which commands are open and which references are
-//! spent.
+//! What an operator stores, with the claims on the site's EVSEs that follow from it.
 
-ghost use Rattle.std.specs.Prelude.{◌≡◌, OnOk, IsOk, IsTrue, None, false};
+ghost use Rattle.std.specs.Prelude.{◌≡◌, OnOk, IsOk, IsTrue, None, false, IfOk};
 ghost use Rattle.std.specs.FinMap as map;
 ghost use Rattle.ocpi_types.specs.Rows.{key_of};
-ghost use Rattle.command_book.specs.Stored.{no_rows};
-ghost use Rattle.operator_core.specs.Rows.{change_key};
+ghost use Rattle.operator_core.specs.State.{no_rows};
+ghost use Rattle.operator_core.specs.Rows.{change_key, AreRowsOf};
 ghost use Rattle.operator_core.specs.Start.{IsSpent};
+ghost use Rattle.operator_core.specs.Claimed.{IsIndexed, MayPut, MayChange, MayChangeAll};
 ghost use Rattle.operator_core.specs.Stored.{AreApart, HasRoom, HasRoomOf, HasRooms, KeepsOtherRoom, KeepsRoom, changed, changed_all, put_row, drop_row};
 
 use command_book::CommandBook;
+use handover::Outbox;
 use ocpi_text::{CiKey, CiText, PartyKey, Whole};
-use ocpi_types::{Change, Counter, Reply, Row, RowKey};
+use ocpi_types::{Change, Counter, Reply, Row, RowKey, Site};
+use reservation_book::ReservationBook;
+use site::{Claim, Places};
 use std::alloc::{AllocError, Global};
 use std::marker::Model;
 use tables::Table;
 
-/// The rows of an operator, and the room that is taken beside them.
+/// The rows of an operator, the room that is taken beside them, and the claims that follow from them.
 #[derive(Drop)]
 pub struct Books {
     serial: Whole,
     commands: CommandBook,
     spent: Table<(PartyKey, CiKey<36>), ()>,
+    booked: ReservationBook,
+    outbox: Outbox,
+    places: Places,
 }
 
 impl Model for Books {
@@ -30,27 +36,49 @@ impl Model for Books {
     ghost use Rattle.tables.specs.Keys.{text_pair_cmp};
     ghost use Rattle.tables.specs.Tables.{shown_of, rooms_of};
     ghost use Rattle.operator_core.specs.Stored.{Held};
+    ghost use Rattle.operator_core.specs.State.{Claims};
+    ghost use Rattle.operator_core.specs.Claimed.{IsIndexed};
 
     ghost Value = { Held };
 
     ghost coded = { Prim.hlevel (codes, map.code) };
 
     ghost view = { λ b. record {
-      rows = record { serial = b.serial; commands = b.commands.rows; spent = shown_of text_pair_cmp b.spent };
-      rooms = record { commands = b.commands.rooms; spent = rooms_of text_pair_cmp b.spent };
+      site = b.places.site;
+      rows = record {
+        serial = b.serial;
+        commands = b.commands.rows;
+        spent = shown_of text_pair_cmp b.spent;
+        booked = b.booked.rows;
+        outbox = b.outbox.rows;
+        out_of_service = b.places.out_of_service;
+      };
+      rooms = record {
+        commands = b.commands.rooms;
+        spent = rooms_of text_pair_cmp b.spent;
+        booked = b.booked.rooms;
+        outbox = b.outbox.rooms;
+      };
     } };
+
+    ghost invariant = { λ b. IsIndexed b.places.claims b.commands.rows.pending b.booked.rows.reservations };
 }
 
 impl Books {
-    /// No packet was sent, nothing is answered, and nothing is open.
-    pub fn new(alloc: Global) -> Books
-        ensures { result.rows ≡ record { serial = 0; commands = no_rows; spent = map.empty } }
+    /// Nothing was sent, nothing is answered, open, reserved or pushed, and each EVSE of the site is in service.
+    pub fn new(alloc: Global, site: Site) -> Result<Books, AllocError>
+        ensures site { IfOk result (λ b. b.site ≡ site) }
+        ensures rows { IfOk result (λ b. b.rows ≡ no_rows) }
     {
-        Books {
+        let places = Places::new(alloc, site)?;
+        Ok(Books {
             serial: Whole::new(0).unwrap(),
             commands: CommandBook::new(alloc),
             spent: Table::new(alloc),
-        }
+            booked: ReservationBook::new(alloc),
+            outbox: Outbox::new(alloc),
+            places,
+        })
     }
 
     /// The number of the last packet that was sent.
@@ -78,8 +106,32 @@ impl Books {
         }
     }
 
+    /// The places of the site, with their claims and which are in service.
+    pub fn places(&self) -> &Places
+        ensures site { result.now.site ≡ self.now.site }
+        ensures service { result.now.out_of_service ≡ self.now.rows.out_of_service }
+        ensures claims { IsIndexed result.now.claims self.now.rows.commands.pending self.now.rows.booked.reservations }
+    {
+        &self.places
+    }
+
+    /// The reservations, and their marks.
+    pub fn booked(&self) -> &ReservationBook
+        ensures { result.now.rows ≡ self.now.rows.booked }
+    {
+        &self.booked
+    }
+
+    /// What is pushed.
+    pub fn outbox(&self) -> &Outbox
+        ensures { result.now.rows ≡ self.now.rows.outbox }
+    {
+        &self.outbox
+    }
+
     /// Takes the memory that a row needs. An error is want of memory, for a row that has no room.
     fn reserve_row(&mut self, row: &Row) -> Result<(), AllocError>
+        ensures site { self.new.site ≡ self.old.site }
         ensures rows { self.new.rows ≡ self.old.rows }
         ensures keeps { KeepsRoom self.old.rooms self.new.rooms }
         ensures room { OnOk result (HasRoomOf self.new.rooms row.now) }
@@ -90,13 +142,16 @@ impl Books {
             reference,
         } = row
         {
-            return self.spent.reserve((*provider, *reference));
+            self.spent.reserve((*provider, *reference))?;
         }
-        self.commands.reserve_row(row)
+        self.commands.reserve_row(row)?;
+        self.booked.reserve_row(row)?;
+        self.outbox.reserve_row(row)
     }
 
     /// Takes the memory that a change needs. An error is want of memory, for a change that has no room.
     fn reserve(&mut self, change: &Change) -> Result<(), AllocError>
+        ensures site { self.new.site ≡ self.old.site }
         ensures rows { self.new.rows ≡ self.old.rows }
         ensures keeps { KeepsRoom self.old.rooms self.new.rooms }
         ensures room { OnOk result (HasRoom self.new.rooms change.now) }
@@ -108,9 +163,10 @@ impl Books {
         }
     }
 
-    /// Takes the memory that changes need. No row changes, whether there is enough or not. An error is want of memory, for changes
-    /// of which one has no room.
+    /// Takes the memory that changes need. No row changes, whether there is enough or not. An error is want of memory, for
+    /// changes of which one has no room.
     pub fn make_room(&mut self, changes: &[Change]) -> Result<(), AllocError>
+        ensures site { self.new.site ≡ self.old.site }
         ensures rows { self.new.rows ≡ self.old.rows }
         ensures room { OnOk result (HasRooms self.new.rooms changes.now) }
         ensures again { HasRooms self.old.rooms changes.now → IsOk result }
@@ -121,12 +177,75 @@ impl Books {
         Ok(())
     }
 
-    /// Puts a row. It takes no memory.
+    /// The EVSE that the row under a key claims, in key form, if it claims one.
+    fn claimed_by(&self, key: &RowKey) -> Option<CiKey<36>> {
+        match key {
+            RowKey::Pending { provider, number } => {
+                let open = self.commands.opened(*provider, *number)?;
+                Some(open.evse_uid?.key())
+            }
+            RowKey::Reservation {
+                provider,
+                reservation_id,
+            } => Some(
+                self.booked
+                    .standing(*provider, *reservation_id)?
+                    .evse_uid
+                    .key(),
+            ),
+            _ => None,
+        }
+    }
+
+    /// Gives back the EVSE that the row under a key claims, if it claims one.
+    fn release(&mut self, key: &RowKey) {
+        if let Some(evse_uid) = self.claimed_by(key) {
+            self.places.release(evse_uid);
+        }
+    }
+
+    /// Claims the EVSE that a row claims, if it claims one.
+    fn claim(&mut self, row: &Row) {
+        match row {
+            Row::Pending {
+                provider,
+                number,
+                open,
+            } => {
+                if let Some(evse_uid) = &open.evse_uid {
+                    let (provider, number) = (*provider, *number);
+                    self.places
+                        .put_claim(evse_uid.key(), Claim::OpenStart { provider, number });
+                }
+            }
+            Row::Reservation {
+                provider,
+                reservation_id,
+                reservation,
+            } => {
+                let (provider, id) = (*provider, *reservation_id);
+                self.places.put_claim(
+                    reservation.evse_uid.key(),
+                    Claim::Reserved {
+                        provider,
+                        reservation: id,
+                    },
+                );
+            }
+            _ => {}
+        }
+    }
+
+    /// Puts a row, with the claim that follows from it. It takes no memory.
     fn put_row(&mut self, row: Row)
-        requires { HasRoomOf self.old.rooms row }
+        requires room { HasRoomOf self.old.rooms row }
+        requires claim { MayPut self.old.site self.old.rows row }
+        ensures site { self.new.site ≡ self.old.site }
         ensures rows { self.new.rows ≡ put_row row self.old.rows }
         ensures keeps { KeepsOtherRoom (key_of row) self.old.rooms self.new.rooms }
     {
+        self.release(&row.key());
+        self.claim(&row);
         match &row {
             Row::Count {
                 counter: Counter::Serial,
@@ -136,17 +255,23 @@ impl Books {
                 provider,
                 reference,
             } => self.spent.put((*provider, *reference), ()),
-            _ => {}
+            Row::Service { evse_uid } => {
+                let _known = self.places.set_service(*evse_uid, false);
+            }
+            Row::Mark { .. } | Row::Reservation { .. } => self.booked.put_row(row),
+            Row::Push { .. } | Row::Count { .. } => self.outbox.put_row(row),
+            _ => self.commands.put_row(row),
         }
-        self.commands.put_row(row);
     }
 
-    /// Drops a row. It takes no memory.
+    /// Drops a row, with the claim that followed from it. It takes no memory.
     fn drop_row(&mut self, key: RowKey)
+        requires { MayChange self.old.site self.old.rows (Change.Drop key) }
+        ensures site { self.new.site ≡ self.old.site }
         ensures rows { self.new.rows ≡ drop_row key self.old.rows }
         ensures keeps { KeepsOtherRoom key self.old.rooms self.new.rooms }
     {
-        self.commands.drop_row(key);
+        self.release(&key);
         match &key {
             RowKey::Count {
                 counter: Counter::Serial,
@@ -157,13 +282,20 @@ impl Books {
             } => {
                 self.spent.remove((*provider, *reference));
             }
-            _ => {}
+            RowKey::Service { evse_uid } => {
+                let _known = self.places.set_service(*evse_uid, true);
+            }
+            RowKey::Mark { .. } | RowKey::Reservation { .. } => self.booked.drop_row(key),
+            RowKey::Push { .. } | RowKey::Count { .. } => self.outbox.drop_row(key),
+            _ => self.commands.drop_row(key),
         }
     }
 
     /// Carries a change out. It takes no memory.
     fn carry_out(&mut self, change: Change)
-        requires { HasRoom self.old.rooms change }
+        requires room { HasRoom self.old.rooms change }
+        requires claim { MayChange self.old.site self.old.rows change }
+        ensures site { self.new.site ≡ self.old.site }
         ensures rows { self.new.rows ≡ changed change self.old.rows }
         ensures keeps { KeepsOtherRoom (change_key change) self.old.rooms self.new.rooms }
     {
@@ -177,7 +309,9 @@ impl Books {
     pub fn apply(&mut self, changes: Vec<Change>)
         requires room { HasRooms self.old.rooms changes.items }
         requires apart { AreApart changes.items }
-        ensures { self.new.rows ≡ changed_all changes.items self.old.rows }
+        requires claims { MayChangeAll self.old.site self.old.rows changes.items }
+        ensures site { self.new.site ≡ self.old.site }
+        ensures rows { self.new.rows ≡ changed_all changes.items self.old.rows }
     {
         for change in changes {
             self.carry_out(change);

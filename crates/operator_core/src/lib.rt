@@ -1,18 +1,20 @@
-//! The operator: it owns charge points at a site, and answers the START_SESSION of the site's providers
-//! (OCPI 2.2.1, Commands).
+//! The operator: it owns charge points at a site, and answers the commands of the site's providers (OCPI 2.2.1, Commands).
 #![tactic(auto)]
 
 mod books;
-mod claims;
+mod cancel;
+mod decide;
 mod decision;
 mod fault;
-pub mod laws;
 mod operator;
 mod providers;
 mod request;
+mod reserve;
 mod rows;
 mod start;
 mod stepped;
+mod stop;
+mod unlock;
 
 pub use decision::Decision;
 pub use fault::OperatorFault;

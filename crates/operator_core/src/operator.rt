@@ -1,73 +1,31 @@
 //! The operator.
 
-ghost use Rattle.std.specs.Prelude.{◌≡◌, ◌∷◌, [], ◌+◌, IfOk, IfSome, IfNone, IfErr, OnErr, None, List, ℕ};
-ghost use Rattle.std.specs.FinMap as map;
-ghost use Rattle.ocpi_text.specs.Text.{key};
-ghost use Rattle.ocpi_types.specs.Stored.{body_of_reply};
-ghost use Rattle.operator_core.specs.Providers.{IsProvider};
-ghost use Rattle.operator_core.specs.Steps.{responded};
+ghost use Rattle.std.specs.Prelude.{◌≡◌, IfOk, IfErr, OnErr, OnOk};
+ghost use Rattle.operator_core.specs.State.{opening};
 
 use crate::books::Books;
-use crate::claims::claim_all;
-use crate::decision::Decision;
 use crate::fault::OperatorFault;
-use crate::providers::find_provider;
-use crate::request::{Request, TIMEOUT};
-use crate::rows::{copies, count_row, pending_row, push_spent_row, reply_row};
-use crate::start::decide;
+use crate::rows::copies;
 use crate::stepped::Stepped;
-use ocpi_text::{Moment, Party, Whole};
-use ocpi_types::{
-    Body, CommandResponse, CommandResponseType, Packet, Parties, Place, Reply, ResponseData,
-    SiteLine, StartSession,
-};
-use site::Places;
+use ocpi_text::{CiKey, Moment};
+use ocpi_types::{Change, Packet, Parties, Row, RowKey, SiteLine};
+use site::SiteFault;
 use std::alloc::{AllocError, Global};
 use std::marker::Model;
-
-/// The response with a result.
-fn done(at: Moment, result_word: CommandResponseType) -> Reply
-    ensures { result ≡ Reply.CommandResponse (CommandResponse.Done at (record { result = result_word; timeout = 30 })) }
-{
-    Reply::CommandResponse(CommandResponse::Done {
-        timestamp: at,
-        response: ResponseData {
-            result: result_word,
-            timeout: Whole::new(TIMEOUT).unwrap(),
-        },
-    })
-}
-
-/// The reply that a decision gives.
-fn respond(decision: &Decision, at: Moment) -> Reply
-    ensures { result ≡ responded at decision.now }
-{
-    match decision {
-        Decision::Refused(status) => Reply::CommandResponse(CommandResponse::Refused {
-            timestamp: at,
-            status_code: *status,
-        }),
-        Decision::Rejected => done(at, CommandResponseType::Rejected),
-        Decision::Accepted(_) => done(at, CommandResponseType::Accepted),
-    }
-}
 
 /// An operator: it owns the charge points of a site, and answers the site's providers.
 #[derive(Drop)]
 pub struct Operator {
-    alloc: Global,
-    parties: Parties,
-    places: Places,
-    books: Books,
+    pub(crate) alloc: Global,
+    pub(crate) parties: Parties,
+    pub(crate) books: Books,
 }
 
 impl Model for Operator {
     ghost use Rattle.std.specs.FinMap as map;
-    ghost use Rattle.std.specs.Prelude.{◌≡◌};
     ghost use Rattle.std.specs.Coded.{codes};
     ghost use Rattle.operator_core.specs.State.{State};
-    ghost use Rattle.operator_core.specs.Claimed.{IsIndexed};
-    ghost use Rattle.operator_core.specs.Consistent.{IsConsistent};
+    ghost use Rattle.operator_core.specs.Consistent.{AreConsistent};
 
     ghost Value = { State };
 
@@ -76,28 +34,20 @@ impl Model for Operator {
     ghost view = { λ o. record {
       party = o.parties.operator;
       providers = o.parties.providers;
-      site = o.places.site;
-      serial = o.books.rows.serial;
-      commands = o.books.rows.commands;
-      spent = o.books.rows.spent;
+      site = o.books.site;
+      rows = o.books.rows;
     } };
 
-    ghost invariant = { λ o. IsIndexed o.places.claims o.books.rows.commands.pending
-        × (o.places.out_of_service ≡ map.empty)
-        × IsConsistent o.books.rows.commands o.books.rows.spent };
+    ghost invariant = { λ o. AreConsistent o.books.rows.commands o.books.rows.spent };
 }
 
 impl Operator {
-    ghost use Rattle.operator_core.specs.State.{opening};
-    ghost use Rattle.operator_core.specs.Start.{StartLine};
-    ghost use Rattle.operator_core.specs.Steps.{answer, started, carried_out, IsTaken, OperatorStep};
-    ghost use Rattle.operator_core.specs.Moves.{keep_reply};
-    ghost use Rattle.operator_core.specs.Requests.{IsRequest, out_of, planned};
+    ghost use Rattle.operator_core.specs.Steps.{OperatorStep};
+    ghost use Rattle.operator_core.specs.Service.{ServiceStep};
+    ghost use Rattle.operator_core.specs.Requests.{out_of};
     ghost use Rattle.operator_core.specs.Faults.{IsDue};
-    ghost use Rattle.operator_core.specs.Claims.{KeepsClaims};
     ghost use Rattle.operator_core.specs.Consistent.{IsConsistent};
     ghost use Rattle.operator_core.specs.Rows.{AreChanges};
-    ghost use Rattle.operator_core.specs.declared.decision.Decision.{Decision};
 
     /// The operator of a site before its first event.
     pub fn new(alloc: Global, line: SiteLine) -> Result<Operator, AllocError>
@@ -108,163 +58,78 @@ impl Operator {
             parties,
             site,
         } = line;
-        let places = Places::new(alloc, site)?;
+        let books = Books::new(alloc, site)?;
         Ok(Operator {
             alloc,
             parties,
-            places,
-            books: Books::new(alloc),
+            books,
         })
     }
 
     /// What holds of every operator at any time, which its type keeps: each EVSE has at most one claim; each reference of
-    /// a provider is carried by at most one open start, and is spent; each open command was answered.
+    /// a provider is carried by at most one open start, and is spent; each command that is open or has a result was
+    /// answered, and none is both.
     pub fn consistency(&self)
-        ensures { IsConsistent self.now.commands self.now.spent }
+        ensures { IsConsistent self.now.rows }
     {
         // The invariant is known once a field is looked at.
         let _books = &self.books;
     }
 
-    /// The provider that sent a packet to this operator, as the site spells it.
-    fn peer(&self, packet: &Packet) -> Option<&Party>
-        ensures found { IfSome result (λ p. (key packet.now.to ≡ key self.now.party) × IsProvider self.now.providers packet.now.from p.now) }
-        ensures none { IfNone result (key packet.now.to ≡ key self.now.party → (p : List ℕ) → IsProvider self.now.providers packet.now.from p → ⊥) }
-    {
-        if !packet.to.is_same(self.parties.operator()) {
-            return None;
-        }
-        find_provider(self.parties.providers(), &packet.from)
-    }
-
-    /// The request that a packet to this operator makes. It takes no memory.
-    fn request(&self, at: Moment, packet: &Packet) -> Result<Request, OperatorFault>
-        requires kind { IsTaken packet.now.body }
-        ensures request { IfOk result (λ r. IsRequest self.now at packet.now r) }
-        ensures fault { IfErr result (λ e. IsDue self.now packet.now e) }
-    {
-        let Some(peer) = self.peer(packet) else {
-            return Err(OperatorFault::NotForMe);
-        };
-        let Some(serial) = self.books.serial().next() else {
-            return Err(OperatorFault::NumbersUsedUp);
-        };
-        Ok(Request {
-            at,
-            from: *peer,
-            provider: packet.from.key(),
-            number: packet.request,
-            serial,
-        })
-    }
-
-    /// The packet that answers a request.
-    fn answer(&self, request: &Request, reply: &Reply) -> Result<Vec<Packet>, AllocError>
-        ensures { IfOk result (λ x. x.items ≡ record { from = self.now.party; to = request.now.from; serial = request.now.serial; request = request.now.number; body = body_of_reply reply.now } ∷ []) }
-    {
-        let packet = Packet {
-            from: *self.parties.operator(),
-            to: request.from,
-            serial: request.serial,
-            request: request.number,
-            body: reply.into_body(),
-        };
-        Ok(vec![in self.alloc; packet]?)
-    }
-
-    /// The step that sends a kept reply again.
-    fn again(&self, request: &Request, reply: &Reply) -> Result<Stepped, AllocError>
-        requires { request.now.serial ≡ self.now.serial + 1 }
-        ensures { IfOk result (λ x. planned self.now x ≡ answer request.now.from request.now.number reply.now self.now) }
-    {
-        let rows = vec![in self.alloc; count_row(request)]?;
-        let packets = self.answer(request, reply)?;
-        Ok(Stepped { rows, packets })
-    }
-
-    /// The step that sends a reply, and keeps it.
-    fn refuse(&self, request: &Request, reply: &Reply) -> Result<Stepped, AllocError>
-        requires { request.now.serial ≡ self.now.serial + 1 }
-        ensures { IfOk result (λ x. planned self.now x ≡ keep_reply request.now.provider request.now.number reply.now (answer request.now.from request.now.number reply.now self.now)) }
-    {
-        let mut rows = vec![in self.alloc; count_row(request)]?;
-        rows.push(reply_row(request, reply))?;
-        let packets = self.answer(request, reply)?;
-        Ok(Stepped { rows, packets })
-    }
-
-    /// The step that sends the reply to a START_SESSION that takes a place, keeps it, and opens the start.
-    fn accept(
-        &self,
-        request: &Request,
-        reply: &Reply,
-        command: &StartSession,
-        place: Place,
-    ) -> Result<Stepped, AllocError>
-        requires { request.now.serial ≡ self.now.serial + 1 }
-        ensures { IfOk result (λ x. planned self.now x ≡ carried_out request.now.at request.now.provider request.now.number command.now (Decision.Accepted place) (keep_reply request.now.provider request.now.number reply.now (answer request.now.from request.now.number reply.now self.now))) }
-    {
-        let mut rows = vec![in self.alloc; count_row(request)]?;
-        rows.push(reply_row(request, reply))?;
-        rows.push(pending_row(request, command, place)?)?;
-        push_spent_row(&mut rows, request, command.authorization_reference)?;
-        let packets = self.answer(request, reply)?;
-        Ok(Stepped { rows, packets })
-    }
-
-    /// What becomes of a START_SESSION. It changes nothing.
-    fn start(
-        &self,
-        request: &Request,
-        sender: &Party,
-        command: &StartSession,
-    ) -> Result<Stepped, AllocError>
-        requires serial { request.now.serial ≡ self.now.serial + 1 }
-        requires provider { request.now.provider ≡ key sender.now }
-        ensures { IfOk result (λ x. (d : Decision) × StartLine self.now.site self.now.spent self.now.commands.pending sender.now command.now d × (planned self.now x ≡ started request.now.at request.now.from request.now.provider request.now.number command.now d self.now)) }
-    {
-        let decision = decide(&self.places, &self.books, sender, request.provider, command);
-        let reply = respond(&decision, request.at);
-        match &decision {
-            Decision::Refused(_) => self.refuse(request, &reply),
-            Decision::Rejected => self.refuse(request, &reply),
-            Decision::Accepted(place) => self.accept(request, &reply, command, *place),
-        }
-    }
-
-    /// What becomes of a packet. It changes nothing.
-    fn decide(&self, at: Moment, packet: &Packet) -> Result<Stepped, OperatorFault>
-        ensures step { IfOk result (λ x. OperatorStep self.now at packet.now (planned self.now x)) }
-        ensures fault { IfErr result (λ e. IsDue self.now packet.now e) }
-    {
-        let Body::StartSession(command) = &packet.body else {
-            return Err(OperatorFault::NotForMe);
-        };
-        let request = self.request(at, packet)?;
-        match self.books.reply(request.provider, request.number) {
-            Some(reply) => Ok(self.again(&request, &reply)?),
-            None => Ok(self.start(&request, &packet.from, command)?),
-        }
-    }
-
-    /// A packet comes at a moment. It is refused (`NotForMe`) where it is to another party, from a party that is
-    /// no provider of the site, or of a kind that an operator does not take; and else (`NumbersUsedUp`) where the
-    /// last number of a packet was used. A refusal, want of memory included, changes nothing and sends nothing.
+    /// A packet comes at a moment. It is refused (`NotForMe`) where it is to another party, from a party that is no provider
+    /// of the site, or of a kind that an operator does not take; and else (`NumbersUsedUp`) where a counter of packets or of
+    /// requests would pass its last number. A refusal, want of memory included, changes nothing and sends nothing.
     ///
-    /// A request that was answered before gets the same reply again, under a new serial. A START_SESSION that was
-    /// not is decided, and its reply is kept for good (OCPI 2.2.1, Commands: StartSession).
+    /// A request that was answered before gets the same reply again, under a new serial. A command that was not is decided
+    /// by its table, and its reply is kept for good (OCPI 2.2.1, Commands). An acknowledgement ends the push that it is
+    /// for.
     pub fn on_packet(&mut self, at: Moment, packet: &Packet) -> Result<Stepped, OperatorFault>
         ensures step { IfOk result (λ x. OperatorStep self.old at packet.now (out_of self.new x)) }
-        ensures fault { IfErr result (λ e. IsDue self.old packet.now e) }
+        ensures fault { IfErr result (λ e. IsDue self.old at packet.now e) }
         ensures err { OnErr result (self.new ≡ self.old) }
-        ensures claims { IfOk result (λ x. KeepsClaims self.old (out_of self.new x)) }
-        ensures rows { IfOk result (λ x. AreChanges self.old x.rows.items self.new) }
+        ensures rows { IfOk result (λ x. AreChanges self.old.rows x.rows.items self.new.rows) }
     {
         let stepped = self.decide(at, packet)?;
         let stored = copies(self.alloc, stepped.rows.as_slice())?;
         self.books.make_room(stepped.rows.as_slice())?;
         self.books.apply(stored);
-        claim_all(&mut self.places, stepped.rows.as_slice());
         Ok(stepped)
+    }
+
+    /// The change that puts an EVSE of the site in service or out of it, where it is not yet so.
+    fn decide_service(&self, evse_uid: CiKey<36>, in_service: bool) -> Option<Change> {
+        let places = self.books.places();
+        if let Err(SiteFault::UnknownEvse) = places.may_claim(evse_uid) {
+            return None;
+        }
+        if places.in_service(evse_uid) == in_service {
+            return None;
+        }
+        if in_service {
+            Some(Change::Drop(RowKey::Service { evse_uid }))
+        } else {
+            Some(Change::Put(Row::Service { evse_uid }))
+        }
+    }
+
+    /// An EVSE goes out of service, or comes back. Standing claims stay. An EVSE that is unknown, or already is what it is
+    /// to be, is left as it is. An error is want of memory, and changes nothing.
+    pub fn on_service(
+        &mut self,
+        evse_uid: CiKey<36>,
+        in_service: bool,
+    ) -> Result<Stepped, AllocError>
+        ensures step { IfOk result (λ x. ServiceStep self.old evse_uid in_service (out_of self.new x)) }
+        ensures err { OnErr result (self.new ≡ self.old) }
+        ensures rows { IfOk result (λ x. AreChanges self.old.rows x.rows.items self.new.rows) }
+    {
+        let (mut rows, packets) = (Vec::new(self.alloc), Vec::new(self.alloc));
+        if let Some(change) = self.decide_service(evse_uid, in_service) {
+            rows.push(change)?;
+        }
+        let stored = copies(self.alloc, rows.as_slice())?;
+        self.books.make_room(rows.as_slice())?;
+        self.books.apply(stored);
+        Ok(Stepped { rows, packets })
     }
 }

@@ -5,7 +5,7 @@ use ocpi_text::{Moment, Party, PartyKey, Whole};
 /// The seconds within which a result follows.
 pub const TIMEOUT: u64 = 30;
 
-/// A request of a provider, and the number of the packet that answers it.
+/// A request of a provider.
 #[derive(Clone, Copy)]
 pub struct Request {
     pub at: Moment,
@@ -14,6 +14,22 @@ pub struct Request {
     pub provider: PartyKey,
     /// The provider's number of the request.
     pub number: Whole,
-    /// The number of the next packet.
+}
+
+/// The numbers that what is sent takes.
+#[derive(Clone, Copy)]
+pub struct Numbers {
+    /// Of the packet with the reply.
+    pub reply: Whole,
+    /// Where a result is sent too.
+    pub result: Option<ResultNumbers>,
+}
+
+/// The numbers that a result takes.
+#[derive(Clone, Copy)]
+pub struct ResultNumbers {
+    /// Of the packet.
     pub serial: Whole,
+    /// Of the request that it is.
+    pub request: Whole,
 }

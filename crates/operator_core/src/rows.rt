@@ -1,23 +1,44 @@
-//! The rows that a step puts.
+//! The rows that a decision on a command changes.
 
-ghost use Rattle.std.specs.Prelude.{◌≡◌, ◌++◌, IfOk, IsNone, IsOk, OnOk};
-ghost use Rattle.ocpi_types.specs.declared.rows.Counter.{Counter as CounterOf};
-ghost use Rattle.operator_core.specs.Moves.{spent_rows};
-ghost use Rattle.operator_core.specs.Steps.{taken_up};
+ghost use Rattle.std.specs.Prelude.{◌≡◌, ◌++◌, ◌∷◌, [], IfOk, OnOk, option_copied, Some, None};
+ghost use Rattle.ocpi_types.specs.Stored.{body_of_command};
+ghost use Rattle.ocpi_types.specs.declared.stored.Command.{Command as CommandOf};
+ghost use Rattle.ocpi_types.specs.declared.stored.Push.TheVariants as pushed;
+ghost use Rattle.ocpi_types.specs.declared.rows.Counter.TheVariants.{Serial, Request as Requests};
+ghost use Rattle.command_book.specs.Stored as book;
+ghost use Rattle.operator_core.specs.Moves.{spent_rows, used_rows, told};
+ghost use Rattle.operator_core.specs.Numbers.{numbered_rows};
+ghost use Rattle.operator_core.specs.Steps.{own_rows, url_of, reference_of, deadline};
 
-use crate::request::{Request, TIMEOUT};
-use ocpi_text::CiText;
-use ocpi_types::{Change, Command, Counter, OpenCommand, Place, Reply, Row, StartSession};
+use crate::decision::Decision;
+use crate::request::{Numbers, Request, ResultNumbers, TIMEOUT};
+use ocpi_text::{CiKey, CiText, FreeText};
+use ocpi_types::{
+    Body, Change, Command, CommandResult, CommandResultType, Counter, OpenCommand, Place, Push,
+    Reply, Reservation, Row, RowKey,
+};
 use std::alloc::{AllocError, Global};
 
-/// The row of the counter of packets.
-pub fn count_row(request: &Request) -> Change
-    ensures { result ≡ Change.Put (Row.Count CounterOf.Serial request.now.serial) }
+/// The rows of the counters.
+pub fn counter_rows(alloc: Global, numbers: &Numbers) -> Result<Vec<Change>, AllocError>
+    ensures { IfOk result (λ v. v.items ≡ numbered_rows numbers.now) }
 {
-    Change::Put(Row::Count {
-        counter: Counter::Serial,
-        last: request.serial,
-    })
+    let counter = Counter::Serial;
+    match numbers.result {
+        None => {
+            let last = numbers.reply;
+            Ok(vec![in alloc; Change::Put(Row::Count { counter, last })]?)
+        }
+        Some(result) => {
+            let last = result.serial;
+            let mut rows = vec![in alloc; Change::Put(Row::Count { counter, last })]?;
+            rows.push(Change::Put(Row::Count {
+                counter: Counter::Request,
+                last: result.request,
+            }))?;
+            Ok(rows)
+        }
+    }
 }
 
 /// The row of a kept reply.
@@ -31,36 +52,97 @@ pub fn reply_row(request: &Request, reply: &Reply) -> Change
     })
 }
 
-/// The row of a start that takes a place until its result.
-pub fn pending_row(
-    request: &Request,
-    command: &StartSession,
-    place: Place,
-) -> Result<Change, AllocError>
-    ensures { IfOk result (λ x. x ≡ Change.Put (Row.Pending request.now.provider request.now.number (taken_up request.now.at command.now place))) }
+/// The command that a body carries, copied. None, where it carries none.
+fn command_of(body: &Body) -> Result<Option<Command>, AllocError>
+    ensures { IfOk result (λ o. (c : CommandOf) → body.now ≡ body_of_command c → o ≡ Some c) }
 {
-    let command = command.copy()?;
+    match body {
+        Body::StartSession(command) => Ok(Some(Command::StartSession(command.copy()?))),
+        Body::StopSession(command) => Ok(Some(Command::StopSession(command.copy()?))),
+        Body::ReserveNow(command) => Ok(Some(Command::ReserveNow(command.copy()?))),
+        Body::CancelReservation(command) => {
+            Ok(Some(Command::CancelReservation(command.copy()?)))
+        }
+        Body::UnlockConnector(command) => Ok(Some(Command::UnlockConnector(command.copy()?))),
+        _ => Ok(None),
+    }
+}
+
+/// To where the result of the command that a body carries is posted. None, where it carries none.
+fn response_url(body: &Body) -> Option<&FreeText<255>>
+    ensures { (c : CommandOf) → body.now ≡ body_of_command c → option_copied result ≡ Some (url_of c) }
+{
+    match body {
+        Body::StartSession(command) => Some(&command.response_url),
+        Body::StopSession(command) => Some(&command.response_url),
+        Body::ReserveNow(command) => Some(&command.response_url),
+        Body::CancelReservation(command) => Some(&command.response_url),
+        Body::UnlockConnector(command) => Some(&command.response_url),
+        _ => None,
+    }
+}
+
+/// The authorization reference of the start that a body carries. None, where it carries none.
+fn reference_of(body: &Body) -> Option<CiText<36>>
+    ensures { (c : CommandOf) → body.now ≡ body_of_command c → result ≡ reference_of c }
+{
+    match body {
+        Body::StartSession(command) => command.authorization_reference,
+        _ => None,
+    }
+}
+
+/// Adds the row of the command that a body carries: it is open until its result, a start at the place that it took.
+fn push_pending_row(
+    rows: &mut Vec<Change>,
+    request: &Request,
+    body: &Body,
+    place: Option<Place>,
+) -> Result<(), AllocError>
+    ensures { OnOk result ((c : CommandOf) → body.now ≡ body_of_command c → rows.new.items ≡ rows.old.items ++ Change.Put (Row.Pending request.now.provider request.now.number (book.open_command c place (deadline request.now.at))) ∷ []) }
+{
+    let Some(command) = command_of(body)? else {
+        return Ok(());
+    };
     let open = OpenCommand {
-        command: Command::StartSession(command),
-        evse_uid: Some(place.evse_uid),
-        connector_id: Some(place.connector_id),
+        command,
+        evse_uid: place.map(|place| place.evse_uid),
+        connector_id: place.map(|place| place.connector_id),
         deadline: request.at.after(1000 * TIMEOUT),
     };
-    Ok(Change::Put(Row::Pending {
+    rows.push(Change::Put(Row::Pending {
         provider: request.provider,
         number: request.number,
         open,
-    }))
+    }))?;
+    Ok(())
+}
+
+/// Adds the row of a reservation that ends, where one does.
+fn push_used_row(
+    rows: &mut Vec<Change>,
+    request: &Request,
+    reservation_id: Option<CiKey<36>>,
+) -> Result<(), AllocError>
+    ensures { OnOk result (rows.new.items ≡ rows.old.items ++ used_rows request.now.provider reservation_id) }
+{
+    let Some(reservation_id) = reservation_id else {
+        return Ok(());
+    };
+    rows.push(Change::Drop(RowKey::Reservation {
+        provider: request.provider,
+        reservation_id,
+    }))?;
+    Ok(())
 }
 
 /// Adds the row of a reference that is spent, where there is one.
-pub fn push_spent_row(
+fn push_spent_row(
     rows: &mut Vec<Change>,
     request: &Request,
     reference: Option<CiText<36>>,
 ) -> Result<(), AllocError>
-    ensures ok { OnOk result (rows.new.items ≡ rows.old.items ++ spent_rows request.now.provider reference) }
-    ensures absent { IsNone reference → IsOk result }
+    ensures { OnOk result (rows.new.items ≡ rows.old.items ++ spent_rows request.now.provider reference) }
 {
     let Some(reference) = reference else {
         return Ok(());
@@ -68,6 +150,117 @@ pub fn push_spent_row(
     rows.push(Change::Put(Row::Spent {
         provider: request.provider,
         reference: reference.key(),
+    }))?;
+    Ok(())
+}
+
+/// Adds the row of a reservation's mark.
+fn push_mark_row(
+    rows: &mut Vec<Change>,
+    request: &Request,
+    reservation_id: CiKey<36>,
+) -> Result<(), AllocError>
+    ensures { OnOk result (rows.new.items ≡ rows.old.items ++ Change.Put (Row.Mark request.now.provider reservation_id request.now.number) ∷ []) }
+{
+    rows.push(Change::Put(Row::Mark {
+        provider: request.provider,
+        reservation_id,
+        number: request.number,
+    }))?;
+    Ok(())
+}
+
+/// Adds the row of a reservation.
+fn push_reservation_row(
+    rows: &mut Vec<Change>,
+    request: &Request,
+    reservation_id: CiKey<36>,
+    reservation: &Reservation,
+) -> Result<(), AllocError>
+    ensures { OnOk result (rows.new.items ≡ rows.old.items ++ Change.Put (Row.Reservation request.now.provider reservation_id reservation.now) ∷ []) }
+{
+    rows.push(Change::Put(Row::Reservation {
+        provider: request.provider,
+        reservation_id,
+        reservation: *reservation,
+    }))?;
+    Ok(())
+}
+
+/// Adds the rows of a decision on the command that a body carries, beside those of the counters, the reply and the result.
+pub fn push_own_rows(
+    rows: &mut Vec<Change>,
+    request: &Request,
+    body: &Body,
+    decision: &Decision,
+) -> Result<(), AllocError>
+    ensures { OnOk result ((c : CommandOf) → body.now ≡ body_of_command c → rows.new.items ≡ rows.old.items ++ own_rows request.now.at request.now.provider request.now.number c decision.now) }
+{
+    match decision {
+        Decision::Opened => push_pending_row(rows, request, body, None),
+        Decision::Started {
+            place,
+            reservation_id,
+        } => {
+            push_used_row(rows, request, *reservation_id)?;
+            push_pending_row(rows, request, body, Some(*place))?;
+            push_spent_row(rows, request, reference_of(body))
+        }
+        Decision::Noted { reservation_id, .. } => push_mark_row(rows, request, *reservation_id),
+        Decision::Reserved {
+            reservation_id,
+            reservation,
+        } => {
+            push_mark_row(rows, request, *reservation_id)?;
+            push_reservation_row(rows, request, *reservation_id, reservation)
+        }
+        Decision::Cancelled { reservation_id } => {
+            push_mark_row(rows, request, *reservation_id)?;
+            push_used_row(rows, request, Some(*reservation_id))
+        }
+        _ => Ok(()),
+    }
+}
+
+/// How the command that a body carries ended, as its provider is told. None, where it carries none.
+pub fn result_told(
+    body: &Body,
+    outcome: CommandResultType,
+) -> Result<Option<CommandResult>, AllocError>
+    ensures { IfOk result (λ o. (c : CommandOf) → body.now ≡ body_of_command c → o ≡ Some (told (url_of c) outcome)) }
+{
+    let Some(response_url) = response_url(body) else {
+        return Ok(None);
+    };
+    let response_url = response_url.copy()?;
+    Ok(Some(CommandResult {
+        response_url,
+        result: outcome,
+    }))
+}
+
+/// Adds the rows of a result: its push, and how the command ended.
+pub fn push_result_rows(
+    rows: &mut Vec<Change>,
+    request: &Request,
+    body: &Body,
+    outcome: CommandResultType,
+    numbers: &ResultNumbers,
+) -> Result<(), AllocError>
+    ensures { OnOk result ((c : CommandOf) → body.now ≡ body_of_command c → rows.new.items ≡ rows.old.items ++ Change.Put (Row.Push numbers.now.request request.now.from (pushed.CommandResult (told (url_of c) outcome))) ∷ (Change.Put (Row.Result request.now.provider request.now.number outcome) ∷ [])) }
+{
+    let Some(told) = result_told(body, outcome)? else {
+        return Ok(());
+    };
+    rows.push(Change::Put(Row::Push {
+        number: numbers.request,
+        to: request.from,
+        push: Push::CommandResult(told),
+    }))?;
+    rows.push(Change::Put(Row::Result {
+        provider: request.provider,
+        number: request.number,
+        result: outcome,
     }))?;
     Ok(())
 }

@@ -1,26 +1,31 @@
 //! How a START_SESSION is decided (OCPI 2.2.1, Commands: StartSession).
 
-ghost use Rattle.std.specs.Prelude.{◌≡◌, IsTrue, false};
+ghost use Rattle.std.specs.Prelude.{◌≡◌, IsTrue, IfSome, IfNone, false, Some, None, IsSome, IsNone};
 ghost use Rattle.std.specs.FinMap as map;
 ghost use Rattle.ocpi_text.specs.Text.{key};
-ghost use Rattle.operator_core.specs.Start.{IsMismatched, IsBarred, StartLine};
-ghost use Rattle.operator_core.specs.Claimed.{IsIndexed};
+ghost use Rattle.ocpi_types.specs.declared.site.Location.{Location};
+ghost use Rattle.ocpi_types.specs.declared.site.Evse.{Evse};
+ghost use Rattle.ocpi_types.specs.declared.site.Connector.{Connector};
+ghost use Rattle.reservation_book.specs.declared.standing.Standing.{Standing as StandingOf};
+ghost use Rattle.operator_core.specs.Start.{IsMismatched, IsBarred, IsPlace, NoneHeld, StartLine};
+ghost use Rattle.operator_core.specs.Places.{Works, IsHeldFor};
 
 use crate::books::Books;
 use crate::decision::Decision;
-use ocpi_text::{Party, PartyKey};
-use ocpi_types::{RefusalCode, StartSession};
-use site::Places;
+use crate::request::Request;
+use ocpi_text::{CiKey, Party, PartyKey};
+use ocpi_types::{CommandResponseType, CommandResultType, Place, RefusalCode, StartSession};
+use reservation_book::{Standing, TokenAt};
 
 /// Invalid or missing parameters (OCPI 2.2.1, Status codes).
-fn invalid_parameters() -> RefusalCode
+pub fn invalid_parameters() -> RefusalCode
     ensures { result ≡ 2001 }
 {
     RefusalCode::new(2001).unwrap()
 }
 
 /// An unknown location (OCPI 2.2.1, Status codes).
-fn unknown_location() -> RefusalCode
+pub fn unknown_location() -> RefusalCode
     ensures { result ≡ 2003 }
 {
     RefusalCode::new(2003).unwrap()
@@ -43,35 +48,90 @@ fn is_barred(books: &Books, provider: PartyKey, command: &StartSession) -> bool
     !command.token.valid || books.is_spent(provider, &command.authorization_reference)
 }
 
-/// The decision on a START_SESSION, by the first line of its table that applies. The provider is the sender's
-/// key, and the claims on places are those of the open commands, and each EVSE is in service.
-pub fn decide(
-    places: &Places,
+/// The place on the EVSE that a reservation holds, where the EVSE is in service and the command may be about it.
+fn place_held(
+    books: &Books,
+    location: usize,
+    command: &StartSession,
+    standing: &Standing,
+) -> Option<Place> {
+    let places = books.places();
+    let evse_uid = standing.reservation.evse_uid;
+    if !places.in_service(evse_uid.key()) {
+        return None;
+    }
+    places.find_place(location, &Some(evse_uid), &command.connector_id)
+}
+
+/// The place that a reservation of the sender holds for the token of the command, and the reservation's id. The EVSE is in
+/// service, and the command may be about it; others are passed over.
+fn find_held(
+    books: &Books,
+    location: usize,
+    provider: PartyKey,
+    command: &StartSession,
+) -> Option<(Place, CiKey<36>)> {
+    let token = TokenAt {
+        provider,
+        location_id: command.location_id.key(),
+        uid: command.token.uid.key(),
+        token_type: command.token.token_type,
+    };
+    if let Some(evse_uid) = &command.evse_uid {
+        let standing = books.booked().first_for(&token, Some(evse_uid.key()))?;
+        let place = place_held(books, location, command, &standing)?;
+        return Some((place, standing.id));
+    }
+    let mut next = books.booked().first_for(&token, None);
+    while let Some(standing) = next {
+        if let Some(place) = place_held(books, location, command, &standing) {
+            return Some((place, standing.id));
+        }
+        next = books
+            .booked()
+            .next_for(&token, standing.reservation.evse_uid.key(), standing.id);
+    }
+    None
+}
+
+/// The decision on a START_SESSION, by the first line of its table that applies. The provider is the sender's key.
+pub fn decide_start(
     books: &Books,
     sender: &Party,
     provider: PartyKey,
     command: &StartSession,
 ) -> Decision
-    requires provider { provider ≡ key sender.now }
-    requires claims { IsIndexed places.now.claims books.now.rows.commands.pending }
-    requires in_service { places.now.out_of_service ≡ map.empty }
-    ensures { StartLine places.now.site books.now.rows.spent books.now.rows.commands.pending sender.now command.now result }
+    requires { provider ≡ key sender.now }
+    ensures { StartLine books.now.site books.now.rows sender.now command.now result }
 {
     if is_mismatched(sender, command) {
         return Decision::Refused(invalid_parameters());
     }
+    let places = books.places();
     let Some(location) = places.find_location(&command.location_id) else {
         return Decision::Refused(unknown_location());
     };
     let (evse_uid, connector_id) = (&command.evse_uid, &command.connector_id);
     let Some(_place) = places.find_place(location, evse_uid, connector_id) else {
-        return Decision::Rejected;
+        return Decision::Answered(CommandResponseType::Rejected);
     };
     if is_barred(books, provider, command) {
-        return Decision::Rejected;
+        return Decision::Answered(CommandResponseType::Rejected);
+    }
+    if !places.has_service(location, evse_uid) {
+        return Decision::Resulted(CommandResultType::EvseInoperative);
+    }
+    if let Some((place, id)) = find_held(books, location, provider, command) {
+        return Decision::Started {
+            place,
+            reservation_id: Some(id),
+        };
     }
     match places.free_place(location, evse_uid, connector_id) {
-        None => Decision::Rejected,
-        Some(place) => Decision::Accepted(place),
+        None => Decision::Resulted(CommandResultType::EvseOccupied),
+        Some(place) => Decision::Started {
+            place,
+            reservation_id: None,
+        },
     }
 }

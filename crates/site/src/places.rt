@@ -94,7 +94,7 @@ impl Places {
 
     /// An EVSE of the location that stands there: the one of the uid, or one of them where none is
     /// named.
-    fn find_evse(&self, at: usize, uid: &Option<CiText<36>>) -> Option<&Evse>
+    pub fn find_evse(&self, at: usize, uid: &Option<CiText<36>>) -> Option<&Evse>
         ensures found { IfSome result (λ e. IsCandidate self.now.site.locations at uid.now e.now) }
         ensures sole { IfSome result (λ e. IsSome uid.now → (f : Evse) → IsCandidate self.now.site.locations at uid.now f → f ≡ e.now) }
         ensures none { IfNone result ((e : Evse) → IsCandidate self.now.site.locations at uid.now e → ⊥) }
@@ -169,7 +169,7 @@ impl Places {
 
     /// An EVSE of the location that stands there that is in service and not claimed: the one of the uid, or one of them where
     /// none is named.
-    fn free_evse(&self, at: usize, uid: &Option<CiText<36>>) -> Option<&Evse>
+    pub fn free_evse(&self, at: usize, uid: &Option<CiText<36>>) -> Option<&Evse>
         ensures found { IfSome result (λ e. IsCandidate self.now.site.locations at uid.now e.now) }
         ensures free { IfSome result (λ e. IsTrue (is_free self.now.claims self.now.out_of_service (key e.now.uid))) }
         ensures sole { IfSome result (λ e. IsSome uid.now → (f : Evse) → IsCandidate self.now.site.locations at uid.now f → f ≡ e.now) }

@@ -1,0 +1,69 @@
+-- How a RESERVE_NOW is decided (OCPI 2.2.1, Commands: ReserveNow; Status codes: 2001 and 2003).
+use Rattle.std.specs.Prelude.{◌≡◌, ◌≢◌, ◌≤◌, ℕ, false, List, Contains, ◌⊎◌}
+use Rattle.ocpi_text.specs.Text.{key}
+use Rattle.ocpi_types.specs.declared.site.Site.{Site}
+use Rattle.ocpi_types.specs.declared.site.Location.{Location}
+use Rattle.ocpi_types.specs.declared.site.Evse.{Evse}
+use Rattle.ocpi_types.specs.declared.commands.ReserveNow.{ReserveNow}
+use Rattle.ocpi_types.specs.declared.stored.Reservation.{Reservation}
+use Rattle.ocpi_types.specs.declared.words.CommandResponseType.TheVariants as response
+use Rattle.ocpi_types.specs.declared.words.CommandResultType.TheVariants as result
+use Rattle.operator_core.specs.declared.decision.Decision.{Decision}
+use Rattle.operator_core.specs.declared.decision.Decision.TheVariants.{Refused, Answered, Noted, Reserved}
+use Rattle.reservation_book.specs.Places.{Key}
+use Rattle.reservation_book.specs.Refusals.{IsInTime, IsHere}
+use Rattle.site.specs.Places.{IsLocation, IsNamed}
+use Rattle.operator_core.specs.State.{Rows}
+use Rattle.operator_core.specs.Places.{Works, MayReserve}
+
+-- the reservation that the command is about: the sender's of that id
+abbrev pub reservation_key : List ℕ → ReserveNow → Key
+reservation_key sender c = (key sender, key c.reservation_id)
+
+-- the token is not valid, or the reservation would have ended already
+abbrev pub IsVoid : ℕ → ReserveNow → Type 0
+IsVoid at c = (c.token.valid ≡ false) ⊎ (c.expiry_date ≤ at)
+
+-- an EVSE of the location that the command may be about
+pub record IsEvseFor (l : Location) (c : ReserveNow) (e : Evse) : Type 0 where
+  pub listed : Contains l.evses e
+  pub named : IsNamed c.evse_uid e.uid
+
+-- the command got as far as its place
+pub record IsPlaced (site : Site) (sender : List ℕ) (c : ReserveNow) (l : Location) : Type 0 where
+  pub own : key c.token.party ≡ key sender
+  pub location : IsLocation site.locations c.location_id l
+
+-- the command got as far as its reservation
+pub record IsTimely (site : Site) (s : Rows) (at : ℕ) (sender : List ℕ) (n : ℕ) (c : ReserveNow) (l : Location) (e : Evse) : Type 0 where
+  pub placed : IsPlaced site sender c l
+  pub place : IsEvseFor l c e
+  pub sound : ¬ IsVoid at c
+  pub in_time : IsInTime s.booked.marks (reservation_key sender c) n
+
+-- the command got as far as the EVSEs of its place
+pub record MayHold (site : Site) (s : Rows) (at : ℕ) (sender : List ℕ) (n : ℕ) (c : ReserveNow) (l : Location) (e : Evse) : Type 0 where
+  pub timely : IsTimely site s at sender n c l e
+  pub here : IsHere s.booked.reservations (reservation_key sender c) (key l.id)
+
+-- what is stored of a reservation: the place as the site spells it
+abbrev pub reservation_at : ReserveNow → Location → Evse → Reservation
+reservation_at c l e = record { evse_uid = e.uid; expiry_date = c.expiry_date; location_id = l.id; token = c.token }
+
+-- the lines of the table: the first that applies decides
+pub data ReserveLine (site : Site) (s : Rows) (at : ℕ) (sender : List ℕ) (n : ℕ) (c : ReserveNow) (d : Decision) : Type 0 where
+  Mismatched : key c.token.party ≢ key sender → d ≡ Refused 2001 → ReserveLine site s at sender n c d
+  UnknownLocation : key c.token.party ≡ key sender → ((l : Location) → IsLocation site.locations c.location_id l → ⊥) → d ≡ Refused 2003 → ReserveLine site s at sender n c d
+  NoEvse : (l : Location) → IsPlaced site sender c l → ((e : Evse) → IsEvseFor l c e → ⊥) → d ≡ Answered response.Rejected → ReserveLine site s at sender n c d
+  Void : (l : Location) → IsPlaced site sender c l → (e : Evse) → IsEvseFor l c e → IsVoid at c → d ≡ Answered response.Rejected → ReserveLine site s at sender n c d
+  Stale : (l : Location) → IsPlaced site sender c l → (e : Evse) → IsEvseFor l c e → ¬ IsVoid at c → ¬ IsInTime s.booked.marks (reservation_key sender c) n →
+      d ≡ Answered response.Rejected → ReserveLine site s at sender n c d
+  Elsewhere : (l : Location) (e : Evse) → IsTimely site s at sender n c l e → ¬ IsHere s.booked.reservations (reservation_key sender c) (key l.id) →
+      d ≡ Answered response.Rejected → ReserveLine site s at sender n c d
+  Inoperative : (l : Location) (e : Evse) → MayHold site s at sender n c l e → ((f : Evse) → IsEvseFor l c f → ¬ Works s f) →
+      d ≡ Noted (key c.reservation_id) result.EvseInoperative → ReserveLine site s at sender n c d
+  Occupied : (l : Location) (e : Evse) → MayHold site s at sender n c l e → Works s e →
+      ((f : Evse) → IsEvseFor l c f → Works s f → ¬ MayReserve s (key sender) (key c.reservation_id) f) →
+      d ≡ Noted (key c.reservation_id) result.EvseOccupied → ReserveLine site s at sender n c d
+  Held : (l : Location) (e : Evse) → MayHold site s at sender n c l e → Works s e → MayReserve s (key sender) (key c.reservation_id) e →
+      d ≡ Reserved (key c.reservation_id) (reservation_at c l e) → ReserveLine site s at sender n c d

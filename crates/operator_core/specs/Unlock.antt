@@ -1,0 +1,25 @@
+-- How an UNLOCK_CONNECTOR is decided (OCPI 2.2.1, Commands: UnlockConnector; Status codes: 2003).
+use Rattle.std.specs.Prelude.{◌≡◌, ℕ, List, Some}
+use Rattle.ocpi_types.specs.declared.site.Site.{Site}
+use Rattle.ocpi_types.specs.declared.site.Location.{Location}
+use Rattle.ocpi_types.specs.declared.site.Evse.{Evse}
+use Rattle.ocpi_types.specs.declared.site.Connector.{Connector}
+use Rattle.ocpi_types.specs.declared.commands.UnlockConnector.{UnlockConnector}
+use Rattle.ocpi_types.specs.declared.words.CommandResponseType.TheVariants as response
+use Rattle.operator_core.specs.declared.decision.Decision.{Decision}
+use Rattle.operator_core.specs.declared.decision.Decision.TheVariants.{Refused, Answered, Opened}
+use Rattle.site.specs.Places.{IsLocation, Fits}
+use Rattle.operator_core.specs.State.{Rows}
+use Rattle.operator_core.specs.Places.{IsForeign}
+
+-- the EVSE and connector that the command names
+abbrev pub IsUnlocked : Location → UnlockConnector → Evse → Connector → Type 0
+IsUnlocked l c e k = Fits l.evses (Some c.evse_uid) (Some c.connector_id) e k
+
+-- the lines of the table: the first that applies decides
+pub data UnlockLine (site : Site) (s : Rows) (sender : List ℕ) (c : UnlockConnector) (d : Decision) : Type 0 where
+  UnknownLocation : ((l : Location) → IsLocation site.locations c.location_id l → ⊥) → d ≡ Refused 2003 → UnlockLine site s sender c d
+  NoPlace : (l : Location) → IsLocation site.locations c.location_id l → ((e : Evse) (k : Connector) → IsUnlocked l c e k → ⊥) → d ≡ Answered response.Rejected → UnlockLine site s sender c d
+  Foreign : (l : Location) → IsLocation site.locations c.location_id l → (e : Evse) (k : Connector) → IsUnlocked l c e k → IsForeign s sender e → d ≡ Answered response.Rejected →
+      UnlockLine site s sender c d
+  Allowed : (l : Location) → IsLocation site.locations c.location_id l → (e : Evse) (k : Connector) → IsUnlocked l c e k → ¬ IsForeign s sender e → d ≡ Opened → UnlockLine site s sender c d
