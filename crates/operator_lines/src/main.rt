@@ -1,18 +1,21 @@
 //! Hands packets to an operator, and writes what each step gives: the packets that are sent, each as its line, and then
 //! the changes of rows, as `put KIND KEY TEXT` or `drop KIND KEY`. A line that is refused gives `refused N Name`.
 //!
-//! The first line of the standard input is a site line. Each other is a moment, a space and a packet. It is a test of
-//! `operator_core`: its cases are the lines of the file `stdin`, and what they must give stands in `stdout`. Lines end at
-//! LF; empty ones are skipped.
+//! The first line of the standard input is a site line. Each other is a moment, a space and a packet, or an event line, of
+//! which those that put an EVSE in service or out of it are served, or the word `fresh`: from there on it is a new operator
+//! of the same site. The program is a test of `operator_core`: its cases are the lines of the file `stdin`, and what they
+//! must give stands in `stdout`; `tools/operator_cases.py` writes both. Lines end at LF; empty ones are skipped.
 //!
 //! A step that runs out of memory is made once more. So where an allocation of a step fails, whichever it is, the output is
 //! the same as with ample memory, since the step leaves the operator as it was; where another fails, the program ends with
 //! status 1 and a beginning of that output. `bench/fail_allocations.sh` lets each of them fail in turn.
 #![tactic(auto)]
 
-use ocpi_json::{JsonFault, RowKind, read_packet, read_site, write_key, write_packet, write_row};
+use ocpi_json::{
+    JsonFault, RowKind, read_event, read_packet, read_site, write_key, write_packet, write_row,
+};
 use ocpi_text::Moment;
-use ocpi_types::{Change, Field, Packet, Row, RowKey, Word};
+use ocpi_types::{Change, Event, EventKind, Field, Packet, Row, RowKey, Word};
 use operator_core::{Operator, OperatorFault, Stepped};
 use std::alloc::Global;
 use std::io::{self, BufWriter, Read, Write};
@@ -40,7 +43,7 @@ fn write_steps(rt: &HostRuntime) -> io::Result<()> {
         .position(|byte| *byte == b'\n')
         .unwrap_or(input.len());
     match open(alloc, &input[..end]) {
-        Ok(mut operator) => take_lines(alloc, &mut operator, &input[end..], &mut output)?,
+        Ok(mut operator) => take_lines(alloc, &mut operator, &input, end, &mut output)?,
         Err(fault) => writeln!(output, "refused {fault}")?,
     }
     output.flush()
@@ -52,15 +55,21 @@ fn open(alloc: Global, line: &[u8]) -> Result<Operator, JsonFault> {
     Ok(Operator::new(alloc, site_line)?)
 }
 
-/// Writes what each of the lines gives.
+/// Writes what each of the lines behind the first one gives, which is as long as told.
 fn take_lines<W: Write>(
     alloc: Global,
     operator: &mut Operator,
-    lines: &[u8],
+    input: &[u8],
+    first: usize,
     output: &mut W,
 ) -> io::Result<()> {
-    for line in lines.split(|byte| *byte == b'\n') {
-        if !line.is_empty() {
+    for line in input[first..].split(|byte| *byte == b'\n') {
+        if line == b"fresh".as_slice() {
+            match open(alloc, &input[..first]) {
+                Ok(fresh) => *operator = fresh,
+                Err(fault) => writeln!(output, "refused {fault}")?,
+            }
+        } else if !line.is_empty() {
             take_line(alloc, operator, line, output)?;
         }
     }
@@ -74,6 +83,12 @@ fn take_line<W: Write>(
     line: &[u8],
     output: &mut W,
 ) -> io::Result<()> {
+    if line.first() == Some(&b'{') {
+        return match read_event(alloc, line) {
+            Ok(event) => take_event(alloc, operator, &event, output),
+            Err(fault) => writeln!(output, "refused {fault}"),
+        };
+    }
     match read_line(alloc, line) {
         Ok((at, packet)) => take_packet(alloc, operator, at, &packet, output),
         Err(fault) => writeln!(output, "refused {fault}"),
@@ -99,6 +114,27 @@ fn read_moment(text: &[u8]) -> Result<Moment, JsonFault> {
         Ok(at) => Ok(at),
         Err(_) => Err(JsonFault::WrongForm(Field::At)),
     }
+}
+
+/// Hands an event to the operator, and writes what the step gives.
+fn take_event<W: Write>(
+    alloc: Global,
+    operator: &mut Operator,
+    event: &Event,
+    output: &mut W,
+) -> io::Result<()> {
+    let EventKind::Service {
+        evse_uid,
+        in_service,
+    } = event.kind
+    else {
+        return writeln!(output, "refused {}", OperatorFault::NotForMe);
+    };
+    let step = match operator.on_service(evse_uid.key(), in_service) {
+        Ok(step) => step,
+        Err(_) => operator.on_service(evse_uid.key(), in_service)?,
+    };
+    write_step(alloc, &step, output)
 }
 
 /// Hands a packet to the operator, and writes what the step gives.
