@@ -6,6 +6,7 @@ mod cancel;
 mod decide;
 mod decision;
 mod fault;
+pub mod laws;
 mod operator;
 mod providers;
 mod request;

@@ -1,0 +1,255 @@
+-- What an event keeps of what stood before it.
+use Rattle.std.proofs.Common.{◌≡◌, ◌≢◌, ℕ, ◌+◌, ◌≤◌, Bool, true, false, cond, List, ◌⊎◌, inl, inr, refl, sym, ap, subst, ◌∙◌, arith}
+use Rattle.std.specs.Prelude.{Option, Some, None, Contains}
+use Rattle.std.specs.declared.cmp.Ordering.{Ordering}
+use Rattle.std.specs.Ordering.{nat_cmp}
+use Rattle.std.specs.Cmp.{IsTotalOrder, nat_cmp_total}
+use Rattle.std.specs.FinMap.{FinMap, IsAntisymmetric, get, insert, nat_cmp-IsAntisymmetric}
+use Rattle.ocpi_text.specs.Text.{key}
+use Rattle.tables.specs.Keys.{text_number_total, text_number_exact, text_pair_total, text_pair_exact}
+use Rattle.tables.proofs.Maps.{get-insert_same, get-insert_other}
+use Rattle.handover.proofs.Totals.{told}
+use Rattle.ocpi_types.specs.declared.packet.Packet.{Packet}
+use Rattle.ocpi_types.specs.declared.stored.Command.{Command}
+use Rattle.ocpi_types.specs.declared.stored.Command.TheVariants as command
+use Rattle.ocpi_types.specs.declared.stored.OpenCommand.{OpenCommand}
+use Rattle.ocpi_types.specs.declared.stored.Reply.{Reply}
+use Rattle.ocpi_types.specs.declared.commands.StartSession.{StartSession}
+use Rattle.ocpi_types.specs.declared.words.CommandResultType.{CommandResultType}
+use Rattle.ocpi_types.specs.declared.rows.Place.{Place}
+use Rattle.ocpi_types.specs.declared.rows.Row.TheVariants as row
+use Rattle.ocpi_types.specs.declared.rows.Change.{Change}
+use Rattle.ocpi_types.specs.declared.rows.Change.TheVariants.{Put}
+use Rattle.command_book.specs.Stored as book
+use Rattle.reservation_book.specs.Rows as booked
+use Rattle.handover.specs.Pushes.{Pushes}
+use Rattle.handover.specs.Outbox.{OutboxRows}
+use Rattle.handover.specs.declared.push_book.Outgoing.{Outgoing}
+use Rattle.operator_core.specs.declared.decision.Decision.{Decision}
+use Rattle.operator_core.specs.declared.decision.Decision.TheVariants as decision
+use Rattle.operator_core.specs.State.{State, Rows, Spent}
+use Rattle.operator_core.specs.Start as start
+use Rattle.operator_core.specs.Consistent.{AreConsistent, Uses}
+use Rattle.operator_core.specs.Moves.{Out}
+use Rattle.operator_core.specs.Steps.{Decides, result_of, reference_of, url_of}
+use Rattle.operator_core.specs.Laws.{Event, out_of, Happens, Opens}
+use Rattle.operator_core.proofs.Effects.{Leaves, spent_after, spent_with, marks_after, results_after, pushes_after, last_after}
+use Rattle.operator_core.proofs.Shapes.{Shape, Quiet, Repeated, Decided, DecidesIt, AcknowledgesIt, shape_of, in_single}
+use Rattle.operator_core.proofs.Sends.{decided_leaves}
+use Rattle.operator_core.proofs.Marking.{marked_id, in_time}
+use Rattle.operator_core.proofs.Puts.{puts_pending, puts_mark}
+
+none_some : {X : Type 0} (x : X) (o : Option X) → o ≡ None → o ≡ Some x → ⊥
+none_some x o a b = cc
+
+module _ (s t : State) (e : Event) where
+  abbrev provider_of : DecidesIt s e t → List ℕ
+  provider_of h = key h.packet.from
+
+  replies_shape : Shape s e t → (k : book.Request) (r : Reply) → get s.rows.commands.replies k ≡ Some r → get t.rows.commands.replies k ≡ Some r
+  replies_shape (Quiet h) k r has = ap (λ (m : book.Rows). get m.replies k) h.commands ∙ has
+  replies_shape (Repeated h) k r has = ap (λ (o : Out). get o.state.rows.commands.replies k) h.out ∙ has
+  replies_shape (Decided h) k r has =
+      ap (λ (m : book.Replies). get m k) (decided_leaves s e t h).replies
+      ∙ get-insert_other text_number_total text_number_exact s.rows.commands.replies (provider_of h, h.packet.request) _ k (λ same. none_some r _ h.new (ap (get s.rows.commands.replies) (sym same) ∙ has)) ∙ has
+
+  pub replies_stay : Happens s e t → (k : book.Request) (r : Reply) → get s.rows.commands.replies k ≡ Some r → get t.rows.commands.replies k ≡ Some r
+  replies_stay h = replies_shape (shape_of s t e h)
+
+  results_decided : (h : DecidesIt s e t) → AreConsistent s.rows.commands s.rows.spent → (k : book.Request) (x : CommandResultType) → get s.rows.commands.results k ≡ Some x →
+      (o : Option CommandResultType) → get (results_after (provider_of h) h.packet.request o s.rows.commands.results) k ≡ Some x
+  results_decided h fine k x has None = has
+  results_decided h fine k x has (Some y) =
+      get-insert_other text_number_total text_number_exact s.rows.commands.results (provider_of h, h.packet.request) y k (λ same. fine.ended k x has (ap (get s.rows.commands.replies) same ∙ h.new)) ∙ has
+
+  results_shape : Shape s e t → AreConsistent s.rows.commands s.rows.spent → (k : book.Request) (x : CommandResultType) → get s.rows.commands.results k ≡ Some x → get t.rows.commands.results k ≡ Some x
+  results_shape (Quiet h) fine k x has = ap (λ (m : book.Rows). get m.results k) h.commands ∙ has
+  results_shape (Repeated h) fine k x has = ap (λ (o : Out). get o.state.rows.commands.results k) h.out ∙ has
+  results_shape (Decided h) fine k x has = ap (λ (m : book.Results). get m k) (decided_leaves s e t h).results ∙ results_decided h fine k x has (result_of h.decision)
+
+  pub results_stay : Happens s e t → AreConsistent s.rows.commands s.rows.spent → (k : book.Request) (x : CommandResultType) → get s.rows.commands.results k ≡ Some x → get t.rows.commands.results k ≡ Some x
+  results_stay h = results_shape (shape_of s t e h)
+
+-- a reference that is spent stays so
+spent_once : (p : List ℕ) (reference : Option (List ℕ)) (m : Spent) (k : List ℕ × List ℕ) → get m k ≡ Some tt → get (spent_with p reference m) k ≡ Some tt
+spent_once p None m k has = has
+spent_once p (Some x) m k has = elim (told text_pair_total text_pair_exact k (p, key x)) [
+  | inl same ↦ ap (get (insert m (p, key x) tt)) same ∙ get-insert_same text_pair_total text_pair_exact m (p, key x) tt
+  | inr apart ↦ get-insert_other text_pair_total text_pair_exact m (p, key x) tt k apart ∙ has
+]
+
+spent_stays_after : (p : List ℕ) (c : Command) (d : Decision) (m : Spent) (k : List ℕ × List ℕ) → get m k ≡ Some tt → get (spent_after p c d m) k ≡ Some tt
+spent_stays_after p c (decision.Started place used) m k has = spent_once p (reference_of c) m k has
+spent_stays_after p c (decision.Refused status) m k has = has
+spent_stays_after p c (decision.Answered w) m k has = has
+spent_stays_after p c decision.Opened m k has = has
+spent_stays_after p c (decision.Resulted x) m k has = has
+spent_stays_after p c (decision.Noted id x) m k has = has
+spent_stays_after p c (decision.Reserved id r) m k has = has
+spent_stays_after p c (decision.Cancelled id) m k has = has
+
+now_spent : (p : List ℕ) (reference : Option (List ℕ)) (x : List ℕ) (m : Spent) → reference ≡ Some x → get (spent_with p reference m) (p, key x) ≡ Some tt
+now_spent p None x m e = cc
+now_spent p (Some y) x m e = let same : x ≡ y = cc in ap (λ z. get (insert m (p, key y) tt) (p, key z)) same ∙ get-insert_same text_pair_total text_pair_exact m (p, key y) tt
+
+-- no start is opened without a place, and none of a reference that is spent
+open_start : (s : State) (at : ℕ) (sender : List ℕ) (n : ℕ) (c : StartSession) (d : Decision) → Decides s at sender n (command.StartSession c) d →
+    (d ≡ decision.Opened) ⊎ ((place : Place) × (used : Option (List ℕ)) × (d ≡ decision.Started place used)) →
+    ((place : Place) × (used : Option (List ℕ)) × (d ≡ decision.Started place used)) × (start.IsBarred s.rows.spent (key sender) c → ⊥)
+open_start s at sender n c d (start.Mismatched a e) is = absurd (elim is [ inl i ↦ (cc) | inr (place, used, i) ↦ (cc) ])
+open_start s at sender n c d (start.UnknownLocation a b e) is = absurd (elim is [ inl i ↦ (cc) | inr (place, used, i) ↦ (cc) ])
+open_start s at sender n c d (start.NoPlace l a b e) is = absurd (elim is [ inl i ↦ (cc) | inr (place, used, i) ↦ (cc) ])
+open_start s at sender n c d (start.Barred l a f k b g e) is = absurd (elim is [ inl i ↦ (cc) | inr (place, used, i) ↦ (cc) ])
+open_start s at sender n c d (start.Inoperative l f k a b e) is = absurd (elim is [ inl i ↦ (cc) | inr (place, used, i) ↦ (cc) ])
+open_start s at sender n c d (start.Occupied l f k a b g h e) is = absurd (elim is [ inl i ↦ (cc) | inr (place, used, i) ↦ (cc) ])
+open_start s at sender n c d (start.Held l f k a b x h e) is = ((_, _, e), a.allowed)
+open_start s at sender n c d (start.Free l f k a b g h e) is = ((_, _, e), a.allowed)
+
+not_spent : (spent : Spent) (p : List ℕ) (reference : Option (List ℕ)) (x : List ℕ) → reference ≡ Some x → (start.IsSpent spent p reference → ⊥) → get spent (p, key x) ≡ Some tt → ⊥
+not_spent spent p None x e fresh has = cc
+not_spent spent p (Some y) x e fresh has = let same : x ≡ y = cc in fresh (subst (λ z. get spent (p, key z) ≡ Some tt) same has)
+
+module _ (s t : State) (e : Event) where
+  spent_shape : Shape s e t → (k : List ℕ × List ℕ) → get s.rows.spent k ≡ Some tt → get t.rows.spent k ≡ Some tt
+  spent_shape (Quiet h) k has = ap (λ (m : Spent). get m k) h.spent ∙ has
+  spent_shape (Repeated h) k has = ap (λ (o : Out). get o.state.rows.spent k) h.out ∙ has
+  spent_shape (Decided h) k has = ap (λ (m : Spent). get m k) (decided_leaves s e t h).spent ∙ spent_stays_after (key h.packet.from) h.command h.decision s.rows.spent k has
+
+  pub spent_stays : Happens s e t → (k : List ℕ × List ℕ) → get s.rows.spent k ≡ Some tt → get t.rows.spent k ≡ Some tt
+  spent_stays h = spent_shape (shape_of s t e h)
+
+  abbrev Fresh : List ℕ → List ℕ → Type 0
+  Fresh p reference = (get s.rows.spent (p, reference) ≡ Some tt → ⊥) × (get t.rows.spent (p, reference) ≡ Some tt)
+
+  opens_start : (h : DecidesIt s e t) (c : StartSession) → h.command ≡ command.StartSession c → (reference spelled : List ℕ) → c.authorization_reference ≡ Some spelled → key spelled ≡ reference →
+      ((place : Place) × (used : Option (List ℕ)) × (h.decision ≡ decision.Started place used)) × (start.IsBarred s.rows.spent (key h.packet.from) c → ⊥) → Fresh (key h.packet.from) reference
+  opens_start h c is reference spelled named same ((place, used, started), allowed) =
+      let p : List ℕ = key h.packet.from in
+      let reference_is : reference_of h.command ≡ Some spelled = ap reference_of is ∙ named in
+      let after : t.rows.spent ≡ spent_with p (reference_of h.command) s.rows.spent = (decided_leaves s e t h).spent ∙ ap (λ d. spent_after p h.command d s.rows.spent) started in (
+        λ has. not_spent s.rows.spent p c.authorization_reference spelled named (λ z. allowed (inr z)) (ap (λ z. get s.rows.spent (p, z)) same ∙ has),
+        ap (λ (m : Spent). get m (p, reference)) after ∙ ap (λ z. get (spent_with p (reference_of h.command) s.rows.spent) (p, z)) (sym same) ∙ now_spent p (reference_of h.command) spelled s.rows.spent reference_is,
+      )
+
+  opens_shape : Shape s e t → (p reference : List ℕ) → Opens e p reference → Fresh p reference
+  opens_shape (Quiet h) p reference (n, o, puts, uses) = let no = (h.puts (row.Pending p n o) puts).1 in absurd (cc)
+  opens_shape (Repeated h) p reference (n, o, puts, uses) =
+      let no : _ ≡ Put (row.Pending p n o) = in_single _ _ (subst (λ l. Contains l (Put (row.Pending p n o))) (ap (λ (z : Out). z.changes) h.out) puts) in absurd (cc)
+  opens_shape (Decided h) p reference (n, o, puts, (c, is, (spelled, named, same))) =
+      let opening = puts_pending h.at h.to (key h.packet.from) h.packet.request h.command s.rows h.decision p n o (subst (λ l. Contains l (Put (row.Pending p n o))) (ap (λ (z : Out). z.changes) h.out) puts) in
+      let start_is : h.command ≡ command.StartSession c = sym opening.command ∙ is in
+      let decides = subst (λ z. Decides s h.at h.packet.from h.packet.request z h.decision) start_is h.decides in
+      subst (λ z. Fresh z reference) opening.provider (opens_start h c start_is reference spelled named same (open_start s h.at h.packet.from h.packet.request c h.decision decides opening.decision_is))
+
+  -- a start that an event opens has a reference that was not spent, and is spent from then on
+  pub opens : Happens s e t → (p reference : List ℕ) → Opens e p reference → Fresh p reference
+  opens h = opens_shape (shape_of s t e h)
+
+-- no mark falls
+abbrev pub Rises : booked.Marks → booked.Marks → Type 0
+Rises m n = (k : List ℕ × List ℕ) (x : ℕ) → get m k ≡ Some x → (y : ℕ) × (get n k ≡ Some y) × (x ≤ y)
+
+same_rises : (m n : booked.Marks) → n ≡ m → Rises m n
+same_rises m n same k x has = (x, ap (λ (z : booked.Marks). get z k) same ∙ has, omega arith)
+
+set_rises : (m : booked.Marks) (k : List ℕ × List ℕ) (n : ℕ) → ((x : ℕ) → get m k ≡ Some x → x ≤ n) → Rises m (insert m k n)
+set_rises m k n above q x has = elim (told text_pair_total text_pair_exact q k) [
+  | inl same ↦ (n, ap (get (insert m k n)) same ∙ get-insert_same text_pair_total text_pair_exact m k n, above x (ap (get m) (sym same) ∙ has))
+  | inr apart ↦ (x, get-insert_other text_pair_total text_pair_exact m k n q apart ∙ has, omega arith)
+]
+
+rises_after : (s : State) (at : ℕ) (sender : List ℕ) (n : ℕ) (c : Command) (d : Decision) → Decides s at sender n c d → Rises s.rows.booked.marks (marks_after (key sender) n d s.rows.booked.marks)
+rises_after s at sender n c (decision.Refused status) h = same_rises _ _ refl
+rises_after s at sender n c (decision.Answered w) h = same_rises _ _ refl
+rises_after s at sender n c decision.Opened h = same_rises _ _ refl
+rises_after s at sender n c (decision.Started place used) h = same_rises _ _ refl
+rises_after s at sender n c (decision.Resulted x) h = same_rises _ _ refl
+rises_after s at sender n c (decision.Noted id x) h = set_rises s.rows.booked.marks (key sender, id) n (in_time s at sender n (decision.Noted id x) id refl c h)
+rises_after s at sender n c (decision.Reserved id r) h = set_rises s.rows.booked.marks (key sender, id) n (in_time s at sender n (decision.Reserved id r) id refl c h)
+rises_after s at sender n c (decision.Cancelled id) h = set_rises s.rows.booked.marks (key sender, id) n (in_time s at sender n (decision.Cancelled id) id refl c h)
+
+mark_set : (p : List ℕ) (n : ℕ) (d : Decision) (m : booked.Marks) (id : List ℕ) → marked_id d ≡ Some id → get (marks_after p n d m) (p, id) ≡ Some n
+mark_set p n (decision.Refused status) m id e = absurd (let bad : None ≡ Some id = e in cc)
+mark_set p n (decision.Answered w) m id e = absurd (let bad : None ≡ Some id = e in cc)
+mark_set p n decision.Opened m id e = absurd (let bad : None ≡ Some id = e in cc)
+mark_set p n (decision.Started place used) m id e = absurd (let bad : None ≡ Some id = e in cc)
+mark_set p n (decision.Resulted x) m id e = absurd (let bad : None ≡ Some id = e in cc)
+mark_set p n (decision.Noted x y) m id e = let same : x ≡ id = cc in ap (λ z. get (insert m (p, x) n) (p, z)) (sym same) ∙ get-insert_same text_pair_total text_pair_exact m (p, x) n
+mark_set p n (decision.Reserved x r) m id e = let same : x ≡ id = cc in ap (λ z. get (insert m (p, x) n) (p, z)) (sym same) ∙ get-insert_same text_pair_total text_pair_exact m (p, x) n
+mark_set p n (decision.Cancelled x) m id e = let same : x ≡ id = cc in ap (λ z. get (insert m (p, x) n) (p, z)) (sym same) ∙ get-insert_same text_pair_total text_pair_exact m (p, x) n
+
+module _ (s t : State) (e : Event) where
+  marks_shape : Shape s e t → Rises s.rows.booked.marks t.rows.booked.marks
+  marks_shape (Quiet h) = same_rises _ _ (ap (λ (m : booked.Rows). m.marks) h.booked)
+  marks_shape (Repeated h) = same_rises _ _ (ap (λ (o : Out). o.state.rows.booked.marks) h.out)
+  marks_shape (Decided h) = subst (Rises s.rows.booked.marks) (sym (decided_leaves s e t h).marks) (rises_after s h.at h.packet.from h.packet.request h.command h.decision h.decides)
+
+  pub marks_rise : Happens s e t → Rises s.rows.booked.marks t.rows.booked.marks
+  marks_rise h = marks_shape (shape_of s t e h)
+
+  -- a mark that is put stands, and was not above that number before
+  pub record Marked (p id : List ℕ) (n : ℕ) : Type 0 where
+    pub stands : get t.rows.booked.marks (p, id) ≡ Some n
+    pub above : (x : ℕ) → get s.rows.booked.marks (p, id) ≡ Some x → x ≤ n
+
+  marked_shape : Shape s e t → (p id : List ℕ) (n : ℕ) → Contains e.changes (Put (row.Mark p id n)) → Marked p id n
+  marked_shape (Quiet h) p id n puts = let no = (h.puts (row.Mark p id n) puts).1 in absurd (cc)
+  marked_shape (Repeated h) p id n puts = let no : _ ≡ Put (row.Mark p id n) = in_single _ _ (subst (λ l. Contains l (Put (row.Mark p id n))) (ap (λ (z : Out). z.changes) h.out) puts) in absurd (cc)
+  marked_shape (Decided h) p id n puts =
+      let m = puts_mark h.at h.to (key h.packet.from) h.packet.request h.command s.rows h.decision p id n (subst (λ l. Contains l (Put (row.Mark p id n))) (ap (λ (z : Out). z.changes) h.out) puts) in
+      let set = ap (λ (z : booked.Marks). get z (key h.packet.from, id)) (decided_leaves s e t h).marks ∙ mark_set (key h.packet.from) h.packet.request h.decision s.rows.booked.marks id m.id_is in
+      let timely = in_time s h.at h.packet.from h.packet.request h.decision id m.id_is h.command h.decides in
+      subst (λ z. Marked z id n) m.provider (record {
+        stands = set ∙ ap Some m.number;
+        above = λ x has. let below = timely x has in let number = m.number in omega (arith, below, number);
+      })
+
+  pub marked : Happens s e t → (p id : List ℕ) (n : ℕ) → Contains e.changes (Put (row.Mark p id n)) → Marked p id n
+  marked h = marked_shape (shape_of s t e h)
+
+-- the number of each push is one that was given
+abbrev pub AreGiven : Rows → Type 0
+AreGiven s = (n : ℕ) (o : Outgoing) → get s.outbox.pushes n ≡ Some o → n ≤ s.outbox.last
+
+module _ (s t : State) (e : Event) where
+  pushes_decided : (to url : List ℕ) (o : Option CommandResultType) → AreGiven s.rows → (n : ℕ) (x : Outgoing) → get s.rows.outbox.pushes n ≡ Some x →
+      get (pushes_after to url s.rows.outbox.last o s.rows.outbox.pushes) n ≡ Some x
+  pushes_decided to url None given n x has = has
+  pushes_decided to url (Some y) given n x has =
+      get-insert_other nat_cmp_total nat_cmp-IsAntisymmetric s.rows.outbox.pushes (s.rows.outbox.last + 1) _ n (λ same. let below = given n x has in omega (arith, below, same)) ∙ has
+
+  pushes_shape : Shape s e t → AreGiven s.rows → (n : ℕ) (o : Outgoing) → get s.rows.outbox.pushes n ≡ Some o → (get t.rows.outbox.pushes n ≡ Some o) ⊎ AcknowledgesIt e o.to n
+  pushes_shape (Quiet h) given n o has = h.pushes n o has
+  pushes_shape (Repeated h) given n o has = inl (ap (λ (z : Out). get z.state.rows.outbox.pushes n) h.out ∙ has)
+  pushes_shape (Decided h) given n o has =
+      inl (ap (λ (m : Pushes). get m n) (decided_leaves s e t h).pushes ∙ pushes_decided h.to (url_of h.command) (result_of h.decision) given n o has)
+
+  -- a push stands until this event acknowledges it
+  pub pushes_stay : Happens s e t → AreGiven s.rows → (n : ℕ) (o : Outgoing) → get s.rows.outbox.pushes n ≡ Some o → (get t.rows.outbox.pushes n ≡ Some o) ⊎ AcknowledgesIt e o.to n
+  pushes_stay h = pushes_shape (shape_of s t e h)
+
+  given_decided : (to url : List ℕ) (o : Option CommandResultType) → AreGiven s.rows → (n : ℕ) (x : Outgoing) → get (pushes_after to url s.rows.outbox.last o s.rows.outbox.pushes) n ≡ Some x →
+      n ≤ last_after s.rows.outbox.last o
+  given_decided to url None given n x has = given n x has
+  given_decided to url (Some y) given n x has = elim (told nat_cmp_total nat_cmp-IsAntisymmetric n (s.rows.outbox.last + 1)) [
+    | inl same ↦ omega (arith, same)
+    | inr apart ↦
+        let below = given n x (sym (get-insert_other nat_cmp_total nat_cmp-IsAntisymmetric s.rows.outbox.pushes (s.rows.outbox.last + 1) _ n apart) ∙ has) in
+        omega (arith, below)
+  ]
+
+  given_shape : Shape s e t → AreGiven s.rows → AreGiven t.rows
+  given_shape (Quiet h) given n o has = let below = given n o (h.old n o has) in let same = h.last in omega (arith, below, same)
+  given_shape (Repeated h) given n o has =
+      let out = ap (λ (z : Out). z.state.rows.outbox) h.out in
+      let below = given n o (ap (λ (z : OutboxRows). get z.pushes n) (sym out) ∙ has) in
+      let same : t.rows.outbox.last ≡ s.rows.outbox.last = ap (λ (z : OutboxRows). z.last) out in
+      omega (arith, below, same)
+  given_shape (Decided h) given n o has =
+      let l = decided_leaves s e t h in
+      let below = given_decided h.to (url_of h.command) (result_of h.decision) given n o (ap (λ (m : Pushes). get m n) (sym l.pushes) ∙ has) in
+      let last = l.last in
+      omega (arith, below, last)
+
+  pub given_stay : Happens s e t → AreGiven s.rows → AreGiven t.rows
+  given_stay h = given_shape (shape_of s t e h)
