@@ -14,12 +14,16 @@ use Rattle.ocpi_types.specs.declared.stored.Command.{Command}
 use Rattle.ocpi_types.specs.declared.stored.Reply.{Reply}
 use Rattle.ocpi_types.specs.declared.words.CommandResultType.{CommandResultType}
 use Rattle.command_book.specs.Stored as book
+use Rattle.ocpi_types.specs.declared.replies.CommandResult.{CommandResult}
+use Rattle.operator_core.specs.Consistent.{AreConsistent}
 use Rattle.operator_core.specs.State.{State, opening}
 use Rattle.operator_core.specs.Moves.{Out}
-use Rattle.operator_core.specs.Laws.{Event, Happens, Run, Came, Comes, out_of, RepliesAnswer}
-use Rattle.operator_core.proofs.Shapes.{Shape, Quiet, Repeated, Decided, DecidesIt, shape_of}
-use Rattle.operator_core.proofs.Sends.{decided_leaves}
-use Rattle.operator_core.proofs.Runs.{came_later, came_now}
+use Rattle.operator_core.specs.Laws.{Event, Happens, Run, Came, Comes, out_of, RepliesAnswer, ResultsStay, SentResultsAreKept}
+use Rattle.operator_core.proofs.Shapes.{Shape, Quiet, Repeated, Decided, DecidesIt, shape_of, in_none, in_single}
+use Rattle.operator_core.proofs.Sends.{Sends, Nothing, Response, Both, sends, no_result, decided_leaves}
+use Rattle.operator_core.proofs.Stays.{results_stay as result_stays}
+use Rattle.operator_core.proofs.Consistency.{consistent, consistent_empty}
+use Rattle.operator_core.proofs.Runs.{kept_runs, sent_runs, in_pair, came_later, came_now}
 
 -- the event brings the command of that party and number
 pub record Brings (e : Event) (p : List ℕ) (n : ℕ) : Type 0 where
@@ -69,3 +73,28 @@ replies_answer line es t run p n r has = elim (answered_runs es _ t run p n r ha
   | inl old ↦ absurd (let bad : None ≡ Some r = sym (get-empty text_number_cmp (p, n)) ∙ old in cc)
   | inr h ↦ h
 ]
+
+pub results_stay : ResultsStay
+results_stay s t es fine run k x has =
+    (kept_runs (λ z. AreConsistent z.rows.commands z.rows.spent × (get z.rows.commands.results k ≡ Some x)) (λ a b e h held. (consistent a b e h held.0, result_stays a b e h held.0 k x held.1)) es s t run (fine.commands, has)).1
+
+-- a result that was sent is kept
+abbrev IsEnded : Packet → State → Type 0
+IsEnded x t = (a : CommandResult) → x.body ≡ body.CommandResult a → (n : ℕ) × (get t.rows.commands.results (key x.to, n) ≡ Some a.result)
+
+sends_ended : (s t : State) (e : Event) → Sends s e t → (x : Packet) → Contains e.packets x → IsEnded x t
+sends_ended s t e (Nothing none a b) x h = absurd (in_none x (subst (λ l. Contains l x) none h))
+sends_ended s t e (Response y one is a b) x h =
+    λ w named. absurd (no_result is.reply w (sym is.is_reply ∙ ap (λ (z : Packet). z.body) (in_single y x (subst (λ l. Contains l x) one h)) ∙ named))
+sends_ended s t e (Both y z two is then a b) x h = λ w named. elim (in_pair y z x (subst (λ l. Contains l x) two h)) [
+  | inl same ↦ absurd (no_result is.reply w (sym is.is_reply ∙ ap (λ (v : Packet). v.body) same ∙ named))
+  | inr same ↦
+      let one : body.CommandResult then.told ≡ body.CommandResult w = sym then.is_result ∙ ap (λ (v : Packet). v.body) same ∙ named in
+      let told_is : then.told ≡ w = cc in
+      (then.number, ap (λ (v : Packet). get t.rows.commands.results (key v.to, then.number)) (sym same) ∙ then.kept ∙ ap (λ (v : CommandResult). Some v.result) told_is)
+]
+
+pub sent_results_are_kept : SentResultsAreKept
+sent_results_are_kept line es t run x a h is =
+    sent_runs (λ s. AreConsistent s.rows.commands s.rows.spent) IsEnded (λ u v e happens fine. consistent u v e happens fine) (λ u v e happens fine. sends_ended u v e (sends u v e happens))
+    (λ u v e happens fine y ended w named. let old = ended w named in (old.0, result_stays u v e happens fine (key y.to, old.0) w.result old.1)) es _ t run consistent_empty x h a is

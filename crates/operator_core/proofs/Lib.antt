@@ -4,5 +4,6 @@ pub mod Sends
 pub mod Marking
 pub mod Puts
 pub mod Stays
+pub mod Consistency
 pub mod Runs
 pub mod Answered

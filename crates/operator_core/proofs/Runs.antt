@@ -50,7 +50,7 @@ record IsKept (x : Packet) (t : State) : Type 0 where
   is_reply : x.body ≡ body_of_reply reply
   kept : get t.rows.commands.replies (key x.to, x.request) ≡ Some reply
 
-in_pair : {X : Type 0} (x y z : X) → Contains (x ∷ (y ∷ [])) z → (x ≡ z) ⊎ (y ≡ z)
+pub in_pair : {X : Type 0} (x y z : X) → Contains (x ∷ (y ∷ [])) z → (x ≡ z) ⊎ (y ≡ z)
 in_pair x y z h = elim (Contains-append_cases (x ∷ []) (y ∷ []) z h) [ inl i ↦ inl (in_single x z i) | inr i ↦ inr (in_single y z i) ]
 
 abbrev Responds : Packet → State → Type 0

@@ -71,7 +71,7 @@ module _ (s t : State) (e : Event) where
   results_stay h = results_shape (shape_of s t e h)
 
 -- a reference that is spent stays so
-spent_once : (p : List ℕ) (reference : Option (List ℕ)) (m : Spent) (k : List ℕ × List ℕ) → get m k ≡ Some tt → get (spent_with p reference m) k ≡ Some tt
+pub spent_once : (p : List ℕ) (reference : Option (List ℕ)) (m : Spent) (k : List ℕ × List ℕ) → get m k ≡ Some tt → get (spent_with p reference m) k ≡ Some tt
 spent_once p None m k has = has
 spent_once p (Some x) m k has = elim (told text_pair_total text_pair_exact k (p, key x)) [
   | inl same ↦ ap (get (insert m (p, key x) tt)) same ∙ get-insert_same text_pair_total text_pair_exact m (p, key x) tt
@@ -88,12 +88,12 @@ spent_stays_after p c (decision.Noted id x) m k has = has
 spent_stays_after p c (decision.Reserved id r) m k has = has
 spent_stays_after p c (decision.Cancelled id) m k has = has
 
-now_spent : (p : List ℕ) (reference : Option (List ℕ)) (x : List ℕ) (m : Spent) → reference ≡ Some x → get (spent_with p reference m) (p, key x) ≡ Some tt
+pub now_spent : (p : List ℕ) (reference : Option (List ℕ)) (x : List ℕ) (m : Spent) → reference ≡ Some x → get (spent_with p reference m) (p, key x) ≡ Some tt
 now_spent p None x m e = cc
 now_spent p (Some y) x m e = let same : x ≡ y = cc in ap (λ z. get (insert m (p, key y) tt) (p, key z)) same ∙ get-insert_same text_pair_total text_pair_exact m (p, key y) tt
 
 -- no start is opened without a place, and none of a reference that is spent
-open_start : (s : State) (at : ℕ) (sender : List ℕ) (n : ℕ) (c : StartSession) (d : Decision) → Decides s at sender n (command.StartSession c) d →
+pub open_start : (s : State) (at : ℕ) (sender : List ℕ) (n : ℕ) (c : StartSession) (d : Decision) → Decides s at sender n (command.StartSession c) d →
     (d ≡ decision.Opened) ⊎ ((place : Place) × (used : Option (List ℕ)) × (d ≡ decision.Started place used)) →
     ((place : Place) × (used : Option (List ℕ)) × (d ≡ decision.Started place used)) × (start.IsBarred s.rows.spent (key sender) c → ⊥)
 open_start s at sender n c d (start.Mismatched a e) is = absurd (elim is [ inl i ↦ (cc) | inr (place, used, i) ↦ (cc) ])
@@ -105,7 +105,7 @@ open_start s at sender n c d (start.Occupied l f k a b g h e) is = absurd (elim 
 open_start s at sender n c d (start.Held l f k a b x h e) is = ((_, _, e), a.allowed)
 open_start s at sender n c d (start.Free l f k a b g h e) is = ((_, _, e), a.allowed)
 
-not_spent : (spent : Spent) (p : List ℕ) (reference : Option (List ℕ)) (x : List ℕ) → reference ≡ Some x → (start.IsSpent spent p reference → ⊥) → get spent (p, key x) ≡ Some tt → ⊥
+pub not_spent : (spent : Spent) (p : List ℕ) (reference : Option (List ℕ)) (x : List ℕ) → reference ≡ Some x → (start.IsSpent spent p reference → ⊥) → get spent (p, key x) ≡ Some tt → ⊥
 not_spent spent p None x e fresh has = cc
 not_spent spent p (Some y) x e fresh has = let same : x ≡ y = cc in fresh (subst (λ z. get spent (p, key z) ≡ Some tt) same has)
 
