@@ -1,0 +1,2 @@
+pub mod HeldSearch
+pub mod StartTable
