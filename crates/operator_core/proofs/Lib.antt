@@ -7,3 +7,5 @@ pub mod Stays
 pub mod Consistency
 pub mod Runs
 pub mod Answered
+pub mod HeldSearch
+pub mod StartTable

@@ -38,7 +38,7 @@ module _ (s : State) (at : ℕ) (sender : List ℕ) (n : ℕ) (d : Decision) (id
   in_time (command.StartSession c) (start.NoPlace l a b e) = absurd (none_marked d _ id e refl is)
   in_time (command.StartSession c) (start.Barred l a f k b g e) = absurd (none_marked d _ id e refl is)
   in_time (command.StartSession c) (start.Inoperative l f k a b e) = absurd (none_marked d _ id e refl is)
-  in_time (command.StartSession c) (start.Occupied l f k a b g h e) = absurd (none_marked d _ id e refl is)
+  in_time (command.StartSession c) (start.Occupied l f k a m b v g h e) = absurd (none_marked d _ id e refl is)
   in_time (command.StartSession c) (start.Held l f k a b x h e) = absurd (none_marked d _ id e refl is)
   in_time (command.StartSession c) (start.Free l f k a b g h e) = absurd (none_marked d _ id e refl is)
   in_time (command.StopSession c) (stop.UnknownSession e) = absurd (none_marked d _ id e refl is)

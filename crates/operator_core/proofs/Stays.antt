@@ -101,7 +101,7 @@ open_start s at sender n c d (start.UnknownLocation a b e) is = absurd (elim is 
 open_start s at sender n c d (start.NoPlace l a b e) is = absurd (elim is [ inl i ↦ (cc) | inr (place, used, i) ↦ (cc) ])
 open_start s at sender n c d (start.Barred l a f k b g e) is = absurd (elim is [ inl i ↦ (cc) | inr (place, used, i) ↦ (cc) ])
 open_start s at sender n c d (start.Inoperative l f k a b e) is = absurd (elim is [ inl i ↦ (cc) | inr (place, used, i) ↦ (cc) ])
-open_start s at sender n c d (start.Occupied l f k a b g h e) is = absurd (elim is [ inl i ↦ (cc) | inr (place, used, i) ↦ (cc) ])
+open_start s at sender n c d (start.Occupied l f k a m b v g h e) is = absurd (elim is [ inl i ↦ (cc) | inr (place, used, i) ↦ (cc) ])
 open_start s at sender n c d (start.Held l f k a b x h e) is = ((_, _, e), a.allowed)
 open_start s at sender n c d (start.Free l f k a b g h e) is = ((_, _, e), a.allowed)
 

@@ -7,6 +7,7 @@ pub mod Claimed
 pub mod Consistent
 pub mod Places
 pub mod Start
+pub mod Held
 pub mod Reserve
 pub mod Cancel
 pub mod Stop

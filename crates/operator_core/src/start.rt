@@ -1,19 +1,17 @@
 //! How a START_SESSION is decided (OCPI 2.2.1, Commands: StartSession).
 
-ghost use Rattle.std.specs.Prelude.{◌≡◌, IsTrue, IfSome, IfNone, false, Some, None, IsSome, IsNone};
-ghost use Rattle.std.specs.FinMap as map;
+ghost use Rattle.std.specs.Prelude.{◌≡◌, IsTrue, IfSome, IfNone, false, Some, None, slice_get};
 ghost use Rattle.ocpi_text.specs.Text.{key};
 ghost use Rattle.ocpi_types.specs.declared.site.Location.{Location};
 ghost use Rattle.ocpi_types.specs.declared.site.Evse.{Evse};
 ghost use Rattle.ocpi_types.specs.declared.site.Connector.{Connector};
-ghost use Rattle.reservation_book.specs.declared.standing.Standing.{Standing as StandingOf};
-ghost use Rattle.operator_core.specs.Start.{IsMismatched, IsBarred, IsPlace, NoneHeld, StartLine};
-ghost use Rattle.operator_core.specs.Places.{Works, IsHeldFor};
+ghost use Rattle.operator_core.specs.Start.{IsMismatched, IsBarred, StartLine};
+ghost use Rattle.operator_core.specs.Held.{HasNoHeld, IsHeld, IsPlaceOf, token_of};
 
 use crate::books::Books;
 use crate::decision::Decision;
 use crate::request::Request;
-use ocpi_text::{CiKey, Party, PartyKey};
+use ocpi_text::{CiKey, CiText, Party, PartyKey};
 use ocpi_types::{CommandResponseType, CommandResultType, Place, RefusalCode, StartSession};
 use reservation_book::{Standing, TokenAt};
 
@@ -48,13 +46,17 @@ fn is_barred(books: &Books, provider: PartyKey, command: &StartSession) -> bool
     !command.token.valid || books.is_spent(provider, &command.authorization_reference)
 }
 
-/// The place on the EVSE that a reservation holds, where the EVSE is in service and the command may be about it.
+/// The place on the EVSE that a reservation is on: the connector that the command names, or the EVSE's first. None, where the
+/// EVSE is out of service, or the location has no such EVSE and connector.
 fn place_held(
     books: &Books,
     location: usize,
     command: &StartSession,
     standing: &Standing,
-) -> Option<Place> {
+) -> Option<Place>
+    ensures found { IfSome result (λ p. (l : Location) → slice_get books.now.site.locations location ≡ Some l → (e : Evse) × (k : Connector) × IsPlaceOf books.now.rows command.now l standing.now e k × (p ≡ record { evse_uid = e.uid; connector_id = k.id })) }
+    ensures none { IfNone result ((l : Location) → slice_get books.now.site.locations location ≡ Some l → (e : Evse) (k : Connector) → IsPlaceOf books.now.rows command.now l standing.now e k → ⊥) }
+{
     let places = books.places();
     let evse_uid = standing.reservation.evse_uid;
     if !places.in_service(evse_uid.key()) {
@@ -63,35 +65,68 @@ fn place_held(
     places.find_place(location, &Some(evse_uid), &command.connector_id)
 }
 
-/// The place that a reservation of the sender holds for the token of the command, and the reservation's id. The EVSE is in
-/// service, and the command may be about it; others are passed over.
+/// As `find_held`, for a command that names the EVSE.
+fn find_held_on(
+    books: &Books,
+    location: usize,
+    command: &StartSession,
+    token: &TokenAt,
+    evse_uid: &CiText<36>,
+) -> Option<(Place, CiKey<36>)>
+    requires { command.now.evse_uid ≡ Some evse_uid.now }
+    ensures found { IfSome result (λ p. (l : Location) → slice_get books.now.site.locations location ≡ Some l → IsHeld books.now.rows token.now command.now l p) }
+    ensures none { IfNone result ((l : Location) → slice_get books.now.site.locations location ≡ Some l → HasNoHeld books.now.rows token.now command.now l) }
+{
+    let standing = books.booked().first_for(token, Some(evse_uid.key()))?;
+    let place = place_held(books, location, command, &standing)?;
+    Some((place, standing.id))
+}
+
+/// As `find_held`, for a command that names no EVSE. The reservations for the token are gone through in their order, until
+/// one holds a place.
+fn find_any_held(
+    books: &Books,
+    location: usize,
+    command: &StartSession,
+    token: &TokenAt,
+) -> Option<(Place, CiKey<36>)>
+    requires { command.now.evse_uid ≡ None }
+    ensures found { IfSome result (λ p. (l : Location) → slice_get books.now.site.locations location ≡ Some l → IsHeld books.now.rows token.now command.now l p) }
+    ensures none { IfNone result ((l : Location) → slice_get books.now.site.locations location ≡ Some l → HasNoHeld books.now.rows token.now command.now l) }
+{
+    let mut next = books.booked().first_for(token, None);
+    while let Some(standing) = next {
+        if let Some(place) = place_held(books, location, command, &standing) {
+            return Some((place, standing.id));
+        }
+        let evse_uid = standing.reservation.evse_uid.key();
+        next = books.booked().next_for(token, evse_uid, standing.id);
+    }
+    None
+}
+
+/// The place that a reservation of the provider holds for the token of the command, at the location that stands there, and
+/// the reservation's id. The EVSE is in service, and the command may be about it. None, where there is no such reservation.
+/// Each reservation for the token that is passed over costs the logarithm of those that stand.
 fn find_held(
     books: &Books,
     location: usize,
     provider: PartyKey,
     command: &StartSession,
-) -> Option<(Place, CiKey<36>)> {
+) -> Option<(Place, CiKey<36>)>
+    ensures found { IfSome result (λ p. (l : Location) → slice_get books.now.site.locations location ≡ Some l → IsHeld books.now.rows (token_of provider command.now) command.now l p) }
+    ensures none { IfNone result ((l : Location) → slice_get books.now.site.locations location ≡ Some l → HasNoHeld books.now.rows (token_of provider command.now) command.now l) }
+{
     let token = TokenAt {
         provider,
         location_id: command.location_id.key(),
         uid: command.token.uid.key(),
         token_type: command.token.token_type,
     };
-    if let Some(evse_uid) = &command.evse_uid {
-        let standing = books.booked().first_for(&token, Some(evse_uid.key()))?;
-        let place = place_held(books, location, command, &standing)?;
-        return Some((place, standing.id));
+    match &command.evse_uid {
+        Some(evse_uid) => find_held_on(books, location, command, &token, evse_uid),
+        None => find_any_held(books, location, command, &token),
     }
-    let mut next = books.booked().first_for(&token, None);
-    while let Some(standing) = next {
-        if let Some(place) = place_held(books, location, command, &standing) {
-            return Some((place, standing.id));
-        }
-        next = books
-            .booked()
-            .next_for(&token, standing.reservation.evse_uid.key(), standing.id);
-    }
-    None
 }
 
 /// The decision on a START_SESSION, by the first line of its table that applies. The provider is the sender's key.
