@@ -1,27 +1,26 @@
 -- Kept replies answer commands that came; results stay, and are those that were sent.
-use Rattle.std.proofs.Common.{◌≡◌, ℕ, List, [], ◌∷◌, ◌++◌, ◌⊎◌, inl, inr, refl, sym, ap, subst, ◌∙◌, arith}
-use Rattle.std.specs.Prelude.{Option, Some, None, Contains}
+use Rattle.std.proofs.Common.{◌≡◌, ℕ, List, [], ◌∷◌, ◌⊎◌, inl, inr, sym, ap, subst, ◌∙◌}
+use Rattle.std.specs.Prelude.{Some, None, Contains}
 use Rattle.std.specs.FinMap.{get, get-empty}
 use Rattle.ocpi_text.specs.Text.{key}
 use Rattle.tables.specs.Keys.{text_number_cmp, text_number_total, text_number_exact}
-use Rattle.tables.proofs.Maps.{get-insert_same, get-insert_other}
+use Rattle.tables.proofs.Maps.{get-insert_other}
 use Rattle.handover.proofs.Totals.{told}
 use Rattle.ocpi_types.specs.Stored.{body_of_command}
 use Rattle.ocpi_types.specs.declared.packet.Packet.{Packet}
 use Rattle.ocpi_types.specs.declared.packet.Body.TheVariants as body
-use Rattle.ocpi_types.specs.declared.site.SiteLine.{SiteLine}
 use Rattle.ocpi_types.specs.declared.stored.Command.{Command}
 use Rattle.ocpi_types.specs.declared.stored.Reply.{Reply}
-use Rattle.ocpi_types.specs.declared.words.CommandResultType.{CommandResultType}
 use Rattle.command_book.specs.Stored as book
 use Rattle.ocpi_types.specs.declared.replies.CommandResult.{CommandResult}
 use Rattle.operator_core.specs.Consistent.{AreConsistent}
-use Rattle.operator_core.specs.State.{State, opening}
+use Rattle.operator_core.specs.State.{State, OneClaimEach}
 use Rattle.operator_core.specs.Moves.{Out}
-use Rattle.operator_core.specs.Laws.{Event, Happens, Run, Came, Comes, out_of, RepliesAnswer, ResultsStay, SentResultsAreKept}
-use Rattle.operator_core.proofs.Shapes.{Shape, Quiet, Repeated, Decided, DecidesIt, shape_of, in_none, in_single}
+use Rattle.operator_core.specs.Laws.{Event, Happens, Run, Came, Comes, AlwaysConsistent, RepliesAnswer, ResultsStay, SentResultsAreKept}
+use Rattle.operator_core.proofs.Shapes.{Shape, Quiet, Repeated, Decided, shape_of, in_none, in_single}
 use Rattle.operator_core.proofs.Sends.{Sends, Nothing, Response, Both, sends, no_result, decided_leaves}
 use Rattle.operator_core.proofs.Stays.{results_stay as result_stays}
+use Rattle.operator_core.proofs.Claiming.{one_claim, none_claimed}
 use Rattle.operator_core.proofs.Consistency.{consistent, consistent_empty}
 use Rattle.operator_core.proofs.Runs.{kept_runs, sent_runs, in_pair, came_later, came_now}
 
@@ -98,3 +97,9 @@ pub sent_results_are_kept : SentResultsAreKept
 sent_results_are_kept line es t run x a h is =
     sent_runs (λ s. AreConsistent s.rows.commands s.rows.spent) IsEnded (λ u v e happens fine. consistent u v e happens fine) (λ u v e happens fine. sends_ended u v e (sends u v e happens))
     (λ u v e happens fine y ended w named. let old = ended w named in (old.0, result_stays u v e happens fine (key y.to, old.0) w.result old.1)) es _ t run consistent_empty x h a is
+
+pub always_consistent : AlwaysConsistent
+always_consistent line es t run =
+    let kept = kept_runs (λ z. OneClaimEach z.rows.commands.pending z.rows.booked.reservations × AreConsistent z.rows.commands z.rows.spent)
+    (λ a b e h held. (one_claim a b e h held.0, consistent a b e h held.1)) es _ t run (none_claimed, consistent_empty) in
+    record { one_claim = kept.0; commands = kept.1 }

@@ -8,7 +8,6 @@ use Rattle.handover.proofs.Totals.{told}
 use Rattle.ocpi_text.specs.Text.{key}
 use Rattle.ocpi_types.specs.declared.rows.Place.{Place}
 use Rattle.ocpi_types.specs.declared.stored.Command.{Command}
-use Rattle.ocpi_types.specs.declared.stored.Command.TheVariants as command
 use Rattle.ocpi_types.specs.declared.stored.OpenCommand.{OpenCommand}
 use Rattle.ocpi_types.specs.declared.stored.Reply.{Reply}
 use Rattle.ocpi_types.specs.declared.words.CommandResultType.{CommandResultType}
@@ -20,9 +19,9 @@ use Rattle.operator_core.specs.State.{State, Rows, Spent}
 use Rattle.operator_core.specs.Consistent.{AreConsistent, Uses, Carries}
 use Rattle.operator_core.specs.Moves.{Out}
 use Rattle.operator_core.specs.Steps.{Decides, reply_of, reference_of, deadline}
-use Rattle.operator_core.specs.Laws.{Event, Happens, out_of}
+use Rattle.operator_core.specs.Laws.{Event, Happens}
 use Rattle.operator_core.proofs.Effects.{Leaves, results_after, spent_with}
-use Rattle.operator_core.proofs.Shapes.{Shape, Quiet, Repeated, Decided, DecidesIt, shape_of}
+use Rattle.operator_core.proofs.Shapes.{Shape, Quiet, Repeated, Decided, shape_of}
 use Rattle.operator_core.proofs.Sends.{decided_leaves}
 use Rattle.operator_core.proofs.Stays.{open_start, not_spent, now_spent, spent_once}
 

@@ -1,9 +1,8 @@
 -- What a decision does to each part of what an operator stores.
 use Rattle.std.proofs.Common.{◌≡◌, ℕ, ◌+◌, List, [], ◌∷◌, ◌++◌, refl}
 use Rattle.std.specs.Prelude.{Option, Some, None}
-use Rattle.std.specs.FinMap.{insert, remove}
+use Rattle.std.specs.FinMap.{insert}
 use Rattle.ocpi_text.specs.Text.{key}
-use Rattle.ocpi_types.specs.declared.rows.Place.{Place}
 use Rattle.ocpi_types.specs.declared.rows.Change.{Change}
 use Rattle.ocpi_types.specs.declared.rows.Change.TheVariants.{Put}
 use Rattle.ocpi_types.specs.declared.rows.Row.TheVariants as row
@@ -20,7 +19,7 @@ use Rattle.operator_core.specs.declared.decision.Decision.TheVariants as decisio
 use Rattle.operator_core.specs.State.{Rows, Spent}
 use Rattle.operator_core.specs.Stored.{changed_all, spending}
 use Rattle.operator_core.specs.Moves.{serial_row, spent_rows, used_rows, told}
-use Rattle.operator_core.specs.Steps.{decided_rows, own_rows, reply_of, result_of, reference_of, url_of, deadline}
+use Rattle.operator_core.specs.Steps.{decided_rows, reply_of, result_of, reference_of, url_of, deadline}
 
 -- what a result adds, where there is one
 abbrev pub results_after : List ℕ → ℕ → Option CommandResultType → book.Results → book.Results

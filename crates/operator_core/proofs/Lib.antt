@@ -5,6 +5,7 @@ pub mod Marking
 pub mod Puts
 pub mod Stays
 pub mod Consistency
+pub mod Claiming
 pub mod Runs
 pub mod Answered
 pub mod HeldSearch

@@ -1,5 +1,5 @@
 -- A decision sets a mark only under a number that is not below it.
-use Rattle.std.proofs.Common.{◌≡◌, ℕ, ◌≤◌, List, refl, sym, ap, subst, ◌∙◌}
+use Rattle.std.proofs.Common.{◌≡◌, ℕ, List, refl, sym, ap, subst, ◌∙◌}
 use Rattle.std.specs.Prelude.{Option, Some, None}
 use Rattle.ocpi_text.specs.Text.{key}
 use Rattle.ocpi_types.specs.declared.stored.Command.{Command}

@@ -1,27 +1,23 @@
 -- The laws of an operator, over every list of events.
 use Rattle.std.proofs.Common.{zero, suc, ◌≡◌, ℕ, ◌+◌, ◌≤◌, ◌<◌, List, [], ◌∷◌, ◌++◌, ◌⊎◌, inl, inr, refl, sym, ap, subst, ◌∙◌, arith, add-one}
-use Rattle.std.specs.Prelude.{Option, Some, None, Contains, slice_get}
+use Rattle.std.specs.Prelude.{Some, None, Contains, slice_get}
 use Rattle.std.specs.FinMap.{get, get-empty}
 use Rattle.std.specs.Ordering.{nat_cmp}
 use Rattle.std.proofs.lemmas.List.Elements.{Contains-append_cases, Contains-append_left, Contains-append_right}
 use Rattle.ocpi_text.specs.Text.{key}
-use Rattle.tables.specs.Keys.{text_number_cmp}
 use Rattle.ocpi_types.specs.declared.site.SiteLine.{SiteLine}
 use Rattle.ocpi_types.specs.declared.packet.Packet.{Packet}
 use Rattle.ocpi_types.specs.declared.packet.Body.TheVariants as body
 use Rattle.ocpi_types.specs.declared.replies.CommandResponse.{CommandResponse}
 use Rattle.ocpi_types.specs.declared.replies.CommandResult.{CommandResult}
 use Rattle.ocpi_types.specs.declared.stored.Reply.{Reply}
-use Rattle.ocpi_types.specs.declared.stored.Command.{Command}
 use Rattle.ocpi_types.specs.declared.stored.Push.TheVariants as push
-use Rattle.ocpi_types.specs.Stored.{body_of_command, body_of_reply, body_of_push}
+use Rattle.ocpi_types.specs.Stored.{body_of_reply, body_of_push}
 use Rattle.ocpi_types.specs.declared.rows.Change.TheVariants.{Put}
 use Rattle.ocpi_types.specs.declared.rows.Row.TheVariants as row
-use Rattle.ocpi_types.specs.declared.words.CommandResultType.{CommandResultType}
 use Rattle.handover.specs.declared.push_book.Outgoing.{Outgoing}
 use Rattle.operator_core.specs.State.{State, opening}
-use Rattle.operator_core.specs.Consistent.{AreConsistent}
-use Rattle.operator_core.specs.Laws.{Event, Happens, Run, sent, Came, Comes, Opens, Acknowledged, Reserves, OneStart, SentRepliesAreKept, RepliesStay, Numbered, RequestsDiffer, PushesStand, MarksNeverFall, ReservationsAreNewer}
+use Rattle.operator_core.specs.Laws.{Event, Happens, Run, sent, Came, Comes, Opens, Acknowledged, OneStart, SentRepliesAreKept, RepliesStay, Numbered, RequestsDiffer, PushesStand, MarksNeverFall, ReservationsAreNewer}
 use Rattle.operator_core.proofs.Shapes.{AcknowledgesIt, in_none, in_single}
 use Rattle.operator_core.proofs.Sends.{Sends, Nothing, Response, Both, IsResponse, IsResult, sends, no_result}
 use Rattle.operator_core.proofs.Stays.{replies_stay, spent_stays, opens, marks_rise, marked, Rises, AreGiven, pushes_stay, given_stay}

@@ -1,14 +1,13 @@
 -- What an event sends, and what stands once it is sent.
-use Rattle.std.proofs.Common.{◌≡◌, ◌≢◌, ℕ, ◌+◌, List, [], ◌∷◌, ◌++◌, ◌⊎◌, inl, inr, refl, sym, ap, subst, ◌∙◌, arith}
-use Rattle.std.specs.Prelude.{Option, Some, None, Contains}
+use Rattle.std.proofs.Common.{◌≡◌, ℕ, ◌+◌, List, [], ◌∷◌, refl, sym, ap, subst, ◌∙◌}
+use Rattle.std.specs.Prelude.{Option, Some, None}
 use Rattle.std.specs.FinMap.{get, insert, nat_cmp-IsAntisymmetric}
 use Rattle.std.specs.Cmp.{nat_cmp_total}
 use Rattle.tables.specs.Keys.{text_number_total, text_number_exact}
-use Rattle.tables.proofs.Maps.{get-insert_same, get-insert_other}
+use Rattle.tables.proofs.Maps.{get-insert_same}
 use Rattle.ocpi_text.specs.Text.{key}
 use Rattle.ocpi_types.specs.Stored.{body_of_reply}
 use Rattle.ocpi_types.specs.declared.packet.Packet.{Packet}
-use Rattle.ocpi_types.specs.declared.packet.Body.{Body}
 use Rattle.ocpi_types.specs.declared.packet.Body.TheVariants as body
 use Rattle.ocpi_types.specs.declared.replies.CommandResult.{CommandResult}
 use Rattle.ocpi_types.specs.declared.stored.Reply.{Reply}
@@ -17,13 +16,12 @@ use Rattle.ocpi_types.specs.declared.stored.Push.TheVariants as push
 use Rattle.ocpi_types.specs.declared.words.CommandResultType.{CommandResultType}
 use Rattle.command_book.specs.Stored as book
 use Rattle.handover.specs.Pushes.{Pushes}
-use Rattle.operator_core.specs.declared.decision.Decision.{Decision}
-use Rattle.operator_core.specs.State.{State, Rows}
+use Rattle.operator_core.specs.State.{State}
 use Rattle.operator_core.specs.Moves.{Out}
 use Rattle.operator_core.specs.Steps.{result_of, reply_of, url_of, decided_packets, result_packets}
-use Rattle.operator_core.specs.Laws.{Event, out_of, Happens}
+use Rattle.operator_core.specs.Laws.{Event, Happens}
 use Rattle.operator_core.proofs.Effects.{Leaves, leaves, serial_after, last_after, pushes_after, results_after}
-use Rattle.operator_core.proofs.Shapes.{Shape, Quiet, Repeated, Decided, IsQuiet, Repeats, DecidesIt, shape_of}
+use Rattle.operator_core.proofs.Shapes.{Shape, Quiet, Repeated, Decided, Repeats, DecidesIt, shape_of}
 
 -- a response leaves, which is kept
 pub record IsResponse (s t : State) (x : Packet) : Type 0 where

@@ -1,24 +1,19 @@
 -- What an event keeps of what stood before it.
-use Rattle.std.proofs.Common.{◌≡◌, ◌≢◌, ℕ, ◌+◌, ◌≤◌, Bool, true, false, cond, List, ◌⊎◌, inl, inr, refl, sym, ap, subst, ◌∙◌, arith}
+use Rattle.std.proofs.Common.{◌≡◌, ℕ, ◌+◌, ◌≤◌, List, ◌⊎◌, inl, inr, refl, sym, ap, subst, ◌∙◌, arith}
 use Rattle.std.specs.Prelude.{Option, Some, None, Contains}
-use Rattle.std.specs.declared.cmp.Ordering.{Ordering}
-use Rattle.std.specs.Ordering.{nat_cmp}
-use Rattle.std.specs.Cmp.{IsTotalOrder, nat_cmp_total}
-use Rattle.std.specs.FinMap.{FinMap, IsAntisymmetric, get, insert, nat_cmp-IsAntisymmetric}
+use Rattle.std.specs.Cmp.{nat_cmp_total}
+use Rattle.std.specs.FinMap.{get, insert, nat_cmp-IsAntisymmetric}
 use Rattle.ocpi_text.specs.Text.{key}
 use Rattle.tables.specs.Keys.{text_number_total, text_number_exact, text_pair_total, text_pair_exact}
 use Rattle.tables.proofs.Maps.{get-insert_same, get-insert_other}
 use Rattle.handover.proofs.Totals.{told}
-use Rattle.ocpi_types.specs.declared.packet.Packet.{Packet}
 use Rattle.ocpi_types.specs.declared.stored.Command.{Command}
 use Rattle.ocpi_types.specs.declared.stored.Command.TheVariants as command
-use Rattle.ocpi_types.specs.declared.stored.OpenCommand.{OpenCommand}
 use Rattle.ocpi_types.specs.declared.stored.Reply.{Reply}
 use Rattle.ocpi_types.specs.declared.commands.StartSession.{StartSession}
 use Rattle.ocpi_types.specs.declared.words.CommandResultType.{CommandResultType}
 use Rattle.ocpi_types.specs.declared.rows.Place.{Place}
 use Rattle.ocpi_types.specs.declared.rows.Row.TheVariants as row
-use Rattle.ocpi_types.specs.declared.rows.Change.{Change}
 use Rattle.ocpi_types.specs.declared.rows.Change.TheVariants.{Put}
 use Rattle.command_book.specs.Stored as book
 use Rattle.reservation_book.specs.Rows as booked
@@ -29,11 +24,11 @@ use Rattle.operator_core.specs.declared.decision.Decision.{Decision}
 use Rattle.operator_core.specs.declared.decision.Decision.TheVariants as decision
 use Rattle.operator_core.specs.State.{State, Rows, Spent}
 use Rattle.operator_core.specs.Start as start
-use Rattle.operator_core.specs.Consistent.{AreConsistent, Uses}
+use Rattle.operator_core.specs.Consistent.{AreConsistent}
 use Rattle.operator_core.specs.Moves.{Out}
 use Rattle.operator_core.specs.Steps.{Decides, result_of, reference_of, url_of}
-use Rattle.operator_core.specs.Laws.{Event, out_of, Happens, Opens}
-use Rattle.operator_core.proofs.Effects.{Leaves, spent_after, spent_with, marks_after, results_after, pushes_after, last_after}
+use Rattle.operator_core.specs.Laws.{Event, Happens, Opens}
+use Rattle.operator_core.proofs.Effects.{spent_after, spent_with, marks_after, results_after, pushes_after, last_after}
 use Rattle.operator_core.proofs.Shapes.{Shape, Quiet, Repeated, Decided, DecidesIt, AcknowledgesIt, shape_of, in_single}
 use Rattle.operator_core.proofs.Sends.{decided_leaves}
 use Rattle.operator_core.proofs.Marking.{marked_id, in_time}

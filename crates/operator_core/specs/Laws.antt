@@ -1,6 +1,6 @@
 -- The laws of an operator over every list of events from its opening: packets that come, in any order and any number of
 -- times, at moments that may go back, and EVSEs that go out of service and come back; events that are refused among them.
-use Rattle.std.specs.Prelude.{◌≡◌, ◌⊎◌, ℕ, ◌+◌, ◌≤◌, ◌<◌, Bool, List, [], ◌∷◌, ◌++◌, None, Some, Contains, slice_get}
+use Rattle.std.specs.Prelude.{◌≡◌, ◌⊎◌, ℕ, ◌+◌, ◌≤◌, ◌<◌, Bool, List, [], ◌∷◌, Some, Contains, slice_get}
 use Rattle.std.specs.List.{flat_map}
 use Rattle.std.specs.FinMap.{get}
 use Rattle.ocpi_text.specs.Text.{key}
@@ -21,7 +21,7 @@ use Rattle.ocpi_types.specs.declared.rows.Change.TheVariants.{Put}
 use Rattle.ocpi_types.specs.declared.rows.Row.TheVariants as row
 use Rattle.handover.specs.declared.push_book.Outgoing.{Outgoing}
 use Rattle.operator_core.specs.declared.fault.OperatorFault.{OperatorFault}
-use Rattle.operator_core.specs.State.{State, Rows, opening, OneClaimEach}
+use Rattle.operator_core.specs.State.{State, opening}
 use Rattle.operator_core.specs.Consistent.{IsConsistent, Uses}
 use Rattle.operator_core.specs.Moves.{Out, idle}
 use Rattle.operator_core.specs.Steps.{OperatorStep}

@@ -1,6 +1,5 @@
 -- An EVSE goes out of service, or comes back.
 use Rattle.std.specs.Prelude.{◌≡◌, ℕ, Bool, true, false, List, [], ◌∷◌}
-use Rattle.ocpi_text.specs.Text.{key}
 use Rattle.site.specs.Places.{IsEvse, works}
 use Rattle.operator_core.specs.State.{State}
 use Rattle.operator_core.specs.Moves.{Out, step, idle}
