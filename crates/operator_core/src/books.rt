@@ -1,12 +1,13 @@
 //! What an operator stores, with the claims on the site's EVSEs that follow from it.
 
-ghost use Rattle.std.specs.Prelude.{◌≡◌, OnOk, IsOk, IsTrue, None, false, IfOk};
+ghost use Rattle.std.specs.Prelude.{◌≡◌, List, ℕ, OnOk, IsOk, IsTrue, None, false, IfOk, IfSome, IfNone};
 ghost use Rattle.std.specs.FinMap as map;
 ghost use Rattle.ocpi_types.specs.Rows.{key_of};
+ghost use Rattle.site.specs.Places.{IsEvse};
 ghost use Rattle.operator_core.specs.State.{no_rows};
 ghost use Rattle.operator_core.specs.Rows.{change_key, AreRowsOf};
 ghost use Rattle.operator_core.specs.Start.{IsSpent};
-ghost use Rattle.operator_core.specs.Claimed.{IsIndexed, MayPut, MayChange, MayChangeAll};
+ghost use Rattle.operator_core.specs.Claimed.{IsIndexed, Holds, RowTakes, released, claimed, MayPut, MayChange, MayChangeAll};
 ghost use Rattle.operator_core.specs.Stored.{AreApart, HasRoom, HasRoomOf, HasRooms, KeepsOtherRoom, KeepsRoom, changed, changed_all, put_row, drop_row};
 
 use command_book::CommandBook;
@@ -62,6 +63,49 @@ impl Model for Books {
     } };
 
     ghost invariant = { λ b. IsIndexed b.places.claims b.commands.rows.pending b.booked.rows.reservations };
+}
+
+/// Ends the claim on an EVSE, where one is given.
+fn release(places: &mut Places, evse_uid: Option<CiKey<36>>)
+    ensures { places.new ≡ record places.old { claims = released evse_uid places.old.claims } }
+{
+    if let Some(evse_uid) = evse_uid {
+        places.release(evse_uid);
+    }
+}
+
+/// Claims the EVSE that a row takes, if it takes one.
+fn claim(places: &mut Places, row: &Row)
+    requires { (evse : List ℕ) → RowTakes row.now evse → IsEvse places.old.site.locations evse }
+    ensures { places.new ≡ record places.old { claims = claimed row.now places.old.claims } }
+{
+    match row {
+        Row::Pending {
+            provider,
+            number,
+            open,
+        } => {
+            if let Some(evse_uid) = &open.evse_uid {
+                let (provider, number) = (*provider, *number);
+                places.put_claim(evse_uid.key(), Claim::OpenStart { provider, number });
+            }
+        }
+        Row::Reservation {
+            provider,
+            reservation_id,
+            reservation,
+        } => {
+            let (provider, id) = (*provider, *reservation_id);
+            places.put_claim(
+                reservation.evse_uid.key(),
+                Claim::Reserved {
+                    provider,
+                    reservation: id,
+                },
+            );
+        }
+        _ => {}
+    }
 }
 
 impl Books {
@@ -177,8 +221,11 @@ impl Books {
         Ok(())
     }
 
-    /// The EVSE that the row under a key claims, in key form, if it claims one.
-    fn claimed_by(&self, key: &RowKey) -> Option<CiKey<36>> {
+    /// The EVSE that the row under a key takes, in key form, if there is such a row and it takes one.
+    fn claimed_by(&self, key: &RowKey) -> Option<CiKey<36>>
+        ensures taken { IfSome result (λ evse. Holds self.now.rows key.now evse) }
+        ensures none { IfNone result ((evse : List ℕ) → Holds self.now.rows key.now evse → ⊥) }
+    {
         match key {
             RowKey::Pending { provider, number } => {
                 let open = self.commands.opened(*provider, *number)?;
@@ -197,45 +244,6 @@ impl Books {
         }
     }
 
-    /// Gives back the EVSE that the row under a key claims, if it claims one.
-    fn release(&mut self, key: &RowKey) {
-        if let Some(evse_uid) = self.claimed_by(key) {
-            self.places.release(evse_uid);
-        }
-    }
-
-    /// Claims the EVSE that a row claims, if it claims one.
-    fn claim(&mut self, row: &Row) {
-        match row {
-            Row::Pending {
-                provider,
-                number,
-                open,
-            } => {
-                if let Some(evse_uid) = &open.evse_uid {
-                    let (provider, number) = (*provider, *number);
-                    self.places
-                        .put_claim(evse_uid.key(), Claim::OpenStart { provider, number });
-                }
-            }
-            Row::Reservation {
-                provider,
-                reservation_id,
-                reservation,
-            } => {
-                let (provider, id) = (*provider, *reservation_id);
-                self.places.put_claim(
-                    reservation.evse_uid.key(),
-                    Claim::Reserved {
-                        provider,
-                        reservation: id,
-                    },
-                );
-            }
-            _ => {}
-        }
-    }
-
     /// Puts a row, with the claim that follows from it. It takes no memory.
     fn put_row(&mut self, row: Row)
         requires room { HasRoomOf self.old.rooms row }
@@ -244,8 +252,9 @@ impl Books {
         ensures rows { self.new.rows ≡ put_row row self.old.rows }
         ensures keeps { KeepsOtherRoom (key_of row) self.old.rooms self.new.rooms }
     {
-        self.release(&row.key());
-        self.claim(&row);
+        let evse_uid = self.claimed_by(&row.key());
+        release(&mut self.places, evse_uid);
+        claim(&mut self.places, &row);
         match &row {
             Row::Count {
                 counter: Counter::Serial,
@@ -271,7 +280,8 @@ impl Books {
         ensures rows { self.new.rows ≡ drop_row key self.old.rows }
         ensures keeps { KeepsOtherRoom key self.old.rooms self.new.rooms }
     {
-        self.release(&key);
+        let evse_uid = self.claimed_by(&key);
+        release(&mut self.places, evse_uid);
         match &key {
             RowKey::Count {
                 counter: Counter::Serial,
