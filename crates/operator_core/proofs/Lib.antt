@@ -1,1 +1,3 @@
 pub mod ClaimIndex
+pub mod BookRoom
+pub mod RowParts
