@@ -51,13 +51,13 @@ module _ (claims : ClaimMap) (R S : List ℕ → Claim → Type 0) (h : IsIndex 
   give_back : (old : Claim) (at : List ℕ) → R at old → ((evse : List ℕ) → R evse old → evse ≡ at) → LacksFrom R old S → IsIndex (remove claims at) S
   give_back old at stood sole lacks evse c = (
     λ has.
-      let still = of_remove text_total text_exact claims at evse c has in
-      (lacks evse c).1 ((h evse c).0 still.1, λ same. still.0 (sole evse (subst (R evse) same ((h evse c).0 still.1)))),
+        let still = of_remove text_total text_exact claims at evse c has in
+        (lacks evse c).1 ((h evse c).0 still.1, λ same. still.0 (sole evse (subst (R evse) same ((h evse c).0 still.1)))),
     λ x.
-      let was = (lacks evse c).0 x in
-      get-remove_other text_total text_exact claims at evse
-      (λ same. was.1 (let a : Some old ≡ Some c = sym ((h at old).1 stood) ∙ ap (get claims) (sym same) ∙ (h evse c).1 was.0 in cc))
-      ∙ (h evse c).1 was.0,
+        let was = (lacks evse c).0 x in
+        get-remove_other text_total text_exact claims at evse
+        (λ same. was.1 (let a : Some old ≡ Some c = sym ((h at old).1 stood) ∙ ap (get claims) (sym same) ∙ (h evse c).1 was.0 in cc))
+        ∙ (h evse c).1 was.0,
   )
 
   -- an EVSE that nothing claims is claimed
@@ -94,8 +94,8 @@ module _ (m : commands.OpenCommands) (n : booked.Reservations) (p : List ℕ) (i
   lacks_open : LacksFrom (Claims m n) (OpenStart p i) (Claims (remove m (p, i)) n)
   lacks_open evse (OpenStart q j) = (
     λ x.
-      let was = of_remove text_number_total text_number_exact m (p, i) (q, j) x.0 x.1 in
-      ((x.0, was.1, x.2), λ same. was.0 (let a : q ≡ p = cc in let b : j ≡ i = cc in λ t. (a t, b t))),
+        let was = of_remove text_number_total text_number_exact m (p, i) (q, j) x.0 x.1 in
+        ((x.0, was.1, x.2), λ same. was.0 (let a : q ≡ p = cc in let b : j ≡ i = cc in λ t. (a t, b t))),
     λ x. (x.0.0, get-remove_other text_number_total text_number_exact m (p, i) (q, j) (λ same. x.1 (λ t. OpenStart (same t).0 (same t).1)) ∙ x.0.1, x.0.2),
   )
   lacks_open evse (Live q session) = (λ x. absurd x, λ x. x.0)
@@ -151,8 +151,8 @@ module _ (m : commands.OpenCommands) (n : booked.Reservations) (p id : List ℕ)
   lacks_reserved evse (Live q session) = (λ x. absurd x, λ x. x.0)
   lacks_reserved evse (Reserved q j) = (
     λ x.
-      let was = of_remove text_pair_total text_pair_exact n (p, id) (q, j) x.0 x.1 in
-      ((x.0, was.1, x.2), λ same. was.0 (let a : q ≡ p = cc in let b : j ≡ id = cc in λ t. (a t, b t))),
+        let was = of_remove text_pair_total text_pair_exact n (p, id) (q, j) x.0 x.1 in
+        ((x.0, was.1, x.2), λ same. was.0 (let a : q ≡ p = cc in let b : j ≡ id = cc in λ t. (a t, b t))),
     λ x. (x.0.0, get-remove_other text_pair_total text_pair_exact n (p, id) (q, j) (λ same. x.1 (λ t. Reserved (same t).0 (same t).1)) ∙ x.0.1, x.0.2),
   )
 

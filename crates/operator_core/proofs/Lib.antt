@@ -1,3 +1,4 @@
 pub mod ClaimIndex
 pub mod BookRoom
 pub mod RowParts
+pub mod RowChanges

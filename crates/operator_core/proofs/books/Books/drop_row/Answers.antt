@@ -33,7 +33,7 @@ returns-in_default c =
     (record {
       site = ap (λ (p : Placed). p.site) (c.restore.ensures) ∙ ap (λ (p : Placed). p.site) (c.release.ensures);
       rows = drop_by_parts (the_view s).rows _ k c.uncount-self-inside.ensures c.drop_row-in_default.ensures.rows c.drop_spent.ensures.shown
-        (sym (drop_other_alone k (the_view s).rows c.in_default.not-Mark c.in_default.not-Reservation)) (sym (drop_unpushed k (the_view s).rows c.in_default.not-Count c.in_default.not-Push))
-        (ap (λ (p : Placed). p.out_of_service) (c.restore.ensures) ∙ ap (λ (p : Placed). restoring k p.out_of_service) (c.release.ensures));
+          (sym (drop_other_alone k (the_view s).rows c.in_default.not-Mark c.in_default.not-Reservation)) (sym (drop_unpushed k (the_view s).rows c.in_default.not-Count c.in_default.not-Push))
+          (ap (λ (p : Placed). p.out_of_service) (c.restore.ensures) ∙ ap (λ (p : Placed). restoring k p.out_of_service) (c.release.ensures));
       keeps = keeps_other _ _ k c.drop_row-in_default.ensures.keeps (other_spent _ _ k c.drop_spent.ensures.room) (λ r apart had. had) (λ r apart had. had);
     })

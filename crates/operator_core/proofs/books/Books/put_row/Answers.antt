@@ -18,7 +18,7 @@ invariant_of-self c =
     let s = c.self.inside in
     let r = c.args.row in
     let by_key : IsTaken c.args.self.now.rows (key_of r) c.claimed_by-evse_uid.result =
-        subst (λ k. IsTaken c.args.self.now.rows k c.claimed_by-evse_uid.result) c.key.ensures (c.claimed_by-evse_uid.ensures.taken, c.claimed_by-evse_uid.ensures.none) in
+    subst (λ k. IsTaken c.args.self.now.rows k c.claimed_by-evse_uid.result) c.key.ensures (c.claimed_by-evse_uid.ensures.taken, c.claimed_by-evse_uid.ensures.none) in
     let taken : IsTaken (the_view s).rows (key_of r) c.claimed_by-evse_uid.result = subst (λ (h : Held). IsTaken h.rows (key_of r) c.claimed_by-evse_uid.result) (sym c.self.view_is) by_key in
     let may : MayPut (the_view s).site (the_view s).rows r = subst (λ (h : Held). MayPut h.site h.rows r) (sym c.self.view_is) c.requires.claim in
     put_indexed (the_view s).rows s.places c.self.invariant c.claimed_by-evse_uid.result c.withdraw.new.places.claims (the_view s).site r taken may
@@ -30,7 +30,7 @@ invariant_of-self-in_default c =
     let s = c.self.inside in
     let r = c.args.row in
     let by_key : IsTaken c.args.self.now.rows (key_of r) c.claimed_by-evse_uid.result =
-        subst (λ k. IsTaken c.args.self.now.rows k c.claimed_by-evse_uid.result) c.key.ensures (c.claimed_by-evse_uid.ensures.taken, c.claimed_by-evse_uid.ensures.none) in
+    subst (λ k. IsTaken c.args.self.now.rows k c.claimed_by-evse_uid.result) c.key.ensures (c.claimed_by-evse_uid.ensures.taken, c.claimed_by-evse_uid.ensures.none) in
     let taken : IsTaken (the_view s).rows (key_of r) c.claimed_by-evse_uid.result = subst (λ (h : Held). IsTaken h.rows (key_of r) c.claimed_by-evse_uid.result) (sym c.self.view_is) by_key in
     let may : MayPut (the_view s).site (the_view s).rows r = subst (λ (h : Held). MayPut h.site h.rows r) (sym c.self.view_is) c.requires.claim in
     put_indexed (the_view s).rows s.places c.self.invariant c.claimed_by-evse_uid.result c.withdraw.new.places.claims (the_view s).site r taken may
