@@ -10,3 +10,7 @@ pub mod Runs
 pub mod Answered
 pub mod HeldSearch
 pub mod StartTable
+pub mod ClaimIndex
+pub mod BookRoom
+pub mod RowParts
+pub mod RowChanges

@@ -1,13 +1,17 @@
 //! What an operator stores, with the claims on the site's EVSEs that follow from it.
 
-ghost use Rattle.std.specs.Prelude.{◌≡◌, OnOk, IsOk, IsTrue, None, false, IfOk};
+ghost use Rattle.std.specs.Prelude.{◌≡◌, List, ℕ, OnOk, IsOk, IsTrue, None, false, IfOk, IfSome, IfNone};
 ghost use Rattle.std.specs.FinMap as map;
 ghost use Rattle.ocpi_types.specs.Rows.{key_of};
+ghost use Rattle.tables.specs.Keys.{text_pair_cmp};
+ghost use Rattle.tables.specs.Tables.{shown_of, rooms_of};
+ghost use Rattle.site.specs.Places.{IsEvse};
+ghost use Rattle.ocpi_types.specs.declared.rows.Row.{Row as RowData};
 ghost use Rattle.operator_core.specs.State.{no_rows};
 ghost use Rattle.operator_core.specs.Rows.{change_key, AreRowsOf};
 ghost use Rattle.operator_core.specs.Start.{IsSpent};
-ghost use Rattle.operator_core.specs.Claimed.{IsIndexed, MayPut, MayChange, MayChangeAll};
-ghost use Rattle.operator_core.specs.Stored.{AreApart, HasRoom, HasRoomOf, HasRooms, KeepsOtherRoom, KeepsRoom, changed, changed_all, put_row, drop_row};
+ghost use Rattle.operator_core.specs.Claimed.{IsIndexed, Holds, RowTakes, released, claimed, MayPut, MayChange, MayChangeAll};
+ghost use Rattle.operator_core.specs.Stored.{AreApart, HasRoom, HasRoomOf, HasRooms, KeepsOtherRoom, KeepsRoom, HasSpentRoom, changed, changed_all, put_row, drop_row, counted, uncounted, spending, unspending, withdrawing, restoring};
 
 use command_book::CommandBook;
 use handover::Outbox;
@@ -19,12 +23,15 @@ use std::alloc::{AllocError, Global};
 use std::marker::Model;
 use tables::Table;
 
+/// The references that are spent, by provider.
+type SpentTable = Table<(PartyKey, CiKey<36>), ()>;
+
 /// The rows of an operator, the room that is taken beside them, and the claims that follow from them.
 #[derive(Drop)]
 pub struct Books {
     serial: Whole,
     commands: CommandBook,
-    spent: Table<(PartyKey, CiKey<36>), ()>,
+    spent: SpentTable,
     booked: ReservationBook,
     outbox: Outbox,
     places: Places,
@@ -62,6 +69,139 @@ impl Model for Books {
     } };
 
     ghost invariant = { λ b. IsIndexed b.places.claims b.commands.rows.pending b.booked.rows.reservations };
+}
+
+/// Takes the memory that a spent reference needs; rows of other kinds need none.
+fn reserve_spent(spent: &mut SpentTable, row: &Row) -> Result<(), AllocError>
+    ensures shown { shown_of text_pair_cmp spent.new ≡ shown_of text_pair_cmp spent.old }
+    ensures keeps { (other : RowData) → HasSpentRoom (rooms_of text_pair_cmp spent.old) other → HasSpentRoom (rooms_of text_pair_cmp spent.new) other }
+    ensures room { OnOk result (HasSpentRoom (rooms_of text_pair_cmp spent.new) row.now) }
+    ensures again { HasSpentRoom (rooms_of text_pair_cmp spent.old) row.now → IsOk result }
+{
+    match row {
+        Row::Spent {
+            provider,
+            reference,
+        } => spent.reserve((*provider, *reference)),
+        _ => Ok(()),
+    }
+}
+
+/// Puts a reference that is spent; rows of other kinds change nothing.
+fn put_spent(spent: &mut SpentTable, row: &Row)
+    requires { HasSpentRoom (rooms_of text_pair_cmp spent.old) row.now }
+    ensures shown { shown_of text_pair_cmp spent.new ≡ spending row.now (shown_of text_pair_cmp spent.old) }
+    ensures room { rooms_of text_pair_cmp spent.new ≡ rooms_of text_pair_cmp spent.old }
+{
+    if let Row::Spent {
+        provider,
+        reference,
+    } = row
+    {
+        spent.put((*provider, *reference), ());
+    }
+}
+
+/// Drops a reference that is spent, with its room; keys of other kinds change nothing.
+fn drop_spent(spent: &mut SpentTable, key: &RowKey)
+    ensures shown { shown_of text_pair_cmp spent.new ≡ unspending key.now (shown_of text_pair_cmp spent.old) }
+    ensures room { rooms_of text_pair_cmp spent.new ≡ unspending key.now (rooms_of text_pair_cmp spent.old) }
+{
+    if let RowKey::Spent {
+        provider,
+        reference,
+    } = key
+    {
+        spent.remove((*provider, *reference));
+    }
+}
+
+/// Takes an EVSE out of service, where the row says so.
+fn withdraw(places: &mut Places, row: &Row)
+    requires { (evse : List ℕ) → row.now ≡ Row.Service evse → IsEvse places.old.site.locations evse }
+    ensures { places.new ≡ record places.old { out_of_service = withdrawing row.now places.old.out_of_service } }
+{
+    if let Row::Service { evse_uid } = row {
+        let _known = places.set_service(*evse_uid, false);
+    }
+}
+
+/// Puts the EVSE back in service whose row is dropped.
+fn restore(places: &mut Places, key: &RowKey)
+    requires { (evse : List ℕ) → key.now ≡ RowKey.Service evse → IsEvse places.old.site.locations evse }
+    ensures { places.new ≡ record places.old { out_of_service = restoring key.now places.old.out_of_service } }
+{
+    if let RowKey::Service { evse_uid } = key {
+        let _known = places.set_service(*evse_uid, true);
+    }
+}
+
+/// The number of the last packet once a row is put.
+fn count(serial: Whole, row: &Row) -> Whole
+    ensures { result ≡ counted row.now serial }
+{
+    match row {
+        Row::Count {
+            counter: Counter::Serial,
+            last,
+        } => *last,
+        _ => serial,
+    }
+}
+
+/// The number of the last packet once the row of a key is dropped.
+fn uncount(serial: Whole, key: &RowKey) -> Whole
+    ensures { result ≡ uncounted key.now serial }
+{
+    match key {
+        RowKey::Count {
+            counter: Counter::Serial,
+        } => Whole::new(0).unwrap(),
+        _ => serial,
+    }
+}
+
+/// Ends the claim on an EVSE, where one is given.
+fn release(places: &mut Places, evse_uid: Option<CiKey<36>>)
+    ensures { places.new ≡ record places.old { claims = released evse_uid places.old.claims } }
+{
+    if let Some(evse_uid) = evse_uid {
+        places.release(evse_uid);
+    }
+}
+
+/// Claims the EVSE that a row takes, if it takes one.
+fn claim(places: &mut Places, row: &Row)
+    requires { (evse : List ℕ) → RowTakes row.now evse → IsEvse places.old.site.locations evse }
+    ensures { places.new ≡ record places.old { claims = claimed row.now places.old.claims } }
+{
+    match row {
+        Row::Pending {
+            provider,
+            number,
+            open,
+        } => {
+            if let Some(evse_uid) = &open.evse_uid {
+                let (provider, number) = (*provider, *number);
+                places.put_claim(evse_uid.key(), Claim::OpenStart { provider, number });
+            }
+        }
+        Row::Reservation {
+            provider,
+            reservation_id,
+            reservation,
+        } => {
+            let (provider, id) = (*provider, *reservation_id);
+            places.put_claim(
+                reservation.evse_uid.key(),
+                Claim::Reserved {
+                    provider,
+                    reservation: id,
+                },
+            );
+        }
+        _ => {}
+    }
 }
 
 impl Books {
@@ -137,13 +277,7 @@ impl Books {
         ensures room { OnOk result (HasRoomOf self.new.rooms row.now) }
         ensures again { HasRoomOf self.old.rooms row.now → IsOk result }
     {
-        if let Row::Spent {
-            provider,
-            reference,
-        } = row
-        {
-            self.spent.reserve((*provider, *reference))?;
-        }
+        reserve_spent(&mut self.spent, row)?;
         self.commands.reserve_row(row)?;
         self.booked.reserve_row(row)?;
         self.outbox.reserve_row(row)
@@ -177,8 +311,11 @@ impl Books {
         Ok(())
     }
 
-    /// The EVSE that the row under a key claims, in key form, if it claims one.
-    fn claimed_by(&self, key: &RowKey) -> Option<CiKey<36>> {
+    /// The EVSE that the row under a key takes, in key form, if there is such a row and it takes one.
+    fn claimed_by(&self, key: &RowKey) -> Option<CiKey<36>>
+        ensures taken { IfSome result (λ evse. Holds self.now.rows key.now evse) }
+        ensures none { IfNone result ((evse : List ℕ) → Holds self.now.rows key.now evse → ⊥) }
+    {
         match key {
             RowKey::Pending { provider, number } => {
                 let open = self.commands.opened(*provider, *number)?;
@@ -197,45 +334,6 @@ impl Books {
         }
     }
 
-    /// Gives back the EVSE that the row under a key claims, if it claims one.
-    fn release(&mut self, key: &RowKey) {
-        if let Some(evse_uid) = self.claimed_by(key) {
-            self.places.release(evse_uid);
-        }
-    }
-
-    /// Claims the EVSE that a row claims, if it claims one.
-    fn claim(&mut self, row: &Row) {
-        match row {
-            Row::Pending {
-                provider,
-                number,
-                open,
-            } => {
-                if let Some(evse_uid) = &open.evse_uid {
-                    let (provider, number) = (*provider, *number);
-                    self.places
-                        .put_claim(evse_uid.key(), Claim::OpenStart { provider, number });
-                }
-            }
-            Row::Reservation {
-                provider,
-                reservation_id,
-                reservation,
-            } => {
-                let (provider, id) = (*provider, *reservation_id);
-                self.places.put_claim(
-                    reservation.evse_uid.key(),
-                    Claim::Reserved {
-                        provider,
-                        reservation: id,
-                    },
-                );
-            }
-            _ => {}
-        }
-    }
-
     /// Puts a row, with the claim that follows from it. It takes no memory.
     fn put_row(&mut self, row: Row)
         requires room { HasRoomOf self.old.rooms row }
@@ -244,20 +342,13 @@ impl Books {
         ensures rows { self.new.rows ≡ put_row row self.old.rows }
         ensures keeps { KeepsOtherRoom (key_of row) self.old.rooms self.new.rooms }
     {
-        self.release(&row.key());
-        self.claim(&row);
-        match &row {
-            Row::Count {
-                counter: Counter::Serial,
-                last,
-            } => self.serial = *last,
-            Row::Spent {
-                provider,
-                reference,
-            } => self.spent.put((*provider, *reference), ()),
-            Row::Service { evse_uid } => {
-                let _known = self.places.set_service(*evse_uid, false);
-            }
+        let evse_uid = self.claimed_by(&row.key());
+        release(&mut self.places, evse_uid);
+        claim(&mut self.places, &row);
+        withdraw(&mut self.places, &row);
+        self.serial = count(self.serial, &row);
+        put_spent(&mut self.spent, &row);
+        match row {
             Row::Mark { .. } | Row::Reservation { .. } => self.booked.put_row(row),
             Row::Push { .. } | Row::Count { .. } => self.outbox.put_row(row),
             _ => self.commands.put_row(row),
@@ -271,20 +362,12 @@ impl Books {
         ensures rows { self.new.rows ≡ drop_row key self.old.rows }
         ensures keeps { KeepsOtherRoom key self.old.rooms self.new.rooms }
     {
-        self.release(&key);
-        match &key {
-            RowKey::Count {
-                counter: Counter::Serial,
-            } => self.serial = Whole::new(0).unwrap(),
-            RowKey::Spent {
-                provider,
-                reference,
-            } => {
-                self.spent.remove((*provider, *reference));
-            }
-            RowKey::Service { evse_uid } => {
-                let _known = self.places.set_service(*evse_uid, true);
-            }
+        let evse_uid = self.claimed_by(&key);
+        release(&mut self.places, evse_uid);
+        restore(&mut self.places, &key);
+        self.serial = uncount(self.serial, &key);
+        drop_spent(&mut self.spent, &key);
+        match key {
             RowKey::Mark { .. } | RowKey::Reservation { .. } => self.booked.drop_row(key),
             RowKey::Push { .. } | RowKey::Count { .. } => self.outbox.drop_row(key),
             _ => self.commands.drop_row(key),

@@ -16,6 +16,7 @@ use ocpi_text::{CiKey, CiText};
 use ocpi_types::{Evse, Location, Place, Site};
 use std::alloc::{AllocError, Global};
 use std::marker::Model;
+use tables::Visits;
 
 /// A site whose locations and EVSEs are found by their ids, without case, the claims on its EVSEs, and which of these are out
 /// of service. Each call but `new` costs the logarithm of the number of EVSEs, and takes no memory.
@@ -215,6 +216,13 @@ impl Places {
         ensures { IsTrue result ↔ (IsEvse self.now.site.locations evse × IsTrue (works self.now.out_of_service evse)) }
     {
         self.indexes.evses.contains(evse) && self.indexes.works(evse)
+    }
+
+    /// The EVSEs that are out of service, in the order of their keys.
+    pub fn idle(&self) -> Visits<'_, CiKey<36>, ()>
+        ensures { result ≡ map.entries self.now.out_of_service }
+    {
+        self.indexes.out_of_service.iter()
     }
 
     /// That only EVSEs of the site are claimed, which the type keeps.
