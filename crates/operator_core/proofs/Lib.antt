@@ -1,0 +1,2 @@
+pub mod OtherClaims
+pub mod Reserving
