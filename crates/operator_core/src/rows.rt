@@ -12,7 +12,7 @@ ghost use Rattle.operator_core.specs.Steps.{own_rows, url_of, reference_of, dead
 
 use crate::decision::Decision;
 use crate::request::{Numbers, Request, ResultNumbers, TIMEOUT};
-use ocpi_text::{CiKey, CiText, FreeText};
+use ocpi_text::{CiKey, CiText, FreeText, Moment};
 use ocpi_types::{
     Body, Change, Command, CommandResult, CommandResultType, Counter, OpenCommand, Place, Push,
     Reply, Reservation, Row, RowKey,
@@ -92,6 +92,18 @@ fn reference_of(body: &Body) -> Option<CiText<36>>
     }
 }
 
+/// A command that is open until a deadline, a start with the place that it took.
+fn open_command(command: Command, place: Option<Place>, deadline: Moment) -> OpenCommand
+    ensures { result ≡ book.open_command command place deadline }
+{
+    OpenCommand {
+        command,
+        evse_uid: place.as_ref().map(|place| place.evse_uid),
+        connector_id: place.as_ref().map(|place| place.connector_id),
+        deadline,
+    }
+}
+
 /// Adds the row of the command that a body carries: it is open until its result, a start at the place that it took.
 fn push_pending_row(
     rows: &mut Vec<Change>,
@@ -104,12 +116,8 @@ fn push_pending_row(
     let Some(command) = command_of(body)? else {
         return Ok(());
     };
-    let open = OpenCommand {
-        command,
-        evse_uid: place.map(|place| place.evse_uid),
-        connector_id: place.map(|place| place.connector_id),
-        deadline: request.at.after(1000 * TIMEOUT),
-    };
+    let deadline = request.at.after(1000 * TIMEOUT);
+    let open = open_command(command, place, deadline);
     rows.push(Change::Put(Row::Pending {
         provider: request.provider,
         number: request.number,
