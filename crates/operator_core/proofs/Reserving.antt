@@ -1,6 +1,6 @@
 -- What a command may reserve.
 use Rattle.std.proofs.Common.{◌≡◌, ℕ, ◌≤◌, Bool, true, false, List, refl, sym, ap, subst, ◌∙◌, arith}
-use Rattle.std.specs.Prelude.{◌≢◌, Option, Some, None, Contains, IsTrue, is_some, not, ◌&&◌, slice_get}
+use Rattle.std.specs.Prelude.{Option, Some, None, Contains, IsTrue, is_some, not, ◌&&◌, slice_get}
 use Rattle.std.specs.FinMap.{get, contains_key}
 use Rattle.ocpi_text.specs.Text.{key}
 use Rattle.ocpi_types.specs.declared.site.Site.{Site}
@@ -21,8 +21,8 @@ use Rattle.reservation_book.specs.Refusals.{IsInTime, IsHere, RefusesReservation
 use Rattle.reservation_book.specs.Rows.{Reservations}
 use Rattle.reservation_book.specs.Rows.{Rows as BookRows}
 use Rattle.operator_core.specs.declared.decision.Decision.TheVariants as decision
-use Rattle.operator_core.specs.State.{Rows, Claims, HasClaim}
-use Rattle.operator_core.specs.Places.{Works, MayReserve}
+use Rattle.operator_core.specs.State.{Rows, Claims}
+use Rattle.operator_core.specs.Places.{MayReserve}
 use Rattle.operator_core.specs.Claimed.{IsIndexed}
 use Rattle.operator_core.specs.Reserve as lines
 use Rattle.operator_core.specs.Reserve.{IsEvseFor, IsPlaced, IsVoid, MayHold, ReserveLine, reservation_key, reservation_at}
