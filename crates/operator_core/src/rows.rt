@@ -12,33 +12,32 @@ ghost use Rattle.operator_core.specs.Steps.{own_rows, url_of, reference_of, dead
 
 use crate::decision::Decision;
 use crate::request::{Numbers, Request, ResultNumbers, TIMEOUT};
-use ocpi_text::{CiKey, CiText, FreeText, Moment};
+use ocpi_text::{CiKey, CiText, FreeText, Moment, Whole};
 use ocpi_types::{
     Body, Change, Command, CommandResult, CommandResultType, Counter, OpenCommand, Place, Push,
     Reply, Reservation, Row, RowKey,
 };
 use std::alloc::{AllocError, Global};
 
+/// The row of a counter.
+fn counter_row(counter: Counter, last: Whole) -> Change
+    ensures { result ≡ Change.Put (Row.Count counter last) }
+{
+    Change::Put(Row::Count { counter, last })
+}
+
 /// The rows of the counters.
 pub fn counter_rows(alloc: Global, numbers: &Numbers) -> Result<Vec<Change>, AllocError>
     ensures { IfOk result (λ v. v.items ≡ numbered_rows numbers.now) }
 {
-    let counter = Counter::Serial;
-    match numbers.result {
-        None => {
-            let last = numbers.reply;
-            Ok(vec![in alloc; Change::Put(Row::Count { counter, last })]?)
-        }
-        Some(result) => {
-            let last = result.serial;
-            let mut rows = vec![in alloc; Change::Put(Row::Count { counter, last })]?;
-            rows.push(Change::Put(Row::Count {
-                counter: Counter::Request,
-                last: result.request,
-            }))?;
-            Ok(rows)
-        }
-    }
+    let mut rows = Vec::new(alloc);
+    let Some(result) = &numbers.result else {
+        rows.push(counter_row(Counter::Serial, numbers.reply))?;
+        return Ok(rows);
+    };
+    rows.push(counter_row(Counter::Serial, result.serial))?;
+    rows.push(counter_row(Counter::Request, result.request))?;
+    Ok(rows)
 }
 
 /// The row of a kept reply.
@@ -273,13 +272,21 @@ pub fn push_result_rows(
     Ok(())
 }
 
+/// Adds an equal change.
+fn push_copy(copies: &mut Vec<Change>, change: &Change) -> Result<(), AllocError>
+    ensures { OnOk result (copies.new.items ≡ copies.old.items ++ change.now ∷ []) }
+{
+    copies.push(change.copy()?)?;
+    Ok(())
+}
+
 /// Equal changes, in order.
 pub fn copies(alloc: Global, changes: &[Change]) -> Result<Vec<Change>, AllocError>
     ensures { IfOk result (λ v. v.items ≡ changes.now) }
 {
     let mut copies = Vec::with_capacity(alloc, changes.len())?;
     for change in changes {
-        copies.push(change.copy()?)?;
+        push_copy(&mut copies, change)?;
     }
     Ok(copies)
 }
