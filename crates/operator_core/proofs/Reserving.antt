@@ -1,5 +1,5 @@
 -- What a command may reserve.
-use Rattle.std.proofs.Common.{◌≡◌, ℕ, ◌≤◌, Bool, true, false, List, refl, sym, ap, subst, ◌∙◌, arith}
+use Rattle.std.proofs.Common.{◌≡◌, ℕ, ◌≤◌, false, List, refl, sym, ap, subst, ◌∙◌, arith}
 use Rattle.std.specs.Prelude.{Option, Some, None, Contains, IsTrue, is_some, not, ◌&&◌, slice_get}
 use Rattle.std.specs.FinMap.{get, contains_key}
 use Rattle.ocpi_text.specs.Text.{key}
@@ -11,7 +11,7 @@ use Rattle.ocpi_types.specs.declared.commands.ReserveNow.{ReserveNow}
 use Rattle.ocpi_types.specs.declared.words.CommandResponseType.TheVariants as response
 use Rattle.site.specs.declared.claim.Claim.{Claim}
 use Rattle.site.specs.declared.claim.Claim.TheVariants.{Reserved}
-use Rattle.site.specs.Places.{Claims as ClaimMap, Idle, IsNamed, IsEvse, IsLocation, is_free, works}
+use Rattle.site.specs.Places.{Claims as ClaimMap, Idle, IsEvse, IsLocation, is_free, works}
 use Rattle.site.specs.Positions.{IsCandidate}
 use Rattle.site.proofs.Finding.{evse_of_site}
 use Rattle.command_book.specs.Stored.{OpenCommands}
@@ -37,22 +37,12 @@ module _ (locations : List Location) (at : ℕ) (l : Location) (stands : slice_g
   pub candidate_for : IsEvseFor l c e → IsCandidate locations at c.evse_uid e
   candidate_for x = record { location = l; stands = stands; listed = x.listed; named = x.named }
 
--- a uid that is named, where one is, is the name of an EVSE of the same key
-pub named_as : (name : Option (List ℕ)) (a b : List ℕ) → key a ≡ key b → IsNamed name a → IsNamed name b
-named_as None a b same h = tt
-named_as (Some u) a b same h = sym same ∙ h
-
-pub candidate_as : (locations : List Location) (at : ℕ) (name : Option (List ℕ)) (uid : List ℕ) (e : Evse) → IsNamed name uid → IsCandidate locations at (Some uid) e → IsCandidate locations at name e
-candidate_as locations at name uid e named x = record { location = x.location; stands = x.stands; listed = x.listed; named = named_as name uid e.uid (sym x.named) named }
-
+-- an EVSE that the site finds is one of it
 pub candidate_evse : (locations : List Location) (at : ℕ) (name : Option (List ℕ)) (e : Evse) → IsCandidate locations at name e → IsEvse locations (key e.uid)
 candidate_evse locations at name e x = evse_of_site locations at x.location e x.stands x.listed
 
--- the place of a reservation that stands
+-- the EVSE that a reservation claims is the one of its uid
 module _ (reservations : Reservations) (p id evse : List ℕ) where
-  pub none_stands : get reservations (p, id) ≡ None → (pending : OpenCommands) → Claims pending reservations evse (Reserved p id) → ⊥
-  none_stands none pending (r, has, at) = cc
-
   pub stands_at : (r : Reservation) → get reservations (p, id) ≡ Some r → (pending : OpenCommands) → Claims pending reservations evse (Reserved p id) → key r.evse_uid ≡ evse
   stands_at r is pending (x, has, at) = let same : x ≡ r = cc in ap (λ (y : Reservation). key y.evse_uid) (sym same) ∙ at
 
@@ -65,20 +55,6 @@ module _ (claims : ClaimMap) (pending : OpenCommands) (reservations : Reservatio
       cc
 
   module _ (out : Idle) where
-    -- an EVSE that is free has none, and works
-    pub free_unclaimed : IsTrue (is_free claims out evse) → (c : Claim) → Claims pending reservations evse c → ⊥
-    free_unclaimed free c has =
-        let there : contains_key claims evse ≡ true = ap is_some ((h evse c).1 has) in
-        let never : false ≡ true = sym (ap (λ b. not b && not (contains_key out evse)) there) ∙ free in
-        cc
-
-    pub free_works : IsTrue (is_free claims out evse) → IsTrue (works out evse)
-    free_works free = go (contains_key claims evse) free
-      where
-        go : (b : Bool) → IsTrue (not b && not (contains_key out evse)) → IsTrue (not (contains_key out evse))
-        go true f = let never : false ≡ true = f in absurd (cc)
-        go false f = f
-
     -- an EVSE that works is free, or has a claim
     pub works_free : IsTrue (works out evse) → (IsTrue (is_free claims out evse) → ⊥) → (c : Claim) × Claims pending reservations evse c
     works_free work not_free = go (get claims evse) refl
@@ -98,9 +74,6 @@ module _ (claims : ClaimMap) (pending : OpenCommands) (reservations : Reservatio
 module _ (x y : Site) (same : x ≡ y) where
   pub located : (id : List ℕ) (l : Location) → IsLocation x.locations id l → IsLocation y.locations id l
   located id l is = subst (λ (z : Site). IsLocation z.locations id l) same is
-
-  pub seen_there : (at : ℕ) (l : Location) → slice_get x.locations at ≡ Some l → slice_get y.locations at ≡ Some l
-  seen_there at l is = subst (λ (z : Site). slice_get z.locations at ≡ Some l) same is
 
   pub seen_from : (at : ℕ) (l : Location) → slice_get y.locations at ≡ Some l → slice_get x.locations at ≡ Some l
   seen_from at l is = subst (λ (z : Site). slice_get z.locations at ≡ Some l) (sym same) is

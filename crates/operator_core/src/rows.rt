@@ -1,10 +1,9 @@
 //! The rows that a decision on a command changes.
 
-ghost use Rattle.std.specs.Prelude.{◌≡◌, ◌++◌, ◌∷◌, [], IfOk, OnOk, option_copied, Some, None};
+ghost use Rattle.std.specs.Prelude.{◌≡◌, ◌++◌, ◌∷◌, [], IfOk, OnOk, option_copied, Some};
 ghost use Rattle.ocpi_types.specs.Stored.{body_of_command};
 ghost use Rattle.ocpi_types.specs.declared.stored.Command.{Command as CommandOf};
 ghost use Rattle.ocpi_types.specs.declared.stored.Push.TheVariants as pushed;
-ghost use Rattle.ocpi_types.specs.declared.rows.Counter.TheVariants.{Serial, Request as Requests};
 ghost use Rattle.command_book.specs.Stored as book;
 ghost use Rattle.operator_core.specs.Moves.{spent_rows, used_rows, told};
 ghost use Rattle.operator_core.specs.Numbers.{numbered_rows};
