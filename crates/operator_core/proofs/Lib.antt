@@ -14,3 +14,5 @@ pub mod ClaimIndex
 pub mod BookRoom
 pub mod RowParts
 pub mod RowChanges
+pub mod OtherClaims
+pub mod Reserving

@@ -1,16 +1,32 @@
 //! How a RESERVE_NOW is decided (OCPI 2.2.1, Commands: ReserveNow).
 
-ghost use Rattle.std.specs.Prelude.{◌≡◌};
+ghost use Rattle.std.specs.Prelude.{◌≡◌, ◌↔◌, ℕ, List, Some, IsTrue, false, IfSome, IfNone, slice_get};
 ghost use Rattle.ocpi_text.specs.Text.{key};
-ghost use Rattle.operator_core.specs.Reserve.{ReserveLine};
+ghost use Rattle.ocpi_types.specs.declared.site.Location.{Location};
+ghost use Rattle.ocpi_types.specs.declared.site.Evse.{Evse as EvseOf};
+ghost use Rattle.site.specs.declared.claim.Claim.TheVariants.{Reserved};
+ghost use Rattle.site.specs.Places.{IsLocation, IsNamed};
+ghost use Rattle.site.specs.Positions.{IsCandidate};
+ghost use Rattle.operator_core.specs.State.{HasClaim};
+ghost use Rattle.operator_core.specs.Places.{Works, MayReserve};
+ghost use Rattle.operator_core.specs.Reserve.{IsVoid, MayHold, ReserveLine};
 
 use crate::books::Books;
 use crate::decision::Decision;
 use crate::request::Request;
 use crate::start::{invalid_parameters, unknown_location};
-use ocpi_text::{CiText, Party};
-use ocpi_types::{CommandResponseType, CommandResultType, Evse, Reservation, ReserveNow};
-use reservation_book::ReservationFault;
+use ocpi_text::{CiText, Moment, Party};
+use ocpi_types::{CommandResponseType, CommandResultType, Reservation, ReserveNow};
+
+/// Whether a uid is the one that is named, or none is named.
+fn is_named(name: &Option<CiText<36>>, uid: &CiText<36>) -> bool
+    ensures { IsTrue result ↔ IsNamed name.now uid.now }
+{
+    match name {
+        None => true,
+        Some(name) => uid.is_same(name),
+    }
+}
 
 /// The uid of the EVSE that the command's very reservation holds, where it is in service and the command may be about it.
 fn own_evse(
@@ -18,18 +34,18 @@ fn own_evse(
     location: usize,
     request: &Request,
     command: &ReserveNow,
-) -> Option<CiText<36>> {
+) -> Option<CiText<36>>
+    ensures found { IfSome result (λ uid. (e : EvseOf) × IsCandidate books.now.site.locations location command.now.evse_uid e × Works books.now.rows e × HasClaim books.now.rows (key e.uid) (Reserved request.now.provider (key command.now.reservation_id)) × (uid ≡ e.uid)) }
+    ensures none { IfNone result ((e : EvseOf) → IsCandidate books.now.site.locations location command.now.evse_uid e → Works books.now.rows e → HasClaim books.now.rows (key e.uid) (Reserved request.now.provider (key command.now.reservation_id)) → ⊥) }
+{
+    let places = books.places();
     let id = command.reservation_id.key();
     let standing = books.booked().standing(request.provider, id)?;
-    if let Some(evse_uid) = &command.evse_uid {
-        if !evse_uid.is_same(&standing.evse_uid) {
-            return None;
-        }
+    if !is_named(&command.evse_uid, &standing.evse_uid) {
+        return None;
     }
-    let evse = books
-        .places()
-        .find_evse(location, &Some(standing.evse_uid))?;
-    if !books.places().in_service(evse.uid.key()) {
+    let evse = places.find_evse(location, &Some(standing.evse_uid))?;
+    if !places.in_service(evse.uid.key()) {
         return None;
     }
     Some(evse.uid)
@@ -41,24 +57,43 @@ fn reservable_evse(
     location: usize,
     request: &Request,
     command: &ReserveNow,
-) -> Option<CiText<36>> {
+) -> Option<CiText<36>>
+    ensures found { IfSome result (λ uid. (e : EvseOf) × IsCandidate books.now.site.locations location command.now.evse_uid e × Works books.now.rows e × MayReserve books.now.rows request.now.provider (key command.now.reservation_id) e × (uid ≡ e.uid)) }
+    ensures none { IfNone result ((e : EvseOf) → IsCandidate books.now.site.locations location command.now.evse_uid e → Works books.now.rows e → ¬ MayReserve books.now.rows request.now.provider (key command.now.reservation_id) e) }
+{
+    let places = books.places();
     if let Some(evse_uid) = own_evse(books, location, request, command) {
         return Some(evse_uid);
     }
-    let evse = books.places().free_evse(location, &command.evse_uid)?;
+    let evse = places.free_evse(location, &command.evse_uid)?;
     Some(evse.uid)
 }
 
 /// The id of a location of the site, as the site spells it.
-fn spelled_location(books: &Books, id: &CiText<36>) -> CiText<36> {
+fn spelled_location(books: &Books, id: &CiText<36>) -> CiText<36>
+    requires { (l : Location) × IsLocation books.now.site.locations id.now l }
+    ensures { (l : Location) × IsLocation books.now.site.locations id.now l × (result ≡ l.id) }
+{
     match books.places().location(id) {
         Ok(location) => location.id,
-        Err(_fault) => *id,
+        Err(_unknown) => unreachable!(),
     }
 }
 
-/// The decision on a RESERVE_NOW that got as far as the EVSEs of its location.
-fn decide_at(books: &Books, location: usize, request: &Request, command: &ReserveNow) -> Decision {
+/// Whether the token of a command is not valid, or its reservation would have ended by a moment.
+fn is_void(command: &ReserveNow, at: Moment) -> bool
+    ensures yes { IsTrue result → IsVoid at command.now }
+    ensures no { result ≡ false → ¬ IsVoid at command.now }
+{
+    !command.token.valid || command.expiry_date <= at
+}
+
+/// The decision on a RESERVE_NOW that got as far as the EVSEs of its location, which stands there in the site's list.
+fn decide_at(books: &Books, location: usize, request: &Request, command: &ReserveNow) -> Decision
+    requires known { (l : Location) × IsLocation books.now.site.locations command.now.location_id l }
+    requires sole { (l : Location) → IsLocation books.now.site.locations command.now.location_id l → slice_get books.now.site.locations location ≡ Some l }
+    ensures { (sender : List ℕ) (l : Location) (e : EvseOf) → request.now.provider ≡ key sender → MayHold books.now.site books.now.rows request.now.at sender request.now.number command.now l e → ReserveLine books.now.site books.now.rows request.now.at sender request.now.number command.now result }
+{
     let reservation_id = command.reservation_id.key();
     if !books.places().has_service(location, &command.evse_uid) {
         return Decision::Noted {
@@ -103,7 +138,7 @@ pub fn decide_reserve(
     let Some(_evse) = places.find_evse(location, &command.evse_uid) else {
         return Decision::Answered(CommandResponseType::Rejected);
     };
-    if !command.token.valid || command.expiry_date <= request.at {
+    if is_void(command, request.at) {
         return Decision::Answered(CommandResponseType::Rejected);
     }
     let reservation_id = command.reservation_id.key();

@@ -1,10 +1,9 @@
 //! The rows that a decision on a command changes.
 
-ghost use Rattle.std.specs.Prelude.{◌≡◌, ◌++◌, ◌∷◌, [], IfOk, OnOk, option_copied, Some, None};
+ghost use Rattle.std.specs.Prelude.{◌≡◌, ◌++◌, ◌∷◌, [], IfOk, OnOk, option_copied, Some};
 ghost use Rattle.ocpi_types.specs.Stored.{body_of_command};
 ghost use Rattle.ocpi_types.specs.declared.stored.Command.{Command as CommandOf};
 ghost use Rattle.ocpi_types.specs.declared.stored.Push.TheVariants as pushed;
-ghost use Rattle.ocpi_types.specs.declared.rows.Counter.TheVariants.{Serial, Request as Requests};
 ghost use Rattle.command_book.specs.Stored as book;
 ghost use Rattle.operator_core.specs.Moves.{spent_rows, used_rows, told};
 ghost use Rattle.operator_core.specs.Numbers.{numbered_rows};
@@ -12,33 +11,32 @@ ghost use Rattle.operator_core.specs.Steps.{own_rows, url_of, reference_of, dead
 
 use crate::decision::Decision;
 use crate::request::{Numbers, Request, ResultNumbers, TIMEOUT};
-use ocpi_text::{CiKey, CiText, FreeText};
+use ocpi_text::{CiKey, CiText, FreeText, Moment, Whole};
 use ocpi_types::{
     Body, Change, Command, CommandResult, CommandResultType, Counter, OpenCommand, Place, Push,
     Reply, Reservation, Row, RowKey,
 };
 use std::alloc::{AllocError, Global};
 
+/// The row of a counter.
+fn counter_row(counter: Counter, last: Whole) -> Change
+    ensures { result ≡ Change.Put (Row.Count counter last) }
+{
+    Change::Put(Row::Count { counter, last })
+}
+
 /// The rows of the counters.
 pub fn counter_rows(alloc: Global, numbers: &Numbers) -> Result<Vec<Change>, AllocError>
     ensures { IfOk result (λ v. v.items ≡ numbered_rows numbers.now) }
 {
-    let counter = Counter::Serial;
-    match numbers.result {
-        None => {
-            let last = numbers.reply;
-            Ok(vec![in alloc; Change::Put(Row::Count { counter, last })]?)
-        }
-        Some(result) => {
-            let last = result.serial;
-            let mut rows = vec![in alloc; Change::Put(Row::Count { counter, last })]?;
-            rows.push(Change::Put(Row::Count {
-                counter: Counter::Request,
-                last: result.request,
-            }))?;
-            Ok(rows)
-        }
-    }
+    let mut rows = Vec::new(alloc);
+    let Some(result) = &numbers.result else {
+        rows.push(counter_row(Counter::Serial, numbers.reply))?;
+        return Ok(rows);
+    };
+    rows.push(counter_row(Counter::Serial, result.serial))?;
+    rows.push(counter_row(Counter::Request, result.request))?;
+    Ok(rows)
 }
 
 /// The row of a kept reply.
@@ -92,6 +90,18 @@ fn reference_of(body: &Body) -> Option<CiText<36>>
     }
 }
 
+/// A command that is open until a deadline, a start with the place that it took.
+fn open_command(command: Command, place: Option<Place>, deadline: Moment) -> OpenCommand
+    ensures { result ≡ book.open_command command place deadline }
+{
+    OpenCommand {
+        command,
+        evse_uid: place.as_ref().map(|place| place.evse_uid),
+        connector_id: place.as_ref().map(|place| place.connector_id),
+        deadline,
+    }
+}
+
 /// Adds the row of the command that a body carries: it is open until its result, a start at the place that it took.
 fn push_pending_row(
     rows: &mut Vec<Change>,
@@ -104,12 +114,8 @@ fn push_pending_row(
     let Some(command) = command_of(body)? else {
         return Ok(());
     };
-    let open = OpenCommand {
-        command,
-        evse_uid: place.map(|place| place.evse_uid),
-        connector_id: place.map(|place| place.connector_id),
-        deadline: request.at.after(1000 * TIMEOUT),
-    };
+    let deadline = request.at.after(1000 * TIMEOUT);
+    let open = open_command(command, place, deadline);
     rows.push(Change::Put(Row::Pending {
         provider: request.provider,
         number: request.number,
@@ -265,13 +271,21 @@ pub fn push_result_rows(
     Ok(())
 }
 
+/// Adds an equal change.
+fn push_copy(copies: &mut Vec<Change>, change: &Change) -> Result<(), AllocError>
+    ensures { OnOk result (copies.new.items ≡ copies.old.items ++ change.now ∷ []) }
+{
+    copies.push(change.copy()?)?;
+    Ok(())
+}
+
 /// Equal changes, in order.
 pub fn copies(alloc: Global, changes: &[Change]) -> Result<Vec<Change>, AllocError>
     ensures { IfOk result (λ v. v.items ≡ changes.now) }
 {
     let mut copies = Vec::with_capacity(alloc, changes.len())?;
     for change in changes {
-        copies.push(change.copy()?)?;
+        push_copy(&mut copies, change)?;
     }
     Ok(copies)
 }

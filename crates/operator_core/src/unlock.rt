@@ -1,7 +1,10 @@
 //! How an UNLOCK_CONNECTOR is decided (OCPI 2.2.1, Commands: UnlockConnector).
 
-ghost use Rattle.std.specs.Prelude.{◌≡◌, IsTrue, false};
+ghost use Rattle.std.specs.Prelude.{◌≡◌, ◌≢◌, ◌↔◌, IsTrue};
 ghost use Rattle.ocpi_text.specs.Text.{key};
+ghost use Rattle.site.specs.declared.claim.Claim.{Claim as ClaimOf};
+ghost use Rattle.operator_core.specs.State.{HasClaim};
+ghost use Rattle.operator_core.specs.Places.{holder};
 ghost use Rattle.operator_core.specs.Unlock.{UnlockLine};
 
 use crate::books::Books;
@@ -12,7 +15,9 @@ use ocpi_types::{CommandResponseType, UnlockConnector};
 use site::Claim;
 
 /// The party whose claim it is.
-fn holder(claim: &Claim) -> PartyKey {
+fn holder(claim: &Claim) -> PartyKey
+    ensures { result ≡ holder claim.now }
+{
     match claim {
         Claim::OpenStart { provider, .. } => *provider,
         Claim::Live { provider, .. } => *provider,
@@ -21,7 +26,9 @@ fn holder(claim: &Claim) -> PartyKey {
 }
 
 /// Whether an EVSE is claimed by another provider.
-fn is_foreign(books: &Books, provider: PartyKey, evse_uid: CiKey<36>) -> bool {
+fn is_foreign(books: &Books, provider: PartyKey, evse_uid: CiKey<36>) -> bool
+    ensures { IsTrue result ↔ ((claim : ClaimOf) × HasClaim books.now.rows evse_uid claim × (holder claim ≢ provider)) }
+{
     match books.places().claim_of(evse_uid) {
         None => false,
         Some(claim) => holder(&claim) != provider,
