@@ -25,16 +25,16 @@ use Rattle.operator_core.specs.State.{Rows, Claims}
 use Rattle.operator_core.specs.Places.{MayReserve}
 use Rattle.operator_core.specs.Claimed.{IsIndexed}
 use Rattle.operator_core.specs.Reserve as lines
-use Rattle.operator_core.specs.Reserve.{IsEvseFor, IsPlaced, IsVoid, MayHold, ReserveLine, reservation_key, reservation_at}
+use Rattle.operator_core.specs.Reserve.{IsPlaced, IsVoid, MayHold, ReserveLine, reservation_key, reservation_at}
 
 -- the EVSEs that a command may be about are those that the site finds where its location stands
 module _ (locations : List Location) (at : ℕ) (l : Location) (stands : slice_get locations at ≡ Some l) (c : ReserveNow) (e : Evse) where
-  pub evse_for : IsCandidate locations at c.evse_uid e → IsEvseFor l c e
+  pub evse_for : IsCandidate locations at c.evse_uid e → IsEvseFor l c.evse_uid e
   evse_for x =
       let same : x.location ≡ l = cc in
       record { listed = subst (λ (m : Location). Contains m.evses e) same x.listed; named = x.named }
 
-  pub candidate_for : IsEvseFor l c e → IsCandidate locations at c.evse_uid e
+  pub candidate_for : IsEvseFor l c.evse_uid e → IsCandidate locations at c.evse_uid e
   candidate_for x = record { location = l; stands = stands; listed = x.listed; named = x.named }
 
 -- an EVSE that the site finds is one of it
@@ -100,10 +100,10 @@ module _ (x y : Site) (same : x ≡ y) where
         (subst (IsEvse x.locations) here (candidate_evse x.locations at name e there), subst (λ k. IsTrue (works xo k)) here (works_from (key e.uid) work))
 
     module _ (at : ℕ) (l : Location) (stands : slice_get y.locations at ≡ Some l) (c : ReserveNow) where
-      pub none_works : (((e : Evse) × IsCandidate x.locations at c.evse_uid e × IsTrue (works xo (key e.uid))) → ⊥) → (f : Evse) → IsEvseFor l c f → IsTrue (works yo (key f.uid)) → ⊥
+      pub none_works : (((e : Evse) × IsCandidate x.locations at c.evse_uid e × IsTrue (works xo (key e.uid))) → ⊥) → (f : Evse) → IsEvseFor l c.evse_uid f → IsTrue (works yo (key f.uid)) → ⊥
       none_works none f is work = none (f, candidate_for x.locations at l (seen_from at l stands) c f is, works_from (key f.uid) work)
 
-      pub one_works : (e : Evse) × IsCandidate x.locations at c.evse_uid e × IsTrue (works xo (key e.uid)) → (e : Evse) × IsEvseFor l c e × IsTrue (works yo (key e.uid))
+      pub one_works : (e : Evse) × IsCandidate x.locations at c.evse_uid e × IsTrue (works xo (key e.uid)) → (e : Evse) × IsEvseFor l c.evse_uid e × IsTrue (works yo (key e.uid))
       one_works (e, is, work) = (e, evse_for x.locations at l (seen_from at l stands) c e is, subst (λ (z : Idle). IsTrue (works z (key e.uid))) both work)
 
 -- what may be reserved under a provider's key may be so under an equal one
@@ -112,7 +112,7 @@ may_as s p q id e same may = λ c has. may c has ∙ ap (λ k. Reserved k id) sa
 
 module _ (site : Site) (s : Rows) (at : ℕ) (sender : List ℕ) (n : ℕ) (c : ReserveNow) (l : Location) where
   -- a command that may hold one EVSE of its place may hold another
-  pub may_hold : (e f : Evse) → MayHold site s at sender n c l e → IsEvseFor l c f → MayHold site s at sender n c l f
+  pub may_hold : (e f : Evse) → MayHold site s at sender n c l e → IsEvseFor l c.evse_uid f → MayHold site s at sender n c l f
   may_hold e f may is = record { timely = record { placed = may.timely.placed; place = is; sound = may.timely.sound; in_time = may.timely.in_time }; here = may.here }
 
 -- the reservation that is made
@@ -143,7 +143,7 @@ module _ (x y : BookRows) (same : x ≡ y) (p q id reservation : List ℕ) (own 
 
 -- why a reservation is refused
 module _ (site : Site) (s : Rows) (at : ℕ) (sender : List ℕ) (n : ℕ) (c : ReserveNow) (l : Location) (e : Evse) where
-  pub refused : (f : ReservationFault) → (f ≡ Memory → ⊥) → RefusesReservation s.booked (reservation_key sender c) n (key c.location_id) f → IsPlaced site sender c l → IsEvseFor l c e → ¬ IsVoid at c →
+  pub refused : (f : ReservationFault) → (f ≡ Memory → ⊥) → RefusesReservation s.booked (reservation_key sender c) n (key c.location_id) f → IsPlaced site sender c l → IsEvseFor l c.evse_uid e → ¬ IsVoid at c →
       ReserveLine site s at sender n c (decision.Answered response.Rejected)
   refused (Stale m) not_memory (is, below) placed place sound = lines.Stale l placed e place sound (λ in_time. let above : m ≤ n = in_time m is in omega arith) refl
   refused OtherLocation not_memory (in_time, (r, is, other)) placed place sound =

@@ -16,7 +16,7 @@ use Rattle.site.specs.Positions.{IsCandidate}
 use Rattle.operator_core.specs.State.{Rows, IsFree}
 use Rattle.operator_core.specs.Claimed.{IsIndexed}
 use Rattle.operator_core.specs.Places.{IsHeldFor, token_at}
-use Rattle.operator_core.specs.Start.{NoneHeld, IsEvseFor}
+use Rattle.operator_core.specs.Start.{NoneHeld}
 use Rattle.operator_core.specs.Held.{token_of, IsHeldBy, HasNoHeld}
 
 neither : (a b : Bool) → IsTrue (not a && not b) → (a ≡ false) × IsTrue (not b)
@@ -54,8 +54,8 @@ module _ (s : Rows) (sender : List ℕ) (c : StartSession) (l : Location) (same 
 
 -- the EVSEs that the command may be about are the candidates at the location that stands there
 module _ (locations : List Location) (i : ℕ) (c : StartSession) (l : Location) (stands : slice_get locations i ≡ Some l) (e : Evse) where
-  pub candidate : IsEvseFor l c e → IsCandidate locations i c.evse_uid e
+  pub candidate : IsEvseFor l c.evse_uid e → IsCandidate locations i c.evse_uid e
   candidate h = record { location = l; stands = stands; listed = h.listed; named = h.named }
 
-  pub evse_for : IsCandidate locations i c.evse_uid e → IsEvseFor l c e
+  pub evse_for : IsCandidate locations i c.evse_uid e → IsEvseFor l c.evse_uid e
   evse_for h = record { listed = subst (λ (z : Location). Contains z.evses e) (same_Some h.location l (sym h.stands ∙ stands)) h.listed; named = h.named }

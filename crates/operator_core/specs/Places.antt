@@ -7,7 +7,7 @@ use Rattle.ocpi_types.specs.declared.token.Token.{Token}
 use Rattle.reservation_book.specs.declared.standing.Standing.{Standing}
 use Rattle.reservation_book.specs.declared.standing.TokenAt.{TokenAt}
 use Rattle.reservation_book.specs.Tokens.{IsFor}
-use Rattle.site.specs.Places.{works}
+use Rattle.site.specs.Places.{IsNamed, works}
 use Rattle.site.specs.declared.claim.Claim.{Claim}
 use Rattle.site.specs.declared.claim.Claim.TheVariants.{OpenStart, Live, Reserved}
 use Rattle.operator_core.specs.State.{Rows, HasClaim}
@@ -15,6 +15,11 @@ use Rattle.operator_core.specs.State.{Rows, HasClaim}
 -- the EVSE is in service
 abbrev pub Works : Rows → Evse → Type 0
 Works s e = IsTrue (works s.out_of_service (key e.uid))
+
+-- an EVSE of the location: the one of that uid, or any where none is named
+pub record IsEvseFor (l : Location) (evse_uid : Option (List ℕ)) (e : Evse) : Type 0 where
+  pub listed : Contains l.evses e
+  pub named : IsNamed evse_uid e.uid
 
 -- the party whose claim it is
 abbrev pub holder : Claim → List ℕ

@@ -14,7 +14,7 @@ use Rattle.reservation_book.specs.Places.{Key}
 use Rattle.reservation_book.specs.Refusals.{IsInTime, IsHere}
 use Rattle.site.specs.Places.{IsLocation, IsNamed}
 use Rattle.operator_core.specs.State.{Rows}
-use Rattle.operator_core.specs.Places.{Works, MayReserve}
+use Rattle.operator_core.specs.Places.{Works, IsEvseFor, MayReserve}
 
 -- the reservation that the command is about: the sender's of that id
 abbrev pub reservation_key : List ℕ → ReserveNow → Key
@@ -24,11 +24,6 @@ reservation_key sender c = (key sender, key c.reservation_id)
 abbrev pub IsVoid : ℕ → ReserveNow → Type 0
 IsVoid at c = (c.token.valid ≡ false) ⊎ (c.expiry_date ≤ at)
 
--- an EVSE of the location that the command may be about
-pub record IsEvseFor (l : Location) (c : ReserveNow) (e : Evse) : Type 0 where
-  pub listed : Contains l.evses e
-  pub named : IsNamed c.evse_uid e.uid
-
 -- the command got as far as its place
 pub record IsPlaced (site : Site) (sender : List ℕ) (c : ReserveNow) (l : Location) : Type 0 where
   pub own : key c.token.party ≡ key sender
@@ -37,7 +32,7 @@ pub record IsPlaced (site : Site) (sender : List ℕ) (c : ReserveNow) (l : Loca
 -- the command got as far as its reservation
 pub record IsTimely (site : Site) (s : Rows) (at : ℕ) (sender : List ℕ) (n : ℕ) (c : ReserveNow) (l : Location) (e : Evse) : Type 0 where
   pub placed : IsPlaced site sender c l
-  pub place : IsEvseFor l c e
+  pub place : IsEvseFor l c.evse_uid e
   pub sound : ¬ IsVoid at c
   pub in_time : IsInTime s.booked.marks (reservation_key sender c) n
 
@@ -54,16 +49,16 @@ reservation_at c l e = record { evse_uid = e.uid; expiry_date = c.expiry_date; l
 pub data ReserveLine (site : Site) (s : Rows) (at : ℕ) (sender : List ℕ) (n : ℕ) (c : ReserveNow) (d : Decision) : Type 0 where
   Mismatched : key c.token.party ≢ key sender → d ≡ Refused 2001 → ReserveLine site s at sender n c d
   UnknownLocation : key c.token.party ≡ key sender → ((l : Location) → IsLocation site.locations c.location_id l → ⊥) → d ≡ Refused 2003 → ReserveLine site s at sender n c d
-  NoEvse : (l : Location) → IsPlaced site sender c l → ((e : Evse) → IsEvseFor l c e → ⊥) → d ≡ Answered response.Rejected → ReserveLine site s at sender n c d
-  Void : (l : Location) → IsPlaced site sender c l → (e : Evse) → IsEvseFor l c e → IsVoid at c → d ≡ Answered response.Rejected → ReserveLine site s at sender n c d
-  Stale : (l : Location) → IsPlaced site sender c l → (e : Evse) → IsEvseFor l c e → ¬ IsVoid at c → ¬ IsInTime s.booked.marks (reservation_key sender c) n →
+  NoEvse : (l : Location) → IsPlaced site sender c l → ((e : Evse) → IsEvseFor l c.evse_uid e → ⊥) → d ≡ Answered response.Rejected → ReserveLine site s at sender n c d
+  Void : (l : Location) → IsPlaced site sender c l → (e : Evse) → IsEvseFor l c.evse_uid e → IsVoid at c → d ≡ Answered response.Rejected → ReserveLine site s at sender n c d
+  Stale : (l : Location) → IsPlaced site sender c l → (e : Evse) → IsEvseFor l c.evse_uid e → ¬ IsVoid at c → ¬ IsInTime s.booked.marks (reservation_key sender c) n →
       d ≡ Answered response.Rejected → ReserveLine site s at sender n c d
   Elsewhere : (l : Location) (e : Evse) → IsTimely site s at sender n c l e → ¬ IsHere s.booked.reservations (reservation_key sender c) (key l.id) →
       d ≡ Answered response.Rejected → ReserveLine site s at sender n c d
-  Inoperative : (l : Location) (e : Evse) → MayHold site s at sender n c l e → ((f : Evse) → IsEvseFor l c f → ¬ Works s f) →
+  Inoperative : (l : Location) (e : Evse) → MayHold site s at sender n c l e → ((f : Evse) → IsEvseFor l c.evse_uid f → ¬ Works s f) →
       d ≡ Noted (key c.reservation_id) result.EvseInoperative → ReserveLine site s at sender n c d
   Occupied : (l : Location) (e : Evse) → MayHold site s at sender n c l e → Works s e →
-      ((f : Evse) → IsEvseFor l c f → Works s f → ¬ MayReserve s (key sender) (key c.reservation_id) f) →
+      ((f : Evse) → IsEvseFor l c.evse_uid f → Works s f → ¬ MayReserve s (key sender) (key c.reservation_id) f) →
       d ≡ Noted (key c.reservation_id) result.EvseOccupied → ReserveLine site s at sender n c d
   Held : (l : Location) (e : Evse) → MayHold site s at sender n c l e → Works s e → MayReserve s (key sender) (key c.reservation_id) e →
       d ≡ Reserved (key c.reservation_id) (reservation_at c l e) → ReserveLine site s at sender n c d

@@ -14,7 +14,7 @@ use Rattle.operator_core.specs.declared.decision.Decision.{Decision}
 use Rattle.operator_core.specs.declared.decision.Decision.TheVariants.{Refused, Answered, Resulted, Started}
 use Rattle.site.specs.Places.{IsLocation, IsNamed, Fits}
 use Rattle.operator_core.specs.State.{Rows, Spent, IsFree}
-use Rattle.operator_core.specs.Places.{Works, IsHeldFor}
+use Rattle.operator_core.specs.Places.{Works, IsHeldFor, IsEvseFor}
 
 -- the token is another provider's, or a connector is named without its EVSE
 abbrev pub IsMismatched : List ℕ → StartSession → Type 0
@@ -35,11 +35,6 @@ IsBarred spent provider c = (c.token.valid ≡ false) ⊎ IsSpent spent provider
 -- the EVSE and connector that a start at this location may be about
 abbrev pub IsPlace : Location → StartSession → Evse → Connector → Type 0
 IsPlace l c e k = Fits l.evses c.evse_uid c.connector_id e k
-
--- an EVSE of the location that the command names, or any of its EVSEs where it names none
-pub record IsEvseFor (l : Location) (c : StartSession) (e : Evse) : Type 0 where
-  pub listed : Contains l.evses e
-  pub named : IsNamed c.evse_uid e.uid
 
 -- the command got as far as its place
 pub record IsPlaced (site : Site) (sender : List ℕ) (c : StartSession) (l : Location) : Type 0 where
@@ -63,9 +58,9 @@ pub data StartLine (site : Site) (s : Rows) (sender : List ℕ) (c : StartSessio
   NoPlace : (l : Location) → IsPlaced site sender c l → ((e : Evse) (k : Connector) → IsPlace l c e k → ⊥) → d ≡ Answered response.Rejected → StartLine site s sender c d
   Barred : (l : Location) → IsPlaced site sender c l → (e : Evse) (k : Connector) → IsPlace l c e k → IsBarred s.spent (key sender) c → d ≡ Answered response.Rejected →
       StartLine site s sender c d
-  Inoperative : (l : Location) (e : Evse) (k : Connector) → MayTake site s sender c l e k → ((f : Evse) → IsEvseFor l c f → ¬ Works s f) →
+  Inoperative : (l : Location) (e : Evse) (k : Connector) → MayTake site s sender c l e k → ((f : Evse) → IsEvseFor l c.evse_uid f → ¬ Works s f) →
       d ≡ Resulted result.EvseInoperative → StartLine site s sender c d
-  Occupied : (l : Location) (e : Evse) (k : Connector) → MayTake site s sender c l e k → (g : Evse) → IsEvseFor l c g → Works s g → NoneHeld s sender c l →
+  Occupied : (l : Location) (e : Evse) (k : Connector) → MayTake site s sender c l e k → (g : Evse) → IsEvseFor l c.evse_uid g → Works s g → NoneHeld s sender c l →
       ((f : Evse) (j : Connector) → IsPlace l c f j → Works s f → ¬ IsFree s (key f.uid)) → d ≡ Resulted result.EvseOccupied → StartLine site s sender c d
   Held : (l : Location) (e : Evse) (k : Connector) → MayTake site s sender c l e k → Works s e → (x : Standing) → IsHeldFor s sender c.token l e x →
       d ≡ Started (record { evse_uid = e.uid; connector_id = k.id }) (Some x.id) → StartLine site s sender c d
