@@ -36,7 +36,7 @@ pub data SiteTurn (line : List ℕ) (turn : Turn) (out : List ℕ) (next : Optio
 pub data PacketTurn (now : Running) (line : List ℕ) (turn : Turn) (out : List ℕ) (next : Option Running) : Type 0 where
   Answered : (packet : Packet) → packet_in line ≡ Ok packet → (step : Out) → OperatorStep now.operator now.at packet step
       → turn ≡ Taken → out ≡ packet_lines step.packets → next ≡ Some (record { at = now.at; operator = step.state }) → PacketTurn now line turn out next
-  Unanswered : (packet : Packet) → packet_in line ≡ Ok packet → (fault : OperatorFault) → IsDue now.operator packet fault
+  Unanswered : (packet : Packet) → packet_in line ≡ Ok packet → (fault : OperatorFault) → IsDue now.operator now.at packet fault
       → turn ≡ Refused → out ≡ refusal_line (operator_fault_text fault) → next ≡ Some now → PacketTurn now line turn out next
   Unread : (fault : JsonFault) → Fails fault (packet_in line) → turn ≡ Refused → out ≡ refusal_line (json_fault_text fault) → next ≡ Some now → PacketTurn now line turn out next
 
