@@ -2,3 +2,4 @@ pub mod ClaimIndex
 pub mod BookRoom
 pub mod RowParts
 pub mod RowChanges
+pub mod Listings

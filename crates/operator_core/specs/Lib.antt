@@ -17,3 +17,4 @@ pub mod Service
 pub mod Faults
 pub mod FaultText
 pub mod Requests
+pub mod Listing
