@@ -2,7 +2,7 @@
 use Rattle.std.proofs.Common.{◌≡◌, ◌≢◌, ℕ, ◌+◌, ◌<◌, List, inl, inr, sym, ap, subst, ◌∙◌, arith}
 use Rattle.std.specs.Prelude.{Some, IsTrue, is_some, slice_get}
 use Rattle.std.proofs.lemmas.Bool.{cases_lt}
-use Rattle.std.specs.FinMap.{FinMap, contains_key, remove}
+use Rattle.std.specs.FinMap.{FinMap, contains_key}
 use Rattle.tables.specs.Keys.{text_pair_cmp, text_pair_total, text_pair_exact}
 use Rattle.tables.proofs.Maps.{get-remove_other}
 use Rattle.ocpi_types.specs.Rows.{key_of}
@@ -34,11 +34,6 @@ other_spent m n k is (row.Spent q x) apart had = subst (λ z. IsTrue (contains_k
 other_spent m n k is r apart had = had
 
 module _ (s t : Rooms) where
-  -- the room of each kind of row is kept
-  pub keeps_room : commands.KeepsRoom s.commands t.commands → ((r : Row) → HasSpentRoom s.spent r → HasSpentRoom t.spent r) → booked.KeepsRoom s.booked t.booked → outbox.KeepsRoom s.outbox t.outbox → KeepsRoom s t
-  keeps_room f g h e (Put r) had = record { commands = f r had.commands; spent = g r had.spent; booked = h r had.booked; outbox = e r had.outbox }
-  keeps_room f g h e (Drop k) had = had
-
   -- the room of each kind of row but for that key is kept
   pub keeps_other : (k : RowKey) → commands.KeepsOtherRoom k s.commands t.commands → ((r : Row) → key_of r ≢ k → HasSpentRoom s.spent r → HasSpentRoom t.spent r) → booked.KeepsOtherRoom k s.booked t.booked →
       outbox.KeepsOtherRoom k s.outbox t.outbox → KeepsOtherRoom k s t

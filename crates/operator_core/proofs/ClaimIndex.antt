@@ -1,10 +1,10 @@
 -- The kept claims stay those of the rows.
 use Rattle.std.proofs.Common.{◌≡◌, ◌≢◌, ◌↔◌, ℕ, List, ◌⊎◌, inl, inr, refl, sym, ap, subst, ◌∙◌}
 use Rattle.std.specs.Prelude.{Option, Some, None, IfSome, IfNone, Bool, true, false, IsTrue, is_some}
-use Rattle.std.specs.FinMap.{FinMap, get, insert, remove, empty, get-empty}
+use Rattle.std.specs.FinMap.{get, insert, remove, empty, get-empty}
 use Rattle.ocpi_text.specs.Text.{key}
 use Rattle.tables.specs.Keys.{text_cmp, text_total, text_exact, text_number_cmp, text_number_total, text_number_exact, text_pair_cmp, text_pair_total, text_pair_exact}
-use Rattle.tables.proofs.Maps.{of_insert, get-insert_same, get-insert_other, get-remove_same, get-remove_other, of_remove}
+use Rattle.tables.proofs.Maps.{of_insert, get-insert_same, get-insert_other, get-remove_other, of_remove}
 use Rattle.ocpi_types.specs.declared.rows.Row.{Row}
 use Rattle.ocpi_types.specs.declared.rows.Row.TheVariants as row
 use Rattle.ocpi_types.specs.declared.rows.RowKey.{RowKey}
@@ -21,7 +21,7 @@ use Rattle.command_book.proofs.Cases.{told, none_some}
 use Rattle.reservation_book.specs.Rows as booked
 use Rattle.operator_core.specs.State.{Rows, Takes, Claims, HasClaim}
 use Rattle.operator_core.specs.Stored.{put_row, drop_row}
-use Rattle.operator_core.specs.Claimed.{IsIndexed, Holds, RowTakes, released, claimed_at, claimed, MayClaim, MayPut}
+use Rattle.operator_core.specs.Claimed.{IsIndexed, Holds, RowTakes, released, claimed_at, claimed, MayPut}
 
 pub no_claim : (evse : List ℕ) (c : Claim) → Claims empty empty evse c → ⊥
 no_claim evse (OpenStart p n) (o, has, at) = none_some o (sym (get-empty text_number_cmp (p, n)) ∙ has)

@@ -16,3 +16,4 @@ pub mod RowParts
 pub mod RowChanges
 pub mod OtherClaims
 pub mod Reserving
+pub mod Listings

@@ -19,3 +19,4 @@ pub mod Faults
 pub mod FaultText
 pub mod Requests
 pub mod Laws
+pub mod Listing

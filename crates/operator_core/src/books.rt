@@ -1,6 +1,6 @@
 //! What an operator stores, with the claims on the site's EVSEs that follow from it.
 
-ghost use Rattle.std.specs.Prelude.{◌≡◌, List, ℕ, OnOk, IsOk, IsTrue, None, false, IfOk, IfSome, IfNone};
+ghost use Rattle.std.specs.Prelude.{◌≡◌, ◌++◌, List, ℕ, map as list_map, OnOk, IsOk, IsTrue, None, false, IfOk, IfSome, IfNone};
 ghost use Rattle.std.specs.FinMap as map;
 ghost use Rattle.ocpi_types.specs.Rows.{key_of};
 ghost use Rattle.tables.specs.Keys.{text_pair_cmp};
@@ -9,6 +9,7 @@ ghost use Rattle.site.specs.Places.{IsEvse};
 ghost use Rattle.ocpi_types.specs.declared.rows.Row.{Row as RowData};
 ghost use Rattle.operator_core.specs.State.{no_rows};
 ghost use Rattle.operator_core.specs.Rows.{change_key, AreRowsOf};
+ghost use Rattle.operator_core.specs.Listing.{count_rows, spent_row, service_row, push_row, other_rows};
 ghost use Rattle.operator_core.specs.Start.{IsSpent};
 ghost use Rattle.operator_core.specs.Claimed.{IsIndexed, Holds, RowTakes, released, claimed, MayPut, MayChange, MayChangeAll};
 ghost use Rattle.operator_core.specs.Stored.{AreApart, HasRoom, HasRoomOf, HasRooms, KeepsOtherRoom, KeepsRoom, HasSpentRoom, changed, changed_all, put_row, drop_row, counted, uncounted, spending, unspending, withdrawing, restoring};
@@ -202,6 +203,51 @@ fn claim(places: &mut Places, row: &Row)
         }
         _ => {}
     }
+}
+
+/// The row of a counter, where it has given a number.
+fn push_count(counter: Counter, last: Whole, rows: &mut Vec<Row>) -> Result<(), AllocError>
+    ensures { OnOk result (rows.new.items ≡ rows.old.items ++ count_rows counter last) }
+{
+    if last.value() == 0 {
+        return Ok(());
+    }
+    rows.push(Row::Count { counter, last })?;
+    Ok(())
+}
+
+fn push_spent(spent: &SpentTable, rows: &mut Vec<Row>) -> Result<(), AllocError>
+    ensures { OnOk result (rows.new.items ≡ rows.old.items ++ list_map spent_row (map.entries (shown_of text_pair_cmp spent.now))) }
+{
+    for (key, _) in spent.iter() {
+        rows.push(Row::Spent {
+            provider: key.0,
+            reference: key.1,
+        })?;
+    }
+    Ok(())
+}
+
+fn push_service(places: &Places, rows: &mut Vec<Row>) -> Result<(), AllocError>
+    ensures { OnOk result (rows.new.items ≡ rows.old.items ++ list_map service_row (map.entries places.now.out_of_service)) }
+{
+    for (key, _) in places.idle() {
+        rows.push(Row::Service { evse_uid: *key })?;
+    }
+    Ok(())
+}
+
+fn push_pushes(outbox: &Outbox, rows: &mut Vec<Row>) -> Result<(), AllocError>
+    ensures { OnOk result (rows.new.items ≡ rows.old.items ++ list_map push_row (map.entries outbox.now.rows.pushes)) }
+{
+    for (number, outgoing) in outbox.unacked() {
+        rows.push(Row::Push {
+            number: *number,
+            to: outgoing.to,
+            push: outgoing.push.copy()?,
+        })?;
+    }
+    Ok(())
 }
 
 impl Books {
@@ -399,5 +445,28 @@ impl Books {
         for change in changes {
             self.carry_out(change);
         }
+    }
+
+    /// The rows that are neither of commands nor of reservations.
+    fn push_others(&self, rows: &mut Vec<Row>) -> Result<(), AllocError>
+        ensures { OnOk result (rows.new.items ≡ rows.old.items ++ other_rows self.now.rows) }
+    {
+        push_count(Counter::Serial, self.serial, rows)?;
+        push_spent(&self.spent, rows)?;
+        push_service(&self.places, rows)?;
+        push_count(Counter::Request, self.outbox.last_number(), rows)?;
+        push_pushes(&self.outbox, rows)?;
+        Ok(())
+    }
+
+    /// The rows: exactly those that stand, each once. An error is want of memory.
+    pub fn stored(&self, alloc: Global) -> Result<Vec<Row>, AllocError>
+        ensures { IfOk result (λ rows. AreRowsOf rows.items self.now.rows) }
+    {
+        let mut rows = self.commands.rows(alloc)?;
+        let mut booked = self.booked.rows(alloc)?;
+        rows.append(&mut booked)?;
+        self.push_others(&mut rows)?;
+        Ok(rows)
     }
 }

@@ -1,4 +1,3 @@
-use Rattle.std.proofs.Common.{List, ℕ}
 use Rattle.operator_core.proofs.BookRoom.{keeps_spent}
 use Rattle.operator_core.proofs.books.reserve_spent.Goals as goal
 

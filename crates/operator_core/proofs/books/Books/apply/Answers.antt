@@ -1,9 +1,7 @@
 use Rattle.std.proofs.Common.{suc, ◌≡◌, ◌∷◌, [], List, length, refl, sym, ap, subst, ◌∙◌, arith}
 use Rattle.std.specs.Vec.Iter.{into_iter_items}
-use Rattle.ocpi_types.specs.declared.site.Site.{Site}
-use Rattle.operator_core.specs.State.{Rows}
 use Rattle.operator_core.specs.Claimed.{MayChangeAll}
-use Rattle.operator_core.specs.Stored.{AreApart, HasRooms, changed, changed_all}
+use Rattle.operator_core.specs.Stored.{AreApart, HasRooms, changed_all}
 use Rattle.operator_core.proofs.books.Books.apply.Goals as goal
 
 nothing_left : {X : Type 0} (l : List X) → length l ≡ 0 → l ≡ []

@@ -1,10 +1,10 @@
-use Rattle.std.proofs.Common.{◌≡◌, refl, sym, ap, subst, ◌∙◌}
+use Rattle.std.proofs.Common.{sym, ap, subst, ◌∙◌}
 use Rattle.site.specs.Places.{Placed}
 use Rattle.operator_core.specs.Stored.{Held, restoring}
 use Rattle.operator_core.specs.contracts.books.Books.{the_view}
 use Rattle.operator_core.proofs.BookRoom.{keeps_other, other_spent}
 use Rattle.operator_core.proofs.ClaimIndex.{IsTaken}
-use Rattle.operator_core.proofs.RowParts.{drop_booked_alone, drop_outbox_alone, drop_other_alone, drop_unpushed, drop_indexed, drop_by_parts}
+use Rattle.operator_core.proofs.RowParts.{drop_booked_alone, drop_other_alone, drop_unpushed, drop_indexed, drop_by_parts}
 use Rattle.operator_core.proofs.books.Books.drop_row.Goals as goal
 
 pub invariant_of-self : goal.invariant_of-self

@@ -23,7 +23,7 @@ invariant_of-self c =
     let may : MayPut (the_view s).site (the_view s).rows r = subst (λ (h : Held). MayPut h.site h.rows r) (sym c.self.view_is) c.requires.claim in
     put_indexed (the_view s).rows s.places c.self.invariant c.claimed_by-evse_uid.result c.withdraw.new.places.claims (the_view s).site r taken may
     (ap (λ (p : Placed). p.claims) c.withdraw.ensures ∙ ap (λ (p : Placed). p.claims) c.claim.ensures ∙ ap (λ (p : Placed). claimed r p.claims) c.release.ensures)
-    s.commands.rows (sym (put_booked_alone r (the_view s).rows c.in-Mark.is).0) c.put_row.new.self.rows c.put_row.ensures.rows
+    s.commands.rows (sym (put_booked_alone r (the_view s).rows c.in-Mark.is)) c.put_row.new.self.rows c.put_row.ensures.rows
 
 pub invariant_of-self-in_default : goal.invariant_of-self-in_default
 invariant_of-self-in_default c =
