@@ -1,0 +1,9 @@
+pub mod Bodies
+pub mod Effects
+pub mod Deciding
+pub mod Sound
+pub mod Apart
+pub mod RowChanges
+pub mod Kept
+pub mod Claiming
+pub mod Consistency
