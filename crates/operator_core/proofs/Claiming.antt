@@ -22,12 +22,12 @@ use Rattle.command_book.specs.Stored as book
 use Rattle.reservation_book.specs.Rows as booked
 use Rattle.site.specs.declared.claim.Claim.{Claim}
 use Rattle.site.specs.declared.claim.Claim.TheVariants.{OpenStart, Live, Reserved}
-use Rattle.site.specs.Places.{IsEvse}
+use Rattle.site.specs.Places.{Claims as ClaimMap, IsEvse}
 use Rattle.operator_core.specs.declared.decision.Decision.{Decision}
 use Rattle.operator_core.specs.declared.decision.Decision.TheVariants as decision
 use Rattle.operator_core.specs.State.{State, Rows, Takes, Claims, HasClaim, OneClaimEach}
 use Rattle.operator_core.specs.Stored.{changed, changed_all}
-use Rattle.operator_core.specs.Claimed.{MayClaim, MayChange, MayChangeAll}
+use Rattle.operator_core.specs.Claimed.{IsIndexed, MayClaim, MayChange, MayChangeAll}
 use Rattle.operator_core.specs.Moves.{Out, idle, serial_row, spent_rows, used_rows}
 use Rattle.operator_core.specs.Start as start
 use Rattle.operator_core.specs.Reserve as reserve
@@ -42,6 +42,13 @@ use Rattle.operator_core.specs.Laws.{Event, Happens, Stepped, Refused, Served, U
 
 none_some : {X : Type 0} (x : X) (o : Option X) → o ≡ None → o ≡ Some x → ⊥
 none_some x o a b = cc
+
+-- where the claims that are kept are those of the rows, no EVSE has two
+pub indexed_one : (claims : ClaimMap) (pending : book.OpenCommands) (reservations : booked.Reservations) → IsIndexed claims pending reservations → OneClaimEach pending reservations
+indexed_one claims pending reservations h evse c d x y =
+    let a : get claims evse ≡ Some c = (h evse c).1 x in
+    let b : get claims evse ≡ Some d = (h evse d).1 y in
+    cc
 
 abbrev OneEach : Rows → Type 0
 OneEach s = OneClaimEach s.commands.pending s.booked.reservations

@@ -1,11 +1,12 @@
 -- What holds of an operator at any time is kept by each event.
 use Rattle.std.proofs.Common.{◌≡◌, ℕ, List, ◌⊎◌, inl, inr, refl, sym, ap, subst, ◌∙◌}
-use Rattle.std.specs.Prelude.{Option, Some, None}
+use Rattle.std.specs.Prelude.{Option, Some, None, Bool}
 use Rattle.std.specs.FinMap.{get, insert, empty, get-empty}
 use Rattle.tables.specs.Keys.{text_number_cmp, text_number_total, text_number_exact}
 use Rattle.tables.proofs.Maps.{of_insert, get-insert_same, get-insert_other}
 use Rattle.handover.proofs.Totals.{told}
 use Rattle.ocpi_text.specs.Text.{key}
+use Rattle.ocpi_types.specs.declared.packet.Packet.{Packet}
 use Rattle.ocpi_types.specs.declared.rows.Place.{Place}
 use Rattle.ocpi_types.specs.declared.stored.Command.{Command}
 use Rattle.ocpi_types.specs.declared.stored.OpenCommand.{OpenCommand}
@@ -18,8 +19,9 @@ use Rattle.operator_core.specs.declared.decision.Decision.TheVariants as decisio
 use Rattle.operator_core.specs.State.{State, Rows, Spent}
 use Rattle.operator_core.specs.Consistent.{AreConsistent, Uses, Carries}
 use Rattle.operator_core.specs.Moves.{Out}
-use Rattle.operator_core.specs.Steps.{Decides, reply_of, reference_of, deadline}
-use Rattle.operator_core.specs.Laws.{Event, Happens}
+use Rattle.operator_core.specs.Steps.{OperatorStep, Decides, reply_of, reference_of, deadline}
+use Rattle.operator_core.specs.Service.{ServiceStep}
+use Rattle.operator_core.specs.Laws.{Event, Happens, Stepped, Served, Comes, Serves, out_of}
 use Rattle.operator_core.proofs.Effects.{Leaves, results_after, spent_with}
 use Rattle.operator_core.proofs.Shapes.{Shape, Quiet, Repeated, Decided, shape_of}
 use Rattle.operator_core.proofs.Sends.{decided_leaves}
@@ -195,3 +197,9 @@ consistent_shape s t e (Decided h) fine = go s h.at h.to h.packet.from h.packet.
 
 pub consistent : (s t : State) (e : Event) → Happens s e t → AreConsistent s.rows.commands s.rows.spent → AreConsistent t.rows.commands t.rows.spent
 consistent s t e h = consistent_shape s t e (shape_of s t e h)
+
+pub step_consistent : (s : State) (at : ℕ) (q : Packet) (out : Out) → AreConsistent s.rows.commands s.rows.spent → OperatorStep s at q out → AreConsistent out.state.rows.commands out.state.rows.spent
+step_consistent s at q out fine h = consistent s out.state (record { input = Comes at q; changes = out.changes; packets = out.packets }) (Stepped at q refl h) fine
+
+pub service_consistent : (s : State) (evse : List ℕ) (works : Bool) (out : Out) → AreConsistent s.rows.commands s.rows.spent → ServiceStep s evse works out → AreConsistent out.state.rows.commands out.state.rows.spent
+service_consistent s evse works out fine h = consistent s out.state (record { input = Serves evse works; changes = out.changes; packets = out.packets }) (Served evse works refl h) fine

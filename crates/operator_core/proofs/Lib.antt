@@ -17,3 +17,7 @@ pub mod RowChanges
 pub mod OtherClaims
 pub mod Reserving
 pub mod Listings
+pub mod Bodies
+pub mod Deciding
+pub mod Apart
+pub mod Kept

@@ -1,16 +1,16 @@
 //! What a packet makes an operator do. Nothing is changed here.
 
-ghost use Rattle.std.specs.Prelude.{◌≡◌, ◌∷◌, ◌++◌, [], ◌+◌, IfOk, IfErr, IfSome, IfNone, List, ℕ, Some, None};
+ghost use Rattle.std.specs.Prelude.{◌≡◌, ◌↔◌, ◌∷◌, ◌++◌, [], ◌+◌, IsTrue, IfOk, IfErr, OnErr, IfSome, IfNone, List, ℕ, Some, None};
 ghost use Rattle.std.specs.FinMap as map;
 ghost use Rattle.ocpi_text.specs.Text.{key};
 ghost use Rattle.ocpi_types.specs.Stored.{body_of_command, body_of_reply};
 ghost use Rattle.ocpi_types.specs.declared.stored.Command.{Command as CommandOf};
 ghost use Rattle.ocpi_types.specs.declared.packet.Body.TheVariants as body;
 ghost use Rattle.operator_core.specs.Providers.{IsProvider};
-ghost use Rattle.operator_core.specs.Faults.{IsDue};
+ghost use Rattle.operator_core.specs.Faults.{IsDue, MayStep};
 ghost use Rattle.operator_core.specs.Numbers.{WithinRange, numbers_for};
 ghost use Rattle.operator_core.specs.Requests.{IsRequest, planned};
-ghost use Rattle.operator_core.specs.Steps.{Decides, IsTaken, OperatorStep, again, decided, decided_packets, decided_rows, reply_of, result_of, responded};
+ghost use Rattle.operator_core.specs.Steps.{AreInRange, Decides, IsForMe, IsTaken, OperatorStep, again, decided, decided_packets, decided_rows, reply_of, result_of, responded};
 
 use crate::cancel::decide_cancel;
 use crate::decision::Decision;
@@ -59,7 +59,9 @@ fn respond(decision: &Decision, at: Moment) -> Reply
 }
 
 /// Whether an operator takes packets with this body.
-fn is_taken(body: &Body) -> bool {
+fn is_taken(body: &Body) -> bool
+    ensures { IsTrue result ↔ IsTaken body.now }
+{
     matches!(
         body,
         Body::StartSession(_)
@@ -98,6 +100,14 @@ impl Operator {
             provider: packet.from.key(),
             number: packet.request,
         })
+    }
+
+    /// That no counter passed its last number, which the types of the counters keep.
+    fn counters_are_in_range(&self)
+        ensures { AreInRange self.now }
+    {
+        let _serial = self.books.serial().value();
+        let _last = self.books.outbox().last_number().value();
     }
 
     /// The numbers that a reply takes, and a result where one is to follow. None, where a counter has given its last.
@@ -235,30 +245,37 @@ impl Operator {
     }
 
     /// What becomes of a command. A request that was answered before gets the same reply again.
-    fn on_command(
-        &self,
-        request: &Request,
-        sender: &Party,
-        body: &Body,
-    ) -> Result<Stepped, OperatorFault> {
+    fn on_command(&self, request: &Request, packet: &Packet) -> Result<Stepped, OperatorFault>
+        requires request { IsRequest self.now request.now.at packet.now request.now }
+        requires command { (c : CommandOf) × (packet.now.body ≡ body_of_command c) }
+        ensures step { IfOk result (λ x. OperatorStep self.now request.now.at packet.now (planned self.now x)) }
+        ensures fault { IfErr result (λ e. IsDue self.now request.now.at packet.now e) }
+    {
+        self.counters_are_in_range();
         if let Some(reply) = self.books.reply(request.provider, request.number) {
             let Some(numbers) = self.numbers(None) else {
                 return Err(OperatorFault::NumbersUsedUp);
             };
             return Ok(self.again(request, &reply, &numbers)?);
         }
-        let decision = self.decision(request, sender, body);
+        let decision = self.decision(request, &packet.from, &packet.body);
         let Some(numbers) = self.numbers(decision.result()) else {
             return Err(OperatorFault::NumbersUsedUp);
         };
-        Ok(self.carry(request, body, &decision, &numbers)?)
+        Ok(self.carry(request, &packet.body, &decision, &numbers)?)
     }
 
-    /// What becomes of an acknowledgement: it ends the push that it is for, or is idle.
-    fn on_ack(&self, request: &Request, sender: &Party, ack: &Ack) -> Result<Stepped, AllocError> {
+    /// What becomes of an acknowledgement: it ends the push that it is for, or is idle. An error is want of memory.
+    fn on_ack(&self, request: &Request, packet: &Packet, ack: &Ack) -> Result<Stepped, AllocError>
+        requires request { IsRequest self.now request.now.at packet.now request.now }
+        requires ack { packet.now.body ≡ body.Ack ack.now }
+        ensures step { IfOk result (λ x. OperatorStep self.now request.now.at packet.now (planned self.now x)) }
+        ensures memory { OnErr result (MayStep self.now request.now.at packet.now) }
+    {
+        self.counters_are_in_range();
         let (mut rows, packets) = (Vec::new(self.alloc), Vec::new(self.alloc));
         if ack.status_code.value().value() == 1000
-            && self.books.outbox().is_to(sender, request.number)
+            && self.books.outbox().is_to(&packet.from, request.number)
         {
             rows.push(Change::Drop(RowKey::Push {
                 number: request.number,
@@ -276,8 +293,8 @@ impl Operator {
             return Err(OperatorFault::NotForMe);
         };
         match &packet.body {
-            Body::Ack(ack) => Ok(self.on_ack(&request, &packet.from, ack)?),
-            _ => self.on_command(&request, &packet.from, &packet.body),
+            Body::Ack(ack) => Ok(self.on_ack(&request, packet, ack)?),
+            _ => self.on_command(&request, packet),
         }
     }
 }

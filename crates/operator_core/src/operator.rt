@@ -1,6 +1,6 @@
 //! The operator.
 
-ghost use Rattle.std.specs.Prelude.{◌≡◌, IfOk, IfErr, OnErr, OnOk};
+ghost use Rattle.std.specs.Prelude.{◌≡◌, ◌∷◌, [], IfOk, IfErr, IfSome, IfNone, OnErr, OnOk};
 ghost use Rattle.operator_core.specs.State.{opening};
 
 use crate::books::Books;
@@ -46,8 +46,11 @@ impl Operator {
     ghost use Rattle.operator_core.specs.Service.{ServiceStep};
     ghost use Rattle.operator_core.specs.Requests.{out_of};
     ghost use Rattle.operator_core.specs.Faults.{IsDue};
-    ghost use Rattle.operator_core.specs.Consistent.{IsConsistent};
-    ghost use Rattle.operator_core.specs.Rows.{AreChanges};
+    ghost use Rattle.operator_core.specs.Consistent.{AreConsistent, IsConsistent};
+    ghost use Rattle.operator_core.specs.Claimed.{MayChangeAll};
+    ghost use Rattle.operator_core.specs.Moves.{idle, step, with_rows};
+    ghost use Rattle.operator_core.specs.Rows.{AreChanges, AreRowsOf};
+    ghost use Rattle.operator_core.specs.Stored.{AreApart, changed_all};
 
     /// The operator of a site before its first event.
     pub fn new(alloc: Global, line: SiteLine) -> Result<Operator, AllocError>
@@ -72,8 +75,29 @@ impl Operator {
     pub fn consistency(&self)
         ensures { IsConsistent self.now.rows }
     {
-        // The invariant is known once a field is looked at.
-        let _books = &self.books;
+        // The invariant is known once a field is looked at, and that of the books by what they say of their places.
+        let _places = self.books.places();
+    }
+
+    /// All rows that stand, each once. An error is want of memory.
+    pub fn stored(&self) -> Result<Vec<Row>, AllocError>
+        ensures { IfOk result (λ rows. AreRowsOf rows.items self.now.rows) }
+    {
+        self.books.stored(self.alloc)
+    }
+
+    /// Carries changes of different rows out. An error is want of memory, and changes nothing.
+    fn carry_out(&mut self, changes: &[Change]) -> Result<(), AllocError>
+        requires apart { AreApart changes.now }
+        requires claims { MayChangeAll self.old.site self.old.rows changes.now }
+        requires consistent { AreConsistent (changed_all changes.now self.old.rows).commands (changed_all changes.now self.old.rows).spent }
+        ensures ok { OnOk result (self.new ≡ with_rows (changed_all changes.now self.old.rows) self.old) }
+        ensures err { OnErr result (self.new ≡ self.old) }
+    {
+        let stored = copies(self.alloc, changes)?;
+        self.books.make_room(changes)?;
+        self.books.apply(stored);
+        Ok(())
     }
 
     /// A packet comes at a moment. It is refused (`NotForMe`) where it is to another party, from a party that is no provider
@@ -89,15 +113,17 @@ impl Operator {
         ensures err { OnErr result (self.new ≡ self.old) }
         ensures rows { IfOk result (λ x. AreChanges self.old.rows x.rows.items self.new.rows) }
     {
+        self.consistency();
         let stepped = self.decide(at, packet)?;
-        let stored = copies(self.alloc, stepped.rows.as_slice())?;
-        self.books.make_room(stepped.rows.as_slice())?;
-        self.books.apply(stored);
+        self.carry_out(stepped.rows.as_slice())?;
         Ok(stepped)
     }
 
     /// The change that puts an EVSE of the site in service or out of it, where it is not yet so.
-    fn decide_service(&self, evse_uid: CiKey<36>, in_service: bool) -> Option<Change> {
+    fn decide_service(&self, evse_uid: CiKey<36>, in_service: bool) -> Option<Change>
+        ensures change { IfSome result (λ c. ServiceStep self.now evse_uid in_service (step self.now (c ∷ []) [])) }
+        ensures none { IfNone result (ServiceStep self.now evse_uid in_service (idle self.now)) }
+    {
         let places = self.books.places();
         if let Err(SiteFault::UnknownEvse) = places.may_claim(evse_uid) {
             return None;
@@ -112,6 +138,16 @@ impl Operator {
         }
     }
 
+    /// The changes that put an EVSE of the site in service or out of it: none, where it already is so.
+    fn service_rows(&self, evse_uid: CiKey<36>, in_service: bool) -> Result<Vec<Change>, AllocError>
+        ensures { IfOk result (λ v. ServiceStep self.now evse_uid in_service (step self.now v.items [])) }
+    {
+        match self.decide_service(evse_uid, in_service) {
+            Some(change) => Ok(vec![in self.alloc; change]?),
+            None => Ok(Vec::new(self.alloc)),
+        }
+    }
+
     /// An EVSE goes out of service, or comes back. Standing claims stay. An EVSE that is unknown, or already is what it is
     /// to be, is left as it is. An error is want of memory, and changes nothing.
     pub fn on_service(
@@ -123,13 +159,10 @@ impl Operator {
         ensures err { OnErr result (self.new ≡ self.old) }
         ensures rows { IfOk result (λ x. AreChanges self.old.rows x.rows.items self.new.rows) }
     {
-        let (mut rows, packets) = (Vec::new(self.alloc), Vec::new(self.alloc));
-        if let Some(change) = self.decide_service(evse_uid, in_service) {
-            rows.push(change)?;
-        }
-        let stored = copies(self.alloc, rows.as_slice())?;
-        self.books.make_room(rows.as_slice())?;
-        self.books.apply(stored);
+        self.consistency();
+        let rows = self.service_rows(evse_uid, in_service)?;
+        self.carry_out(rows.as_slice())?;
+        let packets = Vec::new(self.alloc);
         Ok(Stepped { rows, packets })
     }
 }
