@@ -5,3 +5,5 @@ pub mod Cdrs
 pub mod Inbox
 pub mod Pushes
 pub mod Outbox
+pub mod Resend
+pub mod Due
