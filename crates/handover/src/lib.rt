@@ -9,6 +9,7 @@ mod fault;
 mod inbox;
 mod outbox;
 mod push_book;
+mod send_book;
 mod send_times;
 mod settle;
 mod sums;

@@ -179,7 +179,7 @@ impl SendTimes {
 
     /// A push is due from a moment on, and gives the room by its old moment back. It takes no memory.
     pub(crate) fn set(&mut self, number: Whole, moment: Moment)
-        requires number { HasRoomOfNumber self.old.rooms number }
+        requires number { IsTimed self.old.fresh self.old.resend number }
         requires moment { IsTrue (map.contains_key self.old.rooms.moments (moment, number)) }
         ensures fresh { self.new.fresh ≡ map.remove self.old.fresh number }
         ensures resend { self.new.resend ≡ map.insert self.old.resend number moment }

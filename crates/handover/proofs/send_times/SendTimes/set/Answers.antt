@@ -14,7 +14,7 @@ pub invariant_of-self : goal.invariant_of-self
 invariant_of-self c =
     rw (c.put.ensures.shown, c.unqueue.ensures.shown, c.put-2.ensures.shown, c.clear.ensures.shown)
     (times_set _ _ _ _ _ c.self.invariant c.args.number _ _ c.args.moment c.stale-stale.result (rw (← c.self.view_is) at c.stale-stale.ensures.found) (rw (← c.self.view_is) at c.stale-stale.ensures.none)
-    (rw (← c.self.view_is) at c.requires.number)
+    (c.self.invariant.roomed c.args.number (rw (← c.self.view_is) at c.requires.number))
     (keeps_number _ _ (λ q had. subst (λ (m : Numbers). IsTrue (contains_key m q)) (sym c.clear.ensures.room) had) (λ q had. subst (λ (m : Numbers). IsTrue (contains_key m q)) (sym c.put-2.ensures.room) had))
     (rw c.clear.ensures.shown at c.lowest_from-self-inside.ensures))
 
