@@ -13,7 +13,7 @@ use Rattle.ocpi_types.specs.declared.rows.RowKey.TheVariants as keys
 use Rattle.handover.specs.declared.push_book.Outgoing.{Outgoing}
 use Rattle.handover.specs.declared.push_book.Subject.{Subject}
 use Rattle.handover.specs.Pushes.{Pushes, PushRooms, HasRoomOfPush, KeepsPushRoom, IsAbout, IsReplaced, subject, subject_of}
-use Rattle.handover.specs.Outbox.{OutboxRows, OneEach, PushesNew, KeepsRoom, KeepsOtherRoom, without}
+use Rattle.handover.specs.Outbox.{OutboxRows, HeldOutbox, OneEach, PushesNew, KeepsRoom, KeepsOtherRoom, without}
 use Rattle.handover.proofs.Totals.{told}
 
 same_value : {A : Type 0} (x y : A) → Some x ≡ Some y → x ≡ y
@@ -50,9 +50,9 @@ one_each_map m r k x is one u n q h g = elim (about_new (without r m) k x u n h)
 ]
 
 -- a new push leaves at most one about each
-pub one_each : (r : OutboxRows) (to : List ℕ) (push : Push) (n : ℕ) (after : OutboxRows) → PushesNew r to push n after → OneEach r.pushes → OneEach after.pushes
-one_each r to push n after new one =
-    subst (λ (o : OutboxRows). OneEach o.pushes) (sym new.rows) (one_each_map r.pushes new.replaced n (record { to = to; push = push }) new.is_replaced one)
+pub one_each : (s : HeldOutbox) (to : List ℕ) (push : Push) (n : ℕ) (t : HeldOutbox) → PushesNew s to push n t → OneEach s.rows.pushes → OneEach t.rows.pushes
+one_each s to push n t new one =
+    subst (λ (o : OutboxRows). OneEach o.pushes) (sym new.rows) (one_each_map s.rows.pushes new.replaced n (record { to = to; push = push }) new.is_replaced one)
 
 -- the older push may end after the new one is put
 pub put_then_remove : (m : Pushes) (k older : ℕ) (x : Outgoing) → older ≢ k → remove (insert m k x) older ≡ insert (remove m older) k x
