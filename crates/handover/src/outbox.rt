@@ -5,7 +5,7 @@ ghost use Rattle.std.specs.FinMap as map;
 ghost use Rattle.ocpi_text.specs.Whole.{max_whole};
 ghost use Rattle.handover.specs.Due.{AreExactly, IsDue};
 ghost use Rattle.handover.specs.Pushes.{HasRoomOfPush, IsReplaced, subject};
-ghost use Rattle.handover.specs.Outbox.{IsTo, HasRoomOf, KeepsRoom, KeepsOtherRoom, counted, drop_moments, drop_resend, drop_row, put_moments, put_resend, put_row};
+ghost use Rattle.handover.specs.Outbox.{IsTo, OneEach, PushesNew, RefusesPush, HasRoomOf, KeepsRoom, KeepsOtherRoom, counted, drop_moments, drop_resend, drop_row, put_moments, put_resend, put_row};
 ghost use Rattle.handover.specs.Resend.{HasRoomToSend, KeepsMoments, due_again, unqueued};
 ghost use Rattle.handover.specs.declared.fault.HandoverFault.TheVariants.{NumbersUsedUp};
 
@@ -184,6 +184,37 @@ impl Outbox {
             RowKey::Count { counter } => self.count(counter, Whole::new(0).unwrap()),
             _ => {}
         }
+    }
+
+    /// Takes the memory that the next push needs, and answers its number.
+    fn reserve_push(&mut self, to: &Party, push: &Push) -> Result<Whole, HandoverFault>
+        ensures ok { IfOk result (λ n. (n ≡ self.old.rows.last + 1) × HasRoomOfPush self.new.rooms n (subject to.now push.now)) }
+        ensures refused { IfErr result (λ e. RefusesPush self.old.rows e) }
+        ensures rows { self.new.rows ≡ self.old.rows }
+        ensures resend { self.new.resend ≡ self.old.resend }
+        ensures again { HasRoomOfPush self.old.rooms (self.old.rows.last + 1) (subject to.now push.now) → IfErr result (λ e. e ≡ NumbersUsedUp) }
+    {
+        let number = self.next_number()?;
+        self.book.reserve(number, to, push)?;
+        Ok(number)
+    }
+
+    /// Adds a push under the number of the next request, due at once, and ends the one that it replaces: `replaced`.
+    /// Refused where the last request has the greatest number (`NumbersUsedUp`), and then for want of memory (`Memory`);
+    /// either leaves the rows and the resend times as they were.
+    pub fn new_push(&mut self, to: Party, push: Push) -> Result<Whole, HandoverFault>
+        ensures ok { IfOk result (λ n. PushesNew self.old to push n self.new) }
+        ensures refused { IfErr result (λ e. RefusesPush self.old.rows e) }
+        ensures rows { OnErr result (self.new.rows ≡ self.old.rows) }
+        ensures resend { OnErr result (self.new.resend ≡ self.old.resend) }
+        ensures again { HasRoomOfPush self.old.rooms (self.old.rows.last + 1) (subject to push) → IfErr result (λ e. e ≡ NumbersUsedUp) }
+        ensures one_each { OneEach self.old.rows.pushes → OneEach self.new.rows.pushes }
+    {
+        let number = self.reserve_push(&to, &push)?;
+        let older = self.book.replaced(&to, &push);
+        self.last = number;
+        self.book.put_newer(older, number, to, push);
+        Ok(number)
     }
 
     /// Only pushes that stand have a resend time.

@@ -1,11 +1,12 @@
 //! The pushes that are not acknowledged, and when each is sent again.
 
-ghost use Rattle.std.specs.Prelude.{◌≡◌, ◌≢◌, ◌↔◌, ℕ, Option, IfOk, IsOk, IsTrue, OnOk, option_copied, false};
+ghost use Rattle.std.specs.Prelude.{◌≡◌, ◌≢◌, ◌↔◌, ℕ, Option, Some, IfNone, IfOk, IfSome, IsOk, IsTrue, OnOk, option_copied, false};
 ghost use Rattle.std.specs.FinMap as map;
 ghost use Rattle.handover.specs.declared.push_book.Subject.{Subject};
 ghost use Rattle.handover.specs.Due.{AreExactly, IsDue};
 ghost use Rattle.handover.specs.Pushes.{HasRoomOfPush, KeepsPushRoom, IsReplaced, subject};
 ghost use Rattle.handover.specs.Resend.{KeepsMoments, unqueued};
+ghost use Rattle.handover.specs.Outbox.{without};
 
 use crate::push_book::{Outgoing, PushBook};
 use crate::send_times::SendTimes;
@@ -34,6 +35,17 @@ impl Model for SendBook {
     ghost view = { λ b. record { pushes = b.book.pushes; rooms = b.book.rooms; resend = b.times.resend; moments = b.times.rooms.moments } };
 
     ghost invariant = { λ b. AreTimed b.book.pushes b.book.rooms.pushes b.times.fresh b.times.resend b.times.rooms };
+}
+
+/// A number that is not that one.
+fn other_than(found: Option<Whole>, number: Whole) -> Option<Whole>
+    ensures some { IfSome result (λ n. (found ≡ Some n) × (n ≢ number)) }
+    ensures none { IfNone result ((n : ℕ) → found ≡ Some n → n ≡ number) }
+{
+    match found {
+        Some(other) if other != number => Some(other),
+        _ => None,
+    }
 }
 
 impl SendBook {
@@ -116,6 +128,33 @@ impl SendBook {
     {
         self.times.remove(number);
         self.book.remove(number);
+    }
+
+    /// Takes the push of a number out, if a number is given.
+    fn remove_any(&mut self, number: Option<Whole>)
+        ensures pushes { self.new.pushes ≡ without number self.old.pushes }
+        ensures resend { self.new.resend ≡ without number self.old.resend }
+    {
+        if let Some(number) = number {
+            self.remove(number);
+        }
+    }
+
+    /// Puts a push, and ends the older one that it replaces. It takes no memory.
+    pub(crate) fn put_newer(
+        &mut self,
+        older: Option<Whole>,
+        number: Whole,
+        to: Party,
+        push: Push,
+    )
+        requires { HasRoomOfPush self.old.rooms number (subject to push) }
+        ensures pushes { self.new.pushes ≡ map.insert (without older self.old.pushes) number (record { to = to; push = push }) }
+        ensures resend { self.new.resend ≡ map.remove (without older self.old.resend) number }
+    {
+        self.put(number, to, push);
+        let other = other_than(older, number);
+        self.remove_any(other);
     }
 
     /// Takes the room that a push needs to be due from a moment on. An error is want of memory, where there was none.
