@@ -1,7 +1,7 @@
 -- The numbers that are due, and their order.
-use Rattle.std.proofs.Common.{◌≡◌, ◌≢◌, ◌<◌, ◌≤◌, ℕ, List, [], ◌∷◌, ◌++◌, map, inl, inr, true, false, cond, T, Bool, refl, sym, ap, subst, ◌∙◌, arith, get_or}
-use Rattle.std.specs.Prelude.{Option, Some, None, IsTrue, is_some, Contains, ◌&&◌, nat_le, take_while}
-use Rattle.std.specs.List.{AllPairs, filter}
+use Rattle.std.proofs.Common.{◌≡◌, ◌≢◌, ◌<◌, ◌≤◌, ℕ, List, [], ◌∷◌, ◌++◌, map, inl, inr, true, false, cond, T, refl, sym, ap, subst, ◌∙◌, arith, get_or}
+use Rattle.std.specs.Prelude.{Some, IsTrue, is_some, Contains, nat_le, take_while}
+use Rattle.std.specs.List.{AllPairs}
 use Rattle.std.specs.List.Sorted.{IsSorted, IsPermutation}
 use Rattle.std.specs.Ordering.{eq_by_cmp, is_eq, is_lt, is_gt, is_le, nat_cmp, ordering_reverse, ordering_then}
 use Rattle.std.specs.declared.cmp.Ordering.{Ordering}
@@ -18,7 +18,7 @@ use Rattle.std.proofs.lemmas.Map.Keys.{le_from_not_gt, IsDistinct-from_apart, Is
 use Rattle.std.proofs.lemmas.Bool.Decides.{nat_tests}
 use Rattle.tables.proofs.Maps.{equal_of_is_eq}
 use Rattle.handover.specs.Pushes.{Pushes}
-use Rattle.handover.specs.Resend.{Numbers, Resend, Moments, moment_number_cmp, IsTimed, TimeRooms, AreTimes, AreTimed}
+use Rattle.handover.specs.Resend.{Numbers, Resend, Moments, moment_number_cmp, TimeRooms, AreTimes, AreTimed}
 use Rattle.handover.specs.Due.{AreExactly, IsDue, IsTimeDue, numbers_of, due_front}
 use Rattle.handover.proofs.Timing.{queue_total, queue_exact, same_value, has_some, has_unit, not_above}
 use Rattle.handover.proofs.ListedEntries.{former, latter, less, in_none, in_single, in_front, in_map, of_map, all_of, no_pairs, joined, apart_of_less, listed, listed_only, each_apart}

@@ -1,19 +1,16 @@
 -- A push that is newer than another about the same replaces it.
-use Rattle.std.proofs.Common.{◌≡◌, ◌≢◌, ◌↔◌, ◌⊎◌, inl, inr, ℕ, ◌≤◌, List, refl, sym, ap, subst, ◌∙◌}
+use Rattle.std.proofs.Common.{◌≡◌, ◌≢◌, ◌⊎◌, inl, inr, ℕ, refl, sym, ap, subst, ◌∙◌}
 use Rattle.std.specs.Prelude.{Option, Some, None, IfSome, IfNone}
 use Rattle.std.specs.Ordering.{nat_cmp}
 use Rattle.std.specs.Cmp.{nat_cmp_total}
 use Rattle.std.specs.FinMap.{FinMap, nat_cmp-IsAntisymmetric, get, insert, remove, same_map}
 use Rattle.tables.proofs.Maps.{get-insert_same, get-insert_other, get-remove_same, get-remove_other}
-use Rattle.ocpi_types.specs.declared.stored.Push.{Push}
-use Rattle.ocpi_types.specs.declared.rows.Row.{Row}
 use Rattle.ocpi_types.specs.declared.rows.Row.TheVariants as row
-use Rattle.ocpi_types.specs.declared.rows.RowKey.{RowKey}
 use Rattle.ocpi_types.specs.declared.rows.RowKey.TheVariants as keys
 use Rattle.handover.specs.declared.push_book.Outgoing.{Outgoing}
 use Rattle.handover.specs.declared.push_book.Subject.{Subject}
 use Rattle.handover.specs.Pushes.{Pushes, PushRooms, HasRoomOfPush, KeepsPushRoom, IsAbout, IsReplaced, subject, subject_of}
-use Rattle.handover.specs.Outbox.{OutboxRows, HeldOutbox, OneEach, PushesNew, KeepsRoom, KeepsOtherRoom, without}
+use Rattle.handover.specs.Outbox.{OneEach, KeepsRoom, KeepsOtherRoom, without}
 use Rattle.handover.specs.Resend.{Resend}
 use Rattle.handover.proofs.Totals.{told}
 use Rattle.handover.proofs.Indexing.{put_anew}
@@ -39,6 +36,7 @@ excluded m None r is one u e q about apart = let bad : None ≡ Some u = e in ab
 excluded m (Some v) None is one u e q about apart = is q (subst (λ z. IsAbout m z q) (sym (same_value v u e)) about)
 excluded m (Some v) (Some k) is one u e q about apart = apart (ap Some (one u k q (subst (λ z. IsAbout m z k) (same_value v u e) is.0) about))
 
+-- a new push leaves at most one about each
 pub one_each_map : (m : Pushes) (r : Option ℕ) (k : ℕ) (x : Outgoing) → IsReplaced m (subject_of x) r → OneEach m → OneEach (insert (without r m) k x)
 one_each_map m r k x is one u n q h g = elim (about_new (without r m) k x u n h) [
   | inl a ↦ elim (about_new (without r m) k x u q g) [
@@ -50,11 +48,6 @@ one_each_map m r k x is one u n q h g = elim (about_new (without r m) k x u n h)
     | inr b ↦ one u n q (about_without r m u n a.1).0 (about_without r m u q b.1).0
   ]
 ]
-
--- a new push leaves at most one about each
-pub one_each : (s : HeldOutbox) (to : List ℕ) (push : Push) (n : ℕ) (t : HeldOutbox) → PushesNew s to push n t → OneEach s.rows.pushes → OneEach t.rows.pushes
-one_each s to push n t new one =
-    subst (λ (o : OutboxRows). OneEach o.pushes) (sym new.rows) (one_each_map s.rows.pushes new.replaced n (record { to = to; push = push }) new.is_replaced one)
 
 -- the older push may end after the new one is put
 pub put_then_remove : (m : Pushes) (k older : ℕ) (x : Outgoing) → older ≢ k → remove (insert m k x) older ≡ insert (remove m older) k x

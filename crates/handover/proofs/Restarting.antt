@@ -1,12 +1,12 @@
 -- Each push becomes due at once, one after the other.
-use Rattle.std.proofs.Common.{◌≡◌, ◌≢◌, ◌↔◌, ◌⊎◌, ◌≤◌, ◌<◌, ◌-◌, inl, inr, ℕ, true, false, cond, refl, sym, ap, subst, ◌∙◌, arith}
+use Rattle.std.proofs.Common.{◌≡◌, ◌≢◌, ◌↔◌, ◌≤◌, ◌<◌, ◌-◌, inl, inr, ℕ, cond, refl, sym, ap, subst, ◌∙◌, arith}
 use Rattle.std.specs.Prelude.{Option, Some, None, IsTrue, IfSome, IfNone, is_some}
 use Rattle.std.specs.Ordering.{nat_cmp}
 use Rattle.std.specs.Cmp.{nat_cmp_total}
-use Rattle.std.specs.FinMap.{FinMap, nat_cmp-IsAntisymmetric, empty, get, insert, remove, contains_key, get-empty, same_map, len, len-remove, empty_of_len}
+use Rattle.std.specs.FinMap.{nat_cmp-IsAntisymmetric, empty, get, insert, remove, contains_key, get-empty, same_map, len, len-remove, empty_of_len}
 use Rattle.handover.specs.Resend.{Numbers, Resend, TimeRooms, HasRoomOfNumber, IsTimed}
 use Rattle.handover.proofs.Totals.{told}
-use Rattle.handover.proofs.Timing.{put_has, put_keeps, put_or, gone, stays, stood, has_none}
+use Rattle.handover.proofs.Timing.{put_has, put_keeps, put_or, stays, stood, has_none}
 
 -- no push below the next has a resend time, and none where there is no next
 pub record AreRestarting (fresh : Numbers) (resend : Resend) (rooms : TimeRooms) (now_fresh : Numbers) (now_resend : Resend) (now_rooms : TimeRooms) (next : Option ℕ) : Type 0 where

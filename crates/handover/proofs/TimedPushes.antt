@@ -1,15 +1,15 @@
 -- The pushes that stand are timed, as they come and go.
-use Rattle.std.proofs.Common.{◌≡◌, ◌≢◌, ◌↔◌, ◌⊎◌, inl, inr, ℕ, true, false, refl, sym, ap, subst, ◌∙◌}
+use Rattle.std.proofs.Common.{◌≡◌, ◌≢◌, ◌↔◌, inl, inr, ℕ, refl, sym, subst}
 use Rattle.std.proofs.Common.{option_copied, Bor}
 use Rattle.std.specs.Prelude.{Option, Some, None, IsTrue, is_some}
 use Rattle.std.specs.Ordering.{nat_cmp}
 use Rattle.std.specs.Cmp.{nat_cmp_total}
-use Rattle.std.specs.FinMap.{FinMap, nat_cmp-IsAntisymmetric, empty, get, insert, remove, contains_key}
+use Rattle.std.specs.FinMap.{nat_cmp-IsAntisymmetric, empty, insert, remove, contains_key}
 use Rattle.handover.specs.declared.push_book.Outgoing.{Outgoing}
 use Rattle.handover.specs.Pushes.{Pushes}
 use Rattle.handover.specs.Resend.{Numbers, Resend, IsTimed, TimeRooms, HasRoomOfNumber, AreTimed}
 use Rattle.handover.proofs.Totals.{told}
-use Rattle.handover.proofs.Timing.{put_has, put_keeps, put_or, gone, stays, stood, has_none}
+use Rattle.handover.proofs.Timing.{put_has, put_keeps, put_or, stays, stood, has_none}
 
 pub timed_none : (rooms : TimeRooms) → AreTimed empty empty empty empty rooms
 timed_none rooms = record {

@@ -1,5 +1,5 @@
 -- When pushes are due, as they are put, sent and dropped.
-use Rattle.std.proofs.Common.{◌≡◌, ◌≢◌, ◌↔◌, ◌⊎◌, ◌≤◌, inl, inr, ℕ, true, false, refl, sym, ap, subst, ◌∙◌, arith}
+use Rattle.std.proofs.Common.{◌≡◌, ◌≢◌, ◌⊎◌, ◌≤◌, inl, inr, ℕ, true, false, refl, sym, ap, subst, ◌∙◌, arith}
 use Rattle.std.specs.Prelude.{Option, Some, None, IsTrue, IfSome, IfNone, is_some}
 use Rattle.std.specs.Ordering.{nat_cmp, is_gt}
 use Rattle.std.specs.BTreeMap.Range.{IsLeBy}
@@ -12,7 +12,7 @@ use Rattle.std.proofs.lemmas.Cmp.{on_total, then_total}
 use Rattle.std.specs.FinMap.{FinMap, IsAntisymmetric, nat_cmp-IsAntisymmetric, empty, get, insert, remove, contains_key, get-empty, same_map}
 use Rattle.tables.specs.Keys.{pair_exact}
 use Rattle.tables.proofs.Maps.{of_insert, of_remove, get-insert_same, get-insert_other, get-remove_same, get-remove_other}
-use Rattle.handover.specs.Resend.{Numbers, Resend, Moments, moment_number_cmp, unqueued, IsQueue, IsTimed, TimeRooms, HasRoomOfNumber, AreTimes}
+use Rattle.handover.specs.Resend.{Numbers, Resend, Moments, moment_number_cmp, unqueued, IsQueue, TimeRooms, HasRoomOfNumber, AreTimes}
 use Rattle.handover.proofs.Totals.{told}
 
 pub queue_total : IsTotalOrder moment_number_cmp

@@ -7,3 +7,4 @@ pub mod Pushes
 pub mod Outbox
 pub mod Resend
 pub mod Due
+pub mod OutboxListing

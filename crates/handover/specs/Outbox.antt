@@ -1,7 +1,7 @@
 -- What a node pushes until it is acknowledged, and the number of its last request.
-use Rattle.std.specs.Prelude.{◌≡◌, ◌≢◌, ◌+◌, ◌<◌, ◌≤◌, ℕ, List, Option, Some, None, IsTrue, ⊤}
+use Rattle.std.specs.Prelude.{◌≡◌, ◌≢◌, ◌+◌, ◌<◌, ◌≤◌, ℕ, List, Option, Some, None, ⊤}
 use Rattle.std.specs.Ordering.{nat_cmp}
-use Rattle.std.specs.FinMap.{FinMap, get, insert, remove}
+use Rattle.std.specs.FinMap.{FinMap, empty, get, insert, remove}
 use Rattle.ocpi_text.specs.Whole.{max_whole}
 use Rattle.ocpi_text.specs.Text.{key}
 use Rattle.ocpi_types.specs.declared.stored.Push.{Push}
@@ -16,7 +16,7 @@ use Rattle.handover.specs.declared.push_book.Outgoing.{Outgoing}
 use Rattle.handover.specs.declared.push_book.Subject.{Subject}
 use Rattle.handover.specs.declared.fault.HandoverFault.{HandoverFault}
 use Rattle.handover.specs.declared.fault.HandoverFault.TheVariants.{WrongParty, NumbersUsedUp, Memory}
-use Rattle.handover.specs.Pushes.{Pushes, PushRooms, HasRoomOfPush, IsAbout, IsReplaced, subject, subject_of}
+use Rattle.handover.specs.Pushes.{Pushes, PushRooms, HasRoomOfPush, IsAbout, IsReplaced, subject}
 use Rattle.handover.specs.Resend.{Resend, Moments, unqueued}
 
 pub record OutboxRows : Type 0 where
@@ -57,6 +57,23 @@ RefusesPush r WrongParty = ⊥
 -- no two pushes are about the same
 abbrev pub OneEach : Pushes → Type 0
 OneEach m = (u : Subject) (n q : ℕ) → IsAbout m u n → IsAbout m u q → n ≡ q
+
+abbrev pub no_rows : OutboxRows
+no_rows = record { last = 0; pushes = empty }
+
+-- the number that the counter of requests has given last; the others are not kept here
+abbrev pub HasCount : ℕ → Counter → ℕ → Type 0
+HasCount last counter.Request n = (last ≡ n) × (n ≢ 0)
+HasCount last counter.Serial n = ⊥
+HasCount last counter.Session n = ⊥
+HasCount last counter.Cdr n = ⊥
+HasCount last counter.Reference n = ⊥
+
+-- the row stands. A counter that has given no number has none
+abbrev pub HasRow : OutboxRows → Row → Type 0
+HasRow r (row.Count c n) = HasCount r.last c n
+HasRow r (row.Push n to push) = get r.pushes n ≡ Some (record { to = to; push = push })
+HasRow r other = ⊥
 
 -- a counter gave that number last; the others are not kept here
 abbrev pub counted : Counter → ℕ → OutboxRows → OutboxRows

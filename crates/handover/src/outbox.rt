@@ -5,7 +5,7 @@ ghost use Rattle.std.specs.FinMap as map;
 ghost use Rattle.ocpi_text.specs.Whole.{max_whole};
 ghost use Rattle.handover.specs.Due.{AreExactly, IsDue};
 ghost use Rattle.handover.specs.Pushes.{HasRoomOfPush, IsReplaced, subject};
-ghost use Rattle.handover.specs.Outbox.{IsTo, OneEach, PushesNew, RefusesPush, HasRoomOf, KeepsRoom, KeepsOtherRoom, counted, drop_moments, drop_resend, drop_row, put_moments, put_resend, put_row};
+ghost use Rattle.handover.specs.Outbox.{IsTo, OneEach, PushesNew, RefusesPush, HasRoomOf, KeepsRoom, KeepsOtherRoom, counted, drop_moments, drop_resend, drop_row, no_rows, put_moments, put_resend, put_row};
 ghost use Rattle.handover.specs.Resend.{HasRoomToSend, KeepsMoments, due_again, unqueued};
 ghost use Rattle.handover.specs.declared.fault.HandoverFault.TheVariants.{NumbersUsedUp};
 
@@ -47,7 +47,7 @@ impl Outbox {
     /// There is no push, and no request was made. It takes no memory.
     pub fn new(alloc: Global) -> Outbox
         ensures resend { result.resend ≡ map.empty }
-        ensures rows { result.rows ≡ record { last = 0; pushes = map.empty } }
+        ensures rows { result.rows ≡ no_rows }
     {
         Outbox {
             last: Whole::new(0).unwrap(),
@@ -251,8 +251,8 @@ impl Outbox {
     }
 
     /// The numbers of the pushes that are due at that moment, in ascending order: those that have no resend time, or one at
-    /// or before it. It costs what is due, and the order of that, and a step for each push between two that have no resend
-    /// time.
+    /// or before it. It costs what is due, and the order of that, and a step for each push above the first that has no
+    /// resend time.
     pub fn due(&self, alloc: Global, at: Moment) -> Result<Vec<Whole>, AllocError>
         ensures { IfOk result (λ numbers. AreExactly (IsDue self.now.rows.pushes self.now.resend at) numbers.items) }
     {

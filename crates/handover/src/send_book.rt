@@ -141,13 +141,7 @@ impl SendBook {
     }
 
     /// Puts a push, and ends the older one that it replaces. It takes no memory.
-    pub(crate) fn put_newer(
-        &mut self,
-        older: Option<Whole>,
-        number: Whole,
-        to: Party,
-        push: Push,
-    )
+    pub(crate) fn put_newer(&mut self, older: Option<Whole>, number: Whole, to: Party, push: Push)
         requires { HasRoomOfPush self.old.rooms number (subject to push) }
         ensures pushes { self.new.pushes ≡ map.insert (without older self.old.pushes) number (record { to = to; push = push }) }
         ensures resend { self.new.resend ≡ map.remove (without older self.old.resend) number }
@@ -181,6 +175,30 @@ impl SendBook {
         if self.book.get(number).is_some() {
             self.times.set(number, moment);
         }
+    }
+
+    /// As `set`, with the memory for it. An error is want of memory.
+    fn add_time(&mut self, number: Whole, moment: Moment) -> Result<(), AllocError>
+        ensures pushes { self.new.pushes ≡ self.old.pushes }
+        ensures resend { IsTrue (map.contains_key self.old.pushes number) → OnOk result (self.new.resend ≡ map.insert self.old.resend number moment) }
+    {
+        self.reserve_at(moment, number)?;
+        self.set(number, moment);
+        Ok(())
+    }
+
+    /// Gives the pushes the resend times that the same pushes have in another book. An error is want of memory.
+    pub(crate) fn add_times(&mut self, from: &SendBook) -> Result<(), AllocError>
+        requires pushes { self.old.pushes ≡ from.now.pushes }
+        requires resend { self.old.resend ≡ map.empty }
+        ensures pushes { self.new.pushes ≡ self.old.pushes }
+        ensures resend { OnOk result (self.new.resend ≡ from.now.resend) }
+    {
+        from.resend_stands();
+        for (number, moment) in from.times.visits() {
+            self.add_time(*number, *moment)?;
+        }
+        Ok(())
     }
 
     /// Each push is due at once. It takes no memory, and costs the logarithm for each push.

@@ -1,6 +1,6 @@
 //! When pushes are sent again.
 
-ghost use Rattle.std.specs.Prelude.{◌≡◌, ◌≢◌, ◌↔◌, ◌⊎◌, ◌++◌, ◌≤◌, ℕ, None, IfOk, IfSome, IfNone, IsOk, IsTrue, OnOk, Some, map as list_map};
+ghost use Rattle.std.specs.Prelude.{◌≡◌, ◌≢◌, ◌↔◌, ◌++◌, ◌≤◌, ℕ, IfOk, IfSome, IfNone, IsOk, IsTrue, OnOk, Some};
 ghost use Rattle.std.specs.FinMap as map;
 ghost use Rattle.tables.specs.Tables.{shown_of, rooms_of};
 ghost use Rattle.std.specs.BTreeMap.Range.{entries_from};
@@ -11,10 +11,10 @@ ghost use Rattle.handover.specs.Resend.{HasRoomOfNumber, IsTimed, KeepsMoments, 
 use ocpi_text::{Moment, Whole};
 use std::alloc::{AllocError, Global};
 use std::marker::Model;
-use tables::Table;
+use tables::{Table, Visits};
 
-/// When each push is due: at once, or from a moment on. The first of those that are due at once, and the front of the
-/// queue of the others, are found by the logarithm of their number.
+/// When each push is due: at once, or from a moment on. Both are found without the pushes that are not due, but for
+/// those above the first that is due at once.
 #[derive(Drop)]
 pub(crate) struct SendTimes {
     /// The pushes that are due at once. Each push keeps its room here.
@@ -49,7 +49,7 @@ impl Model for SendTimes {
     } };
 
     ghost invariant = { λ t. AreTimes (shown_of nat_cmp t.fresh) (shown_of nat_cmp t.moments) (shown_of moment_number_cmp t.queue)
-      (record { fresh = rooms_of nat_cmp t.fresh; resend = rooms_of nat_cmp t.moments; moments = rooms_of moment_number_cmp t.queue }) t.first };
+        (record { fresh = rooms_of nat_cmp t.fresh; resend = rooms_of nat_cmp t.moments; moments = rooms_of moment_number_cmp t.queue }) t.first };
 }
 
 /// Takes a number out of a queue, where it stands there by that moment.
@@ -205,6 +205,13 @@ impl SendTimes {
         unqueue(&mut self.queue, moment, number);
         self.fresh.remove(number);
         self.first = lowest_from(&self.fresh, self.first);
+    }
+
+    /// Each number that has a resend time, with that.
+    pub(crate) fn visits(&self) -> Visits<'_, Whole, Moment>
+        ensures { result ≡ map.entries self.now.resend }
+    {
+        self.moments.iter()
     }
 
     /// The least number at or after that one that has a resend time.

@@ -1,4 +1,3 @@
-use Rattle.std.proofs.Common.{ap, ◌∙◌}
 use Rattle.handover.proofs.Timing.{times_roomed, keeps_number}
 use Rattle.handover.proofs.send_times.SendTimes.reserve.Goals as goal
 

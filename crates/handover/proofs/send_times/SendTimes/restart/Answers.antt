@@ -1,8 +1,8 @@
-use Rattle.std.proofs.Common.{◌≡◌, ◌<◌, sym, ap, subst, ◌∙◌}
+use Rattle.std.proofs.Common.{◌≡◌, ◌<◌, sym, subst}
 use Rattle.std.specs.Prelude.{Option, IfSome, IfNone, IsTrue, Some, None}
 use Rattle.std.specs.FinMap.{len, contains_key}
 use Rattle.handover.specs.Resend.{Resend}
-use Rattle.handover.proofs.Restarting.{AreRestarting, restarting_begins, restarting_goes_on, no_key, fewer}
+use Rattle.handover.proofs.Restarting.{AreRestarting, restarting_goes_on, no_key, fewer}
 use Rattle.handover.proofs.send_times.SendTimes.restart.Goals as goal
 
 at_some : {X : Type 0} (o : Option X) (x : X) (P : X → Type 0) → o ≡ Some x → IfSome o P → P x
