@@ -1,6 +1,6 @@
 -- Sessions and charge detail records that a provider holds, and when it takes others.
 use Rattle.std.specs.Prelude.{◌≡◌, ◌≢◌, ◌⊎◌, ◌<◌, ℕ, List, Option, Some, None, IsTrue, ⊤}
-use Rattle.std.specs.FinMap.{FinMap, get, insert, remove, contains_key}
+use Rattle.std.specs.FinMap.{FinMap, get, insert, remove, contains_key, empty}
 use Rattle.ocpi_text.specs.Text.{key}
 use Rattle.tables.specs.Keys.{text_pair_cmp}
 use Rattle.ocpi_types.specs.declared.cdrs.Cdr.{Cdr}
@@ -48,6 +48,15 @@ pub record IsInConflict (m : Cdrs) (x : Cdr) : Type 0 where
 pub record InboxRows : Type 0 where
   pub sessions : Sessions
   pub cdrs : Cdrs
+
+abbrev pub no_rows : InboxRows
+no_rows = record { sessions = empty; cdrs = empty }
+
+-- the row stands; an inbox has no rows of other kinds
+abbrev pub HasRow : InboxRows → Row → Type 0
+HasRow s (row.Session x) = get s.sessions (session_key x) ≡ Some x
+HasRow s (row.Cdr x) = get s.cdrs (cdr_key x) ≡ Some x
+HasRow s other = ⊥
 
 abbrev pub with_session : SessionTaking → Session → InboxRows → InboxRows
 with_session session_taking.Taken s r = record r { sessions = insert r.sessions (session_key s) s }

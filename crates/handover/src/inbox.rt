@@ -5,7 +5,7 @@ ghost use Rattle.std.specs.FinMap as map;
 ghost use Rattle.ocpi_text.specs.Text.{key};
 ghost use Rattle.handover.specs.Owed.{owed};
 ghost use Rattle.handover.specs.Cdrs.{cdr_key};
-ghost use Rattle.handover.specs.Inbox.{IsOfParties, IsFinal, IsNews, IsInConflict, HasRoomOf, KeepsRoom, KeepsOtherRoom, session_key, with_session, with_cdr, put_row, drop_row};
+ghost use Rattle.handover.specs.Inbox.{IsOfParties, IsFinal, IsNews, IsInConflict, HasRoomOf, KeepsRoom, KeepsOtherRoom, no_rows, session_key, with_session, with_cdr, put_row, drop_row};
 ghost use Rattle.handover.specs.declared.fault.HandoverFault.TheVariants.{WrongParty, Memory};
 ghost use Rattle.handover.specs.declared.takings.SessionTaking.TheVariants as session_taking;
 ghost use Rattle.handover.specs.declared.takings.CdrTaking.TheVariants as cdr_taking;
@@ -26,8 +26,8 @@ use tables::Table;
 /// what is held.
 #[derive(Drop)]
 pub struct Inbox {
-    sessions: Table<(PartyKey, CiKey<36>), Session>,
-    cdrs: CdrBook,
+    pub(crate) sessions: Table<(PartyKey, CiKey<36>), Session>,
+    pub(crate) cdrs: CdrBook,
 }
 
 impl Model for Inbox {
@@ -75,7 +75,7 @@ fn is_news(held: Option<&Session>, session: &Session) -> bool
 impl Inbox {
     /// Nothing is held. It takes no memory.
     pub fn new(alloc: Global) -> Inbox
-        ensures { result.rows ≡ record { sessions = map.empty; cdrs = map.empty } }
+        ensures { result.rows ≡ no_rows }
     {
         Inbox {
             sessions: Table::new(alloc),
