@@ -1,5 +1,5 @@
 -- Charge detail records that are held, by operator and id, and what stands beside them.
-use Rattle.std.specs.Prelude.{◌≡◌, ◌≢◌, ◌↔◌, ℕ, ℤ, ◌<◌, unsigned_abs, List, map, Some, IsTrue}
+use Rattle.std.specs.Prelude.{◌≡◌, ◌≢◌, ◌↔◌, ℕ, ℤ, ◌<◌, unsigned_abs, List, map, Some, IsTrue, false}
 use Rattle.std.specs.FinMap.{FinMap, get, contains_key, entries, values}
 use Rattle.std.specs.declared.cmp.Ordering.{Ordering}
 use Rattle.std.specs.declared.cmp.Ordering.TheVariants.{Less}
@@ -70,6 +70,11 @@ pub record HasRoomOfCdr (s : CdrRooms) (x : Cdr) : Type 0 where
 -- what has room keeps it
 abbrev pub KeepsCdrRoom : CdrRooms → CdrRooms → Type 0
 KeepsCdrRoom s t = (x : Cdr) → HasRoomOfCdr s x → HasRoomOfCdr t x
+
+-- the room of that key is given back, with that of the record that stood there in its session; the room of a sum stays
+pub record GivesCdrBack (k : List ℕ × List ℕ) (m : Cdrs) (t : CdrRooms) : Type 0 where
+  pub of_record : contains_key t.cdrs k ≡ false
+  pub of_session : (x : Cdr) → get m k ≡ Some x → contains_key t.sessions ((k.0, key x.session_id), k.1) ≡ false
 
 -- the records, and the room that is taken beside them
 pub record HeldCdrs : Type 0 where

@@ -6,7 +6,7 @@ ghost use Rattle.ocpi_text.specs.Text.{key};
 ghost use Rattle.ocpi_text.specs.Decimal.{e4_limit};
 ghost use Rattle.ocpi_types.specs.declared.cdrs.Cdr.{Cdr};
 ghost use Rattle.handover.specs.Owed.{owed};
-ghost use Rattle.handover.specs.Cdrs.{AreOwnCdrs, HasRoomOfCdr, KeepsCdrRoom, HasOther, HasLaterId, cdr_key, cdr_rows};
+ghost use Rattle.handover.specs.Cdrs.{AreOwnCdrs, HasRoomOfCdr, KeepsCdrRoom, GivesCdrBack, HasOther, HasLaterId, cdr_key, cdr_rows};
 
 use crate::currency::Currency;
 use crate::sums::Sums;
@@ -213,6 +213,7 @@ impl CdrBook {
     pub(crate) fn remove(&mut self, operator: PartyKey, id: CiKey<39>)
         ensures cdrs { self.new.cdrs ≡ map.remove self.old.cdrs (operator, id) }
         ensures rooms { (x : Cdr) → HasRoomOfCdr self.old.rooms x → cdr_key x ≢ (operator, id) → HasRoomOfCdr self.new.rooms x }
+        ensures back { GivesCdrBack (operator, id) self.old.cdrs self.new.rooms }
     {
         let Some(cdr) = self.cdrs.get((operator, id)) else {
             self.cdrs.release((operator, id));

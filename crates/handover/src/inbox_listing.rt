@@ -3,7 +3,7 @@
 ghost use Rattle.std.specs.Prelude.{◌≡◌, ◌++◌, IfOk, IsOk, OnErr, OnOk};
 ghost use Rattle.tables.specs.Keys.{text_pair_cmp};
 ghost use Rattle.tables.specs.Tables.{shown_of};
-ghost use Rattle.handover.specs.Inbox.{HasRoomOf, put_row};
+ghost use Rattle.handover.specs.Inbox.{HasRoomOf, KeepsRoom, put_row};
 ghost use Rattle.handover.specs.InboxListing.{AreOwnRows, AreRowsOf, RowsAreAll, put_rows, rows_of, session_rows};
 
 use crate::inbox::Inbox;
@@ -65,6 +65,7 @@ impl Inbox {
     pub fn add_row(&mut self, row: Row) -> Result<(), AllocError>
         ensures ok { OnOk result (self.new.rows ≡ put_row row self.old.rows) }
         ensures err { OnErr result (self.new.rows ≡ self.old.rows) }
+        ensures keeps { KeepsRoom self.old.rooms self.new.rooms }
         ensures again { HasRoomOf self.old.rooms row → IsOk result }
     {
         self.reserve_row(&row)?;
