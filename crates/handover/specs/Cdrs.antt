@@ -29,6 +29,10 @@ cdr_key x = (key x.party, key x.id)
 abbrev pub AreOwnCdrs : Cdrs → Type 0
 AreOwnCdrs m = (k : List ℕ × List ℕ) (x : Cdr) → get m k ≡ Some x → k ≡ cdr_key x
 
+-- no two records of an operator are of one session
+abbrev pub HasOnePerSession : Cdrs → Type 0
+HasOnePerSession m = (operator i j : List ℕ) (x y : Cdr) → get m (operator, i) ≡ Some x → get m (operator, j) ≡ Some y → key x.session_id ≡ key y.session_id → i ≡ j
+
 abbrev pub cdr_row : (List ℕ × List ℕ) × Cdr → Row
 cdr_row e = row.Cdr e.1
 

@@ -4,7 +4,7 @@ ghost use Rattle.std.specs.Prelude.{◌≡◌, ◌↔◌, ◌⊎◌, IsTrue, Som
 ghost use Rattle.std.specs.FinMap as map;
 ghost use Rattle.ocpi_text.specs.Text.{key};
 ghost use Rattle.handover.specs.Owed.{owed};
-ghost use Rattle.handover.specs.Cdrs.{cdr_key};
+ghost use Rattle.handover.specs.Cdrs.{HasOnePerSession, cdr_key};
 ghost use Rattle.handover.specs.Inbox.{IsOfParties, IsFinal, IsNews, IsInConflict, HasRoomOf, KeepsRoom, KeepsOtherRoom, GivesBack, no_rows, session_key, with_session, with_cdr, put_row, drop_row};
 ghost use Rattle.handover.specs.declared.fault.HandoverFault.TheVariants.{WrongParty, Memory};
 ghost use Rattle.handover.specs.declared.takings.SessionTaking.TheVariants as session_taking;
@@ -165,7 +165,7 @@ impl Inbox {
     }
 
     /// Takes a version of a session that a sender hands over to the party `own`, where `session_taking` says so. Refused
-    /// are what it refuses (`WrongParty`), and want of memory for one that is to be taken (`Memory`).
+    /// are what it refuses (`WrongParty`), and want of memory for one that is to be taken and has no room (`Memory`).
     pub fn take_session(
         &mut self,
         own: &Party,
@@ -190,7 +190,8 @@ impl Inbox {
     }
 
     /// Takes a charge detail record that a sender hands over to the party `own`, where `cdr_taking` says so. Refused are
-    /// what it refuses (`WrongParty`), and want of memory for one that is to be taken (`Memory`).
+    /// what it refuses (`WrongParty`), and want of memory for one that is to be taken and has no room (`Memory`). Where no two
+    /// records that are held are of one session of an operator, it stays so: no session is billed twice.
     pub fn take_cdr(
         &mut self,
         own: &Party,
@@ -201,11 +202,13 @@ impl Inbox {
         ensures conflict { IfOk result (λ t. (t ≡ cdr_taking.Conflict) ↔ IsInConflict self.old.rows.cdrs cdr) }
         ensures kept { IfOk result (λ t. (t ≡ cdr_taking.Kept) ↔ ((map.get self.old.rows.cdrs (cdr_key cdr) ≡ Some cdr) × (IsInConflict self.old.rows.cdrs cdr → ⊥))) }
         ensures rows { IfOk result (λ t. self.new.rows ≡ with_cdr t cdr self.old.rows) }
+        ensures once { HasOnePerSession self.old.rows.cdrs → HasOnePerSession self.new.rows.cdrs }
         ensures keeps { KeepsRoom self.old.rooms self.new.rooms }
         ensures again { IsOfParties own.now sender.now cdr.cdr_token.party cdr.party → HasRoomOf self.old.rooms (Row.Cdr cdr) → IsOk result }
         ensures err { OnErr result (self.new.rows ≡ self.old.rows) }
         ensures fault { IfErr result (λ e. ((e ≡ WrongParty) × (IsOfParties own.now sender.now cdr.cdr_token.party cdr.party → ⊥)) ⊎ ((e ≡ Memory) × IsOfParties own.now sender.now cdr.cdr_token.party cdr.party × (IsInConflict self.old.rows.cdrs cdr → ⊥) × (map.get self.old.rows.cdrs (cdr_key cdr) ≡ Some cdr → ⊥))) }
     {
+        self.consistency();
         let taking = self.cdr_taking(own, sender, &cdr)?;
         match taking {
             CdrTaking::Taken => self.add_row(Row::Cdr { cdr })?,
