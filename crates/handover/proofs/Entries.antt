@@ -1,4 +1,4 @@
--- Lists, and the entries of finite maps as lists.
+-- Lists, the entries of finite maps as lists, and optional values.
 use Rattle.std.proofs.Common.{◌≡◌, ◌≢◌, zero, suc, List, [], ◌∷◌, ◌++◌, map, get_or, inl, inr, true, false, cond, T, Bool, refl, sym, ap, subst, ◌∙◌, arith}
 use Rattle.std.specs.Prelude.{Option, Some, None, Contains, All, ◌&&◌}
 use Rattle.std.specs.List.{AllPairs, AllByRecursion}
@@ -50,6 +50,17 @@ module _ {X Y : Type 0} (f : X → Y) where
     | inr i ↦ let r = of_map xs y i in (r.0, Contains-append_right (x ∷ []) xs r.0 r.1, r.2)
   ]
 
+-- what holds of each element
+all_elements : {X : Type 0} (P : X → Type 0) (xs : List X) → ((x : X) → Contains xs x → P x) → AllByRecursion P xs
+all_elements P [] h = tt
+all_elements P (x ∷ xs) h = (h x (in_front x xs), all_elements P xs (λ y i. h y (Contains-append_right (x ∷ []) xs y i)))
+
+-- two that have the same values are the same
+pub same_option : {X : Type 0} (a b : Option X) → ((x : X) → a ≡ Some x → b ≡ Some x) → ((x : X) → b ≡ Some x → a ≡ Some x) → a ≡ b
+same_option None None f g = refl
+same_option None (Some x) f g = g x refl
+same_option (Some x) b f g = sym (f x refl)
+
 module _ {X : Type 0} (A : X → X → Type 0) where
   no_pairs : AllPairs A []
   no_pairs i j d below bound = absurd (omega arith)
@@ -98,21 +109,29 @@ module _ {K X : Type 0} {R : K → K → Ordering} (o : IsTotalOrder R) (exact :
   listed_only m k v h =
       get-entries m k ∙ sym (looked k (entries m)) ∙ lookup-from_Contains (eq_by_cmp_equiv o) k v (entries m) (IsDistinct-from_sorted R (keys_of (entries m)) (strictly (entries m) (entries_sorted m))) h
 
-  -- what is made of entries with other keys differs, so all that is made of the entries of a map does
-  module _ {Y : Type 0} (f : K × X → Y) (A : Y → Y → Type 0) (P : K × X → Type 0) (apart : (a b : K × X) → P a → P b → a.0 ≢ b.0 → A (f a) (f b)) where
-    each_later : (e : K × X) (es : List (K × X)) → P e → AllByRecursion P es → T (below_all R e.0 es) → All (λ y. A (f e) (f y)) es
-    each_later e [] p ps h = λ k d bound. absurd (omega arith)
-    each_later e (y ∷ ys) p ps h =
-        All-cons (λ z. A (f e) (f z)) y ys (apart e y p ps.0 (apart_of_less o e.0 y.0 (less (R e.0 y.0) (former _ _ h)))) (each_later e ys p ps.1 (latter _ _ h))
+  -- what is made of the entries of a map
+  module _ {Y : Type 0} (f : K × X → Y) (m : FinMap R X) where
+    pub found_in : (k : K) (v : X) → get m k ≡ Some v → Contains (map f (entries m)) (f (k, v))
+    found_in k v h = in_map f (entries m) (k, v) (listed m k v h)
 
-    pub each_apart : (es : List (K × X)) → AllByRecursion P es → T (is_sorted R es) → AllPairs A (map f es)
-    each_apart [] ps h = no_pairs A
-    each_apart (e ∷ es) ps h = AllPairs-cons A (f e) (map f es) (All-map (A (f e)) f es (each_later e es ps.0 ps.1 (former _ _ h))) (each_apart es ps.1 (latter _ _ h))
+    pub each_in : (P : Y → Type 0) → ((k : K) (v : X) → get m k ≡ Some v → P (f (k, v))) → (y : Y) → Contains (map f (entries m)) y → P y
+    each_in P h y i =
+        let from = of_map f (entries m) y i in
+        subst P from.2 (h from.0.0 from.0.1 (listed_only m from.0.0 from.0.1 from.1))
 
--- what holds of each element
-pub all_elements : {X : Type 0} (P : X → Type 0) (xs : List X) → ((x : X) → Contains xs x → P x) → AllByRecursion P xs
-all_elements P [] h = tt
-all_elements P (x ∷ xs) h = (h x (in_front x xs), all_elements P xs (λ y i. h y (Contains-append_right (x ∷ []) xs y i)))
+    -- differs, where it differs for entries with other keys
+    module _ (A : Y → Y → Type 0) (apart : (a b : K × X) → get m a.0 ≡ Some a.1 → get m b.0 ≡ Some b.1 → a.0 ≢ b.0 → A (f a) (f b)) where
+      each_later : (e : K × X) (es : List (K × X)) → get m e.0 ≡ Some e.1 → AllByRecursion (λ d. get m d.0 ≡ Some d.1) es → T (below_all R e.0 es) → All (λ d. A (f e) (f d)) es
+      each_later e [] p ps h = λ k d bound. absurd (omega arith)
+      each_later e (y ∷ ys) p ps h =
+          All-cons (λ z. A (f e) (f z)) y ys (apart e y p ps.0 (apart_of_less o e.0 y.0 (less (R e.0 y.0) (former _ _ h)))) (each_later e ys p ps.1 (latter _ _ h))
+
+      each_apart : (es : List (K × X)) → AllByRecursion (λ d. get m d.0 ≡ Some d.1) es → T (is_sorted R es) → AllPairs A (map f es)
+      each_apart [] ps h = no_pairs A
+      each_apart (e ∷ es) ps h = AllPairs-cons A (f e) (map f es) (All-map (A (f e)) f es (each_later e es ps.0 ps.1 (former _ _ h))) (each_apart es ps.1 (latter _ _ h))
+
+      pub all_apart : AllPairs A (map f (entries m))
+      all_apart = each_apart (entries m) (all_elements (λ d. get m d.0 ≡ Some d.1) (entries m) (λ d i. listed_only m d.0 d.1 i)) (entries_sorted m)
 
 -- a list that grows at its end by what is left
 module _ {Y : Type 0} (xs ys : List Y) where

@@ -1,18 +1,16 @@
 -- Sessions and records that are held.
-use Rattle.std.proofs.Common.{◌≡◌, ◌≢◌, ◌↔◌, ◌⊎◌, inl, inr, ℕ, true, false, List, refl, sym, ap, subst, ◌∙◌}
-use Rattle.std.specs.Prelude.{Option, Some, None, IsTrue}
+use Rattle.std.proofs.Common.{◌≡◌, ◌≢◌, ◌↔◌, inl, inr, ℕ, List, refl, sym, ap, ◌∙◌}
+use Rattle.std.specs.Prelude.{Some, None, IsTrue}
 use Rattle.std.specs.FinMap.{FinMap, get, insert, remove, empty, get-empty, contains_key}
 use Rattle.ocpi_text.specs.Text.{key}
 use Rattle.tables.specs.Keys.{text_pair_cmp, text_pair_total, text_pair_exact, text_total, text_exact}
 use Rattle.tables.proofs.Maps.{get-insert_same, get-insert_other, get-remove_same, get-remove_other, of_insert}
 use Rattle.ocpi_types.specs.declared.sessions.Session.{Session}
 use Rattle.ocpi_types.specs.declared.cdrs.Cdr.{Cdr}
-use Rattle.ocpi_types.specs.declared.rows.Row.{Row}
 use Rattle.ocpi_types.specs.declared.rows.Row.TheVariants as row
-use Rattle.ocpi_types.specs.declared.rows.RowKey.{RowKey}
 use Rattle.ocpi_types.specs.declared.rows.RowKey.TheVariants as keys
 use Rattle.handover.specs.Cdrs.{Cdrs, CdrRooms, AreOwnCdrs, HasOther, HasOnePerSession, cdr_key}
-use Rattle.handover.specs.Inbox.{Sessions, AreOwnSessions, InboxRooms, KeepsRoom, KeepsOtherRoom, IsInConflict, session_key}
+use Rattle.handover.specs.Inbox.{Sessions, AreOwnSessions, KeepsRoom, KeepsOtherRoom, IsInConflict, session_key}
 use Rattle.handover.specs.declared.takings.CdrTaking.{CdrTaking}
 use Rattle.handover.specs.declared.takings.CdrTaking.TheVariants.{Taken, Kept, Conflict}
 use Rattle.handover.proofs.Totals.{told}

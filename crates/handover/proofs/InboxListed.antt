@@ -1,9 +1,9 @@
 -- The rows of an inbox as a list, and the inbox of that list.
 use Rattle.std.proofs.Common.{◌≡◌, ◌≢◌, List, [], ◌∷◌, ◌++◌, map, inl, inr, refl, sym, ap, subst, ◌∙◌}
-use Rattle.std.specs.Prelude.{Option, Some, None, Contains}
+use Rattle.std.specs.Prelude.{Some, Contains}
 use Rattle.std.specs.List.{AllPairs}
 use Rattle.std.specs.Cmp.{IsTotalOrder}
-use Rattle.std.specs.FinMap.{FinMap, IsAntisymmetric, get, insert, entries, entries_sorted, same_map}
+use Rattle.std.specs.FinMap.{FinMap, IsAntisymmetric, get, insert, entries, same_map}
 use Rattle.std.specs.declared.cmp.Ordering.{Ordering}
 use Rattle.std.proofs.lemmas.List.Elements.{Contains-append_left, Contains-append_right, Contains-append_cases}
 use Rattle.tables.specs.Keys.{text_pair_total, text_pair_exact}
@@ -12,19 +12,11 @@ use Rattle.ocpi_types.specs.declared.cdrs.Cdr.{Cdr}
 use Rattle.ocpi_types.specs.declared.sessions.Session.{Session}
 use Rattle.ocpi_types.specs.declared.rows.Row.{Row}
 use Rattle.ocpi_types.specs.declared.rows.Row.TheVariants as row
-use Rattle.ocpi_types.specs.declared.rows.RowKey.{RowKey}
-use Rattle.ocpi_types.specs.declared.rows.RowKey.TheVariants as keys
 use Rattle.handover.specs.Cdrs.{cdr_key, cdr_row}
 use Rattle.handover.specs.Inbox.{InboxRows, no_rows, HasRow, put_row, session_key}
 use Rattle.handover.specs.InboxListing.{AreOwnRows, AreRowsOf, RowsAreAll, put_rows, rows_of, session_row}
-use Rattle.handover.proofs.Entries.{in_front, in_map, of_map, joined, listed, listed_only, each_apart, all_elements, insert_all, all_entries}
+use Rattle.handover.proofs.Entries.{in_front, of_map, joined, listed_only, found_in, each_in, all_apart, insert_all, all_entries, same_option}
 use Rattle.handover.proofs.Keeping.{Texts}
-
--- two that have the same values are the same
-same_option : {X : Type 0} (a b : Option X) → ((x : X) → a ≡ Some x → b ≡ Some x) → ((x : X) → b ≡ Some x → a ≡ Some x) → a ≡ b
-same_option None None f g = refl
-same_option None (Some x) f g = g x refl
-same_option (Some x) b f g = sym (f x refl)
 
 abbrev Apart : Row → Row → Type 0
 Apart a b = key_of a ≢ key_of b
@@ -46,16 +38,11 @@ module _ {K X : Type 0} {R : K → K → Ordering} (o : IsTotalOrder R) (exact :
     own_entry : (e : K × X) → Contains (entries m) e → e.0 ≡ own e.1
     own_entry e i = are e.0 e.1 (listed_only o exact m e.0 e.1 i)
 
-    module _ (f : K × X → Row) where
-      of_entries : (r : Row) → Contains (map f (entries m)) r → (e : K × X) × (get m (own e.1) ≡ Some e.1) × (f e ≡ r)
-      of_entries r i =
-          let from = of_map f (entries m) r i in
-          let has = listed_only o exact m from.0.0 from.0.1 from.1 in
-          (from.0, subst (λ q. get m q ≡ Some from.0.1) (are from.0.0 from.0.1 has) has, from.2)
+    its_own : (k : K) (x : X) → get m k ≡ Some x → get m (own x) ≡ Some x
+    its_own k x has = subst (λ q. get m q ≡ Some x) (are k x has) has
 
-      entries_apart : ((a b : K × X) → key_of (f a) ≡ key_of (f b) → own a.1 ≡ own b.1) → AllPairs Apart (map f (entries m))
-      entries_apart h =
-          each_apart o exact f Apart (λ e. e.0 ≡ own e.1) (λ a b p q other same. other (p ∙ h a b same ∙ sym q)) (entries m) (all_elements _ (entries m) own_entry) (entries_sorted m)
+    entries_apart : (f : K × X → Row) → ((a b : K × X) → key_of (f a) ≡ key_of (f b) → own a.1 ≡ own b.1) → AllPairs Apart (map f (entries m))
+    entries_apart f h = all_apart o exact f m Apart (λ a b p q other same. other (are a.0 a.1 p ∙ h a b same ∙ sym (are b.0 b.1 q)))
 
 pub rows_are_all : (s t : InboxRows) → AreOwnRows s → AreOwnRows t → RowsAreAll s t
 rows_are_all s t a b same =
@@ -72,13 +59,13 @@ module _ (s : InboxRows) (are : AreOwnRows s) where
 
   stand : (r : Row) → Contains (rows_of s) r → HasRow s r
   stand r h = elim (Contains-append_cases sessions cdrs r h) [
-    | inl i ↦ let from = of_entries text_pair_total text_pair_exact session_key s.sessions are.of_sessions session_row r i in subst (HasRow s) from.2 from.1
-    | inr i ↦ let from = of_entries text_pair_total text_pair_exact cdr_key s.cdrs are.of_cdrs cdr_row r i in subst (HasRow s) from.2 from.1
+    | inl i ↦ each_in text_pair_total text_pair_exact session_row s.sessions (HasRow s) (its_own text_pair_total text_pair_exact session_key s.sessions are.of_sessions) r i
+    | inr i ↦ each_in text_pair_total text_pair_exact cdr_row s.cdrs (HasRow s) (its_own text_pair_total text_pair_exact cdr_key s.cdrs are.of_cdrs) r i
   ]
 
   stands : (r : Row) → HasRow s r → Contains (rows_of s) r
-  stands (row.Session x) h = Contains-append_left sessions cdrs _ (in_map session_row (entries s.sessions) (session_key x, x) (listed text_pair_total text_pair_exact s.sessions (session_key x) x h))
-  stands (row.Cdr x) h = Contains-append_right sessions cdrs _ (in_map cdr_row (entries s.cdrs) (cdr_key x, x) (listed text_pair_total text_pair_exact s.cdrs (cdr_key x) x h))
+  stands (row.Session x) h = Contains-append_left sessions cdrs _ (found_in text_pair_total text_pair_exact session_row s.sessions (session_key x) x h)
+  stands (row.Cdr x) h = Contains-append_right sessions cdrs _ (found_in text_pair_total text_pair_exact cdr_row s.cdrs (cdr_key x) x h)
   stands other h = absurd h
 
   cross : (x y : Row) → Contains sessions x → Contains cdrs y → Apart x y

@@ -1,11 +1,11 @@
-use Rattle.std.proofs.Common.{◌≡◌, Some, None, sym, ap, subst, ◌∙◌, option_copied, Bor}
+use Rattle.std.proofs.Common.{sym, ap, subst, ◌∙◌, option_copied, Bor}
 use Rattle.std.specs.Prelude.{Option, is_some}
-use Rattle.std.specs.FinMap.{FinMap, get, contains_key}
+use Rattle.std.specs.FinMap.{get}
 use Rattle.ocpi_text.specs.Text.{key}
 use Rattle.ocpi_types.specs.declared.cdrs.Cdr.{Cdr}
 use Rattle.tables.specs.Keys.{text_pair_cmp, text_pair_total, text_pair_exact}
 use Rattle.tables.proofs.Maps.{get-remove_same}
-use Rattle.handover.specs.Cdrs.{Cdrs, CdrRooms, HasRoomOfCdr, HeldCdrs}
+use Rattle.handover.specs.Cdrs.{Cdrs, HasRoomOfCdr, HeldCdrs}
 use Rattle.handover.proofs.Totals.{nothing_removed}
 use Rattle.handover.proofs.Keeping.{Texts, lost_record, lost_both, none_listed, gave_one, gave_both}
 use Rattle.handover.proofs.cdr_book.CdrBook.remove.Goals as goal
