@@ -3,6 +3,7 @@ pub mod Equality
 pub mod FaultText
 pub mod Cdrs
 pub mod Inbox
+pub mod InboxListing
 pub mod Pushes
 pub mod Outbox
 pub mod Resend

@@ -7,6 +7,7 @@ mod currency;
 mod equality;
 mod fault;
 mod inbox;
+mod inbox_listing;
 mod outbox;
 mod outbox_laws;
 mod outbox_rows;
