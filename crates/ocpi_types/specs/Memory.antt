@@ -1,10 +1,48 @@
 -- Which values own memory, so that a copy of them may want some.
+use Rattle.std.specs.Prelude.{ℕ, List, Option, Some, None}
+use Rattle.ocpi_types.specs.declared.authorizations.Authorize.{Authorize}
+use Rattle.ocpi_types.specs.declared.authorizations.LocationReferences.{LocationReferences}
+use Rattle.ocpi_types.specs.declared.packet.Body.{Body}
+use Rattle.ocpi_types.specs.declared.packet.Body.TheVariants as body
+use Rattle.ocpi_types.specs.declared.setup.Node.{Node}
+use Rattle.ocpi_types.specs.declared.setup.Node.TheVariants as node
 use Rattle.ocpi_types.specs.declared.stored.Push.{Push}
 use Rattle.ocpi_types.specs.declared.stored.Push.TheVariants as push
 use Rattle.ocpi_types.specs.declared.rows.Change.{Change}
 use Rattle.ocpi_types.specs.declared.rows.Change.TheVariants as change
 use Rattle.ocpi_types.specs.declared.rows.Row.{Row}
 use Rattle.ocpi_types.specs.declared.rows.Row.TheVariants as row
+
+-- a list of uids, which may be empty
+abbrev pub ListOwnsMemory : Option (List (List ℕ)) → Type 0
+ListOwnsMemory None = ⊥
+ListOwnsMemory (Some uids) = Unit {0}
+
+abbrev pub PlaceOwnsMemory : Option LocationReferences → Type 0
+PlaceOwnsMemory None = ⊥
+PlaceOwnsMemory (Some r) = ListOwnsMemory r.evse_uids
+
+abbrev pub AuthorizeOwnsMemory : Authorize → Type 0
+AuthorizeOwnsMemory a = PlaceOwnsMemory a.location
+
+abbrev pub NodeOwnsMemory : Node → Type 0
+NodeOwnsMemory (node.Operator party site) = Unit {0}
+NodeOwnsMemory (node.Provider party) = ⊥
+
+abbrev pub BodyOwnsMemory : Body → Type 0
+BodyOwnsMemory (body.StartSession b) = Unit {0}
+BodyOwnsMemory (body.StopSession b) = Unit {0}
+BodyOwnsMemory (body.ReserveNow b) = Unit {0}
+BodyOwnsMemory (body.CancelReservation b) = Unit {0}
+BodyOwnsMemory (body.UnlockConnector b) = Unit {0}
+BodyOwnsMemory (body.CommandResponse b) = ⊥
+BodyOwnsMemory (body.CommandResult b) = Unit {0}
+BodyOwnsMemory (body.PutToken b) = ⊥
+BodyOwnsMemory (body.Authorize b) = AuthorizeOwnsMemory b
+BodyOwnsMemory (body.Authorization b) = ⊥
+BodyOwnsMemory (body.PutSession b) = ⊥
+BodyOwnsMemory (body.PostCdr b) = Unit {0}
+BodyOwnsMemory (body.Ack b) = ⊥
 
 abbrev pub PushOwnsMemory : Push → Type 0
 PushOwnsMemory (push.CommandResult p) = Unit {0}

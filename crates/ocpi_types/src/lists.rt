@@ -52,6 +52,12 @@ impl<T: ListItem> NonEmpty<T> {
     }
 }
 
+impl ListItem for CiText<36> {
+    fn item_copy(&self) -> Result<CiText<36>, AllocError> {
+        Ok(*self)
+    }
+}
+
 /// Uids of EVSEs, in order.
 #[derive(Drop)]
 pub struct EvseUids {
@@ -79,5 +85,13 @@ impl EvseUids {
         ensures { result.now ≡ self.now }
     {
         self.uids.as_slice()
+    }
+
+    /// Equal uids.
+    pub fn copy(&self) -> Result<EvseUids, AllocError>
+        ensures { IfOk result (λ t. t ≡ self.now) }
+    {
+        let uids = copy_all(*self.uids.allocator(), self.uids.as_slice())?;
+        Ok(EvseUids { uids })
     }
 }

@@ -1,7 +1,8 @@
 //! Packets and what they carry.
 
-ghost use Rattle.std.specs.Prelude.{◌≡◌};
+ghost use Rattle.std.specs.Prelude.{◌≡◌, IfOk, OnErr};
 ghost use Rattle.ocpi_types.specs.Kinds.{kind_of};
+ghost use Rattle.ocpi_types.specs.Memory.{BodyOwnsMemory};
 
 use crate::authorizations::{Authorization, Authorize};
 use crate::cdrs::Cdr;
@@ -11,6 +12,7 @@ use crate::sessions::Session;
 use crate::token::Token;
 use crate::words::PacketKind;
 use ocpi_text::{Party, Whole};
+use std::alloc::AllocError;
 
 /// What a packet carries.
 #[derive(Drop)]
@@ -51,6 +53,28 @@ impl Body {
             Body::Ack(_) => PacketKind::Ack,
         }
     }
+
+    /// An equal body. Memory is wanted only where the body owns some.
+    pub fn copy(&self) -> Result<Body, AllocError>
+        ensures equal { IfOk result (λ t. t ≡ self.now) }
+        ensures err { OnErr result (BodyOwnsMemory self.now) }
+    {
+        match self {
+            Body::StartSession(body) => Ok(Body::StartSession(body.copy()?)),
+            Body::StopSession(body) => Ok(Body::StopSession(body.copy()?)),
+            Body::ReserveNow(body) => Ok(Body::ReserveNow(body.copy()?)),
+            Body::CancelReservation(body) => Ok(Body::CancelReservation(body.copy()?)),
+            Body::UnlockConnector(body) => Ok(Body::UnlockConnector(body.copy()?)),
+            Body::CommandResponse(body) => Ok(Body::CommandResponse(*body)),
+            Body::CommandResult(body) => Ok(Body::CommandResult(body.copy()?)),
+            Body::PutToken(body) => Ok(Body::PutToken(*body)),
+            Body::Authorize(body) => Ok(Body::Authorize(body.copy()?)),
+            Body::Authorization(body) => Ok(Body::Authorization(*body)),
+            Body::PutSession(body) => Ok(Body::PutSession(*body)),
+            Body::PostCdr(body) => Ok(Body::PostCdr(body.copy()?)),
+            Body::Ack(body) => Ok(Body::Ack(*body)),
+        }
+    }
 }
 
 /// A message of one node to another.
@@ -63,4 +87,20 @@ pub struct Packet {
     /// The number of the request, which a reply repeats.
     pub request: Whole,
     pub body: Body,
+}
+
+impl Packet {
+    /// An equal packet. Memory is wanted only where its body owns some.
+    pub fn copy(&self) -> Result<Packet, AllocError>
+        ensures equal { IfOk result (λ t. t ≡ self.now) }
+        ensures err { OnErr result (BodyOwnsMemory self.now.body) }
+    {
+        Ok(Packet {
+            from: self.from,
+            to: self.to,
+            serial: self.serial,
+            request: self.request,
+            body: self.body.copy()?,
+        })
+    }
 }

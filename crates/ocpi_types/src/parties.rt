@@ -1,12 +1,20 @@
 //! The parties of a site.
 
-ghost use Rattle.std.specs.Prelude.{◌≡◌, SomeIff};
+ghost use Rattle.std.specs.Prelude.{◌≡◌, IfOk, SomeIff};
 ghost use Rattle.ocpi_text.specs.Text.{key};
 ghost use Rattle.ocpi_types.specs.Parties.{SiteParties, AreParties};
 
 use crate::apart::{Identified, differ_from};
+use crate::copies::{ListItem, copy_all};
 use ocpi_text::Party;
+use std::alloc::AllocError;
 use std::marker::Model;
+
+impl ListItem for Party {
+    fn item_copy(&self) -> Result<Party, AllocError> {
+        Ok(*self)
+    }
+}
 
 impl Identified for Party {
     ghost id_key = { key };
@@ -61,5 +69,16 @@ impl Parties {
         ensures { result.now ≡ self.now.providers }
     {
         self.providers.as_slice()
+    }
+
+    /// Equal parties.
+    pub fn copy(&self) -> Result<Parties, AllocError>
+        ensures { IfOk result (λ t. t ≡ self.now) }
+    {
+        let providers = copy_all(*self.providers.allocator(), self.providers.as_slice())?;
+        Ok(Parties {
+            operator: self.operator,
+            providers,
+        })
     }
 }

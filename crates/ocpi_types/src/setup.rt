@@ -1,11 +1,14 @@
 //! The nodes of a run.
 
-ghost use Rattle.std.specs.Prelude.{◌≡◌, SomeIff};
+ghost use Rattle.std.specs.Prelude.{◌≡◌, IfOk, OnErr, SomeIff};
+ghost use Rattle.ocpi_types.specs.Memory.{NodeOwnsMemory};
 ghost use Rattle.ocpi_types.specs.Setups.{AreNodes, node_key, party_of};
 
 use crate::apart::{Identified, differ_from};
+use crate::copies::{ListItem, copy_all};
 use crate::site::Site;
 use ocpi_text::Party;
+use std::alloc::AllocError;
 use std::marker::Model;
 
 /// A node: an operator has a site.
@@ -23,6 +26,26 @@ impl Node {
         match self {
             Node::Operator { party, .. } | Node::Provider { party } => party,
         }
+    }
+
+    /// An equal node. Memory is wanted only where it has a site.
+    pub fn copy(&self) -> Result<Node, AllocError>
+        ensures equal { IfOk result (λ t. t ≡ self.now) }
+        ensures err { OnErr result (NodeOwnsMemory self.now) }
+    {
+        match self {
+            Node::Operator { party, site } => Ok(Node::Operator {
+                party: *party,
+                site: site.copy()?,
+            }),
+            Node::Provider { party } => Ok(Node::Provider { party: *party }),
+        }
+    }
+}
+
+impl ListItem for Node {
+    fn item_copy(&self) -> Result<Node, AllocError> {
+        self.copy()
     }
 }
 
@@ -71,5 +94,13 @@ impl Setup {
         ensures are { AreNodes self.now }
     {
         self.nodes.as_slice()
+    }
+
+    /// An equal setup.
+    pub fn copy(&self) -> Result<Setup, AllocError>
+        ensures { IfOk result (λ t. t ≡ self.now) }
+    {
+        let nodes = copy_all(*self.nodes.allocator(), self.nodes.as_slice())?;
+        Ok(Setup { nodes })
     }
 }

@@ -9,6 +9,7 @@ ghost use Rattle.ocpi_types.specs.Limits.{IsCount};
 ghost use Rattle.ocpi_types.specs.Locations.{AreLocations, evse_keys, location_keys, site_evse_keys};
 
 use crate::apart::{Identified, differ_from};
+use crate::copies::{ListItem, copy_all};
 use crate::id_set::IdSet;
 use crate::parties::Parties;
 use crate::price::PricePerKwh;
@@ -25,11 +26,31 @@ pub struct Connector {
     pub power_type: FreeText<64>,
 }
 
+impl ListItem for Connector {
+    fn item_copy(&self) -> Result<Connector, AllocError> {
+        self.copy()
+    }
+}
+
 impl Identified for Connector {
     ghost id_key = { λ c. key c.id };
 
     fn is_same(&self, other: &Connector) -> bool {
         self.id.is_same(&other.id)
+    }
+}
+
+impl Connector {
+    /// An equal connector.
+    pub fn copy(&self) -> Result<Connector, AllocError>
+        ensures { IfOk result (λ t. t ≡ self.now) }
+    {
+        Ok(Connector {
+            id: self.id,
+            standard: self.standard.copy()?,
+            format: self.format.copy()?,
+            power_type: self.power_type.copy()?,
+        })
     }
 }
 
@@ -73,6 +94,14 @@ impl Connectors {
     {
         self.connectors.as_slice()
     }
+
+    /// Equal connectors.
+    pub fn copy(&self) -> Result<Connectors, AllocError>
+        ensures { IfOk result (λ t. t ≡ self.now) }
+    {
+        let connectors = copy_all(*self.connectors.allocator(), self.connectors.as_slice())?;
+        Ok(Connectors { connectors })
+    }
 }
 
 /// An EVSE: what serves one session at a time.
@@ -81,6 +110,25 @@ pub struct Evse {
     pub uid: CiText<36>,
     pub evse_id: CiText<48>,
     pub connectors: Connectors,
+}
+
+impl ListItem for Evse {
+    fn item_copy(&self) -> Result<Evse, AllocError> {
+        self.copy()
+    }
+}
+
+impl Evse {
+    /// An equal EVSE.
+    pub fn copy(&self) -> Result<Evse, AllocError>
+        ensures { IfOk result (λ t. t ≡ self.now) }
+    {
+        Ok(Evse {
+            uid: self.uid,
+            evse_id: self.evse_id,
+            connectors: self.connectors.copy()?,
+        })
+    }
 }
 
 /// One to a thousand EVSEs.
@@ -124,6 +172,14 @@ impl Evses {
     {
         self.evses.as_slice()
     }
+
+    /// Equal EVSEs.
+    pub fn copy(&self) -> Result<Evses, AllocError>
+        ensures { IfOk result (λ t. t ≡ self.now) }
+    {
+        let evses = copy_all(*self.evses.allocator(), self.evses.as_slice())?;
+        Ok(Evses { evses })
+    }
 }
 
 /// A location: EVSEs at one address.
@@ -136,6 +192,50 @@ pub struct Location {
     pub latitude: FreeText<10>,
     pub longitude: FreeText<11>,
     pub evses: Evses,
+}
+
+impl ListItem for Location {
+    fn item_copy(&self) -> Result<Location, AllocError> {
+        self.copy()
+    }
+}
+
+impl Location {
+    /// An equal location.
+    pub fn copy(&self) -> Result<Location, AllocError>
+        ensures { IfOk result (λ t. t ≡ self.now) }
+    {
+        let evses = self.evses.copy()?;
+        let (address, city, country) = self.copy_address()?;
+        let (latitude, longitude) = self.copy_coordinates()?;
+        Ok(Location {
+            id: self.id,
+            address,
+            city,
+            country,
+            latitude,
+            longitude,
+            evses,
+        })
+    }
+
+    /// An equal address, with its city and country.
+    fn copy_address(&self) -> Result<(FreeText<45>, FreeText<45>, FreeText<3>), AllocError>
+        ensures { IfOk result (λ t. t ≡ (self.now.address, self.now.city, self.now.country)) }
+    {
+        Ok((
+            self.address.copy()?,
+            self.city.copy()?,
+            self.country.copy()?,
+        ))
+    }
+
+    /// An equal latitude and longitude.
+    fn copy_coordinates(&self) -> Result<(FreeText<10>, FreeText<11>), AllocError>
+        ensures { IfOk result (λ t. t ≡ (self.now.latitude, self.now.longitude)) }
+    {
+        Ok((self.latitude.copy()?, self.longitude.copy()?))
+    }
 }
 
 /// One to a thousand locations, whose ids differ but for case, as do the uids of all their EVSEs.
@@ -230,6 +330,14 @@ impl Locations {
     {
         self.locations.as_slice()
     }
+
+    /// Equal locations.
+    pub fn copy(&self) -> Result<Locations, AllocError>
+        ensures { IfOk result (λ t. t ≡ self.now) }
+    {
+        let locations = copy_all(*self.locations.allocator(), self.locations.as_slice())?;
+        Ok(Locations { locations })
+    }
 }
 
 /// What an operator configures: the currency and price of its sessions, and its locations.
@@ -240,10 +348,36 @@ pub struct Site {
     pub locations: Locations,
 }
 
+impl Site {
+    /// An equal site.
+    pub fn copy(&self) -> Result<Site, AllocError>
+        ensures { IfOk result (λ t. t ≡ self.now) }
+    {
+        Ok(Site {
+            currency: self.currency.copy()?,
+            price: self.price,
+            locations: self.locations.copy()?,
+        })
+    }
+}
+
 /// The first line of the program `answer`: the moment of all its events, the parties and the site.
 #[derive(Drop)]
 pub struct SiteLine {
     pub at: Moment,
     pub parties: Parties,
     pub site: Site,
+}
+
+impl SiteLine {
+    /// An equal site line.
+    pub fn copy(&self) -> Result<SiteLine, AllocError>
+        ensures { IfOk result (λ t. t ≡ self.now) }
+    {
+        Ok(SiteLine {
+            at: self.at,
+            parties: self.parties.copy()?,
+            site: self.site.copy()?,
+        })
+    }
 }
