@@ -1,6 +1,6 @@
 -- The front of the queue, and its order.
-use Rattle.std.proofs.Common.{◌≡◌, ◌≢◌, ◌<◌, ◌≤◌, ℕ, List, [], ◌∷◌, ◌++◌, map, inl, inr, true, false, cond, T, Bool, refl, sym, ap, subst, ◌∙◌, arith, get_or}
-use Rattle.std.specs.Prelude.{Option, Some, None, Contains, ◌&&◌, nat_le, take_while}
+use Rattle.std.proofs.Common.{◌≡◌, ◌≢◌, ◌<◌, ◌≤◌, ℕ, List, [], ◌∷◌, ◌++◌, map, inl, inr, true, false, cond, T, refl, sym, ap, subst, ◌∙◌, arith, get_or}
+use Rattle.std.specs.Prelude.{Option, Some, None, Contains, nat_le, take_while}
 use Rattle.std.specs.Option.{option_map}
 use Rattle.std.specs.List.{AllPairs}
 use Rattle.std.specs.List.Sorted.{IsSorted, IsPermutation}
@@ -9,7 +9,6 @@ use Rattle.std.specs.declared.cmp.Ordering.{Ordering}
 use Rattle.std.specs.declared.cmp.Ordering.TheVariants.{Less, Equal, Greater}
 use Rattle.std.specs.Cmp.{IsTotalOrder, eq_by_cmp_equiv}
 use Rattle.std.specs.FinMap.{is_sorted, get, entries, entries_sorted}
-use Rattle.std.specs.FinMap.Entries.{below_all}
 use Rattle.std.proofs.lemmas.List.Elements.{Contains-append_right, Contains-append_cases}
 use Rattle.std.proofs.lemmas.List.Kept.{AllPairs-cons}
 use Rattle.std.proofs.lemmas.List.Sorted.{sorted_far, ranks_by, Contains-permutation, IsPermutation-sym}
@@ -17,30 +16,19 @@ use Rattle.std.proofs.lemmas.List.Sums.{take_while-cons}
 use Rattle.std.proofs.lemmas.Map.Keys.{le_from_not_gt, IsDistinct-from_apart, IsDistinct-IsPermutation, apart_from_distinct}
 use Rattle.std.proofs.lemmas.Bool.Decides.{nat_tests}
 use Rattle.tables.specs.Keys.{text_number_cmp, text_number_total, text_number_exact}
+use Rattle.tables.proofs.Options.{none_some}
 use Rattle.tables.proofs.Maps.{equal_of_is_eq}
+use Rattle.tables.proofs.Ordered.{former, latter}
+use Rattle.tables.proofs.Elements.{in_none, in_single, in_front, all_of, no_pairs}
+use Rattle.tables.proofs.Entries.{below_each, listed, listed_only, apart_of_less}
 use Rattle.ocpi_types.specs.declared.stored.OpenCommand.{OpenCommand}
 use Rattle.command_book.specs.Stored.{Request, OpenCommands}
 use Rattle.command_book.specs.Queue.{deadline_cmp, Queue, IsQueue, due_front}
 use Rattle.command_book.specs.Due.{AreDue}
-use Rattle.command_book.proofs.Cases.{none_some}
 use Rattle.command_book.proofs.Queued.{deadline_total, deadline_exact}
-use Rattle.command_book.proofs.Listed.{in_none, in_single, in_front, all_of, no_pairs, listed, listed_only, apart_of_less}
 
 abbrev Entry : Type 0
 Entry = (ℕ × Request) × Unit {0}
-
-former : (a b : Bool) → T (a && b) → T a
-former true b p = tt
-former false b p = p
-
-latter : (a b : Bool) → T (a && b) → T b
-latter true b p = p
-latter false b p = absurd p
-
-less : (r : Ordering) → T (is_lt r) → r ≡ Less
-less Less p = refl
-less Equal p = absurd p
-less Greater p = absurd p
 
 first_not_greater : (r s : Ordering) → ordering_then r s ≡ Less → is_gt r ≡ false
 first_not_greater Less s h = refl
@@ -56,13 +44,6 @@ late a b h = grind (arith, nat_tests)
 -- an earlier entry has no later deadline
 rises : (a b : ℕ × Request) → deadline_cmp a b ≡ Less → a.0 ≤ b.0
 rises a b h = le_from_not_gt a.0 b.0 (first_not_greater (nat_cmp a.0 b.0) (text_number_cmp a.1 b.1) h)
-
-below_of : (x : ℕ × Request) (es : List Entry) → T (below_all deadline_cmp x es) → (e : Entry) → Contains es e → deadline_cmp x e.0 ≡ Less
-below_of x [] h e i = absurd (in_none e i)
-below_of x (y ∷ ys) h e i = elim (Contains-append_cases (y ∷ []) ys e i) [
-  | inl j ↦ subst (λ (z : Entry). deadline_cmp x z.0 ≡ Less) (in_single y e j) (less (deadline_cmp x y.0) (former _ _ h))
-  | inr j ↦ below_of x ys (latter _ _ h) e j
-]
 
 module _ (at : ℕ) where
   front_step : (e : Entry) (es : List Entry) → due_front at (e ∷ es) ≡ cond (nat_le e.0.0 at) (e.0.1 ∷ due_front at es) []
@@ -90,7 +71,7 @@ module _ (at : ℕ) where
     ]
     | false ↦ λ behind. absurd (elim (Contains-append_cases (e ∷ []) es ((d, r), tt) i) [
       | inl j ↦ let same : e.0.0 ≡ d = (λ k. (in_single e ((d, r), tt) j k).0.0) in let after = late e.0.0 at behind in omega arith
-      | inr j ↦ let later = rises e.0 (d, r) (below_of e.0 es (former _ _ h) ((d, r), tt) j) in let after = late e.0.0 at behind in omega arith
+      | inr j ↦ let later = rises e.0 (d, r) (below_each deadline_cmp e.0 es (former _ _ h) ((d, r), tt) j) in let after = late e.0.0 at behind in omega arith
     ])
   ] refl)
 
@@ -102,7 +83,7 @@ module _ (at : ℕ) where
   pub taken_once : (es : List Entry) → T (is_sorted deadline_cmp es) → OneDeadline es → AllPairs (λ a b. a ≢ b) (due_front at es)
   taken_once [] h one = no_pairs (λ a b. a ≢ b)
   taken_once (e ∷ es) h one = subst (AllPairs (λ a b. a ≢ b)) (sym (front_step e es)) (elim (nat_le e.0.0 at) as (λ b. AllPairs (λ a b. a ≢ b) (cond b (e.0.1 ∷ due_front at es) [])) [
-    | true ↦ AllPairs-cons (λ a b. a ≢ b) e.0.1 (due_front at es) (all_of (λ (a b : Request). a ≢ b) (λ r. e.0.1 ≢ r) (due_front at es) new)
+    | true ↦ AllPairs-cons (λ a b. a ≢ b) e.0.1 (due_front at es) (all_of (λ r. e.0.1 ≢ r) (due_front at es) new)
         (taken_once es (latter _ _ h) (λ d f r i j. one d f r (Contains-append_right (e ∷ []) es _ i) (Contains-append_right (e ∷ []) es _ j)))
     | false ↦ no_pairs (λ (a b : Request). a ≢ b)
   ])
@@ -111,7 +92,7 @@ module _ (at : ℕ) where
       new r i same =
           let from = taken es r i in
           let until : e.0.0 ≡ from.0 = one e.0.0 from.0 r (subst (λ z. Contains (e ∷ es) ((e.0.0, z), tt)) same (in_front e es)) (Contains-append_right (e ∷ []) es _ from.2) in
-          apart_of_less deadline_total e.0 (from.0, r) (below_of e.0 es (former _ _ h) ((from.0, r), tt) from.2) (λ k. (until k, same k))
+          apart_of_less deadline_total e.0 (from.0, r) (below_each deadline_cmp e.0 es (former _ _ h) ((from.0, r), tt) from.2) (λ k. (until k, same k))
 
 module _ {K : Type 0} {R : K → K → Ordering} (o : IsTotalOrder R) where
   turned : (a b : K) (r : Ordering) → R a b ≡ r → is_lt (R b a) ≡ false → is_eq r ≡ false → r ≡ Less

@@ -1,5 +1,4 @@
 pub mod Cases
-pub mod Steps
 pub mod Queued
 pub mod Roomed
 pub mod RowChanges

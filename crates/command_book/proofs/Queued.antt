@@ -5,23 +5,20 @@ use Rattle.std.specs.Option.{option_map}
 use Rattle.std.specs.Ordering.{nat_cmp}
 use Rattle.std.specs.Cmp.{IsTotalOrder, nat_cmp_total}
 use Rattle.std.proofs.lemmas.Cmp.{on_total, then_total}
+use Rattle.std.proofs.lemmas.Option.{same_Some}
 use Rattle.std.specs.FinMap.{IsAntisymmetric, nat_cmp-IsAntisymmetric, empty, get, insert, remove, get-empty}
 use Rattle.tables.specs.Keys.{pair_exact, text_number_cmp, text_number_total, text_number_exact}
-use Rattle.tables.proofs.Maps.{of_insert, of_remove, get-insert_same, get-insert_other, get-remove_same, get-remove_other}
+use Rattle.tables.proofs.Options.{none_some}
+use Rattle.tables.proofs.Maps.{told, of_insert, of_remove, get-insert_same, get-insert_other, get-remove_same, get-remove_other}
 use Rattle.ocpi_types.specs.declared.stored.OpenCommand.{OpenCommand}
 use Rattle.command_book.specs.Stored.{Request, OpenCommands}
 use Rattle.command_book.specs.Queue.{deadline_cmp, Queue, deadline_of, IsQueue, unqueued}
-use Rattle.command_book.proofs.Cases.{told, none_some}
 
 pub deadline_total : IsTotalOrder deadline_cmp
 deadline_total = then_total (on_total (λ (p : ℕ × Request). p.0) nat_cmp_total) (on_total (λ (p : ℕ × Request). p.1) text_number_total)
 
 pub deadline_exact : IsAntisymmetric deadline_cmp
 deadline_exact = pair_exact nat_cmp text_number_cmp nat_cmp-IsAntisymmetric text_number_exact
-
--- an equation between deadlines that stand
-same_deadline : (d e : ℕ) → Some d ≡ Some e → d ≡ e
-same_deadline d e h = cc
 
 -- the queue has each open command of another request, and of this one what passes
 pub record IsQueueBut (k : Request) (P : ℕ → Type 0) (queue : Queue) (pending : OpenCommands) : Type 0 where
@@ -44,7 +41,7 @@ module _ (queue : Queue) (pending : OpenCommands) (h : IsQueue queue pending) (k
   out P old stands = record {
     own = λ d has.
         let was = of_remove deadline_total deadline_exact queue (old, k) (d, k) tt has in
-        let same = same_deadline d old (sym ((h d k).0 was.1) ∙ stands) in
+        let same = same_Some d old (sym ((h d k).0 was.1) ∙ stands) in
         absurd (was.0 (λ i. (same i, k)));
     others = λ d r apart. (
       λ has. (h d r).0 (of_remove deadline_total deadline_exact queue (old, k) (d, r) tt has).1,
@@ -75,7 +72,7 @@ module _ (queue : Queue) (pending : OpenCommands) (k : Request) where
             | inr e ↦ is ∙ ap (λ x. Some x) (sym (h.own d (ap (λ z. get queue (d, z)) (sym same) ∙ e)))
           ],
           λ due.
-              let until : o.deadline ≡ d = same_deadline o.deadline d (sym is ∙ due) in
+              let until : o.deadline ≡ d = same_Some o.deadline d (sym is ∙ due) in
               ap (get (insert queue (o.deadline, k) tt)) (λ i. (sym until i, same i)) ∙ get-insert_same deadline_total deadline_exact queue (o.deadline, k) tt,
         )
     | inr apart ↦

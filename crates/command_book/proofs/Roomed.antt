@@ -1,9 +1,8 @@
 -- The room that rows of a command book have.
-use Rattle.std.proofs.Common.{◌≡◌, ◌≢◌, ℕ, inl, inr, false, refl, sym, ap, subst, ◌∙◌}
-use Rattle.std.specs.Prelude.{Option, Some, None, is_some, IsTrue}
-use Rattle.std.specs.FinMap.{FinMap, get, insert, remove, contains_key}
-use Rattle.tables.specs.Keys.{text_number_cmp, text_number_total, text_number_exact}
-use Rattle.tables.proofs.Maps.{get-insert_same, get-insert_other, get-remove_same, get-remove_other}
+use Rattle.std.proofs.Common.{◌≡◌, ◌≢◌, ℕ, false, refl, sym, subst}
+use Rattle.std.specs.Prelude.{Option, Some, None, IsTrue}
+use Rattle.std.specs.FinMap.{contains_key}
+use Rattle.tables.proofs.Maps.{others_keep, key_gone}
 use Rattle.ocpi_types.specs.Rows.{key_of}
 use Rattle.ocpi_types.specs.declared.rows.Row.{Row}
 use Rattle.ocpi_types.specs.declared.rows.Row.TheVariants as row
@@ -11,7 +10,6 @@ use Rattle.ocpi_types.specs.declared.rows.RowKey.{RowKey}
 use Rattle.ocpi_types.specs.declared.rows.RowKey.TheVariants as keys
 use Rattle.command_book.specs.Stored.{Request}
 use Rattle.command_book.specs.Queue.{Queue, unqueued}
-use Rattle.command_book.proofs.Cases.{told}
 use Rattle.command_book.proofs.Queued.{deadline_total, deadline_exact}
 use Rattle.command_book.specs.Room.{Rooms, HasRoomOf, KeepsRoom, KeepsOtherRoom}
 
@@ -37,23 +35,10 @@ keeps_other_room k s t h r apart had = kept (λ q. q ≢ k) s t h r apart had
 -- room by another deadline, or of another request, stays in the queue
 pub still_queued : (queue : Queue) (k : Request) (out : Option ℕ) (d : ℕ) (q : Request) → ((e : ℕ) → out ≡ Some e → ◌≢◌ {A = ℕ × Request} (d, q) (e, k)) → IsTrue (contains_key queue (d, q)) → IsTrue (contains_key (unqueued out k queue) (d, q))
 still_queued queue k None d q apart had = had
-still_queued queue k (Some e) d q apart had = subst (λ o. IsTrue (is_some o)) (sym (get-remove_other deadline_total deadline_exact queue (e, k) (d, q) (apart e refl))) had
+still_queued queue k (Some e) d q apart had = others_keep deadline_total deadline_exact queue (e, k) (d, q) (apart e refl) had
 
 pub not_queued : (queue : Queue) (k : Request) (d : ℕ) → contains_key (unqueued (Some d) k queue) (d, k) ≡ false
-not_queued queue k d = ap is_some (get-remove_same deadline_total deadline_exact queue (d, k))
-
-module _ {X : Type 0} (m : FinMap text_number_cmp X) (k : Request) where
-  pub still_there : (q : Request) → q ≢ k → IsTrue (contains_key m q) → IsTrue (contains_key (remove m k) q)
-  still_there q apart had = subst (λ o. IsTrue (is_some o)) (sym (get-remove_other text_number_total text_number_exact m k q apart)) had
-
-  pub gone : contains_key (remove m k) k ≡ false
-  gone = ap is_some (get-remove_same text_number_total text_number_exact m k)
-
-  pub still_after : (v : X) (q : Request) → IsTrue (contains_key m q) → IsTrue (contains_key (insert m k v) q)
-  still_after v q had = elim (told text_number_total text_number_exact q k) [
-    | inl same ↦ subst (λ o. IsTrue (is_some o)) (sym (ap (get (insert m k v)) same ∙ get-insert_same text_number_total text_number_exact m k v)) refl
-    | inr apart ↦ subst (λ o. IsTrue (is_some o)) (sym (get-insert_other text_number_total text_number_exact m k v q apart)) had
-  ]
+not_queued queue k d = key_gone deadline_total deadline_exact queue (d, k)
 
 pub given_back : (queue : Queue) (k : Request) (out : Option ℕ) (d : ℕ) → out ≡ Some d → contains_key (unqueued out k queue) (d, k) ≡ false
 given_back queue k out d e = subst (λ o. contains_key (unqueued o k queue) (d, k) ≡ false) (sym e) (not_queued queue k d)

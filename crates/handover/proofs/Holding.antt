@@ -1,18 +1,16 @@
 -- Sessions and records that are held.
-use Rattle.std.proofs.Common.{◌≡◌, ◌≢◌, ◌↔◌, ◌⊎◌, inl, inr, ℕ, true, false, List, refl, sym, ap, subst, ◌∙◌}
-use Rattle.std.specs.Prelude.{Option, Some, None, IsTrue}
+use Rattle.std.proofs.Common.{◌≡◌, ◌≢◌, ◌↔◌, inl, inr, ℕ, List, refl, sym, ap, ◌∙◌}
+use Rattle.std.specs.Prelude.{Some, None, IsTrue}
 use Rattle.std.specs.FinMap.{FinMap, get, insert, remove, empty, get-empty, contains_key}
 use Rattle.ocpi_text.specs.Text.{key}
 use Rattle.tables.specs.Keys.{text_pair_cmp, text_pair_total, text_pair_exact, text_total, text_exact}
-use Rattle.tables.proofs.Maps.{get-insert_same, get-insert_other, get-remove_same, get-remove_other}
+use Rattle.tables.proofs.Maps.{get-insert_same, get-insert_other, get-remove_same, get-remove_other, of_insert}
 use Rattle.ocpi_types.specs.declared.sessions.Session.{Session}
 use Rattle.ocpi_types.specs.declared.cdrs.Cdr.{Cdr}
-use Rattle.ocpi_types.specs.declared.rows.Row.{Row}
 use Rattle.ocpi_types.specs.declared.rows.Row.TheVariants as row
-use Rattle.ocpi_types.specs.declared.rows.RowKey.{RowKey}
 use Rattle.ocpi_types.specs.declared.rows.RowKey.TheVariants as keys
-use Rattle.handover.specs.Cdrs.{Cdrs, CdrRooms, HasOther, cdr_key}
-use Rattle.handover.specs.Inbox.{Sessions, AreOwnSessions, InboxRooms, KeepsRoom, KeepsOtherRoom, IsInConflict, session_key}
+use Rattle.handover.specs.Cdrs.{Cdrs, CdrRooms, AreOwnCdrs, HasOther, HasOnePerSession, cdr_key}
+use Rattle.handover.specs.Inbox.{Sessions, AreOwnSessions, KeepsRoom, KeepsOtherRoom, IsInConflict, session_key}
 use Rattle.handover.specs.declared.takings.CdrTaking.{CdrTaking}
 use Rattle.handover.specs.declared.takings.CdrTaking.TheVariants.{Taken, Kept, Conflict}
 use Rattle.handover.proofs.Totals.{told}
@@ -69,7 +67,7 @@ keeps_other_sessions s t c k is (row.Result provider number result) apart h = h
 keeps_other_sessions s t c k is (row.Command number command) apart h = h
 
 -- one of the session under another id is in conflict
-pub other_conflict : (m : Cdrs) (x : Cdr) → ((k : Texts) (y : Cdr) → get m k ≡ Some y → k ≡ cdr_key y) → HasOther m (key x.party, key x.session_id) (key x.id) → IsInConflict m x
+pub other_conflict : (m : Cdrs) (x : Cdr) → AreOwnCdrs m → HasOther m (key x.party, key x.session_id) (key x.id) → IsInConflict m x
 other_conflict m x own h = record {
   id = h.0;
   held = h.1.0;
@@ -87,6 +85,25 @@ no_conflict m x none same c = elim (told text_total text_exact c.id (key x.id)) 
   | inl is ↦ c.differs (same c.held (ap (λ (i : List ℕ). get m (key x.party, i)) (sym is) ∙ c.stands))
   | inr apart ↦ elim c.alike [ inl is ↦ apart is | inr session ↦ none (c.id, (c.held, c.stands, session), apart) ]
 ]
+
+-- one record for each session, also with one more that is in no conflict
+pub one_more_session : (m : Cdrs) (x : Cdr) → AreOwnCdrs m → (IsInConflict m x → ⊥) → HasOnePerSession m → HasOnePerSession (insert m (cdr_key x) x)
+one_more_session m x own clear one operator i j a b at also same = elim (of_insert text_pair_total text_pair_exact m (cdr_key x) x (operator, i) a at) [
+  | inl p ↦ elim (of_insert text_pair_total text_pair_exact m (cdr_key x) x (operator, j) b also) [
+    | inl q ↦ ap (λ (k : Texts). k.1) (p.0 ∙ sym q.0)
+    | inr stood ↦ ap (λ (k : Texts). k.1) p.0 ∙ sym (its_own j b (ap (λ (k : Texts). get m (k.0, j)) (sym p.0) ∙ stood) (sym same ∙ ap (λ (y : Cdr). key y.session_id) (sym p.1)))
+  ]
+  | inr had ↦ elim (of_insert text_pair_total text_pair_exact m (cdr_key x) x (operator, j) b also) [
+    | inl q ↦ its_own i a (ap (λ (k : Texts). get m (k.0, i)) (sym q.0) ∙ had) (same ∙ ap (λ (y : Cdr). key y.session_id) (sym q.1)) ∙ ap (λ (k : Texts). k.1) (sym q.0)
+    | inr stood ↦ one operator i j a b had stood same
+  ]
+]
+  where
+    its_own : (k : List ℕ) (y : Cdr) → get m (key x.party, k) ≡ Some y → key y.session_id ≡ key x.session_id → k ≡ key x.id
+    its_own k y stands session = elim (told text_total text_exact k (key x.id)) [
+      | inl is ↦ is
+      | inr apart ↦ absurd (clear (other_conflict m x own (k, (y, stands, session), apart)))
+    ]
 
 -- a record that is taken is neither in conflict nor held
 pub not_in_conflict : (t : CdrTaking) (P : Type 0) → t ≡ Taken → ((t ≡ Conflict) ↔ P) → P → ⊥

@@ -1,5 +1,5 @@
 -- The index of pushes by what they are about is kept by each change of them.
-use Rattle.std.proofs.Common.{◌≡◌, ◌≢◌, ◌↔◌, ◌⊎◌, inl, inr, ℕ, ◌≤◌, List, refl, sym, ap, subst, ◌∙◌}
+use Rattle.std.proofs.Common.{◌≡◌, ◌≢◌, ◌↔◌, inl, inr, ℕ, refl, sym, ap, ◌∙◌}
 use Rattle.std.specs.Prelude.{Option, Some, None}
 use Rattle.std.specs.Ordering.{nat_cmp}
 use Rattle.std.specs.Cmp.{IsTotalOrder, nat_cmp_total}
@@ -12,11 +12,11 @@ use Rattle.std.proofs.lemmas.Map.Keys.{le_from_not_gt}
 use Rattle.tables.specs.Tables.{IsLeast, HasNone}
 use Rattle.std.specs.FinMap.{FinMap, IsAntisymmetric, nat_cmp-IsAntisymmetric, get, insert, remove, empty, get-empty, contains_key, same_map}
 use Rattle.std.proofs.lemmas.Cmp.{on_total, then_total}
-use Rattle.tables.specs.Keys.{pair_cmp, pair_exact}
+use Rattle.tables.specs.Keys.{pair_exact}
 use Rattle.tables.proofs.Maps.{get-insert_same, get-insert_other, get-remove_same, get-remove_other}
 use Rattle.handover.specs.declared.push_book.Outgoing.{Outgoing}
 use Rattle.handover.specs.declared.push_book.Subject.{Subject}
-use Rattle.handover.specs.Pushes.{Pushes, subject_of, subject_cmp, subject_total, subject_exact, subject_number_cmp, IsAbout, AreIndexed, IsReplaced}
+use Rattle.handover.specs.Pushes.{Pushes, subject_of, subject_cmp, subject_total, subject_exact, subject_number_cmp, AreIndexed, IsReplaced}
 use Rattle.handover.proofs.Totals.{told}
 
 pub numbered_total : IsTotalOrder subject_number_cmp

@@ -1,8 +1,7 @@
 -- What stands beside the records is kept by each change of them.
-use Rattle.std.proofs.Common.{◌≡◌, ◌≢◌, ◌↔◌, ◌⊎◌, inl, inr, ℕ, ◌<◌, ◌≤◌, ◌^◌, Bool, true, false, cond, List, [], ◌∷◌, map, length, refl, sym, ap, subst, ◌∙◌, arith}
+use Rattle.std.proofs.Common.{◌≡◌, ◌≢◌, ◌↔◌, ◌⊎◌, inl, inr, ℕ, ◌<◌, ◌≤◌, ◌^◌, true, false, cond, List, [], ◌∷◌, map, length, refl, sym, ap, subst, ◌∙◌, arith}
 use Rattle.std.proofs.lemmas.Int.{ints}
 use Rattle.std.specs.Prelude.{ℤ, pos, ◌+ℤ◌, neg_ℤ, unsigned_abs, Option, Some, None, IsTrue}
-use Rattle.std.specs.Ordering.{eq_by_cmp}
 use Rattle.std.specs.declared.cmp.Ordering.{Ordering}
 use Rattle.std.specs.Prelude.{unwrap_or}
 use Rattle.std.specs.FinMap.{FinMap, get, insert, remove, empty, entries, values, contains_key, get-empty, len, len-entries, len-empty, same_map}
@@ -16,7 +15,7 @@ use Rattle.ocpi_text.specs.Decimal.{e4_limit}
 use Rattle.ocpi_types.specs.declared.cdrs.Cdr.{Cdr}
 use Rattle.handover.specs.Owed.{Account, account_of, cost_in, seen_by, is_account, owed, sum_at, total}
 use Rattle.std.specs.Prelude.{Result, Err, IsOk, is_ok, is_some}
-use Rattle.handover.specs.Cdrs.{Cdrs, SessionKey, session_cmp, cdr_key, IsOfSession, IsKept, HasOther, HasLaterId, CdrRooms, HasRoomOfCdr, KeepsCdrRoom}
+use Rattle.handover.specs.Cdrs.{Cdrs, SessionKey, session_cmp, cdr_key, IsOfSession, IsKept, HasOther, HasLaterId, CdrRooms, HasRoomOfCdr, KeepsCdrRoom, GivesCdrBack}
 use Rattle.handover.proofs.Neighbours.{HasElse, HasLater}
 use Rattle.handover.proofs.Totals.{told, term_at, total_insert, total_remove, bounded_sum}
 
@@ -259,6 +258,27 @@ lost_both s cdrs sessions k session operator is of x had apart = record {
   of_session = other_room session_total session_exact s.sessions sessions (session, k.1) ((key x.party, key x.session_id), key x.id) of
       (λ same. apart (let o = ap (λ (q : SessionKey). q.0.0) same ∙ operator in let i = ap (λ (q : SessionKey). q.1) same in λ j. (o j, i j))) had.of_session;
   of_sum = had.of_sum;
+}
+
+-- the room of a key that was given back
+pub room_gone : {K : Type 0} {R : K → K → Ordering} (o : IsTotalOrder R) (exact : IsAntisymmetric R) (m n : FinMap R (Unit {0})) (k : K) → n ≡ remove m k → contains_key n k ≡ false
+room_gone o exact m n k is = ap (λ (f : FinMap _ (Unit {0})). contains_key f k) is ∙ ap is_some (get-remove_same o exact m k)
+
+pub gave_one : (m : Cdrs) (before cdrs : FinMap text_pair_cmp (Unit {0})) (sessions : FinMap session_cmp (Unit {0})) (sums : FinMap text_pair_cmp (Unit {0})) (k : Texts) → get m k ≡ None → cdrs ≡ remove before k →
+    GivesCdrBack k m (record { cdrs = cdrs; sessions = sessions; sums = sums })
+gave_one m before cdrs sessions sums k none is = record {
+  of_record = room_gone text_pair_total text_pair_exact before cdrs k is;
+  of_session = λ x stands. absurd (let bad : Some x ≡ None = sym stands ∙ none in cc);
+}
+
+pub gave_both : (m : Cdrs) (before cdrs : FinMap text_pair_cmp (Unit {0})) (listed sessions : FinMap session_cmp (Unit {0})) (sums : FinMap text_pair_cmp (Unit {0})) (k session : Texts) (x : Cdr) → get m k ≡ Some x →
+    session ≡ (k.0, key x.session_id) → cdrs ≡ remove before k → sessions ≡ remove listed (session, k.1) → GivesCdrBack k m (record { cdrs = cdrs; sessions = sessions; sums = sums })
+gave_both m before cdrs listed sessions sums k session x had of is gave = record {
+  of_record = room_gone text_pair_total text_pair_exact before cdrs k is;
+  of_session = λ y stands.
+      let same : x ≡ y = same_value x y (sym had ∙ stands) in
+      let at : (session, k.1) ≡ ((k.0, key y.session_id), k.1) = ap (λ (s : Texts). (s, k.1)) (of ∙ ap (λ (z : Cdr). (k.0, key z.session_id)) same) in
+      subst (λ (q : SessionKey). contains_key sessions q ≡ false) at (room_gone session_total session_exact listed sessions (session, k.1) gave);
 }
 
 -- no session lists a record that is not held

@@ -1,16 +1,16 @@
 -- The room of pushes.
-use Rattle.std.proofs.Common.{◌≡◌, ◌≢◌, ℕ, ◌<◌, zero, suc, true, false, refl, sym, ap, subst, ◌∙◌, arith}
+use Rattle.std.proofs.Common.{◌≡◌, ◌≢◌, ℕ, zero, suc, true, false, refl, sym, ap, subst, ◌∙◌, arith}
 use Rattle.std.specs.Prelude.{Option, Some, None, IsTrue, is_some, Result, Err, IsOk, is_ok}
 use Rattle.std.specs.Ordering.{nat_cmp, is_gt}
 use Rattle.std.specs.declared.cmp.Ordering.TheVariants.{Less}
 use Rattle.std.specs.Cmp.{nat_cmp_total, nat_cmp_is}
-use Rattle.std.specs.FinMap.{FinMap, nat_cmp-IsAntisymmetric, get, remove, contains_key}
+use Rattle.std.specs.FinMap.{FinMap, nat_cmp-IsAntisymmetric, insert, remove, contains_key}
 use Rattle.handover.specs.declared.push_book.Subject.{Subject}
 use Rattle.handover.specs.Pushes.{PushRooms, HasRoomOfPush, HasSubjectRoom, KeepsPushRoom, subject_number_cmp}
 use Rattle.std.specs.declared.cmp.Ordering.{Ordering}
 use Rattle.std.specs.Cmp.{IsTotalOrder}
 use Rattle.std.specs.FinMap.{IsAntisymmetric}
-use Rattle.tables.proofs.Maps.{get-remove_other}
+use Rattle.tables.proofs.Maps.{get-insert_other, get-remove_other}
 use Rattle.handover.proofs.Indexing.{numbered_total, numbered_exact}
 
 -- the room of another key
@@ -53,3 +53,7 @@ no_subject_room rooms (Some v) n e = let bad : Some v ≡ None = e in absurd (cc
 -- a call that failed did not succeed
 pub failed : {A E : Type 0} {P : Type 0} (r : Result A E) (e : E) → r ≡ Err e → IsOk r → P
 failed r e is ok = absurd (let bad : false ≡ true = sym (ap is_ok is) ∙ ok in cc)
+
+-- the room that is new is that of one number
+pub other_slot : (m after : FinMap nat_cmp (Unit {0})) (k : ℕ) → after ≡ insert m k tt → (n : ℕ) → n ≢ k → IsTrue (contains_key after n) → IsTrue (contains_key m n)
+other_slot m after k is n apart had = sym (ap (λ (o : FinMap nat_cmp (Unit {0})). contains_key o n) is ∙ ap is_some (get-insert_other nat_cmp_total nat_cmp-IsAntisymmetric m k tt n apart)) ∙ had

@@ -1,20 +1,19 @@
 -- A push that is newer than another about the same replaces it.
-use Rattle.std.proofs.Common.{◌≡◌, ◌≢◌, ◌↔◌, ◌⊎◌, inl, inr, ℕ, ◌≤◌, List, refl, sym, ap, subst, ◌∙◌}
-use Rattle.std.specs.Prelude.{Option, Some, None}
+use Rattle.std.proofs.Common.{◌≡◌, ◌≢◌, ◌⊎◌, inl, inr, ℕ, refl, sym, ap, subst, ◌∙◌}
+use Rattle.std.specs.Prelude.{Option, Some, None, IfSome, IfNone}
 use Rattle.std.specs.Ordering.{nat_cmp}
 use Rattle.std.specs.Cmp.{nat_cmp_total}
 use Rattle.std.specs.FinMap.{FinMap, nat_cmp-IsAntisymmetric, get, insert, remove, same_map}
 use Rattle.tables.proofs.Maps.{get-insert_same, get-insert_other, get-remove_same, get-remove_other}
-use Rattle.ocpi_types.specs.declared.stored.Push.{Push}
-use Rattle.ocpi_types.specs.declared.rows.Row.{Row}
 use Rattle.ocpi_types.specs.declared.rows.Row.TheVariants as row
-use Rattle.ocpi_types.specs.declared.rows.RowKey.{RowKey}
 use Rattle.ocpi_types.specs.declared.rows.RowKey.TheVariants as keys
 use Rattle.handover.specs.declared.push_book.Outgoing.{Outgoing}
 use Rattle.handover.specs.declared.push_book.Subject.{Subject}
 use Rattle.handover.specs.Pushes.{Pushes, PushRooms, HasRoomOfPush, KeepsPushRoom, IsAbout, IsReplaced, subject, subject_of}
-use Rattle.handover.specs.Outbox.{OutboxRows, OneEach, PushesNew, KeepsRoom, KeepsOtherRoom, without}
+use Rattle.handover.specs.Outbox.{OneEach, KeepsRoom, KeepsOtherRoom, without}
+use Rattle.handover.specs.Resend.{Resend}
 use Rattle.handover.proofs.Totals.{told}
+use Rattle.handover.proofs.Indexing.{put_anew}
 
 same_value : {A : Type 0} (x y : A) → Some x ≡ Some y → x ≡ y
 same_value x y e = cc
@@ -37,7 +36,8 @@ excluded m None r is one u e q about apart = let bad : None ≡ Some u = e in ab
 excluded m (Some v) None is one u e q about apart = is q (subst (λ z. IsAbout m z q) (sym (same_value v u e)) about)
 excluded m (Some v) (Some k) is one u e q about apart = apart (ap Some (one u k q (subst (λ z. IsAbout m z k) (same_value v u e) is.0) about))
 
-one_each_map : (m : Pushes) (r : Option ℕ) (k : ℕ) (x : Outgoing) → IsReplaced m (subject_of x) r → OneEach m → OneEach (insert (without r m) k x)
+-- a new push leaves at most one about each
+pub one_each_map : (m : Pushes) (r : Option ℕ) (k : ℕ) (x : Outgoing) → IsReplaced m (subject_of x) r → OneEach m → OneEach (insert (without r m) k x)
 one_each_map m r k x is one u n q h g = elim (about_new (without r m) k x u n h) [
   | inl a ↦ elim (about_new (without r m) k x u q g) [
     | inl b ↦ a.0 ∙ sym b.0
@@ -48,11 +48,6 @@ one_each_map m r k x is one u n q h g = elim (about_new (without r m) k x u n h)
     | inr b ↦ one u n q (about_without r m u n a.1).0 (about_without r m u q b.1).0
   ]
 ]
-
--- a new push leaves at most one about each
-pub one_each : (r : OutboxRows) (to : List ℕ) (push : Push) (n : ℕ) (after : OutboxRows) → PushesNew r to push n after → OneEach r.pushes → OneEach after.pushes
-one_each r to push n after new one =
-    subst (λ (o : OutboxRows). OneEach o.pushes) (sym new.rows) (one_each_map r.pushes new.replaced n (record { to = to; push = push }) new.is_replaced one)
 
 -- the older push may end after the new one is put
 pub put_then_remove : (m : Pushes) (k older : ℕ) (x : Outgoing) → older ≢ k → remove (insert m k x) older ≡ insert (remove m older) k x
@@ -96,3 +91,42 @@ keeps_other_pushes s t n f (row.Result provider number result) apart h = h
 keeps_other_pushes s t n f (row.Session x) apart h = h
 keeps_other_pushes s t n f (row.Cdr x) apart h = h
 keeps_other_pushes s t n f (row.Command number command) apart h = h
+
+module _ {X : Type 0} (m : FinMap nat_cmp X) where
+  -- the order of two removals is free
+  remove_either : (k older : ℕ) → remove (remove m k) older ≡ remove (remove m older) k
+  remove_either k older = same_map nat_cmp_total nat_cmp-IsAntisymmetric _ _ (λ q. elim (told nat_cmp_total nat_cmp-IsAntisymmetric q older) [
+    | inl same ↦ ap (get (remove (remove m k) older)) same ∙ get-remove_same nat_cmp_total nat_cmp-IsAntisymmetric (remove m k) older ∙ elim (told nat_cmp_total nat_cmp-IsAntisymmetric q k) [
+      | inl here ↦ sym (ap (get (remove (remove m older) k)) here ∙ get-remove_same nat_cmp_total nat_cmp-IsAntisymmetric (remove m older) k)
+      | inr away ↦ sym (get-remove_other nat_cmp_total nat_cmp-IsAntisymmetric (remove m older) k q away ∙ ap (get (remove m older)) same ∙ get-remove_same nat_cmp_total nat_cmp-IsAntisymmetric m older)
+    ]
+    | inr other ↦ get-remove_other nat_cmp_total nat_cmp-IsAntisymmetric (remove m k) older q other ∙ elim (told nat_cmp_total nat_cmp-IsAntisymmetric q k) [
+      | inl here ↦ ap (get (remove m k)) here ∙ get-remove_same nat_cmp_total nat_cmp-IsAntisymmetric m k ∙ sym (ap (get (remove (remove m older) k)) here ∙ get-remove_same nat_cmp_total nat_cmp-IsAntisymmetric (remove m older) k)
+      | inr away ↦ get-remove_other nat_cmp_total nat_cmp-IsAntisymmetric m k q away ∙ sym (get-remove_other nat_cmp_total nat_cmp-IsAntisymmetric (remove m older) k q away ∙ get-remove_other nat_cmp_total nat_cmp-IsAntisymmetric m older q other)
+    ]
+  ])
+
+  remove_again : (k : ℕ) → remove (remove m k) k ≡ remove m k
+  remove_again k = same_map nat_cmp_total nat_cmp-IsAntisymmetric _ _ (λ q. elim (told nat_cmp_total nat_cmp-IsAntisymmetric q k) [
+    | inl here ↦ ap (get (remove (remove m k) k)) here ∙ get-remove_same nat_cmp_total nat_cmp-IsAntisymmetric (remove m k) k ∙ sym (ap (get (remove m k)) here ∙ get-remove_same nat_cmp_total nat_cmp-IsAntisymmetric m k)
+    | inr away ↦ get-remove_other nat_cmp_total nat_cmp-IsAntisymmetric (remove m k) k q away
+  ])
+
+-- the push that is replaced, where a newer one is put under a number
+module _ (older other : Option ℕ) (k : ℕ) (found : IfSome other (λ n. (older ≡ Some n) × (n ≢ k))) (none : IfNone other ((n : ℕ) → older ≡ Some n → n ≡ k)) where
+  by_case : (P : Option ℕ → Option ℕ → Type 0) → P None None → P (Some k) None → ((n : ℕ) → n ≢ k → P (Some n) (Some n)) → P older other
+  by_case P nothing own apart = for_other other found none
+    where
+      for_none : (o : Option ℕ) → ((n : ℕ) → o ≡ Some n → n ≡ k) → P o None
+      for_none None f = nothing
+      for_none (Some n) f = subst (λ z. P (Some z) None) (sym (f n refl)) own
+
+      for_other : (o : Option ℕ) → IfSome o (λ n. (older ≡ Some n) × (n ≢ k)) → IfNone o ((n : ℕ) → older ≡ Some n → n ≡ k) → P older o
+      for_other None f g = for_none older g
+      for_other (Some n) f g = subst (λ z. P z (Some n)) (sym f.0) (apart n f.1)
+
+  pub newer_pushes : (m : Pushes) (x : Outgoing) → without other (insert m k x) ≡ insert (without older m) k x
+  newer_pushes m x = by_case (λ o t. without t (insert m k x) ≡ insert (without o m) k x) refl (sym (put_anew nat_cmp_total nat_cmp-IsAntisymmetric m k x)) (λ n apart. put_then_remove m k n x apart)
+
+  pub newer_times : (m : Resend) → without other (remove m k) ≡ remove (without older m) k
+  newer_times m = by_case (λ o t. without t (remove m k) ≡ remove (without o m) k) refl (sym (remove_again m k)) (λ n apart. remove_either m k n)

@@ -1,12 +1,10 @@
 -- The sums of a list of records, one record after the other.
 use mir.Syntax.{w128}
-use Rattle.std.proofs.Common.{to_z, of_z, w64, zero, suc, ◌≡◌, ℕ, ◌+◌, ◌*◌, ◌≤◌, ◌<◌, ◌^◌, Bool, true, false, cond, List, [], ◌∷◌, ◌++◌, map, length, refl, sym, ap, subst, ◌∙◌, arith}
+use Rattle.std.proofs.Common.{to_z, of_z, w64, zero, suc, ◌≡◌, ℕ, ◌+◌, ◌*◌, ◌≤◌, ◌<◌, ◌^◌, Bool, true, false, cond, List, [], ◌∷◌, ◌++◌, refl, sym, ap, subst, ◌∙◌, arith}
 use Rattle.std.proofs.lemmas.Int.{ints}
-use Rattle.std.specs.Prelude.{◌||◌, ℤ, pos, ◌+ℤ◌, unsigned_abs, Option, Some, None, unwrap_or, slice_get, take}
-use Rattle.std.specs.List.{list_any}
+use Rattle.std.specs.Prelude.{◌||◌, ℤ, pos, ◌+ℤ◌, unsigned_abs, Some, None, unwrap_or, slice_get, take}
 use Rattle.std.specs.Ordering.{eq_by_cmp}
 use Rattle.std.specs.FinMap.{FinMap, get, insert, empty, get-insert, get-empty}
-use Rattle.std.proofs.lemmas.List.Folds.{list_any-append}
 use Rattle.ocpi_text.specs.Decimal.{e4_limit}
 use Rattle.tables.specs.Keys.{text_pair_cmp, text_pair_total, text_pair_exact}
 use Rattle.tables.proofs.Maps.{equal_of_is_eq}

@@ -1,11 +1,11 @@
 -- Sums over the values of finite maps.
-use Rattle.std.proofs.Common.{◌≡◌, ℕ, ◌*◌, ◌+◌, Bool, true, false, cond, T, List, [], ◌∷◌, map, length, ◌≢◌, ◌⊎◌, inl, inr, refl, sym, ap, subst, ◌∙◌, arith}
+use Rattle.std.proofs.Common.{◌≡◌, ℕ, ◌*◌, Bool, true, false, cond, T, List, [], ◌∷◌, map, length, ◌≢◌, ◌⊎◌, inl, inr, refl, sym, ap, subst, ◌∙◌, arith}
 use Rattle.std.proofs.lemmas.Int.{ints}
 use Rattle.ocpi_text.specs.Decimal.{e4_limit}
 use Rattle.std.proofs.Common.{◌<◌, ◌≤◌, ◌^◌, w64, to_z, of_z}
 use mir.Syntax.{w128}
 use mir.Val.{SFits}
-use Rattle.std.specs.Prelude.{unsigned_abs, ℤ, pos, ◌+ℤ◌, ◌-ℤ◌, neg_ℤ, ◌≤ℤ◌, not, ◌&&◌, Option, Some, None, option_map, unwrap_or}
+use Rattle.std.specs.Prelude.{unsigned_abs, ℤ, pos, ◌+ℤ◌, ◌&&◌, Option, Some, None, unwrap_or}
 use Rattle.std.specs.Ordering.{eq_by_cmp, is_lt, is_eq}
 use Rattle.std.specs.declared.cmp.Ordering.{Ordering}
 use Rattle.std.specs.declared.cmp.Ordering.TheVariants.{Less, Equal, Greater}

@@ -1,12 +1,14 @@
 -- Charge detail records that are held, by operator and id, and what stands beside them.
-use Rattle.std.specs.Prelude.{◌≡◌, ◌≢◌, ◌↔◌, ℕ, ℤ, ◌<◌, unsigned_abs, List, Some, IsTrue}
-use Rattle.std.specs.FinMap.{FinMap, get, contains_key, values}
+use Rattle.std.specs.Prelude.{◌≡◌, ◌≢◌, ◌↔◌, ℕ, ℤ, ◌<◌, unsigned_abs, List, map, Some, IsTrue, false}
+use Rattle.std.specs.FinMap.{FinMap, get, contains_key, entries, values}
 use Rattle.std.specs.declared.cmp.Ordering.{Ordering}
 use Rattle.std.specs.declared.cmp.Ordering.TheVariants.{Less}
 use Rattle.ocpi_text.specs.Text.{key}
 use Rattle.ocpi_text.specs.Decimal.{e4_limit}
 use Rattle.tables.specs.Keys.{pair_cmp, text_cmp, text_pair_cmp}
 use Rattle.ocpi_types.specs.declared.cdrs.Cdr.{Cdr}
+use Rattle.ocpi_types.specs.declared.rows.Row.{Row}
+use Rattle.ocpi_types.specs.declared.rows.Row.TheVariants as row
 use Rattle.handover.specs.Owed.{Account, account_of, owed, sum_at}
 
 -- by the operator, in key form, and the id, in key form
@@ -23,6 +25,21 @@ session_cmp = pair_cmp text_pair_cmp text_cmp
 abbrev pub cdr_key : Cdr → List ℕ × List ℕ
 cdr_key x = (key x.party, key x.id)
 
+-- each record stands under its own operator and id
+abbrev pub AreOwnCdrs : Cdrs → Type 0
+AreOwnCdrs m = (k : List ℕ × List ℕ) (x : Cdr) → get m k ≡ Some x → k ≡ cdr_key x
+
+-- no two records of an operator are of one session
+abbrev pub HasOnePerSession : Cdrs → Type 0
+HasOnePerSession m = (operator i j : List ℕ) (x y : Cdr) → get m (operator, i) ≡ Some x → get m (operator, j) ≡ Some y → key x.session_id ≡ key y.session_id → i ≡ j
+
+abbrev pub cdr_row : (List ℕ × List ℕ) × Cdr → Row
+cdr_row e = row.Cdr e.1
+
+-- the rows of the records, in the order of their keys
+abbrev pub cdr_rows : Cdrs → List Row
+cdr_rows m = map cdr_row (entries m)
+
 -- the record of an operator and an id is one of a session
 abbrev pub IsOfSession : Cdrs → SessionKey → Type 0
 IsOfSession m q = (x : Cdr) × (get m (q.0.0, q.1) ≡ Some x) × (key x.session_id ≡ q.0.1)
@@ -37,8 +54,7 @@ HasLaterId m session id = (i : List ℕ) × IsOfSession m (session, i) × (text_
 
 -- what stands beside the records: the records of each session, and the sum of each account
 pub record IsKept (m : Cdrs) (sessions : FinMap session_cmp (Unit {0})) (sums : FinMap text_pair_cmp ℤ) (rooms : FinMap text_pair_cmp (Unit {0})) : Type 0 where
-  -- each record stands under its own operator and id
-  pub own : (k : List ℕ × List ℕ) (x : Cdr) → get m k ≡ Some x → k ≡ cdr_key x
+  pub own : AreOwnCdrs m
   pub bounded : (k : List ℕ × List ℕ) (x : Cdr) → get m k ≡ Some x → unsigned_abs x.total_cost.excl_vat < e4_limit
   pub listed : (q : SessionKey) → (get sessions q ≡ Some tt) ↔ IsOfSession m q
   pub summed : (a : Account) → sum_at sums a ≡ owed a (values m)
@@ -58,6 +74,11 @@ pub record HasRoomOfCdr (s : CdrRooms) (x : Cdr) : Type 0 where
 -- what has room keeps it
 abbrev pub KeepsCdrRoom : CdrRooms → CdrRooms → Type 0
 KeepsCdrRoom s t = (x : Cdr) → HasRoomOfCdr s x → HasRoomOfCdr t x
+
+-- the room of that key is given back, with that of the record that stood there in its session; the room of a sum stays
+pub record GivesCdrBack (k : List ℕ × List ℕ) (m : Cdrs) (t : CdrRooms) : Type 0 where
+  pub of_record : contains_key t.cdrs k ≡ false
+  pub of_session : (x : Cdr) → get m k ≡ Some x → contains_key t.sessions ((k.0, key x.session_id), k.1) ≡ false
 
 -- the records, and the room that is taken beside them
 pub record HeldCdrs : Type 0 where

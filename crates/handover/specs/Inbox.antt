@@ -1,6 +1,6 @@
 -- Sessions and charge detail records that a provider holds, and when it takes others.
-use Rattle.std.specs.Prelude.{◌≡◌, ◌≢◌, ◌⊎◌, ◌<◌, ℕ, List, Option, Some, None, IsTrue, ⊤}
-use Rattle.std.specs.FinMap.{FinMap, get, insert, remove, contains_key}
+use Rattle.std.specs.Prelude.{◌≡◌, ◌≢◌, ◌⊎◌, ◌<◌, ℕ, List, Option, Some, None, IsTrue, false, ⊤}
+use Rattle.std.specs.FinMap.{FinMap, get, insert, remove, contains_key, empty}
 use Rattle.ocpi_text.specs.Text.{key}
 use Rattle.tables.specs.Keys.{text_pair_cmp}
 use Rattle.ocpi_types.specs.declared.cdrs.Cdr.{Cdr}
@@ -12,7 +12,7 @@ use Rattle.ocpi_types.specs.declared.rows.Row.TheVariants as row
 use Rattle.ocpi_types.specs.declared.rows.RowKey.{RowKey}
 use Rattle.ocpi_types.specs.declared.rows.RowKey.TheVariants as keys
 use Rattle.ocpi_types.specs.Rows.{key_of}
-use Rattle.handover.specs.Cdrs.{Cdrs, CdrRooms, HasRoomOfCdr, cdr_key}
+use Rattle.handover.specs.Cdrs.{Cdrs, CdrRooms, HasRoomOfCdr, GivesCdrBack, cdr_key}
 use Rattle.handover.specs.declared.takings.SessionTaking.{SessionTaking}
 use Rattle.handover.specs.declared.takings.SessionTaking.TheVariants as session_taking
 use Rattle.handover.specs.declared.takings.CdrTaking.{CdrTaking}
@@ -48,6 +48,15 @@ pub record IsInConflict (m : Cdrs) (x : Cdr) : Type 0 where
 pub record InboxRows : Type 0 where
   pub sessions : Sessions
   pub cdrs : Cdrs
+
+abbrev pub no_rows : InboxRows
+no_rows = record { sessions = empty; cdrs = empty }
+
+-- the row stands; an inbox has no rows of other kinds
+abbrev pub HasRow : InboxRows → Row → Type 0
+HasRow s (row.Session x) = get s.sessions (session_key x) ≡ Some x
+HasRow s (row.Cdr x) = get s.cdrs (cdr_key x) ≡ Some x
+HasRow s other = ⊥
 
 abbrev pub with_session : SessionTaking → Session → InboxRows → InboxRows
 with_session session_taking.Taken s r = record r { sessions = insert r.sessions (session_key s) s }
@@ -120,6 +129,12 @@ KeepsOtherRoom k s t = (r : Row) → key_of r ≢ k → HasRoomOf s r → HasRoo
 pub record HeldInbox : Type 0 where
   pub rows : InboxRows
   pub rooms : InboxRooms
+
+-- the room of that key, and of the row that stood under it, is given back
+abbrev pub GivesBack : RowKey → HeldInbox → InboxRooms → Type 0
+GivesBack (keys.Session operator id) s t = contains_key t.sessions (operator, id) ≡ false
+GivesBack (keys.Cdr operator id) s t = GivesCdrBack (operator, id) s.rows.cdrs t.cdrs
+GivesBack other s t = ⊤
 
 -- each session stands under its own operator and id
 abbrev pub AreOwnSessions : Sessions → Type 0

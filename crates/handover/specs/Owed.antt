@@ -1,11 +1,11 @@
 -- What is owed to an operator: the sum of the costs of its charge detail records in a currency.
 use Rattle.std.specs.List.{list_any}
-use Rattle.std.specs.Prelude.{◌≡◌, Some, None, ℕ, ℤ, pos, ◌+ℤ◌, List, [], ◌∷◌, map, Bool, ◌&&◌, cond}
+use Rattle.std.specs.Prelude.{◌≡◌, Some, None, ℕ, ℤ, pos, ◌+ℤ◌, List, [], ◌∷◌, map, Bool, cond}
 use Rattle.std.specs.Ordering.{eq_by_cmp}
 use Rattle.std.specs.Prelude.{unwrap_or}
 use Rattle.std.specs.FinMap.{FinMap, get}
 use Rattle.ocpi_text.specs.Text.{key}
-use Rattle.tables.specs.Keys.{text_cmp, text_pair_cmp}
+use Rattle.tables.specs.Keys.{text_pair_cmp}
 use Rattle.ocpi_types.specs.declared.cdrs.Cdr.{Cdr}
 
 abbrev pub total : List ℤ → ℤ

@@ -1,17 +1,17 @@
 //! The charge detail records that are held, with what finds them by their sessions, and what is owed by them.
 
-ghost use Rattle.std.specs.Prelude.{◌≡◌, ◌≢◌, ◌↔◌, ℕ, ◌<◌, unsigned_abs, List, [], Some, None, IsOk, IsTrue, OnOk, option_copied};
+ghost use Rattle.std.specs.Prelude.{◌≡◌, ◌≢◌, ◌↔◌, ◌++◌, ◌<◌, unsigned_abs, [], Some, None, IsOk, IsTrue, OnOk, option_copied};
 ghost use Rattle.std.specs.FinMap as map;
 ghost use Rattle.ocpi_text.specs.Text.{key};
 ghost use Rattle.ocpi_text.specs.Decimal.{e4_limit};
 ghost use Rattle.ocpi_types.specs.declared.cdrs.Cdr.{Cdr};
 ghost use Rattle.handover.specs.Owed.{owed};
-ghost use Rattle.handover.specs.Cdrs.{HasRoomOfCdr, KeepsCdrRoom, HasOther, HasLaterId, cdr_key};
+ghost use Rattle.handover.specs.Cdrs.{AreOwnCdrs, HasRoomOfCdr, KeepsCdrRoom, GivesCdrBack, HasOther, HasLaterId, cdr_key, cdr_rows};
 
 use crate::currency::Currency;
 use crate::sums::Sums;
 use ocpi_text::{CiKey, CiText, PartyKey};
-use ocpi_types::Cdr;
+use ocpi_types::{Cdr, Row};
 use std::alloc::{AllocError, Global};
 use std::marker::Model;
 use tables::Table;
@@ -91,6 +91,23 @@ impl CdrBook {
         }
     }
 
+    /// What holds of all records that are held, since the type keeps it. The method does nothing.
+    pub(crate) fn consistency(&self)
+        ensures { AreOwnCdrs self.now.cdrs }
+    {
+        let _cdrs = &self.cdrs;
+    }
+
+    /// Adds the row of each record to a list, in the order of their keys.
+    pub(crate) fn push_rows(&self, rows: &mut Vec<Row>) -> Result<(), AllocError>
+        ensures { OnOk result (rows.new.items ≡ rows.old.items ++ cdr_rows self.now.cdrs) }
+    {
+        for (_, cdr) in self.cdrs.iter() {
+            rows.push(Row::Cdr { cdr: cdr.copy()? })?;
+        }
+        Ok(())
+    }
+
     /// The record of an operator and an id.
     pub(crate) fn get(&self, operator: PartyKey, id: CiKey<39>) -> Option<&Cdr>
         ensures value { option_copied result ≡ map.get self.now.cdrs (operator, id) }
@@ -111,7 +128,7 @@ impl CdrBook {
     /// Whether a record of a session is held under another id.
     pub(crate) fn has_other(&self, session: &(PartyKey, CiKey<36>), id: &CiKey<39>) -> bool
         ensures others { IsTrue result ↔ HasOther self.now.cdrs session.now id.now }
-        ensures own { (k : List ℕ × List ℕ) (x : Cdr) → map.get self.now.cdrs k ≡ Some x → k ≡ cdr_key x }
+        ensures own { AreOwnCdrs self.now.cdrs }
     {
         let Some(first) = self.sessions.first_with(*session, least_id()) else {
             return false;
@@ -196,6 +213,7 @@ impl CdrBook {
     pub(crate) fn remove(&mut self, operator: PartyKey, id: CiKey<39>)
         ensures cdrs { self.new.cdrs ≡ map.remove self.old.cdrs (operator, id) }
         ensures rooms { (x : Cdr) → HasRoomOfCdr self.old.rooms x → cdr_key x ≢ (operator, id) → HasRoomOfCdr self.new.rooms x }
+        ensures back { GivesCdrBack (operator, id) self.old.cdrs self.new.rooms }
     {
         let Some(cdr) = self.cdrs.get((operator, id)) else {
             self.cdrs.release((operator, id));

@@ -4,8 +4,8 @@ ghost use Rattle.std.specs.Prelude.{◌≡◌, ◌↔◌, ◌⊎◌, IsTrue, Som
 ghost use Rattle.std.specs.FinMap as map;
 ghost use Rattle.ocpi_text.specs.Text.{key};
 ghost use Rattle.handover.specs.Owed.{owed};
-ghost use Rattle.handover.specs.Cdrs.{cdr_key};
-ghost use Rattle.handover.specs.Inbox.{IsOfParties, IsFinal, IsNews, IsInConflict, HasRoomOf, KeepsRoom, KeepsOtherRoom, session_key, with_session, with_cdr, put_row, drop_row};
+ghost use Rattle.handover.specs.Cdrs.{HasOnePerSession, cdr_key};
+ghost use Rattle.handover.specs.Inbox.{IsOfParties, IsFinal, IsNews, IsInConflict, HasRoomOf, KeepsRoom, KeepsOtherRoom, GivesBack, no_rows, session_key, with_session, with_cdr, put_row, drop_row};
 ghost use Rattle.handover.specs.declared.fault.HandoverFault.TheVariants.{WrongParty, Memory};
 ghost use Rattle.handover.specs.declared.takings.SessionTaking.TheVariants as session_taking;
 ghost use Rattle.handover.specs.declared.takings.CdrTaking.TheVariants as cdr_taking;
@@ -26,8 +26,8 @@ use tables::Table;
 /// what is held.
 #[derive(Drop)]
 pub struct Inbox {
-    sessions: Table<(PartyKey, CiKey<36>), Session>,
-    cdrs: CdrBook,
+    pub(crate) sessions: Table<(PartyKey, CiKey<36>), Session>,
+    pub(crate) cdrs: CdrBook,
 }
 
 impl Model for Inbox {
@@ -75,7 +75,7 @@ fn is_news(held: Option<&Session>, session: &Session) -> bool
 impl Inbox {
     /// Nothing is held. It takes no memory.
     pub fn new(alloc: Global) -> Inbox
-        ensures { result.rows ≡ record { sessions = map.empty; cdrs = map.empty } }
+        ensures { result.rows ≡ no_rows }
     {
         Inbox {
             sessions: Table::new(alloc),
@@ -165,7 +165,7 @@ impl Inbox {
     }
 
     /// Takes a version of a session that a sender hands over to the party `own`, where `session_taking` says so. Refused
-    /// are what it refuses (`WrongParty`), and want of memory for one that is to be taken (`Memory`).
+    /// are what it refuses (`WrongParty`), and want of memory for one that is to be taken and has no room (`Memory`).
     pub fn take_session(
         &mut self,
         own: &Party,
@@ -175,21 +175,23 @@ impl Inbox {
         ensures ok { OnOk result (IsOfParties own.now sender.now session.now.cdr_token.party session.now.party) }
         ensures taken { IfOk result (λ t. (t ≡ session_taking.Taken) ↔ IsNews (map.get self.old.rows.sessions (session_key session.now)) session.now) }
         ensures rows { IfOk result (λ t. self.new.rows ≡ with_session t session.now self.old.rows) }
+        ensures keeps { KeepsRoom self.old.rooms self.new.rooms }
+        ensures again { IsOfParties own.now sender.now session.now.cdr_token.party session.now.party → HasRoomOf self.old.rooms (Row.Session session.now) → IsOk result }
         ensures err { OnErr result (self.new.rows ≡ self.old.rows) }
         ensures fault { IfErr result (λ e. ((e ≡ WrongParty) × (IsOfParties own.now sender.now session.now.cdr_token.party session.now.party → ⊥)) ⊎ ((e ≡ Memory) × IsOfParties own.now sender.now session.now.cdr_token.party session.now.party × IsNews (map.get self.old.rows.sessions (session_key session.now)) session.now)) }
     {
         match self.session_taking(own, sender, session)? {
             SessionTaking::Kept => Ok(SessionTaking::Kept),
             SessionTaking::Taken => {
-                let place = (session.party.key(), session.id.key());
-                self.sessions.insert(place, *session)?;
+                self.add_row(Row::Session { session: *session })?;
                 Ok(SessionTaking::Taken)
             }
         }
     }
 
     /// Takes a charge detail record that a sender hands over to the party `own`, where `cdr_taking` says so. Refused are
-    /// what it refuses (`WrongParty`), and want of memory for one that is to be taken (`Memory`).
+    /// what it refuses (`WrongParty`), and want of memory for one that is to be taken and has no room (`Memory`). Where no two
+    /// records that are held are of one session of an operator, it stays so: no session is billed twice.
     pub fn take_cdr(
         &mut self,
         own: &Party,
@@ -200,25 +202,19 @@ impl Inbox {
         ensures conflict { IfOk result (λ t. (t ≡ cdr_taking.Conflict) ↔ IsInConflict self.old.rows.cdrs cdr) }
         ensures kept { IfOk result (λ t. (t ≡ cdr_taking.Kept) ↔ ((map.get self.old.rows.cdrs (cdr_key cdr) ≡ Some cdr) × (IsInConflict self.old.rows.cdrs cdr → ⊥))) }
         ensures rows { IfOk result (λ t. self.new.rows ≡ with_cdr t cdr self.old.rows) }
+        ensures once { HasOnePerSession self.old.rows.cdrs → HasOnePerSession self.new.rows.cdrs }
+        ensures keeps { KeepsRoom self.old.rooms self.new.rooms }
+        ensures again { IsOfParties own.now sender.now cdr.cdr_token.party cdr.party → HasRoomOf self.old.rooms (Row.Cdr cdr) → IsOk result }
         ensures err { OnErr result (self.new.rows ≡ self.old.rows) }
         ensures fault { IfErr result (λ e. ((e ≡ WrongParty) × (IsOfParties own.now sender.now cdr.cdr_token.party cdr.party → ⊥)) ⊎ ((e ≡ Memory) × IsOfParties own.now sender.now cdr.cdr_token.party cdr.party × (IsInConflict self.old.rows.cdrs cdr → ⊥) × (map.get self.old.rows.cdrs (cdr_key cdr) ≡ Some cdr → ⊥))) }
     {
+        self.consistency();
         let taking = self.cdr_taking(own, sender, &cdr)?;
         match taking {
-            CdrTaking::Taken => self.hold(cdr)?,
+            CdrTaking::Taken => self.add_row(Row::Cdr { cdr })?,
             CdrTaking::Kept | CdrTaking::Conflict => {}
         }
         Ok(taking)
-    }
-
-    /// Holds a record. An error is want of memory.
-    fn hold(&mut self, cdr: Cdr) -> Result<(), AllocError>
-        ensures rows { OnOk result (self.new.rows ≡ record self.old.rows { cdrs = map.insert self.old.rows.cdrs (cdr_key cdr) cdr }) }
-        ensures err { OnErr result (self.new.rows ≡ self.old.rows) }
-    {
-        self.cdrs.reserve(&cdr)?;
-        self.cdrs.put(cdr);
-        Ok(())
     }
 
     /// What is owed to an operator in a currency, in ten-thousandths: the sum of the costs of its charge detail records
@@ -265,7 +261,8 @@ impl Inbox {
     /// memory.
     pub fn drop_row(&mut self, key: RowKey)
         ensures rows { self.new.rows ≡ drop_row key self.old.rows }
-        ensures rooms { KeepsOtherRoom key self.old.rooms self.new.rooms }
+        ensures keeps { KeepsOtherRoom key self.old.rooms self.new.rooms }
+        ensures room { GivesBack key self.old self.new.rooms }
     {
         match key {
             RowKey::Session { operator, id } => {

@@ -1,6 +1,6 @@
 //! The pushes that are not acknowledged, with what finds them by what they are about.
 
-ghost use Rattle.std.specs.Prelude.{◌≡◌, ◌≢◌, ℕ, Option, Some, None, IsOk, OnOk, option_copied, option_map};
+ghost use Rattle.std.specs.Prelude.{◌≡◌, ◌≢◌, ℕ, Option, Some, None, IsOk, OnOk, option_copied, option_map, IsTrue};
 ghost use Rattle.std.specs.FinMap as map;
 ghost use Rattle.handover.specs.declared.push_book.Outgoing.{Outgoing};
 ghost use Rattle.handover.specs.declared.push_book.Subject.{Subject};
@@ -102,7 +102,8 @@ fn subject_of(to: &Party, push: &Push) -> Option<Subject>
 impl PushBook {
     /// There is no push. It takes no memory.
     pub(crate) fn new(alloc: Global) -> PushBook
-        ensures { result.pushes ≡ map.empty }
+        ensures pushes { result.pushes ≡ map.empty }
+        ensures slots { result.rooms.pushes ≡ map.empty }
     {
         PushBook {
             pushes: Table::new(alloc),
@@ -145,6 +146,7 @@ impl PushBook {
         ensures pushes { self.new.pushes ≡ self.old.pushes }
         ensures room { OnOk result (HasRoomOfPush self.new.rooms number (subject to.now push.now)) }
         ensures keeps { KeepsPushRoom self.old.rooms self.new.rooms }
+        ensures slots { (n : ℕ) → n ≢ number → IsTrue (map.contains_key self.new.rooms.pushes n) → IsTrue (map.contains_key self.old.rooms.pushes n) }
         ensures again { HasRoomOfPush self.old.rooms number (subject to.now push.now) → IsOk result }
     {
         self.pushes.reserve(number)?;
@@ -197,6 +199,7 @@ impl PushBook {
     pub(crate) fn remove(&mut self, number: Whole)
         ensures pushes { self.new.pushes ≡ map.remove self.old.pushes number }
         ensures rooms { (n : ℕ) (u : Option Subject) → n ≢ number → HasRoomOfPush self.old.rooms n u → HasRoomOfPush self.new.rooms n u }
+        ensures slots { self.new.rooms.pushes ≡ map.remove self.old.rooms.pushes number }
     {
         let Some(outgoing) = self.pushes.get(number) else {
             self.pushes.release(number);

@@ -1,6 +1,6 @@
 //! What is owed by a list of charge detail records.
 
-ghost use Rattle.std.specs.Prelude.{◌≡◌, length, IfOk};
+ghost use Rattle.std.specs.Prelude.{◌≡◌, ◌≢◌, [], length, IfOk, OnErr};
 ghost use Rattle.tables.specs.Keys.{text_pair_cmp};
 ghost use Rattle.tables.specs.Tables.{shown_of};
 ghost use Rattle.handover.specs.Owed.{AreOwed, sum_at};
@@ -31,12 +31,13 @@ fn number_of(cdrs: &[Cdr]) -> usize
 
 /// What is owed to each operator in each currency, in ten-thousandths, where one of the records is of both: the sum of
 /// the costs of these records, by operator and then by currency. Operators are compared without case, currencies exactly.
-/// An error is want of memory.
+/// An error is want of memory, which no record needs where there is none.
 pub fn settle_all(
     alloc: Global,
     cdrs: &[Cdr],
 ) -> Result<Table<(PartyKey, Currency), i128>, AllocError>
-    ensures { IfOk result (λ t. AreOwed cdrs.now (shown_of text_pair_cmp t)) }
+    ensures ok { IfOk result (λ t. AreOwed cdrs.now (shown_of text_pair_cmp t)) }
+    ensures err { OnErr result (cdrs.now ≢ []) }
 {
     let _count = number_of(cdrs);
     let mut sums = Table::new(alloc);

@@ -24,23 +24,23 @@ pub fn body_of(alloc: Global, kind: PacketKind, object: &Value) -> Result<Body, 
     ensures { Gives result (body_at kind (view object.now)) }
 {
     match kind {
-        PacketKind::StartSession => Ok(Body::StartSession(start_session_of(alloc, object)?)),
-        PacketKind::StopSession => Ok(Body::StopSession(stop_session_of(alloc, object)?)),
-        PacketKind::ReserveNow => Ok(Body::ReserveNow(reserve_now_of(alloc, object)?)),
-        PacketKind::CancelReservation => Ok(Body::CancelReservation(cancel_reservation_of(
-            alloc, object,
-        )?)),
-        PacketKind::UnlockConnector => Ok(Body::UnlockConnector(unlock_connector_of(
-            alloc, object,
-        )?)),
-        PacketKind::CommandResponse => Ok(Body::CommandResponse(command_response_of(object)?)),
-        PacketKind::CommandResult => Ok(Body::CommandResult(command_result_of(alloc, object)?)),
-        PacketKind::PutToken => Ok(Body::PutToken(token_of(object)?)),
-        PacketKind::Authorize => Ok(Body::Authorize(authorize_of(alloc, object)?)),
-        PacketKind::Authorization => Ok(Body::Authorization(authorization_of(object)?)),
-        PacketKind::PutSession => Ok(Body::PutSession(session_of(object)?)),
-        PacketKind::PostCdr => Ok(Body::PostCdr(cdr_of(alloc, object)?)),
-        PacketKind::Ack => Ok(Body::Ack(ack_of(object)?)),
+        PacketKind::StartSession => start_session_of(alloc, object).map(Body::StartSession),
+        PacketKind::StopSession => stop_session_of(alloc, object).map(Body::StopSession),
+        PacketKind::ReserveNow => reserve_now_of(alloc, object).map(Body::ReserveNow),
+        PacketKind::CancelReservation => {
+            cancel_reservation_of(alloc, object).map(Body::CancelReservation)
+        }
+        PacketKind::UnlockConnector => {
+            unlock_connector_of(alloc, object).map(Body::UnlockConnector)
+        }
+        PacketKind::CommandResponse => command_response_of(object).map(Body::CommandResponse),
+        PacketKind::CommandResult => command_result_of(alloc, object).map(Body::CommandResult),
+        PacketKind::PutToken => token_of(object).map(Body::PutToken),
+        PacketKind::Authorize => authorize_of(alloc, object).map(Body::Authorize),
+        PacketKind::Authorization => authorization_of(object).map(Body::Authorization),
+        PacketKind::PutSession => session_of(object).map(Body::PutSession),
+        PacketKind::PostCdr => cdr_of(alloc, object).map(Body::PostCdr),
+        PacketKind::Ack => ack_of(object).map(Body::Ack),
     }
 }
 

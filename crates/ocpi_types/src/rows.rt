@@ -6,8 +6,9 @@
 //! all.
 
 ghost use Rattle.std.specs.Prelude.{◌≡◌, IfOk, OnErr};
-ghost use Rattle.ocpi_types.specs.Memory.{RowOwnsMemory, ChangeOwnsMemory};
+ghost use Rattle.ocpi_types.specs.Memory.{PushOwnsMemory, RowOwnsMemory, ChangeOwnsMemory};
 ghost use Rattle.ocpi_types.specs.Rows.{counter_name, key_of};
+ghost use Rattle.ocpi_types.specs.declared.rows.Row.TheVariants as row;
 
 use crate::cdrs::Cdr;
 use crate::sessions::Session;
@@ -224,11 +225,7 @@ impl Row {
                 reply: *reply,
             }),
             Row::Token { token } => Ok(Row::Token { token: *token }),
-            Row::Push { number, to, push } => Ok(Row::Push {
-                number: *number,
-                to: *to,
-                push: push.copy()?,
-            }),
+            Row::Push { number, to, push } => copy_push(*number, *to, push),
             Row::Service { evse_uid } => Ok(Row::Service {
                 evse_uid: *evse_uid,
             }),
@@ -261,11 +258,7 @@ impl Row {
                 provider,
                 number,
                 open,
-            } => Ok(Row::Pending {
-                provider: *provider,
-                number: *number,
-                open: open.copy()?,
-            }),
+            } => copy_pending(*provider, *number, open),
             Row::Result {
                 provider,
                 number,
@@ -276,13 +269,43 @@ impl Row {
                 result: *result,
             }),
             Row::Session { session } => Ok(Row::Session { session: *session }),
-            Row::Cdr { cdr } => Ok(Row::Cdr { cdr: cdr.copy()? }),
-            Row::Command { number, command } => Ok(Row::Command {
-                number: *number,
-                command: command.copy()?,
-            }),
+            Row::Cdr { cdr } => copy_cdr(cdr),
+            Row::Command { number, command } => copy_command(*number, command),
         }
     }
+}
+
+fn copy_push(number: Whole, to: Party, push: &Push) -> Result<Row, AllocError>
+    ensures equal { IfOk result (λ t. t ≡ row.Push number to push.now) }
+    ensures err { OnErr result (PushOwnsMemory push.now) }
+{
+    let push = push.copy()?;
+    Ok(Row::Push { number, to, push })
+}
+
+fn copy_pending(provider: PartyKey, number: Whole, command: &OpenCommand) -> Result<Row, AllocError>
+    ensures { IfOk result (λ t. t ≡ row.Pending provider number command.now) }
+{
+    let open = command.copy()?;
+    Ok(Row::Pending {
+        provider,
+        number,
+        open,
+    })
+}
+
+fn copy_cdr(cdr: &Cdr) -> Result<Row, AllocError>
+    ensures { IfOk result (λ t. t ≡ row.Cdr cdr.now) }
+{
+    let cdr = cdr.copy()?;
+    Ok(Row::Cdr { cdr })
+}
+
+fn copy_command(number: Whole, command: &SentCommand) -> Result<Row, AllocError>
+    ensures { IfOk result (λ t. t ≡ row.Command number command.now) }
+{
+    let command = command.copy()?;
+    Ok(Row::Command { number, command })
 }
 
 /// The kind and the key of a row.

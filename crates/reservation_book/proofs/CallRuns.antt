@@ -5,20 +5,20 @@ use Rattle.std.specs.FinMap.{get, insert, remove}
 use Rattle.std.proofs.lemmas.List.Elements.{Contains-append_right}
 use Rattle.ocpi_types.specs.declared.stored.Reservation.{Reservation}
 use Rattle.tables.specs.Keys.{text_pair_total, text_pair_exact}
-use Rattle.tables.proofs.Maps.{of_insert, of_remove, get-insert_same, get-insert_other}
+use Rattle.tables.proofs.Options.{not_both}
+use Rattle.tables.proofs.Elements.{in_front}
+use Rattle.tables.proofs.Maps.{told, of_insert, of_remove, get-insert_same, get-insert_other}
 use Rattle.reservation_book.specs.Places.{Key}
 use Rattle.reservation_book.specs.Rows.{Rows, Marks}
 use Rattle.reservation_book.specs.Refusals.{IsInTime}
 use Rattle.reservation_book.specs.Calls.{Call, Reserve, Note, Cancel, Use, Expire, Leaves, NoMarkFalls, MarksNeverFall, IsMade, NewReservationsAreNewer, not_expired}
-use Rattle.reservation_book.proofs.Indexing.{none_some, same_or_not}
-use Rattle.reservation_book.proofs.Entries.{in_front}
 
 stay : (m : Marks) → NoMarkFalls m m
 stay m k x e = (x, e, omega arith)
 
 -- a mark is set to a number that is not below it
 raised : (m : Marks) (k : Key) (n : ℕ) → IsInTime m k n → NoMarkFalls m (insert m k n)
-raised m k n in_time q x e = elim (same_or_not text_pair_total text_pair_exact q k) [
+raised m k n in_time q x e = elim (told text_pair_total text_pair_exact q k) [
   | inl same ↦ (n, ap (get (insert m k n)) same ∙ get-insert_same text_pair_total text_pair_exact m k n, in_time x (sym (ap (get m) same) ∙ e))
   | inr apart ↦ (x, get-insert_other text_pair_total text_pair_exact m k n q apart ∙ e, omega arith)
 ]
@@ -42,21 +42,21 @@ made_by (Reserve q n x) s u h k r new none =
     let has : get (insert s.reservations q x) k ≡ Some r = subst (λ (z : Rows). get z.reservations k ≡ Some r) h.2 new in
     elim (of_insert text_pair_total text_pair_exact s.reservations q x k r has) [
       | inl at ↦ (n, x, (λ i. Reserve (sym at.0 i) n x), subst (λ z. IsInTime s.marks z n) (sym at.0) h.0)
-      | inr old ↦ absurd (none_some r _ none old)
+      | inr old ↦ absurd (not_both r _ none old)
     ]
-made_by (Note q n) s u h k r new none = absurd (none_some r _ none (subst (λ (z : Rows). get z.reservations k ≡ Some r) h.1 new))
+made_by (Note q n) s u h k r new none = absurd (not_both r _ none (subst (λ (z : Rows). get z.reservations k ≡ Some r) h.1 new))
 made_by (Cancel q n) s u h k r new none =
     let has : get (remove s.reservations q) k ≡ Some r = subst (λ (z : Rows). get z.reservations k ≡ Some r) h.1 new in
-    absurd (none_some r _ none (of_remove text_pair_total text_pair_exact s.reservations q k r has).1)
+    absurd (not_both r _ none (of_remove text_pair_total text_pair_exact s.reservations q k r has).1)
 made_by (Use q) s u h k r new none =
     let has : get (remove s.reservations q) k ≡ Some r = subst (λ (z : Rows). get z.reservations k ≡ Some r) h new in
-    absurd (none_some r _ none (of_remove text_pair_total text_pair_exact s.reservations q k r has).1)
+    absurd (not_both r _ none (of_remove text_pair_total text_pair_exact s.reservations q k r has).1)
 made_by (Expire at) s u h k r new none =
     let is : get u.reservations k ≡ None = h.1 k ∙ ap (not_expired at) none in
-    absurd (none_some r _ is new)
+    absurd (not_both r _ is new)
 
 pub new_reservations_are_newer : NewReservationsAreNewer
-new_reservations_are_newer [] s t h k r new none = absurd (none_some r _ none (subst (λ (z : Rows). get z.reservations k ≡ Some r) h new))
+new_reservations_are_newer [] s t h k r new none = absurd (not_both r _ none (subst (λ (z : Rows). get z.reservations k ≡ Some r) h new))
 new_reservations_are_newer (c ∷ cs) s t h k r new none = go (get h.0.reservations k) refl (new_reservations_are_newer cs h.0 t h.2 k r new)
   where
     go : (a : Option Reservation) → get h.0.reservations k ≡ a → (get h.0.reservations k ≡ None → IsMade cs h.0.marks k) → IsMade (c ∷ cs) s.marks k

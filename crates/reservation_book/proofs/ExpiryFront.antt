@@ -13,20 +13,21 @@ use Rattle.std.proofs.lemmas.Option.{same_Some}
 use Rattle.std.proofs.lemmas.Bool.{leb-true, le-leb}
 use Rattle.ocpi_types.specs.declared.stored.Reservation.{Reservation}
 use Rattle.tables.specs.Keys.{text_pair_total, text_pair_exact}
-use Rattle.tables.proofs.Maps.{get-remove_same, get-remove_other}
+use Rattle.tables.specs.Indexes.{Indexes}
+use Rattle.tables.proofs.Elements.{in_none, in_single, in_front, in_map, of_map, sorted_back, sorted_front, first_below}
+use Rattle.tables.proofs.Entries.{keys_in_order, listed, listed_only}
+use Rattle.tables.proofs.Maps.{told, get-remove_same, get-remove_other}
+use Rattle.tables.proofs.Parts.{first_part_le}
 use Rattle.reservation_book.specs.declared.standing.Standing.{Standing}
 use Rattle.reservation_book.specs.Places.{Key, Expiry, expiry_cmp, expiry_key, expiry_of}
 use Rattle.reservation_book.specs.Rows.{Rows, Reservations}
 use Rattle.reservation_book.specs.Tokens.{Stands}
-use Rattle.reservation_book.specs.Listed.{Indexes}
 use Rattle.reservation_book.specs.Calls.{HasExpired, expiry_at, AreExpired, IsFront, Expires, not_expired, ended, ended_each}
-use Rattle.reservation_book.proofs.Orders.{expiry_total, expiry_exact, first_le}
-use Rattle.reservation_book.proofs.Indexing.{same_or_not}
-use Rattle.reservation_book.proofs.Entries.{in_none, in_single, in_front, in_map, of_map, sorted_back, sorted_front, first_below, keys_in_order, listed, listed_only}
+use Rattle.reservation_book.proofs.Orders.{expiry_total, expiry_exact}
 
 -- what comes later in the order does not expire earlier
 not_earlier : (a b : Expiry) → expiry_cmp a b ≡ Less → a.0 ≤ b.0
-not_earlier a b h = le_from_not_gt a.0 b.0 (first_le _ _ (first_le _ _ (ap is_gt h)))
+not_earlier a b h = le_from_not_gt a.0 b.0 (first_part_le _ _ (first_part_le _ _ (ap is_gt h)))
 
 module _ (at : ℕ) (m : Reservations) (index : FinMap expiry_cmp (Unit {0})) (h : Indexes expiry_key expiry_of m index) where
   pub front_empty : IsFront at m index [] (entries index)
@@ -134,7 +135,7 @@ same_marks (x ∷ xs) s = same_marks xs (ended (x.provider, x.id) s)
 module _ (k : Key) where
   gone : (xs : List Standing) (s : Rows) → get s.reservations k ≡ None → get (ended_each xs s).reservations k ≡ None
   gone [] s none = none
-  gone (x ∷ xs) s none = gone xs (ended (x.provider, x.id) s) (elim (same_or_not text_pair_total text_pair_exact k (x.provider, x.id)) [
+  gone (x ∷ xs) s none = gone xs (ended (x.provider, x.id) s) (elim (told text_pair_total text_pair_exact k (x.provider, x.id)) [
     | inl same ↦ ap (get (remove s.reservations (x.provider, x.id))) same ∙ get-remove_same text_pair_total text_pair_exact s.reservations (x.provider, x.id)
     | inr apart ↦ get-remove_other text_pair_total text_pair_exact s.reservations (x.provider, x.id) k apart ∙ none
   ])

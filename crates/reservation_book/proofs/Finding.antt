@@ -9,12 +9,13 @@ use Rattle.ocpi_types.specs.declared.words.TokenType.{TokenType}
 use Rattle.ocpi_types.specs.declared.words.TokenType.TheVariants.{AdHocUser, AppUser, Other, Rfid}
 use Rattle.tables.specs.Keys.{text_pair_cmp}
 use Rattle.tables.specs.Tables.{IsLeast, HasNone}
+use Rattle.tables.specs.Indexes.{Indexes}
 use Rattle.reservation_book.specs.declared.standing.Standing.{Standing}
 use Rattle.reservation_book.specs.declared.standing.TokenAt.{TokenAt}
 use Rattle.reservation_book.specs.Places.{Place, place_cmp, type_number, place_key, place_of}
 use Rattle.reservation_book.specs.Rows.{Reservations}
 use Rattle.reservation_book.specs.Tokens.{Stands, IsFor, IsOn, spot, IsFirstFor, IsNextFor}
-use Rattle.reservation_book.specs.Listed.{Indexes, IsPlaceFor, IsPlaceOn, IsPlaceAfter, IsPlaceNamed}
+use Rattle.reservation_book.specs.Listed.{IsPlaceFor, IsPlaceOn, IsPlaceAfter, IsPlaceNamed}
 use Rattle.reservation_book.proofs.Orders.{by_spot, same_groups, same_types}
 
 pub one_type : (a b : TokenType) → type_number a ≡ type_number b → a ≡ b

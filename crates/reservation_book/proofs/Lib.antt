@@ -1,10 +1,7 @@
-pub mod Indexing
 pub mod Orders
 pub mod Rooms
 pub mod Relisting
 pub mod Finding
-pub mod Entries
 pub mod RowLists
 pub mod ExpiryFront
 pub mod CallRuns
-pub mod Ties

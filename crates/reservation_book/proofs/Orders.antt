@@ -1,15 +1,16 @@
 -- The orders of expiries and of places: each is total, and only equal keys tie. The places for one token stand together.
-use Rattle.std.proofs.Common.{◌≡◌, ℕ, List, [], ◌∷◌, true, false, refl, sym, ap, subst, ◌∙◌}
-use Rattle.std.specs.Prelude.{Option, Some, None, is_some}
+use Rattle.std.proofs.Common.{◌≡◌, ℕ, List, [], ◌∷◌, false, refl, sym, ap, subst, ◌∙◌}
 use Rattle.std.specs.declared.cmp.Ordering.{Ordering}
-use Rattle.std.specs.declared.cmp.Ordering.TheVariants.{Less, Equal, Greater}
-use Rattle.std.specs.Ordering.{nat_cmp, ordering_then, ordering_reverse, is_gt}
+use Rattle.std.specs.declared.cmp.Ordering.TheVariants.{Equal}
+use Rattle.std.specs.Ordering.{nat_cmp, ordering_then, is_gt}
 use Rattle.std.specs.Cmp.{IsTotalOrder, nat_cmp_total}
 use Rattle.std.specs.BTreeMap.Range.{IsLeBy, IsLtBy}
 use Rattle.std.specs.FinMap.{FinMap, IsAntisymmetric, nat_cmp-IsAntisymmetric, get}
 use Rattle.std.proofs.lemmas.Cmp.{on_total, then_total, tied_itself}
 use Rattle.tables.specs.Keys.{text_cmp, text_pair_cmp, text_total, text_exact, pair_exact, triple_exact, empty_text_least}
 use Rattle.tables.specs.Tables.{IsLeast, HasNone}
+use Rattle.tables.proofs.Options.{none_of}
+use Rattle.tables.proofs.Parts.{first_part_le, neither_above}
 use Rattle.reservation_book.specs.Places.{Place, triple_cmp, expiry_cmp, group_cmp, place_cmp}
 use Rattle.reservation_book.specs.declared.standing.TokenAt.{TokenAt}
 use Rattle.reservation_book.specs.Listed.{IsPlaceFor, IsPlaceOn, IsPlaceAfter}
@@ -39,18 +40,8 @@ pub place_exact : IsAntisymmetric place_cmp
 place_exact = pair_exact group_cmp expiry_cmp group_exact expiry_exact
 
 -- what is not above by two orders in turn is not above by the first, nor, where that ties, by the second
-pub first_le : (r s : Ordering) → is_gt (ordering_then r s) ≡ false → is_gt r ≡ false
-first_le Less s h = refl
-first_le Equal s h = refl
-first_le Greater s h = h
-
 second_le : (r s : Ordering) → r ≡ Equal → is_gt (ordering_then r s) ≡ false → is_gt s ≡ false
 second_le r s e h = subst (λ z. is_gt (ordering_then z s) ≡ false) e h
-
-neither_above : (r : Ordering) → is_gt r ≡ false → is_gt (ordering_reverse r) ≡ false → r ≡ Equal
-neither_above Less p q = absurd (let f : true ≡ false = q in cc)
-neither_above Equal p q = refl
-neither_above Greater p q = absurd (let f : true ≡ false = p in cc)
 
 -- what lies between equal keys is equal to them
 between : {A : Type 0} {R : A → A → Ordering} (o : IsTotalOrder R) (exact : IsAntisymmetric R) (a e : A) → is_gt (R a e) ≡ false → is_gt (R e a) ≡ false → e ≡ a
@@ -58,7 +49,7 @@ between {R = R} o exact a e above below = exact e a (neither_above (R e a) below
 
 module _ (a e q : Place) (low : IsLeBy place_cmp a e) (high : IsLeBy place_cmp e q) (group : a.0 ≡ q.0) where
   between_groups : e.0 ≡ q.0
-  between_groups = between group_total group_exact q.0 e.0 (subst (λ z. is_gt (group_cmp z e.0) ≡ false) group (first_le _ _ low)) (first_le _ _ high)
+  between_groups = between group_total group_exact q.0 e.0 (subst (λ z. is_gt (group_cmp z e.0) ≡ false) group (first_part_le _ _ low)) (first_part_le _ _ high)
 
   rest_low : is_gt (expiry_cmp a.1 e.1) ≡ false
   rest_low = second_le (group_cmp a.0 e.0) _ (subst (λ z. group_cmp a.0 z ≡ Equal) (group ∙ sym between_groups) (tied_itself group_total a.0)) low
@@ -69,15 +60,15 @@ module _ (a e q : Place) (low : IsLeBy place_cmp a e) (high : IsLeBy place_cmp e
   module _ (kind : a.1.0 ≡ q.1.0) where
     between_types : e.1.0 ≡ q.1.0
     between_types =
-        between nat_cmp_total nat_cmp-IsAntisymmetric q.1.0 e.1.0 (subst (λ z. is_gt (nat_cmp z e.1.0) ≡ false) kind (first_le _ _ (first_le _ _ rest_low)))
-        (first_le _ _ (first_le _ _ rest_high))
+        between nat_cmp_total nat_cmp-IsAntisymmetric q.1.0 e.1.0 (subst (λ z. is_gt (nat_cmp z e.1.0) ≡ false) kind (first_part_le _ _ (first_part_le _ _ rest_low)))
+        (first_part_le _ _ (first_part_le _ _ rest_high))
 
     between_evses : a.1.1 ≡ q.1.1 → e.1.1 ≡ q.1.1
     between_evses evse =
         between text_total text_exact q.1.1 e.1.1
         (subst (λ z. is_gt (text_cmp z e.1.1) ≡ false) evse
-        (second_le (nat_cmp a.1.0 e.1.0) _ (subst (λ z. nat_cmp a.1.0 z ≡ Equal) (kind ∙ sym between_types) (tied_itself nat_cmp_total a.1.0)) (first_le _ _ rest_low)))
-        (second_le (nat_cmp e.1.0 q.1.0) _ (subst (λ z. nat_cmp e.1.0 z ≡ Equal) between_types (tied_itself nat_cmp_total e.1.0)) (first_le _ _ rest_high))
+        (second_le (nat_cmp a.1.0 e.1.0) _ (subst (λ z. nat_cmp a.1.0 z ≡ Equal) (kind ∙ sym between_types) (tied_itself nat_cmp_total a.1.0)) (first_part_le _ _ rest_low)))
+        (second_le (nat_cmp e.1.0 q.1.0) _ (subst (λ z. nat_cmp e.1.0 z ≡ Equal) between_types (tied_itself nat_cmp_total e.1.0)) (first_part_le _ _ rest_high))
 
 -- places of one token are ordered by their EVSEs and ids
 pub by_spot : (a q : Place) → a.0 ≡ q.0 → a.1.0 ≡ q.1.0 → place_cmp a q ≡ text_pair_cmp (a.1.1, a.1.2) (q.1.1, q.1.2)
@@ -120,10 +111,6 @@ module _ (t : TokenAt) where
       ∙ subst (λ z. is_gt (text_cmp z q.1.2) ≡ false) (sym no_id) (empty_text_least q.1.2)
 
 -- a search from a bound on, of what passes: all that passes is within the bound
-none_of : {X : Type 0} (o : Option X) → (is_some o ≡ true → ⊥) → o ≡ None
-none_of None h = refl
-none_of (Some x) h = absurd (h refl)
-
 module _ {K X : Type 0} {R : K → K → Ordering} (m : FinMap R X) (P B : K → Type 0) (within : (q : K) → P q → B q) where
   pub first_passes : (e : K × X) → IsLeast R m B e → P e.0 → IsLeast R m P e
   first_passes e h passes = (h.0, passes, λ q p there. h.2 q (within q p) there)

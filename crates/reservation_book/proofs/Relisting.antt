@@ -10,7 +10,7 @@ use Rattle.reservation_book.specs.Places.{Key, expiry_cmp, place_cmp, expiry_key
 use Rattle.reservation_book.specs.Rows.{Reservations}
 use Rattle.reservation_book.specs.Listed.{AreListed}
 use Rattle.reservation_book.proofs.Orders.{expiry_total, expiry_exact, place_total, place_exact}
-use Rattle.reservation_book.proofs.Indexing.{nothing_listed, listed, relisted, unlisted, none_unlisted}
+use Rattle.tables.proofs.Indexing.{nothing_listed, listed, relisted, unlisted, none_unlisted}
 
 pub none_listed : (t : Listings) → shown_of expiry_cmp t.expiring ≡ empty → shown_of place_cmp t.places ≡ empty → AreListed empty t
 none_listed t e p = record {

@@ -1,11 +1,11 @@
 -- The room that is kept.
-use Rattle.std.proofs.Common.{◌≡◌, ℕ, List, true, false, refl, sym, ap, subst, ◌∙◌}
-use Rattle.std.specs.Prelude.{Option, IsTrue, is_some}
+use Rattle.std.proofs.Common.{◌≡◌, ℕ, List, true, false, refl, sym, subst}
+use Rattle.std.specs.Prelude.{Option, IsTrue}
 use Rattle.std.specs.declared.cmp.Ordering.{Ordering}
 use Rattle.std.specs.Cmp.{IsTotalOrder}
-use Rattle.std.specs.FinMap.{FinMap, IsAntisymmetric, contains_key, remove}
+use Rattle.std.specs.FinMap.{IsAntisymmetric, contains_key, remove}
 use Rattle.tables.specs.Tables.{shown_of, rooms_of}
-use Rattle.tables.proofs.Maps.{get-remove_other}
+use Rattle.tables.proofs.Maps.{others_keep}
 use Rattle.ocpi_types.specs.declared.rows.Row.TheVariants as row
 use Rattle.ocpi_types.specs.declared.rows.RowKey.TheVariants as keys
 use Rattle.ocpi_types.specs.declared.stored.Reservation.{Reservation}
@@ -14,14 +14,11 @@ use Rattle.reservation_book.specs.Rows.{Rooms, HasPlaces, KeepsRoom, KeepsOtherR
 
 module _ {K X : Type 0} {R : K → K → Ordering} (o : IsTotalOrder R) (exact : IsAntisymmetric R) where
   -- the room of other keys is kept when that of a key is given back
-  pub others_keep : (m : FinMap R X) (k q : K) → (q ≡ k → ⊥) → IsTrue (contains_key m q) → IsTrue (contains_key (remove m k) q)
-  others_keep m k q apart has = ap is_some (get-remove_other o exact m k q apart) ∙ has
-
   pub others_kept : (t u : List (K × Option X)) (k : K) → (IsTrue (contains_key (shown_of R t) k) → u ≡ t) → (contains_key (shown_of R t) k ≡ false → rooms_of R u ≡ remove (rooms_of R t) k) →
       (q : K) → (q ≡ k → ⊥) → IsTrue (contains_key (rooms_of R t) q) → IsTrue (contains_key (rooms_of R u) q)
   others_kept t u k used unused q apart has = elim (contains_key (shown_of R t) k) as (λ b. contains_key (shown_of R t) k ≡ b → IsTrue (contains_key (rooms_of R u) q)) [
     | true ↦ λ e. subst (λ z. IsTrue (contains_key (rooms_of R z) q)) (sym (used e)) has
-    | false ↦ λ e. subst (λ z. IsTrue (contains_key z q)) (sym (unused e)) (ap is_some (get-remove_other o exact (rooms_of R t) k q apart) ∙ has)
+    | false ↦ λ e. subst (λ z. IsTrue (contains_key z q)) (sym (unused e)) (others_keep o exact (rooms_of R t) k q apart has)
   ] refl
 
 pub keeps_room : (s t : Rooms) → ((q : Key) → IsTrue (contains_key s.marks q) → IsTrue (contains_key t.marks q)) → ((k : Key) (r : Reservation) → HasPlaces s k r → HasPlaces t k r) → KeepsRoom s t

@@ -1,20 +1,15 @@
 -- What finds reservations by their expiry and by their place.
 use Rattle.std.specs.Prelude.{◌≡◌, ℕ, List, Option, Some, None, IsTrue}
-use Rattle.std.specs.declared.cmp.Ordering.{Ordering}
-use Rattle.std.specs.FinMap.{FinMap, get, contains_key}
+use Rattle.std.specs.FinMap.{contains_key}
 use Rattle.std.specs.BTreeMap.Range.{IsLtBy}
 use Rattle.tables.specs.Keys.{text_pair_cmp}
 use Rattle.tables.specs.Tables.{shown_of, rooms_of}
+use Rattle.tables.specs.Indexes.{Indexes}
 use Rattle.ocpi_types.specs.declared.stored.Reservation.{Reservation}
 use Rattle.reservation_book.specs.Places.{Key, Expiry, Place, expiry_cmp, place_cmp, expiry_key, place_key, expiry_of, place_of, type_number}
 use Rattle.reservation_book.specs.declared.standing.TokenAt.{TokenAt}
 use Rattle.reservation_book.specs.Rows.{Reservations}
 use Rattle.reservation_book.specs.declared.listings.Listings.{Listings}
-
--- The index has the entry `entry k v` of each value v of the map, at k, and no other. The key is told by the entry.
-pub record Indexes {K I V : Type 0} {R : K → K → Ordering} {S : I → I → Ordering} (entry : K → V → I) (key : I → K) (m : FinMap R V) (index : FinMap S (Unit {0})) : Type 0 where
-  pub sound : (i : I) → get index i ≡ Some tt → (v : V) × (get m (key i) ≡ Some v) × (entry (key i) v ≡ i)
-  pub complete : (k : K) (v : V) → get m k ≡ Some v → get index (entry k v) ≡ Some tt
 
 -- all of these reservations are listed, and no others
 pub record AreListed (m : Reservations) (t : Listings) : Type 0 where

@@ -1,4 +1,9 @@
+pub mod Options
+pub mod Elements
 pub mod Ordered
 pub mod Slots
 pub mod Maps
+pub mod Entries
+pub mod Indexing
 pub mod Parts
+pub mod Ties

@@ -19,7 +19,8 @@ use Rattle.std.proofs.lemmas.Map.Keys.{sorted_head, sorted_tail}
 use Rattle.std.proofs.lemmas.List.{length-map}
 use Rattle.tables.specs.Tables.{shown_slot, shown, slot_keys, shown_of, rooms_of, entries_after}
 use Rattle.tables.proofs.Ordered.{both, looked, turned, in_order, no_entry, all_pass}
-use Rattle.tables.proofs.Maps.{equal_of_is_eq}
+use Rattle.tables.proofs.Options.{is_none}
+use Rattle.tables.proofs.Maps.{equal_of_is_eq, remove_absent, insert_present}
 
 -- whether there is a slot
 abbrev pub there : {X : Type 0} → Option X → Option (Unit {0})
@@ -37,10 +38,6 @@ is_some_there (Some x) = refl
 unit_there : (o : Option (Unit {0})) → is_some o ≡ true → o ≡ Some tt
 unit_there None e = absurd (let f : false ≡ true = e in cc)
 unit_there (Some x) e = refl
-
-is_none : {X : Type 0} (o : Option X) → is_some o ≡ false → o ≡ None
-is_none None e = refl
-is_none (Some x) e = absurd (let f : true ≡ false = e in cc)
 
 same_keys : {K X : Type 0} (es : List (K × Option X)) → keys_of (slot_keys es) ≡ keys_of es
 same_keys [] = refl
@@ -165,21 +162,6 @@ module _ {K X : Type 0} {R : K → K → Ordering} (exact : IsAntisymmetric R) w
   pub got : (es : List (K × Option X)) (q : K) → IsStrictlySortedBy R (keys_of es) → get (shown_of R es) q ≡ option_flatten (lookup (is_at (R q)) es)
   got es q h = get-from_sorted R (shown es) q (sorted_shown R es h) ∙ sym (looked R q (shown es)) ∙ looked_shown q es h
 
-module _ {K X : Type 0} {R : K → K → Ordering} (o : IsTotalOrder R) (exact : IsAntisymmetric R) where
-  removed_none : (m : FinMap R X) (k : K) → get m k ≡ None → remove m k ≡ m
-  removed_none m k none = same_map o exact _ _ (λ q. get-remove o m k q ∙
-      elim (eq_by_cmp R q k) as (λ b. eq_by_cmp R q k ≡ b → cond b None (get m q) ≡ get m q) [
-        | true ↦ λ e. sym none ∙ ap (get m) (sym (exact q k (equal_of_is_eq (R q k) e)))
-        | false ↦ λ e. refl
-      ] refl)
-
-  inserted_same : (m : FinMap R X) (k : K) (v : X) → get m k ≡ Some v → insert m k v ≡ m
-  inserted_same m k v some = same_map o exact _ _ (λ q. get-insert o m k v q ∙
-      elim (eq_by_cmp R q k) as (λ b. eq_by_cmp R q k ≡ b → cond b (Some v) (get m q) ≡ get m q) [
-        | true ↦ λ e. sym some ∙ ap (get m) (sym (exact q k (equal_of_is_eq (R q k) e)))
-        | false ↦ λ e. refl
-      ] refl)
-
 module _ {K : Type 0} {R : K → K → Ordering} (o : IsTotalOrder R) (m : FinMap R (Unit {0})) (k : K) where
   pub taken : contains_key (insert m k tt) k ≡ true
   taken = ap is_some (get-insert o m k tt k ∙ ap (λ b. cond b (Some tt) (get m k)) ((eq_by_cmp_equiv o).refl k))
@@ -213,11 +195,11 @@ module _ {K X : Type 0} {R : K → K → Ordering} (o : IsTotalOrder R) (exact :
 
   -- and there was no slot before
   pub still : option_flatten w ≡ None → contains_key (rooms_of R es) k ≡ false → shown_of R fs ≡ shown_of R es
-  still e none = cleared e ∙ removed_none o exact (shown_of R es) k (got exact es k s ∙ ap option_flatten (is_none _ (sym (has_room R es k s) ∙ none)))
+  still e none = cleared e ∙ remove_absent o exact (shown_of R es) k (got exact es k s ∙ ap option_flatten (is_none _ (sym (has_room R es k s) ∙ none)))
 
   -- and nothing was shown before
   pub still_hidden : option_flatten w ≡ None → contains_key (shown_of R es) k ≡ false → shown_of R fs ≡ shown_of R es
-  still_hidden e none = cleared e ∙ removed_none o exact (shown_of R es) k (is_none _ none)
+  still_hidden e none = cleared e ∙ remove_absent o exact (shown_of R es) k (is_none _ none)
 
   -- a slot stands there
   pub roomed : there w ≡ Some tt → rooms_of R fs ≡ insert (rooms_of R es) k tt
@@ -225,7 +207,7 @@ module _ {K X : Type 0} {R : K → K → Ordering} (o : IsTotalOrder R) (exact :
 
   -- and stood there before
   pub same_room : there w ≡ Some tt → contains_key (rooms_of R es) k ≡ true → rooms_of R fs ≡ rooms_of R es
-  same_room e had = roomed e ∙ inserted_same o exact (rooms_of R es) k tt (unit_there _ had)
+  same_room e had = roomed e ∙ insert_present o exact (rooms_of R es) k tt (unit_there _ had)
 
   -- no slot stands there
   pub unroomed : there w ≡ None → rooms_of R fs ≡ remove (rooms_of R es) k
@@ -234,17 +216,17 @@ module _ {K X : Type 0} {R : K → K → Ordering} (o : IsTotalOrder R) (exact :
 module _ {K X : Type 0} {R : K → K → Ordering} (o : IsTotalOrder R) (exact : IsAntisymmetric R) (es : List (K × Option X)) (k : K) (s : IsStrictlySortedBy R (keys_of es)) where
   -- room for a key that has it already
   pub room_again : contains_key (rooms_of R es) k ≡ true → rooms_of R es ≡ insert (rooms_of R es) k tt
-  room_again e = sym (inserted_same o exact (rooms_of R es) k tt (unit_there _ e))
+  room_again e = sym (insert_present o exact (rooms_of R es) k tt (unit_there _ e))
 
   -- a key with no slot has nothing to lose
   pub nothing_shown : lookup (is_at (R k)) es ≡ None → shown_of R es ≡ remove (shown_of R es) k
-  nothing_shown e = sym (removed_none o exact (shown_of R es) k (got exact es k s ∙ ap option_flatten e))
+  nothing_shown e = sym (remove_absent o exact (shown_of R es) k (got exact es k s ∙ ap option_flatten e))
 
   pub nothing_to_clear : contains_key (rooms_of R es) k ≡ false → shown_of R es ≡ remove (shown_of R es) k
   nothing_to_clear e = nothing_shown (is_none _ (sym (has_room R es k s) ∙ e))
 
   pub no_room_there : lookup (is_at (R k)) es ≡ None → rooms_of R es ≡ remove (rooms_of R es) k
-  no_room_there e = sym (removed_none o exact (rooms_of R es) k (room R es k s ∙ ap there e))
+  no_room_there e = sym (remove_absent o exact (rooms_of R es) k (room R es k s ∙ ap there e))
 
   pub room_missing : lookup (is_at (R k)) es ≡ None → contains_key (rooms_of R es) k ≡ true → ⊥
   room_missing none e = let f : false ≡ true = ap is_some (sym none) ∙ sym (has_room R es k s) ∙ e in cc

@@ -1,17 +1,14 @@
 -- Each token stands under its own key, whatever is put and dropped.
-use Rattle.std.proofs.Common.{◌≡◌, inl, inr, ap, ◌∙◌}
-use Rattle.std.specs.Prelude.{Some, None, Option}
+use Rattle.std.proofs.Common.{inl, inr, ap, ◌∙◌}
 use Rattle.std.specs.FinMap.{insert, remove, empty, get-empty}
+use Rattle.tables.proofs.Options.{not_both}
 use Rattle.tables.proofs.Maps.{of_insert, of_remove}
 use Rattle.ocpi_types.specs.declared.token.Token.{Token}
 use Rattle.token_desk.specs.Tokens.{Tokens, TokenKey, token_cmp, token_key, AreKeyed}
 use Rattle.token_desk.specs.TypeOrder.{tokens_total, tokens_exact}
 
-none_some : {X : Type 0} (x : X) (o : Option X) → o ≡ None → o ≡ Some x → ⊥
-none_some x o a b = cc
-
 pub keyed_empty : AreKeyed empty
-keyed_empty k t h = absurd (none_some t _ (get-empty token_cmp k) h)
+keyed_empty k t h = not_both t _ (get-empty token_cmp k) h
 
 pub keyed_insert : (m : Tokens) (t : Token) → AreKeyed m → AreKeyed (insert m (token_key t) t)
 keyed_insert m t h k u has =

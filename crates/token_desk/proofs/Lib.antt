@@ -1,5 +1,4 @@
 pub mod Keyed
 pub mod Lookups
 pub mod Numbers
-pub mod Entries
 pub mod Listed

@@ -1,12 +1,14 @@
 -- The rows of a desk, and the desk of its rows.
-use Rattle.std.proofs.Common.{◌≡◌, ◌≢◌, ◌↔◌, ℕ, zero, suc, List, [], ◌∷◌, ◌++◌, map, ◌⊎◌, inl, inr, true, false, cond, Bool, refl, sym, ap, subst, ◌∙◌, arith}
-use Rattle.std.specs.Prelude.{Option, Some, None, Contains, AllPairs}
-use Rattle.std.specs.FinMap.{get, insert, empty, entries, entries_sorted, same_map, get-empty, get-insert}
-use Rattle.std.specs.Ordering.{eq_by_cmp}
+use Rattle.std.proofs.Common.{◌≡◌, ◌≢◌, ◌↔◌, ℕ, zero, suc, List, [], ◌∷◌, ◌++◌, map, inl, inr, refl, sym, ap, subst, ◌∙◌, arith}
+use Rattle.std.specs.Prelude.{Some, Contains, AllPairs}
+use Rattle.std.specs.List.{AllByRecursion}
+use Rattle.std.specs.FinMap.{get, insert, empty, entries, same_map}
 use Rattle.std.proofs.lemmas.List.{append-nil}
 use Rattle.std.proofs.lemmas.List.Elements.{Contains-append_left, Contains-append_right, Contains-append_cases, All-map}
 use Rattle.std.proofs.lemmas.List.Kept.{AllPairs-cons}
-use Rattle.tables.proofs.Maps.{of_insert, get-insert_same}
+use Rattle.tables.proofs.Options.{same_option}
+use Rattle.tables.proofs.Elements.{in_none, in_single, in_front, all_elements}
+use Rattle.tables.proofs.Entries.{insert_all, listed_only, found_in, each_in, all_apart, all_entries}
 use Rattle.ocpi_types.specs.Rows.{key_of}
 use Rattle.ocpi_types.specs.declared.token.Token.{Token}
 use Rattle.ocpi_types.specs.declared.rows.Row.{Row}
@@ -14,10 +16,9 @@ use Rattle.ocpi_types.specs.declared.rows.Row.TheVariants as row
 use Rattle.ocpi_types.specs.declared.rows.RowKey.{RowKey}
 use Rattle.ocpi_types.specs.declared.rows.RowKey.TheVariants as keys
 use Rattle.ocpi_types.specs.declared.rows.Counter.TheVariants.{Serial, Request, Session, Cdr, Reference}
-use Rattle.token_desk.specs.Tokens.{Tokens, TokenKey, token_cmp, token_key, AreKeyed}
+use Rattle.token_desk.specs.Tokens.{Tokens, TokenKey, token_key, AreKeyed}
 use Rattle.token_desk.specs.TypeOrder.{tokens_total, tokens_exact}
 use Rattle.token_desk.specs.Stored.{Rows, HasRow, AreRowsOf, count_rows, with_token}
-use Rattle.token_desk.proofs.Entries.{in_none, in_single, in_front, in_map, of_map, listed, listed_only, each_apart, all_elements}
 
 abbrev pub token_row : TokenKey × Token → Row
 token_row e = row.Token e.1
@@ -29,13 +30,6 @@ Apart a b = key_of a ≢ key_of b
 abbrev key_in : RowKey → TokenKey → TokenKey
 key_in (keys.Token p type uid) k = ((type, uid), p)
 key_in r k = k
-
-is_some_known : {X : Type 0} (o : Option X) → (o ≡ None) ⊎ ((x : X) × (o ≡ Some x))
-is_some_known None = inl refl
-is_some_known (Some x) = inr (x, refl)
-
-none_some : {X : Type 0} (x : X) (o : Option X) → o ≡ None → o ≡ Some x → ⊥
-none_some x o a b = cc
 
 -- two desks with the same rows
 module _ (s t : Rows) (same : (r : Row) → HasRow s r ↔ HasRow t r) where
@@ -50,13 +44,7 @@ module _ (s t : Rows) (same : (r : Row) → HasRow s r ↔ HasRow t r) where
       subst (λ q. get n q ≡ Some u) (sym is) (f u (subst (λ q. get m q ≡ Some u) is has))
 
   same_tokens : AreKeyed s.tokens → AreKeyed t.tokens → (k : TokenKey) → get s.tokens k ≡ get t.tokens k
-  same_tokens ks kt k = elim (is_some_known (get s.tokens k)) [
-    | inl none ↦ elim (is_some_known (get t.tokens k)) [
-      | inl also ↦ none ∙ sym also
-      | inr (u, has) ↦ absurd (none_some u _ none (found_there t.tokens s.tokens kt (λ v. (same (row.Token v)).1) k u has))
-    ]
-    | inr (u, has) ↦ has ∙ sym (found_there s.tokens t.tokens ks (λ v. (same (row.Token v)).0) k u has)
-  ]
+  same_tokens ks kt k = same_option (get s.tokens k) (get t.tokens k) (found_there s.tokens t.tokens ks (λ v. (same (row.Token v)).0) k) (found_there t.tokens s.tokens kt (λ v. (same (row.Token v)).1) k)
 
   pub same_rows : AreKeyed s.tokens → AreKeyed t.tokens → s ≡ t
   same_rows ks kt =
@@ -80,10 +68,7 @@ module _ (s : Rows) (keyed : AreKeyed s.tokens) where
   count_stands (suc n) r e h = subst (HasRow s) (in_single _ r h) (e, λ z. omega arith)
 
   token_stands : (r : Row) → Contains (map token_row (entries s.tokens)) r → HasRow s r
-  token_stands r h =
-      let from = of_map token_row (entries s.tokens) r h in
-      let has = listed_only tokens_total tokens_exact s.tokens from.0.0 from.0.1 from.1 in
-      subst (HasRow s) from.2 (subst (λ q. get s.tokens q ≡ Some from.0.1) (keyed from.0.0 from.0.1 has) has)
+  token_stands = each_in tokens_total tokens_exact token_row s.tokens (HasRow s) (λ k t has. subst (λ q. get s.tokens q ≡ Some t) (keyed k t has) has)
 
   count_listed : (n m : ℕ) → s.references ≡ n → (s.references ≡ m) × (m ≢ 0) → Contains (count_rows n) (row.Count Reference m)
   count_listed zero m e h = absurd (h.1 (sym h.0 ∙ e))
@@ -98,14 +83,11 @@ module _ (s : Rows) (keyed : AreKeyed s.tokens) where
   is_listed (row.Count Session n) h = absurd h
   is_listed (row.Count Cdr n) h = absurd h
   is_listed (row.Count Reference n) h = Contains-append_left (count_rows s.references) _ _ (count_listed s.references n refl h)
-  is_listed (row.Token t) h = Contains-append_right (count_rows s.references) _ _ (in_map token_row (entries s.tokens) (token_key t, t) (listed tokens_total tokens_exact s.tokens (token_key t) t h))
+  is_listed (row.Token t) h = Contains-append_right (count_rows s.references) _ _ (found_in tokens_total tokens_exact token_row s.tokens (token_key t) t h)
   is_listed r h = absurd h
 
   tokens_apart : AllPairs Apart (map token_row (entries s.tokens))
-  tokens_apart =
-      each_apart tokens_total tokens_exact token_row Apart (λ (e : TokenKey × Token). e.0 ≡ token_key e.1)
-      (λ a b p q other same. other (p ∙ ap (λ r. key_in r (token_key a.1)) same ∙ sym q)) (entries s.tokens)
-      (all_elements _ (entries s.tokens) (λ e i. keyed e.0 e.1 (listed_only tokens_total tokens_exact s.tokens e.0 e.1 i))) (entries_sorted s.tokens)
+  tokens_apart = all_apart tokens_total tokens_exact token_row s.tokens Apart (λ a b p q other same. other (keyed a.0 a.1 p ∙ ap (λ r. key_in r (token_key a.1)) same ∙ sym (keyed b.0 b.1 q)))
 
   listing_apart : (n : ℕ) → AllPairs Apart (count_rows n ++ map token_row (entries s.tokens))
   listing_apart zero = tokens_apart
@@ -129,81 +111,29 @@ listing_is s keyed items front es all none first every done =
     sym (append-nil items) ∙ ap (λ (l : List (TokenKey × Token)). items ++ map token_row l) (sym none) ∙ done ∙ (λ i. first i ++ map token_row (every i)) in
     subst (AreRowsOf s) (sym is) (rows_are s keyed)
 
--- a desk n that has some of the tokens of m, and is still to get the others
+-- The entries es, put one after the other, make n the map m. Each is of a token under its own key.
 pub record Copied (m n : Tokens) (es : List (TokenKey × Token)) : Type 0 where
-  pub has : (k : TokenKey) (t : Token) → get n k ≡ Some t → get m k ≡ Some t
-  pub reached : (k : TokenKey) (t : Token) → get m k ≡ Some t → (get n k ≡ Some t) ⊎ Contains es (k, t)
-  pub rest : (k : TokenKey) (t : Token) → Contains es (k, t) → get m k ≡ Some t
-
-pub copied_none : (m : Tokens) → Copied m empty (entries m)
-copied_none m = record {
-  has = λ k t h. absurd (none_some t _ (get-empty token_cmp k) h);
-  reached = λ k t h. inr (listed tokens_total tokens_exact m k t h);
-  rest = λ k t i. listed_only tokens_total tokens_exact m k t i;
-}
-
--- what has no value after one was put in had none before
-none_before : (n : Tokens) (k j : TokenKey) (t : Token) → get (insert n k t) j ≡ None → get n j ≡ None
-none_before n k j t none = go (eq_by_cmp token_cmp j k) (sym (get-insert tokens_total n k t j) ∙ none)
-  where
-    go : (b : Bool) → cond b (Some t) (get n j) ≡ None → get n j ≡ None
-    go true e = absurd (cc)
-    go false e = e
-
-module _ (m n : Tokens) (keyed : AreKeyed m) where
-  pub copied_one : (e : TokenKey × Token) (es : List (TokenKey × Token)) → Copied m n (e ∷ es) → Copied m (insert n (token_key e.1) e.1) es
-  copied_one e es h =
-      let stood : get m e.0 ≡ Some e.1 = h.rest e.0 e.1 (in_front e es) in
-      let own : e.0 ≡ token_key e.1 = keyed e.0 e.1 stood in
-      let there : get m (token_key e.1) ≡ Some e.1 = subst (λ q. get m q ≡ Some e.1) own stood in
-      record {
-        has = λ k t g. elim (of_insert tokens_total tokens_exact n (token_key e.1) e.1 k t g) [
-          | inl i ↦ ap (get m) i.0 ∙ there ∙ ap Some i.1
-          | inr i ↦ h.has k t i
-        ];
-        reached = λ k t g. elim (h.reached k t g) [
-          | inl i ↦ elim (is_some_known (get (insert n (token_key e.1) e.1) k)) [
-            | inl none ↦ absurd (none_some t _ (none_before n (token_key e.1) k e.1 none) i)
-            | inr (u, is) ↦ elim (of_insert tokens_total tokens_exact n (token_key e.1) e.1 k u is) [
-              | inl j ↦ inl (is ∙ sym (ap Some j.1) ∙ sym there ∙ ap (get m) (sym j.0) ∙ g)
-              | inr j ↦ inl (is ∙ sym j ∙ i)
-            ]
-          ]
-          | inr i ↦ elim (Contains-append_cases (e ∷ []) es (k, t) i) [
-            | inl j ↦
-                let same : e ≡ (k, t) = in_single e (k, t) j in
-                let key_is : k ≡ token_key e.1 = ap (λ (x : TokenKey × Token). x.0) (sym same) ∙ own in
-                let token_is : e.1 ≡ t = ap (λ (x : TokenKey × Token). x.1) same in
-                inl (ap (get (insert n (token_key e.1) e.1)) key_is ∙ get-insert_same tokens_total tokens_exact n (token_key e.1) e.1 ∙ ap Some token_is)
-            | inr j ↦ inr j
-          ]
-        ];
-        rest = λ k t i. h.rest k t (Contains-append_right (e ∷ []) es (k, t) i);
-      }
-
-  pub copied_all : Copied m n [] → n ≡ m
-  copied_all h = same_map tokens_total tokens_exact n m (λ k.
-      elim (is_some_known (get m k)) [
-        | inl none ↦ elim (is_some_known (get n k)) [
-          | inl also ↦ also ∙ sym none
-          | inr (u, is) ↦ absurd (none_some u _ none (h.has k u is))
-        ]
-        | inr (u, is) ↦ elim (h.reached k u is) [ inl i ↦ i ∙ sym is | inr i ↦ absurd (in_none (k, u) i) ]
-      ])
+  pub rest : insert_all es n ≡ m
+  pub own : AllByRecursion (λ (e : TokenKey × Token). e.0 ≡ token_key e.1) es
 
 -- a desk that is filled with the tokens of another
-pub copied_start : (m n : Tokens) (es : List (TokenKey × Token)) → n ≡ empty → es ≡ entries m → Copied m n es
-copied_start m n es none all = subst (λ l. Copied m n l) (sym all) (subst (λ x. Copied m x (entries m)) (sym none) (copied_none m))
+pub copied_start : (m n : Tokens) (es : List (TokenKey × Token)) → AreKeyed m → n ≡ empty → es ≡ entries m → Copied m n es
+copied_start m n es keyed none all = subst (λ l. Copied m n l) (sym all) (subst (λ x. Copied m x (entries m)) (sym none) (record {
+  rest = all_entries tokens_total tokens_exact m;
+  own = all_elements (λ (e : TokenKey × Token). e.0 ≡ token_key e.1) (entries m) (λ e i. keyed e.0 e.1 (listed_only tokens_total tokens_exact m e.0 e.1 i));
+}))
 
-pub copied_next : (m : Tokens) → AreKeyed m → (s t : Rows) (last : ℕ) (e : TokenKey × Token) (es fs : List (TokenKey × Token)) → es ≡ e ∷ fs → t ≡ with_token e.1 s →
+pub copied_next : (m : Tokens) (s t : Rows) (last : ℕ) (e : TokenKey × Token) (es fs : List (TokenKey × Token)) → es ≡ e ∷ fs → t ≡ with_token e.1 s →
     Copied m s.tokens es × (s.references ≡ last) → Copied m t.tokens fs × (t.references ≡ last)
-copied_next m keyed s t last e es fs steps is h = (
-  subst (λ x. Copied m x fs) (sym (ap (λ (z : Rows). z.tokens) is)) (copied_one m s.tokens keyed e fs (subst (Copied m s.tokens) steps h.0)),
-  ap (λ (z : Rows). z.references) is ∙ h.1,
-)
+copied_next m s t last e es fs steps is h =
+    let all : Copied m s.tokens (e ∷ fs) = subst (Copied m s.tokens) steps h.0 in (
+      record { rest = (λ i. insert_all fs ((is i).tokens)) ∙ ap (λ k. insert_all fs (insert s.tokens k e.1)) (sym all.own.0) ∙ all.rest; own = all.own.1 },
+      ap (λ (z : Rows). z.references) is ∙ h.1,
+    )
 
-pub copied_end : (s t : Rows) (es : List (TokenKey × Token)) → AreKeyed t.tokens → es ≡ [] → Copied t.tokens s.tokens es × (s.references ≡ t.references) → s ≡ t
-copied_end s t es keyed none h =
-    let tokens : s.tokens ≡ t.tokens = copied_all t.tokens s.tokens keyed (subst (Copied t.tokens s.tokens) none h.0) in
+pub copied_end : (s t : Rows) (es : List (TokenKey × Token)) → es ≡ [] → Copied t.tokens s.tokens es × (s.references ≡ t.references) → s ≡ t
+copied_end s t es none h =
+    let all : Copied t.tokens s.tokens [] = subst (Copied t.tokens s.tokens) none h.0 in
+    let tokens : s.tokens ≡ t.tokens = all.rest in
     let references : s.references ≡ t.references = h.1 in
     λ i. record { tokens = tokens i; references = references i }

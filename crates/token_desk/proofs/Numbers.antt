@@ -3,6 +3,7 @@ use Rattle.std.proofs.Common.{◌≡◌, ℕ, ◌<◌, ◌≤◌, List, [], ◌�
 use Rattle.std.specs.Prelude.{◌≢◌, Ok, AllPairs}
 use Rattle.std.proofs.lemmas.List.Elements.{All-nil, All-cons}
 use Rattle.std.proofs.lemmas.List.Kept.{AllPairs-cons}
+use Rattle.tables.proofs.Elements.{no_pairs}
 use Rattle.ocpi_text.specs.Party.{party_at}
 use Rattle.ocpi_text.specs.Whole.{max_whole}
 use Rattle.ocpi_text.specs.OwnIds.{own_id_text}
@@ -13,9 +14,6 @@ use Rattle.token_desk.specs.References.{reference_of, AreGiven, NeverRepeat}
 
 abbrev Differ : Reference → Reference → Type 0
 Differ r s = r.text ≢ s.text
-
-nothing_pairs : AllPairs Differ []
-nothing_pairs i j d lt short = absurd (omega arith)
 
 module _ (party : List ℕ) (is : party_at party ≡ Ok party) where
   apart : (r s : Reference) → r ≡ reference_of party r.number → s ≡ reference_of party s.number → r.number < s.number → s.number ≤ max_whole → Differ r s
@@ -33,7 +31,7 @@ module _ (party : List ℕ) (is : party_at party ≡ Ok party) where
       All-cons (Differ r) s rs (apart r s a h.2 (let above = h.0 in omega arith) h.1) (later_differ r s.number rs a (let above = h.0 in omega arith) h.3)
 
   all_differ : (last : ℕ) (rs : List Reference) → AreGiven party last rs → AllPairs Differ rs
-  all_differ last [] h = nothing_pairs
+  all_differ last [] h = no_pairs Differ
   all_differ last (r ∷ rs) h = AllPairs-cons Differ r rs (later_differ r r.number rs h.2 (omega arith) h.3) (all_differ r.number rs h.3)
 
 pub never_repeat : NeverRepeat

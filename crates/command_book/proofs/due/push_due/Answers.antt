@@ -1,7 +1,7 @@
 use Rattle.std.proofs.Common.{◌++◌, sym, ap, ◌∙◌}
 use Rattle.command_book.specs.Queue.{due_front}
 use Rattle.command_book.proofs.DueFront.{front_more, front_ends}
-use Rattle.command_book.proofs.Steps.{one_more, none_left}
+use Rattle.tables.proofs.Elements.{one_more, none_left}
 use Rattle.command_book.proofs.due.push_due.Goals as goal
 
 pub loop-key-preserved : goal.loop-key-preserved

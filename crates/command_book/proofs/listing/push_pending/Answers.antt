@@ -1,7 +1,7 @@
 use Rattle.std.proofs.Common.{◌∷◌, ◌++◌, map, sym, ap, ◌∙◌}
 use Rattle.ocpi_types.specs.declared.rows.Row.TheVariants as row
 use Rattle.command_book.specs.Listing.{pending_row}
-use Rattle.command_book.proofs.Steps.{one_more, none_left}
+use Rattle.tables.proofs.Elements.{one_more, none_left}
 use Rattle.command_book.proofs.listing.push_pending.Goals as goal
 
 pub loop-request-preserved : goal.loop-request-preserved

@@ -1,6 +1,6 @@
 use Rattle.std.proofs.Common.{◌++◌, map, ap, ◌∙◌}
 use Rattle.command_book.specs.Listing.{reply_row}
-use Rattle.command_book.proofs.Steps.{one_more, none_left}
+use Rattle.tables.proofs.Elements.{one_more, none_left}
 use Rattle.command_book.proofs.listing.push_replies.Goals as goal
 
 pub loop-request-preserved : goal.loop-request-preserved

@@ -1,4 +1,4 @@
-use Rattle.std.proofs.Common.{◌≡◌, ◌∙◌, refl, sym, ap, subst, ◌^◌, arith}
+use Rattle.std.proofs.Common.{refl, subst, ◌^◌, arith}
 use Rattle.std.specs.Prelude.{◌<◌, unsigned_abs}
 use Rattle.std.proofs.lemmas.Option.{slice_get_read}
 use Rattle.ocpi_text.specs.Decimal.{e4_limit}

@@ -1,4 +1,4 @@
-use Rattle.std.proofs.Common.{◌≡◌, ◌*◌, ◌≤◌}
+use Rattle.std.proofs.Common.{◌*◌, ◌≤◌}
 use Rattle.std.specs.Prelude.{take, unsigned_abs}
 use Rattle.ocpi_text.specs.Decimal.{e4_limit}
 use Rattle.tables.specs.Keys.{text_pair_cmp}

@@ -1,6 +1,6 @@
 use Rattle.std.proofs.Common.{◌++◌, map, ap, ◌∙◌}
 use Rattle.reservation_book.specs.Rows.{reservation_row}
-use Rattle.reservation_book.proofs.Entries.{one_more, none_left}
+use Rattle.tables.proofs.Elements.{one_more, none_left}
 use Rattle.reservation_book.proofs.all_rows.push_reservations.Goals as goal
 
 pub loop-key-preserved : goal.loop-key-preserved

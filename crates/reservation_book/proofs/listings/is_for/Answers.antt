@@ -1,7 +1,7 @@
 use Rattle.std.proofs.Common.{◌∙◌}
 use Rattle.std.proofs.lemmas.Bool.{eqb-true}
 use Rattle.reservation_book.proofs.Orders.{group_total, group_exact}
-use Rattle.reservation_book.proofs.Ties.{same_when_tied, apart_when_not}
+use Rattle.tables.proofs.Ties.{same_when_tied, apart_when_not}
 use Rattle.reservation_book.proofs.listings.is_for.Goals as goal
 
 pub returns-then-is_eq-clause-yes : goal.returns-then-is_eq-clause-yes

@@ -1,5 +1,5 @@
 use Rattle.tables.specs.Keys.{text_total, text_exact}
-use Rattle.reservation_book.proofs.Ties.{same_when_tied, apart_when_not}
+use Rattle.tables.proofs.Ties.{same_when_tied, apart_when_not}
 use Rattle.reservation_book.proofs.listings.is_on.Goals as goal
 
 pub returns-then-is_for-clause-yes : goal.returns-then-is_for-clause-yes

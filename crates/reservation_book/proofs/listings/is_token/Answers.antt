@@ -2,7 +2,7 @@ use Rattle.std.proofs.Common.{sym, ap, ◌∙◌}
 use Rattle.std.proofs.lemmas.Bool.{eqb-true}
 use Rattle.tables.specs.Keys.{text_cmp, text_total, text_exact}
 use Rattle.reservation_book.proofs.Finding.{one_type}
-use Rattle.reservation_book.proofs.Ties.{same_when_tied, apart_when_not}
+use Rattle.tables.proofs.Ties.{same_when_tied, apart_when_not}
 use Rattle.reservation_book.proofs.listings.is_token.Goals as goal
 
 pub returns-then-is_eq-clause-yes : goal.returns-then-is_eq-clause-yes

@@ -1,5 +1,6 @@
 use Rattle.std.proofs.Common.{sym, ◌∙◌}
-use Rattle.command_book.proofs.Cases.{not_true, none_contained}
+use Rattle.tables.proofs.Options.{none_contained}
+use Rattle.command_book.proofs.Cases.{not_true}
 use Rattle.command_book.proofs.book.CommandBook.may_open.Goals as goal
 use Rattle.command_book.proofs.book.CommandBook.may_open.Goals.{then-contains-via-then-contains, then-contains-via-else-contains+then-contains-2}
 

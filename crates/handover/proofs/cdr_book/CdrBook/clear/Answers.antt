@@ -1,10 +1,8 @@
-use Rattle.std.proofs.Common.{◌≡◌, Some, sym, ap, ◌∙◌, arith, option_copied, Bor}
+use Rattle.std.proofs.Common.{sym, ap, ◌∙◌, arith, option_copied, Bor}
 use Rattle.std.specs.Prelude.{Option}
 use Rattle.std.proofs.lemmas.Int.{ints}
-use Rattle.std.specs.FinMap.{get}
 use Rattle.ocpi_types.specs.declared.cdrs.Cdr.{Cdr}
 use Rattle.tables.specs.Keys.{text_pair_cmp, text_pair_total, text_pair_exact}
-use Rattle.tables.specs.Tables.{shown_of}
 use Rattle.handover.proofs.Totals.{nothing_removed}
 use Rattle.handover.proofs.Keeping.{sum_bound, account_room, cleared}
 use Rattle.handover.proofs.cdr_book.CdrBook.clear.Goals as goal

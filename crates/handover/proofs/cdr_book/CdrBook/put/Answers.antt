@@ -1,4 +1,3 @@
-use Rattle.std.proofs.Common.{◌≡◌, sym, ap, ◌∙◌}
 use Rattle.tables.specs.Keys.{text_pair_total, text_pair_exact}
 use Rattle.tables.proofs.Maps.{get-remove_same}
 use Rattle.handover.proofs.Keeping.{put_anew}

@@ -1,15 +1,14 @@
-use Rattle.std.proofs.Common.{◌≡◌, ◌∙◌, ℕ, Some, None, sym, ap, subst, refl, option_copied, Bor}
-use Rattle.std.specs.Prelude.{Option, is_some, IsTrue}
+use Rattle.std.proofs.Common.{◌∙◌, sym, ap, subst, option_copied, Bor}
+use Rattle.std.specs.Prelude.{Option, is_some}
 use Rattle.std.specs.Ordering.{nat_cmp}
 use Rattle.std.specs.Cmp.{nat_cmp_total}
-use Rattle.std.specs.FinMap.{FinMap, nat_cmp-IsAntisymmetric, get, contains_key}
+use Rattle.std.specs.FinMap.{nat_cmp-IsAntisymmetric, get, remove}
 use Rattle.tables.proofs.Maps.{get-remove_same}
 use Rattle.handover.specs.declared.push_book.Outgoing.{Outgoing}
-use Rattle.handover.specs.declared.push_book.Subject.{Subject}
-use Rattle.handover.specs.Pushes.{Pushes, PushRooms, HasRoomOfPush, HeldPushes, subject_of}
+use Rattle.handover.specs.Pushes.{Pushes, PushRooms, HasRoomOfPush, HeldPushes}
 use Rattle.handover.proofs.Totals.{nothing_removed}
-use Rattle.handover.proofs.Indexing.{clear_some, clear_none, fill_some, fill_none, replaced_some, replaced_none, put_anew, unlisted_number}
-use Rattle.handover.proofs.PushRoom.{zero_least, keeps_push_room, lost_push, lost_with_subject, subject_room, failed}
+use Rattle.handover.proofs.Indexing.{unlisted_number}
+use Rattle.handover.proofs.PushRoom.{lost_push, lost_with_subject}
 use Rattle.handover.proofs.push_book.PushBook.remove.Goals as goal
 
 pub returns-in_default-clause-pushes : goal.returns-in_default-clause-pushes
@@ -32,3 +31,15 @@ returns-in_default-subject-clause-rooms c =
     let gone = ap (λ (v : HeldPushes). get v.pushes c.args.number) c.self-2.view_is ∙ ap (λ (m : Pushes). get m c.args.number) c.clear.ensures.pushes ∙ get-remove_same nat_cmp_total nat_cmp-IsAntisymmetric _ _ in
     let rooms = ap (λ (v : HeldPushes). v.rooms) c.self-2.view_is ∙ c.clear.ensures.rooms in
     λ n u apart room. lost_push _ _ c.args.number (c.release-2.ensures.unused (ap is_some gone)) n u apart (subst (λ r. HasRoomOfPush r n u) (sym rooms) room)
+
+pub returns-in-Some-subject-clause-slots : goal.returns-in-Some-subject-clause-slots
+returns-in-Some-subject-clause-slots c =
+    let gone = ap (λ (v : HeldPushes). get v.pushes c.args.number) c.self-2.view_is ∙ ap (λ (m : Pushes). get m c.args.number) c.clear.ensures.pushes ∙ get-remove_same nat_cmp_total nat_cmp-IsAntisymmetric _ _ in
+    let rooms = ap (λ (v : HeldPushes). v.rooms) c.self-2.view_is ∙ c.clear.ensures.rooms in
+    c.release-2.ensures.unused (ap is_some gone) ∙ ap (λ (r : PushRooms). remove r.pushes c.args.number) rooms
+
+pub returns-in_default-subject-clause-slots : goal.returns-in_default-subject-clause-slots
+returns-in_default-subject-clause-slots c =
+    let gone = ap (λ (v : HeldPushes). get v.pushes c.args.number) c.self-2.view_is ∙ ap (λ (m : Pushes). get m c.args.number) c.clear.ensures.pushes ∙ get-remove_same nat_cmp_total nat_cmp-IsAntisymmetric _ _ in
+    let rooms = ap (λ (v : HeldPushes). v.rooms) c.self-2.view_is ∙ c.clear.ensures.rooms in
+    c.release-2.ensures.unused (ap is_some gone) ∙ ap (λ (r : PushRooms). remove r.pushes c.args.number) rooms

@@ -1,15 +1,5 @@
-use Rattle.std.proofs.Common.{◌≡◌, ◌∙◌, ℕ, Some, None, sym, ap, subst, refl, option_copied, Bor}
-use Rattle.std.specs.Prelude.{Option, is_some, IsTrue}
-use Rattle.std.specs.Ordering.{nat_cmp}
-use Rattle.std.specs.Cmp.{nat_cmp_total}
-use Rattle.std.specs.FinMap.{FinMap, nat_cmp-IsAntisymmetric, get, contains_key}
-use Rattle.tables.proofs.Maps.{get-remove_same}
-use Rattle.handover.specs.declared.push_book.Outgoing.{Outgoing}
-use Rattle.handover.specs.declared.push_book.Subject.{Subject}
-use Rattle.handover.specs.Pushes.{Pushes, PushRooms, HasRoomOfPush, HeldPushes, subject_of}
-use Rattle.handover.proofs.Totals.{nothing_removed}
-use Rattle.handover.proofs.Indexing.{clear_some, clear_none, fill_some, fill_none, replaced_some, replaced_none, put_anew, unlisted_number}
-use Rattle.handover.proofs.PushRoom.{zero_least, keeps_push_room, lost_push, lost_with_subject, subject_room, failed}
+use Rattle.std.proofs.Common.{◌∙◌, sym}
+use Rattle.handover.proofs.PushRoom.{other_slot, keeps_push_room, subject_room, failed}
 use Rattle.handover.proofs.push_book.PushBook.reserve.Goals as goal
 
 pub returns-in_err-reserve-clause-again : goal.returns-in_err-reserve-clause-again
@@ -23,3 +13,9 @@ returns-in-None-clause-keeps c = rw (← c.self.view_is) (keeps_push_room _ _ c.
 
 pub returns-in-Some-clause-again : goal.returns-in-Some-clause-again
 returns-in-Some-clause-again c = rw (← c.self.view_is) (λ had. c.reserve-in-Some.ensures.again (subject_room _ _ _ _ (sym c.subject_of.ensures ∙ c.in-Some.is) had.of_subject))
+
+pub returns-in-Some-clause-slots : goal.returns-in-Some-clause-slots
+returns-in-Some-clause-slots c = rw (← c.self.view_is) (λ n apart had. other_slot _ _ c.args.number c.in_ok-reserve.ensures.room n apart had)
+
+pub returns-in-None-clause-slots : goal.returns-in-None-clause-slots
+returns-in-None-clause-slots c = rw (← c.self.view_is) (λ n apart had. other_slot _ _ c.args.number c.in_ok-reserve.ensures.room n apart had)

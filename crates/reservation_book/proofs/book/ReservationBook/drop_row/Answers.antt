@@ -1,5 +1,6 @@
 use Rattle.tables.specs.Keys.{text_pair_total, text_pair_exact}
-use Rattle.reservation_book.proofs.Rooms.{others_keep, keeps_but_mark}
+use Rattle.tables.proofs.Maps.{others_keep}
+use Rattle.reservation_book.proofs.Rooms.{keeps_but_mark}
 use Rattle.reservation_book.proofs.book.ReservationBook.drop_row.Goals as goal
 
 pub returns-in-Mark-clause-keeps : goal.returns-in-Mark-clause-keeps

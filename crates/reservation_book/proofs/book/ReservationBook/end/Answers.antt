@@ -1,9 +1,9 @@
 use Rattle.std.proofs.Common.{sym, ◌∙◌}
 use Rattle.tables.specs.Keys.{text_pair_total, text_pair_exact}
 use Rattle.reservation_book.proofs.Orders.{expiry_total, expiry_exact, place_total, place_exact}
-use Rattle.reservation_book.proofs.Rooms.{others_keep}
+use Rattle.tables.proofs.Maps.{others_keep}
 use Rattle.reservation_book.proofs.Relisting.{taken_out, none_taken_out, expiries_apart, places_apart}
-use Rattle.reservation_book.proofs.Indexing.{none_else}
+use Rattle.tables.proofs.Options.{none_else}
 use Rattle.reservation_book.proofs.book.ReservationBook.end.Goals as goal
 
 pub invariant_of-self : goal.invariant_of-self

@@ -1,0 +1,229 @@
+-- When pushes are due, as they are put, sent and dropped.
+use Rattle.std.proofs.Common.{◌≡◌, ◌≢◌, ◌⊎◌, ◌≤◌, inl, inr, ℕ, true, false, refl, sym, ap, subst, ◌∙◌, arith}
+use Rattle.std.specs.Prelude.{Option, Some, None, IsTrue, IfSome, IfNone, is_some}
+use Rattle.std.specs.Ordering.{nat_cmp, is_gt}
+use Rattle.std.specs.BTreeMap.Range.{IsLeBy}
+use Rattle.std.proofs.lemmas.Map.Keys.{le_from_not_gt}
+use Rattle.std.proofs.lemmas.Bool.Decides.{nat_tests}
+use Rattle.tables.specs.Tables.{IsLeast, HasNone}
+use Rattle.std.specs.declared.cmp.Ordering.{Ordering}
+use Rattle.std.specs.Cmp.{IsTotalOrder, nat_cmp_total}
+use Rattle.std.proofs.lemmas.Cmp.{on_total, then_total}
+use Rattle.std.specs.FinMap.{FinMap, IsAntisymmetric, nat_cmp-IsAntisymmetric, empty, get, insert, remove, contains_key, get-empty, same_map}
+use Rattle.tables.specs.Keys.{pair_exact}
+use Rattle.tables.proofs.Maps.{of_insert, of_remove, get-insert_same, get-insert_other, get-remove_same, get-remove_other}
+use Rattle.handover.specs.Resend.{Numbers, Resend, Moments, moment_number_cmp, unqueued, IsQueue, TimeRooms, HasRoomOfNumber, AreTimes}
+use Rattle.handover.proofs.Totals.{told}
+
+pub queue_total : IsTotalOrder moment_number_cmp
+queue_total = then_total (on_total (λ (p : ℕ × ℕ). p.0) nat_cmp_total) (on_total (λ (p : ℕ × ℕ). p.1) nat_cmp_total)
+
+pub queue_exact : IsAntisymmetric moment_number_cmp
+queue_exact = pair_exact nat_cmp nat_cmp nat_cmp-IsAntisymmetric nat_cmp-IsAntisymmetric
+
+pub none_some : {A X : Type 0} (x : X) → None ≡ Some x → A
+none_some {A = A} {X = X} x e = absurd (let f : ◌≡◌ {A = Option X} None (Some x) = e in cc)
+
+pub same_value : {X : Type 0} (x y : X) → Some x ≡ Some y → x ≡ y
+same_value x y e = cc
+
+not_none : {X : Type 0} (o : Option X) → IsTrue (is_some o) → o ≡ None → ⊥
+not_none None had e = let bad : false ≡ true = had in cc
+not_none (Some x) had e = none_some x (sym e)
+
+pub has_some : {X : Type 0} (o : Option X) → IsTrue (is_some o) → (x : X) × (o ≡ Some x)
+has_some None had = absurd (let bad : false ≡ true = had in cc)
+has_some (Some x) had = (x, refl)
+
+pub has_unit : (o : Option (Unit {0})) → IsTrue (is_some o) → o ≡ Some tt
+has_unit None had = absurd (let bad : false ≡ true = had in cc)
+has_unit (Some tt) had = refl
+
+module _ {K X : Type 0} {R : K → K → Ordering} (o : IsTotalOrder R) (exact : IsAntisymmetric R) (m : FinMap R X) (k : K) where
+  pub put_has : (v : X) → IsTrue (contains_key (insert m k v) k)
+  put_has v = ap is_some (get-insert_same o exact m k v)
+
+  pub put_keeps : (v : X) (q : K) → IsTrue (contains_key m q) → IsTrue (contains_key (insert m k v) q)
+  put_keeps v q had = elim (told o exact q k) [
+    | inl same ↦ subst (λ z. IsTrue (contains_key (insert m k v) z)) (sym same) (put_has v)
+    | inr apart ↦ ap is_some (get-insert_other o exact m k v q apart) ∙ had
+  ]
+
+  pub put_or : (v : X) (q : K) → IsTrue (contains_key (insert m k v) q) → (q ≡ k) ⊎ ((q ≢ k) × IsTrue (contains_key m q))
+  put_or v q had = elim (told o exact q k) [
+    | inl same ↦ inl same
+    | inr apart ↦ inr (apart, sym (ap is_some (get-insert_other o exact m k v q apart)) ∙ had)
+  ]
+
+  pub gone : IsTrue (contains_key (remove m k) k) → ⊥
+  gone had = not_none (get (remove m k) k) had (get-remove_same o exact m k)
+
+  pub stays : (q : K) → q ≢ k → IsTrue (contains_key m q) → IsTrue (contains_key (remove m k) q)
+  stays q apart had = ap is_some (get-remove_other o exact m k q apart) ∙ had
+
+  pub stood : (q : K) → IsTrue (contains_key (remove m k) q) → (q ≢ k) × IsTrue (contains_key m q)
+  stood q had = elim (told o exact q k) [
+    | inl same ↦ absurd (gone (subst (λ z. IsTrue (contains_key (remove m k) z)) same had))
+    | inr apart ↦ (apart, sym (ap is_some (get-remove_other o exact m k q apart)) ∙ had)
+  ]
+
+pub put_had : {K : Type 0} {R : K → K → Ordering} (o : IsTotalOrder R) (exact : IsAntisymmetric R) (m : FinMap R (Unit {0})) (k : K) → IsTrue (contains_key m k) → insert m k tt ≡ m
+put_had o exact m k had = same_map o exact _ _ (λ q. elim (told o exact q k) [
+  | inl same ↦ ap (get (insert m k tt)) same ∙ get-insert_same o exact m k tt ∙ sym (ap (get m) same ∙ has_unit (get m k) had)
+  | inr apart ↦ get-insert_other o exact m k tt q apart
+])
+
+pub has_none : {K : Type 0} (X : Type 0) (R : K → K → Ordering) (q : K) → IsTrue (contains_key (empty {X = X} {R = R}) q) → ⊥
+has_none X R q had = not_none (get (empty {X = X} {R = R}) q) had (get-empty R q)
+
+number_apart : (moment d number n : ℕ) → number ≢ n → ◌≢◌ {A = ℕ × ℕ} (moment, number) (d, n)
+number_apart moment d number n apart same = apart (λ i. (same i).1)
+
+-- the others stay in the queue
+unqueued_other : (o : Option ℕ) (n : ℕ) (queue : Moments) (moment number : ℕ) → number ≢ n → get (unqueued o n queue) (moment, number) ≡ get queue (moment, number)
+unqueued_other None n queue moment number apart = refl
+unqueued_other (Some d) n queue moment number apart = get-remove_other queue_total queue_exact queue (d, n) (moment, number) (number_apart moment d number n apart)
+
+-- and of the number itself what does not stand by the moment that is taken out
+unqueued_own : (o : Option ℕ) (n : ℕ) (queue : Moments) (moment : ℕ) → get (unqueued o n queue) (moment, n) ≡ Some tt → (get queue (moment, n) ≡ Some tt) × ((d : ℕ) → o ≡ Some d → moment ≢ d)
+unqueued_own None n queue moment has = (has, λ d e. none_some d e)
+unqueued_own (Some e) n queue moment has =
+    let was = of_remove queue_total queue_exact queue (e, n) (moment, n) tt has in
+    (was.1, λ d is same. was.0 (let until : e ≡ d = same_value e d is in λ i. ((same ∙ sym until) i, n)))
+
+module _ (queue : Moments) (resend : Resend) (h : IsQueue queue resend) (n : ℕ) where
+  queue_out : IsQueue (unqueued (get resend n) n queue) (remove resend n)
+  queue_out moment number = elim (told nat_cmp_total nat_cmp-IsAntisymmetric number n) [
+    | inl same ↦ (
+      λ has.
+          let was = unqueued_own (get resend n) n queue moment (ap (λ z. get (unqueued (get resend n) n queue) (moment, z)) (sym same) ∙ has) in
+          absurd (was.1 moment ((h moment n).0 was.0) refl),
+      λ due. none_some moment (sym (ap (get (remove resend n)) same ∙ get-remove_same nat_cmp_total nat_cmp-IsAntisymmetric resend n) ∙ due),
+    )
+    | inr apart ↦ (
+      λ has. get-remove_other nat_cmp_total nat_cmp-IsAntisymmetric resend n number apart ∙ (h moment number).0 (sym (unqueued_other (get resend n) n queue moment number apart) ∙ has),
+      λ due. unqueued_other (get resend n) n queue moment number apart ∙ (h moment number).1 (sym (get-remove_other nat_cmp_total nat_cmp-IsAntisymmetric resend n number apart) ∙ due),
+    )
+  ]
+
+  queue_set : (d : ℕ) (stale : Option ℕ) → IfSome stale (λ e. (get resend n ≡ Some e) × (e ≢ d)) → IfNone stale ((e : ℕ) → get resend n ≡ Some e → e ≡ d) →
+      IsQueue (insert (unqueued stale n queue) (d, n) tt) (insert resend n d)
+  queue_set d stale found none moment number = elim (told nat_cmp_total nat_cmp-IsAntisymmetric number n) [
+    | inl same ↦
+        let is : get (insert resend n d) number ≡ Some d = ap (get (insert resend n d)) same ∙ get-insert_same nat_cmp_total nat_cmp-IsAntisymmetric resend n d in (
+          λ has. is ∙ ap (λ z. Some z) (sym (own stale found none (ap (λ z. get (insert (unqueued stale n queue) (d, n) tt) (moment, z)) (sym same) ∙ has))),
+          λ due.
+              let until : d ≡ moment = same_value d moment (sym is ∙ due) in
+              ap (get (insert (unqueued stale n queue) (d, n) tt)) (λ i. (sym until i, same i)) ∙ get-insert_same queue_total queue_exact (unqueued stale n queue) (d, n) tt,
+        )
+    | inr apart ↦
+        let as_was = get-insert_other queue_total queue_exact (unqueued stale n queue) (d, n) tt (moment, number) (number_apart moment d number n apart) ∙ unqueued_other stale n queue moment number apart in
+        let is = get-insert_other nat_cmp_total nat_cmp-IsAntisymmetric resend n d number apart in
+        (λ has. is ∙ (h moment number).0 (sym as_was ∙ has), λ due. as_was ∙ (h moment number).1 (sym is ∙ due))
+  ]
+    where
+      stood_by : (o : Option ℕ) → IfSome o (λ e. (get resend n ≡ Some e) × (e ≢ d)) → IfNone o ((e : ℕ) → get resend n ≡ Some e → e ≡ d) → get resend n ≡ Some moment → ((e : ℕ) → o ≡ Some e → moment ≢ e) → moment ≡ d
+      stood_by None found none by other = none moment by
+      stood_by (Some e) found none by other = absurd (other e refl (same_value moment e (sym by ∙ found.0)))
+
+      own : (o : Option ℕ) → IfSome o (λ e. (get resend n ≡ Some e) × (e ≢ d)) → IfNone o ((e : ℕ) → get resend n ≡ Some e → e ≡ d) → get (insert (unqueued o n queue) (d, n) tt) (moment, n) ≡ Some tt → moment ≡ d
+      own o found none has = elim (of_insert queue_total queue_exact (unqueued o n queue) (d, n) tt (moment, n) tt has) [
+        | inl e ↦ ap (λ (p : ℕ × ℕ). p.0) e.0
+        | inr e ↦ let was = unqueued_own o n queue moment e in stood_by o found none ((h moment n).0 was.0) was.1
+      ]
+
+-- the room by the old moment is given back, and that by the new one stays
+pub room_set : (m : Moments) (resend : Resend) (n d : ℕ) (stale : Option ℕ) → IfSome stale (λ e. (get resend n ≡ Some e) × (e ≢ d)) → IfNone stale ((e : ℕ) → get resend n ≡ Some e → e ≡ d) →
+    IsTrue (contains_key m (d, n)) → IsTrue (contains_key (unqueued stale n m) (d, n)) × (unqueued stale n m ≡ insert (unqueued (get resend n) n m) (d, n) tt)
+room_set m resend n d (Some e) found none had =
+    let still = stays queue_total queue_exact m (e, n) (d, n) (λ same. found.1 (sym (λ i. (same i).0))) had in
+    (still, sym (ap (λ o. insert (unqueued o n m) (d, n) tt) found.0 ∙ put_had queue_total queue_exact (remove m (e, n)) (d, n) still))
+room_set m resend n d None found none had = (had, sym (same_room (get resend n) none))
+  where
+    again : insert (remove m (d, n)) (d, n) tt ≡ m
+    again = same_map queue_total queue_exact _ _ (λ q. elim (told queue_total queue_exact q (d, n)) [
+      | inl same ↦ ap (get (insert (remove m (d, n)) (d, n) tt)) same ∙ get-insert_same queue_total queue_exact (remove m (d, n)) (d, n) tt ∙ sym (ap (get m) same ∙ has_unit (get m (d, n)) had)
+      | inr apart ↦ get-insert_other queue_total queue_exact (remove m (d, n)) (d, n) tt q apart ∙ get-remove_other queue_total queue_exact m (d, n) q apart
+    ])
+
+    same_room : (o : Option ℕ) → ((e : ℕ) → o ≡ Some e → e ≡ d) → insert (unqueued o n m) (d, n) tt ≡ m
+    same_room None none = put_had queue_total queue_exact m (d, n) had
+    same_room (Some e) none = ap (λ z. insert (remove m (z, n)) (d, n) tt) (none e refl) ∙ again
+
+pub times_none : (rooms : TimeRooms) (first : ℕ) → AreTimes empty empty empty rooms first
+times_none rooms first = record {
+  queued = λ moment number. (λ h. none_some tt (sym (get-empty moment_number_cmp (moment, number)) ∙ h), λ h. none_some moment (sym (get-empty nat_cmp number) ∙ h));
+  apart = λ n f r. has_none (Unit {0}) nat_cmp n f;
+  roomed = λ n timed. absurd (elim timed [ inl f ↦ has_none (Unit {0}) nat_cmp n f | inr r ↦ has_none ℕ nat_cmp n r ]);
+  lowest = λ n f. absurd (has_none (Unit {0}) nat_cmp n f);
+}
+
+module _ (fresh : Numbers) (resend : Resend) (queue : Moments) (rooms : TimeRooms) (first : ℕ) (h : AreTimes fresh resend queue rooms first) where
+  pub times_roomed : (after : TimeRooms) → ((q : ℕ) → HasRoomOfNumber rooms q → HasRoomOfNumber after q) → AreTimes fresh resend queue after first
+  times_roomed after keeps = record { queued = h.queued; apart = h.apart; roomed = λ q timed. keeps q (h.roomed q timed); lowest = h.lowest }
+
+  module _ (n : ℕ) (after : TimeRooms) (lower : ℕ) where
+    pub times_start : HasRoomOfNumber rooms n → ((q : ℕ) → HasRoomOfNumber rooms q → HasRoomOfNumber after q) → lower ≤ first → lower ≤ n →
+        AreTimes (insert fresh n tt) (remove resend n) (unqueued (get resend n) n queue) after lower
+    times_start room keeps below least = record {
+      queued = queue_out queue resend h.queued n;
+      apart = λ q f r.
+          let was = stood nat_cmp_total nat_cmp-IsAntisymmetric resend n q r in
+          elim (put_or nat_cmp_total nat_cmp-IsAntisymmetric fresh n tt q f) [ inl same ↦ was.0 same | inr g ↦ h.apart q g.1 was.1 ];
+      roomed = λ q timed. keeps q (elim timed [
+        | inl f ↦ elim (put_or nat_cmp_total nat_cmp-IsAntisymmetric fresh n tt q f) [ inl same ↦ subst (HasRoomOfNumber rooms) (sym same) room | inr g ↦ h.roomed q (inl g.1) ]
+        | inr r ↦ h.roomed q (inr (stood nat_cmp_total nat_cmp-IsAntisymmetric resend n q r).1)
+      ]);
+      lowest = λ q f. elim (put_or nat_cmp_total nat_cmp-IsAntisymmetric fresh n tt q f) [
+        | inl same ↦ subst (λ z. lower ≤ z) (sym same) least
+        | inr g ↦ let above = h.lowest q g.1 in omega arith
+      ];
+    }
+
+    pub times_set : (d : ℕ) (stale : Option ℕ) → IfSome stale (λ e. (get resend n ≡ Some e) × (e ≢ d)) → IfNone stale ((e : ℕ) → get resend n ≡ Some e → e ≡ d) →
+        HasRoomOfNumber rooms n → ((q : ℕ) → HasRoomOfNumber rooms q → HasRoomOfNumber after q) → ((q : ℕ) → IsTrue (contains_key (remove fresh n) q) → first ≤ q → lower ≤ q) →
+        AreTimes (remove fresh n) (insert resend n d) (insert (unqueued stale n queue) (d, n) tt) after lower
+    times_set d stale found none room keeps least = record {
+      queued = queue_set queue resend h.queued n d stale found none;
+      apart = λ q f r.
+          let was = stood nat_cmp_total nat_cmp-IsAntisymmetric fresh n q f in
+          elim (put_or nat_cmp_total nat_cmp-IsAntisymmetric resend n d q r) [ inl same ↦ was.0 same | inr g ↦ h.apart q was.1 g.1 ];
+      roomed = λ q timed. keeps q (elim timed [
+        | inl f ↦ h.roomed q (inl (stood nat_cmp_total nat_cmp-IsAntisymmetric fresh n q f).1)
+        | inr r ↦ elim (put_or nat_cmp_total nat_cmp-IsAntisymmetric resend n d q r) [ inl same ↦ subst (HasRoomOfNumber rooms) (sym same) room | inr g ↦ h.roomed q (inr g.1) ]
+      ]);
+      lowest = λ q f. least q f (h.lowest q (stood nat_cmp_total nat_cmp-IsAntisymmetric fresh n q f).1);
+    }
+
+    pub times_remove : ((q : ℕ) → q ≢ n → HasRoomOfNumber rooms q → HasRoomOfNumber after q) → ((q : ℕ) → IsTrue (contains_key (remove fresh n) q) → first ≤ q → lower ≤ q) →
+        AreTimes (remove fresh n) (remove resend n) (unqueued (get resend n) n queue) after lower
+    times_remove keeps least = record {
+      queued = queue_out queue resend h.queued n;
+      apart = λ q f r. h.apart q (stood nat_cmp_total nat_cmp-IsAntisymmetric fresh n q f).1 (stood nat_cmp_total nat_cmp-IsAntisymmetric resend n q r).1;
+      roomed = λ q timed. elim timed [
+        | inl f ↦ let was = stood nat_cmp_total nat_cmp-IsAntisymmetric fresh n q f in keeps q was.0 (h.roomed q (inl was.1))
+        | inr r ↦ let was = stood nat_cmp_total nat_cmp-IsAntisymmetric resend n q r in keeps q was.0 (h.roomed q (inr was.1))
+      ];
+      lowest = λ q f. least q f (h.lowest q (stood nat_cmp_total nat_cmp-IsAntisymmetric fresh n q f).1);
+    }
+
+-- the room of numbers
+pub keeps_number : (s t : TimeRooms) → ((q : ℕ) → IsTrue (contains_key s.fresh q) → IsTrue (contains_key t.fresh q)) → ((q : ℕ) → IsTrue (contains_key s.resend q) → IsTrue (contains_key t.resend q)) →
+    (q : ℕ) → HasRoomOfNumber s q → HasRoomOfNumber t q
+keeps_number s t f g q had = record { of_fresh = f q had.of_fresh; of_resend = g q had.of_resend }
+
+pub keeps_other_number : (s t : TimeRooms) (n : ℕ) → t.fresh ≡ remove s.fresh n → t.resend ≡ remove s.resend n → (q : ℕ) → q ≢ n → HasRoomOfNumber s q → HasRoomOfNumber t q
+keeps_other_number s t n f g q apart had = record {
+  of_fresh = subst (λ (m : Numbers). IsTrue (contains_key m q)) (sym f) (stays nat_cmp_total nat_cmp-IsAntisymmetric s.fresh n q apart had.of_fresh);
+  of_resend = subst (λ (m : Numbers). IsTrue (contains_key m q)) (sym g) (stays nat_cmp_total nat_cmp-IsAntisymmetric s.resend n q apart had.of_resend);
+}
+
+pub not_above : (a b : ℕ) → a ≤ b → is_gt (nat_cmp a b) ≡ false
+not_above a b h = grind (arith, nat_tests)
+
+module _ {X : Type 0} (m : FinMap nat_cmp X) (first : ℕ) where
+  pub least_number : (k : ℕ) (v : X) → IsLeast nat_cmp m (IsLeBy nat_cmp first) (k, v) → (n : ℕ) → IsTrue (contains_key m n) → first ≤ n → k ≤ n
+  least_number k v least n had above = le_from_not_gt k n (least.2 n (not_above first n above) had)
+
+  pub none_number : HasNone nat_cmp m (IsLeBy nat_cmp first) → (n : ℕ) → IsTrue (contains_key m n) → first ≤ n → ⊥
+  none_number none n had above = not_none (get m n) had (none n (not_above first n above))

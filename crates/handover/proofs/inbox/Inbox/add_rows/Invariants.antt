@@ -1,0 +1,9 @@
+use Rattle.std.proofs.Common.{◌≡◌, length}
+use Rattle.std.specs.Vec.Iter.{into_iter_items, into_iter_len}
+use Rattle.handover.specs.InboxListing.{put_rows}
+use Rattle.handover.proofs.inbox.Inbox.add_rows.Given as goal
+
+abbrev pub invariant-loop-row : goal.invariant-loop-row
+invariant-loop-row l =
+    (put_rows (into_iter_items l.row-iterator) l.self.rows ≡ put_rows (into_iter_items l.initial.row-iterator) l.initial.self.rows)
+    × (into_iter_len l.row-iterator ≡ length (into_iter_items l.row-iterator))
