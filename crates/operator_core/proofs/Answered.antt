@@ -4,8 +4,7 @@ use Rattle.std.specs.Prelude.{Some, None, Contains}
 use Rattle.std.specs.FinMap.{get, get-empty}
 use Rattle.ocpi_text.specs.Text.{key}
 use Rattle.tables.specs.Keys.{text_number_cmp, text_number_total, text_number_exact}
-use Rattle.tables.proofs.Maps.{get-insert_other}
-use Rattle.handover.proofs.Totals.{told}
+use Rattle.tables.proofs.Maps.{get-insert_other, told}
 use Rattle.ocpi_types.specs.Stored.{body_of_command}
 use Rattle.ocpi_types.specs.declared.packet.Packet.{Packet}
 use Rattle.ocpi_types.specs.declared.packet.Body.TheVariants as body
@@ -17,7 +16,8 @@ use Rattle.operator_core.specs.Consistent.{AreConsistent}
 use Rattle.operator_core.specs.State.{State, OneClaimEach}
 use Rattle.operator_core.specs.Moves.{Out}
 use Rattle.operator_core.specs.Laws.{Event, Happens, Run, Came, Comes, AlwaysConsistent, RepliesAnswer, ResultsStay, SentResultsAreKept}
-use Rattle.operator_core.proofs.Shapes.{Shape, Quiet, Repeated, Decided, shape_of, in_none, in_single}
+use Rattle.tables.proofs.Elements.{in_none, in_single}
+use Rattle.operator_core.proofs.Shapes.{Shape, Quiet, Repeated, Decided, shape_of}
 use Rattle.operator_core.proofs.Sends.{Sends, Nothing, Response, Both, sends, no_result, decided_leaves}
 use Rattle.operator_core.proofs.Stays.{results_stay as result_stays}
 use Rattle.operator_core.proofs.Claiming.{one_claim, none_claimed}

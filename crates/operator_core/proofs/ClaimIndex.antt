@@ -4,7 +4,7 @@ use Rattle.std.specs.Prelude.{Option, Some, None, IfSome, IfNone, Bool, true, fa
 use Rattle.std.specs.FinMap.{get, insert, remove, empty, get-empty}
 use Rattle.ocpi_text.specs.Text.{key}
 use Rattle.tables.specs.Keys.{text_cmp, text_total, text_exact, text_number_cmp, text_number_total, text_number_exact, text_pair_cmp, text_pair_total, text_pair_exact}
-use Rattle.tables.proofs.Maps.{of_insert, get-insert_same, get-insert_other, get-remove_other, of_remove}
+use Rattle.tables.proofs.Maps.{of_insert, get-insert_same, get-insert_other, get-remove_other, of_remove, told}
 use Rattle.ocpi_types.specs.declared.rows.Row.{Row}
 use Rattle.ocpi_types.specs.declared.rows.Row.TheVariants as row
 use Rattle.ocpi_types.specs.declared.rows.RowKey.{RowKey}
@@ -17,7 +17,7 @@ use Rattle.site.specs.declared.claim.Claim.{Claim}
 use Rattle.site.specs.declared.claim.Claim.TheVariants.{OpenStart, Live, Reserved}
 use Rattle.site.specs.Places.{Claims as ClaimMap, IsEvse}
 use Rattle.command_book.specs.Stored as commands
-use Rattle.command_book.proofs.Cases.{told, none_some}
+use Rattle.tables.proofs.Options.{none_some}
 use Rattle.reservation_book.specs.Rows as booked
 use Rattle.operator_core.specs.State.{Rows, Takes, Claims, HasClaim}
 use Rattle.operator_core.specs.Stored.{put_row, drop_row}

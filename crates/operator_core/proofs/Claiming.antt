@@ -4,8 +4,8 @@ use Rattle.std.specs.Prelude.{Option, Some, None, Bool}
 use Rattle.std.specs.FinMap.{get, insert, remove, empty, get-empty}
 use Rattle.ocpi_text.specs.Text.{key}
 use Rattle.tables.specs.Keys.{text_number_cmp, text_number_total, text_number_exact, text_pair_cmp, text_pair_total, text_pair_exact}
-use Rattle.tables.proofs.Maps.{of_insert, get-remove_same, get-remove_other}
-use Rattle.handover.proofs.Totals.{told}
+use Rattle.tables.proofs.Options.{not_both}
+use Rattle.tables.proofs.Maps.{of_insert, get-remove_same, get-remove_other, told}
 use Rattle.ocpi_types.specs.declared.packet.Packet.{Packet}
 use Rattle.ocpi_types.specs.declared.rows.Place.{Place}
 use Rattle.ocpi_types.specs.declared.site.Site.{Site}
@@ -39,9 +39,6 @@ use Rattle.operator_core.specs.Steps as lines
 use Rattle.operator_core.specs.Service.{ServiceStep}
 use Rattle.operator_core.specs.Service as service
 use Rattle.operator_core.specs.Laws.{Event, Happens, Stepped, Refused, Served, Unserved, out_of}
-
-none_some : {X : Type 0} (x : X) (o : Option X) → o ≡ None → o ≡ Some x → ⊥
-none_some x o a b = cc
 
 -- where the claims that are kept are those of the rows, no EVSE has two
 pub indexed_one : (claims : ClaimMap) (pending : book.OpenCommands) (reservations : booked.Reservations) → IsIndexed claims pending reservations → OneClaimEach pending reservations
@@ -81,13 +78,13 @@ reserved_claims s p id r evse (Reserved q other) (x, has, at) = elim (of_insert 
 -- what stands after one was taken out stood before
 was_opened : (m : book.OpenCommands) (k j : book.Request) (x : OpenCommand) → get (remove m k) j ≡ Some x → get m j ≡ Some x
 was_opened m k j x has = elim (told text_number_total text_number_exact j k) [
-  | inl same ↦ absurd (none_some x _ (ap (get (remove m k)) same ∙ get-remove_same text_number_total text_number_exact m k) has)
+  | inl same ↦ absurd (not_both x _ (ap (get (remove m k)) same ∙ get-remove_same text_number_total text_number_exact m k) has)
   | inr apart ↦ sym (get-remove_other text_number_total text_number_exact m k j apart) ∙ has
 ]
 
 was_reserved : (m : booked.Reservations) (k j : List ℕ × List ℕ) (x : Reservation) → get (remove m k) j ≡ Some x → (get m j ≡ Some x) × (j ≡ k → ⊥)
 was_reserved m k j x has = elim (told text_pair_total text_pair_exact j k) [
-  | inl same ↦ absurd (none_some x _ (ap (get (remove m k)) same ∙ get-remove_same text_pair_total text_pair_exact m k) has)
+  | inl same ↦ absurd (not_both x _ (ap (get (remove m k)) same ∙ get-remove_same text_pair_total text_pair_exact m k) has)
   | inr apart ↦ (sym (get-remove_other text_pair_total text_pair_exact m k j apart) ∙ has, apart)
 ]
 
@@ -164,7 +161,7 @@ started s at sender n (command.StartSession c) d place used is (start.Held l f k
     let who : Some x.id ≡ used = cc in
     record {
       of_site = subst (λ (z : Place). IsEvse s.site.locations (key z.evse_uid)) here (record { location = l; evse = f; listed = a.placed.location.listed; within = a.place.listed; same = refl });
-      free = λ none. absurd (none_some x.id used none (sym who));
+      free = λ none. absurd (not_both x.id used none (sym who));
       held = λ id some.
           let same : x.id ≡ id = cc in
           let stands : get s.rows.booked.reservations (key sender, id) ≡ Some x.reservation = ap (get s.rows.booked.reservations) (λ i. (sym h.is_for.provider_is i, sym same i)) ∙ h.is_for.stands in
@@ -176,7 +173,7 @@ started s at sender n (command.StartSession c) d place used is (start.Free l f k
     record {
       of_site = subst (λ (z : Place). IsEvse s.site.locations (key z.evse_uid)) here (record { location = l; evse = f; listed = a.placed.location.listed; within = a.place.listed; same = refl });
       free = λ none claim has. h claim (subst (λ (z : Place). HasClaim s.rows (key z.evse_uid) claim) (sym here) has);
-      held = λ id some. absurd (none_some id used (sym who) some);
+      held = λ id some. absurd (not_both id used (sym who) some);
     }
 started s at sender n (command.StopSession c) d place used is (stop.UnknownSession e) = absurd (cc)
 started s at sender n (command.ReserveNow c) d place used is (reserve.Mismatched a e) = absurd (cc)
@@ -318,9 +315,9 @@ one_claim s t e (Served evse works comes h) one = subst OneEach (sym (service_ro
 one_claim s t e (Unserved evse works comes x) one = idle_one s t e x one
 
 unclaimed : (evse : List ℕ) (c : Claim) → Claims empty empty evse c → ⊥
-unclaimed evse (OpenStart p n) (o, has, at) = none_some o _ (get-empty text_number_cmp (p, n)) has
+unclaimed evse (OpenStart p n) (o, has, at) = not_both o _ (get-empty text_number_cmp (p, n)) has
 unclaimed evse (Live p session) h = h
-unclaimed evse (Reserved p id) (r, has, at) = none_some r _ (get-empty text_pair_cmp (p, id)) has
+unclaimed evse (Reserved p id) (r, has, at) = not_both r _ (get-empty text_pair_cmp (p, id)) has
 
 pub none_claimed : OneClaimEach empty empty
 none_claimed evse c d h i = absurd (unclaimed evse c h)

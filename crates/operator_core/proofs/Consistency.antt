@@ -3,8 +3,8 @@ use Rattle.std.proofs.Common.{◌≡◌, ℕ, List, ◌⊎◌, inl, inr, refl, s
 use Rattle.std.specs.Prelude.{Option, Some, None, Bool}
 use Rattle.std.specs.FinMap.{get, insert, empty, get-empty}
 use Rattle.tables.specs.Keys.{text_number_cmp, text_number_total, text_number_exact}
-use Rattle.tables.proofs.Maps.{of_insert, get-insert_same, get-insert_other}
-use Rattle.handover.proofs.Totals.{told}
+use Rattle.tables.proofs.Options.{not_both}
+use Rattle.tables.proofs.Maps.{of_insert, get-insert_same, get-insert_other, told}
 use Rattle.ocpi_text.specs.Text.{key}
 use Rattle.ocpi_types.specs.declared.packet.Packet.{Packet}
 use Rattle.ocpi_types.specs.declared.rows.Place.{Place}
@@ -27,19 +27,16 @@ use Rattle.operator_core.proofs.Shapes.{Shape, Quiet, Repeated, Decided, shape_o
 use Rattle.operator_core.proofs.Sends.{decided_leaves}
 use Rattle.operator_core.proofs.Stays.{open_start, not_spent, now_spent, spent_once}
 
-none_some : {X : Type 0} (x : X) (o : Option X) → o ≡ None → o ≡ Some x → ⊥
-none_some x o a b = cc
-
 uncarried : (p : List ℕ) (n : ℕ) (reference : List ℕ) → Carries empty p n reference → ⊥
-uncarried p n reference (o, has, uses) = none_some o _ (get-empty text_number_cmp (p, n)) has
+uncarried p n reference (o, has, uses) = not_both o _ (get-empty text_number_cmp (p, n)) has
 
 pub consistent_empty : AreConsistent book.no_rows empty
 consistent_empty = record {
   one_carrier = λ p m n reference h i. absurd (uncarried p m reference h);
   carried = λ p n reference h. absurd (uncarried p n reference h);
-  answered = λ k o h none. none_some o _ (get-empty text_number_cmp k) h;
-  ended = λ k x h none. none_some x _ (get-empty text_number_cmp k) h;
-  unsettled = λ k o h. absurd (none_some o _ (get-empty text_number_cmp k) h);
+  answered = λ k o h none. not_both o _ (get-empty text_number_cmp k) h;
+  ended = λ k x h none. not_both x _ (get-empty text_number_cmp k) h;
+  unsettled = λ k o h. absurd (not_both o _ (get-empty text_number_cmp k) h);
 }
 
 -- the open commands that carry a reference once one more is open
@@ -54,7 +51,7 @@ carries_opened pending p n o q m reference (x, has, (c, is, names)) =
 -- what was there before one was put in
 none_before : (m : book.Replies) (k j : book.Request) (r : Reply) → get (insert m k r) j ≡ None → get m j ≡ None
 none_before m k j r none = elim (told text_number_total text_number_exact j k) [
-  | inl same ↦ absurd (none_some r _ none (ap (get (insert m k r)) same ∙ get-insert_same text_number_total text_number_exact m k r))
+  | inl same ↦ absurd (not_both r _ none (ap (get (insert m k r)) same ∙ get-insert_same text_number_total text_number_exact m k r))
   | inr apart ↦ sym (get-insert_other text_number_total text_number_exact m k r j apart) ∙ none
 ]
 
@@ -82,14 +79,14 @@ module _ (commands : book.Rows) (spent : Spent) (fine : AreConsistent commands s
   ended_after : (o : Option CommandResultType) (k : book.Request) (x : CommandResultType) → get (results_after p n o commands.results) k ≡ Some x → get replies k ≡ None → ⊥
   ended_after None k x has none = fine.ended k x has (none_before commands.replies (p, n) k r none)
   ended_after (Some y) k x has none = elim (of_insert text_number_total text_number_exact commands.results (p, n) y k x has) [
-    | inl i ↦ none_some r _ none (ap (get replies) i.0 ∙ replied)
+    | inl i ↦ not_both r _ none (ap (get replies) i.0 ∙ replied)
     | inr i ↦ fine.ended k x i (none_before commands.replies (p, n) k r none)
   ]
 
   unsettled_after : (o : Option CommandResultType) (k : book.Request) (x : OpenCommand) → get commands.pending k ≡ Some x → get (results_after p n o commands.results) k ≡ None
   unsettled_after None k x has = fine.unsettled k x has
   unsettled_after (Some y) k x has = elim (told text_number_total text_number_exact k (p, n)) [
-    | inl same ↦ absurd (none_some x _ unopened (ap (get commands.pending) (sym same) ∙ has))
+    | inl same ↦ absurd (not_both x _ unopened (ap (get commands.pending) (sym same) ∙ has))
     | inr apart ↦ get-insert_other text_number_total text_number_exact commands.results (p, n) y k apart ∙ fine.unsettled k x has
   ]
 
@@ -127,7 +124,7 @@ module _ (commands : book.Rows) (spent : Spent) (fine : AreConsistent commands s
       one_carrier = one_carrier_after;
       carried = carried_after;
       answered = λ k x has none. elim (of_insert text_number_total text_number_exact commands.pending (p, n) o k x has) [
-        | inl i ↦ none_some r _ none (ap (get replies) i.0 ∙ replied)
+        | inl i ↦ not_both r _ none (ap (get replies) i.0 ∙ replied)
         | inr i ↦ fine.answered k x i (none_before commands.replies (p, n) k r none)
       ];
       ended = λ k x has none. fine.ended k x has (none_before commands.replies (p, n) k r none);

@@ -21,7 +21,8 @@ use Rattle.reservation_book.specs.declared.standing.TokenAt.{TokenAt}
 use Rattle.reservation_book.specs.Places.{Key}
 use Rattle.reservation_book.specs.Rows.{Reservations}
 use Rattle.reservation_book.specs.Tokens.{Stands, IsFor, IsOn, spot, IsFirstFor, IsNextFor}
-use Rattle.reservation_book.proofs.Entries.{listed, in_none, in_single}
+use Rattle.tables.proofs.Elements.{in_none, in_single}
+use Rattle.tables.proofs.Entries.{listed}
 use Rattle.site.specs.Places.{IsNamed}
 use Rattle.operator_core.specs.State.{Rows}
 use Rattle.operator_core.specs.Held.{IsPlaceOf, IsHeldBy}

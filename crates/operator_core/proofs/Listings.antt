@@ -18,7 +18,8 @@ use Rattle.handover.specs.declared.push_book.Outgoing.{Outgoing}
 use Rattle.command_book.specs.Stored as commands
 use Rattle.command_book.specs.Listing as command_lists
 use Rattle.reservation_book.specs.Rows as booked
-use Rattle.reservation_book.proofs.Entries.{in_none, in_single, in_front, in_map, of_map, no_pairs, joined, listed, listed_only, each_apart, apart_of_less}
+use Rattle.tables.proofs.Elements.{in_none, in_single, in_front, in_map, of_map, no_pairs, joined}
+use Rattle.tables.proofs.Entries.{listed, listed_only, all_apart}
 use Rattle.operator_core.specs.State.{Rows}
 use Rattle.operator_core.specs.Rows.{HasRow, AreRowsOf}
 use Rattle.operator_core.specs.Listing.{count_rows, spent_row, service_row, push_row, other_rows}
@@ -77,7 +78,7 @@ module _ {K X : Type 0} {R : K → K → Ordering} (o : IsTotalOrder R) (antisym
       λ h. let from = of_map f (entries m) r h in subst P from.2 (makes from.0.0 from.0.1 (listed_only o antisymmetric m from.0.0 from.0.1 from.1)),
       λ p. let (q, x, has, is) = made r p in subst (λ z. Contains (map f (entries m)) z) is (in_map f (entries m) (q, x) (listed o antisymmetric m q x has)),
     );
-    apart = each_apart o antisymmetric f Apart (λ a b below. differ a b (apart_of_less o a.0 b.0 below)) (entries m) (entries_sorted m);
+    apart = all_apart o antisymmetric f m Apart (λ a b p q below. differ a b below);
     parts = parts;
   }
 

@@ -16,7 +16,7 @@ use Rattle.operator_core.specs.declared.decision.Decision.TheVariants as decisio
 use Rattle.operator_core.specs.State.{Rows}
 use Rattle.operator_core.specs.Moves.{spent_rows, used_rows}
 use Rattle.operator_core.specs.Steps.{decided_rows, own_rows, counter_rows, ended_rows, reply_of, result_of, reference_of, deadline}
-use Rattle.operator_core.proofs.Shapes.{in_none, in_single}
+use Rattle.tables.proofs.Elements.{in_none, in_single}
 use Rattle.operator_core.proofs.Marking.{marked_id}
 
 first : {X : Type 0} (x : X) (xs : List X) (y : X) → Contains (x ∷ xs) y → (x ≡ y) ⊎ Contains xs y

@@ -18,7 +18,8 @@ use Rattle.ocpi_types.specs.declared.rows.Row.TheVariants as row
 use Rattle.handover.specs.declared.push_book.Outgoing.{Outgoing}
 use Rattle.operator_core.specs.State.{State, opening}
 use Rattle.operator_core.specs.Laws.{Event, Happens, Run, sent, Came, Comes, Opens, Acknowledged, OneStart, SentRepliesAreKept, RepliesStay, Numbered, RequestsDiffer, PushesStand, MarksNeverFall, ReservationsAreNewer}
-use Rattle.operator_core.proofs.Shapes.{AcknowledgesIt, in_none, in_single}
+use Rattle.tables.proofs.Elements.{in_none, in_single}
+use Rattle.operator_core.proofs.Shapes.{AcknowledgesIt}
 use Rattle.operator_core.proofs.Sends.{Sends, Nothing, Response, Both, IsResponse, IsResult, sends, no_result}
 use Rattle.operator_core.proofs.Stays.{replies_stay, spent_stays, opens, marks_rise, marked, Rises, AreGiven, pushes_stay, given_stay}
 

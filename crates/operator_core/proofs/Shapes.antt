@@ -4,8 +4,8 @@ use Rattle.std.specs.Prelude.{Some, None, Contains, Bool}
 use Rattle.std.specs.FinMap.{get, remove, nat_cmp-IsAntisymmetric}
 use Rattle.std.specs.Cmp.{nat_cmp_total}
 use Rattle.std.proofs.lemmas.List.Elements.{Contains-push_cases}
-use Rattle.tables.proofs.Maps.{get-remove_same, get-remove_other}
-use Rattle.handover.proofs.Totals.{told}
+use Rattle.tables.proofs.Elements.{in_none, in_single}
+use Rattle.tables.proofs.Maps.{get-remove_same, get-remove_other, told}
 use Rattle.ocpi_text.specs.Text.{key}
 use Rattle.ocpi_types.specs.Stored.{body_of_command}
 use Rattle.ocpi_types.specs.declared.packet.Packet.{Packet}
@@ -26,12 +26,6 @@ use Rattle.operator_core.specs.Steps as lines
 use Rattle.operator_core.specs.Service.{ServiceStep}
 use Rattle.operator_core.specs.Service as service
 use Rattle.operator_core.specs.Laws.{Comes, Event, out_of, Happens, Stepped, Refused, Served, Unserved}
-
-pub in_none : {X : Type 0} (x : X) → Contains {X = X} [] x → ⊥
-in_none x h = omega (arith, h.1)
-
-pub in_single : {X : Type 0} (x y : X) → Contains (x ∷ []) y → x ≡ y
-in_single x y h = elim (Contains-push_cases [] x y h) [ inl i ↦ absurd (in_none y i) | inr i ↦ i ]
 
 -- this event acknowledges the request of that number to that party
 pub record AcknowledgesIt (e : Event) (to : List ℕ) (n : ℕ) : Type 0 where

@@ -5,8 +5,8 @@ use Rattle.std.specs.Cmp.{nat_cmp_total}
 use Rattle.std.specs.FinMap.{get, insert, nat_cmp-IsAntisymmetric}
 use Rattle.ocpi_text.specs.Text.{key}
 use Rattle.tables.specs.Keys.{text_number_total, text_number_exact, text_pair_total, text_pair_exact}
-use Rattle.tables.proofs.Maps.{get-insert_same, get-insert_other}
-use Rattle.handover.proofs.Totals.{told}
+use Rattle.tables.proofs.Options.{not_both}
+use Rattle.tables.proofs.Maps.{get-insert_same, get-insert_other, told}
 use Rattle.ocpi_types.specs.declared.stored.Command.{Command}
 use Rattle.ocpi_types.specs.declared.stored.Command.TheVariants as command
 use Rattle.ocpi_types.specs.declared.stored.Reply.{Reply}
@@ -29,13 +29,11 @@ use Rattle.operator_core.specs.Moves.{Out}
 use Rattle.operator_core.specs.Steps.{Decides, result_of, reference_of, url_of}
 use Rattle.operator_core.specs.Laws.{Event, Happens, Opens}
 use Rattle.operator_core.proofs.Effects.{spent_after, spent_with, marks_after, results_after, pushes_after, last_after}
-use Rattle.operator_core.proofs.Shapes.{Shape, Quiet, Repeated, Decided, DecidesIt, AcknowledgesIt, shape_of, in_single}
+use Rattle.tables.proofs.Elements.{in_single}
+use Rattle.operator_core.proofs.Shapes.{Shape, Quiet, Repeated, Decided, DecidesIt, AcknowledgesIt, shape_of}
 use Rattle.operator_core.proofs.Sends.{decided_leaves}
 use Rattle.operator_core.proofs.Marking.{marked_id, in_time}
 use Rattle.operator_core.proofs.Puts.{puts_pending, puts_mark}
-
-none_some : {X : Type 0} (x : X) (o : Option X) → o ≡ None → o ≡ Some x → ⊥
-none_some x o a b = cc
 
 module _ (s t : State) (e : Event) where
   abbrev provider_of : DecidesIt s e t → List ℕ
@@ -46,7 +44,7 @@ module _ (s t : State) (e : Event) where
   replies_shape (Repeated h) k r has = ap (λ (o : Out). get o.state.rows.commands.replies k) h.out ∙ has
   replies_shape (Decided h) k r has =
       ap (λ (m : book.Replies). get m k) (decided_leaves s e t h).replies
-      ∙ get-insert_other text_number_total text_number_exact s.rows.commands.replies (provider_of h, h.packet.request) _ k (λ same. none_some r _ h.new (ap (get s.rows.commands.replies) (sym same) ∙ has)) ∙ has
+      ∙ get-insert_other text_number_total text_number_exact s.rows.commands.replies (provider_of h, h.packet.request) _ k (λ same. not_both r _ h.new (ap (get s.rows.commands.replies) (sym same) ∙ has)) ∙ has
 
   pub replies_stay : Happens s e t → (k : book.Request) (r : Reply) → get s.rows.commands.replies k ≡ Some r → get t.rows.commands.replies k ≡ Some r
   replies_stay h = replies_shape (shape_of s t e h)

@@ -1,7 +1,7 @@
 use Rattle.std.proofs.Common.{◌∷◌, ◌++◌, map, sym, ap, ◌∙◌}
 use Rattle.ocpi_types.specs.declared.rows.Row.TheVariants as row
 use Rattle.operator_core.specs.Listing.{push_row}
-use Rattle.reservation_book.proofs.Entries.{one_more, none_left}
+use Rattle.tables.proofs.Elements.{one_more, none_left}
 use Rattle.operator_core.proofs.books.push_pushes.Goals as goal
 
 pub loop-number-preserved : goal.loop-number-preserved

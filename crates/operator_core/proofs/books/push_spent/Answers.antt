@@ -1,6 +1,6 @@
 use Rattle.std.proofs.Common.{◌++◌, map, ap, ◌∙◌}
 use Rattle.operator_core.specs.Listing.{spent_row}
-use Rattle.reservation_book.proofs.Entries.{one_more, none_left}
+use Rattle.tables.proofs.Elements.{one_more, none_left}
 use Rattle.operator_core.proofs.books.push_spent.Goals as goal
 
 pub loop-key-preserved : goal.loop-key-preserved
