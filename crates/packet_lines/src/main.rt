@@ -3,7 +3,7 @@
 //! `taken` or refused. What follows `row ` is a kind, a key and a text with tabs between them, and is read as that row: these
 //! three are written as they are for the row, or the row is refused.
 //!
-//! It is a test of `ocpi_json`, and of the `copy` of a row: its cases are the lines of the file `stdin` beside what they must give,
+//! It is a test of `ocpi_json`, and of `copy`: its cases are the lines of the file `stdin` beside what they must give,
 //! `stdout`, which `tools/packet_cases.py` writes. It also serves to see what is wrong with a line. Lines end at LF; empty
 //! ones are skipped.
 #![tactic(auto)]
@@ -65,11 +65,19 @@ fn answer(alloc: Global, line: &[u8]) -> Result<String, JsonFault> {
     write_again(alloc, line)
 }
 
-/// The line that is written for the packet of a line.
+/// The line that is written for a copy of the packet of a line.
 fn write_again(alloc: Global, line: &[u8]) -> Result<String, JsonFault> {
     match read_packet(alloc, line) {
-        Ok(packet) => write_one(alloc, &packet),
+        Ok(packet) => write_copy(alloc, &packet),
         Err(fault) => Err(fault),
+    }
+}
+
+/// The line that is written for a copy of a packet.
+fn write_copy(alloc: Global, packet: &Packet) -> Result<String, JsonFault> {
+    match packet.copy() {
+        Ok(copy) => write_one(alloc, &copy),
+        Err(_) => Err(JsonFault::Memory),
     }
 }
 
@@ -78,20 +86,18 @@ fn write_one(alloc: Global, packet: &Packet) -> Result<String, JsonFault> {
     Ok(write_packet(alloc, packet)?)
 }
 
-/// Reads a site line.
+/// Reads and copies a site line.
 fn take_site(alloc: Global, line: &[u8]) -> Result<String, JsonFault> {
-    match read_site(alloc, line) {
-        Ok(_) => Ok(String::from_str(alloc, "taken")?),
-        Err(fault) => Err(fault),
-    }
+    let site_line = read_site(alloc, line)?;
+    let _copy = site_line.copy()?;
+    Ok(String::from_str(alloc, "taken")?)
 }
 
-/// Reads a setup line.
+/// Reads and copies a setup line.
 fn take_setup(alloc: Global, line: &[u8]) -> Result<String, JsonFault> {
-    match read_setup(alloc, line) {
-        Ok(_) => Ok(String::from_str(alloc, "taken")?),
-        Err(fault) => Err(fault),
-    }
+    let setup = read_setup(alloc, line)?;
+    let _copy = setup.copy()?;
+    Ok(String::from_str(alloc, "taken")?)
 }
 
 /// Reads an event line.
