@@ -59,6 +59,7 @@ class Case:
         self.name = name
         LINES.append("fresh")
         self.pushes = {}
+        self.rows = {}
 
     def hear(self, clock, kind, body, number, party="NL/TNM", to=OPERATOR):
         packet = {"body": body, "from": party, "kind": kind, "request": number, "serial": 1, "to": to}
@@ -122,10 +123,30 @@ class Case:
         WANTED.append(text(packet))
 
     def put(self, kind, key, row):
+        self.rows[(kind, key)] = text(row)
         WANTED.append("put %s %s %s" % (kind, key, text(row)))
 
     def drop(self, kind, key):
+        del self.rows[(kind, key)]
         WANTED.append("drop %s %s" % (kind, key))
+
+    def stored(self):
+        """All rows that stand: kind by kind, and each kind by party, and then by number or text."""
+        LINES.append("stored")
+        kinds = ["reply", "pending", "result", "mark", "reservation", "serial", "spent", "service", "request", "push"]
+
+        def place(kind_and_key):
+            kind, key = kind_and_key
+            if kind == "count":
+                return (kinds.index(key), "", 0)
+            if kind in ("reply", "pending", "result"):
+                return (kinds.index(kind), key[:6], int(key[7:]))
+            if kind == "push":
+                return (kinds.index(kind), "", int(key))
+            return (kinds.index(kind), key, 0)
+
+        for kind, key in sorted(self.rows, key=place):
+            WANTED.append("put %s %s %s" % (kind, key, self.rows[(kind, key)]))
 
     def counted(self, serial, request=None):
         self.put("count", "serial", {"last": serial})
@@ -206,6 +227,7 @@ def starts():
     c.started(1, 1, "E1")
     c.start(1, at="10:00:20")
     c.repeated(2, 1, "ACCEPTED")
+    c.stored()
     c = Case("a claimed EVSE is occupied for another provider, and for the same one")
     c.start(1)
     c.started(1, 1, "E1")
@@ -213,6 +235,7 @@ def starts():
     c.resulted(2, 1, 7, "EVSE_OCCUPIED", party="DE/EMP")
     c.start(2)
     c.resulted(4, 2, 2, "EVSE_OCCUPIED")
+    c.stored()
     c = Case("places that are not known, tokens of others, references that were used")
     c.start(1, place="LOC7")
     c.answered(1, 1, 2003)
@@ -236,6 +259,7 @@ def starts():
     refused("1 NotForMe")
     c.hear("10:00:00", "start_session", {"response_url": url(1), "token": token(), "location_id": "LOC1"}, 1, party="AT/XXX")
     refused("1 NotForMe")
+    c.stored()
     c = Case("an EVSE out of service is inoperative, and a claim on it stands")
     c.service("E1", False)
     c.put("service", "E1", {})
@@ -251,6 +275,7 @@ def starts():
     c.service("E9", False)
     c.start(3)
     c.resulted(4, 2, 3, "EVSE_INOPERATIVE")
+    c.stored()
     c = Case("where no EVSE is named, one out of service is passed over")
     c.service("E1", False)
     c.put("service", "E1", {})
@@ -262,6 +287,7 @@ def starts():
     c.put("service", "E2", {})
     c.start(3, evse=None)
     c.resulted(4, 2, 3, "EVSE_INOPERATIVE")
+    c.stored()
 
 
 def reservations():
@@ -276,6 +302,7 @@ def reservations():
     c.answered(6, 3, "REJECTED")
     c.reserve(1, "R1", "E1", "11:00:00", at="10:00:09")
     c.repeated(7, 1, "ACCEPTED")
+    c.stored()
     c = Case("a cancel that overtakes its reserve")
     c.cancel(5, "R1")
     c.resulted(1, 1, 5, "UNKNOWN_RESERVATION", [lambda: c.marked("R1", 5)])
@@ -289,6 +316,7 @@ def reservations():
     c.resulted(7, 3, 7, "ACCEPTED", [lambda: c.marked("R1", 7), lambda: c.drop("reservation", "NL/TNM/R1")])
     c.start(1, party="DE/EMP", uid="DD01")
     c.started(9, 1, "E1", party="DE/EMP")
+    c.stored()
     c = Case("a reservation that is used by its token, and by no other")
     c.reserve(1, "R1", "E1", "11:00:00")
     c.resulted(1, 1, 1, "ACCEPTED", [lambda: c.marked("R1", 1), lambda: c.reserved("R1", "E1", "11:00:00")])
@@ -302,11 +330,13 @@ def reservations():
     c.started(9, 2, "E1", used="R1")
     c.cancel(9, "R1")
     c.resulted(10, 5, 9, "UNKNOWN_RESERVATION", [lambda: c.marked("R1", 9)])
+    c.stored()
     c = Case("where no EVSE is named, the one that is reserved for the token goes before one that is unclaimed")
     c.reserve(1, "R1", "E2", "11:00:00")
     c.resulted(1, 1, 1, "ACCEPTED", [lambda: c.marked("R1", 1), lambda: c.reserved("R1", "E2", "11:00:00")])
     c.start(2, evse=None)
     c.started(3, 2, "E2", used="R1")
+    c.stored()
     c = Case("a reservation on an EVSE out of service is passed over, and stands")
     c.reserve(1, "R1", "E1", "11:00:00")
     c.resulted(1, 1, 1, "ACCEPTED", [lambda: c.marked("R1", 1), lambda: c.reserved("R1", "E1", "11:00:00")])
@@ -318,6 +348,7 @@ def reservations():
     c.drop("service", "E1")
     c.start(3, evse=None)
     c.started(4, 3, "E1", used="R1")
+    c.stored()
     c = Case("an EVSE that is claimed is not reserved, and the mark stays")
     c.start(1)
     c.started(1, 1, "E1")
@@ -335,6 +366,7 @@ def reservations():
     c.put("service", "E2", {})
     c.reserve(8, "R2", "E2", "13:00:00")
     c.resulted(11, 5, 8, "EVSE_INOPERATIVE", [lambda: c.marked("R2", 8)])
+    c.stored()
     c = Case("what is wrong with a reservation")
     c.reserve(1, "R1", "E1", "11:00:00", uid="DD01", owner="DE/EMP")
     c.answered(1, 1, 2001)
@@ -346,6 +378,7 @@ def reservations():
     c.answered(4, 4, "REJECTED")
     c.reserve(5, "R1", "E1", "10:00:00")
     c.answered(5, 5, "REJECTED")
+    c.stored()
 
 
 def others():
@@ -370,9 +403,11 @@ def others():
     c.answered(6, 4, "REJECTED")
     c.unlock(5, connector="2")
     c.answered(7, 5, "REJECTED")
+    c.stored()
     c = Case("a session that is not known")
     c.stop(2, "S1")
     c.answered(1, 2, "UNKNOWN_SESSION")
+    c.stored()
     c = Case("only the addressee's acknowledgement, of status 1000 and under its number, ends a push")
     c.cancel(5, "R1")
     c.resulted(1, 1, 5, "UNKNOWN_RESERVATION", [lambda: c.marked("R1", 5)])
@@ -385,6 +420,7 @@ def others():
     c.ack(1)
     c.cancel(5, "R1")
     c.repeated(3, 5, "ACCEPTED")
+    c.stored()
 
 
 def main():

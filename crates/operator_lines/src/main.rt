@@ -3,7 +3,7 @@
 //!
 //! The first line of the standard input is a site line. Each other is a moment, a space and a packet, or an event line, of
 //! which those that put an EVSE in service or out of it are served, or the word `fresh`: from there on it is a new operator
-//! of the same site. The program is a test of `operator_core`: its cases are the lines of the file `stdin`, and what they
+//! of the same site, or the word `stored`, which gives all rows that stand, as if each were put. The program is a test of `operator_core`: its cases are the lines of the file `stdin`, and what they
 //! must give stands in `stdout`; `tools/operator_cases.py` writes both. Lines end at LF; empty ones are skipped.
 //!
 //! A step that runs out of memory is made once more. So where an allocation of a step fails, whichever it is, the output is
@@ -69,6 +69,8 @@ fn take_lines<W: Write>(
                 Ok(fresh) => *operator = fresh,
                 Err(fault) => writeln!(output, "refused {fault}")?,
             }
+        } else if line == b"stored".as_slice() {
+            write_stored(alloc, operator, output)?;
         } else if !line.is_empty() {
             take_line(alloc, operator, line, output)?;
         }
@@ -157,6 +159,15 @@ fn stepped(operator: &mut Operator, at: Moment, packet: &Packet) -> Result<Stepp
         Err(OperatorFault::Memory) => operator.on_packet(at, packet),
         answer => answer,
     }
+}
+
+/// Writes all rows that stand.
+fn write_stored<W: Write>(alloc: Global, operator: &Operator, output: &mut W) -> io::Result<()> {
+    let rows = operator.stored()?;
+    for row in rows.as_slice() {
+        write_put(alloc, row, output)?;
+    }
+    Ok(())
 }
 
 /// Writes the packets that a step sends and the rows that it changes.
