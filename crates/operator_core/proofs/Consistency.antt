@@ -21,7 +21,7 @@ use Rattle.operator_core.specs.Consistent.{AreConsistent, Uses, Carries}
 use Rattle.operator_core.specs.Moves.{Out}
 use Rattle.operator_core.specs.Steps.{OperatorStep, Decides, reply_of, reference_of, deadline}
 use Rattle.operator_core.specs.Service.{ServiceStep}
-use Rattle.operator_core.specs.Laws.{Event, Happens, Stepped, Served, Comes, Serves, out_of}
+use Rattle.operator_core.specs.Laws.{Event, Happens, Stepped, Served, Comes, Serves}
 use Rattle.operator_core.proofs.Effects.{Leaves, results_after, spent_with}
 use Rattle.operator_core.proofs.Shapes.{Shape, Quiet, Repeated, Decided, shape_of}
 use Rattle.operator_core.proofs.Sends.{decided_leaves}

@@ -4,7 +4,7 @@ use Rattle.std.specs.Prelude.{Some, Contains, nat_eq}
 use Rattle.std.specs.List.{AllPairs}
 use Rattle.std.specs.declared.cmp.Ordering.{Ordering}
 use Rattle.std.specs.Cmp.{IsTotalOrder, nat_cmp_total}
-use Rattle.std.specs.FinMap.{FinMap, IsAntisymmetric, nat_cmp-IsAntisymmetric, get, entries, entries_sorted}
+use Rattle.std.specs.FinMap.{FinMap, IsAntisymmetric, nat_cmp-IsAntisymmetric, get, entries}
 use Rattle.std.proofs.lemmas.List.Elements.{Contains-append_left, Contains-append_right, Contains-append_cases}
 use Rattle.tables.specs.Keys.{text_total, text_exact, text_pair_total, text_pair_exact}
 use Rattle.ocpi_types.specs.Rows.{key_of}

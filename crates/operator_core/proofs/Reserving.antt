@@ -22,7 +22,7 @@ use Rattle.reservation_book.specs.Rows.{Reservations}
 use Rattle.reservation_book.specs.Rows.{Rows as BookRows}
 use Rattle.operator_core.specs.declared.decision.Decision.TheVariants as decision
 use Rattle.operator_core.specs.State.{Rows, Claims}
-use Rattle.operator_core.specs.Places.{MayReserve}
+use Rattle.operator_core.specs.Places.{IsEvseFor, MayReserve}
 use Rattle.operator_core.specs.Claimed.{IsIndexed}
 use Rattle.operator_core.specs.Reserve as lines
 use Rattle.operator_core.specs.Reserve.{IsPlaced, IsVoid, MayHold, ReserveLine, reservation_key, reservation_at}

@@ -1,12 +1,12 @@
 -- Changes of different rows lead from the rows before them to those after them.
-use Rattle.std.proofs.Common.{suc, ◌≡◌, ◌≢◌, ◌↔◌, ℕ, List, [], ◌∷◌, ◌++◌, map, ◌⊎◌, inl, inr, refl, sym, ap, subst, ◌∙◌}
+use Rattle.std.proofs.Common.{suc, ◌≡◌, ◌≢◌, ◌↔◌, List, [], ◌∷◌, map, ◌⊎◌, inl, inr, refl, sym, ap, subst, ◌∙◌}
 use Rattle.std.specs.Prelude.{Some, Contains, ⊤}
 use Rattle.std.specs.declared.cmp.Ordering.{Ordering}
 use Rattle.std.specs.Cmp.{IsTotalOrder, nat_cmp_total}
 use Rattle.std.specs.FinMap.{FinMap, IsAntisymmetric, nat_cmp-IsAntisymmetric, get, insert, remove}
 use Rattle.std.proofs.lemmas.List.Elements.{Contains-append_cases, Contains-append_right}
 use Rattle.tables.specs.Keys.{text_total, text_exact, text_number_total, text_number_exact, text_pair_total, text_pair_exact}
-use Rattle.tables.proofs.Maps.{of_insert, get-insert_same, get-insert_other, of_remove, get-remove_other, told}
+use Rattle.tables.proofs.Maps.{get-insert_same, get-insert_other, of_remove, get-remove_other, told}
 use Rattle.ocpi_types.specs.Rows.{key_of}
 use Rattle.ocpi_types.specs.declared.rows.Row.{Row}
 use Rattle.ocpi_types.specs.declared.rows.Row.TheVariants as row
@@ -15,8 +15,7 @@ use Rattle.ocpi_types.specs.declared.rows.RowKey.TheVariants as keys
 use Rattle.ocpi_types.specs.declared.rows.Change.{Change}
 use Rattle.ocpi_types.specs.declared.rows.Change.TheVariants.{Put, Drop}
 use Rattle.ocpi_types.specs.declared.rows.Counter.TheVariants as counter
-use Rattle.tables.proofs.Elements.{in_none, in_single, in_front, in_map, of_map}
-use Rattle.handover.specs.declared.push_book.Outgoing.{Outgoing}
+use Rattle.tables.proofs.Elements.{in_none, in_single, in_front, of_map}
 use Rattle.operator_core.specs.State.{Rows}
 use Rattle.operator_core.specs.Stored.{put_row, drop_row, changed, changed_all, Each, AreApart}
 use Rattle.operator_core.specs.Rows.{HasRow, change_key, AreChanges}

@@ -15,7 +15,7 @@ use Rattle.site.specs.Places.{Claims as ClaimMap, Idle, is_free, works}
 use Rattle.site.specs.Positions.{IsCandidate}
 use Rattle.operator_core.specs.State.{Rows, IsFree}
 use Rattle.operator_core.specs.Claimed.{IsIndexed}
-use Rattle.operator_core.specs.Places.{IsHeldFor, token_at}
+use Rattle.operator_core.specs.Places.{IsHeldFor, IsEvseFor, token_at}
 use Rattle.operator_core.specs.Start.{NoneHeld}
 use Rattle.operator_core.specs.Held.{token_of, IsHeldBy, HasNoHeld}
 

@@ -1,5 +1,5 @@
 -- How a RESERVE_NOW is decided (OCPI 2.2.1, Commands: ReserveNow; Status codes: 2001 and 2003).
-use Rattle.std.specs.Prelude.{◌≡◌, ◌≢◌, ◌≤◌, ℕ, false, List, Contains, ◌⊎◌}
+use Rattle.std.specs.Prelude.{◌≡◌, ◌≢◌, ◌≤◌, ℕ, false, List, ◌⊎◌}
 use Rattle.ocpi_text.specs.Text.{key}
 use Rattle.ocpi_types.specs.declared.site.Site.{Site}
 use Rattle.ocpi_types.specs.declared.site.Location.{Location}
@@ -12,7 +12,7 @@ use Rattle.operator_core.specs.declared.decision.Decision.{Decision}
 use Rattle.operator_core.specs.declared.decision.Decision.TheVariants.{Refused, Answered, Noted, Reserved}
 use Rattle.reservation_book.specs.Places.{Key}
 use Rattle.reservation_book.specs.Refusals.{IsInTime, IsHere}
-use Rattle.site.specs.Places.{IsLocation, IsNamed}
+use Rattle.site.specs.Places.{IsLocation}
 use Rattle.operator_core.specs.State.{Rows}
 use Rattle.operator_core.specs.Places.{Works, IsEvseFor, MayReserve}
 

@@ -1,5 +1,5 @@
 -- How a START_SESSION is decided (OCPI 2.2.1, Commands: StartSession; Status codes: 2001 and 2003).
-use Rattle.std.specs.Prelude.{◌≡◌, ◌≢◌, ℕ, false, List, Option, Some, None, IsSome, IsNone, Contains, ◌⊎◌}
+use Rattle.std.specs.Prelude.{◌≡◌, ◌≢◌, ℕ, false, List, Option, Some, None, IsSome, IsNone, ◌⊎◌}
 use Rattle.std.specs.FinMap.{get}
 use Rattle.ocpi_text.specs.Text.{key}
 use Rattle.ocpi_types.specs.declared.site.Site.{Site}
@@ -12,7 +12,7 @@ use Rattle.ocpi_types.specs.declared.words.CommandResultType.TheVariants as resu
 use Rattle.reservation_book.specs.declared.standing.Standing.{Standing}
 use Rattle.operator_core.specs.declared.decision.Decision.{Decision}
 use Rattle.operator_core.specs.declared.decision.Decision.TheVariants.{Refused, Answered, Resulted, Started}
-use Rattle.site.specs.Places.{IsLocation, IsNamed, Fits}
+use Rattle.site.specs.Places.{IsLocation, Fits}
 use Rattle.operator_core.specs.State.{Rows, Spent, IsFree}
 use Rattle.operator_core.specs.Places.{Works, IsHeldFor, IsEvseFor}
 
