@@ -20,7 +20,7 @@ use Rattle.tables.proofs.Maps.{equal_of_is_eq}
 use Rattle.handover.specs.Pushes.{Pushes}
 use Rattle.handover.specs.Resend.{Numbers, Resend, Moments, moment_number_cmp, TimeRooms, AreTimes, AreTimed}
 use Rattle.handover.specs.Due.{AreExactly, IsDue, IsTimeDue, numbers_of, due_front}
-use Rattle.handover.proofs.Timing.{queue_total, queue_exact, has_some, has_unit, not_above}
+use Rattle.handover.proofs.Timing.{queue_total, queue_exact, queued_by, has_some, has_unit, not_above}
 use Rattle.tables.proofs.Ordered.{former, latter, le_of_not_gt}
 use Rattle.tables.proofs.Elements.{in_none, in_single, in_front, in_map, of_map, all_of, no_pairs, joined}
 use Rattle.tables.proofs.Entries.{apart_of_less, below_each, listed, listed_only, all_apart}
@@ -133,11 +133,11 @@ module _ (fresh : Numbers) (resend : Resend) (queue : Moments) (rooms : TimeRoom
   front_due : (n : ℕ) → Contains front n → (d : ℕ) × (d ≤ at) × (get resend n ≡ Some d)
   front_due n i =
       let from = taken at (entries queue) n i in
-      (from.0, from.1, (h.queued from.0 n).0 (listed_only queue_total queue_exact queue (from.0, n) tt from.2))
+      (from.0, from.1, queued_by queue resend h.queued from.0 n (listed_only queue_total queue_exact queue (from.0, n) tt from.2))
 
   one : OneMoment at (entries queue)
   one d e n i j =
-      same_Some d e (sym ((h.queued d n).0 (listed_only queue_total queue_exact queue (d, n) tt i)) ∙ (h.queued e n).0 (listed_only queue_total queue_exact queue (e, n) tt j))
+      same_Some d e (sym (queued_by queue resend h.queued d n (listed_only queue_total queue_exact queue (d, n) tt i)) ∙ queued_by queue resend h.queued e n (listed_only queue_total queue_exact queue (e, n) tt j))
 
   none_twice : AllPairs (λ a b. a ≢ b) (at_once ++ front)
   none_twice = joined (λ (a b : ℕ). a ≢ b) at_once front
@@ -156,7 +156,7 @@ module _ (fresh : Numbers) (resend : Resend) (queue : Moments) (rooms : TimeRoom
     | inl f ↦ Contains-append_left at_once front n (in_map (λ (e : ℕ × Unit {0}). e.0) (entries fresh) (n, tt) (listed nat_cmp_total nat_cmp-IsAntisymmetric fresh n tt (has_unit (get fresh n) f)))
     | inr r ↦
         let had = has_some (get resend n) r in
-        Contains-append_right at_once front n (is_taken at (entries queue) (entries_sorted queue) had.0 n (is.past had.0 had.1) (listed queue_total queue_exact queue (had.0, n) tt ((h.queued had.0 n).1 had.1)))
+        Contains-append_right at_once front n (is_taken at (entries queue) (entries_sorted queue) had.0 n (is.past had.0 had.1) (listed queue_total queue_exact queue (had.0, n) tt (h.queued.complete n had.0 had.1)))
   ]
 
   are_due : (numbers : List ℕ) → IsPermutation (at_once ++ front) numbers → IsSorted nat_cmp numbers → AreExactly (IsTimeDue fresh resend at) numbers
