@@ -1,10 +1,10 @@
 -- Sessions and records that are held.
 use Rattle.std.proofs.Common.{◌≡◌, ◌≢◌, ◌↔◌, inl, inr, ℕ, List, refl, sym, ap, ◌∙◌}
-use Rattle.std.specs.Prelude.{Some, None, IsTrue}
+use Rattle.std.specs.Prelude.{Some, IsTrue}
 use Rattle.std.specs.FinMap.{FinMap, get, insert, remove, empty, get-empty, contains_key}
 use Rattle.ocpi_text.specs.Text.{key}
 use Rattle.tables.specs.Keys.{text_pair_cmp, text_pair_total, text_pair_exact, text_total, text_exact}
-use Rattle.tables.proofs.Maps.{get-insert_same, get-insert_other, get-remove_same, get-remove_other, of_insert, told, of_remove}
+use Rattle.tables.proofs.Maps.{of_insert, told, of_remove}
 use Rattle.ocpi_types.specs.declared.sessions.Session.{Session}
 use Rattle.ocpi_types.specs.declared.cdrs.Cdr.{Cdr}
 use Rattle.ocpi_types.specs.declared.rows.Row.TheVariants as row
@@ -15,7 +15,6 @@ use Rattle.handover.specs.declared.takings.CdrTaking.{CdrTaking}
 use Rattle.handover.specs.declared.takings.CdrTaking.TheVariants.{Taken, Kept, Conflict}
 use Rattle.handover.proofs.Keeping.{Texts}
 use Rattle.handover.proofs.Rooms.{other_room}
-use Rattle.std.proofs.lemmas.Option.{same_Some}
 use Rattle.tables.proofs.Options.{not_both}
 
 pub own_none : AreOwnSessions empty

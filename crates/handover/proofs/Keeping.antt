@@ -1,11 +1,10 @@
 -- What stands beside the records is kept by each change of them.
 use Rattle.std.proofs.Common.{◌≡◌, ◌≢◌, ◌↔◌, ◌⊎◌, inl, inr, ℕ, ◌<◌, ◌≤◌, ◌^◌, true, false, cond, List, [], ◌∷◌, map, length, refl, sym, ap, subst, ◌∙◌, arith}
 use Rattle.std.proofs.lemmas.Int.{ints}
-use Rattle.std.specs.Prelude.{ℤ, pos, ◌+ℤ◌, neg_ℤ, unsigned_abs, Option, Some, None, IsTrue, unwrap_or, Result, Err, IsOk, is_ok, is_some}
-use Rattle.std.specs.declared.cmp.Ordering.{Ordering}
-use Rattle.std.specs.FinMap.{FinMap, get, insert, remove, empty, entries, values, contains_key, get-empty, len, len-entries, len-empty, same_map, IsAntisymmetric}
+use Rattle.std.specs.Prelude.{ℤ, pos, ◌+ℤ◌, neg_ℤ, unsigned_abs, Some, None, IsTrue, unwrap_or, is_some}
+use Rattle.std.specs.FinMap.{FinMap, get, insert, remove, empty, entries, values, contains_key, get-empty, len, len-entries, len-empty, IsAntisymmetric}
 use Rattle.tables.specs.Keys.{text_cmp, text_pair_cmp, text_total, text_exact, text_pair_total, text_pair_exact, pair_exact}
-use Rattle.tables.proofs.Maps.{get-insert_same, get-insert_other, get-remove_same, get-remove_other, told, of_remove}
+use Rattle.tables.proofs.Maps.{get-insert_same, get-insert_other, told, of_remove}
 use Rattle.std.specs.Cmp.{IsTotalOrder}
 use Rattle.std.proofs.lemmas.Cmp.{on_total, then_total}
 use Rattle.ocpi_text.specs.Text.{key}

@@ -1,14 +1,14 @@
 -- The rows of an outbox as a list, and the outbox of a list.
 use Rattle.std.proofs.Common.{◌≡◌, ◌≢◌, ◌↔◌, ◌⊎◌, ℕ, List, [], ◌∷◌, map, inl, inr, true, false, cond, refl, sym, ap, subst, ◌∙◌, arith, nat_eq}
-use Rattle.std.specs.Prelude.{Option, Some, None, IsTrue, is_some, Contains}
+use Rattle.std.specs.Prelude.{Some, IsTrue, is_some, Contains}
 use Rattle.std.specs.List.{AllPairs}
 use Rattle.std.specs.Ordering.{nat_cmp}
 use Rattle.std.specs.Cmp.{nat_cmp_total}
-use Rattle.std.specs.FinMap.{nat_cmp-IsAntisymmetric, get, insert, remove, empty, entries, entries_sorted, contains_key, same_map, get-empty}
+use Rattle.std.specs.FinMap.{nat_cmp-IsAntisymmetric, get, insert, empty, entries, contains_key, same_map, get-empty}
 use Rattle.std.proofs.lemmas.Bool.Decides.{nat_tests}
 use Rattle.std.proofs.lemmas.List.Elements.{Contains-append_left, Contains-append_right, Contains-append_cases}
 use Rattle.std.proofs.lemmas.List.Kept.{AllPairs-cons}
-use Rattle.tables.proofs.Maps.{of_insert, get-insert_same, get-insert_other, get-remove_same, get-remove_other, told, remove_absent}
+use Rattle.tables.proofs.Maps.{of_insert, get-insert_same, get-insert_other, told, remove_absent}
 use Rattle.ocpi_types.specs.Rows.{key_of}
 use Rattle.ocpi_types.specs.declared.rows.Row.{Row}
 use Rattle.ocpi_types.specs.declared.rows.Row.TheVariants as row

@@ -1,14 +1,11 @@
 -- The room of pushes.
-use Rattle.std.proofs.Common.{◌≡◌, ◌≢◌, ℕ, zero, suc, true, false, refl, sym, ap, subst, ◌∙◌, arith}
-use Rattle.std.specs.Prelude.{Option, Some, None, IsTrue, is_some, Result, Err, IsOk, is_ok}
-use Rattle.std.specs.Ordering.{nat_cmp, is_gt}
-use Rattle.std.specs.declared.cmp.Ordering.TheVariants.{Less}
-use Rattle.std.specs.Cmp.{nat_cmp_total, nat_cmp_is, IsTotalOrder}
-use Rattle.std.specs.FinMap.{FinMap, nat_cmp-IsAntisymmetric, insert, remove, contains_key, IsAntisymmetric}
+use Rattle.std.proofs.Common.{◌≡◌, ◌≢◌, ℕ, ap, subst}
+use Rattle.std.specs.Prelude.{Option, Some, None, IsTrue}
+use Rattle.std.specs.Ordering.{nat_cmp}
+use Rattle.std.specs.Cmp.{nat_cmp_total}
+use Rattle.std.specs.FinMap.{FinMap, nat_cmp-IsAntisymmetric, remove, contains_key}
 use Rattle.handover.specs.declared.push_book.Subject.{Subject}
 use Rattle.handover.specs.Pushes.{PushRooms, HasRoomOfPush, HasSubjectRoom, KeepsPushRoom, subject_number_cmp}
-use Rattle.std.specs.declared.cmp.Ordering.{Ordering}
-use Rattle.tables.proofs.Maps.{get-insert_other, get-remove_other}
 use Rattle.handover.proofs.Indexing.{numbered_total, numbered_exact}
 use Rattle.handover.proofs.Rooms.{other_room}
 

@@ -1,6 +1,6 @@
 -- The sums of a list of records, one record after the other.
 use mir.Syntax.{w128}
-use Rattle.std.proofs.Common.{to_z, of_z, w64, zero, suc, ◌≡◌, ℕ, ◌+◌, ◌*◌, ◌≤◌, ◌<◌, ◌^◌, Bool, true, false, cond, List, [], ◌∷◌, ◌++◌, refl, sym, ap, subst, ◌∙◌, arith}
+use Rattle.std.proofs.Common.{to_z, of_z, w64, ◌≡◌, ℕ, ◌+◌, ◌*◌, ◌≤◌, ◌<◌, ◌^◌, Bool, true, false, cond, List, [], ◌∷◌, ◌++◌, refl, sym, ap, subst, ◌∙◌, arith}
 use Rattle.std.proofs.lemmas.Int.{ints}
 use Rattle.std.specs.Prelude.{◌||◌, ℤ, pos, ◌+ℤ◌, unsigned_abs, Some, None, unwrap_or, slice_get, take}
 use Rattle.std.specs.Ordering.{eq_by_cmp}

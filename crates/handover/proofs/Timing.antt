@@ -9,12 +9,11 @@ use Rattle.tables.specs.Tables.{IsLeast, HasNone}
 use Rattle.std.specs.declared.cmp.Ordering.{Ordering}
 use Rattle.std.specs.Cmp.{IsTotalOrder, nat_cmp_total}
 use Rattle.std.proofs.lemmas.Cmp.{on_total, then_total}
-use Rattle.std.specs.FinMap.{FinMap, IsAntisymmetric, nat_cmp-IsAntisymmetric, empty, get, insert, remove, contains_key, get-empty, same_map}
+use Rattle.std.specs.FinMap.{FinMap, IsAntisymmetric, nat_cmp-IsAntisymmetric, empty, get, insert, remove, contains_key, get-empty}
 use Rattle.tables.specs.Keys.{pair_exact}
-use Rattle.tables.proofs.Maps.{of_insert, of_remove, get-insert_same, get-insert_other, get-remove_same, get-remove_other, told, others_keep, insert_present, insert_removed}
+use Rattle.tables.proofs.Maps.{get-insert_same, get-insert_other, get-remove_same, get-remove_other, told, others_keep, insert_present, insert_removed}
 use Rattle.handover.specs.Resend.{Numbers, Resend, Moments, moment_number_cmp, unqueued, IsQueue, queue_entry, queue_number, TimeRooms, HasRoomOfNumber, AreTimes}
-use Rattle.tables.proofs.Options.{none_some, none_contained, known}
-use Rattle.std.proofs.lemmas.Option.{same_Some}
+use Rattle.tables.proofs.Options.{none_contained, known}
 use Rattle.handover.proofs.Rooms.{other_room}
 use Rattle.tables.proofs.Indexing.{listed, unlisted, none_unlisted, relisted, nothing_listed}
 

@@ -1,5 +1,5 @@
 -- Charge detail records that are held, by operator and id, and what stands beside them.
-use Rattle.std.specs.Prelude.{◌≡◌, ◌≢◌, ◌↔◌, ℕ, ℤ, ◌<◌, unsigned_abs, List, map, Some, IsTrue, false}
+use Rattle.std.specs.Prelude.{◌≡◌, ◌≢◌, ℕ, ℤ, ◌<◌, unsigned_abs, List, map, Some, IsTrue, false}
 use Rattle.std.specs.FinMap.{FinMap, get, contains_key, entries, values}
 use Rattle.std.specs.declared.cmp.Ordering.{Ordering}
 use Rattle.std.specs.declared.cmp.Ordering.TheVariants.{Less}

@@ -1,8 +1,8 @@
 -- When pushes are sent again.
-use Rattle.std.specs.Prelude.{◌≡◌, ◌↔◌, ◌⊎◌, ◌+◌, ◌≤◌, ℕ, min, Option, Some, None, IsTrue}
+use Rattle.std.specs.Prelude.{◌↔◌, ◌⊎◌, ◌+◌, ◌≤◌, ℕ, min, Option, Some, None, IsTrue}
 use Rattle.std.specs.declared.cmp.Ordering.{Ordering}
 use Rattle.std.specs.Ordering.{nat_cmp}
-use Rattle.std.specs.FinMap.{FinMap, get, remove, contains_key}
+use Rattle.std.specs.FinMap.{FinMap, remove, contains_key}
 use Rattle.ocpi_text.specs.Moment.{last_moment}
 use Rattle.tables.specs.Keys.{pair_cmp}
 use Rattle.handover.specs.Pushes.{Pushes, PushRooms}

@@ -2,7 +2,7 @@ use Rattle.std.proofs.Common.{sym, ap, ◌∙◌, arith, option_copied, Bor}
 use Rattle.std.specs.Prelude.{Option}
 use Rattle.std.proofs.lemmas.Int.{ints}
 use Rattle.ocpi_types.specs.declared.cdrs.Cdr.{Cdr}
-use Rattle.tables.specs.Keys.{text_pair_cmp, text_pair_total, text_pair_exact}
+use Rattle.tables.specs.Keys.{text_pair_total, text_pair_exact}
 use Rattle.tables.proofs.Maps.{remove_absent}
 use Rattle.handover.proofs.Keeping.{sum_bound, account_room, cleared}
 use Rattle.handover.proofs.cdr_book.CdrBook.clear.Goals as goal

@@ -3,7 +3,7 @@ use Rattle.std.specs.Prelude.{Option, is_some}
 use Rattle.std.specs.FinMap.{get}
 use Rattle.ocpi_text.specs.Text.{key}
 use Rattle.ocpi_types.specs.declared.cdrs.Cdr.{Cdr}
-use Rattle.tables.specs.Keys.{text_pair_cmp, text_pair_total, text_pair_exact}
+use Rattle.tables.specs.Keys.{text_pair_total, text_pair_exact}
 use Rattle.tables.proofs.Maps.{get-remove_same, remove_absent}
 use Rattle.handover.specs.Cdrs.{Cdrs, HasRoomOfCdr, HeldCdrs}
 use Rattle.handover.proofs.Keeping.{Texts, lost_record, lost_both, none_listed, gave_one, gave_both}

@@ -1,6 +1,5 @@
 use Rattle.std.proofs.Common.{◌∙◌, sym, ap, subst, option_copied, Bor}
 use Rattle.std.specs.Prelude.{Option, is_some}
-use Rattle.std.specs.Ordering.{nat_cmp}
 use Rattle.std.specs.Cmp.{nat_cmp_total}
 use Rattle.std.specs.FinMap.{nat_cmp-IsAntisymmetric, get, remove}
 use Rattle.tables.proofs.Maps.{get-remove_same, remove_absent}
