@@ -1,5 +1,5 @@
 -- What stands beside the records is kept by each change of them.
-use Rattle.std.proofs.Common.{◌≡◌, ◌≢◌, ◌↔◌, ◌⊎◌, inl, inr, ℕ, ◌<◌, ◌≤◌, ◌^◌, true, false, cond, List, [], ◌∷◌, map, length, refl, sym, ap, subst, ◌∙◌, arith}
+use Rattle.std.proofs.Common.{◌≡◌, ◌≢◌, ◌↔◌, ◌⊎◌, inl, inr, ℕ, ◌<◌, ◌≤◌, ◌^◌, true, false, cond, List, [], map, refl, sym, ap, subst, ◌∙◌, arith}
 use Rattle.std.proofs.lemmas.Int.{ints}
 use Rattle.std.specs.Prelude.{ℤ, pos, ◌+ℤ◌, neg_ℤ, unsigned_abs, Some, None, IsTrue, unwrap_or, is_some}
 use Rattle.std.specs.FinMap.{FinMap, get, insert, remove, empty, entries, values, contains_key, get-empty, len, len-entries, len-empty, IsAntisymmetric}
@@ -18,6 +18,7 @@ use Rattle.std.proofs.lemmas.Option.{same_Some}
 use Rattle.tables.proofs.Options.{not_both, none_else}
 use Rattle.handover.proofs.Rooms.{other_room, room_gone}
 use Rattle.tables.proofs.Indexing.{listed, unlisted, nothing_listed}
+use Rattle.std.proofs.lemmas.List.{nil_from_length}
 
 abbrev pub Texts : Type 0
 Texts = List ℕ × List ℕ
@@ -138,11 +139,7 @@ kept_none = record {
 }
   where
     no_entries : entries (empty {X = Cdr} {R = text_pair_cmp}) ≡ []
-    no_entries = nothing (entries empty) (sym (len-entries empty) ∙ len-empty text_pair_cmp Cdr)
-      where
-        nothing : (es : List (Texts × Cdr)) → length es ≡ 0 → es ≡ []
-        nothing [] h = refl
-        nothing (e ∷ es) h = absurd (omega arith)
+    no_entries = nil_from_length (entries empty) (sym (len-entries empty) ∙ len-empty text_pair_cmp Cdr)
 
 -- a record under another id of a session, by the index
 module _ (m : Cdrs) (sessions : FinMap session_cmp (Unit {0})) (sums : FinMap text_pair_cmp ℤ) (rooms : FinMap text_pair_cmp (Unit {0})) (kept : IsKept m sessions sums rooms) where
