@@ -3,13 +3,12 @@ use Rattle.std.proofs.Common.{◌≡◌, ◌≢◌, ◌<◌, ◌≤◌, ℕ, Lis
 use Rattle.std.specs.Prelude.{Some, IsTrue, is_some, Contains, nat_le, take_while}
 use Rattle.std.specs.List.{AllPairs}
 use Rattle.std.specs.List.Sorted.{IsSorted, IsPermutation}
-use Rattle.std.specs.Ordering.{eq_by_cmp, is_eq, is_lt, is_gt, is_le, nat_cmp, ordering_reverse, ordering_then}
+use Rattle.std.specs.Ordering.{eq_by_cmp, is_eq, is_lt, is_gt, nat_cmp, ordering_reverse, ordering_then}
 use Rattle.std.specs.declared.cmp.Ordering.{Ordering}
 use Rattle.std.specs.declared.cmp.Ordering.TheVariants.{Less, Equal, Greater}
 use Rattle.std.specs.BTreeMap.Range.{entries_from}
 use Rattle.std.specs.Cmp.{IsTotalOrder, eq_by_cmp_equiv, nat_cmp_total}
 use Rattle.std.specs.FinMap.{nat_cmp-IsAntisymmetric, is_sorted, get, entries, entries_sorted, contains_key}
-use Rattle.std.specs.FinMap.Entries.{below_all}
 use Rattle.std.proofs.lemmas.List.Elements.{Contains-append_left, Contains-append_right, Contains-append_cases}
 use Rattle.std.proofs.lemmas.List.Kept.{AllPairs-cons}
 use Rattle.std.proofs.lemmas.List.Sorted.{sorted_far, ranks_by, Contains-permutation, IsPermutation-sym}
@@ -20,8 +19,11 @@ use Rattle.tables.proofs.Maps.{equal_of_is_eq}
 use Rattle.handover.specs.Pushes.{Pushes}
 use Rattle.handover.specs.Resend.{Numbers, Resend, Moments, moment_number_cmp, TimeRooms, AreTimes, AreTimed}
 use Rattle.handover.specs.Due.{AreExactly, IsDue, IsTimeDue, numbers_of, due_front}
-use Rattle.handover.proofs.Timing.{queue_total, queue_exact, same_value, has_some, has_unit, not_above}
-use Rattle.handover.proofs.ListedEntries.{former, latter, less, in_none, in_single, in_front, in_map, of_map, all_of, no_pairs, joined, apart_of_less, listed, listed_only, each_apart}
+use Rattle.handover.proofs.Timing.{queue_total, queue_exact, queued_by, has_some, has_unit, not_above}
+use Rattle.tables.proofs.Ordered.{former, latter, le_of_not_gt}
+use Rattle.tables.proofs.Elements.{in_none, in_single, in_front, in_map, of_map, all_of, no_pairs, joined}
+use Rattle.tables.proofs.Entries.{apart_of_less, below_each, listed, listed_only, all_apart}
+use Rattle.std.proofs.lemmas.Option.{same_Some}
 
 abbrev Entry : Type 0
 Entry = (ℕ × ℕ) × Unit {0}
@@ -40,13 +42,6 @@ late a b h = grind (arith, nat_tests)
 -- an earlier entry has no later moment
 rises : (a b : ℕ × ℕ) → moment_number_cmp a b ≡ Less → a.0 ≤ b.0
 rises a b h = le_from_not_gt a.0 b.0 (first_not_greater (nat_cmp a.0 b.0) (nat_cmp a.1 b.1) h)
-
-below_of : (x : ℕ × ℕ) (es : List Entry) → T (below_all moment_number_cmp x es) → (e : Entry) → Contains es e → moment_number_cmp x e.0 ≡ Less
-below_of x [] h e i = absurd (in_none e i)
-below_of x (y ∷ ys) h e i = elim (Contains-append_cases (y ∷ []) ys e i) [
-  | inl j ↦ subst (λ (z : Entry). moment_number_cmp x z.0 ≡ Less) (in_single y e j) (less (moment_number_cmp x y.0) (former _ _ h))
-  | inr j ↦ below_of x ys (latter _ _ h) e j
-]
 
 module _ (at : ℕ) where
   front_step : (e : Entry) (es : List Entry) → due_front at (e ∷ es) ≡ cond (nat_le e.0.0 at) (e.0.1 ∷ due_front at es) []
@@ -74,7 +69,7 @@ module _ (at : ℕ) where
     ]
     | false ↦ λ behind. absurd (elim (Contains-append_cases (e ∷ []) es ((d, r), tt) i) [
       | inl j ↦ let same : e.0.0 ≡ d = (λ k. (in_single e ((d, r), tt) j k).0.0) in let after = late e.0.0 at behind in omega arith
-      | inr j ↦ let later = rises e.0 (d, r) (below_of e.0 es (former _ _ h) ((d, r), tt) j) in let after = late e.0.0 at behind in omega arith
+      | inr j ↦ let later = rises e.0 (d, r) (below_each moment_number_cmp e.0 es (former _ _ h) ((d, r), tt) j) in let after = late e.0.0 at behind in omega arith
     ])
   ] refl)
 
@@ -86,7 +81,7 @@ module _ (at : ℕ) where
   taken_once : (es : List Entry) → T (is_sorted moment_number_cmp es) → OneMoment es → AllPairs (λ a b. a ≢ b) (due_front at es)
   taken_once [] h one = no_pairs (λ a b. a ≢ b)
   taken_once (e ∷ es) h one = subst (AllPairs (λ a b. a ≢ b)) (sym (front_step e es)) (elim (nat_le e.0.0 at) as (λ b. AllPairs (λ a b. a ≢ b) (cond b (e.0.1 ∷ due_front at es) [])) [
-    | true ↦ AllPairs-cons (λ a b. a ≢ b) e.0.1 (due_front at es) (all_of (λ (a b : ℕ). a ≢ b) (λ r. e.0.1 ≢ r) (due_front at es) new)
+    | true ↦ AllPairs-cons (λ a b. a ≢ b) e.0.1 (due_front at es) (all_of (λ r. e.0.1 ≢ r) (due_front at es) new)
         (taken_once es (latter _ _ h) (λ d f r i j. one d f r (Contains-append_right (e ∷ []) es _ i) (Contains-append_right (e ∷ []) es _ j)))
     | false ↦ no_pairs (λ (a b : ℕ). a ≢ b)
   ])
@@ -95,7 +90,7 @@ module _ (at : ℕ) where
       new r i same =
           let from = taken es r i in
           let until : e.0.0 ≡ from.0 = one e.0.0 from.0 r (subst (λ z. Contains (e ∷ es) ((e.0.0, z), tt)) same (in_front e es)) (Contains-append_right (e ∷ []) es _ from.2) in
-          apart_of_less queue_total e.0 (from.0, r) (below_of e.0 es (former _ _ h) ((from.0, r), tt) from.2) (λ k. (until k, same k))
+          apart_of_less queue_total e.0 (from.0, r) (below_each moment_number_cmp e.0 es (former _ _ h) ((from.0, r), tt) from.2) (λ k. (until k, same k))
 
 module _ {K : Type 0} {R : K → K → Ordering} (o : IsTotalOrder R) where
   turned : (a b : K) (r : Ordering) → R a b ≡ r → is_lt (R b a) ≡ false → is_eq r ≡ false → r ≡ Less
@@ -114,11 +109,6 @@ module _ {K : Type 0} {R : K → K → Ordering} (o : IsTotalOrder R) where
 
 less_than : (a b : ℕ) → nat_cmp a b ≡ Less → a < b
 less_than a b h = let t : is_lt (nat_cmp a b) ≡ true = ap is_lt h in grind (arith, nat_tests)
-
-le_of_not_gt : (r : Ordering) → is_gt r ≡ false → is_le r ≡ true
-le_of_not_gt Less e = refl
-le_of_not_gt Equal e = refl
-le_of_not_gt Greater e = absurd (let f : true ≡ false = e in cc)
 
 -- no number below the first is passed over
 all_from : (first : ℕ) (es : List (ℕ × Unit {0})) → ((e : ℕ × Unit {0}) → Contains es e → first ≤ e.0) → entries_from (nat_cmp first) es ≡ es
@@ -142,22 +132,22 @@ module _ (fresh : Numbers) (resend : Resend) (queue : Moments) (rooms : TimeRoom
   front_due : (n : ℕ) → Contains front n → (d : ℕ) × (d ≤ at) × (get resend n ≡ Some d)
   front_due n i =
       let from = taken at (entries queue) n i in
-      (from.0, from.1, (h.queued from.0 n).0 (listed_only queue_total queue_exact queue (from.0, n) tt from.2))
+      (from.0, from.1, queued_by queue resend h.queued from.0 n (listed_only queue_total queue_exact queue (from.0, n) tt from.2))
 
   one : OneMoment at (entries queue)
   one d e n i j =
-      same_value d e (sym ((h.queued d n).0 (listed_only queue_total queue_exact queue (d, n) tt i)) ∙ (h.queued e n).0 (listed_only queue_total queue_exact queue (e, n) tt j))
+      same_Some d e (sym (queued_by queue resend h.queued d n (listed_only queue_total queue_exact queue (d, n) tt i)) ∙ queued_by queue resend h.queued e n (listed_only queue_total queue_exact queue (e, n) tt j))
 
-  all_apart : AllPairs (λ a b. a ≢ b) (at_once ++ front)
-  all_apart = joined (λ (a b : ℕ). a ≢ b) at_once front
-      (each_apart nat_cmp_total nat_cmp-IsAntisymmetric (λ (e : ℕ × Unit {0}). e.0) (λ (a b : ℕ). a ≢ b) (λ a b below. apart_of_less nat_cmp_total a.0 b.0 below) (entries fresh) (entries_sorted fresh))
+  none_twice : AllPairs (λ a b. a ≢ b) (at_once ++ front)
+  none_twice = joined (λ (a b : ℕ). a ≢ b) at_once front
+      (all_apart nat_cmp_total nat_cmp-IsAntisymmetric (λ (e : ℕ × Unit {0}). e.0) fresh (λ (a b : ℕ). a ≢ b) (λ a b p q apart. apart))
       (taken_once at (entries queue) (entries_sorted queue) one)
       (λ x y i j same. h.apart x (once_fresh x i) (subst (λ z. IsTrue (contains_key resend z)) (sym same) (ap is_some (front_due y j).2)))
 
   due_in : (n : ℕ) → Contains (at_once ++ front) n → IsTimeDue fresh resend at n
   due_in n i = elim (Contains-append_cases at_once front n i) [
     | inl j ↦ let new = once_fresh n j in record { timed = inl new; past = λ d is. absurd (h.apart n new (ap is_some is)) }
-    | inr j ↦ let from = front_due n j in record { timed = inr (ap is_some from.2); past = λ d is. subst (λ z. z ≤ at) (same_value from.0 d (sym from.2 ∙ is)) from.1 }
+    | inr j ↦ let from = front_due n j in record { timed = inr (ap is_some from.2); past = λ d is. subst (λ z. z ≤ at) (same_Some from.0 d (sym from.2 ∙ is)) from.1 }
   ]
 
   in_due : (n : ℕ) → IsTimeDue fresh resend at n → Contains (at_once ++ front) n
@@ -165,7 +155,7 @@ module _ (fresh : Numbers) (resend : Resend) (queue : Moments) (rooms : TimeRoom
     | inl f ↦ Contains-append_left at_once front n (in_map (λ (e : ℕ × Unit {0}). e.0) (entries fresh) (n, tt) (listed nat_cmp_total nat_cmp-IsAntisymmetric fresh n tt (has_unit (get fresh n) f)))
     | inr r ↦
         let had = has_some (get resend n) r in
-        Contains-append_right at_once front n (is_taken at (entries queue) (entries_sorted queue) had.0 n (is.past had.0 had.1) (listed queue_total queue_exact queue (had.0, n) tt ((h.queued had.0 n).1 had.1)))
+        Contains-append_right at_once front n (is_taken at (entries queue) (entries_sorted queue) had.0 n (is.past had.0 had.1) (listed queue_total queue_exact queue (had.0, n) tt (h.queued.complete n had.0 had.1)))
   ]
 
   are_due : (numbers : List ℕ) → IsPermutation (at_once ++ front) numbers → IsSorted nat_cmp numbers → AreExactly (IsTimeDue fresh resend at) numbers
@@ -174,7 +164,7 @@ module _ (fresh : Numbers) (resend : Resend) (queue : Moments) (rooms : TimeRoom
       λ i. due_in n (Contains-permutation numbers (at_once ++ front) n (IsPermutation-sym (at_once ++ front) numbers moved) i),
       λ is. Contains-permutation (at_once ++ front) numbers n moved (in_due n is),
     );
-    in_order = λ i j d below bound. less_than _ _ (rise nat_cmp_total (λ x y e. nat_cmp-IsAntisymmetric x y (equal_of_is_eq (nat_cmp x y) e)) (at_once ++ front) numbers all_apart moved up i j d below bound);
+    in_order = λ i j d below bound. less_than _ _ (rise nat_cmp_total (λ x y e. nat_cmp-IsAntisymmetric x y (equal_of_is_eq (nat_cmp x y) e)) (at_once ++ front) numbers none_twice moved up i j d below bound);
   }
 
   pub due_sorted : (before middle last numbers : List ℕ) → before ≡ [] → middle ≡ before ++ numbers_of (entries_from (nat_cmp first) (entries fresh)) → last ≡ middle ++ due_front at (entries queue) →

@@ -1,10 +1,10 @@
 -- Sessions and records that are held.
 use Rattle.std.proofs.Common.{◌≡◌, ◌≢◌, ◌↔◌, inl, inr, ℕ, List, refl, sym, ap, ◌∙◌}
-use Rattle.std.specs.Prelude.{Some, None, IsTrue}
+use Rattle.std.specs.Prelude.{Some, IsTrue}
 use Rattle.std.specs.FinMap.{FinMap, get, insert, remove, empty, get-empty, contains_key}
 use Rattle.ocpi_text.specs.Text.{key}
 use Rattle.tables.specs.Keys.{text_pair_cmp, text_pair_total, text_pair_exact, text_total, text_exact}
-use Rattle.tables.proofs.Maps.{get-insert_same, get-insert_other, get-remove_same, get-remove_other, of_insert}
+use Rattle.tables.proofs.Maps.{of_insert, told, of_remove}
 use Rattle.ocpi_types.specs.declared.sessions.Session.{Session}
 use Rattle.ocpi_types.specs.declared.cdrs.Cdr.{Cdr}
 use Rattle.ocpi_types.specs.declared.rows.Row.TheVariants as row
@@ -13,26 +13,21 @@ use Rattle.handover.specs.Cdrs.{Cdrs, CdrRooms, AreOwnCdrs, HasOther, HasOnePerS
 use Rattle.handover.specs.Inbox.{Sessions, AreOwnSessions, KeepsRoom, KeepsOtherRoom, IsInConflict, session_key}
 use Rattle.handover.specs.declared.takings.CdrTaking.{CdrTaking}
 use Rattle.handover.specs.declared.takings.CdrTaking.TheVariants.{Taken, Kept, Conflict}
-use Rattle.handover.proofs.Totals.{told}
-use Rattle.handover.proofs.Keeping.{Texts, other_room}
+use Rattle.handover.proofs.Keeping.{Texts}
+use Rattle.handover.proofs.Rooms.{other_room}
+use Rattle.tables.proofs.Options.{not_both}
 
 pub own_none : AreOwnSessions empty
-own_none k s h = absurd (let bad : Some s ≡ None = sym h ∙ get-empty text_pair_cmp k in cc)
-
-same_value : {A : Type 0} (x y : A) → Some x ≡ Some y → x ≡ y
-same_value x y e = cc
+own_none k s h = not_both s _ (get-empty text_pair_cmp k) h
 
 pub own_put : (m : Sessions) → AreOwnSessions m → (k : Texts) (s : Session) → k ≡ session_key s → AreOwnSessions (insert m k s)
-own_put m own k s at q t h = elim (told text_pair_total text_pair_exact q k) [
-  | inl same ↦ same ∙ at ∙ ap session_key (same_value s t (sym (get-insert_same text_pair_total text_pair_exact m k s) ∙ ap (get (insert m k s)) (sym same) ∙ h))
-  | inr apart ↦ own q t (sym (get-insert_other text_pair_total text_pair_exact m k s q apart) ∙ h)
+own_put m own k s at q t h = elim (of_insert text_pair_total text_pair_exact m k s q t h) [
+  | inl is ↦ is.0 ∙ at ∙ ap session_key is.1
+  | inr had ↦ own q t had
 ]
 
 pub own_remove : (m : Sessions) → AreOwnSessions m → (k : Texts) → AreOwnSessions (remove m k)
-own_remove m own k q t h = elim (told text_pair_total text_pair_exact q k) [
-  | inl same ↦ absurd (let bad : Some t ≡ None = sym h ∙ ap (get (remove m k)) same ∙ get-remove_same text_pair_total text_pair_exact m k in cc)
-  | inr apart ↦ own q t (sym (get-remove_other text_pair_total text_pair_exact m k q apart) ∙ h)
-]
+own_remove m own k q t h = own q t (of_remove text_pair_total text_pair_exact m k q t h).1
 
 -- more room for sessions
 pub keeps_sessions : (s t : FinMap text_pair_cmp (Unit {0})) (c : CdrRooms) → ((q : Texts) → IsTrue (contains_key s q) → IsTrue (contains_key t q)) → KeepsRoom (record { sessions = s; cdrs = c }) (record { sessions = t; cdrs = c })

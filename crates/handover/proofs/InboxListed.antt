@@ -15,7 +15,9 @@ use Rattle.ocpi_types.specs.declared.rows.Row.TheVariants as row
 use Rattle.handover.specs.Cdrs.{cdr_key, cdr_row}
 use Rattle.handover.specs.Inbox.{InboxRows, no_rows, HasRow, put_row, session_key}
 use Rattle.handover.specs.InboxListing.{AreOwnRows, AreRowsOf, RowsAreAll, put_rows, rows_of, session_row}
-use Rattle.handover.proofs.Entries.{in_front, of_map, joined, listed_only, found_in, each_in, all_apart, insert_all, all_entries, same_option}
+use Rattle.tables.proofs.Elements.{in_front, of_map, joined}
+use Rattle.tables.proofs.Entries.{listed_only, found_in, each_in, all_apart, insert_all, all_entries}
+use Rattle.tables.proofs.Options.{same_option}
 use Rattle.handover.proofs.Keeping.{Texts}
 
 abbrev Apart : Row → Row → Type 0

@@ -1,35 +1,25 @@
 -- The index of pushes by what they are about is kept by each change of them.
-use Rattle.std.proofs.Common.{◌≡◌, ◌≢◌, ◌↔◌, inl, inr, ℕ, refl, sym, ap, ◌∙◌}
-use Rattle.std.specs.Prelude.{Option, Some, None}
-use Rattle.std.specs.Ordering.{nat_cmp}
+use Rattle.std.proofs.Common.{◌≡◌, ◌≢◌, ◌↔◌, inl, inr, ℕ, refl, sym, ap, ◌∙◌, false}
+use Rattle.std.specs.Prelude.{Some, None, is_some}
+use Rattle.std.specs.Ordering.{nat_cmp, ordering_then, is_gt}
 use Rattle.std.specs.Cmp.{IsTotalOrder, nat_cmp_total}
-use Rattle.std.proofs.Common.{false}
-use Rattle.std.specs.Prelude.{is_some}
-use Rattle.std.specs.Ordering.{ordering_then, is_gt}
-use Rattle.std.specs.declared.cmp.Ordering.{Ordering}
-use Rattle.std.proofs.lemmas.Cmp.{tied_itself}
+use Rattle.std.proofs.lemmas.Cmp.{tied_itself, on_total, then_total}
 use Rattle.std.proofs.lemmas.Map.Keys.{le_from_not_gt}
 use Rattle.tables.specs.Tables.{IsLeast, HasNone}
-use Rattle.std.specs.FinMap.{FinMap, IsAntisymmetric, nat_cmp-IsAntisymmetric, get, insert, remove, empty, get-empty, contains_key, same_map}
-use Rattle.std.proofs.lemmas.Cmp.{on_total, then_total}
+use Rattle.std.specs.FinMap.{FinMap, IsAntisymmetric, nat_cmp-IsAntisymmetric, get, insert, remove, empty, get-empty, contains_key}
 use Rattle.tables.specs.Keys.{pair_exact}
-use Rattle.tables.proofs.Maps.{get-insert_same, get-insert_other, get-remove_same, get-remove_other}
+use Rattle.tables.proofs.Maps.{get-insert_same, get-insert_other, get-remove_same, get-remove_other, told}
 use Rattle.handover.specs.declared.push_book.Outgoing.{Outgoing}
 use Rattle.handover.specs.declared.push_book.Subject.{Subject}
 use Rattle.handover.specs.Pushes.{Pushes, subject_of, subject_cmp, subject_total, subject_exact, subject_number_cmp, AreIndexed, IsReplaced}
-use Rattle.handover.proofs.Totals.{told}
+use Rattle.std.proofs.lemmas.Option.{same_Some}
+use Rattle.tables.proofs.Options.{not_both, none_else}
 
 pub numbered_total : IsTotalOrder subject_number_cmp
 numbered_total = then_total (on_total (λ (p : Subject × ℕ). p.0) subject_total) (on_total (λ (p : Subject × ℕ). p.1) nat_cmp_total)
 
 pub numbered_exact : IsAntisymmetric subject_number_cmp
 numbered_exact = pair_exact subject_cmp nat_cmp subject_exact nat_cmp-IsAntisymmetric
-
-same_value : {A : Type 0} (x y : A) → Some x ≡ Some y → x ≡ y
-same_value x y e = cc
-
-not_both : {A : Type 0} (x : A) (o : Option A) → o ≡ Some x → o ≡ None → ⊥
-not_both x o e f = let bad : Some x ≡ None = sym e ∙ f in cc
 
 module _ (m : Pushes) (subjects : FinMap subject_number_cmp (Unit {0})) (indexed : AreIndexed m subjects) (n : ℕ) where
   gone : get (remove m n) n ≡ None
@@ -41,7 +31,7 @@ module _ (m : Pushes) (subjects : FinMap subject_number_cmp (Unit {0})) (indexed
   -- the index of the other pushes, where it is without the entries of that number
   others : (after : FinMap subject_number_cmp (Unit {0})) → ((q : Subject × ℕ) → q.1 ≢ n → get after q ≡ get subjects q) → ((q : Subject × ℕ) → q.1 ≡ n → get after q ≡ Some tt → ⊥) → AreIndexed (remove m n) after
   others after same none q = elim (told nat_cmp_total nat_cmp-IsAntisymmetric q.1 n) [
-    | inl at ↦ (λ h. absurd (none q at h), λ h. absurd (not_both h.0 (get (remove m n) q.1) h.1 (ap (get (remove m n)) at ∙ gone)))
+    | inl at ↦ (λ h. absurd (none q at h), λ h. absurd (not_both h.0 (get (remove m n) q.1) (ap (get (remove m n)) at ∙ gone) h.1))
     | inr apart ↦ (
       λ h. let was = (indexed q).0 (sym (same q apart) ∙ h) in (was.0, left q.1 apart ∙ was.1, was.2),
       λ h. same q apart ∙ (indexed q).1 (h.0, sym (left q.1 apart) ∙ h.1, h.2),
@@ -52,11 +42,11 @@ module _ (m : Pushes) (subjects : FinMap subject_number_cmp (Unit {0})) (indexed
   clear_some x u had about = others (remove subjects (u, n))
       (λ q apart. get-remove_other numbered_total numbered_exact subjects (u, n) q (λ same. apart (ap (λ (p : Subject × ℕ). p.1) same)))
       (λ q at h. elim (told numbered_total numbered_exact q (u, n)) [
-        | inl same ↦ not_both tt (get (remove subjects (u, n)) q) h (ap (get (remove subjects (u, n))) same ∙ get-remove_same numbered_total numbered_exact subjects (u, n))
+        | inl same ↦ not_both tt (get (remove subjects (u, n)) q) (ap (get (remove subjects (u, n))) same ∙ get-remove_same numbered_total numbered_exact subjects (u, n)) h
         | inr apart ↦
             let was = (indexed q).0 (sym (get-remove_other numbered_total numbered_exact subjects (u, n) q apart) ∙ h) in
-            let one : was.0 ≡ x = same_value _ _ (sym was.1 ∙ ap (get m) at ∙ had) in
-            let of : q.0 ≡ u = same_value _ _ (sym was.2 ∙ ap subject_of one ∙ about) in
+            let one : was.0 ≡ x = same_Some _ _ (sym was.1 ∙ ap (get m) at ∙ had) in
+            let of : q.0 ≡ u = same_Some _ _ (sym was.2 ∙ ap subject_of one ∙ about) in
             apart (λ i. (of i, at i))
       ])
 
@@ -64,8 +54,8 @@ module _ (m : Pushes) (subjects : FinMap subject_number_cmp (Unit {0})) (indexed
   clear_none x had about = others subjects (λ q apart. refl)
       (λ q at h.
       let was = (indexed q).0 h in
-      let one : was.0 ≡ x = same_value _ _ (sym was.1 ∙ ap (get m) at ∙ had) in
-      not_both q.0 (subject_of x) (ap subject_of (sym one) ∙ was.2) about)
+      let one : was.0 ≡ x = same_Some _ _ (sym was.1 ∙ ap (get m) at ∙ had) in
+      not_both q.0 (subject_of x) about (ap subject_of (sym one) ∙ was.2))
 
   module _ (x : Outgoing) (new : get m n ≡ None) where
     put : get (insert m n x) n ≡ Some x
@@ -78,7 +68,7 @@ module _ (m : Pushes) (subjects : FinMap subject_number_cmp (Unit {0})) (indexed
     with_new after same here q = elim (told nat_cmp_total nat_cmp-IsAntisymmetric q.1 n) [
       | inl at ↦ (
         λ h. (x, ap (get (insert m n x)) at ∙ put, (here q at).0 h),
-        λ h. (here q at).1 (let one : x ≡ h.0 = same_value _ _ (sym put ∙ ap (get (insert m n x)) (sym at) ∙ h.1) in ap subject_of one ∙ h.2),
+        λ h. (here q at).1 (let one : x ≡ h.0 = same_Some _ _ (sym put ∙ ap (get (insert m n x)) (sym at) ∙ h.1) in ap subject_of one ∙ h.2),
       )
       | inr apart ↦ (
         λ h. let was = (indexed q).0 (sym (same q apart) ∙ h) in (was.0, stays q.1 apart ∙ was.1, was.2),
@@ -87,7 +77,7 @@ module _ (m : Pushes) (subjects : FinMap subject_number_cmp (Unit {0})) (indexed
     ]
 
     unlisted : (q : Subject × ℕ) → q.1 ≡ n → get subjects q ≡ Some tt → ⊥
-    unlisted q at h = let was = (indexed q).0 h in not_both was.0 (get m q.1) was.1 (ap (get m) at ∙ new)
+    unlisted q at h = let was = (indexed q).0 h in not_both was.0 (get m q.1) (ap (get m) at ∙ new) was.1
 
     pub fill_some : (u : Subject) → subject_of x ≡ Some u → AreIndexed (insert m n x) (insert subjects (u, n) tt)
     fill_some u about = with_new (insert subjects (u, n) tt)
@@ -96,17 +86,17 @@ module _ (m : Pushes) (subjects : FinMap subject_number_cmp (Unit {0})) (indexed
           | inl same ↦ (λ h. about ∙ ap (λ (p : Subject × ℕ). Some p.0) (sym same), λ h. ap (get (insert subjects (u, n) tt)) same ∙ get-insert_same numbered_total numbered_exact subjects (u, n) tt)
           | inr apart ↦ (
             λ h. absurd (unlisted q at (sym (get-insert_other numbered_total numbered_exact subjects (u, n) tt q apart) ∙ h)),
-            λ h. absurd (apart (let of : q.0 ≡ u = same_value _ _ (sym h ∙ about) in λ i. (of i, at i))),
+            λ h. absurd (apart (let of : q.0 ≡ u = same_Some _ _ (sym h ∙ about) in λ i. (of i, at i))),
           )
         ])
 
     pub fill_none : subject_of x ≡ None → AreIndexed (insert m n x) subjects
-    fill_none about = with_new subjects (λ q apart. refl) (λ q at. (λ h. absurd (unlisted q at h), λ h. absurd (not_both q.0 (subject_of x) h about)))
+    fill_none about = with_new subjects (λ q apart. refl) (λ q at. (λ h. absurd (unlisted q at h), λ h. absurd (not_both q.0 (subject_of x) about h)))
 
 pub indexed_none : AreIndexed empty empty
 indexed_none q = (
-  λ h. absurd (not_both tt (get (empty {R = subject_number_cmp}) q) h (get-empty subject_number_cmp q)),
-  λ h. absurd (not_both h.0 (get (empty {R = nat_cmp}) q.1) h.1 (get-empty nat_cmp q.1)),
+  λ h. absurd (not_both tt (get (empty {R = subject_number_cmp}) q) (get-empty subject_number_cmp q) h),
+  λ h. absurd (not_both h.0 (get (empty {R = nat_cmp}) q.1) (get-empty nat_cmp q.1) h.1),
 )
 
 -- the first of those about a subject, by the index
@@ -117,19 +107,8 @@ replaced_some m subjects indexed u n v least = (
 )
 
 pub replaced_none : (m : Pushes) (subjects : FinMap subject_number_cmp (Unit {0})) → AreIndexed m subjects → (u : Subject) → HasNone subject_number_cmp subjects (λ q. q.0 ≡ u) → IsReplaced m (Some u) None
-replaced_none m subjects indexed u none n about = not_both tt (get subjects (u, n)) ((indexed (u, n)).1 about) (none (u, n) refl)
-
--- to put a value is to take out the old one first
-pub put_anew : {K X : Type 0} {R : K → K → Ordering} (o : IsTotalOrder R) (exact : IsAntisymmetric R) (m : FinMap R X) (k : K) (v : X) → insert (remove m k) k v ≡ insert m k v
-put_anew o exact m k v = same_map o exact _ _ (λ q. elim (told o exact q k) [
-  | inl same ↦ ap (get (insert (remove m k) k v)) same ∙ get-insert_same o exact (remove m k) k v ∙ sym (ap (get (insert m k v)) same ∙ get-insert_same o exact m k v)
-  | inr apart ↦ get-insert_other o exact (remove m k) k v q apart ∙ get-remove_other o exact m k q apart ∙ sym (get-insert_other o exact m k v q apart)
-])
+replaced_none m subjects indexed u none n about = not_both tt (get subjects (u, n)) (none (u, n) refl) ((indexed (u, n)).1 about)
 
 -- no subject lists a number without a push
 pub unlisted_number : (m : Pushes) (subjects : FinMap subject_number_cmp (Unit {0})) → AreIndexed m subjects → (n : ℕ) → get m n ≡ None → (u : Subject) → contains_key subjects (u, n) ≡ false
-unlisted_number m subjects indexed n none u = absent (get subjects (u, n)) (λ h. let was = (indexed (u, n)).0 h in not_both was.0 (get m n) was.1 none)
-  where
-    absent : (r : Option (Unit {0})) → (r ≡ Some tt → ⊥) → is_some r ≡ false
-    absent None h = refl
-    absent (Some tt) h = absurd (h refl)
+unlisted_number m subjects indexed n none u = ap is_some (none_else (get subjects (u, n)) (λ _ h. let was = (indexed (u, n)).0 h in not_both was.0 (get m n) none was.1))

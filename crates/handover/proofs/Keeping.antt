@@ -1,23 +1,24 @@
 -- What stands beside the records is kept by each change of them.
-use Rattle.std.proofs.Common.{◌≡◌, ◌≢◌, ◌↔◌, ◌⊎◌, inl, inr, ℕ, ◌<◌, ◌≤◌, ◌^◌, true, false, cond, List, [], ◌∷◌, map, length, refl, sym, ap, subst, ◌∙◌, arith}
+use Rattle.std.proofs.Common.{◌≡◌, ◌≢◌, ◌↔◌, ◌⊎◌, inl, inr, ℕ, ◌<◌, ◌≤◌, ◌^◌, true, false, cond, List, [], map, refl, sym, ap, subst, ◌∙◌, arith}
 use Rattle.std.proofs.lemmas.Int.{ints}
-use Rattle.std.specs.Prelude.{ℤ, pos, ◌+ℤ◌, neg_ℤ, unsigned_abs, Option, Some, None, IsTrue}
-use Rattle.std.specs.declared.cmp.Ordering.{Ordering}
-use Rattle.std.specs.Prelude.{unwrap_or}
-use Rattle.std.specs.FinMap.{FinMap, get, insert, remove, empty, entries, values, contains_key, get-empty, len, len-entries, len-empty, same_map}
+use Rattle.std.specs.Prelude.{ℤ, pos, ◌+ℤ◌, neg_ℤ, unsigned_abs, Some, None, IsTrue, unwrap_or, is_some}
+use Rattle.std.specs.FinMap.{FinMap, get, insert, remove, empty, entries, values, contains_key, get-empty, len, len-entries, len-empty, IsAntisymmetric}
 use Rattle.tables.specs.Keys.{text_cmp, text_pair_cmp, text_total, text_exact, text_pair_total, text_pair_exact, pair_exact}
-use Rattle.tables.proofs.Maps.{get-insert_same, get-insert_other, get-remove_same, get-remove_other}
+use Rattle.tables.proofs.Maps.{get-insert_same, get-insert_other, told, of_remove}
 use Rattle.std.specs.Cmp.{IsTotalOrder}
 use Rattle.std.proofs.lemmas.Cmp.{on_total, then_total}
-use Rattle.std.specs.FinMap.{IsAntisymmetric}
 use Rattle.ocpi_text.specs.Text.{key}
 use Rattle.ocpi_text.specs.Decimal.{e4_limit}
 use Rattle.ocpi_types.specs.declared.cdrs.Cdr.{Cdr}
 use Rattle.handover.specs.Owed.{Account, account_of, cost_in, seen_by, is_account, owed, sum_at, total}
-use Rattle.std.specs.Prelude.{Result, Err, IsOk, is_ok, is_some}
-use Rattle.handover.specs.Cdrs.{Cdrs, SessionKey, session_cmp, cdr_key, IsOfSession, IsKept, HasOther, HasLaterId, CdrRooms, HasRoomOfCdr, KeepsCdrRoom, GivesCdrBack}
+use Rattle.handover.specs.Cdrs.{Cdrs, SessionKey, session_cmp, cdr_key, IsOfSession, IsKept, session_entry, record_key, HasOther, HasLaterId, CdrRooms, HasRoomOfCdr, KeepsCdrRoom, GivesCdrBack}
 use Rattle.handover.proofs.Neighbours.{HasElse, HasLater}
-use Rattle.handover.proofs.Totals.{told, term_at, total_insert, total_remove, bounded_sum}
+use Rattle.handover.proofs.Totals.{term_at, total_insert, total_remove, bounded_sum}
+use Rattle.std.proofs.lemmas.Option.{same_Some}
+use Rattle.tables.proofs.Options.{not_both, none_else}
+use Rattle.handover.proofs.Rooms.{other_room, room_gone}
+use Rattle.tables.proofs.Indexing.{listed, unlisted, nothing_listed}
+use Rattle.std.proofs.lemmas.List.{nil_from_length}
 
 abbrev pub Texts : Type 0
 Texts = List ℕ × List ℕ
@@ -27,9 +28,6 @@ session_total = then_total (on_total (λ (p : SessionKey). p.0) text_pair_total)
 
 pub session_exact : IsAntisymmetric session_cmp
 session_exact = pair_exact text_pair_cmp text_cmp text_pair_exact text_exact
-
-same_value : {A : Type 0} (x y : A) → Some x ≡ Some y → x ≡ y
-same_value x y e = cc
 
 -- an amount as another account sees it
 seen_bound : (a b : Account) (z : ℤ) → unsigned_abs z < e4_limit → unsigned_abs (seen_by a b z) ≤ e4_limit
@@ -42,7 +40,7 @@ module _ (m : Cdrs) (sessions : FinMap session_cmp (Unit {0})) (sums : FinMap te
   -- a sum is far from the limits of its type
   pub sum_bound : (a : Account) (n : ℕ) → len m ≤ n → n < 2 ^ 63 → unsigned_abs (sum_at sums a) < 2 ^ 126
   sum_bound a n most small =
-      let sum = bounded_sum text_pair_cmp text_pair_total (cost_in a) m n (λ k x had. seen_bound a (account_of x) x.total_cost.excl_vat (kept.bounded k x had)) most small in
+      let sum = bounded_sum text_pair_cmp text_pair_total text_pair_exact (cost_in a) m n (λ k x had. seen_bound a (account_of x) x.total_cost.excl_vat (kept.bounded k x had)) most small in
       let is = kept.summed a in
       omega (arith, ints)
 
@@ -52,33 +50,8 @@ module _ (m : Cdrs) (sessions : FinMap session_cmp (Unit {0})) (sums : FinMap te
     abbrev gone : SessionKey
     gone = ((k.0, key x.session_id), k.1)
 
-    listed_after : (q : SessionKey) → (get (remove sessions gone) q ≡ Some tt) ↔ IsOfSession (remove m k) q
-    listed_after q = elim (told session_total session_exact q gone) [
-      | inl same ↦ (
-        λ h. absurd (let none = ap (get (remove sessions gone)) same ∙ get-remove_same session_total session_exact sessions gone in cc),
-        λ h. absurd (let none = ap (λ (g : SessionKey). get (remove m k) (g.0.0, g.1)) same ∙ get-remove_same text_pair_total text_pair_exact m k in let has = h.1 in cc),
-      )
-      | inr apart ↦ (
-        λ h.
-            let had_before = (kept.listed q).0 (sym (get-remove_other session_total session_exact sessions gone q apart) ∙ h) in (
-              had_before.0,
-              get-remove_other text_pair_total text_pair_exact m k (q.0.0, q.1) (λ same. apart (
-                  let other : had_before.0 ≡ x = same_value _ _ (sym had_before.1 ∙ ap (get m) same ∙ had) in
-                  let of : q.0.1 ≡ key x.session_id = sym had_before.2 ∙ ap (λ (y : Cdr). key y.session_id) other in
-                  λ i. (((same i).0, of i), (same i).1))) ∙ had_before.1,
-              had_before.2,
-            ),
-        λ h.
-            let differs : (q.0.0, q.1) ≢ k = λ same. (let none = ap (get (remove m k)) same ∙ get-remove_same text_pair_total text_pair_exact m k in let has = h.1 in let bad : Some h.0 ≡ None = sym has ∙ none in absurd (cc)) in
-            get-remove_other session_total session_exact sessions gone q apart ∙ (kept.listed q).1 (h.0, sym (get-remove_other text_pair_total text_pair_exact m k (q.0.0, q.1) differs) ∙ h.1, h.2),
-      )
-    ]
-
     still : (q : Texts) (y : Cdr) → get (remove m k) q ≡ Some y → get m q ≡ Some y
-    still q y h = elim (told text_pair_total text_pair_exact q k) [
-      | inl same ↦ absurd (let none = ap (get (remove m k)) same ∙ get-remove_same text_pair_total text_pair_exact m k in let bad : Some y ≡ None = sym h ∙ none in cc)
-      | inr apart ↦ sym (get-remove_other text_pair_total text_pair_exact m k q apart) ∙ h
-    ]
+    still q y h = (of_remove text_pair_total text_pair_exact m k q y h).1
 
     summed_after : (a : Account) → sum_at after a ≡ owed a (values (remove m k))
     summed_after a =
@@ -93,7 +66,7 @@ module _ (m : Cdrs) (sessions : FinMap session_cmp (Unit {0})) (sums : FinMap te
     kept_clear = record {
       own = λ q y h. kept.own q y (still q y h);
       bounded = λ q y h. kept.bounded q y (still q y h);
-      listed = listed_after;
+      listed = unlisted text_pair_total text_pair_exact session_total session_exact session_entry record_key (λ k x. refl) m sessions kept.listed k x had;
       summed = summed_after;
       roomed = λ q y h. kept.roomed q y (still q y h);
     }
@@ -104,10 +77,10 @@ module _ (m : Cdrs) (sessions : FinMap session_cmp (Unit {0})) (sums : FinMap te
       let own = kept.own k x had in
       subst (λ a. IsTrue (contains_key rooms a)) (λ i. ((sym own i).0, sym is i)) (kept.roomed k x had)
 
-  pub cleared : (k : Texts) (x : Cdr) (session : Texts) (currency : List ℕ) (amount : ℤ) (n : Cdrs) (listed : FinMap session_cmp (Unit {0})) (after : FinMap text_pair_cmp ℤ) (left : FinMap text_pair_cmp (Unit {0})) →
+  pub cleared : (k : Texts) (x : Cdr) (session : Texts) (currency : List ℕ) (amount : ℤ) (n : Cdrs) (index : FinMap session_cmp (Unit {0})) (after : FinMap text_pair_cmp ℤ) (left : FinMap text_pair_cmp (Unit {0})) →
       get m k ≡ Some x → session ≡ (key x.party, key x.session_id) → currency ≡ x.currency → amount ≡ neg_ℤ x.total_cost.excl_vat →
-      n ≡ remove m k → listed ≡ remove sessions (session, k.1) → ((a : Account) → sum_at after a ≡ sum_at sums a +ℤ seen_by a (k.0, currency) amount) → left ≡ rooms → IsKept n listed after left
-  cleared k x session currency amount n listed after left had of is neg ns ls less rs =
+      n ≡ remove m k → index ≡ remove sessions (session, k.1) → ((a : Account) → sum_at after a ≡ sum_at sums a +ℤ seen_by a (k.0, currency) amount) → left ≡ rooms → IsKept n index after left
+  cleared k x session currency amount n index after left had of is neg ns ls less rs =
       let own = kept.own k x had in
       let account : (k.0, currency) ≡ account_of x = λ i. ((own i).0, is i) in
       let gone : (session, k.1) ≡ ((k.0, key x.session_id), k.1) = ap (λ (s : Texts). (s, k.1)) (of ∙ (λ i. ((sym own i).0, key x.session_id))) in
@@ -122,33 +95,15 @@ module _ (m : Cdrs) (sessions : FinMap session_cmp (Unit {0})) (sums : FinMap te
 
     put_or_stood : (q : Texts) (y : Cdr) → get (insert m (cdr_key x) x) q ≡ Some y → ((q ≡ cdr_key x) × (x ≡ y)) ⊎ ((q ≢ cdr_key x) × (get m q ≡ Some y))
     put_or_stood q y h = elim (told text_pair_total text_pair_exact q (cdr_key x)) [
-      | inl same ↦ inl (same, same_value _ _ (sym (get-insert_same text_pair_total text_pair_exact m (cdr_key x) x) ∙ ap (get (insert m (cdr_key x) x)) (sym same) ∙ h))
+      | inl same ↦ inl (same, same_Some _ _ (sym (get-insert_same text_pair_total text_pair_exact m (cdr_key x) x) ∙ ap (get (insert m (cdr_key x) x)) (sym same) ∙ h))
       | inr apart ↦ inr (apart, sym (get-insert_other text_pair_total text_pair_exact m (cdr_key x) x q apart) ∙ h)
-    ]
-
-    listed_new : (q : SessionKey) → (get (insert sessions new tt) q ≡ Some tt) ↔ IsOfSession (insert m (cdr_key x) x) q
-    listed_new q = elim (told session_total session_exact q new) [
-      | inl same ↦ (
-        λ h. (x, ap (λ (g : SessionKey). get (insert m (cdr_key x) x) (g.0.0, g.1)) same ∙ get-insert_same text_pair_total text_pair_exact m (cdr_key x) x, ap (λ (g : SessionKey). g.0.1) (sym same)),
-        λ h. ap (get (insert sessions new tt)) same ∙ get-insert_same session_total session_exact sessions new tt,
-      )
-      | inr apart ↦ (
-        λ h.
-            let had = (kept.listed q).0 (sym (get-insert_other session_total session_exact sessions new tt q apart) ∙ h) in
-            let differs : (q.0.0, q.1) ≢ cdr_key x = λ same. (let bad : Some had.0 ≡ None = sym had.1 ∙ ap (get m) same ∙ none in absurd (cc)) in
-            (had.0, get-insert_other text_pair_total text_pair_exact m (cdr_key x) x (q.0.0, q.1) differs ∙ had.1, had.2),
-        λ h. elim (put_or_stood (q.0.0, q.1) h.0 h.1) [
-          | inl is ↦ absurd (apart (let of : q.0.1 ≡ key x.session_id = sym h.2 ∙ ap (λ (y : Cdr). key y.session_id) (sym is.1) in λ i. (((is.0 i).0, of i), (is.0 i).1)))
-          | inr was ↦ get-insert_other session_total session_exact sessions new tt q apart ∙ (kept.listed q).1 (h.0, was.1, h.2)
-        ],
-      )
     ]
 
     summed_new : (a : Account) → sum_at after a ≡ owed a (values (insert m (cdr_key x) x))
     summed_new a =
         let before = kept.summed a in
         let change = more a in
-        let put = total_insert text_pair_cmp text_pair_total (cost_in a) m (cdr_key x) x in
+        let put = total_insert text_pair_cmp text_pair_total text_pair_exact (cost_in a) m (cdr_key x) x in
         let term = ap (term_at (cost_in a)) none in
         omega (arith, ints)
 
@@ -156,67 +111,61 @@ module _ (m : Cdrs) (sessions : FinMap session_cmp (Unit {0})) (sums : FinMap te
     kept_fill = record {
       own = λ q y h. elim (put_or_stood q y h) [ inl is ↦ is.0 ∙ ap cdr_key is.1 | inr was ↦ kept.own q y was.1 ];
       bounded = λ q y h. elim (put_or_stood q y h) [ inl is ↦ subst (λ (z : Cdr). unsigned_abs z.total_cost.excl_vat < e4_limit) is.1 bound | inr was ↦ kept.bounded q y was.1 ];
-      listed = listed_new;
+      listed = listed text_pair_total text_pair_exact session_total session_exact session_entry record_key (λ k x. refl) m sessions kept.listed (cdr_key x) x none;
       summed = summed_new;
       roomed = λ q y h. elim (put_or_stood q y h) [ inl is ↦ subst (λ (z : Cdr). IsTrue (contains_key rooms (account_of z))) is.1 room | inr was ↦ kept.roomed q y was.1 ];
     }
 
-  pub filled : (x : Cdr) (k session : Texts) (currency : List ℕ) (amount : ℤ) (n : Cdrs) (listed : FinMap session_cmp (Unit {0})) (after : FinMap text_pair_cmp ℤ) (left : FinMap text_pair_cmp (Unit {0})) →
+  pub filled : (x : Cdr) (k session : Texts) (currency : List ℕ) (amount : ℤ) (n : Cdrs) (index : FinMap session_cmp (Unit {0})) (after : FinMap text_pair_cmp ℤ) (left : FinMap text_pair_cmp (Unit {0})) →
       get m (cdr_key x) ≡ None → unsigned_abs x.total_cost.excl_vat < e4_limit → IsTrue (contains_key rooms (account_of x)) →
       k ≡ cdr_key x → session ≡ (key x.party, key x.session_id) → currency ≡ x.currency → amount ≡ x.total_cost.excl_vat →
-      n ≡ insert m k x → listed ≡ insert sessions (session, k.1) tt → ((a : Account) → sum_at after a ≡ sum_at sums a +ℤ seen_by a (k.0, currency) amount) → left ≡ rooms → IsKept n listed after left
-  filled x k session currency amount n listed after left none bound room at of is cost ns ls more rs =
+      n ≡ insert m k x → index ≡ insert sessions (session, k.1) tt → ((a : Account) → sum_at after a ≡ sum_at sums a +ℤ seen_by a (k.0, currency) amount) → left ≡ rooms → IsKept n index after left
+  filled x k session currency amount n index after left none bound room at of is cost ns ls more rs =
       let account : (k.0, currency) ≡ account_of x = λ i. ((at i).0, is i) in
       let place : (session, k.1) ≡ ((key x.party, key x.session_id), key x.id) = λ i. (of i, (at i).1) in
       let done = kept_fill x none bound room after (λ a. more a ∙ ap (λ b. sum_at sums a +ℤ seen_by a b amount) account ∙ ap (λ z. sum_at sums a +ℤ seen_by a (account_of x) z) cost) in
-      subst (λ n. IsKept n listed after left) (sym (ns ∙ ap (λ q. insert m q x) at))
+      subst (λ n. IsKept n index after left) (sym (ns ∙ ap (λ q. insert m q x) at))
       (subst (λ l. IsKept (insert m (cdr_key x) x) l after left) (sym (ls ∙ ap (λ q. insert sessions q tt) place))
       (subst (λ r. IsKept (insert m (cdr_key x) x) (insert sessions ((key x.party, key x.session_id), key x.id) tt) after r) (sym rs) done))
-
-nothing_held : (k : Texts) (x : Cdr) → get (empty {R = text_pair_cmp}) k ≡ Some x → ⊥
-nothing_held k x h = let bad : Some x ≡ None = sym h ∙ get-empty text_pair_cmp k in cc
-
-nothing_listed : (q : SessionKey) (x : Unit {0}) → get (empty {R = session_cmp}) q ≡ Some x → ⊥
-nothing_listed q x h = let bad : Some x ≡ None = sym h ∙ get-empty session_cmp q in cc
 
 -- no record is held
 pub kept_none : IsKept empty empty empty empty
 kept_none = record {
-  own = λ k x h. absurd (nothing_held k x h);
-  bounded = λ k x h. absurd (nothing_held k x h);
-  listed = λ q. (λ h. absurd (nothing_listed q tt h), λ h. absurd (nothing_held (q.0.0, q.1) h.0 h.1));
+  own = λ k x h. not_both x _ (get-empty text_pair_cmp k) h;
+  bounded = λ k x h. not_both x _ (get-empty text_pair_cmp k) h;
+  listed = nothing_listed text_pair_total text_pair_exact session_total session_exact session_entry record_key (λ k x. refl);
   summed = λ a. ap (λ x. unwrap_or x (pos 0)) (get-empty text_pair_cmp a) ∙ sym (ap (λ es. total (map (cost_in a) (map (λ e. e.1) es))) no_entries);
-  roomed = λ k x h. absurd (nothing_held k x h);
+  roomed = λ k x h. not_both x _ (get-empty text_pair_cmp k) h;
 }
   where
     no_entries : entries (empty {X = Cdr} {R = text_pair_cmp}) ≡ []
-    no_entries = nothing (entries empty) (sym (len-entries empty) ∙ len-empty text_pair_cmp Cdr)
-      where
-        nothing : (es : List (Texts × Cdr)) → length es ≡ 0 → es ≡ []
-        nothing [] h = refl
-        nothing (e ∷ es) h = absurd (omega arith)
-
--- to put a value is to take out the old one first
-pub put_anew : {K X : Type 0} {R : K → K → Ordering} (o : IsTotalOrder R) (exact : IsAntisymmetric R) (m : FinMap R X) (k : K) (v : X) → insert (remove m k) k v ≡ insert m k v
-put_anew o exact m k v = same_map o exact _ _ (λ q. elim (told o exact q k) [
-  | inl same ↦ ap (get (insert (remove m k) k v)) same ∙ get-insert_same o exact (remove m k) k v ∙ sym (ap (get (insert m k v)) same ∙ get-insert_same o exact m k v)
-  | inr apart ↦ get-insert_other o exact (remove m k) k v q apart ∙ get-remove_other o exact m k q apart ∙ sym (get-insert_other o exact m k v q apart)
-])
+    no_entries = nil_from_length (entries empty) (sym (len-entries empty) ∙ len-empty text_pair_cmp Cdr)
 
 -- a record under another id of a session, by the index
-pub other_id : (m : Cdrs) (sessions : FinMap session_cmp (Unit {0})) (sums : FinMap text_pair_cmp ℤ) (rooms : FinMap text_pair_cmp (Unit {0})) → IsKept m sessions sums rooms → (session : Texts) (id : List ℕ) →
-    HasElse text_pair_total text_pair_exact text_total text_exact sessions session id ↔ HasOther m session id
-other_id m sessions sums rooms kept session id = (
-  λ h. (h.0, (kept.listed (session, h.0)).0 h.1, h.2),
-  λ h. (h.0, (kept.listed (session, h.0)).1 h.1, h.2),
-)
+module _ (m : Cdrs) (sessions : FinMap session_cmp (Unit {0})) (sums : FinMap text_pair_cmp ℤ) (rooms : FinMap text_pair_cmp (Unit {0})) (kept : IsKept m sessions sums rooms) where
+  of_session : (q : SessionKey) → (get sessions q ≡ Some tt) ↔ IsOfSession m q
+  of_session q = (
+    λ h. let there = kept.listed.sound q h in (there.0, there.1, ap (λ (g : SessionKey). g.0.1) there.2),
+    λ h. ap (get sessions) (λ i. ((q.0.0, sym h.2 i), q.1)) ∙ kept.listed.complete (q.0.0, q.1) h.0 h.1,
+  )
 
-pub later_id : (m : Cdrs) (sessions : FinMap session_cmp (Unit {0})) (sums : FinMap text_pair_cmp ℤ) (rooms : FinMap text_pair_cmp (Unit {0})) → IsKept m sessions sums rooms → (session : Texts) (id : List ℕ) →
-    HasLater text_pair_total text_pair_exact text_total text_exact sessions session id ↔ HasLaterId m session id
-later_id m sessions sums rooms kept session id = (
-  λ h. (h.0, (kept.listed (session, h.0)).0 h.1, h.2),
-  λ h. (h.0, (kept.listed (session, h.0)).1 h.1, h.2),
-)
+  pub other_id : (session : Texts) (id : List ℕ) → HasElse text_pair_total text_pair_exact text_total text_exact sessions session id ↔ HasOther m session id
+  other_id session id = (
+    λ h. (h.0, (of_session (session, h.0)).0 h.1, h.2),
+    λ h. (h.0, (of_session (session, h.0)).1 h.1, h.2),
+  )
+
+  pub later_id : (session : Texts) (id : List ℕ) → HasLater text_pair_total text_pair_exact text_total text_exact sessions session id ↔ HasLaterId m session id
+  later_id session id = (
+    λ h. (h.0, (of_session (session, h.0)).0 h.1, h.2),
+    λ h. (h.0, (of_session (session, h.0)).1 h.1, h.2),
+  )
+
+  -- no session lists a record that is not held
+  pub none_listed : (k : Texts) → get m k ≡ None → (o e : List ℕ) → o ≡ k.0 → contains_key sessions ((o, e), k.1) ≡ false
+  none_listed k none o e is = ap is_some (none_else (get sessions ((o, e), k.1)) (λ _ h.
+      let of = (of_session ((o, e), k.1)).0 h in
+      not_both of.0 _ (ap (λ (p : List ℕ). get m (p, k.1)) is ∙ none) of.1))
 
 -- the room of a record, by its parts
 pub has_cdr_room : (s : CdrRooms) (x : Cdr) (o i e c : List ℕ) → o ≡ key x.party → i ≡ key x.id → e ≡ key x.session_id → c ≡ x.currency →
@@ -239,14 +188,6 @@ pub keeps_cdr_room : (s t : CdrRooms) → ((q : Texts) → IsTrue (contains_key 
     ((q : Texts) → IsTrue (contains_key s.sums q) → IsTrue (contains_key t.sums q)) → KeepsCdrRoom s t
 keeps_cdr_room s t f g h x had = record { of_record = f _ had.of_record; of_session = g _ had.of_session; of_sum = h _ had.of_sum }
 
--- a call that failed did not succeed
-pub failed : {A E : Type 0} {P : Type 0} (r : Result A E) (e : E) → r ≡ Err e → IsOk r → P
-failed r e is ok = absurd (let bad : false ≡ true = sym (ap is_ok is) ∙ ok in cc)
-
--- the room of another key
-pub other_room : {K : Type 0} {R : K → K → Ordering} (o : IsTotalOrder R) (exact : IsAntisymmetric R) (m n : FinMap R (Unit {0})) (k q : K) → n ≡ remove m k → q ≢ k → IsTrue (contains_key m q) → IsTrue (contains_key n q)
-other_room o exact m n k q is apart had = ap (λ (f : FinMap _ (Unit {0})). contains_key f q) is ∙ ap is_some (get-remove_other o exact m k q apart) ∙ had
-
 -- the room of other records, where that of one was given back
 pub lost_record : (s : CdrRooms) (cdrs : FinMap text_pair_cmp (Unit {0})) (k : Texts) → cdrs ≡ remove s.cdrs k → (x : Cdr) → HasRoomOfCdr s x → cdr_key x ≢ k → HasRoomOfCdr (record { cdrs = cdrs; sessions = s.sessions; sums = s.sums }) x
 lost_record s cdrs k is x had apart = record { of_record = other_room text_pair_total text_pair_exact s.cdrs cdrs k (cdr_key x) is apart had.of_record; of_session = had.of_session; of_sum = had.of_sum }
@@ -260,10 +201,6 @@ lost_both s cdrs sessions k session operator is of x had apart = record {
   of_sum = had.of_sum;
 }
 
--- the room of a key that was given back
-pub room_gone : {K : Type 0} {R : K → K → Ordering} (o : IsTotalOrder R) (exact : IsAntisymmetric R) (m n : FinMap R (Unit {0})) (k : K) → n ≡ remove m k → contains_key n k ≡ false
-room_gone o exact m n k is = ap (λ (f : FinMap _ (Unit {0})). contains_key f k) is ∙ ap is_some (get-remove_same o exact m k)
-
 pub gave_one : (m : Cdrs) (before cdrs : FinMap text_pair_cmp (Unit {0})) (sessions : FinMap session_cmp (Unit {0})) (sums : FinMap text_pair_cmp (Unit {0})) (k : Texts) → get m k ≡ None → cdrs ≡ remove before k →
     GivesCdrBack k m (record { cdrs = cdrs; sessions = sessions; sums = sums })
 gave_one m before cdrs sessions sums k none is = record {
@@ -276,18 +213,7 @@ pub gave_both : (m : Cdrs) (before cdrs : FinMap text_pair_cmp (Unit {0})) (list
 gave_both m before cdrs listed sessions sums k session x had of is gave = record {
   of_record = room_gone text_pair_total text_pair_exact before cdrs k is;
   of_session = λ y stands.
-      let same : x ≡ y = same_value x y (sym had ∙ stands) in
+      let same : x ≡ y = same_Some x y (sym had ∙ stands) in
       let at : (session, k.1) ≡ ((k.0, key y.session_id), k.1) = ap (λ (s : Texts). (s, k.1)) (of ∙ ap (λ (z : Cdr). (k.0, key z.session_id)) same) in
       subst (λ (q : SessionKey). contains_key sessions q ≡ false) at (room_gone session_total session_exact listed sessions (session, k.1) gave);
 }
-
--- no session lists a record that is not held
-pub none_listed : (m : Cdrs) (sessions : FinMap session_cmp (Unit {0})) (sums : FinMap text_pair_cmp ℤ) (rooms : FinMap text_pair_cmp (Unit {0})) → IsKept m sessions sums rooms → (k : Texts) → get m k ≡ None →
-    (o e : List ℕ) → o ≡ k.0 → contains_key sessions ((o, e), k.1) ≡ false
-none_listed m sessions sums rooms kept k none o e is = absent (get sessions ((o, e), k.1)) (λ h.
-    let of = (kept.listed ((o, e), k.1)).0 h in
-    let bad : Some of.0 ≡ None = sym of.1 ∙ ap (λ (p : List ℕ). get m (p, k.1)) is ∙ none in cc)
-  where
-    absent : (r : Option (Unit {0})) → (r ≡ Some tt → ⊥) → is_some r ≡ false
-    absent None h = refl
-    absent (Some tt) h = absurd (h refl)

@@ -1,5 +1,5 @@
 -- Keys of two parts that have one first part.
-use Rattle.std.proofs.Common.{rules, ◌≡◌, ◌≢◌, ◌↔◌, true, false, Bool, refl, sym, ap, subst, ◌∙◌}
+use Rattle.std.proofs.Common.{rules, ◌≡◌, ◌≢◌, ◌↔◌, true, false, Bool, refl, sym, ap, subst, ◌∙◌, inl, inr}
 use Rattle.std.specs.Prelude.{Some, None, IsTrue}
 use Rattle.std.specs.Ordering.{ordering_then, ordering_reverse, is_gt, is_eq}
 use Rattle.std.specs.declared.cmp.Ordering.{Ordering}
@@ -8,11 +8,10 @@ use Rattle.std.specs.Cmp.{IsTotalOrder}
 use Rattle.std.specs.BTreeMap.Range.{IsLtBy}
 use Rattle.std.specs.FinMap.{FinMap, IsAntisymmetric, get, contains_key}
 use Rattle.std.proofs.lemmas.Cmp.{tied_itself}
-use Rattle.std.proofs.Common.{inl, inr}
-use Rattle.tables.proofs.Maps.{equal_of_is_eq}
-use Rattle.handover.proofs.Totals.{told}
+use Rattle.tables.proofs.Maps.{equal_of_is_eq, told}
 use Rattle.tables.specs.Keys.{pair_cmp}
 use Rattle.tables.specs.Tables.{IsLeast, HasNone}
+use Rattle.tables.proofs.Parts.{first_part_le}
 
 module _ {A B : Type 0} {R : A → A → Ordering} {S : B → B → Ordering} (o : IsTotalOrder R) (exact : IsAntisymmetric R) (p : IsTotalOrder S) (sole : IsAntisymmetric S) (m : FinMap (pair_cmp R S) (Unit {0})) (a : A) (b : B) where
   -- there is a later second part
@@ -41,11 +40,6 @@ module _ {A B : Type 0} {R : A → A → Ordering} {S : B → B → Ordering} (o
       let at : k ≡ (a, k.1) = λ i. (same i, k.1) in
       (k.1, ap (get m) (sym at) ∙ least.0, part_after k.1 (ap (pair_cmp R S (a, b)) (sym at) ∙ least.1))
 
-  not_before : (r s : Ordering) → r ≡ ordering_reverse s → is_gt s ≡ false → r ≡ Less → s ≡ Less → ⊥
-  not_before r Less e h l k = let bad : Greater ≡ Less = sym e ∙ l in cc
-  not_before r Equal e h l k = cc
-  not_before r Greater e h l k = cc
-
   less_part : (r s : Ordering) → ordering_then r s ≡ Less → (r ≡ Equal → ⊥) → r ≡ Less
   less_part Less s e h = refl
   less_part Equal s e h = absurd (h refl)
@@ -67,12 +61,7 @@ module _ {A B : Type 0} {R : A → A → Ordering} {S : B → B → Ordering} (o
       let le : is_gt (pair_cmp R S k (a, h.0)) ≡ false = least.2 (a, h.0) (after_part h.0 h.2) (there (a, h.0) h.1) in
       let first : R a k.0 ≡ Less = less_part (R a k.0) (S b k.1) least.1 (λ e. other (sym (exact a k.0 e))) in
       let back : R k.0 a ≡ ordering_reverse (R a k.0) = o.antisymm k.0 a in
-      reversed (R k.0 a) (R a k.0) back first (first_gt (R k.0 a) (S k.1 h.0) le)
-    where
-      first_gt : (r s : Ordering) → is_gt (ordering_then r s) ≡ false → is_gt r ≡ false
-      first_gt Less s h = refl
-      first_gt Equal s h = refl
-      first_gt Greater s h = h
+      reversed (R k.0 a) (R a k.0) back first (first_part_le (R k.0 a) (S k.1 h.0) le)
 
   pub none_after : HasNone (pair_cmp R S) m (IsLtBy (pair_cmp R S) (a, b)) → HasLater → ⊥
   none_after none h = let no = none (a, h.0) (after_part h.0 h.2) in let had = h.1 in let bad : Some tt ≡ None = sym had ∙ no in absurd (cc)

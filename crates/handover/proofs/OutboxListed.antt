@@ -1,14 +1,14 @@
 -- The rows of an outbox as a list, and the outbox of a list.
 use Rattle.std.proofs.Common.{◌≡◌, ◌≢◌, ◌↔◌, ◌⊎◌, ℕ, List, [], ◌∷◌, map, inl, inr, true, false, cond, refl, sym, ap, subst, ◌∙◌, arith, nat_eq}
-use Rattle.std.specs.Prelude.{Option, Some, None, IsTrue, is_some, Contains}
+use Rattle.std.specs.Prelude.{Some, IsTrue, is_some, Contains}
 use Rattle.std.specs.List.{AllPairs}
 use Rattle.std.specs.Ordering.{nat_cmp}
 use Rattle.std.specs.Cmp.{nat_cmp_total}
-use Rattle.std.specs.FinMap.{nat_cmp-IsAntisymmetric, get, insert, remove, empty, entries, entries_sorted, contains_key, same_map, get-empty}
+use Rattle.std.specs.FinMap.{nat_cmp-IsAntisymmetric, get, insert, empty, entries, contains_key, same_map, get-empty}
 use Rattle.std.proofs.lemmas.Bool.Decides.{nat_tests}
 use Rattle.std.proofs.lemmas.List.Elements.{Contains-append_left, Contains-append_right, Contains-append_cases}
 use Rattle.std.proofs.lemmas.List.Kept.{AllPairs-cons}
-use Rattle.tables.proofs.Maps.{of_insert, get-insert_same, get-insert_other, get-remove_same, get-remove_other}
+use Rattle.tables.proofs.Maps.{of_insert, get-insert_same, get-insert_other, told, remove_absent}
 use Rattle.ocpi_types.specs.Rows.{key_of}
 use Rattle.ocpi_types.specs.declared.rows.Row.{Row}
 use Rattle.ocpi_types.specs.declared.rows.Row.TheVariants as row
@@ -16,10 +16,11 @@ use Rattle.ocpi_types.specs.declared.rows.Counter.TheVariants as counter
 use Rattle.handover.specs.Outbox.{OutboxRows, HasRow, no_rows, put_row, put_resend}
 use Rattle.handover.specs.OutboxListing.{AreRowsOf, IsKept, put_rows, put_resends, push_row, count_rows, rows_of}
 use Rattle.handover.specs.Resend.{Resend}
-use Rattle.handover.proofs.Totals.{told}
-use Rattle.handover.proofs.Timing.{none_some, same_value}
+use Rattle.tables.proofs.Options.{none_some, same_option}
 use Rattle.handover.proofs.OutboxRowChanges.{is_kept, no_row, same_rows, same_key, other_key, put_stands, put_alone}
-use Rattle.handover.proofs.ListedEntries.{in_none, in_single, in_front, in_map, of_map, no_pairs, all_of, first_pairs, later_pairs, joined, listed, listed_only, each_apart, apart_of_less}
+use Rattle.tables.proofs.Elements.{in_none, in_single, in_front, in_map, of_map, no_pairs, all_of, first_pairs, later_pairs, joined}
+use Rattle.tables.proofs.Entries.{listed, listed_only, all_apart}
+use Rattle.std.proofs.lemmas.Option.{same_Some}
 
 abbrev Apart : Row → Row → Type 0
 Apart a b = key_of a ≢ key_of b
@@ -45,7 +46,7 @@ of_count n some = elim (nat_eq n 0) as (λ b. nat_eq n 0 ≡ b → Contains (con
 count_apart : (n : ℕ) → AllPairs Apart (count_rows n)
 count_apart n = elim (nat_eq n 0) as (λ b. AllPairs Apart (cond b [] (row.Count counter.Request n ∷ []))) [
   | true ↦ no_pairs Apart
-  | false ↦ AllPairs-cons Apart (row.Count counter.Request n) [] (all_of Apart (Apart (row.Count counter.Request n)) [] (λ x i. absurd (in_none x i))) (no_pairs Apart)
+  | false ↦ AllPairs-cons Apart (row.Count counter.Request n) [] (all_of (Apart (row.Count counter.Request n)) [] (λ x i. absurd (in_none x i))) (no_pairs Apart)
 ]
 
 -- the rows of each kind, one after the other
@@ -80,7 +81,7 @@ rows_are s = record { exact = λ r. (stand r, stands r); apart = differ }
 
     differ : AllPairs Apart (rows_of s)
     differ = joined Apart (count_rows s.last) pushes (count_apart s.last)
-        (each_apart nat_cmp_total nat_cmp-IsAntisymmetric push_row Apart (λ a b below e. apart_of_less nat_cmp_total a.0 b.0 below (cc)) (entries s.pushes) (entries_sorted s.pushes))
+        (all_apart nat_cmp_total nat_cmp-IsAntisymmetric push_row s.pushes Apart (λ a b p q apart same. apart (cc)))
         cross
 
 -- no row of the list has the key of one that stands
@@ -136,14 +137,8 @@ put_rows_of list s h = same_rows (put_rows list no_rows) s (λ r. (
     all = put_all list no_rows (λ a i. is_kept s a ((h.exact a).0 i)) h.apart (λ a r i none. absurd (no_row r none))
 
 -- rows that are put leave no resend time where there was none
-remove_none : (n : ℕ) → remove (empty {X = ℕ} {R = nat_cmp}) n ≡ empty
-remove_none n = same_map nat_cmp_total nat_cmp-IsAntisymmetric _ _ (λ q. elim (told nat_cmp_total nat_cmp-IsAntisymmetric q n) [
-  | inl same ↦ ap (get (remove (empty {X = ℕ} {R = nat_cmp}) n)) same ∙ get-remove_same nat_cmp_total nat_cmp-IsAntisymmetric empty n ∙ sym (get-empty nat_cmp q)
-  | inr apart ↦ get-remove_other nat_cmp_total nat_cmp-IsAntisymmetric empty n q apart
-])
-
 put_resend_none : (r : Row) → put_resend r empty ≡ empty
-put_resend_none (row.Push n to push) = remove_none n
+put_resend_none (row.Push n to push) = remove_absent nat_cmp_total nat_cmp-IsAntisymmetric empty n (get-empty nat_cmp n)
 put_resend_none other = refl
 
 pub put_resends_none : (list : List Row) → put_resends list empty ≡ empty
@@ -183,7 +178,7 @@ module _ (all now : Resend) (e : ℕ × ℕ) (later : List (ℕ × ℕ)) (rest :
       ]
       | inr there ↦ inr (ap (λ (m : Resend). get m q) put ∙ elim (told nat_cmp_total nat_cmp-IsAntisymmetric q e.0) [
         | inl same ↦
-            let value : e.1 ≡ x = same_value e.1 x (sym (ap (get all) same ∙ h.within e (subst (λ l. Contains l e) (sym is) (in_front e later))) ∙ has) in
+            let value : e.1 ≡ x = same_Some e.1 x (sym (ap (get all) same ∙ h.within e (subst (λ l. Contains l e) (sym is) (in_front e later))) ∙ has) in
             ap (get (insert now e.0 e.1)) same ∙ get-insert_same nat_cmp_total nat_cmp-IsAntisymmetric now e.0 e.1 ∙ ap (λ z. Some z) value
         | inr apart ↦ get-insert_other nat_cmp_total nat_cmp-IsAntisymmetric now e.0 e.1 q apart ∙ there
       ])
@@ -195,8 +190,3 @@ all_copied all now rest none h = same_map nat_cmp_total nat_cmp-IsAntisymmetric 
   | inl i ↦ absurd (in_none (q, x) (subst (λ l. Contains l (q, x)) none i))
   | inr there ↦ there
 ]))
-  where
-    same_option : (a b : Option ℕ) → ((x : ℕ) → a ≡ Some x → b ≡ Some x) → ((x : ℕ) → b ≡ Some x → a ≡ Some x) → a ≡ b
-    same_option None None f g = refl
-    same_option None (Some y) f g = g y refl
-    same_option (Some x) b f g = sym (f x refl)

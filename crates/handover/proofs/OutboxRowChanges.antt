@@ -1,10 +1,9 @@
 -- What stands after a row of an outbox is put or dropped.
 use Rattle.std.proofs.Common.{◌≡◌, ◌≢◌, ◌↔◌, ◌⊎◌, inl, inr, ℕ, refl, sym, ap, subst, ◌∙◌}
-use Rattle.std.specs.Prelude.{Option, Some, None}
 use Rattle.std.specs.Ordering.{nat_cmp}
 use Rattle.std.specs.Cmp.{nat_cmp_total}
 use Rattle.std.specs.FinMap.{nat_cmp-IsAntisymmetric, get, insert, remove, same_map, get-empty}
-use Rattle.tables.proofs.Maps.{get-insert_same, get-insert_other, get-remove_same, get-remove_other}
+use Rattle.tables.proofs.Maps.{get-insert_same, get-insert_other, get-remove_same, get-remove_other, told}
 use Rattle.ocpi_types.specs.Rows.{key_of}
 use Rattle.ocpi_types.specs.declared.rows.Row.{Row}
 use Rattle.ocpi_types.specs.declared.rows.Row.TheVariants as row
@@ -15,8 +14,8 @@ use Rattle.ocpi_types.specs.declared.rows.Counter.TheVariants as counter
 use Rattle.handover.specs.declared.push_book.Outgoing.{Outgoing}
 use Rattle.handover.specs.Outbox.{OutboxRows, HasRow, no_rows, put_row}
 use Rattle.handover.specs.OutboxListing.{IsKept, PutsStand, DropsEnd, RowsAreAll}
-use Rattle.handover.proofs.Totals.{told}
-use Rattle.handover.proofs.Timing.{none_some}
+use Rattle.tables.proofs.Options.{none_some, same_option}
+use Rattle.std.proofs.lemmas.Option.{same_Some}
 
 same_number : (q k : ℕ) → (q ≡ k) ⊎ (q ≢ k)
 same_number q k = told nat_cmp_total nat_cmp-IsAntisymmetric q k
@@ -39,11 +38,6 @@ no_row (row.Count counter.Reference n) h = h
 no_row (row.Push n to push) h = none_some (record { to = to; push = push }) (sym (get-empty nat_cmp n) ∙ h)
 no_row other h = h
 
-same_option : (a b : Option Outgoing) → ((x : Outgoing) → a ≡ Some x → b ≡ Some x) → ((x : Outgoing) → b ≡ Some x → a ≡ Some x) → a ≡ b
-same_option None None f g = refl
-same_option None (Some y) f g = g y refl
-same_option (Some x) b f g = sym (f x refl)
-
 -- all that is stored are rows
 pub same_rows : RowsAreAll
 same_rows s t same =
@@ -58,9 +52,6 @@ same_rows s t same =
       ]
       | inr some ↦ sym ((same (row.Count counter.Request s.last)).0 (refl, some)).0
     ]
-
-same_outgoing : (x y : Outgoing) → Some x ≡ Some y → x ≡ y
-same_outgoing x y e = cc
 
 -- a row of another key stands as it stood
 pub other_key : (x : Row) (s : OutboxRows) (r : Row) → key_of r ≢ key_of x → HasRow (put_row x s) r ↔ HasRow s r
@@ -93,7 +84,7 @@ pub put_alone : (x : Row) (s : OutboxRows) (r : Row) → IsKept x → key_of r �
 put_alone (row.Push n to push) s (row.Push q t p) k same h =
     let a : q ≡ n = cc in
     let one : Outgoing = record { to = to; push = push } in
-    let e : one ≡ record { to = t; push = p } = same_outgoing one (record { to = t; push = p }) (sym (get-insert_same nat_cmp_total nat_cmp-IsAntisymmetric s.pushes n one) ∙ ap (get (insert s.pushes n one)) (sym a) ∙ h) in
+    let e : one ≡ record { to = t; push = p } = same_Some one (record { to = t; push = p }) (sym (get-insert_same nat_cmp_total nat_cmp-IsAntisymmetric s.pushes n one) ∙ ap (get (insert s.pushes n one)) (sym a) ∙ h) in
     λ i. row.Push (a i) ((sym e i).to) ((sym e i).push)
 put_alone (row.Push n to push) s other k same h = absurd (cc)
 put_alone (row.Count counter.Request n) s (row.Count counter.Request m) k same h = λ i. row.Count counter.Request (sym h.0 i)

@@ -1,26 +1,13 @@
 -- The room of pushes.
-use Rattle.std.proofs.Common.{◌≡◌, ◌≢◌, ℕ, zero, suc, true, false, refl, sym, ap, subst, ◌∙◌, arith}
-use Rattle.std.specs.Prelude.{Option, Some, None, IsTrue, is_some, Result, Err, IsOk, is_ok}
-use Rattle.std.specs.Ordering.{nat_cmp, is_gt}
-use Rattle.std.specs.declared.cmp.Ordering.TheVariants.{Less}
-use Rattle.std.specs.Cmp.{nat_cmp_total, nat_cmp_is}
-use Rattle.std.specs.FinMap.{FinMap, nat_cmp-IsAntisymmetric, insert, remove, contains_key}
+use Rattle.std.proofs.Common.{◌≡◌, ◌≢◌, ℕ, ap, subst}
+use Rattle.std.specs.Prelude.{Option, Some, None, IsTrue}
+use Rattle.std.specs.Ordering.{nat_cmp}
+use Rattle.std.specs.Cmp.{nat_cmp_total}
+use Rattle.std.specs.FinMap.{FinMap, nat_cmp-IsAntisymmetric, remove, contains_key}
 use Rattle.handover.specs.declared.push_book.Subject.{Subject}
 use Rattle.handover.specs.Pushes.{PushRooms, HasRoomOfPush, HasSubjectRoom, KeepsPushRoom, subject_number_cmp}
-use Rattle.std.specs.declared.cmp.Ordering.{Ordering}
-use Rattle.std.specs.Cmp.{IsTotalOrder}
-use Rattle.std.specs.FinMap.{IsAntisymmetric}
-use Rattle.tables.proofs.Maps.{get-insert_other, get-remove_other}
 use Rattle.handover.proofs.Indexing.{numbered_total, numbered_exact}
-
--- the room of another key
-other_room : {K : Type 0} {R : K → K → Ordering} (o : IsTotalOrder R) (exact : IsAntisymmetric R) (m n : FinMap R (Unit {0})) (k q : K) → n ≡ remove m k → q ≢ k → IsTrue (contains_key m q) → IsTrue (contains_key n q)
-other_room o exact m n k q is apart had = ap (λ (f : FinMap _ (Unit {0})). contains_key f q) is ∙ ap is_some (get-remove_other o exact m k q apart) ∙ had
-
--- no number is below 0
-pub zero_least : (b : ℕ) → is_gt (nat_cmp 0 b) ≡ false
-zero_least zero = refl
-zero_least (suc b) = let e : Less ≡ nat_cmp 0 (suc b) = nat_cmp_is 0 (suc b) Less (omega arith) in sym (ap is_gt e)
+use Rattle.handover.proofs.Rooms.{other_room}
 
 keeps_subject : (a b : FinMap subject_number_cmp (Unit {0})) → ((q : Subject × ℕ) → IsTrue (contains_key a q) → IsTrue (contains_key b q)) → (u : Option Subject) (n : ℕ) → HasSubjectRoom a u n → HasSubjectRoom b u n
 keeps_subject a b f None n h = h
@@ -49,11 +36,3 @@ subject_room rooms (Some v) u n e h = let same : v ≡ u = cc in subst (λ z. Is
 pub no_subject_room : (rooms : FinMap subject_number_cmp (Unit {0})) (o : Option Subject) (n : ℕ) → o ≡ None → HasSubjectRoom rooms o n
 no_subject_room rooms None n e = tt
 no_subject_room rooms (Some v) n e = let bad : Some v ≡ None = e in absurd (cc)
-
--- a call that failed did not succeed
-pub failed : {A E : Type 0} {P : Type 0} (r : Result A E) (e : E) → r ≡ Err e → IsOk r → P
-failed r e is ok = absurd (let bad : false ≡ true = sym (ap is_ok is) ∙ ok in cc)
-
--- the room that is new is that of one number
-pub other_slot : (m after : FinMap nat_cmp (Unit {0})) (k : ℕ) → after ≡ insert m k tt → (n : ℕ) → n ≢ k → IsTrue (contains_key after n) → IsTrue (contains_key m n)
-other_slot m after k is n apart had = sym (ap (λ (o : FinMap nat_cmp (Unit {0})). contains_key o n) is ∙ ap is_some (get-insert_other nat_cmp_total nat_cmp-IsAntisymmetric m k tt n apart)) ∙ had

@@ -4,7 +4,7 @@ use Rattle.std.specs.Prelude.{Option, Some, None, IfSome, IfNone}
 use Rattle.std.specs.Ordering.{nat_cmp}
 use Rattle.std.specs.Cmp.{nat_cmp_total}
 use Rattle.std.specs.FinMap.{FinMap, nat_cmp-IsAntisymmetric, get, insert, remove, same_map}
-use Rattle.tables.proofs.Maps.{get-insert_same, get-insert_other, get-remove_same, get-remove_other}
+use Rattle.tables.proofs.Maps.{get-insert_same, get-insert_other, get-remove_same, get-remove_other, told, insert_removed, remove_absent}
 use Rattle.ocpi_types.specs.declared.rows.Row.TheVariants as row
 use Rattle.ocpi_types.specs.declared.rows.RowKey.TheVariants as keys
 use Rattle.handover.specs.declared.push_book.Outgoing.{Outgoing}
@@ -12,15 +12,11 @@ use Rattle.handover.specs.declared.push_book.Subject.{Subject}
 use Rattle.handover.specs.Pushes.{Pushes, PushRooms, HasRoomOfPush, KeepsPushRoom, IsAbout, IsReplaced, subject, subject_of}
 use Rattle.handover.specs.Outbox.{OneEach, KeepsRoom, KeepsOtherRoom, without}
 use Rattle.handover.specs.Resend.{Resend}
-use Rattle.handover.proofs.Totals.{told}
-use Rattle.handover.proofs.Indexing.{put_anew}
-
-same_value : {A : Type 0} (x y : A) → Some x ≡ Some y → x ≡ y
-same_value x y e = cc
+use Rattle.std.proofs.lemmas.Option.{same_Some}
 
 about_new : (m : Pushes) (k : ℕ) (x : Outgoing) (u : Subject) (n : ℕ) → IsAbout (insert m k x) u n → ((n ≡ k) × (subject_of x ≡ Some u)) ⊎ ((n ≢ k) × IsAbout m u n)
 about_new m k x u n h = elim (told nat_cmp_total nat_cmp-IsAntisymmetric n k) [
-  | inl same ↦ inl (same, ap subject_of (same_value x h.0 (sym (get-insert_same nat_cmp_total nat_cmp-IsAntisymmetric m k x) ∙ ap (get (insert m k x)) (sym same) ∙ h.1)) ∙ h.2)
+  | inl same ↦ inl (same, ap subject_of (same_Some x h.0 (sym (get-insert_same nat_cmp_total nat_cmp-IsAntisymmetric m k x) ∙ ap (get (insert m k x)) (sym same) ∙ h.1)) ∙ h.2)
   | inr apart ↦ inr (apart, (h.0, sym (get-insert_other nat_cmp_total nat_cmp-IsAntisymmetric m k x n apart) ∙ h.1, h.2))
 ]
 
@@ -28,13 +24,13 @@ about_without : (r : Option ℕ) (m : Pushes) (u : Subject) (n : ℕ) → IsAbou
 about_without None m u n h = (h, λ e. let bad : None ≡ Some n = e in cc)
 about_without (Some k) m u n h = elim (told nat_cmp_total nat_cmp-IsAntisymmetric n k) [
   | inl same ↦ absurd (let bad : Some h.0 ≡ None = sym h.1 ∙ ap (get (remove m k)) same ∙ get-remove_same nat_cmp_total nat_cmp-IsAntisymmetric m k in cc)
-  | inr apart ↦ ((h.0, sym (get-remove_other nat_cmp_total nat_cmp-IsAntisymmetric m k n apart) ∙ h.1, h.2), λ e. apart (sym (same_value k n e)))
+  | inr apart ↦ ((h.0, sym (get-remove_other nat_cmp_total nat_cmp-IsAntisymmetric m k n apart) ∙ h.1, h.2), λ e. apart (sym (same_Some k n e)))
 ]
 
 excluded : (m : Pushes) (s : Option Subject) (r : Option ℕ) → IsReplaced m s r → OneEach m → (u : Subject) → s ≡ Some u → (q : ℕ) → IsAbout m u q → (r ≡ Some q → ⊥) → ⊥
 excluded m None r is one u e q about apart = let bad : None ≡ Some u = e in absurd (cc)
-excluded m (Some v) None is one u e q about apart = is q (subst (λ z. IsAbout m z q) (sym (same_value v u e)) about)
-excluded m (Some v) (Some k) is one u e q about apart = apart (ap Some (one u k q (subst (λ z. IsAbout m z k) (same_value v u e) is.0) about))
+excluded m (Some v) None is one u e q about apart = is q (subst (λ z. IsAbout m z q) (sym (same_Some v u e)) about)
+excluded m (Some v) (Some k) is one u e q about apart = apart (ap Some (one u k q (subst (λ z. IsAbout m z k) (same_Some v u e) is.0) about))
 
 -- a new push leaves at most one about each
 pub one_each_map : (m : Pushes) (r : Option ℕ) (k : ℕ) (x : Outgoing) → IsReplaced m (subject_of x) r → OneEach m → OneEach (insert (without r m) k x)
@@ -106,12 +102,6 @@ module _ {X : Type 0} (m : FinMap nat_cmp X) where
     ]
   ])
 
-  remove_again : (k : ℕ) → remove (remove m k) k ≡ remove m k
-  remove_again k = same_map nat_cmp_total nat_cmp-IsAntisymmetric _ _ (λ q. elim (told nat_cmp_total nat_cmp-IsAntisymmetric q k) [
-    | inl here ↦ ap (get (remove (remove m k) k)) here ∙ get-remove_same nat_cmp_total nat_cmp-IsAntisymmetric (remove m k) k ∙ sym (ap (get (remove m k)) here ∙ get-remove_same nat_cmp_total nat_cmp-IsAntisymmetric m k)
-    | inr away ↦ get-remove_other nat_cmp_total nat_cmp-IsAntisymmetric (remove m k) k q away
-  ])
-
 -- the push that is replaced, where a newer one is put under a number
 module _ (older other : Option ℕ) (k : ℕ) (found : IfSome other (λ n. (older ≡ Some n) × (n ≢ k))) (none : IfNone other ((n : ℕ) → older ≡ Some n → n ≡ k)) where
   by_case : (P : Option ℕ → Option ℕ → Type 0) → P None None → P (Some k) None → ((n : ℕ) → n ≢ k → P (Some n) (Some n)) → P older other
@@ -126,7 +116,7 @@ module _ (older other : Option ℕ) (k : ℕ) (found : IfSome other (λ n. (olde
       for_other (Some n) f g = subst (λ z. P z (Some n)) (sym f.0) (apart n f.1)
 
   pub newer_pushes : (m : Pushes) (x : Outgoing) → without other (insert m k x) ≡ insert (without older m) k x
-  newer_pushes m x = by_case (λ o t. without t (insert m k x) ≡ insert (without o m) k x) refl (sym (put_anew nat_cmp_total nat_cmp-IsAntisymmetric m k x)) (λ n apart. put_then_remove m k n x apart)
+  newer_pushes m x = by_case (λ o t. without t (insert m k x) ≡ insert (without o m) k x) refl (sym (insert_removed nat_cmp_total nat_cmp-IsAntisymmetric m k x)) (λ n apart. put_then_remove m k n x apart)
 
   pub newer_times : (m : Resend) → without other (remove m k) ≡ remove (without older m) k
-  newer_times m = by_case (λ o t. without t (remove m k) ≡ remove (without o m) k) refl (sym (remove_again m k)) (λ n apart. remove_either m k n)
+  newer_times m = by_case (λ o t. without t (remove m k) ≡ remove (without o m) k) refl (sym (remove_absent nat_cmp_total nat_cmp-IsAntisymmetric (remove m k) k (get-remove_same nat_cmp_total nat_cmp-IsAntisymmetric m k))) (λ n apart. remove_either m k n)

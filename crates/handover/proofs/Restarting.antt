@@ -1,12 +1,13 @@
 -- Each push becomes due at once, one after the other.
 use Rattle.std.proofs.Common.{◌≡◌, ◌≢◌, ◌↔◌, ◌≤◌, ◌<◌, ◌-◌, inl, inr, ℕ, cond, refl, sym, ap, subst, ◌∙◌, arith}
-use Rattle.std.specs.Prelude.{Option, Some, None, IsTrue, IfSome, IfNone, is_some}
+use Rattle.std.specs.Prelude.{Option, Some, None, IsTrue, IfSome, IfNone}
 use Rattle.std.specs.Ordering.{nat_cmp}
 use Rattle.std.specs.Cmp.{nat_cmp_total}
 use Rattle.std.specs.FinMap.{nat_cmp-IsAntisymmetric, empty, get, insert, remove, contains_key, get-empty, same_map, len, len-remove, empty_of_len}
 use Rattle.handover.specs.Resend.{Numbers, Resend, TimeRooms, HasRoomOfNumber, IsTimed}
-use Rattle.handover.proofs.Totals.{told}
-use Rattle.handover.proofs.Timing.{put_has, put_keeps, put_or, stays, stood, has_none}
+use Rattle.tables.proofs.Maps.{told, others_keep}
+use Rattle.handover.proofs.Timing.{put_has, put_keeps, put_or, stood, has_none}
+use Rattle.tables.proofs.Options.{none_of}
 
 -- no push below the next has a resend time, and none where there is no next
 pub record AreRestarting (fresh : Numbers) (resend : Resend) (rooms : TimeRooms) (now_fresh : Numbers) (now_resend : Resend) (now_rooms : TimeRooms) (next : Option ℕ) : Type 0 where
@@ -76,18 +77,14 @@ restarting_goes_on fresh resend rooms now_fresh now_resend now_rooms k h new_fre
     forth n (inl g) = inl (put_keeps nat_cmp_total nat_cmp-IsAntisymmetric now_fresh k tt n g)
     forth n (inr g) = elim (told nat_cmp_total nat_cmp-IsAntisymmetric n k) [
       | inl same ↦ inl (subst (λ z. IsTrue (contains_key (insert now_fresh k tt) z)) (sym same) (put_has nat_cmp_total nat_cmp-IsAntisymmetric now_fresh k tt))
-      | inr apart ↦ inr (stays nat_cmp_total nat_cmp-IsAntisymmetric now_resend k n apart g)
+      | inr apart ↦ inr (others_keep nat_cmp_total nat_cmp-IsAntisymmetric now_resend k n apart g)
     ]
 
     above : (n : ℕ) → IsTrue (contains_key new_resend n) → k ≤ n
     above n had = h.least n (stood nat_cmp_total nat_cmp-IsAntisymmetric now_resend k n (subst (λ (m : Resend). IsTrue (contains_key m n)) r had)).1
 
 pub no_key : (m : Resend) → ((n : ℕ) → IsTrue (contains_key m n) → ⊥) → m ≡ empty
-no_key m none = same_map nat_cmp_total nat_cmp-IsAntisymmetric _ _ (λ q. absent (get m q) (none q) ∙ sym (get-empty nat_cmp q))
-  where
-    absent : (o : Option ℕ) → (IsTrue (is_some o) → ⊥) → o ≡ None
-    absent None f = refl
-    absent (Some x) f = absurd (f refl)
+no_key m none = same_map nat_cmp_total nat_cmp-IsAntisymmetric _ _ (λ q. none_of (get m q) (none q) ∙ sym (get-empty nat_cmp q))
 
 pub fewer : (m : Resend) (k : ℕ) → IsTrue (contains_key m k) → len (remove m k) < len m
 fewer m k had =

@@ -1,6 +1,6 @@
 -- The sums of a list of records, one record after the other.
 use mir.Syntax.{w128}
-use Rattle.std.proofs.Common.{to_z, of_z, w64, zero, suc, ◌≡◌, ℕ, ◌+◌, ◌*◌, ◌≤◌, ◌<◌, ◌^◌, Bool, true, false, cond, List, [], ◌∷◌, ◌++◌, refl, sym, ap, subst, ◌∙◌, arith}
+use Rattle.std.proofs.Common.{to_z, of_z, w64, ◌≡◌, ℕ, ◌+◌, ◌*◌, ◌≤◌, ◌<◌, ◌^◌, Bool, true, false, cond, List, [], ◌∷◌, ◌++◌, refl, sym, ap, subst, ◌∙◌, arith}
 use Rattle.std.proofs.lemmas.Int.{ints}
 use Rattle.std.specs.Prelude.{◌||◌, ℤ, pos, ◌+ℤ◌, unsigned_abs, Some, None, unwrap_or, slice_get, take}
 use Rattle.std.specs.Ordering.{eq_by_cmp}
@@ -11,6 +11,8 @@ use Rattle.tables.proofs.Maps.{equal_of_is_eq}
 use Rattle.ocpi_types.specs.declared.cdrs.Cdr.{Cdr}
 use Rattle.handover.specs.Owed.{Account, account_of, is_account, is_among, cost_in, seen_by, owed, total, sum_at, AreOwed}
 use Rattle.handover.proofs.Totals.{added}
+use Rattle.std.proofs.lemmas.Option.{slice_get_within, get_or_from_slice_get}
+use Rattle.std.proofs.lemmas.List.{take_more}
 
 total_push : (xs : List ℤ) (z : ℤ) → total (xs ++ z ∷ []) ≡ total xs +ℤ z
 total_push [] z = omega (arith, ints)
@@ -68,13 +70,8 @@ pub small_start : (a : Account) → unsigned_abs (sum_at empty a) ≤ e4_limit *
 small_start a = let none = ap (λ o. unwrap_or o (pos 0)) (get-empty text_pair_cmp a) in omega (arith, ints)
 
 -- one record more
-next_taken : {X : Type 0} (xs : List X) (i : ℕ) (x : X) → slice_get xs i ≡ Some x → take (suc i) xs ≡ take i xs ++ x ∷ []
-next_taken [] i x h = absurd (cc)
-next_taken (y ∷ ys) zero x h = let same : y ≡ x = cc in ap (λ z. z ∷ []) same
-next_taken (y ∷ ys) (suc i) x h = ap (λ zs. y ∷ zs) (next_taken ys i x h)
-
 pub take_next : {X : Type 0} (xs : List X) (i : ℕ) (x : X) → slice_get xs i ≡ Some x → take (i + 1) xs ≡ take i xs ++ x ∷ []
-take_next xs i x h = let next : i + 1 ≡ suc i = omega arith in ap (λ n. take n xs) next ∙ next_taken xs i x h
+take_next xs i x h = take_more xs i x (slice_get_within xs i x h) ∙ ap (λ y. take i xs ++ y ∷ []) (get_or_from_slice_get xs i x x h)
 
 -- the sums of one record more
 pub settled_more : (cdrs : List Cdr) (i : ℕ) (x : Cdr) (m n : FinMap text_pair_cmp ℤ) (k : Account) (v : ℤ) → slice_get cdrs i ≡ Some x → k ≡ account_of x → v ≡ sum_at m k +ℤ x.total_cost.excl_vat →

@@ -1,6 +1,5 @@
 -- The pushes that stand are timed, as they come and go.
-use Rattle.std.proofs.Common.{◌≡◌, ◌≢◌, ◌↔◌, inl, inr, ℕ, refl, sym, subst}
-use Rattle.std.proofs.Common.{option_copied, Bor}
+use Rattle.std.proofs.Common.{◌≡◌, ◌≢◌, ◌↔◌, inl, inr, ℕ, refl, sym, subst, option_copied, Bor}
 use Rattle.std.specs.Prelude.{Option, Some, None, IsTrue, is_some}
 use Rattle.std.specs.Ordering.{nat_cmp}
 use Rattle.std.specs.Cmp.{nat_cmp_total}
@@ -8,8 +7,8 @@ use Rattle.std.specs.FinMap.{nat_cmp-IsAntisymmetric, empty, insert, remove, con
 use Rattle.handover.specs.declared.push_book.Outgoing.{Outgoing}
 use Rattle.handover.specs.Pushes.{Pushes}
 use Rattle.handover.specs.Resend.{Numbers, Resend, IsTimed, TimeRooms, HasRoomOfNumber, AreTimed}
-use Rattle.handover.proofs.Totals.{told}
-use Rattle.handover.proofs.Timing.{put_has, put_keeps, put_or, stays, stood, has_none}
+use Rattle.tables.proofs.Maps.{told, others_keep}
+use Rattle.handover.proofs.Timing.{put_has, put_keeps, put_or, stood, has_none}
 
 pub timed_none : (rooms : TimeRooms) → AreTimed empty empty empty empty rooms
 timed_none rooms = record {
@@ -49,7 +48,7 @@ module _ (pushes : Pushes) (slots fresh : Numbers) (resend : Resend) (rooms : Ti
           (λ q apart. (
             λ stands. elim (put_or nat_cmp_total nat_cmp-IsAntisymmetric pushes n x q stands) [
               | inl same ↦ absurd (apart same)
-              | inr was ↦ elim ((h.standing q).0 was.1) [ inl f ↦ inl (put_keeps nat_cmp_total nat_cmp-IsAntisymmetric fresh n tt q f) | inr r ↦ inr (stays nat_cmp_total nat_cmp-IsAntisymmetric resend n q apart r) ]
+              | inr was ↦ elim ((h.standing q).0 was.1) [ inl f ↦ inl (put_keeps nat_cmp_total nat_cmp-IsAntisymmetric fresh n tt q f) | inr r ↦ inr (others_keep nat_cmp_total nat_cmp-IsAntisymmetric resend n q apart r) ]
             ],
             λ t. put_keeps nat_cmp_total nat_cmp-IsAntisymmetric pushes n x q ((h.standing q).1 (elim t [
               | inl f ↦ elim (put_or nat_cmp_total nat_cmp-IsAntisymmetric fresh n tt q f) [ inl same ↦ absurd (apart same) | inr was ↦ inl was.1 ]
@@ -64,7 +63,7 @@ module _ (pushes : Pushes) (slots fresh : Numbers) (resend : Resend) (rooms : Ti
       standing = at_number (λ q. IsTrue (contains_key pushes q) ↔ IsTimed (remove fresh n) (insert resend n d) q)
           (λ stands. inr (put_has nat_cmp_total nat_cmp-IsAntisymmetric resend n d), λ t. has)
           (λ q apart. (
-            λ stands. elim ((h.standing q).0 stands) [ inl f ↦ inl (stays nat_cmp_total nat_cmp-IsAntisymmetric fresh n q apart f) | inr r ↦ inr (put_keeps nat_cmp_total nat_cmp-IsAntisymmetric resend n d q r) ],
+            λ stands. elim ((h.standing q).0 stands) [ inl f ↦ inl (others_keep nat_cmp_total nat_cmp-IsAntisymmetric fresh n q apart f) | inr r ↦ inr (put_keeps nat_cmp_total nat_cmp-IsAntisymmetric resend n d q r) ],
             λ t. (h.standing q).1 (elim t [
               | inl f ↦ inl (stood nat_cmp_total nat_cmp-IsAntisymmetric fresh n q f).1
               | inr r ↦ elim (put_or nat_cmp_total nat_cmp-IsAntisymmetric resend n d q r) [ inl same ↦ absurd (apart same) | inr was ↦ inr was.1 ]
@@ -78,10 +77,10 @@ module _ (pushes : Pushes) (slots fresh : Numbers) (resend : Resend) (rooms : Ti
       standing = λ q. (
         λ stands.
             let was = stood nat_cmp_total nat_cmp-IsAntisymmetric pushes n q stands in
-            elim ((h.standing q).0 was.1) [ inl f ↦ inl (stays nat_cmp_total nat_cmp-IsAntisymmetric fresh n q was.0 f) | inr r ↦ inr (stays nat_cmp_total nat_cmp-IsAntisymmetric resend n q was.0 r) ],
+            elim ((h.standing q).0 was.1) [ inl f ↦ inl (others_keep nat_cmp_total nat_cmp-IsAntisymmetric fresh n q was.0 f) | inr r ↦ inr (others_keep nat_cmp_total nat_cmp-IsAntisymmetric resend n q was.0 r) ],
         λ t. elim t [
-          | inl f ↦ let was = stood nat_cmp_total nat_cmp-IsAntisymmetric fresh n q f in stays nat_cmp_total nat_cmp-IsAntisymmetric pushes n q was.0 ((h.standing q).1 (inl was.1))
-          | inr r ↦ let was = stood nat_cmp_total nat_cmp-IsAntisymmetric resend n q r in stays nat_cmp_total nat_cmp-IsAntisymmetric pushes n q was.0 ((h.standing q).1 (inr was.1))
+          | inl f ↦ let was = stood nat_cmp_total nat_cmp-IsAntisymmetric fresh n q f in others_keep nat_cmp_total nat_cmp-IsAntisymmetric pushes n q was.0 ((h.standing q).1 (inl was.1))
+          | inr r ↦ let was = stood nat_cmp_total nat_cmp-IsAntisymmetric resend n q r in others_keep nat_cmp_total nat_cmp-IsAntisymmetric pushes n q was.0 ((h.standing q).1 (inr was.1))
         ],
       );
       room = λ q had. let was = stood nat_cmp_total nat_cmp-IsAntisymmetric slots n q had in keeps q was.0 (h.room q was.1);

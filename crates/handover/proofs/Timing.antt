@@ -9,11 +9,13 @@ use Rattle.tables.specs.Tables.{IsLeast, HasNone}
 use Rattle.std.specs.declared.cmp.Ordering.{Ordering}
 use Rattle.std.specs.Cmp.{IsTotalOrder, nat_cmp_total}
 use Rattle.std.proofs.lemmas.Cmp.{on_total, then_total}
-use Rattle.std.specs.FinMap.{FinMap, IsAntisymmetric, nat_cmp-IsAntisymmetric, empty, get, insert, remove, contains_key, get-empty, same_map}
+use Rattle.std.specs.FinMap.{FinMap, IsAntisymmetric, nat_cmp-IsAntisymmetric, empty, get, insert, remove, contains_key, get-empty}
 use Rattle.tables.specs.Keys.{pair_exact}
-use Rattle.tables.proofs.Maps.{of_insert, of_remove, get-insert_same, get-insert_other, get-remove_same, get-remove_other}
-use Rattle.handover.specs.Resend.{Numbers, Resend, Moments, moment_number_cmp, unqueued, IsQueue, TimeRooms, HasRoomOfNumber, AreTimes}
-use Rattle.handover.proofs.Totals.{told}
+use Rattle.tables.proofs.Maps.{get-insert_same, get-insert_other, get-remove_same, get-remove_other, told, others_keep, insert_present, insert_removed}
+use Rattle.handover.specs.Resend.{Numbers, Resend, Moments, moment_number_cmp, unqueued, IsQueue, queue_entry, queue_number, TimeRooms, HasRoomOfNumber, AreTimes}
+use Rattle.tables.proofs.Options.{none_contained, known}
+use Rattle.handover.proofs.Rooms.{other_room}
+use Rattle.tables.proofs.Indexing.{listed, unlisted, none_unlisted, relisted, nothing_listed}
 
 pub queue_total : IsTotalOrder moment_number_cmp
 queue_total = then_total (on_total (λ (p : ℕ × ℕ). p.0) nat_cmp_total) (on_total (λ (p : ℕ × ℕ). p.1) nat_cmp_total)
@@ -21,23 +23,12 @@ queue_total = then_total (on_total (λ (p : ℕ × ℕ). p.0) nat_cmp_total) (on
 pub queue_exact : IsAntisymmetric moment_number_cmp
 queue_exact = pair_exact nat_cmp nat_cmp nat_cmp-IsAntisymmetric nat_cmp-IsAntisymmetric
 
-pub none_some : {A X : Type 0} (x : X) → None ≡ Some x → A
-none_some {A = A} {X = X} x e = absurd (let f : ◌≡◌ {A = Option X} None (Some x) = e in cc)
-
-pub same_value : {X : Type 0} (x y : X) → Some x ≡ Some y → x ≡ y
-same_value x y e = cc
-
-not_none : {X : Type 0} (o : Option X) → IsTrue (is_some o) → o ≡ None → ⊥
-not_none None had e = let bad : false ≡ true = had in cc
-not_none (Some x) had e = none_some x (sym e)
-
 pub has_some : {X : Type 0} (o : Option X) → IsTrue (is_some o) → (x : X) × (o ≡ Some x)
 has_some None had = absurd (let bad : false ≡ true = had in cc)
 has_some (Some x) had = (x, refl)
 
 pub has_unit : (o : Option (Unit {0})) → IsTrue (is_some o) → o ≡ Some tt
-has_unit None had = absurd (let bad : false ≡ true = had in cc)
-has_unit (Some tt) had = refl
+has_unit o had = (has_some o had).1
 
 module _ {K X : Type 0} {R : K → K → Ordering} (o : IsTotalOrder R) (exact : IsAntisymmetric R) (m : FinMap R X) (k : K) where
   pub put_has : (v : X) → IsTrue (contains_key (insert m k v) k)
@@ -55,96 +46,48 @@ module _ {K X : Type 0} {R : K → K → Ordering} (o : IsTotalOrder R) (exact :
     | inr apart ↦ inr (apart, sym (ap is_some (get-insert_other o exact m k v q apart)) ∙ had)
   ]
 
-  pub gone : IsTrue (contains_key (remove m k) k) → ⊥
-  gone had = not_none (get (remove m k) k) had (get-remove_same o exact m k)
-
-  pub stays : (q : K) → q ≢ k → IsTrue (contains_key m q) → IsTrue (contains_key (remove m k) q)
-  stays q apart had = ap is_some (get-remove_other o exact m k q apart) ∙ had
-
   pub stood : (q : K) → IsTrue (contains_key (remove m k) q) → (q ≢ k) × IsTrue (contains_key m q)
   stood q had = elim (told o exact q k) [
-    | inl same ↦ absurd (gone (subst (λ z. IsTrue (contains_key (remove m k) z)) same had))
+    | inl same ↦ none_contained (get (remove m k) k) (subst (λ z. IsTrue (contains_key (remove m k) z)) same had) (get-remove_same o exact m k)
     | inr apart ↦ (apart, sym (ap is_some (get-remove_other o exact m k q apart)) ∙ had)
   ]
 
 pub put_had : {K : Type 0} {R : K → K → Ordering} (o : IsTotalOrder R) (exact : IsAntisymmetric R) (m : FinMap R (Unit {0})) (k : K) → IsTrue (contains_key m k) → insert m k tt ≡ m
-put_had o exact m k had = same_map o exact _ _ (λ q. elim (told o exact q k) [
-  | inl same ↦ ap (get (insert m k tt)) same ∙ get-insert_same o exact m k tt ∙ sym (ap (get m) same ∙ has_unit (get m k) had)
-  | inr apart ↦ get-insert_other o exact m k tt q apart
-])
+put_had o exact m k had = insert_present o exact m k tt (has_unit (get m k) had)
 
 pub has_none : {K : Type 0} (X : Type 0) (R : K → K → Ordering) (q : K) → IsTrue (contains_key (empty {X = X} {R = R}) q) → ⊥
-has_none X R q had = not_none (get (empty {X = X} {R = R}) q) had (get-empty R q)
+has_none X R q had = none_contained (get (empty {X = X} {R = R}) q) had (get-empty R q)
 
-number_apart : (moment d number n : ℕ) → number ≢ n → ◌≢◌ {A = ℕ × ℕ} (moment, number) (d, n)
-number_apart moment d number n apart same = apart (λ i. (same i).1)
+module _ (queue : Moments) (resend : Resend) (h : IsQueue queue resend) where
+  -- by what moment a number stands in the queue
+  pub queued_by : (d n : ℕ) → get queue (d, n) ≡ Some tt → get resend n ≡ Some d
+  queued_by d n has = let there = h.sound (d, n) has in there.1 ∙ ap (λ (q : ℕ × ℕ). Some q.0) there.2
 
--- the others stay in the queue
-unqueued_other : (o : Option ℕ) (n : ℕ) (queue : Moments) (moment number : ℕ) → number ≢ n → get (unqueued o n queue) (moment, number) ≡ get queue (moment, number)
-unqueued_other None n queue moment number apart = refl
-unqueued_other (Some d) n queue moment number apart = get-remove_other queue_total queue_exact queue (d, n) (moment, number) (number_apart moment d number n apart)
-
--- and of the number itself what does not stand by the moment that is taken out
-unqueued_own : (o : Option ℕ) (n : ℕ) (queue : Moments) (moment : ℕ) → get (unqueued o n queue) (moment, n) ≡ Some tt → (get queue (moment, n) ≡ Some tt) × ((d : ℕ) → o ≡ Some d → moment ≢ d)
-unqueued_own None n queue moment has = (has, λ d e. none_some d e)
-unqueued_own (Some e) n queue moment has =
-    let was = of_remove queue_total queue_exact queue (e, n) (moment, n) tt has in
-    (was.1, λ d is same. was.0 (let until : e ≡ d = same_value e d is in λ i. ((same ∙ sym until) i, n)))
-
-module _ (queue : Moments) (resend : Resend) (h : IsQueue queue resend) (n : ℕ) where
-  queue_out : IsQueue (unqueued (get resend n) n queue) (remove resend n)
-  queue_out moment number = elim (told nat_cmp_total nat_cmp-IsAntisymmetric number n) [
-    | inl same ↦ (
-      λ has.
-          let was = unqueued_own (get resend n) n queue moment (ap (λ z. get (unqueued (get resend n) n queue) (moment, z)) (sym same) ∙ has) in
-          absurd (was.1 moment ((h moment n).0 was.0) refl),
-      λ due. none_some moment (sym (ap (get (remove resend n)) same ∙ get-remove_same nat_cmp_total nat_cmp-IsAntisymmetric resend n) ∙ due),
-    )
-    | inr apart ↦ (
-      λ has. get-remove_other nat_cmp_total nat_cmp-IsAntisymmetric resend n number apart ∙ (h moment number).0 (sym (unqueued_other (get resend n) n queue moment number apart) ∙ has),
-      λ due. unqueued_other (get resend n) n queue moment number apart ∙ (h moment number).1 (sym (get-remove_other nat_cmp_total nat_cmp-IsAntisymmetric resend n number apart) ∙ due),
-    )
+  queue_out : (n : ℕ) → IsQueue (unqueued (get resend n) n queue) (remove resend n)
+  queue_out n = elim (known (get resend n)) [
+    | inl none ↦ subst (λ o. IsQueue (unqueued o n queue) (remove resend n)) (sym none) (none_unlisted nat_cmp_total nat_cmp-IsAntisymmetric queue_total queue_exact queue_entry queue_number (λ k v. refl) resend queue h n none)
+    | inr some ↦ subst (λ o. IsQueue (unqueued o n queue) (remove resend n)) (sym some.1) (unlisted nat_cmp_total nat_cmp-IsAntisymmetric queue_total queue_exact queue_entry queue_number (λ k v. refl) resend queue h n some.0 some.1)
   ]
 
-  queue_set : (d : ℕ) (stale : Option ℕ) → IfSome stale (λ e. (get resend n ≡ Some e) × (e ≢ d)) → IfNone stale ((e : ℕ) → get resend n ≡ Some e → e ≡ d) →
+  queue_set : (n d : ℕ) (stale : Option ℕ) → IfSome stale (λ e. (get resend n ≡ Some e) × (e ≢ d)) → IfNone stale ((e : ℕ) → get resend n ≡ Some e → e ≡ d) →
       IsQueue (insert (unqueued stale n queue) (d, n) tt) (insert resend n d)
-  queue_set d stale found none moment number = elim (told nat_cmp_total nat_cmp-IsAntisymmetric number n) [
-    | inl same ↦
-        let is : get (insert resend n d) number ≡ Some d = ap (get (insert resend n d)) same ∙ get-insert_same nat_cmp_total nat_cmp-IsAntisymmetric resend n d in (
-          λ has. is ∙ ap (λ z. Some z) (sym (own stale found none (ap (λ z. get (insert (unqueued stale n queue) (d, n) tt) (moment, z)) (sym same) ∙ has))),
-          λ due.
-              let until : d ≡ moment = same_value d moment (sym is ∙ due) in
-              ap (get (insert (unqueued stale n queue) (d, n) tt)) (λ i. (sym until i, same i)) ∙ get-insert_same queue_total queue_exact (unqueued stale n queue) (d, n) tt,
-        )
-    | inr apart ↦
-        let as_was = get-insert_other queue_total queue_exact (unqueued stale n queue) (d, n) tt (moment, number) (number_apart moment d number n apart) ∙ unqueued_other stale n queue moment number apart in
-        let is = get-insert_other nat_cmp_total nat_cmp-IsAntisymmetric resend n d number apart in
-        (λ has. is ∙ (h moment number).0 (sym as_was ∙ has), λ due. as_was ∙ (h moment number).1 (sym is ∙ due))
+  queue_set n d (Some e) found none = relisted nat_cmp_total nat_cmp-IsAntisymmetric queue_total queue_exact queue_entry queue_number (λ k v. refl) resend queue h n e d found.0
+  queue_set n d None found none = elim (known (get resend n)) [
+    | inl absent ↦ listed nat_cmp_total nat_cmp-IsAntisymmetric queue_total queue_exact queue_entry queue_number (λ k v. refl) resend queue h n d absent
+    | inr some ↦
+        subst (λ z. IsQueue z (insert resend n d)) (insert_removed queue_total queue_exact queue (d, n) tt) (relisted nat_cmp_total nat_cmp-IsAntisymmetric queue_total queue_exact queue_entry queue_number (λ k v. refl) resend queue h n d d (some.1 ∙ ap (λ z. Some z) (none some.0 some.1)))
   ]
-    where
-      stood_by : (o : Option ℕ) → IfSome o (λ e. (get resend n ≡ Some e) × (e ≢ d)) → IfNone o ((e : ℕ) → get resend n ≡ Some e → e ≡ d) → get resend n ≡ Some moment → ((e : ℕ) → o ≡ Some e → moment ≢ e) → moment ≡ d
-      stood_by None found none by other = none moment by
-      stood_by (Some e) found none by other = absurd (other e refl (same_value moment e (sym by ∙ found.0)))
 
-      own : (o : Option ℕ) → IfSome o (λ e. (get resend n ≡ Some e) × (e ≢ d)) → IfNone o ((e : ℕ) → get resend n ≡ Some e → e ≡ d) → get (insert (unqueued o n queue) (d, n) tt) (moment, n) ≡ Some tt → moment ≡ d
-      own o found none has = elim (of_insert queue_total queue_exact (unqueued o n queue) (d, n) tt (moment, n) tt has) [
-        | inl e ↦ ap (λ (p : ℕ × ℕ). p.0) e.0
-        | inr e ↦ let was = unqueued_own o n queue moment e in stood_by o found none ((h moment n).0 was.0) was.1
-      ]
-
--- the room by the old moment is given back, and that by the new one stays
+-- the room by the old moment is given back, and that by the new one others_keep
 pub room_set : (m : Moments) (resend : Resend) (n d : ℕ) (stale : Option ℕ) → IfSome stale (λ e. (get resend n ≡ Some e) × (e ≢ d)) → IfNone stale ((e : ℕ) → get resend n ≡ Some e → e ≡ d) →
     IsTrue (contains_key m (d, n)) → IsTrue (contains_key (unqueued stale n m) (d, n)) × (unqueued stale n m ≡ insert (unqueued (get resend n) n m) (d, n) tt)
 room_set m resend n d (Some e) found none had =
-    let still = stays queue_total queue_exact m (e, n) (d, n) (λ same. found.1 (sym (λ i. (same i).0))) had in
+    let still = others_keep queue_total queue_exact m (e, n) (d, n) (λ same. found.1 (sym (λ i. (same i).0))) had in
     (still, sym (ap (λ o. insert (unqueued o n m) (d, n) tt) found.0 ∙ put_had queue_total queue_exact (remove m (e, n)) (d, n) still))
 room_set m resend n d None found none had = (had, sym (same_room (get resend n) none))
   where
     again : insert (remove m (d, n)) (d, n) tt ≡ m
-    again = same_map queue_total queue_exact _ _ (λ q. elim (told queue_total queue_exact q (d, n)) [
-      | inl same ↦ ap (get (insert (remove m (d, n)) (d, n) tt)) same ∙ get-insert_same queue_total queue_exact (remove m (d, n)) (d, n) tt ∙ sym (ap (get m) same ∙ has_unit (get m (d, n)) had)
-      | inr apart ↦ get-insert_other queue_total queue_exact (remove m (d, n)) (d, n) tt q apart ∙ get-remove_other queue_total queue_exact m (d, n) q apart
-    ])
+    again = insert_removed queue_total queue_exact m (d, n) tt ∙ put_had queue_total queue_exact m (d, n) had
 
     same_room : (o : Option ℕ) → ((e : ℕ) → o ≡ Some e → e ≡ d) → insert (unqueued o n m) (d, n) tt ≡ m
     same_room None none = put_had queue_total queue_exact m (d, n) had
@@ -152,7 +95,7 @@ room_set m resend n d None found none had = (had, sym (same_room (get resend n) 
 
 pub times_none : (rooms : TimeRooms) (first : ℕ) → AreTimes empty empty empty rooms first
 times_none rooms first = record {
-  queued = λ moment number. (λ h. none_some tt (sym (get-empty moment_number_cmp (moment, number)) ∙ h), λ h. none_some moment (sym (get-empty nat_cmp number) ∙ h));
+  queued = nothing_listed nat_cmp_total nat_cmp-IsAntisymmetric queue_total queue_exact queue_entry queue_number (λ k v. refl);
   apart = λ n f r. has_none (Unit {0}) nat_cmp n f;
   roomed = λ n timed. absurd (elim timed [ inl f ↦ has_none (Unit {0}) nat_cmp n f | inr r ↦ has_none ℕ nat_cmp n r ]);
   lowest = λ n f. absurd (has_none (Unit {0}) nat_cmp n f);
@@ -214,8 +157,8 @@ keeps_number s t f g q had = record { of_fresh = f q had.of_fresh; of_resend = g
 
 pub keeps_other_number : (s t : TimeRooms) (n : ℕ) → t.fresh ≡ remove s.fresh n → t.resend ≡ remove s.resend n → (q : ℕ) → q ≢ n → HasRoomOfNumber s q → HasRoomOfNumber t q
 keeps_other_number s t n f g q apart had = record {
-  of_fresh = subst (λ (m : Numbers). IsTrue (contains_key m q)) (sym f) (stays nat_cmp_total nat_cmp-IsAntisymmetric s.fresh n q apart had.of_fresh);
-  of_resend = subst (λ (m : Numbers). IsTrue (contains_key m q)) (sym g) (stays nat_cmp_total nat_cmp-IsAntisymmetric s.resend n q apart had.of_resend);
+  of_fresh = other_room nat_cmp_total nat_cmp-IsAntisymmetric s.fresh t.fresh n q f apart had.of_fresh;
+  of_resend = other_room nat_cmp_total nat_cmp-IsAntisymmetric s.resend t.resend n q g apart had.of_resend;
 }
 
 pub not_above : (a b : ℕ) → a ≤ b → is_gt (nat_cmp a b) ≡ false
@@ -226,4 +169,4 @@ module _ {X : Type 0} (m : FinMap nat_cmp X) (first : ℕ) where
   least_number k v least n had above = le_from_not_gt k n (least.2 n (not_above first n above) had)
 
   pub none_number : HasNone nat_cmp m (IsLeBy nat_cmp first) → (n : ℕ) → IsTrue (contains_key m n) → first ≤ n → ⊥
-  none_number none n had above = not_none (get m n) had (none n (not_above first n above))
+  none_number none n had above = none_contained (get m n) had (none n (not_above first n above))

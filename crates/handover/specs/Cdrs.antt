@@ -1,5 +1,5 @@
 -- Charge detail records that are held, by operator and id, and what stands beside them.
-use Rattle.std.specs.Prelude.{◌≡◌, ◌≢◌, ◌↔◌, ℕ, ℤ, ◌<◌, unsigned_abs, List, map, Some, IsTrue, false}
+use Rattle.std.specs.Prelude.{◌≡◌, ◌≢◌, ℕ, ℤ, ◌<◌, unsigned_abs, List, map, Some, IsTrue, false}
 use Rattle.std.specs.FinMap.{FinMap, get, contains_key, entries, values}
 use Rattle.std.specs.declared.cmp.Ordering.{Ordering}
 use Rattle.std.specs.declared.cmp.Ordering.TheVariants.{Less}
@@ -10,6 +10,7 @@ use Rattle.ocpi_types.specs.declared.cdrs.Cdr.{Cdr}
 use Rattle.ocpi_types.specs.declared.rows.Row.{Row}
 use Rattle.ocpi_types.specs.declared.rows.Row.TheVariants as row
 use Rattle.handover.specs.Owed.{Account, account_of, owed, sum_at}
+use Rattle.tables.specs.Indexes.{Indexes}
 
 -- by the operator, in key form, and the id, in key form
 abbrev pub Cdrs : Type 0
@@ -52,11 +53,18 @@ HasOther m session id = (i : List ℕ) × IsOfSession m (session, i) × (i ≢ i
 abbrev pub HasLaterId : Cdrs → List ℕ × List ℕ → List ℕ → Type 0
 HasLaterId m session id = (i : List ℕ) × IsOfSession m (session, i) × (text_cmp id i ≡ Less)
 
+-- the session of a record, and the key of the record
+abbrev pub session_entry : List ℕ × List ℕ → Cdr → SessionKey
+session_entry k x = ((k.0, key x.session_id), k.1)
+
+abbrev pub record_key : SessionKey → List ℕ × List ℕ
+record_key q = (q.0.0, q.1)
+
 -- what stands beside the records: the records of each session, and the sum of each account
 pub record IsKept (m : Cdrs) (sessions : FinMap session_cmp (Unit {0})) (sums : FinMap text_pair_cmp ℤ) (rooms : FinMap text_pair_cmp (Unit {0})) : Type 0 where
   pub own : AreOwnCdrs m
   pub bounded : (k : List ℕ × List ℕ) (x : Cdr) → get m k ≡ Some x → unsigned_abs x.total_cost.excl_vat < e4_limit
-  pub listed : (q : SessionKey) → (get sessions q ≡ Some tt) ↔ IsOfSession m q
+  pub listed : Indexes session_entry record_key m sessions
   pub summed : (a : Account) → sum_at sums a ≡ owed a (values m)
   pub roomed : (k : List ℕ × List ℕ) (x : Cdr) → get m k ≡ Some x → IsTrue (contains_key rooms (account_of x))
 

@@ -1,11 +1,12 @@
 -- When pushes are sent again.
-use Rattle.std.specs.Prelude.{◌≡◌, ◌↔◌, ◌⊎◌, ◌+◌, ◌≤◌, ℕ, min, Option, Some, None, IsTrue}
+use Rattle.std.specs.Prelude.{◌↔◌, ◌⊎◌, ◌+◌, ◌≤◌, ℕ, min, Option, Some, None, IsTrue}
 use Rattle.std.specs.declared.cmp.Ordering.{Ordering}
 use Rattle.std.specs.Ordering.{nat_cmp}
-use Rattle.std.specs.FinMap.{FinMap, get, remove, contains_key}
+use Rattle.std.specs.FinMap.{FinMap, remove, contains_key}
 use Rattle.ocpi_text.specs.Moment.{last_moment}
 use Rattle.tables.specs.Keys.{pair_cmp}
 use Rattle.handover.specs.Pushes.{Pushes, PushRooms}
+use Rattle.tables.specs.Indexes.{Indexes}
 
 abbrev pub Numbers : Type 0
 Numbers = FinMap nat_cmp (Unit {0})
@@ -38,9 +39,16 @@ abbrev pub unqueued : Option ℕ → ℕ → Moments → Moments
 unqueued None number m = m
 unqueued (Some moment) number m = remove m (moment, number)
 
+-- a number in the queue, and the number of an entry
+abbrev pub queue_entry : ℕ → ℕ → ℕ × ℕ
+queue_entry number moment = (moment, number)
+
+abbrev pub queue_number : ℕ × ℕ → ℕ
+queue_number entry = entry.1
+
 -- the queue has each number that has a resend time, by that, and nothing else
 abbrev pub IsQueue : Moments → Resend → Type 0
-IsQueue queue resend = (moment number : ℕ) → (get queue (moment, number) ≡ Some tt) ↔ (get resend number ≡ Some moment)
+IsQueue queue resend = Indexes queue_entry queue_number resend queue
 
 -- a number is due at once, or from a moment on
 abbrev pub IsTimed : Numbers → Resend → ℕ → Type 0

@@ -1,6 +1,6 @@
 use Rattle.std.proofs.Common.{◌++◌, map, ap, ◌∙◌}
 use Rattle.handover.specs.InboxListing.{session_row}
-use Rattle.handover.proofs.Entries.{one_more, none_left}
+use Rattle.tables.proofs.Elements.{one_more, none_left}
 use Rattle.handover.proofs.inbox_listing.push_sessions.Goals as goal
 
 pub loop-session-preserved : goal.loop-session-preserved

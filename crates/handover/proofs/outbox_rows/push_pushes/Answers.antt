@@ -1,7 +1,7 @@
 use Rattle.std.proofs.Common.{◌∷◌, ◌++◌, map, sym, ap, ◌∙◌}
 use Rattle.ocpi_types.specs.declared.rows.Row.TheVariants as row
 use Rattle.handover.specs.OutboxListing.{push_row}
-use Rattle.handover.proofs.ListedEntries.{one_more, none_left}
+use Rattle.tables.proofs.Elements.{one_more, none_left}
 use Rattle.handover.proofs.outbox_rows.push_pushes.Goals as goal
 
 pub loop-number-preserved : goal.loop-number-preserved

@@ -1,7 +1,7 @@
 use Rattle.std.proofs.Common.{◌++◌, sym, ap, ◌∙◌}
 use Rattle.handover.specs.Due.{due_front}
 use Rattle.handover.proofs.DueNumbers.{front_more, front_ends}
-use Rattle.handover.proofs.ListedEntries.{one_more, none_left}
+use Rattle.tables.proofs.Elements.{one_more, none_left}
 use Rattle.handover.proofs.send_times.push_due.Goals as goal
 
 pub loop-key-preserved : goal.loop-key-preserved

@@ -1,6 +1,6 @@
 use Rattle.std.proofs.Common.{◌++◌, ap, ◌∙◌}
 use Rattle.handover.specs.Due.{numbers_of}
-use Rattle.handover.proofs.ListedEntries.{one_more, none_left}
+use Rattle.tables.proofs.Elements.{one_more, none_left}
 use Rattle.handover.proofs.send_times.push_fresh.Goals as goal
 
 pub loop-number-preserved : goal.loop-number-preserved

@@ -2,13 +2,13 @@ use Rattle.std.proofs.Common.{sym, ap, ◌∙◌, arith, option_copied, Bor}
 use Rattle.std.specs.Prelude.{Option}
 use Rattle.std.proofs.lemmas.Int.{ints}
 use Rattle.ocpi_types.specs.declared.cdrs.Cdr.{Cdr}
-use Rattle.tables.specs.Keys.{text_pair_cmp, text_pair_total, text_pair_exact}
-use Rattle.handover.proofs.Totals.{nothing_removed}
+use Rattle.tables.specs.Keys.{text_pair_total, text_pair_exact}
+use Rattle.tables.proofs.Maps.{remove_absent}
 use Rattle.handover.proofs.Keeping.{sum_bound, account_room, cleared}
 use Rattle.handover.proofs.cdr_book.CdrBook.clear.Goals as goal
 
 pub returns-in_default-clause-cdrs : goal.returns-in_default-clause-cdrs
-returns-in_default-clause-cdrs c = rw (← c.self.view_is) (sym (nothing_removed text_pair_cmp text_pair_total text_pair_exact _ _ (sym c.get.ensures ∙ ap (λ (r : Option (Bor Cdr)). option_copied r) c.in_default.is)))
+returns-in_default-clause-cdrs c = rw (← c.self.view_is) (sym (remove_absent text_pair_total text_pair_exact _ _ (sym c.get.ensures ∙ ap (λ (r : Option (Bor Cdr)). option_copied r) c.in_default.is)))
 
 pub add-requires-clause-room : goal.add-requires-clause-room
 add-requires-clause-room c =

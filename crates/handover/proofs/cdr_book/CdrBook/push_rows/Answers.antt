@@ -1,7 +1,7 @@
 use Rattle.std.proofs.Common.{◌∷◌, ◌++◌, map, sym, ap, ◌∙◌}
 use Rattle.ocpi_types.specs.declared.rows.Row.TheVariants as row
 use Rattle.handover.specs.Cdrs.{cdr_row}
-use Rattle.handover.proofs.Entries.{one_more, none_left}
+use Rattle.tables.proofs.Elements.{one_more, none_left}
 use Rattle.handover.proofs.cdr_book.CdrBook.push_rows.Goals as goal
 
 pub loop-cdr-preserved : goal.loop-cdr-preserved

@@ -1,10 +1,9 @@
 use Rattle.tables.specs.Keys.{text_pair_total, text_pair_exact}
-use Rattle.tables.proofs.Maps.{get-remove_same}
-use Rattle.handover.proofs.Keeping.{put_anew}
+use Rattle.tables.proofs.Maps.{get-remove_same, insert_removed}
 use Rattle.handover.proofs.cdr_book.CdrBook.put.Goals as goal
 
 pub fill-requires-clause-new : goal.fill-requires-clause-new
 fill-requires-clause-new c = rw (c.clear.ensures.cdrs, c.key.ensures, c.key-2.ensures) (get-remove_same text_pair_total text_pair_exact _ _)
 
 pub returns-clause-cdrs : goal.returns-clause-cdrs
-returns-clause-cdrs c = rw (c.fill.ensures.cdrs, c.clear.ensures.cdrs, c.key.ensures, c.key-2.ensures) (put_anew text_pair_total text_pair_exact _ _ _)
+returns-clause-cdrs c = rw (c.fill.ensures.cdrs, c.clear.ensures.cdrs, c.key.ensures, c.key-2.ensures) (insert_removed text_pair_total text_pair_exact _ _ _)

@@ -3,16 +3,15 @@ use Rattle.std.specs.Prelude.{Option, is_some}
 use Rattle.std.specs.FinMap.{get}
 use Rattle.ocpi_text.specs.Text.{key}
 use Rattle.ocpi_types.specs.declared.cdrs.Cdr.{Cdr}
-use Rattle.tables.specs.Keys.{text_pair_cmp, text_pair_total, text_pair_exact}
-use Rattle.tables.proofs.Maps.{get-remove_same}
+use Rattle.tables.specs.Keys.{text_pair_total, text_pair_exact}
+use Rattle.tables.proofs.Maps.{get-remove_same, remove_absent}
 use Rattle.handover.specs.Cdrs.{Cdrs, HasRoomOfCdr, HeldCdrs}
-use Rattle.handover.proofs.Totals.{nothing_removed}
 use Rattle.handover.proofs.Keeping.{Texts, lost_record, lost_both, none_listed, gave_one, gave_both}
 use Rattle.handover.proofs.cdr_book.CdrBook.remove.Goals as goal
 
 pub returns-in_default-clause-cdrs : goal.returns-in_default-clause-cdrs
 returns-in_default-clause-cdrs c =
-    rw (← c.self.view_is, c.release.ensures.shown) (sym (nothing_removed text_pair_cmp text_pair_total text_pair_exact _ _ (sym c.get.ensures ∙ ap (λ (r : Option (Bor Cdr)). option_copied r) c.in_default.is)))
+    rw (← c.self.view_is, c.release.ensures.shown) (sym (remove_absent text_pair_total text_pair_exact _ _ (sym c.get.ensures ∙ ap (λ (r : Option (Bor Cdr)). option_copied r) c.in_default.is)))
 
 pub returns-in_default-clause-rooms : goal.returns-in_default-clause-rooms
 returns-in_default-clause-rooms c =

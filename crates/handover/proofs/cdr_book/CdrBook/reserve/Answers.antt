@@ -1,4 +1,5 @@
-use Rattle.handover.proofs.Keeping.{has_cdr_room, cdr_room_parts, keeps_cdr_room, failed}
+use Rattle.handover.proofs.Keeping.{has_cdr_room, cdr_room_parts, keeps_cdr_room}
+use Rattle.handover.proofs.Rooms.{failed}
 use Rattle.handover.proofs.cdr_book.CdrBook.reserve.Goals as goal
 
 pub returns-in_err-reserve-clause-again : goal.returns-in_err-reserve-clause-again

@@ -1,11 +1,8 @@
-use Rattle.std.proofs.Common.{◌≡◌, ◌∷◌, [], List, length, refl, sym, ap, ◌∙◌, arith}
+use Rattle.std.proofs.Common.{◌≡◌, ◌∷◌, [], length, sym, ap, ◌∙◌, arith}
 use Rattle.std.specs.Vec.Iter.{into_iter_items}
 use Rattle.handover.specs.InboxListing.{put_rows}
 use Rattle.handover.proofs.inbox.Inbox.add_rows.Goals as goal
-
-nothing_left : {X : Type 0} (l : List X) → length l ≡ 0 → l ≡ []
-nothing_left [] h = refl
-nothing_left (x ∷ xs) h = absurd (omega arith)
+use Rattle.std.proofs.lemmas.List.{nil_from_length}
 
 pub loop-row-preserved : goal.loop-row-preserved
 loop-row-preserved c =
@@ -21,6 +18,6 @@ loop-row-preserved c =
 pub returns : goal.returns
 returns c =
     let at = c.loop-row in
-    let empty : into_iter_items at.row-iterator ≡ [] = nothing_left _ (sym at.invariant.1 ∙ c.in-None.ensures.steps.0) in
+    let empty : into_iter_items at.row-iterator ≡ [] = nil_from_length _ (sym at.invariant.1 ∙ c.in-None.ensures.steps.0) in
     let given = c.into_iter-row-iterator.ensures.into_iter_gives.0 in
     rw (← given) (sym (ap (λ l. put_rows l at.self.rows) empty) ∙ at.invariant.0)

@@ -1,15 +1,14 @@
 use Rattle.std.proofs.Common.{◌∙◌, sym, ap, refl, option_copied, Bor}
 use Rattle.std.specs.Prelude.{Option}
-use Rattle.std.specs.Ordering.{nat_cmp}
 use Rattle.std.specs.Cmp.{nat_cmp_total}
 use Rattle.std.specs.FinMap.{nat_cmp-IsAntisymmetric}
 use Rattle.handover.specs.declared.push_book.Outgoing.{Outgoing}
-use Rattle.handover.proofs.Totals.{nothing_removed}
+use Rattle.tables.proofs.Maps.{remove_absent}
 use Rattle.handover.proofs.Indexing.{clear_some, clear_none}
 use Rattle.handover.proofs.push_book.PushBook.clear.Goals as goal
 
 pub returns-in_default-clause-pushes : goal.returns-in_default-clause-pushes
-returns-in_default-clause-pushes c = rw (← c.self.view_is) (sym (nothing_removed nat_cmp nat_cmp_total nat_cmp-IsAntisymmetric _ _ (sym c.get.ensures ∙ ap (λ (r : Option (Bor Outgoing)). option_copied r) c.in_default.is)))
+returns-in_default-clause-pushes c = rw (← c.self.view_is) (sym (remove_absent nat_cmp_total nat_cmp-IsAntisymmetric _ _ (sym c.get.ensures ∙ ap (λ (r : Option (Bor Outgoing)). option_copied r) c.in_default.is)))
 
 pub invariant_of-self : goal.invariant_of-self
 invariant_of-self c =

@@ -1,18 +1,16 @@
 use Rattle.std.proofs.Common.{◌∙◌, sym, ap, subst, option_copied, Bor}
 use Rattle.std.specs.Prelude.{Option, is_some}
-use Rattle.std.specs.Ordering.{nat_cmp}
 use Rattle.std.specs.Cmp.{nat_cmp_total}
 use Rattle.std.specs.FinMap.{nat_cmp-IsAntisymmetric, get, remove}
-use Rattle.tables.proofs.Maps.{get-remove_same}
+use Rattle.tables.proofs.Maps.{get-remove_same, remove_absent}
 use Rattle.handover.specs.declared.push_book.Outgoing.{Outgoing}
 use Rattle.handover.specs.Pushes.{Pushes, PushRooms, HasRoomOfPush, HeldPushes}
-use Rattle.handover.proofs.Totals.{nothing_removed}
 use Rattle.handover.proofs.Indexing.{unlisted_number}
 use Rattle.handover.proofs.PushRoom.{lost_push, lost_with_subject}
 use Rattle.handover.proofs.push_book.PushBook.remove.Goals as goal
 
 pub returns-in_default-clause-pushes : goal.returns-in_default-clause-pushes
-returns-in_default-clause-pushes c = rw (← c.self.view_is, c.release.ensures.shown) (sym (nothing_removed nat_cmp nat_cmp_total nat_cmp-IsAntisymmetric _ _ (sym c.get.ensures ∙ ap (λ (r : Option (Bor Outgoing)). option_copied r) c.in_default.is)))
+returns-in_default-clause-pushes c = rw (← c.self.view_is, c.release.ensures.shown) (sym (remove_absent nat_cmp_total nat_cmp-IsAntisymmetric _ _ (sym c.get.ensures ∙ ap (λ (r : Option (Bor Outgoing)). option_copied r) c.in_default.is)))
 
 pub returns-in_default-clause-rooms : goal.returns-in_default-clause-rooms
 returns-in_default-clause-rooms c =
