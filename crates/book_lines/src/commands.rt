@@ -1,97 +1,101 @@
 //! The calls of a book of commands.
 
-use crate::answers::{any_row, row_of, say, say_done, say_row, say_rows};
-use crate::words::Words;
-use command_book::CommandBook;
+use crate::answers::{Answer, DONE, Fault, MEMORY, NONE, NOT_A_CALL, Stored, said, write_rows};
+use crate::given::Given;
+use command_book::{CommandBook, CommandFault};
 use ocpi_text::{Moment, PartyKey, Whole};
-use ocpi_types::{Command, CommandResultType, OpenCommand, Place, Reply, Row, Word};
+use ocpi_types::{Command, CommandResultType, OpenCommand, Place, Reply, Word};
 use std::alloc::Global;
 use std::fmt::Write;
 
-/// Makes a call on the book.
-pub(crate) fn call_commands(
-    alloc: Global,
-    book: &mut CommandBook,
-    words: &mut Words,
-    out: &mut String,
-) -> Option<()> {
-    match words.word() {
-        "keep" => keep(alloc, book, words, out),
-        "kept" => kept(alloc, book, words, out),
-        "open" => open(alloc, book, words, out),
-        "opened" => opened(book, words, out),
-        "settle" => settle(book, words, out),
-        "answered" => answered(book, words, out),
-        "due" => due(alloc, book, words, out),
-        "row" => say_done(book.add_row(any_row(alloc, words)?), out),
-        "rows" => rows(alloc, book, out),
-        "copy" => copy(alloc, book, out),
-        _ => None,
+fn done(answer: Result<(), CommandFault>) -> Answer {
+    match answer {
+        Ok(()) => DONE,
+        Err(fault) => Answer::Fault(Fault::Command(fault)),
     }
 }
 
-/// `command keep KEY TEXT`
-fn keep(
+/// Makes a call on the book: `settle party number as`, `kept party number`, `answered party number`.
+pub(crate) fn call_commands(
     alloc: Global,
     book: &mut CommandBook,
-    words: &mut Words,
+    given: &Given,
     out: &mut String,
-) -> Option<()> {
-    match row_of(alloc, "reply", words)? {
-        Row::Reply {
-            sender,
-            number,
-            reply,
-        } => keep_one(book, sender, number, reply, out),
-        _ => None,
+) -> Answer {
+    match given.call {
+        "settle" => match CommandResultType::of_word(given.word) {
+            Some(outcome) => done(book.settle(given.party.key(), given.number, outcome)),
+            None => NOT_A_CALL,
+        },
+        _ => read_commands(alloc, book, given, out),
+    }
+}
+
+/// `kept party number`, `answered party number`, `opened party number`, `due at`, `rows`, `copy`
+fn read_commands(alloc: Global, book: &CommandBook, given: &Given, out: &mut String) -> Answer {
+    let (provider, number) = (given.party.key(), given.number);
+    match given.call {
+        "kept" => match book.reply_kept(provider, number) {
+            Some(reply) => Answer::Stored("", Stored::Reply(provider, number, reply)),
+            None => NONE,
+        },
+        "answered" => match book.answered(provider, number) {
+            Some(outcome) => Answer::Word(outcome.word()),
+            None => NONE,
+        },
+        "opened" => match book.opened(provider, number) {
+            Some(open) => said(write_open(open, out)),
+            None => NONE,
+        },
+        _ => list_commands(alloc, book, given, out),
+    }
+}
+
+/// `due at`, `rows`, `copy`
+fn list_commands(alloc: Global, book: &CommandBook, given: &Given, out: &mut String) -> Answer {
+    match given.call {
+        "due" => due(alloc, book, given.at, out),
+        "rows" => rows(alloc, book, out),
+        "copy" => copied_rows(alloc, book, out),
+        _ => NOT_A_CALL,
+    }
+}
+
+fn due(alloc: Global, book: &CommandBook, at: Moment, out: &mut String) -> Answer {
+    match book.due(alloc, at) {
+        Ok(due) => said(write_requests(due.as_slice(), out)),
+        Err(_) => MEMORY,
+    }
+}
+
+/// The rows of a copy of the book.
+fn copied_rows(alloc: Global, book: &CommandBook, out: &mut String) -> Answer {
+    match book.copy(alloc) {
+        Ok(copy) => rows(alloc, &copy, out),
+        Err(_) => MEMORY,
+    }
+}
+
+fn rows(alloc: Global, book: &CommandBook, out: &mut String) -> Answer {
+    match book.rows(alloc) {
+        Ok(rows) => said(write_rows(alloc, rows.as_slice(), out)),
+        Err(_) => MEMORY,
     }
 }
 
 /// Keeps a reply where there is none.
-fn keep_one(
+pub(crate) fn keep(
     book: &mut CommandBook,
     sender: PartyKey,
     number: Whole,
     reply: Reply,
-    out: &mut String,
-) -> Option<()> {
+) -> Answer {
     if book.reply_kept(sender, number).is_some() {
-        return say("kept", out);
+        return Answer::Word("kept");
     }
-    say_done(book.keep_reply(sender, number, reply), out)
-}
-
-/// `command kept PARTY NUMBER`
-fn kept(alloc: Global, book: &CommandBook, words: &mut Words, out: &mut String) -> Option<()> {
-    let (sender, number) = (words.party_key()?, words.number()?);
-    words.end()?;
-    match book.reply_kept(sender, number) {
-        Some(reply) => {
-            let row = Row::Reply {
-                sender,
-                number,
-                reply,
-            };
-            say_row(alloc, &row, out)
-        }
-        None => say("none", out),
-    }
-}
-
-/// `command open KEY TEXT`
-fn open(
-    alloc: Global,
-    book: &mut CommandBook,
-    words: &mut Words,
-    out: &mut String,
-) -> Option<()> {
-    match row_of(alloc, "pending", words)? {
-        Row::Pending {
-            provider,
-            number,
-            open,
-        } => open_one(book, provider, number, open, out),
-        _ => None,
+    match book.keep_reply(sender, number, reply) {
+        Ok(()) => DONE,
+        Err(_) => MEMORY,
     }
 }
 
@@ -104,96 +108,42 @@ fn place_of(open: &OpenCommand) -> Option<Place> {
 }
 
 /// Opens a command, which has a place if it is a start.
-fn open_one(
+pub(crate) fn open(
     book: &mut CommandBook,
     provider: PartyKey,
     number: Whole,
     open: OpenCommand,
-    out: &mut String,
-) -> Option<()> {
+) -> Answer {
     let (place, deadline) = (place_of(&open), open.deadline);
     let command = open.command;
     if let (Command::StartSession(_), None) = (&command, &place) {
-        return None;
+        return NOT_A_CALL;
     }
-    say_done(
-        book.open(provider, number, command, place, deadline),
-        out,
-    )
-}
-
-/// `command opened PARTY NUMBER`
-fn opened(book: &CommandBook, words: &mut Words, out: &mut String) -> Option<()> {
-    let (provider, number) = (words.party_key()?, words.number()?);
-    words.end()?;
-    match book.opened(provider, number) {
-        Some(open) => say_open(open, out),
-        None => say("none", out),
-    }
+    done(book.open(provider, number, command, place, deadline))
 }
 
 /// The kind of an open command, its deadline in milliseconds since 1970, and its place.
-fn say_open(open: &OpenCommand, out: &mut String) -> Option<()> {
+fn write_open(open: &OpenCommand, out: &mut String) -> Option<()> {
     let (kind, millis) = (open.command.kind().word(), open.deadline.millis());
     write!(out, "{kind} {millis}").ok()?;
-    if let Some(place) = place_of(open) {
-        let (evse, connector) = (place.evse_uid.as_str(), place.connector_id.as_str());
-        write!(out, " {evse} {connector}").ok()?;
+    match place_of(open) {
+        Some(place) => write!(
+            out,
+            " {} {}",
+            place.evse_uid.as_str(),
+            place.connector_id.as_str()
+        )
+        .ok(),
+        None => Some(()),
     }
-    Some(())
-}
-
-/// `command settle PARTY NUMBER RESULT`
-fn settle(book: &mut CommandBook, words: &mut Words, out: &mut String) -> Option<()> {
-    let (provider, number) = (words.party_key()?, words.number()?);
-    let outcome = CommandResultType::of_word(words.word())?;
-    words.end()?;
-    say_done(book.settle(provider, number, outcome), out)
-}
-
-/// `command answered PARTY NUMBER`
-fn answered(book: &CommandBook, words: &mut Words, out: &mut String) -> Option<()> {
-    let (provider, number) = (words.party_key()?, words.number()?);
-    words.end()?;
-    match book.answered(provider, number) {
-        Some(outcome) => say(outcome.word(), out),
-        None => say("none", out),
-    }
-}
-
-/// `command due AT`
-fn due(alloc: Global, book: &CommandBook, words: &mut Words, out: &mut String) -> Option<()> {
-    let at = words.moment()?;
-    words.end()?;
-    say_due(alloc, book, at, out)
-}
-
-/// The requests that are due, in their order.
-fn say_due(alloc: Global, book: &CommandBook, at: Moment, out: &mut String) -> Option<()> {
-    let due = book.due(alloc, at).ok()?;
-    say_requests(due.as_slice(), out)
 }
 
 /// How many requests there are, and each.
-fn say_requests(requests: &[(PartyKey, Whole)], out: &mut String) -> Option<()> {
+fn write_requests(requests: &[(PartyKey, Whole)], out: &mut String) -> Option<()> {
     let count = requests.len();
     write!(out, "{count}").ok()?;
     for request in requests {
-        let (provider, number) = (request.0.as_str(), request.1.value());
-        write!(out, " {provider}/{number}").ok()?;
+        write!(out, " {}/{}", request.0.as_str(), request.1.value()).ok()?;
     }
     Some(())
-}
-
-/// `command rows`
-fn rows(alloc: Global, book: &CommandBook, out: &mut String) -> Option<()> {
-    let rows = book.rows(alloc).ok()?;
-    say_rows(alloc, rows.as_slice(), out)
-}
-
-/// `command copy`: the book's copy takes its place.
-fn copy(alloc: Global, book: &mut CommandBook, out: &mut String) -> Option<()> {
-    let copy = book.copy(alloc).ok()?;
-    *book = copy;
-    say("done", out)
 }

@@ -1,43 +1,148 @@
 //! The calls of a session.
 
-use crate::answers::{row_of, say, say_row, say_session, say_value};
-use crate::words::Words;
+use crate::answers::{Answer, Fault, NOT_A_CALL, Stored, write_cdr};
+use crate::given::Given;
 use ocpi_text::{Moment, Quantity};
-use ocpi_types::{Cdr, Opening, PricePerKwh, Row, Session as Version};
+use ocpi_types::{Cdr, Opening, PricePerKwh, Session as Version};
 use session_state::{CdrDraft, Resumed, SessionFault, resume, start};
 use std::alloc::Global;
 
-/// What became of a session by a call.
-#[derive(Clone, Copy)]
-enum Outcome {
-    Moved,
-    Refused(SessionFault),
-    /// The reading may not come next.
-    CannotRead,
-    /// A session in its state has no such call.
-    OtherState,
-}
-
-/// Makes a call on the session.
-pub(crate) fn call_session(
-    alloc: Global,
-    place: &mut Option<Resumed>,
-    words: &mut Words,
-    out: &mut String,
-) -> Option<()> {
-    match words.word() {
-        "start" => started(alloc, place, words, out),
-        "resume" => resumed(alloc, place, words, out),
-        "bill" => bill(alloc, place, words, out),
-        call => move_on(alloc, call, place, words, out),
+/// Makes a call on the session that stands.
+pub(crate) fn call_session(place: &mut Option<Resumed>, given: &Given) -> Answer {
+    match place.take() {
+        Some(session) => {
+            let (session, answer) = moved(session, given);
+            *place = Some(session);
+            answer
+        }
+        None => Answer::Word("no session"),
     }
 }
 
-/// The version of a session that is left of a line, as a row's key and text.
-fn version_of_row(alloc: Global, words: &mut Words) -> Option<Version> {
-    match row_of(alloc, "session", words)? {
-        Row::Session { session } => Some(session),
-        _ => None,
+/// `activate at`, `void at`, `meter at kwh`, `complete at`, `copy`; `tell` is the newest version.
+fn moved(session: Resumed, given: &Given) -> (Resumed, Answer) {
+    let (session, refusal) = match given.call {
+        "activate" => activated(session, given.at),
+        "void" => voided(session, given.at),
+        "meter" => metered(session, given.at, given.kwh),
+        "complete" => completed(session, given.at),
+        "copy" => (copy_of(&session), None),
+        "tell" => (session, None),
+        _ => (session, Some(NOT_A_CALL)),
+    };
+    match refusal {
+        Some(answer) => (session, answer),
+        None => {
+            let answer = told(&session);
+            (session, answer)
+        }
+    }
+}
+
+const OTHER_STATE: Answer = Answer::Word("other state");
+
+fn refused(fault: SessionFault) -> Answer {
+    Answer::Fault(Fault::Session(fault))
+}
+
+/// The newest version.
+fn told(session: &Resumed) -> Answer {
+    let version = match session {
+        Resumed::Pending(session) => session.version(),
+        Resumed::Active(session) => session.version(),
+        Resumed::Completed(session) => session.version(),
+        Resumed::Invalid(session) => session.version(),
+    };
+    Answer::Stored("", Stored::Session(*version))
+}
+
+fn copy_of(session: &Resumed) -> Resumed {
+    match session {
+        Resumed::Pending(session) => Resumed::Pending(session.copy()),
+        Resumed::Active(session) => Resumed::Active(session.copy()),
+        Resumed::Completed(session) => Resumed::Completed(session.copy()),
+        Resumed::Invalid(session) => Resumed::Invalid(session.copy()),
+    }
+}
+
+/// The session, and the refusal where there is one, as of the moves below.
+fn activated(session: Resumed, at: Moment) -> (Resumed, Option<Answer>) {
+    match session {
+        Resumed::Pending(session) => match session.activate(at) {
+            Ok(session) => (Resumed::Active(session), None),
+            Err(x) => (Resumed::Pending(x.value), Some(refused(x.fault))),
+        },
+        session => (session, Some(OTHER_STATE)),
+    }
+}
+
+fn voided(session: Resumed, at: Moment) -> (Resumed, Option<Answer>) {
+    match session {
+        Resumed::Pending(session) => match session.void(at) {
+            Ok(session) => (Resumed::Invalid(session), None),
+            Err(x) => (Resumed::Pending(x.value), Some(refused(x.fault))),
+        },
+        session => (session, Some(OTHER_STATE)),
+    }
+}
+
+fn metered(session: Resumed, at: Moment, kwh: Quantity) -> (Resumed, Option<Answer>) {
+    match session {
+        Resumed::Active(session) => {
+            if !session.can_meter(kwh) {
+                return (
+                    Resumed::Active(session),
+                    Some(Answer::Word("no such reading")),
+                );
+            }
+            match session.meter(at, kwh) {
+                Ok(session) => (Resumed::Active(session), None),
+                Err(x) => (Resumed::Active(x.value), Some(refused(x.fault))),
+            }
+        }
+        session => (session, Some(OTHER_STATE)),
+    }
+}
+
+/// The session, and the draft of its charge detail record, or the refusal.
+fn drafted(session: Resumed, at: Moment) -> (Resumed, Result<CdrDraft, Answer>) {
+    match session {
+        Resumed::Active(session) => match session.complete(at) {
+            Ok((session, draft)) => (Resumed::Completed(session), Ok(draft)),
+            Err(x) => (Resumed::Active(x.value), Err(refused(x.fault))),
+        },
+        session => (session, Err(OTHER_STATE)),
+    }
+}
+
+fn completed(session: Resumed, at: Moment) -> (Resumed, Option<Answer>) {
+    let (session, draft) = drafted(session, at);
+    match draft {
+        Ok(draft) => {
+            draft.give_up();
+            (session, None)
+        }
+        Err(answer) => (session, Some(answer)),
+    }
+}
+
+/// `start at price`, with the row of a session that is opened so; `resume price` with its row
+pub(crate) fn begin(place: &mut Option<Resumed>, given: &Given, version: &Version) -> Answer {
+    match given.call {
+        "start" => {
+            let session = start(opening_of(version, given.price), given.at);
+            let answer = Answer::Stored("", Stored::Session(*session.version()));
+            *place = Some(Resumed::Pending(session));
+            answer
+        }
+        "resume" => match resume(*version, given.price) {
+            Ok(session) => {
+                *place = Some(session);
+                Answer::Word("resumed")
+            }
+            Err(_) => Answer::Word("handed back"),
+        },
+        _ => NOT_A_CALL,
     }
 }
 
@@ -57,258 +162,47 @@ fn opening_of(version: &Version, price: PricePerKwh) -> Opening {
     }
 }
 
-/// The newest version.
-fn version_of(session: &Resumed) -> &Version {
-    match session {
-        Resumed::Pending(session) => session.version(),
-        Resumed::Active(session) => session.version(),
-        Resumed::Completed(session) => session.version(),
-        Resumed::Invalid(session) => session.version(),
-    }
-}
-
-fn copy_of(session: &Resumed) -> Resumed {
-    match session {
-        Resumed::Pending(session) => Resumed::Pending(session.copy()),
-        Resumed::Active(session) => Resumed::Active(session.copy()),
-        Resumed::Completed(session) => Resumed::Completed(session.copy()),
-        Resumed::Invalid(session) => Resumed::Invalid(session.copy()),
-    }
-}
-
-/// `session start AT PRICE KEY TEXT`
-fn started(
+/// `bill at`, with the row of a charge detail record: completes the session, and writes its own record with the id and
+/// the location of that one
+pub(crate) fn bill(
     alloc: Global,
     place: &mut Option<Resumed>,
-    words: &mut Words,
+    at: Moment,
+    like: Cdr,
     out: &mut String,
-) -> Option<()> {
-    let at = words.moment()?;
-    let price = words.price()?;
-    let version = version_of_row(alloc, words)?;
-    let session = start(opening_of(&version, price), at);
-    say_session(alloc, session.version(), out)?;
-    *place = Some(Resumed::Pending(session));
-    Some(())
-}
-
-/// `session resume PRICE KEY TEXT`
-fn resumed(
-    alloc: Global,
-    place: &mut Option<Resumed>,
-    words: &mut Words,
-    out: &mut String,
-) -> Option<()> {
-    let price = words.price()?;
-    let version = version_of_row(alloc, words)?;
-    match resume(version, price) {
-        Ok(session) => {
-            *place = Some(session);
-            say("resumed", out)
-        }
-        Err(_) => say("handed back", out),
-    }
-}
-
-fn activated(session: Resumed, at: Moment) -> (Resumed, Outcome) {
-    match session {
-        Resumed::Pending(session) => match session.activate(at) {
-            Ok(session) => (Resumed::Active(session), Outcome::Moved),
-            Err(refused) => (
-                Resumed::Pending(refused.value),
-                Outcome::Refused(refused.fault),
-            ),
-        },
-        session => (session, Outcome::OtherState),
-    }
-}
-
-fn voided(session: Resumed, at: Moment) -> (Resumed, Outcome) {
-    match session {
-        Resumed::Pending(session) => match session.void(at) {
-            Ok(session) => (Resumed::Invalid(session), Outcome::Moved),
-            Err(refused) => (
-                Resumed::Pending(refused.value),
-                Outcome::Refused(refused.fault),
-            ),
-        },
-        session => (session, Outcome::OtherState),
-    }
-}
-
-fn metered(session: Resumed, at: Moment, kwh: Quantity) -> (Resumed, Outcome) {
-    match session {
-        Resumed::Active(session) => {
-            if !session.can_meter(kwh) {
-                return (Resumed::Active(session), Outcome::CannotRead);
-            }
-            match session.meter(at, kwh) {
-                Ok(session) => (Resumed::Active(session), Outcome::Moved),
-                Err(refused) => (
-                    Resumed::Active(refused.value),
-                    Outcome::Refused(refused.fault),
-                ),
-            }
-        }
-        session => (session, Outcome::OtherState),
-    }
-}
-
-/// The session, and the draft of its charge detail record where it was completed.
-fn drafted(session: Resumed, at: Moment) -> (Resumed, Result<CdrDraft, Outcome>) {
-    match session {
-        Resumed::Active(session) => match session.complete(at) {
-            Ok((session, draft)) => (Resumed::Completed(session), Ok(draft)),
-            Err(refused) => (
-                Resumed::Active(refused.value),
-                Err(Outcome::Refused(refused.fault)),
-            ),
-        },
-        session => (session, Err(Outcome::OtherState)),
-    }
-}
-
-fn completed(session: Resumed, at: Moment) -> (Resumed, Outcome) {
-    let (session, draft) = drafted(session, at);
-    match draft {
-        Ok(draft) => {
-            draft.give_up();
-            (session, Outcome::Moved)
-        }
-        Err(outcome) => (session, outcome),
-    }
-}
-
-/// The charge detail record of a draft, with the id and the location of another.
-fn issued(alloc: Global, draft: CdrDraft, like: Cdr) -> Result<Cdr, SessionFault> {
-    match draft.issue(alloc, like.id, like.cdr_location) {
-        Ok(cdr) => Ok(cdr),
-        Err(refused) => {
-            let (draft, _location) = refused.value;
-            draft.give_up();
-            Err(refused.fault)
-        }
+) -> Answer {
+    match billed(alloc, place, at, like) {
+        Ok(cdr) => write_cdr(alloc, cdr, out),
+        Err(answer) => answer,
     }
 }
 
 fn billed(
     alloc: Global,
-    session: Resumed,
+    place: &mut Option<Resumed>,
     at: Moment,
     like: Cdr,
-) -> (Resumed, Result<Cdr, Outcome>) {
-    let (session, draft) = drafted(session, at);
-    match draft {
-        Ok(draft) => match issued(alloc, draft, like) {
-            Ok(cdr) => (session, Ok(cdr)),
-            Err(fault) => (session, Err(Outcome::Refused(fault))),
-        },
-        Err(outcome) => (session, Err(outcome)),
-    }
-}
-
-/// What is said of what became of a session.
-fn say_outcome(
-    alloc: Global,
-    session: &Resumed,
-    outcome: Outcome,
-    out: &mut String,
-) -> Option<()> {
-    match outcome {
-        Outcome::Moved => say_session(alloc, version_of(session), out),
-        Outcome::Refused(fault) => say_value(&fault, out),
-        Outcome::CannotRead => say("no such reading", out),
-        Outcome::OtherState => say("other state", out),
-    }
-}
-
-/// What is said of a charge detail record.
-fn say_bill(
-    alloc: Global,
-    session: &Resumed,
-    cdr: Result<Cdr, Outcome>,
-    out: &mut String,
-) -> Option<()> {
-    match cdr {
-        Ok(cdr) => {
-            let row = Row::Cdr { cdr };
-            say_row(alloc, &row, out)
-        }
-        Err(outcome) => say_outcome(alloc, session, outcome, out),
-    }
-}
-
-/// `session bill AT KEY TEXT`
-fn bill(
-    alloc: Global,
-    place: &mut Option<Resumed>,
-    words: &mut Words,
-    out: &mut String,
-) -> Option<()> {
-    let at = words.moment()?;
-    let row = row_of(alloc, "cdr", words)?;
-    match (place.take(), row) {
-        (Some(session), Row::Cdr { cdr }) => {
-            let (session, cdr) = billed(alloc, session, at, cdr);
-            let said = say_bill(alloc, &session, cdr, out);
+) -> Result<Cdr, Answer> {
+    match place.take() {
+        Some(session) => {
+            let (session, draft) = drafted(session, at);
             *place = Some(session);
-            said
+            match draft {
+                Ok(draft) => issued(alloc, draft, like),
+                Err(answer) => Err(answer),
+            }
         }
-        _ => None,
+        None => Err(Answer::Word("no session")),
     }
 }
 
-/// What is asked of a session that stands.
-#[derive(Clone, Copy)]
-enum Move {
-    Activate(Moment),
-    Void(Moment),
-    Meter(Moment, Quantity),
-    Complete(Moment),
-    /// Nothing: the newest version is told.
-    Tell,
-    /// Its copy takes its place.
-    Copy,
-}
-
-/// The move of a line's words.
-fn move_of(call: &str, words: &mut Words) -> Option<Move> {
-    let asked = match call {
-        "activate" => Move::Activate(words.moment()?),
-        "void" => Move::Void(words.moment()?),
-        "meter" => Move::Meter(words.moment()?, words.energy()?),
-        "complete" => Move::Complete(words.moment()?),
-        "tell" => Move::Tell,
-        "copy" => Move::Copy,
-        _ => return None,
-    };
-    words.end()?;
-    Some(asked)
-}
-
-fn moved(session: Resumed, asked: Move) -> (Resumed, Outcome) {
-    match asked {
-        Move::Activate(at) => activated(session, at),
-        Move::Void(at) => voided(session, at),
-        Move::Meter(at, kwh) => metered(session, at, kwh),
-        Move::Complete(at) => completed(session, at),
-        Move::Tell => (session, Outcome::Moved),
-        Move::Copy => (copy_of(&session), Outcome::Moved),
+fn issued(alloc: Global, draft: CdrDraft, like: Cdr) -> Result<Cdr, Answer> {
+    match draft.issue(alloc, like.id, like.cdr_location) {
+        Ok(cdr) => Ok(cdr),
+        Err(x) => {
+            let (draft, _location) = x.value;
+            draft.give_up();
+            Err(refused(x.fault))
+        }
     }
-}
-
-/// `session activate AT`, `session void AT`, `session meter AT KWH`, `session complete AT`, `session tell` and
-/// `session copy`
-fn move_on(
-    alloc: Global,
-    call: &str,
-    place: &mut Option<Resumed>,
-    words: &mut Words,
-    out: &mut String,
-) -> Option<()> {
-    let asked = move_of(call, words)?;
-    let (session, outcome) = moved(place.take()?, asked);
-    let said = say_outcome(alloc, &session, outcome, out);
-    *place = Some(session);
-    said
 }
