@@ -61,17 +61,29 @@ fn without_arguments<'a>(book: &'a str, call: &'a str) -> Option<Given<'a>> {
 
 /// What a line's words give. None, where an argument has no name or cannot be read.
 pub(crate) fn given_in(words: &str) -> Option<Given<'_>> {
-    let mut words = words.split(' ');
-    let (book, call) = (words.next()?, words.next()?);
-    let mut given = without_arguments(book, call)?;
-    for word in words {
-        let (name, value) = word.split_once('=')?;
-        given.set(name, value)?;
+    let (book, rest) = words.split_once(' ')?;
+    let (call, arguments) = rest.split_once(' ').unwrap_or((rest, ""));
+    match without_arguments(book, call) {
+        Some(mut given) => match given.set_all(arguments) {
+            Some(()) => Some(given),
+            None => None,
+        },
+        None => None,
     }
-    Some(given)
 }
 
 impl<'a> Given<'a> {
+    /// Sets the arguments of a line.
+    fn set_all(&mut self, arguments: &'a str) -> Option<()> {
+        for argument in arguments.split(' ') {
+            if !argument.is_empty() {
+                let (name, value) = argument.split_once('=')?;
+                self.set(name, value)?;
+            }
+        }
+        Some(())
+    }
+
     /// Sets an argument.
     fn set(&mut self, name: &'a str, value: &'a str) -> Option<()> {
         match name {

@@ -96,5 +96,6 @@ fn write_account(
     out: &mut String,
 ) -> Option<()> {
     write!(out, "{} {} ", account.0.as_str(), account.1.as_str()).ok()?;
-    write_amount(alloc, sum, out)
+    write_amount(alloc, sum, out)?;
+    out.push_str(" ").ok()
 }

@@ -117,10 +117,11 @@ fn ask_location(places: &Places, given: &Given) -> Answer {
             Some(evse) => Answer::Id(evse.uid),
             None => NONE,
         },
-        _ => match places.find_location(&given.location) {
+        "works" | "place" | "free_place" => match places.find_location(&given.location) {
             Some(at) => ask_place(places, at, given),
             None => NONE,
         },
+        _ => NOT_A_CALL,
     }
 }
 
