@@ -901,10 +901,16 @@ def add_other_lines():
         "reservation note party=NL/TN", "command due at=2025-01-01", "session meter", "bills add\t{}", "token put\t{}",
         "inbox take kind=session key=BE/BEC/S1\t{}", "inbox take kind=token key=NL/TNM/RFID/AA01\t" + text(token() | {"uid": None}),
         "command row kind=result key=NL/TNM/01\t{\"result\":\"FAILED\"}", "outbox nothing", "inbox nothing", "token nothing",
+        "command nothing", "bills nothing", "bills settle=1", "session", "site open", "reservation reserve number=1",
+        "site nothing\t" + text(SITE), "inbox row kind=count key=serial\t{\"last\":1}",
+        "token put kind=count key=serial\t{\"last\":1}", "outbox keep kind=reply key=NL/TNM/1\t" + text(reply()),
+        "inbox put kind=token key=NL/TNM/RFID/AA01\t" + text(token()),
+        "token put kind=cdr key=BE/BEC/C1\t" + text(cdr()), "bills take kind=cdr key=BE/BEC/C1\t" + text(cdr()),
     ):
-        wanted = "no session" if line == "session meter" else "not a call"
-        case(line, wanted)
+        case(line, {"session meter": "no session", "site open": "no site"}.get(line, "not a call"))
     case("  ", "not a call")
+    case("bills settle", ".")
+    case("command kept number=1", "none")
 
 
 def main():

@@ -148,7 +148,12 @@ fn write_reference(reference: &Reference, out: &mut String) -> Option<()> {
 }
 
 fn write_stored(alloc: Global, stored: &Stored, out: &mut String) -> Option<()> {
-    write_text(alloc, &row_of(stored), out)
+    write_row_text(alloc, row_of(stored), out)
+}
+
+/// Writes the text of a row.
+pub(crate) fn write_row_text(alloc: Global, row: Row, out: &mut String) -> Option<()> {
+    write_text(alloc, &row, out)
 }
 
 fn row_of(stored: &Stored) -> Row {
@@ -169,7 +174,7 @@ fn row_of(stored: &Stored) -> Row {
 }
 
 /// The text of a row.
-pub(crate) fn write_text(alloc: Global, row: &Row, out: &mut String) -> Option<()> {
+fn write_text(alloc: Global, row: &Row, out: &mut String) -> Option<()> {
     match write_row(alloc, row) {
         Ok(text) => out.push_str(text.as_str()).ok(),
         Err(_) => None,
@@ -178,7 +183,7 @@ pub(crate) fn write_text(alloc: Global, row: &Row, out: &mut String) -> Option<(
 
 /// Writes the members of a charge detail record.
 pub(crate) fn write_cdr(alloc: Global, cdr: Cdr, out: &mut String) -> Answer {
-    said(write_text(alloc, &Row::Cdr { cdr }, out))
+    said(write_row_text(alloc, Row::Cdr { cdr }, out))
 }
 
 /// The kind and the key of a row, on a line of its own.

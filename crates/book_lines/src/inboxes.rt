@@ -74,8 +74,16 @@ pub(crate) fn add_bill(bills: &mut Vec<Cdr>, cdr: Cdr) -> Answer {
     }
 }
 
-/// `bills settle`: each operator and currency with its sum
-pub(crate) fn settle(alloc: Global, bills: &[Cdr], out: &mut String) -> Answer {
+/// `bills settle`
+pub(crate) fn call_bills(alloc: Global, bills: &[Cdr], given: &Given, out: &mut String) -> Answer {
+    match given.call {
+        "settle" => settle(alloc, bills, out),
+        _ => NOT_A_CALL,
+    }
+}
+
+/// Each operator and currency with its sum, and a point.
+fn settle(alloc: Global, bills: &[Cdr], out: &mut String) -> Answer {
     match settle_all(alloc, bills) {
         Ok(sums) => {
             for (account, sum) in sums.iter() {

@@ -15,7 +15,7 @@ mod tokens;
 use crate::answers::{Answer, DONE, MEMORY, NOT_A_CALL, write_answer};
 use crate::commands::call_commands;
 use crate::given::{Given, given_in};
-use crate::inboxes::{call_inbox, settle};
+use crate::inboxes::{call_bills, call_inbox};
 use crate::outboxes::call_outbox;
 use crate::reservations::call_reservations;
 use crate::rows::call_with_row;
@@ -154,7 +154,7 @@ fn call_alone(alloc: Global, books: &mut Books, given: &Given, out: &mut String)
         "token" => call_tokens(alloc, &mut books.tokens, given, out),
         "command" => call_commands(alloc, &mut books.commands, given, out),
         "inbox" => call_inbox(alloc, &books.inbox, given, out),
-        "bills" => settle(alloc, books.bills.as_slice(), out),
+        "bills" => call_bills(alloc, books.bills.as_slice(), given, out),
         "outbox" => call_outbox(alloc, &mut books.outbox, given, out),
         _ => NOT_A_CALL,
     }
@@ -169,12 +169,16 @@ fn call_with(
     out: &mut String,
 ) -> Answer {
     match given.book {
-        "site" => open(alloc, books, text),
+        "site" => open(alloc, books, given, text),
         _ => call_with_row(alloc, books, given, text, out),
     }
 }
 
-fn open(alloc: Global, books: &mut Books, text: &str) -> Answer {
+/// `site open`, with a site line
+fn open(alloc: Global, books: &mut Books, given: &Given, text: &str) -> Answer {
+    if given.call != "open" {
+        return NOT_A_CALL;
+    }
     match open_site(alloc, text) {
         Some(places) => {
             books.site = Some(places);

@@ -1,7 +1,7 @@
 //! The calls of an outbox.
 
 use crate::answers::{
-    Answer, DONE, Fault, MEMORY, NONE, NOT_A_CALL, optional_number, said, whether, write_text,
+    Answer, DONE, Fault, MEMORY, NONE, NOT_A_CALL, optional_number, said, whether, write_row_text,
 };
 use crate::given::Given;
 use handover::{Outbox, Outgoing};
@@ -74,7 +74,7 @@ fn copied(alloc: Global, number: Whole, outgoing: &Outgoing, out: &mut String) -
 }
 
 fn write_push(alloc: Global, number: Whole, to: Party, push: Push, out: &mut String) -> Answer {
-    said(write_text(alloc, &Row::Push { number, to, push }, out))
+    said(write_row_text(alloc, Row::Push { number, to, push }, out))
 }
 
 /// The number and the addressee of each push, in the order of the numbers.

@@ -21,12 +21,49 @@ pub(crate) fn call_with_row(
     text: &str,
     out: &mut String,
 ) -> Answer {
+    if !puts_rows(given) && !takes_row(given) {
+        return NOT_A_CALL;
+    }
     match read_row(alloc, given.kind, given.key, text.as_bytes()) {
         Ok(row) => match given.call {
             "row" => put_row(books, given, row),
             _ => call_row(alloc, books, given, row, out),
         },
         Err(_) => NOT_A_CALL,
+    }
+}
+
+fn is_call(given: &Given, book: &str, call: &str) -> bool {
+    given.book == book && given.call == call
+}
+
+/// Whether it is `row`, of a book that rows are added to.
+fn puts_rows(given: &Given) -> bool {
+    is_call(given, "reservation", "row")
+        || is_call(given, "token", "row")
+        || is_call(given, "command", "row")
+        || is_call(given, "outbox", "row")
+}
+
+/// Whether it is a call with a row of that kind.
+fn takes_row(given: &Given) -> bool {
+    match given.kind {
+        "session" => {
+            is_call(given, "session", "start")
+                || is_call(given, "session", "resume")
+                || is_call(given, "inbox", "take")
+        }
+        "cdr" => {
+            is_call(given, "session", "bill")
+                || is_call(given, "inbox", "take")
+                || is_call(given, "bills", "add")
+        }
+        "token" => is_call(given, "token", "put") || is_call(given, "token", "store"),
+        "reply" => is_call(given, "command", "keep"),
+        "pending" => is_call(given, "command", "open"),
+        "reservation" => is_call(given, "reservation", "reserve"),
+        "push" => is_call(given, "outbox", "replaced"),
+        _ => false,
     }
 }
 
@@ -43,8 +80,7 @@ fn put_row(books: &mut Books, given: &Given, row: Row) -> Answer {
         "reservation" => stored(books.reservations.add_row(row)),
         "token" => stored(books.tokens.add_row(row)),
         "command" => stored(books.commands.add_row(row)),
-        "outbox" => add_row(&mut books.outbox, row),
-        _ => NOT_A_CALL,
+        _ => add_row(&mut books.outbox, row),
     }
 }
 
@@ -97,7 +133,6 @@ fn call_cdr(alloc: Global, books: &mut Books, given: &Given, cdr: Cdr, out: &mut
     match given.book {
         "session" => bill(alloc, &mut books.session, given.at, cdr, out),
         "inbox" => take_cdr(&mut books.inbox, given, cdr),
-        "bills" => add_bill(&mut books.bills, cdr),
-        _ => NOT_A_CALL,
+        _ => add_bill(&mut books.bills, cdr),
     }
 }
