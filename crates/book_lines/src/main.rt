@@ -1,0 +1,189 @@
+//! Reads lines of calls on a session, a site and the books, and writes what each call answers.
+#![tactic(auto)]
+
+mod answers;
+mod commands;
+mod given;
+mod inboxes;
+mod outboxes;
+mod reservations;
+mod rows;
+mod sessions;
+mod sites;
+mod tokens;
+
+use crate::answers::{Answer, DONE, MEMORY, NOT_A_CALL, write_answer};
+use crate::commands::call_commands;
+use crate::given::{Given, given_in};
+use crate::inboxes::{call_bills, call_inbox};
+use crate::outboxes::call_outbox;
+use crate::reservations::call_reservations;
+use crate::rows::call_with_row;
+use crate::sessions::call_session;
+use crate::sites::{call_site, open_site};
+use crate::tokens::call_tokens;
+use command_book::CommandBook;
+use handover::{Inbox, Outbox};
+use ocpi_types::Cdr;
+use reservation_book::ReservationBook;
+use session_state::Resumed;
+use site::Places;
+use std::alloc::Global;
+use std::io::{self, BufWriter, Read, Write};
+use std::process::ExitCode;
+use std::str;
+use token_desk::TokenDesk;
+
+fn main(rt: HostRuntime) -> ExitCode {
+    match write_answers(&rt) {
+        Ok(()) => ExitCode::SUCCESS,
+        Err(error) => {
+            let _ = eprintln!(rt; "{error}");
+            ExitCode::FAILURE
+        }
+    }
+}
+
+/// One of each. A session and a site stand once a line has made them.
+#[derive(Drop)]
+struct Books {
+    session: Option<Resumed>,
+    site: Option<Places>,
+    reservations: ReservationBook,
+    tokens: TokenDesk,
+    commands: CommandBook,
+    inbox: Inbox,
+    bills: Vec<Cdr>,
+    outbox: Outbox,
+}
+
+impl Books {
+    fn new(alloc: Global) -> Books {
+        Books {
+            session: None,
+            site: None,
+            reservations: ReservationBook::new(alloc),
+            tokens: TokenDesk::new(alloc),
+            commands: CommandBook::new(alloc),
+            inbox: Inbox::new(alloc),
+            bills: Vec::new(alloc),
+            outbox: Outbox::new(alloc),
+        }
+    }
+}
+
+/// Answers all lines of the standard input.
+fn write_answers(rt: &HostRuntime) -> io::Result<()> {
+    let alloc = rt.alloc();
+    let mut input = Vec::new(alloc);
+    rt.reader().read_to_end(&mut input)?;
+    let mut output = BufWriter::new(alloc, io::writer(rt))?;
+    answer_all(alloc, input.as_slice(), &mut output)?;
+    output.flush()
+}
+
+/// Answers all lines with new books.
+fn answer_all<W: Write>(alloc: Global, input: &[u8], output: &mut W) -> io::Result<()> {
+    let mut books = Books::new(alloc);
+    let mut answer = String::new(alloc);
+    answer_lines(alloc, &mut books, input, &mut answer, output)
+}
+
+/// Writes what each line answers.
+fn answer_lines<W: Write>(
+    alloc: Global,
+    books: &mut Books,
+    input: &[u8],
+    answer: &mut String,
+    output: &mut W,
+) -> io::Result<()> {
+    for line in input.split(|byte| *byte == b'\n') {
+        if line.is_empty() {
+            continue;
+        }
+        answer.clear();
+        answer_line(alloc, books, line, answer);
+        writeln!(output, "{answer}")?;
+    }
+    Ok(())
+}
+
+/// Writes what a line answers.
+fn answer_line(alloc: Global, books: &mut Books, line: &[u8], out: &mut String) {
+    let answer = answer_of(alloc, books, line, out);
+    if write_answer(alloc, &answer, out).is_none() {
+        let _ = write_answer(alloc, &MEMORY, out);
+    }
+}
+
+/// What a line answers.
+fn answer_of(alloc: Global, books: &mut Books, line: &[u8], out: &mut String) -> Answer {
+    if line == b"fresh".as_slice() {
+        *books = Books::new(alloc);
+        return DONE;
+    }
+    match str::from_utf8(line) {
+        Ok(line) => call(alloc, books, line, out),
+        Err(_) => NOT_A_CALL,
+    }
+}
+
+/// Makes the call of a line.
+fn call(alloc: Global, books: &mut Books, line: &str, out: &mut String) -> Answer {
+    match line.split_once('\t') {
+        Some((words, text)) => match given_in(words) {
+            Some(given) => call_with(alloc, books, &given, text, out),
+            None => NOT_A_CALL,
+        },
+        None => match given_in(line) {
+            Some(given) => call_alone(alloc, books, &given, out),
+            None => NOT_A_CALL,
+        },
+    }
+}
+
+/// Makes a call without a text.
+fn call_alone(alloc: Global, books: &mut Books, given: &Given, out: &mut String) -> Answer {
+    match given.book {
+        "session" => call_session(&mut books.session, given),
+        "site" => match &mut books.site {
+            Some(places) => call_site(places, given),
+            None => Answer::Word("no site"),
+        },
+        "reservation" => call_reservations(alloc, &mut books.reservations, given, out),
+        "token" => call_tokens(alloc, &mut books.tokens, given, out),
+        "command" => call_commands(alloc, &mut books.commands, given, out),
+        "inbox" => call_inbox(alloc, &books.inbox, given, out),
+        "bills" => call_bills(alloc, books.bills.as_slice(), given, out),
+        "outbox" => call_outbox(alloc, &mut books.outbox, given, out),
+        _ => NOT_A_CALL,
+    }
+}
+
+/// Makes a call with the text of a row, or with a site line.
+fn call_with(
+    alloc: Global,
+    books: &mut Books,
+    given: &Given,
+    text: &str,
+    out: &mut String,
+) -> Answer {
+    match given.book {
+        "site" => open(alloc, books, given, text),
+        _ => call_with_row(alloc, books, given, text, out),
+    }
+}
+
+/// `site open`, with a site line
+fn open(alloc: Global, books: &mut Books, given: &Given, text: &str) -> Answer {
+    if given.call != "open" {
+        return NOT_A_CALL;
+    }
+    match open_site(alloc, text) {
+        Some(places) => {
+            books.site = Some(places);
+            DONE
+        }
+        None => NOT_A_CALL,
+    }
+}
