@@ -38,6 +38,7 @@ from book_values import (
     text,
     token,
     token_key,
+    whole,
 )
 
 CASES = []
@@ -222,7 +223,6 @@ def add_bills():
         case(f"session activate at={moment(0)}", text(session(status="ACTIVE", last_updated=moment(0, 1))))
         metered = session(kwh=123_456, cost=30_864, status="ACTIVE", last_updated=moment(0, 2))
         case(f"session meter at={moment(0)} kwh=12.3456", text(metered))
-        stamp = max(moment(end), moment(0, 3), key=lambda at: (len(at) < 24 and at > moment(0), at))
         stamp = moment(end) if end else moment(0, 3)
         bill(moment(end), text(cdr("C9", end_date_time=moment(end), hours=hours, last_updated=stamp)))
         case(f"session complete at={moment(end)}", "other state")
@@ -460,29 +460,30 @@ def add_reservation_rows():
     case("reservation rows", "0")
     reserve(7, reservation("E1"))
     case("reservation note party=DE/EMP id=R9 number=8", "done")
-    with_row("reservation row", "mark", "NL/TNM/R5", {"number": number_of(6)}, "done")
+    with_row("reservation row", "mark", "NL/TNM/R5", {"number": whole(6)}, "done")
     with_row("reservation row", "reservation", "NL/TNM/R4", reservation("E2"), "done")
     with_row("reservation row", "service", "E1", {}, "done")
-    wanted = rows(
-        ("mark", "DE/EMP/R9", {"number": number_of(8)}),
-        ("mark", "NL/TNM/R1", {"number": number_of(7)}),
-        ("mark", "NL/TNM/R5", {"number": number_of(6)}),
+    has_rows(
+        "reservation",
+        ("mark", "DE/EMP/R9", {"number": whole(8)}),
+        ("mark", "NL/TNM/R1", {"number": whole(7)}),
+        ("mark", "NL/TNM/R5", {"number": whole(6)}),
         ("reservation", "NL/TNM/R1", reservation("E1")),
         ("reservation", "NL/TNM/R4", reservation("E2")),
     )
-    case("reservation rows", wanted)
-    case("reservation copy", wanted)
     case("reservation cancel id=R5 number=5", "1 Stale")
 
 
-def number_of(whole):
-    from packet_forms import Number
-
-    return Number(str(whole))
-
-
-def rows(*listed):
-    return "\n".join([str(len(listed))] + [f"{kind} {key} {text(tree)}" for kind, key, tree in listed])
+def has_rows(book, *listed):
+    """The book has these rows, and so has its copy, and a new book to which they are added."""
+    wanted = "\n".join([str(len(listed))] + [f"{kind} {key} {text(tree)}" for kind, key, tree in listed])
+    case(f"{book} rows", wanted)
+    case(f"{book} copy", wanted)
+    fresh()
+    case(f"{book} rows", "0")
+    for kind, key, tree in reversed(listed):
+        with_row(f"{book} row", kind, key, tree, "done")
+    case(f"{book} rows", wanted)
 
 
 # Tokens
@@ -575,23 +576,22 @@ def add_authorizations():
     case("token authorize uid=AA01 type=RFID", f"{reference(4)} {text(valid)}")
     case("token issue_reference", reference(5))
     case("token issue_reference party=de/emp", reference(6, "DE/EMP"))
-    with_row("token row", "count", "reference", {"last": number_of(LAST_NUMBER - 1)}, "done")
+    with_row("token row", "count", "reference", {"last": whole(LAST_NUMBER - 1)}, "done")
     case("token authorize uid=AA01", f"{reference(LAST_NUMBER)} {text(valid)}")
     case("token issue_reference", "3 NumbersUsedUp")
     case("token authorize uid=AA01", "3 NumbersUsedUp")
     case("token authorize uid=AA04", f"blocked {text(blocked)}")
     case("token authorize uid=ZZ", "1 UnknownToken")
     case("token references", str(LAST_NUMBER))
-    wanted = rows(
-        ("count", "reference", {"last": number_of(LAST_NUMBER)}),
+    has_rows(
+        "token",
+        ("count", "reference", {"last": whole(LAST_NUMBER)}),
         ("token", "NL/TNM/APP_USER/AA01", app),
         ("token", "NL/TNM/RFID/AA01", valid),
         ("token", "NL/TNM/RFID/AA04", blocked),
     )
-    case("token rows", wanted)
-    case("token copy", wanted)
-    with_row("token row", "count", "request", {"last": number_of(3)}, "done")
-    with_row("token row", "count", "reference", {"last": number_of(9)}, "done")
+    with_row("token row", "count", "request", {"last": whole(3)}, "done")
+    with_row("token row", "count", "reference", {"last": whole(9)}, "done")
     case("token issue_reference", reference(10))
 
 
@@ -696,15 +696,15 @@ def add_replies():
     case("command settle number=1 as=ACCEPTED", "done")
     case("command kept number=1", text(one))
     open_command("DE/EMP", 4, pending(stop(), 30))
-    wanted = rows(
+    has_rows(
+        "command",
         ("reply", "DE/EMP/1", other),
         ("reply", "NL/TNM/1", one),
         ("reply", f"NL/TNM/{LAST_NUMBER}", reply("command_response", 2001)),
         ("pending", "DE/EMP/4", pending(stop(), 30)),
         ("result", "NL/TNM/1", {"result": "ACCEPTED"}),
     )
-    case("command rows", wanted)
-    case("command copy", wanted)
+    case(f"command due at={moment(30)}", "1 DE/EMP/4")
 
 
 # What is handed over
@@ -883,8 +883,8 @@ def add_outbox():
     case("outbox get number=3", text(session_push))
     replaces(token_push, "none")
     replaces(session_push, "3")
-    with_row("outbox row", "count", "request", {"last": number_of(LAST_NUMBER - 1)}, "done")
-    with_row("outbox row", "count", "serial", {"last": number_of(5)}, "done")
+    with_row("outbox row", "count", "request", {"last": whole(LAST_NUMBER - 1)}, "done")
+    with_row("outbox row", "count", "serial", {"last": whole(5)}, "done")
     case("outbox take_number", str(LAST_NUMBER))
     case("outbox take_number", "2 NumbersUsedUp")
     case("outbox last_number", str(LAST_NUMBER))

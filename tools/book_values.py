@@ -26,6 +26,10 @@ def number(units):
     return Number(decimal(units))
 
 
+def whole(count):
+    return Number(str(count))
+
+
 def text(tree):
     """The text that is written for a tree: members in the byte order of their names, and none that is absent."""
     return spell(ordered(tree))

@@ -1,4 +1,18 @@
 //! Reads lines of calls on a session, a site and the books, and writes what each call answers.
+//!
+//! It is a test of `session_state`, `site`, `reservation_book`, `token_desk`, `command_book` and `handover`: its cases are the
+//! lines of the file `stdin`, and what they must give stands in `stdout`; `tools/book_cases.py` writes both. It also serves to
+//! measure what the calls cost (`bench/book_lines.py`). Lines end at LF; empty ones are skipped.
+//!
+//! A line is a book, a call and arguments, with one space between each two, as `reservation note party=NL/TNM id=R1 number=4`. A
+//! call on a whole record has the kind and the key of its row among the arguments, and behind a tab the row's text, as
+//! `token put party=NL/TNM kind=token key=NL/TNM/RFID/AA01`, a tab and `{"contract_id":..}`. `site open` has a site line there.
+//! One book of each stands through the run; `fresh` makes them new. An argument that is not given has a value all the same
+//! (`given::Given`), and one that a call does not use is passed over. The calls are listed beside their functions: before a colon
+//! or a comma the name, with the arguments that it uses.
+//!
+//! A call answers `done` or a value, `none`, or its refusal, as `1 Stale`. What a session's types rule out is `other state`, a
+//! reading that may not come next `no such reading`, a line that is no call `not a call`, and want of memory `no memory`.
 #![tactic(auto)]
 
 mod answers;
@@ -31,7 +45,7 @@ use site::Places;
 use std::alloc::Global;
 use std::io::{self, BufWriter, Read, Write};
 use std::process::ExitCode;
-use std::str;
+use std::{mem, str};
 use token_desk::TokenDesk;
 
 fn main(rt: HostRuntime) -> ExitCode {
@@ -70,6 +84,10 @@ impl Books {
             outbox: Outbox::new(alloc),
         }
     }
+
+    fn renew(&mut self, alloc: Global) {
+        drop(mem::replace(self, Books::new(alloc)));
+    }
 }
 
 /// Answers all lines of the standard input.
@@ -78,15 +96,20 @@ fn write_answers(rt: &HostRuntime) -> io::Result<()> {
     let mut input = Vec::new(alloc);
     rt.reader().read_to_end(&mut input)?;
     let mut output = BufWriter::new(alloc, io::writer(rt))?;
-    answer_all(alloc, input.as_slice(), &mut output)?;
+    let mut answer = String::new(alloc);
+    answer_all(alloc, input.as_slice(), &mut answer, &mut output)?;
     output.flush()
 }
 
 /// Answers all lines with new books.
-fn answer_all<W: Write>(alloc: Global, input: &[u8], output: &mut W) -> io::Result<()> {
+fn answer_all<W: Write>(
+    alloc: Global,
+    input: &[u8],
+    answer: &mut String,
+    output: &mut W,
+) -> io::Result<()> {
     let mut books = Books::new(alloc);
-    let mut answer = String::new(alloc);
-    answer_lines(alloc, &mut books, input, &mut answer, output)
+    answer_lines(alloc, &mut books, input, answer, output)
 }
 
 /// Writes what each line answers.
@@ -119,7 +142,7 @@ fn answer_line(alloc: Global, books: &mut Books, line: &[u8], out: &mut String) 
 /// What a line answers.
 fn answer_of(alloc: Global, books: &mut Books, line: &[u8], out: &mut String) -> Answer {
     if line == b"fresh".as_slice() {
-        *books = Books::new(alloc);
+        books.renew(alloc);
         return DONE;
     }
     match str::from_utf8(line) {
