@@ -3,7 +3,7 @@ use Rattle.std.proofs.Common.{◌≡◌, ◌≢◌, ◌<◌, ◌≤◌, ℕ, Lis
 use Rattle.std.specs.Prelude.{Some, IsTrue, is_some, Contains, nat_le, take_while}
 use Rattle.std.specs.List.{AllPairs}
 use Rattle.std.specs.List.Sorted.{IsSorted, IsPermutation}
-use Rattle.std.specs.Ordering.{eq_by_cmp, is_eq, is_lt, is_gt, nat_cmp, ordering_reverse, ordering_then}
+use Rattle.std.specs.Ordering.{eq_by_cmp, is_eq, is_lt, is_gt, nat_cmp, ordering_reverse}
 use Rattle.std.specs.declared.cmp.Ordering.{Ordering}
 use Rattle.std.specs.declared.cmp.Ordering.TheVariants.{Less, Equal, Greater}
 use Rattle.std.specs.BTreeMap.Range.{entries_from}
@@ -24,14 +24,10 @@ use Rattle.tables.proofs.Ordered.{former, latter, le_of_not_gt}
 use Rattle.tables.proofs.Elements.{in_none, in_single, in_front, in_map, of_map, all_of, no_pairs, joined}
 use Rattle.tables.proofs.Entries.{apart_of_less, below_each, listed, listed_only, all_apart}
 use Rattle.std.proofs.lemmas.Option.{same_Some}
+use Rattle.tables.proofs.Parts.{first_part_le}
 
 abbrev Entry : Type 0
 Entry = (ℕ × ℕ) × Unit {0}
-
-first_not_greater : (r s : Ordering) → ordering_then r s ≡ Less → is_gt r ≡ false
-first_not_greater Less s h = refl
-first_not_greater Equal s h = refl
-first_not_greater Greater s h = absurd (cc)
 
 early : (a b : ℕ) → nat_le a b ≡ true → a ≤ b
 early a b h = grind (arith, nat_tests)
@@ -41,7 +37,7 @@ late a b h = grind (arith, nat_tests)
 
 -- an earlier entry has no later moment
 rises : (a b : ℕ × ℕ) → moment_number_cmp a b ≡ Less → a.0 ≤ b.0
-rises a b h = le_from_not_gt a.0 b.0 (first_not_greater (nat_cmp a.0 b.0) (nat_cmp a.1 b.1) h)
+rises a b h = le_from_not_gt a.0 b.0 (first_part_le (nat_cmp a.0 b.0) (nat_cmp a.1 b.1) (ap is_gt h))
 
 module _ (at : ℕ) where
   front_step : (e : Entry) (es : List Entry) → due_front at (e ∷ es) ≡ cond (nat_le e.0.0 at) (e.0.1 ∷ due_front at es) []

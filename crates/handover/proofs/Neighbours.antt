@@ -25,9 +25,6 @@ module _ {A B : Type 0} {R : A → A → Ordering} {S : B → B → Ordering} (o
   there : (q : A × B) → get m q ≡ Some tt → IsTrue (contains_key m q)
   there q h = search (rules, h)
 
-  same_part : (r : Ordering) (d : B) → R a a ≡ r → ordering_then r (S b d) ≡ ordering_then Equal (S b d)
-  same_part r d e = ap (λ x. ordering_then x (S b d)) (sym e ∙ tied_itself o a)
-
   after_part : (d : B) → S b d ≡ Less → pair_cmp R S (a, b) (a, d) ≡ Less
   after_part d h = ap (λ x. ordering_then x (S b d)) (tied_itself o a) ∙ h
 
@@ -44,11 +41,6 @@ module _ {A B : Type 0} {R : A → A → Ordering} {S : B → B → Ordering} (o
   less_part Less s e h = refl
   less_part Equal s e h = absurd (h refl)
   less_part Greater s e h = absurd (cc)
-
-  less_then : (r s : Ordering) → r ≡ Less → ordering_then r s ≡ Less
-  less_then Less s e = refl
-  less_then Equal s e = absurd (cc)
-  less_then Greater s e = absurd (cc)
 
   reversed : (r s : Ordering) → r ≡ ordering_reverse s → s ≡ Less → is_gt r ≡ false → ⊥
   reversed r Less e l h = let up : r ≡ Greater = e in let bad : true ≡ false = ap is_gt (sym up) ∙ h in cc
