@@ -23,7 +23,7 @@ CALLS = 1000
 
 # Its call stands between two kinds, and the counts are told after it.
 BETWEEN = "bills settle"
-CALLED_BETWEEN = "book_lines::inboxes::settle"
+CALLED_BETWEEN = "book_lines::inboxes::call_bills"
 
 
 def row(words, kind, key, tree):
