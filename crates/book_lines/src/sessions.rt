@@ -177,27 +177,22 @@ pub(crate) fn bill(
     }
 }
 
-/// Completes the session that stands.
-fn draft_here(place: &mut Option<Resumed>, at: Moment) -> Result<CdrDraft, Answer> {
-    match place.take() {
-        Some(session) => {
-            let (session, draft) = drafted(session, at);
-            *place = Some(session);
-            draft
-        }
-        None => Err(Answer::Word("no session")),
-    }
-}
-
 fn billed(
     alloc: Global,
     place: &mut Option<Resumed>,
     at: Moment,
     like: Cdr,
 ) -> Result<Cdr, Answer> {
-    match draft_here(place, at) {
-        Ok(draft) => issued(alloc, draft, like),
-        Err(answer) => Err(answer),
+    match place.take() {
+        Some(session) => {
+            let (session, draft) = drafted(session, at);
+            *place = Some(session);
+            match draft {
+                Ok(draft) => issued(alloc, draft, like),
+                Err(answer) => Err(answer),
+            }
+        }
+        None => Err(Answer::Word("no session")),
     }
 }
 
