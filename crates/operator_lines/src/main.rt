@@ -43,7 +43,15 @@ fn write_steps(rt: &HostRuntime) -> io::Result<()> {
         .position(|byte| *byte == b'\n')
         .unwrap_or(input.len());
     match open(alloc, &input[..end]) {
-        Ok(mut operator) => take_lines(alloc, &mut operator, &input, end, &mut output)?,
+        Ok(mut operator) => {
+            take_lines(
+                alloc,
+                &mut operator,
+                &input[..end],
+                &input[end..],
+                &mut output,
+            )?
+        }
         Err(fault) => writeln!(output, "refused {fault}")?,
     }
     output.flush()
@@ -55,17 +63,17 @@ fn open(alloc: Global, line: &[u8]) -> Result<Operator, JsonFault> {
     Ok(Operator::new(alloc, site_line)?)
 }
 
-/// Writes what each of the lines behind the first one gives, which is as long as told.
+/// Writes what each of the lines behind the site line gives.
 fn take_lines<W: Write>(
     alloc: Global,
     operator: &mut Operator,
-    input: &[u8],
-    first: usize,
+    site_line: &[u8],
+    lines: &[u8],
     output: &mut W,
 ) -> io::Result<()> {
-    for line in input[first..].split(|byte| *byte == b'\n') {
+    for line in lines.split(|byte| *byte == b'\n') {
         if line == b"fresh".as_slice() {
-            match open(alloc, &input[..first]) {
+            match open(alloc, site_line) {
                 Ok(fresh) => *operator = fresh,
                 Err(fault) => writeln!(output, "refused {fault}")?,
             }
