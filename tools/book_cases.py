@@ -577,6 +577,57 @@ def add_outbox():
     case("outbox last_number", str(LAST_NUMBER))
 
 
+def add_inbox_rows():
+    """An inbox has the rows that are added, and so has its copy."""
+    fresh()
+    case("inbox rows", "0")
+    one, other, bill = session(), session("S2", status="COMPLETED"), cdr()
+    with_row("inbox row", "session", own_key(one), one, "done")
+    with_row("inbox row", "session", own_key(other), other, "done")
+    with_row("inbox row", "cdr", own_key(bill), bill, "done")
+    has_rows("inbox", ("session", own_key(one), one), ("session", own_key(other), other), ("cdr", own_key(bill), bill))
+
+
+def add_pushes():
+    """A new push has the next number, and the one that it replaces ends; it is due until it is sent, and 10 s after that."""
+    fresh()
+    session_push = push("NL/TNM", "put_session", session())
+    newer = push("NL/TNM", "put_session", session("s1", status="ACTIVE"))
+    token_push, result_push = push("BE/BEC", "put_token", token()), push("NL/TNM", "command_result", result())
+    with_row("outbox push", "push", "9", session_push, "1")
+    with_row("outbox push", "push", "9", token_push, "2")
+    with_row("outbox push", "push", "9", result_push, "3")
+    case("outbox due at=1970-01-01T00:00:00Z", "3 1 2 3")
+    case(f"outbox sent number=1 at={moment(0)}", "done")
+    case(f"outbox sent number=3 at={moment(1)}", "done")
+    case(f"outbox sent number=7 at={moment(1)}", "done")
+    case(f"outbox due at={moment(0, 9999)}", "1 2")
+    case(f"outbox due at={moment(0, 10000)}", "2 1 2")
+    case(f"outbox due at={moment(0, 10999)}", "2 1 2")
+    case(f"outbox copy_due at={moment(0, 10999)}", "2 1 2")
+    case(f"outbox due at={moment(0, 11000)}", "3 1 2 3")
+    case(f"outbox sent number=1 at={moment(5)}", "done")
+    case(f"outbox due at={moment(0, 14999)}", "2 2 3")
+    case(f"outbox due at={moment(0, 15000)}", "3 1 2 3")
+    case("outbox restart", "done")
+    case("outbox due at=1970-01-01T00:00:00Z", "3 1 2 3")
+    case("outbox sent number=2 at=9999-12-31T23:59:59.999Z", "done")
+    case("outbox due at=9999-12-31T23:59:59.998Z", "2 1 3")
+    case("outbox due at=9999-12-31T23:59:59.999Z", "3 1 2 3")
+    with_row("outbox push", "push", "9", newer, "4")
+    case("outbox unacked", "2 BE/BEC 3 NL/TNM 4 NL/TNM .")
+    with_row("outbox push", "push", "9", result_push, "5")
+    case("outbox unacked", "2 BE/BEC 3 NL/TNM 4 NL/TNM 5 NL/TNM .")
+    case("outbox ack party=NL/TNM number=3", "done")
+    case("outbox due at=9999-12-31T23:59:59.998Z", "2 4 5")
+    has_rows("outbox", ("count", "request", {"last": whole(5)}), ("push", "2", token_push), ("push", "4", newer), ("push", "5", result_push))
+    fresh()
+    with_row("outbox row", "count", "request", {"last": whole(LAST_NUMBER - 1)}, "done")
+    with_row("outbox push", "push", "9", session_push, str(LAST_NUMBER))
+    with_row("outbox push", "push", "9", token_push, "2 NumbersUsedUp")
+    case("outbox unacked", f"{LAST_NUMBER} NL/TNM .")
+
+
 # Lines that are no calls
 
 
@@ -589,7 +640,7 @@ def add_other_lines():
         "inbox take kind=session key=BE/BEC/S1\t{}", "inbox take kind=token key=NL/TNM/RFID/AA01\t" + text(token() | {"uid": None}),
         "command row kind=result key=NL/TNM/01\t{\"result\":\"FAILED\"}", "outbox nothing", "inbox nothing", "token nothing",
         "command nothing", "bills nothing", "bills settle=1", "session", "site open", "reservation reserve number=1",
-        "site nothing\t" + text(SITE), "inbox row kind=count key=serial\t{\"last\":1}",
+        "site nothing\t" + text(SITE), "bills row kind=count key=serial\t{\"last\":1}",
         "token put kind=count key=serial\t{\"last\":1}", "outbox keep kind=reply key=NL/TNM/1\t" + text(reply()),
         "inbox put kind=token key=NL/TNM/RFID/AA01\t" + text(token()),
         "token put kind=cdr key=BE/BEC/C1\t" + text(cdr()), "bills take kind=cdr key=BE/BEC/C1\t" + text(cdr()),
@@ -604,7 +655,7 @@ def main():
     for add in (
         add_lives_and_sites, add_reservations,
         add_expiries, add_uses, add_reservation_rows, add_tokens, add_swipes, add_authorizations, add_own_tokens, add_commands,
-        add_due, add_replies, add_versions, add_cdrs, add_settlements, add_outbox, add_other_lines,
+        add_due, add_replies, add_versions, add_cdrs, add_settlements, add_outbox, add_inbox_rows, add_pushes, add_other_lines,
     ):
         add()
     add_drawn(case)

@@ -1,6 +1,8 @@
 //! The calls of an inbox, and of a list of charge detail records.
 
-use crate::answers::{Answer, DONE, Fault, MEMORY, NONE, NOT_A_CALL, Stored, said, write_cdr};
+use crate::answers::{
+    Answer, DONE, Fault, MEMORY, NONE, NOT_A_CALL, Stored, said, write_cdr, write_rows,
+};
 use crate::given::Given;
 use handover::{CdrTaking, Currency, HandoverFault, Inbox, SessionTaking, settle_all};
 use ocpi_text::{PartyKey, write_sum};
@@ -31,7 +33,7 @@ pub(crate) fn take_cdr(inbox: &mut Inbox, given: &Given, cdr: Cdr) -> Answer {
     }
 }
 
-/// Makes a call on the inbox: `held sender id`, `held_cdr sender cdr`, `owed sender currency`.
+/// Makes a call on the inbox: `held sender id`, `held_cdr sender cdr`, `owed sender currency`, `rows`, `copy`.
 pub(crate) fn call_inbox(alloc: Global, inbox: &Inbox, given: &Given, out: &mut String) -> Answer {
     match given.call {
         "held" => match inbox.held(&given.sender, &given.id) {
@@ -46,7 +48,24 @@ pub(crate) fn call_inbox(alloc: Global, inbox: &Inbox, given: &Given, out: &mut 
             let sum = inbox.settlement(&given.sender, given.currency);
             said(write_amount(alloc, sum, out))
         }
+        "rows" => rows(alloc, inbox, out),
+        "copy" => copied_rows(alloc, inbox, out),
         _ => NOT_A_CALL,
+    }
+}
+
+/// The rows of a copy of the inbox.
+fn copied_rows(alloc: Global, inbox: &Inbox, out: &mut String) -> Answer {
+    match inbox.copy(alloc) {
+        Ok(copy) => rows(alloc, &copy, out),
+        Err(_) => MEMORY,
+    }
+}
+
+fn rows(alloc: Global, inbox: &Inbox, out: &mut String) -> Answer {
+    match inbox.rows(alloc) {
+        Ok(rows) => said(write_rows(alloc, rows.as_slice(), out)),
+        Err(_) => MEMORY,
     }
 }
 

@@ -5,7 +5,7 @@ use crate::answers::{Answer, DONE, MEMORY, NOT_A_CALL};
 use crate::commands::{keep, open};
 use crate::given::Given;
 use crate::inboxes::{add_bill, take_cdr, take_session};
-use crate::outboxes::{add_row, replaced};
+use crate::outboxes::call_with_push;
 use crate::reservations::reserve;
 use crate::sessions::{begin, bill};
 use crate::tokens::call_with_token;
@@ -42,6 +42,7 @@ fn puts_rows(given: &Given) -> bool {
     is_call(given, "reservation", "row")
         || is_call(given, "token", "row")
         || is_call(given, "command", "row")
+        || is_call(given, "inbox", "row")
         || is_call(given, "outbox", "row")
 }
 
@@ -62,7 +63,7 @@ fn takes_row(given: &Given) -> bool {
         "reply" => is_call(given, "command", "keep"),
         "pending" => is_call(given, "command", "open"),
         "reservation" => is_call(given, "reservation", "reserve"),
-        "push" => is_call(given, "outbox", "replaced"),
+        "push" => is_call(given, "outbox", "replaced") || is_call(given, "outbox", "push"),
         _ => false,
     }
 }
@@ -80,7 +81,8 @@ fn put_row(books: &mut Books, given: &Given, row: Row) -> Answer {
         "reservation" => stored(books.reservations.add_row(row)),
         "token" => stored(books.tokens.add_row(row)),
         "command" => stored(books.commands.add_row(row)),
-        _ => add_row(&mut books.outbox, row),
+        "inbox" => stored(books.inbox.add_row(row)),
+        _ => stored(books.outbox.add_row(row)),
     }
 }
 
@@ -111,7 +113,7 @@ fn call_row(alloc: Global, books: &mut Books, given: &Given, row: Row, out: &mut
             reservation_id,
             reservation,
         ),
-        Row::Push { to, push, .. } => replaced(&books.outbox, &to, &push),
+        Row::Push { to, push, .. } => call_with_push(&mut books.outbox, given, to, push),
         row => {
             drop(row);
             NOT_A_CALL
