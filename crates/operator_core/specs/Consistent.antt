@@ -1,12 +1,15 @@
 -- What holds of an operator at any time.
-use Rattle.std.specs.Prelude.{◌≡◌, ℕ, List, Some, None}
-use Rattle.std.specs.FinMap.{get}
+use Rattle.std.specs.Prelude.{◌≡◌, ◌≤◌, ℕ, List, Some, None, Contains, IsTrue}
+use Rattle.std.specs.FinMap.{get, contains_key}
+use Rattle.ocpi_text.specs.Text.{key}
 use Rattle.ocpi_types.specs.declared.commands.StartSession.{StartSession}
 use Rattle.ocpi_types.specs.declared.stored.Command.TheVariants as command
 use Rattle.ocpi_types.specs.declared.stored.OpenCommand.{OpenCommand}
 use Rattle.ocpi_types.specs.declared.words.CommandResultType.{CommandResultType}
 use Rattle.command_book.specs.Stored as book
-use Rattle.operator_core.specs.State.{Rows, Spent, OneClaimEach}
+use Rattle.handover.specs.Outbox.{OutboxRows}
+use Rattle.handover.specs.declared.push_book.Outgoing.{Outgoing}
+use Rattle.operator_core.specs.State.{State, Rows, Spent, OneClaimEach}
 use Rattle.operator_core.specs.Start.{Names}
 
 -- the command is a start with that reference, in key form (OCPI 2.2.1, Commands: StartSession)
@@ -30,7 +33,23 @@ pub record AreConsistent (commands : book.Rows) (spent : Spent) : Type 0 where
   -- an open command has no result
   pub unsettled : (k : book.Request) (o : OpenCommand) → get commands.pending k ≡ Some o → get commands.results k ≡ None
 
-pub record IsConsistent (s : Rows) : Type 0 where
-  -- each EVSE has at most one claim
-  pub one_claim : OneClaimEach s.commands.pending s.booked.reservations
+-- each open command is of a provider of the site
+abbrev pub AreOfProviders : List (List ℕ) → book.OpenCommands → Type 0
+AreOfProviders providers pending = (p : List ℕ) (n : ℕ) (o : OpenCommand) → get pending (p, n) ≡ Some o → (provider : List ℕ) × Contains providers provider × (key provider ≡ p)
+
+-- the number of each push was given
+abbrev pub AreGiven : OutboxRows → Type 0
+AreGiven s = (n : ℕ) (o : Outgoing) → get s.pushes n ≡ Some o → n ≤ s.last
+
+-- what is kept of the rows, beside the claims
+pub record AreKept (providers : List (List ℕ)) (s : Rows) : Type 0 where
   pub commands : AreConsistent s.commands s.spent
+  pub of_providers : AreOfProviders providers s.commands.pending
+  pub given : AreGiven s.outbox
+
+pub record IsConsistent (s : State) : Type 0 where
+  -- each EVSE has at most one claim
+  pub one_claim : OneClaimEach s.rows.commands.pending s.rows.booked.reservations
+  pub kept : AreKept s.providers s.rows
+  -- only a push that stands has a resend time
+  pub timed : (n : ℕ) → IsTrue (contains_key s.resend n) → IsTrue (contains_key s.rows.outbox.pushes n)

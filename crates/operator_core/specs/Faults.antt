@@ -1,5 +1,5 @@
 -- When an operator refuses an event.
-use Rattle.std.specs.Prelude.{ℕ}
+use Rattle.std.specs.Prelude.{ℕ, ⊤}
 use Rattle.ocpi_types.specs.declared.packet.Packet.{Packet}
 use Rattle.operator_core.specs.declared.fault.OperatorFault.{OperatorFault}
 use Rattle.operator_core.specs.declared.fault.OperatorFault.TheVariants.{NotForMe, NumbersUsedUp, Memory}
@@ -23,3 +23,15 @@ abbrev pub IsDue : State → ℕ → Packet → OperatorFault → Type 0
 IsDue s at q NotForMe = ¬ IsForMe s q
 IsDue s at q NumbersUsedUp = IsUsedUp s at q
 IsDue s at q Memory = MayStep s at q
+
+-- what an event of the operator's own comes to would take a counter past its last number
+pub record PassesLast (Line : Out → Type 0) : Type 0 where
+  pub out : Out
+  pub line : Line out
+  pub past : ¬ AreInRange out.state
+
+-- the fault of an event that comes from no other party is this one. Want of memory may come at any time
+abbrev pub IsOwnFault : (Out → Type 0) → OperatorFault → Type 0
+IsOwnFault Line NotForMe = ⊥
+IsOwnFault Line NumbersUsedUp = PassesLast Line
+IsOwnFault Line Memory = ⊤

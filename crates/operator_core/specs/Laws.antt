@@ -1,5 +1,6 @@
 -- The laws of an operator over every list of events from its opening: packets that come, in any order and any number of
--- times, at moments that may go back, and EVSEs that go out of service and come back; events that are refused among them.
+-- times, what charge points report, time that passes, at moments that may go back, EVSEs that go out of service and come
+-- back, and new starts of the operator from what it stored; events that are refused among them.
 use Rattle.std.specs.Prelude.{◌≡◌, ◌⊎◌, ℕ, ◌+◌, ◌≤◌, ◌<◌, Bool, List, [], ◌∷◌, Some, Contains, slice_get}
 use Rattle.std.specs.List.{flat_map}
 use Rattle.std.specs.FinMap.{get}
@@ -16,6 +17,7 @@ use Rattle.ocpi_types.specs.declared.stored.OpenCommand.{OpenCommand}
 use Rattle.ocpi_types.specs.declared.stored.Reply.{Reply}
 use Rattle.ocpi_types.specs.declared.stored.Reservation.{Reservation}
 use Rattle.ocpi_types.specs.declared.words.CommandResultType.{CommandResultType}
+use Rattle.ocpi_types.specs.declared.events.ChargerEvent.{ChargerEvent}
 use Rattle.ocpi_types.specs.declared.rows.Change.{Change}
 use Rattle.ocpi_types.specs.declared.rows.Change.TheVariants.{Put}
 use Rattle.ocpi_types.specs.declared.rows.Row.TheVariants as row
@@ -23,10 +25,12 @@ use Rattle.handover.specs.declared.push_book.Outgoing.{Outgoing}
 use Rattle.operator_core.specs.declared.fault.OperatorFault.{OperatorFault}
 use Rattle.operator_core.specs.State.{State, opening}
 use Rattle.operator_core.specs.Consistent.{IsConsistent, Uses}
-use Rattle.operator_core.specs.Moves.{Out, idle}
+use Rattle.operator_core.specs.Moves.{Out, idle, restarted}
 use Rattle.operator_core.specs.Steps.{OperatorStep}
 use Rattle.operator_core.specs.Service.{ServiceStep}
-use Rattle.operator_core.specs.Faults.{IsDue}
+use Rattle.operator_core.specs.Charger.{ChargerLine, ChargerStep}
+use Rattle.operator_core.specs.Tick.{TickLine, TickStep}
+use Rattle.operator_core.specs.Faults.{IsDue, IsOwnFault}
 
 -- what reaches an operator
 pub data Input : Type 0 where
@@ -34,6 +38,12 @@ pub data Input : Type 0 where
   Comes : (at : ℕ) (q : Packet) → Input
   -- the EVSE of that key goes out of service, or comes back
   Serves : (evse : List ℕ) (in_service : Bool) → Input
+  -- a charge point reports at a moment
+  Reports : (at : ℕ) (report : ChargerEvent) → Input
+  -- time passes, up to a moment
+  Ticks : (at : ℕ) → Input
+  -- the operator starts again from what it stored
+  Restarts : Input
 
 -- an event: what reached the operator, what it changed and what it sent
 pub record Event : Type 0 where
@@ -51,6 +61,11 @@ pub data Happens (s : State) (e : Event) (t : State) : Type 0 where
   Served : (evse : List ℕ) (in_service : Bool) → e.input ≡ Serves evse in_service → ServiceStep s evse in_service (out_of e t) → Happens s e t
   -- want of memory
   Unserved : (evse : List ℕ) (in_service : Bool) → e.input ≡ Serves evse in_service → out_of e t ≡ idle s → Happens s e t
+  Reported : (at : ℕ) (report : ChargerEvent) → e.input ≡ Reports at report → ChargerStep s at report (out_of e t) → Happens s e t
+  Unreported : (at : ℕ) (report : ChargerEvent) → e.input ≡ Reports at report → (f : OperatorFault) → IsOwnFault (ChargerLine s at report) f → out_of e t ≡ idle s → Happens s e t
+  Ticked : (at : ℕ) → e.input ≡ Ticks at → TickStep s at (out_of e t) → Happens s e t
+  Unticked : (at : ℕ) → e.input ≡ Ticks at → (f : OperatorFault) → IsOwnFault (TickLine s at) f → out_of e t ≡ idle s → Happens s e t
+  Restarted : e.input ≡ Restarts → out_of e t ≡ restarted s → Happens s e t
 
 -- a run from one state to another, event by event
 abbrev pub Run : State → List Event → State → Type 0
@@ -67,7 +82,7 @@ Came es q = (e : Event) × Contains es e × ((at : ℕ) × (e.input ≡ Comes at
 
 -- what holds of an operator at any time; each EVSE has at most one claim among it
 abbrev pub AlwaysConsistent : Type 0
-AlwaysConsistent = (line : SiteLine) (es : List Event) (t : State) → Run (opening line) es t → IsConsistent t.rows
+AlwaysConsistent = (line : SiteLine) (es : List Event) (t : State) → Run (opening line) es t → IsConsistent t
 
 -- the event opens a start of a provider, both in key form, with a reference in key form
 abbrev pub Opens : Event → List ℕ → List ℕ → Type 0
@@ -94,16 +109,17 @@ RepliesAnswer = (line : SiteLine) (es : List Event) (t : State) → Run (opening
 
 -- a result is kept for good
 abbrev pub ResultsStay : Type 0
-ResultsStay = (s t : State) (es : List Event) → IsConsistent s.rows → Run s es t → (k : List ℕ × ℕ) (x : CommandResultType) → get s.rows.commands.results k ≡ Some x → get t.rows.commands.results k ≡ Some x
+ResultsStay = (s t : State) (es : List Event) → IsConsistent s → Run s es t → (k : List ℕ × ℕ) (x : CommandResultType) → get s.rows.commands.results k ≡ Some x → get t.rows.commands.results k ≡ Some x
 
 -- the packets are numbered from 1, each by the next number
 abbrev pub Numbered : Type 0
 Numbered = (line : SiteLine) (es : List Event) (t : State) → Run (opening line) es t → (i : ℕ) (x : Packet) → slice_get (sent es) i ≡ Some x → x.serial ≡ i + 1
 
--- the operator's own requests, which are results so far, are numbered from 1: no two have one number
-abbrev pub RequestsDiffer : Type 0
-RequestsDiffer = (line : SiteLine) (es : List Event) (t : State) → Run (opening line) es t → (i j : ℕ) (x y : Packet) (a b : CommandResult) → slice_get (sent es) i ≡ Some x → slice_get (sent es) j ≡ Some y →
-    x.body ≡ body.CommandResult a → y.body ≡ body.CommandResult b → x.request ≡ y.request → i ≡ j
+-- each of the operator's own requests, which are results so far, has one number, one body and one addressee, however often it
+-- is sent
+abbrev pub RequestsAgree : Type 0
+RequestsAgree = (line : SiteLine) (es : List Event) (t : State) → Run (opening line) es t → (x y : Packet) (a b : CommandResult) → Contains (sent es) x → Contains (sent es) y →
+    x.body ≡ body.CommandResult a → y.body ≡ body.CommandResult b → x.request ≡ y.request → (x.body ≡ y.body) × (x.to ≡ y.to)
 
 -- the party acknowledged the request of that number, in the run
 abbrev pub Acknowledged : List Event → List ℕ → ℕ → Type 0

@@ -14,6 +14,11 @@ pub mod Stop
 pub mod Unlock
 pub mod Moves
 pub mod Steps
+pub mod Finished
+pub mod Drafts
+pub mod Sending
+pub mod Charger
+pub mod Tick
 pub mod Service
 pub mod Faults
 pub mod FaultText

@@ -1,5 +1,6 @@
--- What steps are made of: changes of rows, from which the state after the step follows, and packets.
+-- What steps are made of: changes of rows and packets, from which the state after the step follows.
 use Rattle.std.specs.Prelude.{ℕ, ◌+◌, Option, Some, None, List, [], ◌∷◌}
+use Rattle.std.specs.FinMap.{insert, empty}
 use Rattle.ocpi_text.specs.Text.{key}
 use Rattle.ocpi_types.specs.declared.packet.Packet.{Packet}
 use Rattle.ocpi_types.specs.declared.packet.Body.{Body}
@@ -12,6 +13,8 @@ use Rattle.ocpi_types.specs.declared.rows.Change.TheVariants.{Put, Drop}
 use Rattle.ocpi_types.specs.declared.rows.Row.TheVariants as row
 use Rattle.ocpi_types.specs.declared.rows.RowKey.TheVariants as keys
 use Rattle.ocpi_types.specs.declared.rows.Counter.TheVariants.{Serial, Request}
+use Rattle.handover.specs.Outbox.{put_resend, drop_resend}
+use Rattle.handover.specs.Resend.{Resend, due_again}
 use Rattle.operator_core.specs.State.{State, Rows}
 use Rattle.operator_core.specs.Stored.{changed_all}
 
@@ -21,13 +24,42 @@ pub record Out : Type 0 where
   pub changes : List Change
   pub packets : List Packet
 
--- the state with other rows
-abbrev pub with_rows : Rows → State → State
-with_rows r s = record s { rows = r }
+-- a push that is put or dropped has no resend time
+abbrev pub untimed : Change → Resend → Resend
+untimed (Put r) m = put_resend r m
+untimed (Drop k) m = drop_resend k m
 
--- a step that makes these changes and sends these packets
-abbrev pub step : State → List Change → List Packet → Out
-step s changes packets = record { state = with_rows (changed_all changes s.rows) s; changes = changes; packets = packets }
+abbrev pub untimed_all : List Change → Resend → Resend
+untimed_all [] m = m
+untimed_all (c ∷ cs) m = untimed_all cs (untimed c m)
+
+-- a packet with that body and request number is sent at a moment: a push is due again ten seconds later
+abbrev pub timed : Body → ℕ → ℕ → Resend → Resend
+timed (body.CommandResult x) n at m = insert m n (due_again at)
+timed (body.PutToken x) n at m = insert m n (due_again at)
+timed (body.PutSession x) n at m = insert m n (due_again at)
+timed (body.PostCdr x) n at m = insert m n (due_again at)
+timed other n at m = m
+
+abbrev pub timed_all : ℕ → List Packet → Resend → Resend
+timed_all at [] m = m
+timed_all at (q ∷ qs) m = timed_all at qs (timed q.body q.request at m)
+
+-- the state once these changes are made, and then these packets sent at that moment
+abbrev pub after : ℕ → List Change → List Packet → State → State
+after at changes packets s = record s { rows = changed_all changes s.rows; resend = timed_all at packets (untimed_all changes s.resend) }
+
+-- a step at a moment, which makes these changes and sends these packets
+abbrev pub step : State → ℕ → List Change → List Packet → Out
+step s at changes packets = record { state = after at changes packets s; changes = changes; packets = packets }
+
+-- a step that makes these changes and sends nothing
+abbrev pub silent : State → List Change → Out
+silent s changes = record { state = record s { rows = changed_all changes s.rows; resend = untimed_all changes s.resend }; changes = changes; packets = [] }
+
+-- the operator starts again from what it stored: each push is due at once
+abbrev pub restarted : State → Out
+restarted s = record { state = record s { resend = empty }; changes = []; packets = [] }
 
 -- an event that does nothing
 abbrev pub idle : State → Out

@@ -19,6 +19,6 @@ pub record IsRequest (s : State) (at : ℕ) (q : Packet) (r : Request) : Type 0 
 abbrev pub out_of : State → Stepped → Out
 out_of s x = record { state = s; changes = x.rows.items; packets = x.packets.items }
 
--- what a step comes to once its changes of rows are carried out
-abbrev pub planned : State → Stepped → Out
-planned s x = step s x.rows.items x.packets.items
+-- what a step at a moment comes to once its changes of rows are carried out and its packets are sent
+abbrev pub planned : State → ℕ → Stepped → Out
+planned s at x = step s at x.rows.items x.packets.items

@@ -13,6 +13,7 @@ use Rattle.site.specs.Places.{Idle}
 use Rattle.command_book.specs.Stored as commands
 use Rattle.reservation_book.specs.Rows as booked
 use Rattle.handover.specs.Outbox.{OutboxRows}
+use Rattle.handover.specs.Resend.{Resend}
 
 -- the authorization references that were used, by provider and reference
 abbrev pub Spent : Type 0
@@ -36,6 +37,8 @@ pub record State : Type 0 where
   pub providers : List (List ℕ)
   pub site : Site
   pub rows : Rows
+  -- the moment from which on each push is due again; one that has none is due at once. A restart empties it
+  pub resend : Resend
 
 abbrev pub no_rows : Rows
 no_rows = record {
@@ -54,6 +57,7 @@ opening line = record {
   providers = line.parties.providers;
   site = line.site;
   rows = no_rows;
+  resend = empty;
 }
 
 -- the open command took the EVSE of that key

@@ -33,7 +33,7 @@ use Rattle.ocpi_types.specs.declared.rows.Change.{Change}
 use Rattle.ocpi_types.specs.declared.rows.Change.TheVariants.{Put, Drop}
 use Rattle.ocpi_types.specs.declared.rows.Row.TheVariants as row
 use Rattle.ocpi_types.specs.declared.rows.RowKey.TheVariants as keys
-use Rattle.operator_core.specs.Moves.{Out, step, idle, packet_after, serial_row, request_row, spent_rows, used_rows, result_rows, result_packet}
+use Rattle.operator_core.specs.Moves.{Out, step, silent, idle, packet_after, serial_row, request_row, spent_rows, used_rows, result_rows, result_packet}
 
 -- the seconds within which a result follows
 abbrev pub timeout : ℕ
@@ -121,11 +121,11 @@ decided_packets at to n c d s = packet_after s 1 to n (body_of_reply (reply_of a
 
 -- what a decision does
 abbrev pub decided : ℕ → List ℕ → List ℕ → ℕ → Command → Decision → State → Out
-decided at to p n c d s = step s (decided_rows at to p n c d s.rows) (decided_packets at to n c d s)
+decided at to p n c d s = step s at (decided_rows at to p n c d s.rows) (decided_packets at to n c d s)
 
 -- a kept reply is sent again, under the next serial
-abbrev pub again : List ℕ → ℕ → Reply → State → Out
-again to n r s = step s (serial_row s.rows 1 ∷ []) (packet_after s 1 to n (body_of_reply r) ∷ [])
+abbrev pub again : ℕ → List ℕ → ℕ → Reply → State → Out
+again at to n r s = step s at (serial_row s.rows 1 ∷ []) (packet_after s 1 to n (body_of_reply r) ∷ [])
 
 -- the acknowledgement ends a push of this operator: it has status 1000, and comes from the addressee under the push's number
 abbrev pub Acknowledges : State → Packet → Ack → Type 0
@@ -134,11 +134,11 @@ Acknowledges s q a = (a.status_code ≡ 1000) × IsTo s.rows.outbox.pushes q.fro
 -- what becomes of a packet of the provider that the site spells `to`. A request that has a kept reply gets that reply again;
 -- another is decided. An acknowledgement ends the push that it is for, or is idle
 pub data PacketLine (s : State) (at : ℕ) (q : Packet) (to : List ℕ) (out : Out) : Type 0 where
-  Again : (c : Command) → q.body ≡ body_of_command c → (r : Reply) → get s.rows.commands.replies (key q.from, q.request) ≡ Some r → out ≡ again to q.request r s →
+  Again : (c : Command) → q.body ≡ body_of_command c → (r : Reply) → get s.rows.commands.replies (key q.from, q.request) ≡ Some r → out ≡ again at to q.request r s →
       PacketLine s at q to out
   Decided : (c : Command) → q.body ≡ body_of_command c → get s.rows.commands.replies (key q.from, q.request) ≡ None → (d : Decision) → Decides s at q.from q.request c d →
       out ≡ decided at to (key q.from) q.request c d s → PacketLine s at q to out
-  Acknowledged : (a : Ack) → q.body ≡ body.Ack a → Acknowledges s q a → out ≡ step s (Drop (keys.Push q.request) ∷ []) [] → PacketLine s at q to out
+  Acknowledged : (a : Ack) → q.body ≡ body.Ack a → Acknowledges s q a → out ≡ silent s (Drop (keys.Push q.request) ∷ []) → PacketLine s at q to out
   Idle : (a : Ack) → q.body ≡ body.Ack a → ¬ Acknowledges s q a → out ≡ idle s → PacketLine s at q to out
 
 -- the kinds of packet that an operator takes

@@ -15,6 +15,7 @@ use Rattle.command_book.specs.Room as command_room
 use Rattle.reservation_book.specs.Rows as booked
 use Rattle.handover.specs.Outbox as outbox
 use Rattle.handover.specs.Pushes.{PushRooms}
+use Rattle.handover.specs.Resend.{Resend, Moments}
 use Rattle.site.specs.Places.{Idle}
 use Rattle.operator_core.specs.State.{Rows, Spent}
 use Rattle.operator_core.specs.Rows.{change_key}
@@ -116,8 +117,10 @@ abbrev pub AreApart : List Change → Type 0
 AreApart [] = ⊤
 AreApart (c ∷ cs) = Each (λ d. change_key d ≢ change_key c) cs × AreApart cs
 
--- the site, the rows, and the room that is taken beside them
+-- the site, the rows, the room that is taken beside them, the resend times of pushes, and the room for such times
 pub record Held : Type 0 where
   pub site : Site
   pub rows : Rows
   pub rooms : Rooms
+  pub resend : Resend
+  pub moments : Moments

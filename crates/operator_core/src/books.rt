@@ -1,6 +1,6 @@
 //! What an operator stores, with the claims on the site's EVSEs that follow from it.
 
-ghost use Rattle.std.specs.Prelude.{◌≡◌, ◌++◌, List, ℕ, map as list_map, OnOk, IsOk, IsTrue, None, false, IfOk, IfSome, IfNone};
+ghost use Rattle.std.specs.Prelude.{◌≡◌, ◌↔◌, ◌++◌, ◌∷◌, [], List, ℕ, map as list_map, OnOk, IsOk, IsTrue, None, false, IfOk, IfSome, IfNone};
 ghost use Rattle.std.specs.FinMap as map;
 ghost use Rattle.ocpi_types.specs.Rows.{key_of};
 ghost use Rattle.tables.specs.Keys.{text_pair_cmp};
@@ -10,14 +10,16 @@ ghost use Rattle.ocpi_types.specs.declared.rows.Row.{Row as RowData};
 ghost use Rattle.operator_core.specs.State.{no_rows};
 ghost use Rattle.operator_core.specs.Rows.{change_key, AreRowsOf};
 ghost use Rattle.operator_core.specs.Listing.{count_rows, spent_row, service_row, push_row, other_rows};
+ghost use Rattle.operator_core.specs.Moves.{timed_all, untimed, untimed_all};
+ghost use Rattle.operator_core.specs.Sending.{AreSendable, HaveRoomToSend, IsPushed, KeepsTimeRoom};
 ghost use Rattle.operator_core.specs.Start.{IsSpent};
 ghost use Rattle.operator_core.specs.Claimed.{IsIndexed, Holds, RowTakes, released, claimed, MayPut, MayChange, MayChangeAll};
 ghost use Rattle.operator_core.specs.Stored.{AreApart, HasRoom, HasRoomOf, HasRooms, KeepsOtherRoom, KeepsRoom, HasSpentRoom, changed, changed_all, put_row, drop_row, counted, uncounted, spending, unspending, withdrawing, restoring};
 
 use command_book::CommandBook;
 use handover::Outbox;
-use ocpi_text::{CiKey, CiText, PartyKey, Whole};
-use ocpi_types::{Change, Counter, Reply, Row, RowKey, Site};
+use ocpi_text::{CiKey, CiText, Moment, PartyKey, Whole};
+use ocpi_types::{Body, Change, Counter, Packet, Reply, Row, RowKey, Site};
 use reservation_book::ReservationBook;
 use site::{Claim, Places};
 use std::alloc::{AllocError, Global};
@@ -67,6 +69,8 @@ impl Model for Books {
         booked = b.booked.rooms;
         outbox = b.outbox.rooms;
       };
+      resend = b.outbox.resend;
+      moments = b.outbox.moments;
     } };
 
     ghost invariant = { λ b. IsIndexed b.places.claims b.commands.rows.pending b.booked.rows.reservations };
@@ -135,6 +139,16 @@ fn restore(places: &mut Places, key: &RowKey)
     if let RowKey::Service { evse_uid } = key {
         let _known = places.set_service(*evse_uid, true);
     }
+}
+
+/// Whether a packet with that body is pushed, until it is acknowledged.
+fn is_pushed(body: &Body) -> bool
+    ensures { IsTrue result ↔ IsPushed body.now }
+{
+    matches!(
+        body,
+        Body::CommandResult(_) | Body::PutToken(_) | Body::PutSession(_) | Body::PostCdr(_)
+    )
 }
 
 /// The number of the last packet once a row is put.
@@ -255,6 +269,7 @@ impl Books {
     pub fn new(alloc: Global, site: Site) -> Result<Books, AllocError>
         ensures site { IfOk result (λ b. b.site ≡ site) }
         ensures rows { IfOk result (λ b. b.rows ≡ no_rows) }
+        ensures resend { IfOk result (λ b. b.resend ≡ map.empty) }
     {
         let places = Places::new(alloc, site)?;
         Ok(Books {
@@ -308,17 +323,34 @@ impl Books {
         &self.booked
     }
 
+    /// The replies, the open commands and the results.
+    pub fn commands(&self) -> &CommandBook
+        ensures { result.now.rows ≡ self.now.rows.commands }
+    {
+        &self.commands
+    }
+
     /// What is pushed.
     pub fn outbox(&self) -> &Outbox
-        ensures { result.now.rows ≡ self.now.rows.outbox }
+        ensures rows { result.now.rows ≡ self.now.rows.outbox }
+        ensures resend { result.now.resend ≡ self.now.resend }
     {
         &self.outbox
+    }
+
+    /// Only pushes that stand have a resend time.
+    pub fn resend_stands(&self)
+        ensures { (n : ℕ) → IsTrue (map.contains_key self.now.resend n) → IsTrue (map.contains_key self.now.rows.outbox.pushes n) }
+    {
+        self.outbox.resend_stands();
     }
 
     /// Takes the memory that a row needs. An error is want of memory, for a row that has no room.
     fn reserve_row(&mut self, row: &Row) -> Result<(), AllocError>
         ensures site { self.new.site ≡ self.old.site }
         ensures rows { self.new.rows ≡ self.old.rows }
+        ensures resend { self.new.resend ≡ self.old.resend }
+        ensures moments { self.new.moments ≡ self.old.moments }
         ensures keeps { KeepsRoom self.old.rooms self.new.rooms }
         ensures room { OnOk result (HasRoomOf self.new.rooms row.now) }
         ensures again { HasRoomOf self.old.rooms row.now → IsOk result }
@@ -333,6 +365,8 @@ impl Books {
     fn reserve(&mut self, change: &Change) -> Result<(), AllocError>
         ensures site { self.new.site ≡ self.old.site }
         ensures rows { self.new.rows ≡ self.old.rows }
+        ensures resend { self.new.resend ≡ self.old.resend }
+        ensures moments { self.new.moments ≡ self.old.moments }
         ensures keeps { KeepsRoom self.old.rooms self.new.rooms }
         ensures room { OnOk result (HasRoom self.new.rooms change.now) }
         ensures again { HasRoom self.old.rooms change.now → IsOk result }
@@ -348,6 +382,8 @@ impl Books {
     pub fn make_room(&mut self, changes: &[Change]) -> Result<(), AllocError>
         ensures site { self.new.site ≡ self.old.site }
         ensures rows { self.new.rows ≡ self.old.rows }
+        ensures resend { self.new.resend ≡ self.old.resend }
+        ensures moments { self.new.moments ≡ self.old.moments }
         ensures room { OnOk result (HasRooms self.new.rooms changes.now) }
         ensures again { HasRooms self.old.rooms changes.now → IsOk result }
     {
@@ -386,6 +422,8 @@ impl Books {
         requires claim { MayPut self.old.site self.old.rows row }
         ensures site { self.new.site ≡ self.old.site }
         ensures rows { self.new.rows ≡ put_row row self.old.rows }
+        ensures resend { self.new.resend ≡ untimed (Change.Put row) self.old.resend }
+        ensures moments { KeepsTimeRoom self.old.resend (Change.Put row ∷ []) self.old.moments self.new.moments }
         ensures keeps { KeepsOtherRoom (key_of row) self.old.rooms self.new.rooms }
     {
         let evse_uid = self.claimed_by(&row.key());
@@ -406,6 +444,8 @@ impl Books {
         requires { MayChange self.old.site self.old.rows (Change.Drop key) }
         ensures site { self.new.site ≡ self.old.site }
         ensures rows { self.new.rows ≡ drop_row key self.old.rows }
+        ensures resend { self.new.resend ≡ untimed (Change.Drop key) self.old.resend }
+        ensures moments { KeepsTimeRoom self.old.resend (Change.Drop key ∷ []) self.old.moments self.new.moments }
         ensures keeps { KeepsOtherRoom key self.old.rooms self.new.rooms }
     {
         let evse_uid = self.claimed_by(&key);
@@ -426,6 +466,8 @@ impl Books {
         requires claim { MayChange self.old.site self.old.rows change }
         ensures site { self.new.site ≡ self.old.site }
         ensures rows { self.new.rows ≡ changed change self.old.rows }
+        ensures resend { self.new.resend ≡ untimed change self.old.resend }
+        ensures moments { KeepsTimeRoom self.old.resend (change ∷ []) self.old.moments self.new.moments }
         ensures keeps { KeepsOtherRoom (change_key change) self.old.rooms self.new.rooms }
     {
         match change {
@@ -441,10 +483,53 @@ impl Books {
         requires claims { MayChangeAll self.old.site self.old.rows changes.items }
         ensures site { self.new.site ≡ self.old.site }
         ensures rows { self.new.rows ≡ changed_all changes.items self.old.rows }
+        ensures resend { self.new.resend ≡ untimed_all changes.items self.old.resend }
+        ensures moments { KeepsTimeRoom self.old.resend changes.items self.old.moments self.new.moments }
     {
         for change in changes {
             self.carry_out(change);
         }
+    }
+
+    /// Takes the memory that the resend times of packets need which are sent at that moment and are pushes. Nothing that
+    /// stands changes, whether there is enough or not. An error is want of memory, for a packet that has no room.
+    pub fn reserve_sent(&mut self, at: Moment, packets: &[Packet]) -> Result<(), AllocError>
+        ensures site { self.new.site ≡ self.old.site }
+        ensures rows { self.new.rows ≡ self.old.rows }
+        ensures resend { self.new.resend ≡ self.old.resend }
+        ensures room { OnOk result (HaveRoomToSend self.new.moments at packets.now) }
+        ensures again { HaveRoomToSend self.old.moments at packets.now → IsOk result }
+    {
+        for packet in packets {
+            if is_pushed(&packet.body) {
+                self.outbox.reserve_sent(packet.request, at)?;
+            }
+        }
+        Ok(())
+    }
+
+    /// The packets were sent at that moment: those that are pushes are due again ten seconds later. It takes no memory.
+    pub fn sent(&mut self, at: Moment, packets: &[Packet])
+        requires room { HaveRoomToSend self.old.moments at packets.now }
+        requires sendable { AreSendable self.old.rows.outbox.pushes packets.now }
+        ensures site { self.new.site ≡ self.old.site }
+        ensures rows { self.new.rows ≡ self.old.rows }
+        ensures resend { self.new.resend ≡ timed_all at packets.now self.old.resend }
+    {
+        for packet in packets {
+            if is_pushed(&packet.body) {
+                self.outbox.sent(packet.request, at);
+            }
+        }
+    }
+
+    /// The operator starts again: each push is due at once. It takes no memory.
+    pub fn restart(&mut self)
+        ensures site { self.new.site ≡ self.old.site }
+        ensures rows { self.new.rows ≡ self.old.rows }
+        ensures resend { self.new.resend ≡ map.empty }
+    {
+        self.outbox.restart();
     }
 
     /// The rows that are neither of commands nor of reservations.

@@ -103,7 +103,7 @@ impl Operator {
     }
 
     /// That no counter passed its last number, which the types of the counters keep.
-    fn counters_are_in_range(&self)
+    pub(crate) fn counters_are_in_range(&self)
         ensures { AreInRange self.now }
     {
         let _serial = self.books.serial().value();
@@ -205,7 +205,7 @@ impl Operator {
         numbers: &Numbers,
     ) -> Result<Stepped, AllocError>
         requires { numbers.now ≡ numbers_for self.now.rows (result_of decision.now) }
-        ensures { IfOk result (λ x. (c : CommandOf) → body.now ≡ body_of_command c → planned self.now x ≡ decided request.now.at request.now.from request.now.provider request.now.number c decision.now self.now) }
+        ensures { IfOk result (λ x. (c : CommandOf) → body.now ≡ body_of_command c → planned self.now request.now.at x ≡ decided request.now.at request.now.from request.now.provider request.now.number c decision.now self.now) }
     {
         let rows = self.decided_rows(request, body, decision, numbers)?;
         let packets = self.decided_packets(request, body, decision, numbers)?;
@@ -220,7 +220,7 @@ impl Operator {
         numbers: &Numbers,
     ) -> Result<Stepped, AllocError>
         requires { numbers.now ≡ numbers_for self.now.rows None }
-        ensures { IfOk result (λ x. planned self.now x ≡ again request.now.from request.now.number reply.now self.now) }
+        ensures { IfOk result (λ x. planned self.now request.now.at x ≡ again request.now.at request.now.from request.now.number reply.now self.now) }
     {
         let rows = counter_rows(self.alloc, numbers)?;
         let packet = self.packet(request, numbers.reply, request.number, reply.into_body());
@@ -248,7 +248,7 @@ impl Operator {
     fn on_command(&self, request: &Request, packet: &Packet) -> Result<Stepped, OperatorFault>
         requires request { IsRequest self.now request.now.at packet.now request.now }
         requires command { (c : CommandOf) × (packet.now.body ≡ body_of_command c) }
-        ensures step { IfOk result (λ x. OperatorStep self.now request.now.at packet.now (planned self.now x)) }
+        ensures step { IfOk result (λ x. OperatorStep self.now request.now.at packet.now (planned self.now request.now.at x)) }
         ensures fault { IfErr result (λ e. IsDue self.now request.now.at packet.now e) }
     {
         self.counters_are_in_range();
@@ -269,7 +269,7 @@ impl Operator {
     fn on_ack(&self, request: &Request, packet: &Packet, ack: &Ack) -> Result<Stepped, AllocError>
         requires request { IsRequest self.now request.now.at packet.now request.now }
         requires ack { packet.now.body ≡ body.Ack ack.now }
-        ensures step { IfOk result (λ x. OperatorStep self.now request.now.at packet.now (planned self.now x)) }
+        ensures step { IfOk result (λ x. OperatorStep self.now request.now.at packet.now (planned self.now request.now.at x)) }
         ensures memory { OnErr result (MayStep self.now request.now.at packet.now) }
     {
         self.counters_are_in_range();
@@ -286,7 +286,7 @@ impl Operator {
 
     /// What becomes of a packet.
     pub(crate) fn decide(&self, at: Moment, packet: &Packet) -> Result<Stepped, OperatorFault>
-        ensures step { IfOk result (λ x. OperatorStep self.now at packet.now (planned self.now x)) }
+        ensures step { IfOk result (λ x. OperatorStep self.now at packet.now (planned self.now at x)) }
         ensures fault { IfErr result (λ e. IsDue self.now at packet.now e) }
     {
         let Some(request) = self.request(at, packet) else {

@@ -1,10 +1,10 @@
 //! The laws of an operator, over every list of events from its opening. The steps in them are those of
-//! `Operator::on_packet` and `Operator::on_service`.
+//! `Operator::on_packet`, `on_charger`, `on_tick`, `on_service` and `restart`.
 
-ghost use Rattle.operator_core.specs.Laws.{AlwaysConsistent, OneStart, SentRepliesAreKept, RepliesStay, RepliesAnswer, ResultsStay, Numbered, RequestsDiffer, PushesStand, SentResultsAreKept, MarksNeverFall, ReservationsAreNewer};
+ghost use Rattle.operator_core.specs.Laws.{AlwaysConsistent, OneStart, SentRepliesAreKept, RepliesStay, RepliesAnswer, ResultsStay, Numbered, RequestsAgree, PushesStand, SentResultsAreKept, MarksNeverFall, ReservationsAreNewer};
 
 /// Each EVSE has at most one claim, among open starts and reservations; each reference is carried by at most one open start;
-/// each open command has a reply and no result.
+/// each open command is of a provider of the site, and has a reply and no result; only a push that stands has a resend time.
 pub fn always_consistent()
     ensures { AlwaysConsistent }
 {}
@@ -39,9 +39,9 @@ pub fn numbered()
     ensures { Numbered }
 {}
 
-/// No two requests of an operator have one number.
-pub fn requests_differ()
-    ensures { RequestsDiffer }
+/// Each request of an operator has one number, one body and one addressee, however often it is sent.
+pub fn requests_agree()
+    ensures { RequestsAgree }
 {}
 
 /// A result that was sent is pushed until its addressee acknowledges it.

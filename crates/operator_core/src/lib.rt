@@ -3,9 +3,13 @@
 
 mod books;
 mod cancel;
+mod charger;
 mod decide;
 mod decision;
+mod draft;
+mod ending;
 mod fault;
+mod finish;
 pub mod laws;
 mod operator;
 mod providers;
@@ -15,9 +19,11 @@ mod rows;
 mod start;
 mod stepped;
 mod stop;
+mod tick;
 mod unlock;
 
 pub use decision::Decision;
+pub use ending::Ending;
 pub use fault::OperatorFault;
 pub use operator::Operator;
 pub use stepped::Stepped;

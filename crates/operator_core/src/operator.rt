@@ -8,7 +8,7 @@ use crate::fault::OperatorFault;
 use crate::rows::copies;
 use crate::stepped::Stepped;
 use ocpi_text::{CiKey, Moment};
-use ocpi_types::{Change, Packet, Parties, Row, RowKey, SiteLine};
+use ocpi_types::{Change, ChargerEvent, Packet, Parties, Row, RowKey, SiteLine};
 use site::SiteFault;
 use std::alloc::{AllocError, Global};
 use std::marker::Model;
@@ -25,7 +25,7 @@ impl Model for Operator {
     ghost use Rattle.std.specs.FinMap as map;
     ghost use Rattle.std.specs.Coded.{codes};
     ghost use Rattle.operator_core.specs.State.{State};
-    ghost use Rattle.operator_core.specs.Consistent.{AreConsistent};
+    ghost use Rattle.operator_core.specs.Consistent.{AreKept};
 
     ghost Value = { State };
 
@@ -36,20 +36,24 @@ impl Model for Operator {
       providers = o.parties.providers;
       site = o.books.site;
       rows = o.books.rows;
+      resend = o.books.resend;
     } };
 
-    ghost invariant = { λ o. AreConsistent o.books.rows.commands o.books.rows.spent };
+    ghost invariant = { λ o. AreKept o.parties.providers o.books.rows };
 }
 
 impl Operator {
     ghost use Rattle.operator_core.specs.Steps.{OperatorStep};
     ghost use Rattle.operator_core.specs.Service.{ServiceStep};
     ghost use Rattle.operator_core.specs.Requests.{out_of};
-    ghost use Rattle.operator_core.specs.Faults.{IsDue};
-    ghost use Rattle.operator_core.specs.Consistent.{AreConsistent, IsConsistent};
+    ghost use Rattle.operator_core.specs.Charger.{ChargerLine, ChargerStep};
+    ghost use Rattle.operator_core.specs.Tick.{TickLine, TickStep};
+    ghost use Rattle.operator_core.specs.Faults.{IsDue, IsOwnFault};
+    ghost use Rattle.operator_core.specs.Consistent.{AreKept, IsConsistent};
     ghost use Rattle.operator_core.specs.Claimed.{MayChangeAll};
-    ghost use Rattle.operator_core.specs.Moves.{idle, step, with_rows};
+    ghost use Rattle.operator_core.specs.Moves.{after, idle, restarted, silent};
     ghost use Rattle.operator_core.specs.Rows.{AreChanges, AreRowsOf};
+    ghost use Rattle.operator_core.specs.Sending.{MaySend};
     ghost use Rattle.operator_core.specs.Stored.{AreApart, changed_all};
 
     /// The operator of a site before its first event.
@@ -71,12 +75,14 @@ impl Operator {
 
     /// What holds of every operator at any time, which its type keeps: each EVSE has at most one claim; each reference of
     /// a provider is carried by at most one open start, and is spent; each command that is open or has a result was
-    /// answered, and none is both.
+    /// answered, and none is both; each open command is of a provider of the site; each push has a number that was given;
+    /// only a push that stands has a resend time.
     pub fn consistency(&self)
-        ensures { IsConsistent self.now.rows }
+        ensures { IsConsistent self.now }
     {
         // The invariant is known once a field is looked at, and that of the books by what they say of their places.
         let _places = self.books.places();
+        self.books.resend_stands();
     }
 
     /// All rows that stand, each once. An error is want of memory.
@@ -86,18 +92,53 @@ impl Operator {
         self.books.stored(self.alloc)
     }
 
-    /// Carries changes of different rows out. An error is want of memory, and changes nothing.
-    fn carry_out(&mut self, changes: &[Change]) -> Result<(), AllocError>
+    /// Carries changes of different rows out, and sends packets at a moment. An error is want of memory, and changes
+    /// nothing.
+    fn carry_out(
+        &mut self,
+        at: Moment,
+        changes: &[Change],
+        packets: &[Packet],
+    ) -> Result<(), AllocError>
         requires apart { AreApart changes.now }
         requires claims { MayChangeAll self.old.site self.old.rows changes.now }
-        requires consistent { AreConsistent (changed_all changes.now self.old.rows).commands (changed_all changes.now self.old.rows).spent }
-        ensures ok { OnOk result (self.new ≡ with_rows (changed_all changes.now self.old.rows) self.old) }
+        requires kept { AreKept self.old.providers (changed_all changes.now self.old.rows) }
+        requires sending { MaySend self.old.rows self.old.resend changes.now packets.now }
+        ensures ok { OnOk result (self.new ≡ after at changes.now packets.now self.old) }
+        ensures err { OnErr result (self.new ≡ self.old) }
+    {
+        let stored = copies(self.alloc, changes)?;
+        self.books.reserve_sent(at, packets)?;
+        self.books.make_room(changes)?;
+        self.books.apply(stored);
+        self.books.sent(at, packets);
+        Ok(())
+    }
+
+    /// Carries changes of different rows out, where nothing is sent. An error is want of memory, and changes nothing.
+    fn carry_rows(&mut self, changes: &[Change]) -> Result<(), AllocError>
+        requires apart { AreApart changes.now }
+        requires claims { MayChangeAll self.old.site self.old.rows changes.now }
+        requires kept { AreKept self.old.providers (changed_all changes.now self.old.rows) }
+        ensures ok { OnOk result (self.new ≡ (silent self.old changes.now).state) }
         ensures err { OnErr result (self.new ≡ self.old) }
     {
         let stored = copies(self.alloc, changes)?;
         self.books.make_room(changes)?;
         self.books.apply(stored);
         Ok(())
+    }
+
+    /// Carries out what an event comes to.
+    fn carry_step(&mut self, at: Moment, stepped: &Stepped) -> Result<(), AllocError>
+        requires apart { AreApart stepped.now.rows.items }
+        requires claims { MayChangeAll self.old.site self.old.rows stepped.now.rows.items }
+        requires kept { AreKept self.old.providers (changed_all stepped.now.rows.items self.old.rows) }
+        requires sending { MaySend self.old.rows self.old.resend stepped.now.rows.items stepped.now.packets.items }
+        ensures ok { OnOk result (self.new ≡ after at stepped.now.rows.items stepped.now.packets.items self.old) }
+        ensures err { OnErr result (self.new ≡ self.old) }
+    {
+        self.carry_out(at, stepped.rows.as_slice(), stepped.packets.as_slice())
     }
 
     /// A packet comes at a moment. It is refused (`NotForMe`) where it is to another party, from a party that is no provider
@@ -115,13 +156,56 @@ impl Operator {
     {
         self.consistency();
         let stepped = self.decide(at, packet)?;
-        self.carry_out(stepped.rows.as_slice())?;
+        self.carry_step(at, &stepped)?;
         Ok(stepped)
+    }
+
+    /// A charge point reports at a moment. The open command that the report ends gets its result, which is kept and pushed
+    /// to its provider: that a stop or an unlock was carried out (`Accepts`, `Unlocked`), that a command cannot be
+    /// (`Refuses`), that the EVSE failed which an open start took (`Fault`). A report that ends no command does nothing;
+    /// so do swipes and what is said of sessions, which an operator does not have yet. Refused (`NumbersUsedUp`) where a
+    /// counter of packets or of requests would pass its last number. A refusal, want of memory included, changes nothing
+    /// and sends nothing.
+    pub fn on_charger(&mut self, at: Moment, report: ChargerEvent) -> Result<Stepped, OperatorFault>
+        ensures step { IfOk result (λ x. ChargerStep self.old at report (out_of self.new x)) }
+        ensures fault { IfErr result (IsOwnFault (ChargerLine self.old at report)) }
+        ensures err { OnErr result (self.new ≡ self.old) }
+        ensures rows { IfOk result (λ x. AreChanges self.old.rows x.rows.items self.new.rows) }
+    {
+        self.consistency();
+        let stepped = self.decide_report(&report)?;
+        self.carry_step(at, &stepped)?;
+        Ok(stepped)
+    }
+
+    /// Time has come to a moment: open commands whose deadline is at or before it end by a timeout; reservations whose
+    /// expiry is at or before it end, of which nobody is told; pushes that were last sent ten seconds before it, or
+    /// earlier, or not since the operator started, are sent again. Packets leave in this order. Refused (`NumbersUsedUp`)
+    /// where a counter of packets or of requests would pass its last number. A refusal, want of memory included, changes
+    /// nothing and sends nothing.
+    pub fn on_tick(&mut self, at: Moment) -> Result<Stepped, OperatorFault>
+        ensures step { IfOk result (λ x. TickStep self.old at (out_of self.new x)) }
+        ensures fault { IfErr result (IsOwnFault (TickLine self.old at)) }
+        ensures err { OnErr result (self.new ≡ self.old) }
+        ensures rows { IfOk result (λ x. AreChanges self.old.rows x.rows.items self.new.rows) }
+    {
+        self.consistency();
+        let stepped = self.decide_tick(at)?;
+        self.carry_step(at, &stepped)?;
+        Ok(stepped)
+    }
+
+    /// The operator starts again from what it stored: each push is due at once, and nothing else changes. It takes no
+    /// memory, and costs the logarithm for each push.
+    pub fn restart(&mut self)
+        ensures { self.new ≡ (restarted self.old).state }
+    {
+        self.books.restart();
     }
 
     /// The change that puts an EVSE of the site in service or out of it, where it is not yet so.
     fn decide_service(&self, evse_uid: CiKey<36>, in_service: bool) -> Option<Change>
-        ensures change { IfSome result (λ c. ServiceStep self.now evse_uid in_service (step self.now (c ∷ []) [])) }
+        ensures change { IfSome result (λ c. ServiceStep self.now evse_uid in_service (silent self.now (c ∷ []))) }
         ensures none { IfNone result (ServiceStep self.now evse_uid in_service (idle self.now)) }
     {
         let places = self.books.places();
@@ -140,7 +224,7 @@ impl Operator {
 
     /// The changes that put an EVSE of the site in service or out of it: none, where it already is so.
     fn service_rows(&self, evse_uid: CiKey<36>, in_service: bool) -> Result<Vec<Change>, AllocError>
-        ensures { IfOk result (λ v. ServiceStep self.now evse_uid in_service (step self.now v.items [])) }
+        ensures { IfOk result (λ v. ServiceStep self.now evse_uid in_service (silent self.now v.items)) }
     {
         match self.decide_service(evse_uid, in_service) {
             Some(change) => Ok(vec![in self.alloc; change]?),
@@ -161,7 +245,7 @@ impl Operator {
     {
         self.consistency();
         let rows = self.service_rows(evse_uid, in_service)?;
-        self.carry_out(rows.as_slice())?;
+        self.carry_rows(rows.as_slice())?;
         let packets = Vec::new(self.alloc);
         Ok(Stepped { rows, packets })
     }

@@ -1,10 +1,11 @@
-//! Hands packets to an operator, and writes what each step gives: the packets that are sent, each as its line, and then
-//! the changes of rows, as `put KIND KEY TEXT` or `drop KIND KEY`. A line that is refused gives `refused N Name`.
+//! Hands packets and events to an operator, and writes what each step gives: the packets that are sent, each as its line,
+//! and then the changes of rows, as `put KIND KEY TEXT` or `drop KIND KEY`. A line that is refused gives `refused N Name`.
 //!
-//! The first line of the standard input is a site line. Each other is a moment, a space and a packet, or an event line, of
-//! which those that put an EVSE in service or out of it are served, or the word `fresh`: from there on it is a new operator
-//! of the same site, or the word `stored`, which gives all rows that stand, as if each were put. The program is a test of `operator_core`: its cases are the lines of the file `stdin`, and what they
-//! must give stands in `stdout`; `tools/operator_cases.py` writes both. Lines end at LF; empty ones are skipped.
+//! The first line of the standard input is a site line. Each other is a moment, a space and a packet; or an event line of an
+//! operator's own (what a charge point reports, `tick`, `service`, `restart`); or the word `fresh`: from there on it is a new
+//! operator of the same site; or the word `stored`, which gives all rows that stand, as if each were put. The program is a
+//! test of `operator_core`: its cases are the lines of the file `stdin`, and what they must give stands in `stdout`;
+//! `tools/operator_cases.py` writes both. Lines end at LF; empty ones are skipped.
 //!
 //! A step that runs out of memory is made once more. So where an allocation of a step fails, whichever it is, the output is
 //! the same as with ample memory, since the step leaves the operator as it was; where another fails, the program ends with
@@ -14,10 +15,10 @@
 use ocpi_json::{
     JsonFault, RowKind, read_event, read_packet, read_site, write_key, write_packet, write_row,
 };
-use ocpi_text::Moment;
-use ocpi_types::{Change, Event, EventKind, Field, Packet, Row, RowKey, Word};
+use ocpi_text::{CiKey, Moment};
+use ocpi_types::{Change, ChargerEvent, Event, EventKind, Field, Packet, Row, RowKey, Word};
 use operator_core::{Operator, OperatorFault, Stepped};
-use std::alloc::Global;
+use std::alloc::{AllocError, Global};
 use std::io::{self, BufWriter, Read, Write};
 use std::process::ExitCode;
 use std::str;
@@ -133,18 +134,70 @@ fn take_event<W: Write>(
     event: &Event,
     output: &mut W,
 ) -> io::Result<()> {
-    let EventKind::Service {
-        evse_uid,
-        in_service,
-    } = event.kind
-    else {
-        return writeln!(output, "refused {}", OperatorFault::NotForMe);
-    };
-    let step = match operator.on_service(evse_uid.key(), in_service) {
-        Ok(step) => step,
-        Err(_) => operator.on_service(evse_uid.key(), in_service)?,
-    };
-    write_step(alloc, &step, output)
+    match event.kind {
+        EventKind::Service {
+            evse_uid,
+            in_service,
+        } => {
+            let step = serve(operator, evse_uid.key(), in_service)?;
+            write_step(alloc, &step, output)
+        }
+        EventKind::Charger { at, event } => write_answer(
+            alloc,
+            report(operator, at, event),
+            output,
+        ),
+        EventKind::Tick { at } => write_answer(alloc, tick(operator, at), output),
+        EventKind::Restart => {
+            operator.restart();
+            Ok(())
+        }
+        _ => writeln!(output, "refused {}", OperatorFault::NotForMe),
+    }
+}
+
+/// The step in which an EVSE goes out of service, or comes back, tried once more where memory ran out.
+fn serve(
+    operator: &mut Operator,
+    evse_uid: CiKey<36>,
+    in_service: bool,
+) -> Result<Stepped, AllocError> {
+    match operator.on_service(evse_uid, in_service) {
+        Ok(step) => Ok(step),
+        Err(_) => operator.on_service(evse_uid, in_service),
+    }
+}
+
+/// The step of a report, tried once more where memory ran out.
+fn report(
+    operator: &mut Operator,
+    at: Moment,
+    event: ChargerEvent,
+) -> Result<Stepped, OperatorFault> {
+    match operator.on_charger(at, event) {
+        Err(OperatorFault::Memory) => operator.on_charger(at, event),
+        answer => answer,
+    }
+}
+
+/// The step of a moment, tried once more where memory ran out.
+fn tick(operator: &mut Operator, at: Moment) -> Result<Stepped, OperatorFault> {
+    match operator.on_tick(at) {
+        Err(OperatorFault::Memory) => operator.on_tick(at),
+        answer => answer,
+    }
+}
+
+/// Writes what a step gives, or its refusal.
+fn write_answer<W: Write>(
+    alloc: Global,
+    answer: Result<Stepped, OperatorFault>,
+    output: &mut W,
+) -> io::Result<()> {
+    match answer {
+        Ok(step) => write_step(alloc, &step, output),
+        Err(fault) => writeln!(output, "refused {fault}"),
+    }
 }
 
 /// Hands a packet to the operator, and writes what the step gives.
@@ -155,10 +208,7 @@ fn take_packet<W: Write>(
     packet: &Packet,
     output: &mut W,
 ) -> io::Result<()> {
-    match stepped(operator, at, packet) {
-        Ok(step) => write_step(alloc, &step, output),
-        Err(fault) => writeln!(output, "refused {fault}"),
-    }
+    write_answer(alloc, stepped(operator, at, packet), output)
 }
 
 /// The step of a packet, tried once more where memory ran out.
