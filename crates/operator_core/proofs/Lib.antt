@@ -1,4 +1,5 @@
 pub mod Effects
+pub mod Finishing
 pub mod Shapes
 pub mod Sends
 pub mod Marking

@@ -42,7 +42,7 @@ abbrev pub AreGiven : OutboxRows → Type 0
 AreGiven s = (n : ℕ) (o : Outgoing) → get s.pushes n ≡ Some o → n ≤ s.last
 
 -- what is kept of the rows, beside the claims
-pub record AreKept (providers : List (List ℕ)) (s : Rows) : Type 0 where
+pub record IsSound (providers : List (List ℕ)) (s : Rows) : Type 0 where
   pub commands : AreConsistent s.commands s.spent
   pub of_providers : AreOfProviders providers s.commands.pending
   pub given : AreGiven s.outbox
@@ -50,6 +50,6 @@ pub record AreKept (providers : List (List ℕ)) (s : Rows) : Type 0 where
 pub record IsConsistent (s : State) : Type 0 where
   -- each EVSE has at most one claim
   pub one_claim : OneClaimEach s.rows.commands.pending s.rows.booked.reservations
-  pub kept : AreKept s.providers s.rows
+  pub sound : IsSound s.providers s.rows
   -- only a push that stands has a resend time
   pub timed : (n : ℕ) → IsTrue (contains_key s.resend n) → IsTrue (contains_key s.rows.outbox.pushes n)

@@ -25,7 +25,7 @@ impl Model for Operator {
     ghost use Rattle.std.specs.FinMap as map;
     ghost use Rattle.std.specs.Coded.{codes};
     ghost use Rattle.operator_core.specs.State.{State};
-    ghost use Rattle.operator_core.specs.Consistent.{AreKept};
+    ghost use Rattle.operator_core.specs.Consistent.{IsSound};
 
     ghost Value = { State };
 
@@ -39,7 +39,7 @@ impl Model for Operator {
       resend = o.books.resend;
     } };
 
-    ghost invariant = { λ o. AreKept o.parties.providers o.books.rows };
+    ghost invariant = { λ o. IsSound o.parties.providers o.books.rows };
 }
 
 impl Operator {
@@ -49,7 +49,7 @@ impl Operator {
     ghost use Rattle.operator_core.specs.Charger.{ChargerLine, ChargerStep};
     ghost use Rattle.operator_core.specs.Tick.{TickLine, TickStep};
     ghost use Rattle.operator_core.specs.Faults.{IsDue, IsOwnFault};
-    ghost use Rattle.operator_core.specs.Consistent.{AreKept, IsConsistent};
+    ghost use Rattle.operator_core.specs.Consistent.{IsSound, IsConsistent};
     ghost use Rattle.operator_core.specs.Claimed.{MayChangeAll};
     ghost use Rattle.operator_core.specs.Moves.{after, idle, restarted, silent};
     ghost use Rattle.operator_core.specs.Rows.{AreChanges, AreRowsOf};
@@ -102,7 +102,7 @@ impl Operator {
     ) -> Result<(), AllocError>
         requires apart { AreApart changes.now }
         requires claims { MayChangeAll self.old.site self.old.rows changes.now }
-        requires kept { AreKept self.old.providers (changed_all changes.now self.old.rows) }
+        requires sound { IsSound self.old.providers (changed_all changes.now self.old.rows) }
         requires sending { MaySend self.old.rows self.old.resend changes.now packets.now }
         ensures ok { OnOk result (self.new ≡ after at changes.now packets.now self.old) }
         ensures err { OnErr result (self.new ≡ self.old) }
@@ -119,7 +119,7 @@ impl Operator {
     fn carry_rows(&mut self, changes: &[Change]) -> Result<(), AllocError>
         requires apart { AreApart changes.now }
         requires claims { MayChangeAll self.old.site self.old.rows changes.now }
-        requires kept { AreKept self.old.providers (changed_all changes.now self.old.rows) }
+        requires sound { IsSound self.old.providers (changed_all changes.now self.old.rows) }
         ensures ok { OnOk result (self.new ≡ (silent self.old changes.now).state) }
         ensures err { OnErr result (self.new ≡ self.old) }
     {
@@ -133,7 +133,7 @@ impl Operator {
     fn carry_step(&mut self, at: Moment, stepped: &Stepped) -> Result<(), AllocError>
         requires apart { AreApart stepped.now.rows.items }
         requires claims { MayChangeAll self.old.site self.old.rows stepped.now.rows.items }
-        requires kept { AreKept self.old.providers (changed_all stepped.now.rows.items self.old.rows) }
+        requires sound { IsSound self.old.providers (changed_all stepped.now.rows.items self.old.rows) }
         requires sending { MaySend self.old.rows self.old.resend stepped.now.rows.items stepped.now.packets.items }
         ensures ok { OnOk result (self.new ≡ after at stepped.now.rows.items stepped.now.packets.items self.old) }
         ensures err { OnErr result (self.new ≡ self.old) }
