@@ -44,13 +44,19 @@ of_change : (c : Change) (k : ℕ) → change_key c ≡ keys.Push k → (resend 
 of_change c k is resend n (inl none) = inl none
 of_change c k is resend n (inr apart) = inr (λ same. apart c (in_front c []) (is ∙ ap (λ z. keys.Push z) (sym same)))
 
-pub put_keeps_time : (r : Row) (resend : Resend) (m : Moments) → KeepsTimeRoom resend (Put r ∷ []) m (put_moments r resend m)
-put_keeps_time (row.Push k to push) resend m moment n keeps had = unqueued_keeps resend k m moment n (of_change (Put (row.Push k to push)) k refl resend n keeps) had
-put_keeps_time other resend m moment n keeps had = had
+after_put : (r : Row) (resend : Resend) (m : Moments) → KeepsTimeRoom resend (Put r ∷ []) m (put_moments r resend m)
+after_put (row.Push k to push) resend m moment n keeps had = unqueued_keeps resend k m moment n (of_change (Put (row.Push k to push)) k refl resend n keeps) had
+after_put other resend m moment n keeps had = had
 
-pub drop_keeps_time : (k : RowKey) (resend : Resend) (m : Moments) → KeepsTimeRoom resend (Drop k ∷ []) m (drop_moments k resend m)
-drop_keeps_time (keys.Push k) resend m moment n keeps had = unqueued_keeps resend k m moment n (of_change (Drop (keys.Push k)) k refl resend n keeps) had
-drop_keeps_time other resend m moment n keeps had = had
+pub put_keeps_time : (r : Row) (resend : Resend) (s t : Moments) → t ≡ put_moments r resend s → KeepsTimeRoom resend (Put r ∷ []) s t
+put_keeps_time r resend s t is = subst (KeepsTimeRoom resend (Put r ∷ []) s) (sym is) (after_put r resend s)
+
+after_drop : (k : RowKey) (resend : Resend) (m : Moments) → KeepsTimeRoom resend (Drop k ∷ []) m (drop_moments k resend m)
+after_drop (keys.Push k) resend m moment n keeps had = unqueued_keeps resend k m moment n (of_change (Drop (keys.Push k)) k refl resend n keeps) had
+after_drop other resend m moment n keeps had = had
+
+pub drop_keeps_time : (k : RowKey) (resend : Resend) (s t : Moments) → t ≡ drop_moments k resend s → KeepsTimeRoom resend (Drop k ∷ []) s t
+drop_keeps_time k resend s t is = subst (KeepsTimeRoom resend (Drop k ∷ []) s) (sym is) (after_drop k resend s)
 
 -- a key of another kind leaves the resend times as they are
 pub drop_untimed : (k : RowKey) (m : Resend) → ((n : ℕ) → k ≡ keys.Push n → ⊥) → m ≡ drop_resend k m

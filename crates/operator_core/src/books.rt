@@ -448,6 +448,7 @@ impl Books {
     }
 
     /// Puts a row, with the claim that follows from it. It takes no memory.
+    #[tactic(auto, using(crate::proofs::TimeRoom::put_keeps_time))]
     fn put_row(&mut self, row: Row)
         requires room { HasRoomOf self.old.rooms row }
         requires claim { MayPut self.old.site self.old.rows row }
@@ -471,6 +472,7 @@ impl Books {
     }
 
     /// Drops a row, with the claim that followed from it. It takes no memory.
+    #[tactic(auto, using(crate::proofs::TimeRoom::drop_keeps_time))]
     fn drop_row(&mut self, key: RowKey)
         requires { MayChange self.old.site self.old.rows (Change.Drop key) }
         ensures site { self.new.site ≡ self.old.site }
