@@ -175,8 +175,8 @@ class Case:
         self.put("mark", "%s/%s" % (party.upper(), name), {"number": number})
 
     def reserved(self, name, uid, expiry, place="LOC1", user="AA01", party="NL/TNM"):
-        self.put("reservation", "%s/%s" % (party.upper(), name), {"evse_uid": uid, "expiry_date": moment(expiry), "location_id": place,
-                                                        "token": token(user, party)})
+        row = {"evse_uid": uid, "expiry_date": moment(expiry), "location_id": place, "token": token(user, party)}
+        self.put("reservation", "%s/%s" % (party.upper(), name), row)
 
     def opened(self, number, deadline, uid=None, party="NL/TNM"):
         kind, body = BODIES[(party, number)]
