@@ -48,12 +48,24 @@ def url(number, party="NL/TNM"):
 BODIES = {}
 
 
+def enter(line):
+    """The next line. What is told from here on is what it gives; an empty line ends that, also where nothing is told."""
+    end()
+    LINES.append(line)
+
+
+def end():
+    """Ends what the last line gives. The first is the site line, which gives nothing."""
+    if len(LINES) > 1:
+        WANTED.append("")
+
+
 class Case:
     """What has been said so far to one operator: it counts the sender's packets and this operator's rows of counters."""
 
     def __init__(self, name):
         self.name = name
-        LINES.append("fresh")
+        enter("fresh")
         self.pushes = {}
         self.rows = {}
         # How a provider spells itself, where it is not as the site does.
@@ -62,7 +74,7 @@ class Case:
     def hear(self, clock, kind, body, number, party="NL/TNM", to=OPERATOR):
         sender = self.spelled.get(party, party)
         packet = {"body": body, "from": sender, "kind": kind, "request": number, "serial": 1, "to": to}
-        LINES.append("%s %s" % (moment(clock), text(packet)))
+        enter("%s %s" % (moment(clock), text(packet)))
 
     def command(self, clock, kind, number, party="NL/TNM", **members):
         body = dict(members, response_url=url(number, party))
@@ -103,7 +115,7 @@ class Case:
         self.event(event="service", node=OPERATOR, evse_uid=uid, in_service=works)
 
     def event(self, **members):
-        LINES.append(text(members))
+        enter(text(members))
 
     def report(self, event, at, **members):
         self.event(event=event, node=OPERATOR, at=moment(at), **members)
@@ -147,7 +159,7 @@ class Case:
 
     def stored(self):
         """All rows that stand: kind by kind, and each kind by party, and then by number or text."""
-        LINES.append("stored")
+        enter("stored")
         kinds = ["reply", "pending", "result", "mark", "reservation", "serial", "spent", "service", "request", "push"]
 
         def place(kind_and_key):

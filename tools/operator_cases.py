@@ -2,12 +2,12 @@
 """Writes the cases of the program operator_lines, its files stdin and stdout: events at an operator, and what each must give.
 
 Each case is told in short words here and spelled out by `operator_case`, which knows the rules apart from the code: what is sent
-and which rows are put or dropped are written beside each event by hand. `python3 tools/operator_cases.py` writes the files. The
+and which rows are put or dropped are written behind each event by hand, and an event behind which nothing stands gives nothing. `python3 tools/operator_cases.py` writes the files. The
 cases of what charge points report, of time and of new starts are in `operator_time_cases`.
 """
 import pathlib
 
-from operator_case import LINES, OPERATOR, PROVIDERS, WANTED, Case, location, moment, refused, text, token, url
+from operator_case import LINES, OPERATOR, PROVIDERS, WANTED, Case, end, enter, location, moment, refused, text, token, url
 from operator_time_cases import add_time_cases
 
 HERE = pathlib.Path(__file__).resolve().parent.parent / "crates" / "operator_lines"
@@ -217,11 +217,12 @@ def others():
 
 def main():
     site = {"currency": "EUR", "locations": [location("LOC1", ["E1", "E2"]), location("LOC2", ["E3"])], "price": 0.25}
-    LINES.append(text({"at": moment("10:00:00"), "party": OPERATOR, "providers": PROVIDERS, "site": site}))
+    enter(text({"at": moment("10:00:00"), "party": OPERATOR, "providers": PROVIDERS, "site": site}))
     starts()
     reservations()
     others()
     add_time_cases()
+    end()
     (HERE / "stdin").write_text("\n".join(LINES) + "\n")
     (HERE / "stdout").write_text("\n".join(WANTED) + "\n")
     print("%d lines, %d wanted" % (len(LINES), len(WANTED)))
