@@ -2,8 +2,9 @@
 """Writes the cases of the program operator_lines, its files stdin and stdout: events at an operator, and what each must give.
 
 Each case is told in short words here and spelled out by `operator_case`, which knows the rules apart from the code: what is sent
-and which rows are put or dropped are written behind each event by hand, and an event behind which nothing stands gives nothing. `python3 tools/operator_cases.py` writes the files. The
-cases of what charge points report, of time and of new starts are in `operator_time_cases`.
+and which rows are put or dropped are written behind each event by hand, and an event behind which nothing stands gives nothing.
+`python3 tools/operator_cases.py` writes the files. The cases of what charge points report, of time and of new starts are in
+`operator_time_cases`.
 """
 import pathlib
 
