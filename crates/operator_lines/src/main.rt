@@ -1,5 +1,6 @@
 //! Hands packets and events to an operator, and writes what each step gives: the packets that are sent, each as its line,
 //! and then the changes of rows, as `put KIND KEY TEXT` or `drop KIND KEY`. A line that is refused gives `refused N Name`.
+//! An empty line ends what a line gives, also where that is nothing.
 //!
 //! The first line of the standard input is a site line. Each other is a moment, a space and a packet; or an event line of an
 //! operator's own (what a charge point reports, `tick`, `service`, `restart`); or the word `fresh`: from there on it is a new
@@ -73,15 +74,9 @@ fn take_lines<W: Write>(
     output: &mut W,
 ) -> io::Result<()> {
     for line in lines.split(|byte| *byte == b'\n') {
-        if line == b"fresh".as_slice() {
-            match open(alloc, site_line) {
-                Ok(fresh) => *operator = fresh,
-                Err(fault) => writeln!(output, "refused {fault}")?,
-            }
-        } else if line == b"stored".as_slice() {
-            write_stored(alloc, operator, output)?;
-        } else if !line.is_empty() {
-            take_line(alloc, operator, line, output)?;
+        if !line.is_empty() {
+            take_line(alloc, operator, site_line, line, output)?;
+            output.write_all(b"\n")?;
         }
     }
     Ok(())
@@ -91,9 +86,22 @@ fn take_lines<W: Write>(
 fn take_line<W: Write>(
     alloc: Global,
     operator: &mut Operator,
+    site_line: &[u8],
     line: &[u8],
     output: &mut W,
 ) -> io::Result<()> {
+    if line == b"stored".as_slice() {
+        return write_stored(alloc, operator, output);
+    }
+    if line == b"fresh".as_slice() {
+        return match open(alloc, site_line) {
+            Ok(fresh) => {
+                *operator = fresh;
+                Ok(())
+            }
+            Err(fault) => writeln!(output, "refused {fault}"),
+        };
+    }
     if line.first() == Some(&b'{') {
         return match read_event(alloc, line) {
             Ok(event) => take_event(alloc, operator, &event, output),
