@@ -5,6 +5,8 @@ OPERATOR = "BE/BEC"
 # As the site spells them.
 PROVIDERS = ["NL/TNM", "DE/EMP", "Lu/Lum"]
 LINES, WANTED = [], []
+# Of each case, its name, and the places of its first line and of the first line that it wants.
+CASES = []
 
 
 def text(value):
@@ -66,6 +68,7 @@ class Case:
     def __init__(self, name):
         self.name = name
         enter("fresh")
+        CASES.append((name, len(LINES) - 1, len(WANTED)))
         self.pushes = {}
         self.rows = {}
         # How a provider spells itself, where it is not as the site does.

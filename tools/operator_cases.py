@@ -3,15 +3,25 @@
 
 Each case is told in short words here and spelled out by `operator_case`, which knows the rules apart from the code: what is sent
 and which rows are put or dropped are written behind each event by hand, and an event behind which nothing stands gives nothing.
-`python3 tools/operator_cases.py` writes the files. The cases of what charge points report, of time and of new starts are in
+`python3 tools/operator_cases.py` writes the files, and a choice of the cases into bench/. The cases of what charge points report, of time and of new starts are in
 `operator_time_cases`.
 """
 import pathlib
 
-from operator_case import LINES, OPERATOR, PROVIDERS, WANTED, Case, end, enter, location, moment, refused, text, token, url
+from operator_case import CASES, LINES, OPERATOR, PROVIDERS, WANTED, Case, end, enter, location, moment, refused, text, token, url
 from operator_time_cases import add_time_cases
 
-HERE = pathlib.Path(__file__).resolve().parent.parent / "crates" / "operator_lines"
+TOP = pathlib.Path(__file__).resolve().parent.parent
+HERE = TOP / "crates" / "operator_lines"
+BENCH = TOP / "bench"
+# The cases in which each allocation fails once: bench/fail_allocations.sh.
+WITHOUT_MEMORY = [
+    "a START that comes again has the same answer",
+    "a claimed EVSE is occupied for another provider, and for the same one",
+    "a reservation moves to another EVSE, and not to another location",
+    "a connector that was unlocked",
+    "commands that time out by provider and number, reservations that expire, and then pushes that are due",
+]
 
 
 def starts():
@@ -216,6 +226,21 @@ def others():
     c.stored()
 
 
+def taken(names):
+    """The lines of some of the cases, behind the site line, and what they want."""
+    ends = CASES[1:] + [("", len(LINES), len(WANTED))]
+    lines, wanted = LINES[:1], []
+    for (name, line, want), (_, next_line, next_want) in zip(CASES, ends):
+        if name in names:
+            lines += LINES[line:next_line]
+            wanted += WANTED[want:next_want]
+    return lines, wanted
+
+
+def write(file, lines):
+    file.write_text("\n".join(lines) + "\n")
+
+
 def main():
     site = {"currency": "EUR", "locations": [location("LOC1", ["E1", "E2"]), location("LOC2", ["E3"])], "price": 0.25}
     enter(text({"at": moment("10:00:00"), "party": OPERATOR, "providers": PROVIDERS, "site": site}))
@@ -224,8 +249,11 @@ def main():
     others()
     add_time_cases()
     end()
-    (HERE / "stdin").write_text("\n".join(LINES) + "\n")
-    (HERE / "stdout").write_text("\n".join(WANTED) + "\n")
+    write(HERE / "stdin", LINES)
+    write(HERE / "stdout", WANTED)
+    lines, wanted = taken(WITHOUT_MEMORY)
+    write(BENCH / "fail_allocations.stdin", lines)
+    write(BENCH / "fail_allocations.stdout", wanted)
     print("%d lines, %d wanted" % (len(LINES), len(WANTED)))
 
 

@@ -20,7 +20,7 @@ use ocpi_text::{CiKey, Moment};
 use ocpi_types::{Change, ChargerEvent, Event, EventKind, Field, Packet, Row, RowKey, Word};
 use operator_core::{Operator, OperatorFault, Stepped};
 use std::alloc::{AllocError, Global};
-use std::io::{self, BufWriter, Read, Write};
+use std::io::{self, BufWriter, ErrorKind, Read, Write};
 use std::process::ExitCode;
 use std::str;
 
@@ -54,7 +54,7 @@ fn write_steps(rt: &HostRuntime) -> io::Result<()> {
                 &mut output,
             )?
         }
-        Err(fault) => writeln!(output, "refused {fault}")?,
+        Err(fault) => write_refused(fault, &mut output)?,
     }
     output.flush()
 }
@@ -99,18 +99,26 @@ fn take_line<W: Write>(
                 *operator = fresh;
                 Ok(())
             }
-            Err(fault) => writeln!(output, "refused {fault}"),
+            Err(fault) => write_refused(fault, output),
         };
     }
     if line.first() == Some(&b'{') {
         return match read_event(alloc, line) {
             Ok(event) => take_event(alloc, operator, &event, output),
-            Err(fault) => writeln!(output, "refused {fault}"),
+            Err(fault) => write_refused(fault, output),
         };
     }
     match read_line(alloc, line) {
         Ok((at, packet)) => take_packet(alloc, operator, at, &packet, output),
-        Err(fault) => writeln!(output, "refused {fault}"),
+        Err(fault) => write_refused(fault, output),
+    }
+}
+
+/// Writes why a line is refused; where memory ran out, the program ends.
+fn write_refused<W: Write>(fault: JsonFault, output: &mut W) -> io::Result<()> {
+    match fault {
+        JsonFault::Memory => Err(ErrorKind::OutOfMemory.into()),
+        _ => writeln!(output, "refused {fault}"),
     }
 }
 
@@ -160,6 +168,7 @@ fn take_event<W: Write>(
             operator.restart();
             Ok(())
         }
+        EventKind::Refused => Ok(()),
         _ => writeln!(output, "refused {}", OperatorFault::NotForMe),
     }
 }
