@@ -1,5 +1,9 @@
 pub mod Effects
 pub mod Finishing
+pub mod FinishedSteps
+pub mod FinishedApart
+pub mod FinishedClaims
+pub mod FinishedKept
 pub mod Shapes
 pub mod Sends
 pub mod Marking
