@@ -4,6 +4,8 @@ pub mod FinishedSteps
 pub mod FinishedApart
 pub mod FinishedClaims
 pub mod FinishedKept
+pub mod FinishedSound
+pub mod FinishedSending
 pub mod Shapes
 pub mod Sends
 pub mod Marking
