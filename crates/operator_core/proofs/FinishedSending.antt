@@ -1,5 +1,5 @@
 -- Once commands ended, reservations expired and pushes were found due, their packets can be sent without memory.
-use Rattle.std.proofs.Common.{◌≡◌, ◌≢◌, ◌<◌, ◌≤◌, ℕ, ◌+◌, List, [], ◌∷◌, ◌++◌, length, inl, inr, refl, sym, ap, subst, ◌∙◌, arith}
+use Rattle.std.proofs.Common.{◌≡◌, ◌≢◌, ◌<◌, ◌≤◌, ℕ, ◌+◌, List, [], ◌∷◌, inl, inr, refl, sym, ap, subst, ◌∙◌, arith}
 use Rattle.std.specs.Prelude.{Option, Some, None, is_some, Contains, IsTrue}
 use Rattle.std.specs.List.{AllPairs}
 use Rattle.std.specs.Cmp.{nat_cmp_total}
@@ -11,25 +11,23 @@ use Rattle.tables.proofs.Maps.{get-insert_same, get-insert_other, told}
 use Rattle.tables.proofs.Options.{known, none_contained, none_else}
 use Rattle.ocpi_types.specs.Stored.{body_of_push}
 use Rattle.ocpi_types.specs.declared.packet.Packet.{Packet}
-use Rattle.ocpi_types.specs.declared.rows.Change.{Change}
 use Rattle.ocpi_types.specs.declared.rows.RowKey.{RowKey}
 use Rattle.ocpi_types.specs.declared.rows.RowKey.TheVariants as keys
 use Rattle.ocpi_types.specs.declared.stored.Push.TheVariants as push
 use Rattle.command_book.specs.Stored as book
 use Rattle.handover.specs.Pushes.{Pushes}
-use Rattle.handover.specs.Resend.{Resend}
 use Rattle.handover.specs.declared.push_book.Outgoing.{Outgoing}
 use Rattle.reservation_book.specs.declared.standing.Standing.{Standing}
 use Rattle.operator_core.specs.declared.ending.Ending.{Ending}
 use Rattle.operator_core.specs.State.{State, Rows}
 use Rattle.operator_core.specs.Consistent.{IsConsistent}
 use Rattle.operator_core.specs.Rows.{change_key}
-use Rattle.operator_core.specs.Sending.{IsPushed, AreSendable, KeepsTime, MaySend}
+use Rattle.operator_core.specs.Sending.{IsPushed, KeepsTime, MaySend}
 use Rattle.operator_core.specs.Stored.{changed_all}
 use Rattle.operator_core.specs.Finished.{Message, numbered, end_message, ends_messages, push_messages, resent_messages, finished_messages, finished_rows, told_of}
 use Rattle.operator_core.proofs.RowChanges.{of_cons, in_later}
 use Rattle.operator_core.proofs.Finishing.{finishes, pushes_with}
-use Rattle.operator_core.proofs.FinishedApart.{IsOfEnd, Opened, Pushed, Ended, IsOfFinish, OfEnd, OfExpiry, OfCounter, of_finish}
+use Rattle.operator_core.proofs.FinishedApart.{Opened, Pushed, Ended, IsOfFinish, OfEnd, OfExpiry, OfCounter, of_finish}
 use Rattle.operator_core.proofs.FinishedSteps.{AreFinished}
 
 -- a packet carries one of the messages

@@ -1,6 +1,6 @@
 -- What is kept of the rows holds on as commands end, reservations expire and pushes are sent again.
 use Rattle.std.proofs.Common.{◌≡◌, ◌≢◌, ◌≤◌, ℕ, ◌+◌, List, [], ◌∷◌, length, inl, inr, sym, ap, subst, ◌∙◌, arith}
-use Rattle.std.specs.Prelude.{Option, Some, None, Contains}
+use Rattle.std.specs.Prelude.{Some, Contains}
 use Rattle.std.specs.List.{AllPairs}
 use Rattle.std.specs.Cmp.{nat_cmp_total}
 use Rattle.std.specs.FinMap.{nat_cmp-IsAntisymmetric, get, insert, remove}
@@ -12,7 +12,6 @@ use Rattle.ocpi_types.specs.declared.stored.OpenCommand.{OpenCommand}
 use Rattle.ocpi_types.specs.declared.stored.Push.TheVariants as push
 use Rattle.ocpi_types.specs.declared.words.CommandResultType.{CommandResultType}
 use Rattle.command_book.specs.Stored as book
-use Rattle.handover.specs.Outbox.{OutboxRows}
 use Rattle.handover.specs.Pushes.{Pushes}
 use Rattle.handover.specs.declared.push_book.Outgoing.{Outgoing}
 use Rattle.reservation_book.specs.declared.standing.Standing.{Standing}
