@@ -1,7 +1,11 @@
 pub mod Effects
 pub mod Finishing
+pub mod FinishedSteps
 pub mod Endings
 pub mod FinishedFacts
+pub mod FinishedApart
+pub mod FinishedClaims
+pub mod FinishedKept
 pub mod Shapes
 pub mod Sends
 pub mod Marking

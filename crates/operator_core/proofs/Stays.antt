@@ -68,7 +68,7 @@ module _ (s t : State) (e : Event) where
   results_shape (Finished h) fine k x has =
       ap (λ (m : book.Results). get m k) (finished_leaves s e t h).results
       ∙ results_keep h.ends s.rows.commands.results k (λ z i same.
-          let open_now = h.facts.open_each z i in
+          let open_now = h.facts.opened z i in
           not_both x _ (fine.unsettled (request_of z) open_now.0 open_now.1) (ap (get s.rows.commands.results) same ∙ has))
       ∙ has
 
@@ -283,7 +283,7 @@ module _ (s t : State) (e : Event) where
         number = is.ending.number;
         kept = ap (λ (m : book.Results). get m (key is.ending.to, is.ending.number)) l.results
             ∙ ap (λ z. get (results_with h.ends s.rows.commands.results) (z, is.ending.number)) (h.facts.of_site is.ending is.within).same
-            ∙ results_hold h.ends s.rows.commands.results h.facts.different is.ending is.within;
+            ∙ results_hold h.ends s.rows.commands.results h.facts.ends_apart is.ending is.within;
       })
 
   pushed_shape : Shape s e t → (n : ℕ) (o : Outgoing) → get t.rows.outbox.pushes n ≡ Some o → (get s.rows.outbox.pushes n ≡ Some o) ⊎ IsNewPush n o
