@@ -1,6 +1,6 @@
 -- The changes by which commands end, reservations expire and pushes are sent again are of different rows.
-use Rattle.std.proofs.Common.{zero, suc, ◌≡◌, ◌≢◌, ◌<◌, ◌≤◌, ℕ, ◌+◌, List, [], ◌∷◌, ◌++◌, map, length, ◌⊎◌, inl, inr, refl, sym, subst, ◌∙◌, arith, cond, true, false, nat_eq}
-use Rattle.std.specs.Prelude.{Contains, Some, slice_get}
+use Rattle.std.proofs.Common.{zero, suc, ◌≡◌, ◌≢◌, ◌<◌, ℕ, ◌+◌, List, [], ◌∷◌, ◌++◌, map, length, ◌⊎◌, inl, inr, refl, sym, subst, ◌∙◌, arith, cond, true, false, nat_eq}
+use Rattle.std.specs.Prelude.{Contains}
 use Rattle.std.specs.List.{AllPairs}
 use Rattle.std.proofs.lemmas.List.Elements.{Contains-append_cases, All-contains}
 use Rattle.tables.proofs.Elements.{in_none, in_front, in_single, first_pairs, later_pairs, of_map}

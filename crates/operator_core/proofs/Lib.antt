@@ -6,6 +6,8 @@ pub mod FinishedFacts
 pub mod FinishedApart
 pub mod FinishedClaims
 pub mod FinishedKept
+pub mod FinishedSound
+pub mod FinishedSending
 pub mod Shapes
 pub mod Sends
 pub mod Marking
