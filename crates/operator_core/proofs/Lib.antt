@@ -1,5 +1,7 @@
 pub mod Effects
 pub mod Finishing
+pub mod Endings
+pub mod FinishedFacts
 pub mod Shapes
 pub mod Sends
 pub mod Marking
