@@ -1,6 +1,8 @@
 pub mod Effects
 pub mod Finishing
 pub mod FinishedSteps
+pub mod Endings
+pub mod FinishedFacts
 pub mod FinishedApart
 pub mod FinishedClaims
 pub mod FinishedKept
@@ -29,3 +31,6 @@ pub mod Bodies
 pub mod Deciding
 pub mod Apart
 pub mod Kept
+pub mod Given
+pub mod Soundness
+pub mod Sendings
