@@ -1,23 +1,9 @@
 -- What charge points report and what the time does are ends of commands, expiries and resending, or nothing.
-use Rattle.std.proofs.Common.{◌≡◌, ◌≢◌, ◌<◌, ℕ, List, [], ◌∷◌, map, sym, ap, subst, ◌∙◌}
-use Rattle.std.specs.Prelude.{Some, Contains}
-use Rattle.std.specs.List.{AllPairs}
-use Rattle.std.specs.List.Sorted.{IsStrictlySortedBy}
-use Rattle.std.specs.declared.cmp.Ordering.TheVariants.{Less}
-use Rattle.std.specs.FinMap.{get}
-use Rattle.std.proofs.lemmas.List.Elements.{All-contains}
-use Rattle.std.proofs.lemmas.List.Kept.{AllPairs-cons}
-use Rattle.tables.specs.Keys.{text_number_cmp, text_number_total}
-use Rattle.tables.proofs.Elements.{in_none, in_front, in_single, in_map, all_of, no_pairs, first_pairs, later_pairs, first_below, sorted_back}
-use Rattle.tables.proofs.Entries.{apart_of_less}
+use Rattle.std.proofs.Common.{◌≡◌, ◌≢◌, ℕ, List, [], ◌∷◌, sym, subst}
+use Rattle.tables.proofs.Elements.{in_none, no_pairs}
 use Rattle.ocpi_types.specs.declared.events.ChargerEvent.{ChargerEvent}
 use Rattle.ocpi_types.specs.declared.packet.Packet.{Packet}
-use Rattle.reservation_book.specs.Calls.{expiry_at}
-use Rattle.reservation_book.specs.Places.{expiry_cmp}
-use Rattle.reservation_book.specs.Rows.{Reservations}
-use Rattle.reservation_book.specs.Tokens.{Stands}
 use Rattle.reservation_book.specs.declared.standing.Standing.{Standing}
-use Rattle.reservation_book.proofs.Orders.{expiry_total}
 use Rattle.operator_core.specs.declared.ending.Ending.{Ending}
 use Rattle.operator_core.specs.State.{State}
 use Rattle.operator_core.specs.Moves.{Out, idle}
@@ -26,11 +12,12 @@ use Rattle.operator_core.specs.Stored.{AreApart, changed_all}
 use Rattle.operator_core.specs.Claimed.{MayChangeAll}
 use Rattle.operator_core.specs.Consistent.{IsConsistent, IsSound}
 use Rattle.operator_core.specs.Sending.{IsPushed, MaySend}
-use Rattle.operator_core.specs.Charger.{ChargerLine, ChargerStep, IsEnded, Ended, Idle}
-use Rattle.operator_core.specs.Tick.{TickLine, TickStep, request_of}
-use Rattle.operator_core.specs.Finished.{IsOpen, IsOfSite, finished}
-use Rattle.operator_core.proofs.RowChanges.{row_changes, in_later}
-use Rattle.operator_core.proofs.FinishedSteps.{AreFinished, reservation_of}
+use Rattle.operator_core.specs.Charger.{ChargerLine, ChargerStep, Ended, Idle}
+use Rattle.operator_core.specs.Tick.{TickLine, TickStep}
+use Rattle.operator_core.specs.Finished.{finished}
+use Rattle.operator_core.proofs.RowChanges.{row_changes}
+use Rattle.operator_core.proofs.FinishedSteps.{AreFinished}
+use Rattle.operator_core.proofs.FinishedFacts.{one_finished, tick_finished}
 use Rattle.operator_core.proofs.FinishedApart.{finished_apart}
 use Rattle.operator_core.proofs.FinishedClaims.{finished_may}
 use Rattle.operator_core.proofs.FinishedSound.{finished_sound}
@@ -68,61 +55,12 @@ finishing_changes : (s : State) (at : ℕ) (out : Out) → Finishing s at out �
 finishing_changes s at out (Finished ends expired due h x) = subst (λ (z : Out). AreChanges s.rows z.changes (changed_all z.changes s.rows)) (sym x) (finished_changes s ends expired due h)
 finishing_changes s at out (Nothing x) = subst (λ (z : Out). AreChanges s.rows z.changes (changed_all z.changes s.rows)) (sym x) (row_changes [] s.rows tt tt)
 
--- one command alone
-pub one_ends : (s : State) (report : ChargerEvent) (e : Ending) → IsEnded s report e → AreFinished s (e ∷ []) [] []
-one_ends s report e h = record {
-  opened = λ f i. subst (λ (z : Ending). IsOpen s.rows z) (in_single e f i) (h.command, h.stands);
-  of_site = λ f i. subst (IsOfSite s.providers) (in_single e f i) h.of_site;
-  ends_apart = AllPairs-cons (λ a b. request_of a ≢ request_of b) e [] (all_of (λ b. request_of e ≢ request_of b) [] (λ f i. absurd (in_none f i))) (no_pairs (λ a b. request_of a ≢ request_of b));
-  standing = λ x i. absurd (in_none x i);
-  expired_apart = no_pairs (λ a b. reservation_of a ≢ reservation_of b);
-  pushed = λ n i. absurd (in_none n i);
-  ascending = no_pairs (λ a b. a < b);
-}
-
 pub charger_finishing : (s : State) (at : ℕ) (report : ChargerEvent) (out : Out) → ChargerLine s at report out → Finishing s at out
-charger_finishing s at report out (Ended e h x) = Finished (e ∷ []) [] [] (one_ends s report e h) x
+charger_finishing s at report out (Ended e h x) = Finished (e ∷ []) [] [] (one_finished s report e h) x
 charger_finishing s at report out (Idle none x) = Nothing x
 
--- those that time out, in order
-requests_apart : (ends : List Ending) → AllPairs (λ a b. text_number_cmp a b ≡ Less) (map request_of ends) → AllPairs (λ a b. request_of a ≢ request_of b) ends
-requests_apart [] h = no_pairs (λ a b. request_of a ≢ request_of b)
-requests_apart (e ∷ es) h =
-    AllPairs-cons (λ a b. request_of a ≢ request_of b) e es
-    (all_of (λ b. request_of e ≢ request_of b) es (λ f i. apart_of_less text_number_total (request_of e) (request_of f)
-    (All-contains (λ b. text_number_cmp (request_of e) b ≡ Less) (map request_of es) (request_of f) (first_pairs (λ a b. text_number_cmp a b ≡ Less) (request_of e) (map request_of es) h) (in_map request_of es f i))))
-    (requests_apart es (later_pairs (λ a b. text_number_cmp a b ≡ Less) (request_of e) (map request_of es) h))
-
--- two that stand under one key have one expiry
-one_expiry : (m : Reservations) (x y : Standing) → Stands m x → Stands m y → reservation_of x ≡ reservation_of y → expiry_at x ≡ expiry_at y
-one_expiry m x y a b same =
-    let one : Some x.reservation ≡ Some y.reservation = sym a ∙ ap (get m) same ∙ b in
-    let is : x.reservation ≡ y.reservation = cc in
-    λ i. ((is i).expiry_date, (same i).0, (same i).1)
-
-reservations_apart : (m : Reservations) (expired : List Standing) → ((x : Standing) → Contains expired x → Stands m x) → IsStrictlySortedBy expiry_cmp (map expiry_at expired) →
-    AllPairs (λ a b. reservation_of a ≢ reservation_of b) expired
-reservations_apart m [] stand h = no_pairs (λ a b. reservation_of a ≢ reservation_of b)
-reservations_apart m (x ∷ xs) stand h =
-    AllPairs-cons (λ a b. reservation_of a ≢ reservation_of b) x xs
-    (all_of (λ b. reservation_of x ≢ reservation_of b) xs (λ y i same. apart_of_less expiry_total (expiry_at x) (expiry_at y)
-    (first_below expiry_cmp (expiry_at x) (expiry_at y) (map expiry_at xs) h (in_map expiry_at xs y i))
-    (one_expiry m x y (stand x (in_front x xs)) (stand y (in_later x xs y i)) same)))
-    (reservations_apart m xs (λ y i. stand y (in_later x xs y i)) (sorted_back expiry_cmp (expiry_at x ∷ []) (map expiry_at xs) h))
-
-pub all_due : (s : State) (at : ℕ) (out : Out) (h : TickLine s at out) → AreFinished s h.ends h.expired h.due
-all_due s at out h = record {
-  opened = λ e i. let d = (h.timed_out.due.exact (request_of e)).0 (in_map request_of h.ends e i) in (d.command, d.stands);
-  of_site = λ e i. (h.timed_out.each e i).of_site;
-  ends_apart = requests_apart h.ends h.timed_out.due.in_order;
-  standing = λ x i. ((h.have_expired.exact x).0 i).0;
-  expired_apart = reservations_apart s.rows.booked.reservations h.expired (λ x i. ((h.have_expired.exact x).0 i).0) h.have_expired.in_order;
-  pushed = λ n i. ((h.are_due.exact n).0 i).stands;
-  ascending = h.are_due.in_order;
-}
-
 pub tick_finishing : (s : State) (at : ℕ) (out : Out) → TickLine s at out → Finishing s at out
-tick_finishing s at out h = Finished h.ends h.expired h.due (all_due s at out h) h.out_is
+tick_finishing s at out h = Finished h.ends h.expired h.due (tick_finished s at out h) h.out_is
 
 -- a report of a charge point
 module _ (s : State) (at : ℕ) (report : ChargerEvent) (out : Out) where
