@@ -38,7 +38,6 @@ use Rattle.operator_core.specs.Steps.{Decides, decided_rows, own_rows, counter_r
 use Rattle.operator_core.specs.Steps as lines
 use Rattle.operator_core.specs.Service.{ServiceStep}
 use Rattle.operator_core.specs.Service as service
-use Rattle.operator_core.specs.Laws.{Event, Happens, Stepped, Refused, Served, Unserved, out_of}
 
 -- where the claims that are kept are those of the rows, no EVSE has two
 pub indexed_one : (claims : ClaimMap) (pending : book.OpenCommands) (reservations : booked.Reservations) → IsIndexed claims pending reservations → OneClaimEach pending reservations
@@ -292,27 +291,21 @@ service_may s evse works out (service.Unchanged at is x) = subst (λ (z : Out). 
 service_may s evse works out (service.Withdrawn at out_now is x) = subst (λ (z : Out). MayChangeAll s.site s.rows z.changes) (sym x) (at, tt)
 service_may s evse works out (service.Restored at in_now is x) = subst (λ (z : Out). MayChangeAll s.site s.rows z.changes) (sym x) (at, tt)
 
--- no EVSE has two claims after a packet, or after an EVSE changed its service
+-- the rows after a packet, or after an EVSE changed its service
 line_rows : (s : State) (at : ℕ) (q : Packet) (to : List ℕ) (out : Out) → PacketLine s at q to out → out.state.rows ≡ changed_all out.changes s.rows
 line_rows s at q to out (lines.Again c is r kept x) = subst (λ (z : Out). z.state.rows ≡ changed_all z.changes s.rows) (sym x) refl
 line_rows s at q to out (lines.Decided c is new d decides x) = subst (λ (z : Out). z.state.rows ≡ changed_all z.changes s.rows) (sym x) refl
 line_rows s at q to out (lines.Acknowledged a is it x) = subst (λ (z : Out). z.state.rows ≡ changed_all z.changes s.rows) (sym x) refl
 line_rows s at q to out (lines.Idle a is other x) = subst (λ (z : Out). z.state.rows ≡ changed_all z.changes s.rows) (sym x) refl
 
-service_rows : (s : State) (evse : List ℕ) (works : Bool) (out : Out) → ServiceStep s evse works out → out.state.rows ≡ changed_all out.changes s.rows
+pub step_rows : (s : State) (at : ℕ) (q : Packet) (out : Out) → OperatorStep s at q out → out.state.rows ≡ changed_all out.changes s.rows
+step_rows s at q out h = line_rows s at q h.comes.provider out h.comes.line
+
+pub service_rows : (s : State) (evse : List ℕ) (works : Bool) (out : Out) → ServiceStep s evse works out → out.state.rows ≡ changed_all out.changes s.rows
 service_rows s evse works out (service.Unknown unknown x) = subst (λ (z : Out). z.state.rows ≡ changed_all z.changes s.rows) (sym x) refl
 service_rows s evse works out (service.Unchanged at is x) = subst (λ (z : Out). z.state.rows ≡ changed_all z.changes s.rows) (sym x) refl
 service_rows s evse works out (service.Withdrawn at out_now is x) = subst (λ (z : Out). z.state.rows ≡ changed_all z.changes s.rows) (sym x) refl
 service_rows s evse works out (service.Restored at in_now is x) = subst (λ (z : Out). z.state.rows ≡ changed_all z.changes s.rows) (sym x) refl
-
-idle_one : (s t : State) (e : Event) → out_of e t ≡ idle s → OneEach s.rows → OneEach t.rows
-idle_one s t e x one = subst OneEach (sym (ap (λ (z : Out). z.state.rows) x)) one
-
-pub one_claim : (s t : State) (e : Event) → Happens s e t → OneEach s.rows → OneEach t.rows
-one_claim s t e (Stepped at q comes h) one = subst OneEach (sym (line_rows s at q h.comes.provider (out_of e t) h.comes.line)) (changed_all_one s.site e.changes s.rows (step_may s at q (out_of e t) one h) one)
-one_claim s t e (Refused at q comes f due x) one = idle_one s t e x one
-one_claim s t e (Served evse works comes h) one = subst OneEach (sym (service_rows s evse works (out_of e t) h)) (changed_all_one s.site e.changes s.rows (service_may s evse works (out_of e t) h) one)
-one_claim s t e (Unserved evse works comes x) one = idle_one s t e x one
 
 unclaimed : (evse : List ℕ) (c : Claim) → Claims empty empty evse c → ⊥
 unclaimed evse (OpenStart p n) (o, has, at) = not_both o _ (get-empty text_number_cmp (p, n)) has

@@ -15,7 +15,7 @@ use Rattle.ocpi_types.specs.Stored.{body_of_command}
 use Rattle.operator_core.specs.declared.decision.Decision.{Decision}
 use Rattle.operator_core.specs.declared.request.Request.{Request}
 use Rattle.operator_core.specs.State.{State, Rows}
-use Rattle.operator_core.specs.Moves.{Out, step, idle}
+use Rattle.operator_core.specs.Moves.{Out, silent, idle}
 use Rattle.operator_core.specs.Numbers.{WithinRange}
 use Rattle.operator_core.specs.Requests.{IsRequest}
 use Rattle.operator_core.specs.Faults.{IsUsedUp, MayStep}
@@ -37,25 +37,25 @@ module _ (s : State) (q : Packet) (r : Request) (is : IsRequest s r.at q r) wher
 
   module _ (c : Command) (carries : q.body ≡ body_of_command c) where
     module _ (reply : Reply) (has : get s.rows.commands.replies (r.provider, r.number) ≡ Some reply) where
-      again_line : PacketLine s r.at q r.from (again r.from r.number reply s)
-      again_line = Again c carries reply (rw (is.provider, is.number) at has) (ap (λ n. again r.from n reply s) is.number)
+      again_line : PacketLine s r.at q r.from (again r.at r.from r.number reply s)
+      again_line = Again c carries reply (rw (is.provider, is.number) at has) (ap (λ n. again r.at r.from n reply s) is.number)
 
-      again_at : WithinRange s.rows None → AreInRange s → OperatorStep s r.at q (again r.from r.number reply s)
+      again_at : WithinRange s.rows None → AreInRange s → OperatorStep s r.at q (again r.at r.from r.number reply s)
       again_at within now = record {
-        comes = comes (again r.from r.number reply s) again_line;
+        comes = comes (again r.at r.from r.number reply s) again_line;
         in_range = record { serial = within; request = now.request };
       }
 
       -- a kept reply is sent again
-      pub again_step : WithinRange s.rows None → AreInRange s → (out : Out) → out ≡ again r.from r.number reply s → OperatorStep s r.at q out
+      pub again_step : WithinRange s.rows None → AreInRange s → (out : Out) → out ≡ again r.at r.from r.number reply s → OperatorStep s r.at q out
       again_step within now out e = subst (OperatorStep s r.at q) (sym e) (again_at within now)
 
       pub again_may : WithinRange s.rows None → AreInRange s → MayStep s r.at q
-      again_may within now = record { out = again r.from r.number reply s; step = again_at within now }
+      again_may within now = record { out = again r.at r.from r.number reply s; step = again_at within now }
 
       -- the counter of packets has given its last number
       pub again_used_up : ¬ WithinRange s.rows None → IsUsedUp s r.at q
-      again_used_up past = record { out = again r.from r.number reply s; comes = comes (again r.from r.number reply s) again_line; past = λ h. past h.serial }
+      again_used_up past = record { out = again r.at r.from r.number reply s; comes = comes (again r.at r.from r.number reply s) again_line; past = λ h. past h.serial }
 
     module _ (none : get s.rows.commands.replies (r.provider, r.number) ≡ None) (d : Decision) (decides : Decides s r.at q.from r.number c d) where
       abbrev pub done : Out
@@ -93,10 +93,10 @@ module _ (s : State) (q : Packet) (r : Request) (is : IsRequest s r.at q r) wher
 
   module _ (a : Ack) (acknowledges : q.body ≡ body.Ack a) (now : AreInRange s) where
     abbrev ended : Out
-    ended = step s (Drop (keys.Push r.number) ∷ []) []
+    ended = silent s (Drop (keys.Push r.number) ∷ [])
 
     ended_line : Acknowledges s q a → PacketLine s r.at q r.from ended
-    ended_line h = Acknowledged a acknowledges h (ap (λ n. step s (Drop (keys.Push n) ∷ []) []) is.number)
+    ended_line h = Acknowledged a acknowledges h (ap (λ n. silent s (Drop (keys.Push n) ∷ [])) is.number)
 
     -- the push that is acknowledged ends
     pub ended_step : Acknowledges s q a → OperatorStep s r.at q ended

@@ -1,5 +1,14 @@
 pub mod Effects
 pub mod Finishing
+pub mod FinishedSteps
+pub mod Endings
+pub mod FinishedFacts
+pub mod FinishedApart
+pub mod FinishedClaims
+pub mod FinishedKept
+pub mod FinishedSound
+pub mod FinishedSending
+pub mod FinishedLines
 pub mod Shapes
 pub mod Sends
 pub mod Marking
@@ -23,3 +32,6 @@ pub mod Bodies
 pub mod Deciding
 pub mod Apart
 pub mod Kept
+pub mod Given
+pub mod Soundness
+pub mod Sendings
