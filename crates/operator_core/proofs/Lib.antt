@@ -1,5 +1,6 @@
 pub mod Effects
 pub mod Finishing
+pub mod Gathering
 pub mod Shapes
 pub mod Sends
 pub mod Marking
