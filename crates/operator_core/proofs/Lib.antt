@@ -1,6 +1,7 @@
 pub mod Effects
 pub mod Finishing
 pub mod Gathering
+pub mod Reporting
 pub mod Shapes
 pub mod Sends
 pub mod Marking

@@ -5,4 +5,7 @@ use Rattle.operator_core.specs.Tick.{IsTimeout, request_of}
 use Rattle.operator_core.proofs.operator.Operator.timed_out.Given as goal
 
 abbrev pub invariant-loop-provider : goal.invariant-loop-provider
-invariant-loop-provider l = ?
+invariant-loop-provider l = record {
+  requests : map request_of l.ends.items ≡ take l.provider-index l.provider-items;
+  each : (e : Ending) → Contains l.ends.items e → IsTimeout l.self.providers e;
+}
