@@ -2,6 +2,7 @@ pub mod Effects
 pub mod Finishing
 pub mod Gathering
 pub mod Reporting
+pub mod TimingOut
 pub mod Shapes
 pub mod Sends
 pub mod Marking
