@@ -1,7 +1,6 @@
 -- What a moment comes to, from what is due at it.
 use Rattle.std.proofs.Common.{◌≡◌, ◌<◌, ◌+◌, ◌++◌, ℕ, List, [], ◌∷◌, map, take, get_or, length, inl, inr, sym, ap, subst, ◌∙◌}
-use Rattle.std.specs.Prelude.{Some, Contains}
-use Rattle.std.specs.FinMap.{get}
+use Rattle.std.specs.Prelude.{Contains}
 use Rattle.std.proofs.lemmas.List.{take_more, map-append}
 use Rattle.std.proofs.lemmas.List.Elements.{Contains-push_cases}
 use Rattle.tables.proofs.Elements.{in_map}

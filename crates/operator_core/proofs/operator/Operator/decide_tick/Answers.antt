@@ -1,4 +1,3 @@
-use Rattle.std.proofs.Common.{◌≡◌}
 use Rattle.std.proofs.lemmas.Result.{IfErr-weaker}
 use Rattle.handover.specs.Due.{AreExactly, IsDue}
 use Rattle.reservation_book.specs.Calls.{AreExpired}

@@ -1,4 +1,4 @@
-use Rattle.std.proofs.Common.{◌≡◌, sym, ◌∙◌}
+use Rattle.std.proofs.Common.{◌≡◌, sym}
 use Rattle.std.specs.Prelude.{Some, None}
 use Rattle.std.specs.FinMap.{get}
 use Rattle.site.specs.declared.claim.Claim.TheVariants.{OpenStart}
