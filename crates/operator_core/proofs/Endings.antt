@@ -1,5 +1,5 @@
 -- What commands that end leave among results and pushes, and the packets that tell of it.
-use Rattle.std.proofs.Common.{◌≡◌, zero, suc, ℕ, ◌+◌, ◌≤◌, ◌<◌, List, [], ◌∷◌, ◌++◌, ◌⊎◌, inl, inr, length, refl, sym, ap, subst, ◌∙◌, arith, add-one}
+use Rattle.std.proofs.Common.{◌≡◌, zero, suc, ℕ, ◌+◌, ◌≤◌, ◌<◌, List, [], ◌∷◌, ◌⊎◌, inl, inr, length, refl, sym, ap, subst, ◌∙◌, arith, add-one}
 use Rattle.std.specs.Prelude.{◌≢◌, Option, Some, None, Contains, slice_get}
 use Rattle.std.specs.List.{AllPairs}
 use Rattle.std.specs.Cmp.{nat_cmp_total}
@@ -12,7 +12,6 @@ use Rattle.ocpi_types.specs.Stored.{body_of_push}
 use Rattle.ocpi_types.specs.declared.packet.Packet.{Packet}
 use Rattle.ocpi_types.specs.declared.packet.Body.{Body}
 use Rattle.ocpi_types.specs.declared.stored.Push.TheVariants as push
-use Rattle.ocpi_types.specs.declared.words.CommandResultType.{CommandResultType}
 use Rattle.command_book.specs.Stored as book
 use Rattle.handover.specs.Pushes.{Pushes}
 use Rattle.handover.specs.declared.push_book.Outgoing.{Outgoing}
@@ -81,7 +80,7 @@ pushes_from pending last (e ∷ es) m n o has = elim (pushes_from pending (last 
 ]
 
 -- a push of that number stands, of that body and to that party
-pub record IsPushed (m : Pushes) (to : List ℕ) (n : ℕ) (b : Body) : Type 0 where
+pub record IsPushedTo (m : Pushes) (to : List ℕ) (n : ℕ) (b : Body) : Type 0 where
   pub outgoing : Outgoing
   pub stands : get m n ≡ Some outgoing
   pub to_is : outgoing.to ≡ to
@@ -89,10 +88,10 @@ pub record IsPushed (m : Pushes) (to : List ℕ) (n : ℕ) (b : Body) : Type 0 w
 
 -- what is told of endings is pushed
 pub ends_pushed : (pending : book.OpenCommands) (last : ℕ) (es : List Ending) (m : Pushes) (x : Message) → Contains (ends_messages pending last es) x →
-    IsPushed (pushes_with pending last es m) x.to x.request x.body
+    IsPushedTo (pushes_with pending last es m) x.to x.request x.body
 ends_pushed pending last [] m x h = absurd (in_none x h)
 ends_pushed pending last (e ∷ es) m x h = elim (first_or_later (end_message pending (last + 1) e) (ends_messages pending (last + 1) es) x h) [
-  | inl same ↦ subst (λ (z : Message). IsPushed (pushes_with pending last (e ∷ es) m) z.to z.request z.body) same (record {
+  | inl same ↦ subst (λ (z : Message). IsPushedTo (pushes_with pending last (e ∷ es) m) z.to z.request z.body) same (record {
       outgoing = push_of pending e;
       stands = pushes_keep pending (last + 1) es (insert m (last + 1) (push_of pending e)) (last + 1) (push_of pending e) (omega arith) (get-insert_same nat_cmp_total nat_cmp-IsAntisymmetric m (last + 1) (push_of pending e));
       to_is = refl;
@@ -102,16 +101,16 @@ ends_pushed pending last (e ∷ es) m x h = elim (first_or_later (end_message pe
 ]
 
 -- what is sent again was pushed before
-pub resent_pushed : (m : Pushes) (due : List ℕ) (x : Message) → Contains (resent_messages m due) x → IsPushed m x.to x.request x.body
+pub resent_pushed : (m : Pushes) (due : List ℕ) (x : Message) → Contains (resent_messages m due) x → IsPushedTo m x.to x.request x.body
 resent_pushed m [] x h = absurd (in_none x h)
 resent_pushed m (n ∷ ns) x h = elim (Contains-append_cases (push_messages n (get m n)) (resent_messages m ns) x h) [
   | inl i ↦ go (get m n) refl i
   | inr i ↦ resent_pushed m ns x i
 ]
   where
-    go : (o : Option Outgoing) → get m n ≡ o → Contains (push_messages n o) x → IsPushed m x.to x.request x.body
+    go : (o : Option Outgoing) → get m n ≡ o → Contains (push_messages n o) x → IsPushedTo m x.to x.request x.body
     go None e i = absurd (in_none x i)
-    go (Some o) e i = subst (λ (z : Message). IsPushed m z.to z.request z.body) (in_single _ x i) (record { outgoing = o; stands = e; to_is = refl; body_is = refl })
+    go (Some o) e i = subst (λ (z : Message). IsPushedTo m z.to z.request z.body) (in_single _ x i) (record { outgoing = o; stands = e; to_is = refl; body_is = refl })
 
 pub numbered_length : (party : List ℕ) (serial : ℕ) (ms : List Message) → length (numbered party serial ms) ≡ length ms
 numbered_length party serial [] = refl

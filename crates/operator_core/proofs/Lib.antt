@@ -15,6 +15,9 @@ pub mod Puts
 pub mod Stays
 pub mod Consistency
 pub mod Claiming
+pub mod OneClaim
+pub mod ResendTimes
+pub mod EventConsistency
 pub mod Runs
 pub mod Answered
 pub mod HeldSearch
