@@ -26,7 +26,7 @@ use Rattle.operator_core.specs.Finished.{IsOpen, IsOfSite}
 use Rattle.operator_core.specs.Charger.{IsEnded}
 use Rattle.operator_core.specs.Tick.{TickLine, request_of}
 use Rattle.operator_core.proofs.FinishedSteps.{AreFinished, reservation_of}
-use Rattle.operator_core.proofs.Endings.{later}
+use Rattle.operator_core.proofs.RowChanges.{in_later}
 
 below_itself : {K : Type 0} {R : K → K → Ordering} (o : IsTotalOrder R) (k : K) → R k k ≡ Less → ⊥
 below_itself {R = R} o k less =
@@ -40,11 +40,11 @@ expired_differ : (m : Reservations) (xs : List Standing) → ((x : Standing) →
 expired_differ m [] stands sorted = no_pairs (λ a b. reservation_of a ≢ reservation_of b)
 expired_differ m (x ∷ xs) stands sorted =
     AllPairs-cons (λ a b. reservation_of a ≢ reservation_of b) x xs (all_of (λ y. reservation_of x ≢ reservation_of y) xs (λ y i same.
-        let one : Some x.reservation ≡ Some y.reservation = sym (stands x (in_front x xs)) ∙ ap (get m) same ∙ stands y (later x xs y i) in
-        let reservation : x.reservation ≡ y.reservation = cc in
-        let expiry : expiry_at y ≡ expiry_at x = λ j. ((sym reservation j).expiry_date, (sym same j).0, (sym same j).1) in
-        below_itself expiry_total (expiry_at x) (subst (λ z. expiry_cmp (expiry_at x) z ≡ Less) expiry (first_below expiry_cmp (expiry_at x) (expiry_at y) (map expiry_at xs) sorted (in_map expiry_at xs y i)))))
-    (expired_differ m xs (λ y i. stands y (later x xs y i)) (sorted_back expiry_cmp (expiry_at x ∷ []) (map expiry_at xs) sorted))
+    let one : Some x.reservation ≡ Some y.reservation = sym (stands x (in_front x xs)) ∙ ap (get m) same ∙ stands y (in_later x xs y i) in
+    let reservation : x.reservation ≡ y.reservation = cc in
+    let expiry : expiry_at y ≡ expiry_at x = λ j. ((sym reservation j).expiry_date, (sym same j).0, (sym same j).1) in
+    below_itself expiry_total (expiry_at x) (subst (λ z. expiry_cmp (expiry_at x) z ≡ Less) expiry (first_below expiry_cmp (expiry_at x) (expiry_at y) (map expiry_at xs) sorted (in_map expiry_at xs y i)))))
+    (expired_differ m xs (λ y i. stands y (in_later x xs y i)) (sorted_back expiry_cmp (expiry_at x ∷ []) (map expiry_at xs) sorted))
 
 pub one_finished : (s : State) (report : ChargerEvent) (x : Ending) → IsEnded s report x → AreFinished s (x ∷ []) [] []
 one_finished s report x is = record {

@@ -29,7 +29,7 @@ use Rattle.operator_core.specs.Moves.{Out, untimed, untimed_all, timed, timed_al
 use Rattle.operator_core.specs.Consistent.{AreGiven}
 use Rattle.operator_core.specs.Sending.{IsPushed}
 use Rattle.operator_core.specs.Laws.{Event, out_of, Happens}
-use Rattle.operator_core.proofs.Endings.{later}
+use Rattle.operator_core.proofs.RowChanges.{in_later}
 use Rattle.operator_core.proofs.Sends.{IsSent, Response, Pushed, sends}
 use Rattle.operator_core.proofs.OneClaim.{IsStep, event_step}
 
@@ -99,7 +99,7 @@ Stand pushes packets = (q : Packet) → Contains packets q → IsPushed q.body �
 packets_timed : (at : ℕ) (packets : List Packet) (m : Resend) (pushes : Pushes) → AreTimed m pushes → Stand pushes packets → AreTimed (timed_all at packets m) pushes
 packets_timed at [] m pushes h stand = h
 packets_timed at (q ∷ qs) m pushes h stand =
-    packets_timed at qs (timed q.body q.request at m) pushes (sent_timed q.body q.request at m pushes h (stand q (in_front q qs))) (λ x i. stand x (later q qs x i))
+    packets_timed at qs (timed q.body q.request at m) pushes (sent_timed q.body q.request at m pushes h (stand q (in_front q qs))) (λ x i. stand x (in_later q qs x i))
 
 abbrev pub IsTimed : State → Type 0
 IsTimed s = AreTimed s.resend s.rows.outbox.pushes
