@@ -15,6 +15,7 @@ pub mod HeldSearch
 pub mod StartTable
 pub mod ClaimIndex
 pub mod BookRoom
+pub mod TimeRoom
 pub mod RowParts
 pub mod RowChanges
 pub mod OtherClaims
