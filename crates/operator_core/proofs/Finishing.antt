@@ -104,10 +104,17 @@ counters_change serial serial_now last last_now s a b =
     ∙ ap (changed_all (counted_rows Request last last_now)) (serial_change serial serial_now s a)
     ∙ request_change last last_now (record s { serial = serial_now }) b
 
+-- the counter of packets and that of requests, as they are stored
+abbrev pub serials : Rows → List Ending → List ℕ → List Change
+serials s ends due = counted_rows Serial s.serial (s.serial + length (finished_messages s ends due))
+
+abbrev pub requests : Rows → List Ending → List Change
+requests s ends = counted_rows Request s.outbox.last (s.outbox.last + length ends)
+
 -- all of it
 module _ (s : Rows) (ends : List Ending) (expired : List Standing) (due : List ℕ) where
   abbrev counters : List Change
-  counters = counted_rows Serial s.serial (s.serial + length (finished_messages s ends due)) ++ counted_rows Request s.outbox.last (s.outbox.last + length ends)
+  counters = serials s ends due ++ requests s ends
 
   abbrev all_finished : Rows
   all_finished = numbers_from (s.serial + length (finished_messages s ends due)) (s.outbox.last + length ends) (expired_from expired (ended s.commands.pending s.outbox.last ends s))

@@ -2,6 +2,12 @@ pub mod Effects
 pub mod Finishing
 pub mod Endings
 pub mod FinishedFacts
+pub mod FinishedSteps
+pub mod FinishedApart
+pub mod FinishedClaims
+pub mod FinishedKept
+pub mod FinishedSound
+pub mod FinishedSending
 pub mod Shapes
 pub mod Sends
 pub mod Marking

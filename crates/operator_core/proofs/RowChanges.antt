@@ -239,10 +239,10 @@ one_drop : (k : RowKey) (s : Rows) → One (Drop k) s
 one_drop k s r = (λ h. inr ((drops k s r).0 h), λ y. elim y [ inl e ↦ absurd (cc) | inr h ↦ (drops k s r).1 h ])
 
 module _ {X : Type 0} where
-  of_cons : (x : X) (xs : List X) (y : X) → Contains (x ∷ xs) y → (x ≡ y) ⊎ Contains xs y
+  pub of_cons : (x : X) (xs : List X) (y : X) → Contains (x ∷ xs) y → (x ≡ y) ⊎ Contains xs y
   of_cons x xs y h = elim (Contains-append_cases (x ∷ []) xs y h) [ inl i ↦ inl (in_single x y i) | inr i ↦ inr i ]
 
-  in_later : (x : X) (xs : List X) (y : X) → Contains xs y → Contains (x ∷ xs) y
+  pub in_later : (x : X) (xs : List X) (y : X) → Contains xs y → Contains (x ∷ xs) y
   in_later x xs y h = Contains-append_right (x ∷ []) xs y h
 
 each_of : (P : Change → Type 0) (cs : List Change) → Each P cs → (d : Change) → Contains cs d → P d
