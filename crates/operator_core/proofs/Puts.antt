@@ -1,6 +1,6 @@
--- Which open commands, marks and reservations a decision puts.
-use Rattle.std.proofs.Common.{◌≡◌, ℕ, List, [], ◌∷◌, ◌++◌, ◌⊎◌, inl, inr, refl, sym, ap, subst, ◌∙◌}
-use Rattle.std.specs.Prelude.{Option, Some, None, Contains}
+-- Which open commands, marks and reservations a decision puts; the end of a command puts none.
+use Rattle.std.proofs.Common.{◌≡◌, ℕ, ◌+◌, List, [], ◌∷◌, ◌++◌, ◌⊎◌, inl, inr, true, false, length, map, refl, sym, ap, subst, ◌∙◌}
+use Rattle.std.specs.Prelude.{Option, Some, None, Contains, Bool, cond, nat_eq}
 use Rattle.std.proofs.lemmas.List.Elements.{Contains-append_cases}
 use Rattle.ocpi_types.specs.declared.rows.Place.{Place}
 use Rattle.ocpi_types.specs.declared.rows.Change.{Change}
@@ -11,6 +11,11 @@ use Rattle.ocpi_types.specs.declared.stored.Command.{Command}
 use Rattle.ocpi_types.specs.declared.stored.OpenCommand.{OpenCommand}
 use Rattle.ocpi_types.specs.declared.words.CommandResultType.{CommandResultType}
 use Rattle.command_book.specs.Stored as book
+use Rattle.ocpi_types.specs.declared.rows.Counter.{Counter}
+use Rattle.ocpi_types.specs.declared.rows.Counter.TheVariants.{Serial, Request}
+use Rattle.reservation_book.specs.declared.standing.Standing.{Standing}
+use Rattle.operator_core.specs.declared.ending.Ending.{Ending}
+use Rattle.operator_core.specs.Finished.{end_rows, ends_rows, expired_row, counted_rows, finished_messages, finished_rows}
 use Rattle.operator_core.specs.declared.decision.Decision.{Decision}
 use Rattle.operator_core.specs.declared.decision.Decision.TheVariants as decision
 use Rattle.operator_core.specs.State.{Rows}
@@ -61,6 +66,44 @@ in_ended s to p n c None r own bad = bad
 in_ended s to p n c (Some x) r own (inl e) = not_own _ r own (λ h. h) e
 in_ended s to p n c (Some x) r own (inr (inl e)) = not_own _ r own (λ h. h) e
 in_ended s to p n c (Some x) r own (inr (inr bad)) = bad
+
+-- no end of a command, expiry or resending puts such a row
+module _ (r : Row) (own : IsOwn r) where
+  in_end : (m : book.OpenCommands) (n : ℕ) (e : Ending) → Holds (end_rows m n e) r → ⊥
+  in_end m n e (inl h) = cc
+  in_end m n e (inr (inl h)) = not_own _ r own (λ z. z) h
+  in_end m n e (inr (inr (inl h))) = not_own _ r own (λ z. z) h
+  in_end m n e (inr (inr (inr bad))) = bad
+
+  in_ends : (m : book.OpenCommands) (last : ℕ) (es : List Ending) → Holds (ends_rows m last es) r → ⊥
+  in_ends m last [] bad = bad
+  in_ends m last (e ∷ es) h = elim (parted (end_rows m (last + 1) e) (ends_rows m (last + 1) es) r h) [ inl i ↦ in_end m (last + 1) e i | inr i ↦ in_ends m (last + 1) es i ]
+
+  in_expired : (xs : List Standing) → Holds (map expired_row xs) r → ⊥
+  in_expired [] bad = bad
+  in_expired (x ∷ xs) (inl h) = cc
+  in_expired (x ∷ xs) (inr i) = in_expired xs i
+
+  in_counted : (counter : Counter) (now : ℕ) (b : Bool) → Holds (cond b [] (Put (row.Count counter now) ∷ [])) r → ⊥
+  in_counted counter now true bad = bad
+  in_counted counter now false (inl h) = not_own _ r own (λ z. z) h
+  in_counted counter now false (inr bad) = bad
+
+  pub puts_none : (s : Rows) (ends : List Ending) (expired : List Standing) (due : List ℕ) → Contains (finished_rows s ends expired due) (Put r) → ⊥
+  puts_none s ends expired due h =
+      let serial : ℕ = s.serial + length (finished_messages s ends due) in
+      let last : ℕ = s.outbox.last + length ends in
+      let counters = counted_rows Serial s.serial serial ++ counted_rows Request s.outbox.last last in
+      elim (parted (ends_rows s.commands.pending s.outbox.last ends) (map expired_row expired ++ counters) r (holds (finished_rows s ends expired due) r h)) [
+        | inl i ↦ in_ends s.commands.pending s.outbox.last ends i
+        | inr i ↦ elim (parted (map expired_row expired) counters r i) [
+          | inl k ↦ in_expired expired k
+          | inr k ↦ elim (parted (counted_rows Serial s.serial serial) (counted_rows Request s.outbox.last last) r k) [
+            | inl l ↦ in_counted Serial serial (nat_eq s.serial serial) l
+            | inr l ↦ in_counted Request last (nat_eq s.outbox.last last) l
+          ]
+        ]
+      ]
 
 module _ (at : ℕ) (to p : List ℕ) (n : ℕ) (c : Command) (s : Rows) where
   in_own : (d : Decision) (r : Row) → IsOwn r → Contains (decided_rows at to p n c d s) (Put r) → Holds (own_rows at p n c d) r

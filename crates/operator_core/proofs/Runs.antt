@@ -1,5 +1,5 @@
 -- The laws of an operator, over every list of events.
-use Rattle.std.proofs.Common.{zero, suc, ◌≡◌, ℕ, ◌+◌, ◌≤◌, ◌<◌, List, [], ◌∷◌, ◌++◌, ◌⊎◌, inl, inr, refl, sym, ap, subst, ◌∙◌, arith, add-one}
+use Rattle.std.proofs.Common.{zero, suc, ◌≡◌, ℕ, ◌+◌, ◌≤◌, ◌<◌, List, [], ◌∷◌, ◌++◌, ◌⊎◌, inl, inr, length, refl, sym, ap, subst, ◌∙◌, arith, add-one}
 use Rattle.std.specs.Prelude.{Some, None, Contains, slice_get}
 use Rattle.std.specs.FinMap.{get, get-empty}
 use Rattle.std.specs.Ordering.{nat_cmp}
@@ -11,17 +11,19 @@ use Rattle.ocpi_types.specs.declared.packet.Body.TheVariants as body
 use Rattle.ocpi_types.specs.declared.replies.CommandResponse.{CommandResponse}
 use Rattle.ocpi_types.specs.declared.replies.CommandResult.{CommandResult}
 use Rattle.ocpi_types.specs.declared.stored.Reply.{Reply}
-use Rattle.ocpi_types.specs.declared.stored.Push.TheVariants as push
+use Rattle.ocpi_types.specs.declared.stored.Reply.TheVariants as reply
 use Rattle.ocpi_types.specs.Stored.{body_of_reply, body_of_push}
 use Rattle.ocpi_types.specs.declared.rows.Change.TheVariants.{Put}
 use Rattle.ocpi_types.specs.declared.rows.Row.TheVariants as row
 use Rattle.handover.specs.declared.push_book.Outgoing.{Outgoing}
 use Rattle.operator_core.specs.State.{State, opening}
-use Rattle.operator_core.specs.Laws.{Event, Happens, Run, sent, Came, Comes, Opens, Acknowledged, OneStart, SentRepliesAreKept, RepliesStay, Numbered, RequestsDiffer, PushesStand, MarksNeverFall, ReservationsAreNewer}
-use Rattle.tables.proofs.Elements.{in_none, in_single}
+use Rattle.operator_core.specs.Consistent.{AreGiven}
+use Rattle.operator_core.specs.Laws.{Event, Happens, Run, sent, Came, Comes, Opens, Acknowledged, OneStart, SentRepliesAreKept, RepliesStay, Numbered, RequestsAgree, PushesStand, MarksNeverFall, ReservationsAreNewer}
+use Rattle.tables.proofs.Elements.{in_none}
 use Rattle.operator_core.proofs.Shapes.{AcknowledgesIt}
-use Rattle.operator_core.proofs.Sends.{Sends, Nothing, Response, Both, IsResponse, IsResult, sends, no_result}
-use Rattle.operator_core.proofs.Stays.{replies_stay, spent_stays, opens, marks_rise, marked, Rises, AreGiven, pushes_stay, given_stay}
+use Rattle.operator_core.proofs.Endings.{IsPushed}
+use Rattle.operator_core.proofs.Sends.{IsSent, Response, Pushed, counts, sends, no_result, no_push}
+use Rattle.operator_core.proofs.Stays.{replies_stay, spent_stays, opens, marks_rise, marked, Rises, pushes_stay, pushed, last_rises, given_stay}
 
 -- what each event keeps, a run keeps
 pub kept_runs : (P : State → Type 0) → ((s t : State) (e : Event) → Happens s e t → P s → P t) → (es : List Event) (s t : State) → Run s es t → P s → P t
@@ -47,25 +49,24 @@ record IsKept (x : Packet) (t : State) : Type 0 where
   is_reply : x.body ≡ body_of_reply reply
   kept : get t.rows.commands.replies (key x.to, x.request) ≡ Some reply
 
-pub in_pair : {X : Type 0} (x y z : X) → Contains (x ∷ (y ∷ [])) z → (x ≡ z) ⊎ (y ≡ z)
-in_pair x y z h = elim (Contains-append_cases (x ∷ []) (y ∷ []) z h) [ inl i ↦ inl (in_single x z i) | inr i ↦ inr (in_single y z i) ]
-
 abbrev Responds : Packet → State → Type 0
 Responds x t = (r : CommandResponse) → x.body ≡ body.CommandResponse r → IsKept x t
 
-sends_kept : (s t : State) (e : Event) → Sends s e t → (x : Packet) → Contains e.packets x → Responds x t
-sends_kept s t e (Nothing none a b) x h = absurd (in_none x (subst (λ l. Contains l x) none h))
-sends_kept s t e (Response y one is a b) x h =
-    λ r body_is. subst (λ z. IsKept z t) (in_single y x (subst (λ l. Contains l x) one h)) (record { reply = is.reply; is_reply = is.is_reply; kept = is.kept })
-sends_kept s t e (Both y z two is then a b) x h = λ r body_is. elim (in_pair y z x (subst (λ l. Contains l x) two h)) [
-  | inl same ↦ subst (λ w. IsKept w t) same (record { reply = is.reply; is_reply = is.is_reply; kept = is.kept })
-  | inr same ↦ absurd (let two_ways : body.CommandResult then.told ≡ body.CommandResponse r = sym then.is_result ∙ ap (λ (w : Packet). w.body) same ∙ body_is in cc)
-]
+sends_kept : (t : State) (x : Packet) → IsSent t x → Responds x t
+sends_kept t x (Response is) r named = record { reply = is.reply; is_reply = is.is_reply; kept = is.kept }
+sends_kept t x (Pushed is) r named = absurd (no_push (reply.CommandResponse r) is.outgoing.push (sym (is.body_is ∙ named)))
+
+-- the numbers of the pushes that stand were given
+abbrev pub NumbersGiven : State → Type 0
+NumbersGiven s = AreGiven s.rows.outbox
+
+none_given : (line : SiteLine) → NumbersGiven (opening line)
+none_given line n o has = absurd (let bad : None ≡ Some o = sym (get-empty nat_cmp n) ∙ has in cc)
 
 pub sent_replies_law : SentRepliesAreKept
 sent_replies_law line es t run x r h is =
-    let k = sent_runs (λ s. Unit {0}) Responds (λ a b e happens i. tt) (λ a b e happens i. sends_kept a b e (sends a b e happens))
-    (λ a b e happens i y q w named. let old = q w named in record { reply = old.reply; is_reply = old.is_reply; kept = replies_stay a b e happens (key y.to, y.request) old.reply old.kept }) es _ t run tt x h r is in
+    let k = sent_runs NumbersGiven Responds (λ a b e happens given. given_stay a b e happens given) (λ a b e happens given y i. sends_kept b y (sends a b e happens given y i))
+    (λ a b e happens given y q w named. let old = q w named in record { reply = old.reply; is_reply = old.is_reply; kept = replies_stay a b e happens (key y.to, y.request) old.reply old.kept }) es _ t run (none_given line) x h r is in
     (k.reply, k.kept, k.is_reply)
 
 -- a spent reference opens no start
@@ -91,111 +92,96 @@ opens_runs (x ∷ es) s t (u, first, rest) (suc i) (suc j) e f at there p refere
 pub one_start : OneStart
 one_start line es t run i j e f at there p reference a b = opens_runs es _ t run i j e f at there p reference a b
 
--- the packet, wherever the run sends it, has the number of its place
-abbrev IsNumbered : List Event → State → Packet → Type 0
-IsNumbered es s x = (i : ℕ) → slice_get (sent es) i ≡ Some x → x.serial ≡ s.rows.serial + (i + 1)
+-- where an element of two lists that are joined stands
+in_joined : {X : Type 0} (xs ys : List X) (i : ℕ) (x : X) → slice_get (xs ++ ys) i ≡ Some x → (slice_get xs i ≡ Some x) ⊎ ((j : ℕ) × (i ≡ length xs + j) × (slice_get ys j ≡ Some x))
+in_joined [] ys i x at = inr (i, omega arith, at)
+in_joined (y ∷ xs) ys zero x at = inl at
+in_joined (y ∷ xs) ys (suc i) x at = elim (in_joined xs ys i x at) [ inl h ↦ inl h | inr h ↦ inr (h.0, let is = h.1 in omega (arith, is), h.2) ]
 
 -- the i-th packet has the number that follows i others
 numbered_runs : (es : List Event) (s t : State) → Run s es t → (i : ℕ) (x : Packet) → slice_get (sent es) i ≡ Some x → x.serial ≡ s.rows.serial + (i + 1)
 numbered_runs [] s t run i x at = cc
-numbered_runs (e ∷ es) s t (u, first, rest) i x at = go (λ j h. numbered_runs es u t rest j x h) (sends s u e first) i at
-  where
-    one : IsNumbered es u x → (y : Packet) → IsResponse s u y → u.rows.serial ≡ s.rows.serial + 1 → (i : ℕ) → slice_get (y ∷ sent es) i ≡ Some x → x.serial ≡ s.rows.serial + (i + 1)
-    one later y is next zero h = let same : y ≡ x = cc in ap (λ (z : Packet). z.serial) (sym same) ∙ is.serial
-    one later y is next (suc j) h = let there = later j h in omega (arith, there, next, add-one j)
-
-    two : IsNumbered es u x → (y z : Packet) → IsResponse s u y → IsResult s u z → u.rows.serial ≡ s.rows.serial + 2 → (i : ℕ) → slice_get (y ∷ (z ∷ sent es)) i ≡ Some x → x.serial ≡ s.rows.serial + (i + 1)
-    two later y z is then next zero h = let same : y ≡ x = cc in ap (λ (w : Packet). w.serial) (sym same) ∙ is.serial
-    two later y z is then next (suc zero) h = let same : z ≡ x = cc in ap (λ (w : Packet). w.serial) (sym same) ∙ then.serial
-    two later y z is then next (suc (suc j)) h = let there = later j h in omega (arith, there, next, add-one j, add-one (suc j))
-
-    go : IsNumbered es u x → Sends s e u → (i : ℕ) → slice_get (e.packets ++ sent es) i ≡ Some x → x.serial ≡ s.rows.serial + (i + 1)
-    go later (Nothing none same last) i h =
-        let here : slice_get (sent es) i ≡ Some x = subst (λ l. slice_get (l ++ sent es) i ≡ Some x) none h in
-        let there = later i here in
-        omega (arith, there, same)
-    go later (Response y is_one is next last) i h = one later y is next i (subst (λ l. slice_get (l ++ sent es) i ≡ Some x) is_one h)
-    go later (Both y z is_two is then next last) i h = two later y z is then next i (subst (λ l. slice_get (l ++ sent es) i ≡ Some x) is_two h)
+numbered_runs (e ∷ es) s t (u, first, rest) i x at = elim (in_joined e.packets (sent es) i x at) [
+  | inl here ↦ (counts s u e first).each i x here
+  | inr (j, is, there) ↦
+      let behind = numbered_runs es u t rest j x there in
+      let serial = (counts s u e first).serial in
+      omega (arith, behind, serial, is)
+]
 
 pub numbered : Numbered
 numbered line es t run i x at = omega (arith, numbered_runs es _ t run i x at)
 
--- the packet, wherever the run sends it, has a request number above the last one before
-abbrev IsAbove : List Event → State → Packet → Type 0
-IsAbove es s x = (i : ℕ) → slice_get (sent es) i ≡ Some x → s.rows.outbox.last < x.request
+-- a push of the packet's number stands, of its body and to its addressee
+abbrev pub Stands : Packet → State → Type 0
+Stands x t = IsPushed t.rows.outbox.pushes x.to x.request x.body
 
--- the run sends both packets at one place
-abbrev IsOne : List Event → Packet → Packet → Type 0
-IsOne es x y = (i j : ℕ) → slice_get (sent es) i ≡ Some x → slice_get (sent es) j ≡ Some y → i ≡ j
+-- a result that was sent stands as a push
+pub result_stands : (t : State) (x : Packet) (a : CommandResult) → x.body ≡ body.CommandResult a → IsSent t x → Stands x t
+result_stands t x a is (Response r) = absurd (no_result r.reply a (sym r.is_reply ∙ is))
+result_stands t x a is (Pushed h) = h
 
--- a result that is sent has a number above the last one before it
-abbrev IsResultOf : Packet → Type 0
-IsResultOf x = (a : CommandResult) × (x.body ≡ body.CommandResult a)
+-- the number of the packet was given, and what is pushed under it is what the packet carries
+record HasNumber (x : Packet) (t : State) : Type 0 where
+  given : x.request ≤ t.rows.outbox.last
+  one : (o : Outgoing) → get t.rows.outbox.pushes x.request ≡ Some o → (o.to ≡ x.to) × (body_of_push o.push ≡ x.body)
 
-not_response : (s t : State) (y : Packet) → IsResponse s t y → IsResultOf y → ⊥
-not_response s t y is (a, e) = no_result is.reply a (sym is.is_reply ∙ e)
+stands_number : (x : Packet) (t : State) → NumbersGiven t → Stands x t → HasNumber x t
+stands_number x t given h = record {
+  given = given x.request h.outgoing h.stands;
+  one = λ o has.
+      let both : Some h.outgoing ≡ Some o = sym h.stands ∙ has in
+      let same : h.outgoing ≡ o = cc in
+      (ap (λ (z : Outgoing). z.to) (sym same) ∙ h.to_is, ap (λ (z : Outgoing). body_of_push z.push) (sym same) ∙ h.body_is);
+}
 
-last_rises : (s t : State) (e : Event) → Sends s e t → s.rows.outbox.last ≤ t.rows.outbox.last
-last_rises s t e (Nothing none a b) = omega (arith, b)
-last_rises s t e (Response y one is a b) = omega (arith, b)
-last_rises s t e (Both y z two is then a b) = omega (arith, b)
+number_stays : (s t : State) (e : Event) → Happens s e t → (x : Packet) → HasNumber x s → HasNumber x t
+number_stays s t e happens x h = record {
+  given = let below = h.given in let rises = last_rises s t e happens in omega (arith, below, rises);
+  one = λ o has. elim (pushed s t e happens x.request o has) [
+    | inl old ↦ h.one o old
+    | inr new ↦ absurd (let above = new.above in let below = h.given in omega (arith, above, below))
+  ];
+}
 
-above_runs : (es : List Event) (s t : State) → Run s es t → (i : ℕ) (x : Packet) → slice_get (sent es) i ≡ Some x → IsResultOf x → s.rows.outbox.last < x.request
-above_runs [] s t run i x at is = cc
-above_runs (e ∷ es) s t (u, first, rest) i x at is_result = go (λ j h. above_runs es u t rest j x h is_result) (sends s u e first) i at
+abbrev Agree : Packet → Packet → Type 0
+Agree x y = (x.body ≡ y.body) × (x.to ≡ y.to)
+
+agree_now : (x y : Packet) (t : State) → HasNumber x t → Stands y t → x.request ≡ y.request → Agree x y
+agree_now x y t h stands same =
+    let one = h.one stands.outgoing (ap (get t.rows.outbox.pushes) same ∙ stands.stands) in
+    (sym one.1 ∙ stands.body_is, sym one.0 ∙ stands.to_is)
+
+module _ (y : Packet) (b : CommandResult) (is_y : y.body ≡ body.CommandResult b) where
+  agree_later : (es : List Event) (s t : State) → Run s es t → NumbersGiven s → (x : Packet) → HasNumber x s → Contains (sent es) y → x.request ≡ y.request → Agree x y
+  agree_later [] s t run given x h i same = absurd (in_none y i)
+  agree_later (e ∷ es) s t (u, first, rest) given x h i same = elim (Contains-append_cases e.packets (sent es) y i) [
+    | inl here ↦ agree_now x y u (number_stays s u e first x h) (result_stands u y b is_y (sends s u e first given y here)) same
+    | inr later ↦ agree_later es u t rest (given_stay s u e first given) x (number_stays s u e first x h) later same
+  ]
+
+agree_runs : (es : List Event) (s t : State) → Run s es t → NumbersGiven s → (x y : Packet) (a b : CommandResult) → Contains (sent es) x → Contains (sent es) y →
+    x.body ≡ body.CommandResult a → y.body ≡ body.CommandResult b → x.request ≡ y.request → Agree x y
+agree_runs [] s t run given x y a b i j is_x is_y same = absurd (in_none x i)
+agree_runs (e ∷ es) s t (u, first, rest) given x y a b i j is_x is_y same =
+    elim (Contains-append_cases e.packets (sent es) x i) [
+      | inl x_here ↦ elim (Contains-append_cases e.packets (sent es) y j) [
+        | inl y_here ↦ agree_now x y u (stands_number x u now (result_stands u x a is_x (sends s u e first given x x_here))) (result_stands u y b is_y (sends s u e first given y y_here)) same
+        | inr y_later ↦ agree_later y b is_y es u t rest now x (stands_number x u now (result_stands u x a is_x (sends s u e first given x x_here))) y_later same
+      ]
+      | inr x_later ↦ elim (Contains-append_cases e.packets (sent es) y j) [
+        | inl y_here ↦
+            let turned = agree_later x a is_x es u t rest now y (stands_number y u now (result_stands u y b is_y (sends s u e first given y y_here))) x_later (sym same) in
+            (sym turned.0, sym turned.1)
+        | inr y_later ↦ agree_runs es u t rest now x y a b x_later y_later is_x is_y same
+      ]
+    ]
   where
-    rises : s.rows.outbox.last ≤ u.rows.outbox.last
-    rises = last_rises s u e (sends s u e first)
+    now : NumbersGiven u
+    now = given_stay s u e first given
 
-    behind : IsAbove es u x → (j : ℕ) → slice_get (sent es) j ≡ Some x → s.rows.outbox.last < x.request
-    behind later j h = let there = later j h in let first_rises = rises in omega (arith, there, first_rises)
-
-    one : IsAbove es u x → (y : Packet) → IsResponse s u y → (i : ℕ) → slice_get (y ∷ sent es) i ≡ Some x → s.rows.outbox.last < x.request
-    one later y is zero h = let same : y ≡ x = cc in absurd (not_response s u y is (subst IsResultOf (sym same) is_result))
-    one later y is (suc j) h = behind later j h
-
-    two : IsAbove es u x → (y z : Packet) → IsResponse s u y → IsResult s u z → (i : ℕ) → slice_get (y ∷ (z ∷ sent es)) i ≡ Some x → s.rows.outbox.last < x.request
-    two later y z is then zero k = let same : y ≡ x = cc in absurd (not_response s u y is (subst IsResultOf (sym same) is_result))
-    two later y z is then (suc zero) k = let same : z ≡ x = cc in let number = ap (λ (w : Packet). w.request) (sym same) ∙ then.request in omega (arith, number)
-    two later y z is then (suc (suc j)) k = behind later j k
-
-    go : IsAbove es u x → Sends s e u → (i : ℕ) → slice_get (e.packets ++ sent es) i ≡ Some x → s.rows.outbox.last < x.request
-    go later (Nothing none a b) i h = behind later i (subst (λ l. slice_get (l ++ sent es) i ≡ Some x) none h)
-    go later (Response y is_one is a b) i h = one later y is i (subst (λ l. slice_get (l ++ sent es) i ≡ Some x) is_one h)
-    go later (Both y z is_two is then a b) i h = two later y z is then i (subst (λ l. slice_get (l ++ sent es) i ≡ Some x) is_two h)
-
-differ_runs : (es : List Event) (s t : State) → Run s es t → (i j : ℕ) (x y : Packet) → slice_get (sent es) i ≡ Some x → slice_get (sent es) j ≡ Some y → IsResultOf x → IsResultOf y → x.request ≡ y.request → i ≡ j
-differ_runs [] s t run i j x y at there a b same = cc
-differ_runs (e ∷ es) s t (u, first, rest) i j x y at there is_x is_y same = go (λ i j h k. differ_runs es u t rest i j x y h k is_x is_y same) (λ k h. above_runs es u t rest k x h is_x) (λ k h. above_runs es u t rest k y h is_y) (sends s u e first) i j at there
-  where
-    one : IsOne es x y → (z : Packet) → IsResponse s u z → (i j : ℕ) → slice_get (z ∷ sent es) i ≡ Some x → slice_get (z ∷ sent es) j ≡ Some y → i ≡ j
-    one later z is zero j h k = let it : z ≡ x = cc in absurd (not_response s u z is (subst IsResultOf (sym it) is_x))
-    one later z is (suc i) zero h k = let it : z ≡ y = cc in absurd (not_response s u z is (subst IsResultOf (sym it) is_y))
-    one later z is (suc i) (suc j) h k = ap (λ n. suc n) (later i j h k)
-
-    two : IsOne es x y → IsAbove es u x → IsAbove es u y → (z w : Packet) → IsResponse s u z → IsResult s u w → u.rows.outbox.last ≡ s.rows.outbox.last + 1 → (i j : ℕ) → slice_get (z ∷ (w ∷ sent es)) i ≡ Some x → slice_get (z ∷ (w ∷ sent es)) j ≡ Some y → i ≡ j
-    two later above_x above_y z w is then next zero j h k = let it : z ≡ x = cc in absurd (not_response s u z is (subst IsResultOf (sym it) is_x))
-    two later above_x above_y z w is then next (suc i) zero h k = let it : z ≡ y = cc in absurd (not_response s u z is (subst IsResultOf (sym it) is_y))
-    two later above_x above_y z w is then next (suc zero) (suc zero) h k = refl
-    two later above_x above_y z w is then next (suc zero) (suc (suc j)) h k =
-        let it : w ≡ x = cc in
-        let number = ap (λ (v : Packet). v.request) (sym it) ∙ then.request in
-        let more = above_y j k in
-        absurd (omega (arith, number, more, next, same))
-    two later above_x above_y z w is then next (suc (suc i)) (suc zero) h k =
-        let it : w ≡ y = cc in
-        let number = ap (λ (v : Packet). v.request) (sym it) ∙ then.request in
-        let more = above_x i h in
-        absurd (omega (arith, number, more, next, same))
-    two later above_x above_y z w is then next (suc (suc i)) (suc (suc j)) h k = ap (λ n. suc (suc n)) (later i j h k)
-
-    go : IsOne es x y → IsAbove es u x → IsAbove es u y → Sends s e u → (i j : ℕ) → slice_get (e.packets ++ sent es) i ≡ Some x → slice_get (e.packets ++ sent es) j ≡ Some y → i ≡ j
-    go later above_x above_y (Nothing none a b) i j h k = later i j (subst (λ l. slice_get (l ++ sent es) i ≡ Some x) none h) (subst (λ l. slice_get (l ++ sent es) j ≡ Some y) none k)
-    go later above_x above_y (Response z is_one is a b) i j h k = one later z is i j (subst (λ l. slice_get (l ++ sent es) i ≡ Some x) is_one h) (subst (λ l. slice_get (l ++ sent es) j ≡ Some y) is_one k)
-    go later above_x above_y (Both z w is_two is then a b) i j h k = two later above_x above_y z w is then b i j (subst (λ l. slice_get (l ++ sent es) i ≡ Some x) is_two h) (subst (λ l. slice_get (l ++ sent es) j ≡ Some y) is_two k)
-
-pub requests_differ : RequestsDiffer
-requests_differ line es t run i j x y a b at there is_x is_y same = differ_runs es _ t run i j x y at there (a, is_x) (b, is_y) same
+pub requests_agree : RequestsAgree
+requests_agree line es t run x y a b i j is_x is_y same = agree_runs es _ t run (none_given line) x y a b i j is_x is_y same
 
 pub marks_never_fall : MarksNeverFall
 marks_never_fall s t es run = kept_runs (λ z. Rises s.rows.booked.marks z.rows.booked.marks)
@@ -228,10 +214,6 @@ newer_runs (x ∷ es) s t (u, first, rest) (suc i) (suc j) e f at there less p i
 pub reservations_are_newer : ReservationsAreNewer
 reservations_are_newer line es t run i j e f at there less p id m n a (reserves, b) = newer_runs es _ t run i j e f at there less p id m n a b
 
--- the push of a packet that was sent
-abbrev IsPush : Packet → State → Type 0
-IsPush x t = (o : Outgoing) × (get t.rows.outbox.pushes x.request ≡ Some o) × (o.to ≡ x.to) × (body_of_push o.push ≡ x.body)
-
 pub came_now : (e : Event) (es : List Event) (q : Packet) (at : ℕ) → e.input ≡ Comes at q → Came (e ∷ es) q
 came_now e es q at comes = (e, Contains-append_left (e ∷ []) es e (0, omega arith, refl), (at, comes))
 
@@ -244,30 +226,25 @@ acknowledged_later e es to n (q, came, ack, by, number) = (q, came_later e es q 
 acknowledged_now : (e : Event) (es : List Event) (to : List ℕ) (n : ℕ) → AcknowledgesIt e to n → Acknowledged (e ∷ es) to n
 acknowledged_now e es to n h = (h.packet, came_now e es h.packet h.at h.comes, (h.ack, h.is_ack, h.is_done), h.by, h.number)
 
-stands_runs : (es : List Event) (s t : State) → Run s es t → AreGiven s.rows → (x : Packet) → IsPush x s → IsPush x t ⊎ Acknowledged es x.to x.request
-stands_runs [] s t run given x h = inl (subst (IsPush x) (sym run) h)
-stands_runs (e ∷ es) s t (u, first, rest) given x (o, has, to, is) = elim (pushes_stay s u e first given x.request o has) [
-  | inl still ↦ elim (stands_runs es u t rest (given_stay s u e first given) x (o, still, to, is)) [ inl h ↦ inl h | inr h ↦ inr (acknowledged_later e es x.to x.request h) ]
-  | inr ended ↦ inr (acknowledged_now e es x.to x.request (subst (λ z. AcknowledgesIt e z x.request) to ended))
+stands_runs : (es : List Event) (s t : State) → Run s es t → NumbersGiven s → (x : Packet) → Stands x s → Stands x t ⊎ Acknowledged es x.to x.request
+stands_runs [] s t run given x h = inl (subst (Stands x) (sym run) h)
+stands_runs (e ∷ es) s t (u, first, rest) given x h = elim (pushes_stay s u e first given x.request h.outgoing h.stands) [
+  | inl still ↦ elim (stands_runs es u t rest (given_stay s u e first given) x (record { outgoing = h.outgoing; stands = still; to_is = h.to_is; body_is = h.body_is })) [
+    | inl k ↦ inl k
+    | inr k ↦ inr (acknowledged_later e es x.to x.request k)
+  ]
+  | inr ended ↦ inr (acknowledged_now e es x.to x.request (subst (λ z. AcknowledgesIt e z x.request) h.to_is ended))
 ]
 
-sends_push : (s t : State) (e : Event) → Sends s e t → (x : Packet) → Contains e.packets x → IsResultOf x → IsPush x t
-sends_push s t e (Nothing none a b) x h is_result = absurd (in_none x (subst (λ l. Contains l x) none h))
-sends_push s t e (Response y one is a b) x h is_result = absurd (not_response s t y is (subst IsResultOf (sym (in_single y x (subst (λ l. Contains l x) one h))) is_result))
-sends_push s t e (Both y z two is then a b) x h is_result = elim (in_pair y z x (subst (λ l. Contains l x) two h)) [
-  | inl same ↦ absurd (not_response s t y is (subst IsResultOf (sym same) is_result))
-  | inr same ↦ subst (λ w. IsPush w t) same (record { to = z.to; push = push.CommandResult then.told }, then.pushed, refl, sym then.is_result)
+pushes_runs : (es : List Event) (s t : State) → Run s es t → NumbersGiven s → (x : Packet) (a : CommandResult) → Contains (sent es) x → x.body ≡ body.CommandResult a → Stands x t ⊎ Acknowledged es x.to x.request
+pushes_runs [] s t run given x a h is = absurd (in_none x h)
+pushes_runs (e ∷ es) s t (u, first, rest) given x a h is = elim (Contains-append_cases e.packets (sent es) x h) [
+  | inl here ↦ elim (stands_runs es u t rest (given_stay s u e first given) x (result_stands u x a is (sends s u e first given x here))) [ inl i ↦ inl i | inr i ↦ inr (acknowledged_later e es x.to x.request i) ]
+  | inr later ↦ elim (pushes_runs es u t rest (given_stay s u e first given) x a later is) [ inl i ↦ inl i | inr i ↦ inr (acknowledged_later e es x.to x.request i) ]
 ]
-
-pushes_runs : (es : List Event) (s t : State) → Run s es t → AreGiven s.rows → (x : Packet) → Contains (sent es) x → IsResultOf x → IsPush x t ⊎ Acknowledged es x.to x.request
-pushes_runs [] s t run given x h is = absurd (in_none x h)
-pushes_runs (e ∷ es) s t (u, first, rest) given x h is = elim (Contains-append_cases e.packets (sent es) x h) [
-  | inl here ↦ elim (stands_runs es u t rest (given_stay s u e first given) x (sends_push s u e (sends s u e first) x here is)) [ inl i ↦ inl i | inr i ↦ inr (acknowledged_later e es x.to x.request i) ]
-  | inr later ↦ elim (pushes_runs es u t rest (given_stay s u e first given) x later is) [ inl i ↦ inl i | inr i ↦ inr (acknowledged_later e es x.to x.request i) ]
-]
-
-none_given : (line : SiteLine) → AreGiven (opening line).rows
-none_given line n o has = absurd (let bad : None ≡ Some o = sym (get-empty nat_cmp n) ∙ has in cc)
 
 pub pushes_stand : PushesStand
-pushes_stand line es t run x a h is = pushes_runs es _ t run (none_given line) x h (a, is)
+pushes_stand line es t run x a h is = elim (pushes_runs es _ t run (none_given line) x a h is) [
+  | inl k ↦ inl (k.outgoing, k.stands, k.to_is, k.body_is)
+  | inr k ↦ inr k
+]

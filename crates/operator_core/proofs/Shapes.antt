@@ -34,7 +34,8 @@ use Rattle.operator_core.specs.Charger.{ChargerLine}
 use Rattle.operator_core.specs.Charger as charger
 use Rattle.operator_core.specs.Tick.{TickLine}
 use Rattle.operator_core.specs.Laws.{Comes, Event, out_of, Happens, Stepped, Refused, Served, Unserved, Reported, Unreported, Ticked, Unticked, Restarted}
-use Rattle.operator_core.proofs.FinishedFacts.{AreFinished, one_finished, tick_finished}
+use Rattle.operator_core.proofs.FinishedSteps.{AreFinished}
+use Rattle.operator_core.proofs.FinishedFacts.{one_finished, tick_finished}
 
 -- this event acknowledges the request of that number to that party
 pub record AcknowledgesIt (e : Event) (to : List ℕ) (n : ℕ) : Type 0 where
