@@ -1,8 +1,8 @@
 pub mod Effects
 pub mod Finishing
-pub mod FinishedSteps
 pub mod Endings
 pub mod FinishedFacts
+pub mod FinishedSteps
 pub mod FinishedApart
 pub mod FinishedClaims
 pub mod FinishedKept
@@ -24,6 +24,7 @@ pub mod HeldSearch
 pub mod StartTable
 pub mod ClaimIndex
 pub mod BookRoom
+pub mod TimeRoom
 pub mod RowParts
 pub mod RowChanges
 pub mod OtherClaims
