@@ -8,6 +8,7 @@ pub mod FinishedClaims
 pub mod FinishedKept
 pub mod FinishedSound
 pub mod FinishedSending
+pub mod FinishedLines
 pub mod Shapes
 pub mod Sends
 pub mod Marking
