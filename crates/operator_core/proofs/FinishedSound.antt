@@ -62,7 +62,7 @@ stay_open pending e es once has f i =
     let o = has f (in_later e es f i) in
     (o.0, get-remove_other text_number_total text_number_exact pending (request_of e) (request_of f) (λ same. apart (sym same)) ∙ o.1)
 
-consistent_ends : (spent : Spent) (ends : List Ending) (commands : book.Rows) → AreConsistent commands spent → NamesOnce ends → ((e : Ending) → Contains ends e → HasCommand commands.pending e) →
+pub consistent_ends : (spent : Spent) (ends : List Ending) (commands : book.Rows) → AreConsistent commands spent → NamesOnce ends → ((e : Ending) → Contains ends e → HasCommand commands.pending e) →
     AreConsistent (record { replies = commands.replies; pending = pending_without ends commands.pending; results = results_with ends commands.results }) spent
 consistent_ends spent [] commands fine once has = fine
 consistent_ends spent (e ∷ es) commands fine once has =
