@@ -1,8 +1,8 @@
 pub mod Effects
 pub mod Finishing
-pub mod FinishedSteps
 pub mod Endings
 pub mod FinishedFacts
+pub mod FinishedSteps
 pub mod FinishedApart
 pub mod FinishedClaims
 pub mod FinishedKept
@@ -16,12 +16,16 @@ pub mod Puts
 pub mod Stays
 pub mod Consistency
 pub mod Claiming
+pub mod OneClaim
+pub mod ResendTimes
+pub mod EventConsistency
 pub mod Runs
 pub mod Answered
 pub mod HeldSearch
 pub mod StartTable
 pub mod ClaimIndex
 pub mod BookRoom
+pub mod TimeRoom
 pub mod RowParts
 pub mod RowChanges
 pub mod OtherClaims

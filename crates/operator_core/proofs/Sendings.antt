@@ -46,12 +46,12 @@ none_sent s resend changes = record {
 
 -- a packet that is no push
 pub reply_sent : (s : Rows) (resend : Resend) (changes : List Change) (x : Packet) → (IsPushed x.body → ⊥) → MaySend s resend changes (x ∷ [])
-reply_sent s resend changes x no = record {
+reply_sent s resend changes x unpushed = record {
   sendable = record {
-    stands = λ q i pushed. absurd (no (subst (λ (z : Packet). IsPushed z.body) (sym (in_single x q i)) pushed));
+    stands = λ q i pushed. absurd (unpushed (subst (λ (z : Packet). IsPushed z.body) (sym (in_single x q i)) pushed));
     apart = λ i j d below bound. absurd (omega (arith, below, bound));
   };
-  kept = λ q i pushed. absurd (no (subst (λ (z : Packet). IsPushed z.body) (sym (in_single x q i)) pushed));
+  kept = λ q i pushed. absurd (unpushed (subst (λ (z : Packet). IsPushed z.body) (sym (in_single x q i)) pushed));
 }
 
 abbrev AreOther : Packet → Packet → Type 0
@@ -61,18 +61,18 @@ of_two : (x y q : Packet) → Contains (x ∷ (y ∷ [])) q → (x ≡ q) ⊎ (y
 of_two x y q i = elim (Contains-append_cases (x ∷ []) (y ∷ []) q i) [ inl j ↦ inl (in_single x q j) | inr j ↦ inr (in_single y q j) ]
 
 -- a packet that is no push, and the push of a result that the changes put, and that was not timed before
-module _ (s : Rows) (resend : Resend) (changes : List Change) (x y : Packet) (no : IsPushed x.body → ⊥) where
+module _ (s : Rows) (resend : Resend) (changes : List Change) (x y : Packet) (unpushed : IsPushed x.body → ⊥) where
   pub result_sent : IsTrue (contains_key (changed_all changes s).outbox.pushes y.request) → get resend y.request ≡ None → MaySend s resend changes (x ∷ (y ∷ []))
   result_sent stands untimed = record {
     sendable = record {
       stands = λ q i pushed. elim (of_two x y q i) [
-        | inl is ↦ absurd (no (subst (λ (z : Packet). IsPushed z.body) (sym is) pushed))
+        | inl is ↦ absurd (unpushed (subst (λ (z : Packet). IsPushed z.body) (sym is) pushed))
         | inr is ↦ subst (λ (z : Packet). IsTrue (contains_key (changed_all changes s).outbox.pushes z.request)) is stands
       ];
-      apart = AllPairs-cons AreOther x (y ∷ []) (λ k d bound a. absurd (no a)) (λ i j d below bound. absurd (omega (arith, below, bound)));
+      apart = AllPairs-cons AreOther x (y ∷ []) (λ k d bound a. absurd (unpushed a)) (λ i j d below bound. absurd (omega (arith, below, bound)));
     };
     kept = λ q i pushed. elim (of_two x y q i) [
-      | inl is ↦ absurd (no (subst (λ (z : Packet). IsPushed z.body) (sym is) pushed))
+      | inl is ↦ absurd (unpushed (subst (λ (z : Packet). IsPushed z.body) (sym is) pushed))
       | inr is ↦ inl (subst (λ (z : Packet). get resend z.request ≡ None) is untimed)
     ];
   }

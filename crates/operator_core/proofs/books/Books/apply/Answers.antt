@@ -2,6 +2,9 @@ use Rattle.std.proofs.Common.{suc, ◌≡◌, ◌∷◌, [], List, length, refl,
 use Rattle.std.specs.Vec.Iter.{into_iter_items}
 use Rattle.operator_core.specs.Claimed.{MayChangeAll}
 use Rattle.operator_core.specs.Stored.{AreApart, HasRooms, changed_all}
+use Rattle.operator_core.specs.Moves.{untimed_all}
+use Rattle.operator_core.specs.Sending.{KeepsTimeRoom}
+use Rattle.operator_core.proofs.TimeRoom.{then_keeps}
 use Rattle.operator_core.proofs.books.Books.apply.Goals as goal
 
 nothing_left : {X : Type 0} (l : List X) → length l ≡ 0 → l ≡ []
@@ -26,6 +29,10 @@ loop-change-preserved c =
     let may = (subst (λ l. MayChangeAll at.self.site at.self.rows l) steps at.invariant.may).1 in
     record {
       rows = rw c.carry_out.ensures.rows (sym (ap (λ l. changed_all l at.self.rows) steps) ∙ at.invariant.rows);
+      resend = rw c.carry_out.ensures.resend (sym (ap (λ l. untimed_all l at.self.resend) steps) ∙ at.invariant.resend);
+      moments = λ t keeps. at.invariant.moments t (subst (λ l. KeepsTimeRoom at.self.resend l at.self.moments t) (sym steps)
+        (then_keeps at.self.resend c.in-Some.change (into_iter_items c.next.new.self) at.self.moments c.carry_out.new.self.moments t c.carry_out.ensures.moments
+          (subst (λ z. KeepsTimeRoom z (into_iter_items c.next.new.self) c.carry_out.new.self.moments t) c.carry_out.ensures.resend keeps)));
       site = c.carry_out.ensures.site ∙ at.invariant.site;
       rooms = λ k d e. c.carry_out.ensures.keeps d (apart.0 k d e) (rooms (suc k) d e);
       apart = apart.1;
@@ -43,3 +50,16 @@ returns-clause-rows c =
     let empty : into_iter_items at.change-iterator ≡ [] = nothing_left _ (sym at.invariant.long ∙ c.in-None.ensures.steps.0) in
     let given = c.into_iter-change-iterator.ensures.into_iter_gives.0 in
     rw (← given) (sym (ap (λ l. changed_all l at.self.rows) empty) ∙ at.invariant.rows)
+
+pub returns-clause-resend : goal.returns-clause-resend
+returns-clause-resend c =
+    let at = c.loop-change in
+    let empty : into_iter_items at.change-iterator ≡ [] = nothing_left _ (sym at.invariant.long ∙ c.in-None.ensures.steps.0) in
+    let given = c.into_iter-change-iterator.ensures.into_iter_gives.0 in
+    rw (← given) (sym (ap (λ l. untimed_all l at.self.resend) empty) ∙ at.invariant.resend)
+
+pub returns-clause-moments : goal.returns-clause-moments
+returns-clause-moments c =
+    let at = c.loop-change in
+    let given = c.into_iter-change-iterator.ensures.into_iter_gives.0 in
+    rw (← given) (at.invariant.moments at.self.moments (λ moment n keeps had. had))

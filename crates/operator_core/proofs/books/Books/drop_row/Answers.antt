@@ -5,6 +5,7 @@ use Rattle.operator_core.specs.contracts.books.Books.{the_view}
 use Rattle.operator_core.proofs.BookRoom.{keeps_other, other_spent}
 use Rattle.operator_core.proofs.ClaimIndex.{IsTaken}
 use Rattle.operator_core.proofs.RowParts.{drop_booked_alone, drop_other_alone, drop_unpushed, drop_indexed, drop_by_parts}
+use Rattle.operator_core.proofs.TimeRoom.{drop_keeps_time, drop_untimed}
 use Rattle.operator_core.proofs.books.Books.drop_row.Goals as goal
 
 pub invariant_of-self : goal.invariant_of-self
@@ -35,5 +36,10 @@ returns-in_default c =
       rows = drop_by_parts (the_view s).rows _ k c.uncount-self-inside.ensures c.drop_row-in_default.ensures.rows c.drop_spent.ensures.shown
           (sym (drop_other_alone k (the_view s).rows c.in_default.not-Mark c.in_default.not-Reservation)) (sym (drop_unpushed k (the_view s).rows c.in_default.not-Count c.in_default.not-Push))
           (ap (λ (p : Placed). p.out_of_service) (c.restore.ensures) ∙ ap (λ (p : Placed). restoring k p.out_of_service) (c.release.ensures));
+      resend = drop_untimed k s.outbox.resend c.in_default.not-Push;
+      moments = λ moment n keeps had. had;
       keeps = keeps_other _ _ k c.drop_row-in_default.ensures.keeps (other_spent _ _ k c.drop_spent.ensures.room) (λ r apart had. had) (λ r apart had. had);
     })
+
+pub returns-in-Push-clause-moments : goal.returns-in-Push-clause-moments
+returns-in-Push-clause-moments c = rw (← c.self.view_is, c.drop_row-in-Push.ensures.moments) (drop_keeps_time c.args.key c.self.inside.outbox.resend c.self.inside.outbox.moments)

@@ -10,6 +10,8 @@ loop-change-preserved c =
     record {
       site = c.reserve.ensures.site ∙ c.loop-change.invariant.site;
       rows = c.reserve.ensures.rows ∙ c.loop-change.invariant.rows;
+      resend = c.reserve.ensures.resend ∙ c.loop-change.invariant.resend;
+      moments = c.reserve.ensures.moments ∙ c.loop-change.invariant.moments;
       made = more_rooms c.loop-change.self.rooms c.reserve.new.self.rooms c.args.changes.now c.loop-change.change-index c.change-item.result here c.loop-change.invariant.made c.reserve.ensures.keeps c.in_ok-reserve.ensures.room;
       keeps = λ d had. c.reserve.ensures.keeps d (c.loop-change.invariant.keeps d had);
     }

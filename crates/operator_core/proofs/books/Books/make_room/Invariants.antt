@@ -8,6 +8,8 @@ abbrev pub invariant-loop-change : goal.invariant-loop-change
 invariant-loop-change l = record {
   site : l.self.site ≡ l.initial.self.site;
   rows : l.self.rows ≡ l.initial.self.rows;
+  resend : l.self.resend ≡ l.initial.self.resend;
+  moments : l.self.moments ≡ l.initial.self.moments;
   made : (k : ℕ) → k < l.change-index → (c : Change) → slice_get l.changes k ≡ Some c → HasRoom l.self.rooms c;
   keeps : KeepsRoom l.initial.self.rooms l.self.rooms;
 }
