@@ -12,34 +12,29 @@ use Rattle.operator_core.specs.Charger.{ChargerLine}
 use Rattle.operator_core.specs.Charger as charger
 use Rattle.operator_core.specs.Laws.{Event, out_of, Happens, Stepped, Refused, Served, Unserved, Reported, Unreported, Ticked, Unticked, Restarted}
 use Rattle.operator_core.proofs.Claiming.{none_claimed}
-use Rattle.operator_core.proofs.OneClaim.{one_claim, event_providers}
+use Rattle.operator_core.proofs.OneClaim.{one_claim, event_rows, event_providers}
 use Rattle.operator_core.proofs.Soundness.{sound_empty, step_sound, service_sound}
-use Rattle.operator_core.proofs.FinishedSound.{finished_sound}
-use Rattle.operator_core.proofs.FinishedFacts.{one_finished, tick_finished}
+use Rattle.operator_core.proofs.FinishedLines.{charger_sound, tick_sound}
 use Rattle.operator_core.proofs.ResendTimes.{times_stay}
 
 abbrev Leaves : State → Out → Type 0
 Leaves s out = IsSound s.providers out.state.rows
 
-report_sound : (s : State) (at : ℕ) (report : ChargerEvent) (out : Out) → IsSound s.providers s.rows → ChargerLine s at report out → Leaves s out
-report_sound s at report out fine (charger.Ended e is x) = subst (Leaves s) (sym x) (finished_sound s (e ∷ []) [] [] fine (one_finished s report e is))
-report_sound s at report out fine (charger.Idle none x) = subst (Leaves s) (sym x) fine
-
-event_sound : (s t : State) (e : Event) → Happens s e t → IsSound s.providers s.rows → Leaves s (out_of e t)
-event_sound s t e (Stepped at q comes h) fine = step_sound s at q (out_of e t) fine h
-event_sound s t e (Refused at q comes f due x) fine = subst (Leaves s) (sym x) fine
-event_sound s t e (Served evse works comes h) fine = service_sound s evse works (out_of e t) fine h
-event_sound s t e (Unserved evse works comes x) fine = subst (Leaves s) (sym x) fine
-event_sound s t e (Reported at report comes h) fine = report_sound s at report (out_of e t) fine h.line
-event_sound s t e (Unreported at report comes f due x) fine = subst (Leaves s) (sym x) fine
-event_sound s t e (Ticked at comes h) fine = subst (Leaves s) (sym h.line.out_is) (finished_sound s h.line.ends h.line.expired h.line.due fine (tick_finished s at (out_of e t) h.line))
-event_sound s t e (Unticked at comes f due x) fine = subst (Leaves s) (sym x) fine
-event_sound s t e (Restarted comes x) fine = subst (Leaves s) (sym x) fine
+event_sound : (s t : State) (e : Event) → Happens s e t → IsConsistent s → Leaves s (out_of e t)
+event_sound s t e (Stepped at q comes h) fine = step_sound s at q (out_of e t) fine.sound h
+event_sound s t e (Refused at q comes f due x) fine = subst (Leaves s) (sym x) fine.sound
+event_sound s t e (Served evse works comes h) fine = service_sound s evse works (out_of e t) fine.sound h
+event_sound s t e (Unserved evse works comes x) fine = subst (Leaves s) (sym x) fine.sound
+event_sound s t e (Reported at report comes h) fine = subst (IsSound s.providers) (sym (event_rows s t e (Reported at report comes h))) (charger_sound s at report (out_of e t) fine h)
+event_sound s t e (Unreported at report comes f due x) fine = subst (Leaves s) (sym x) fine.sound
+event_sound s t e (Ticked at comes h) fine = subst (IsSound s.providers) (sym (event_rows s t e (Ticked at comes h))) (tick_sound s at (out_of e t) fine h)
+event_sound s t e (Unticked at comes f due x) fine = subst (Leaves s) (sym x) fine.sound
+event_sound s t e (Restarted comes x) fine = subst (Leaves s) (sym x) fine.sound
 
 pub consistent_stays : (s t : State) (e : Event) → Happens s e t → IsConsistent s → IsConsistent t
 consistent_stays s t e happens h = record {
   one_claim = one_claim s t e happens h.one_claim;
-  sound = subst (λ z. IsSound z t.rows) (sym (event_providers s t e happens)) (event_sound s t e happens h.sound);
+  sound = subst (λ z. IsSound z t.rows) (sym (event_providers s t e happens)) (event_sound s t e happens h);
   timed = times_stay s t e happens h.sound.given h.timed;
 }
 

@@ -15,7 +15,7 @@ use Rattle.operator_core.specs.Charger.{ChargerLine}
 use Rattle.operator_core.specs.Charger as charger
 use Rattle.operator_core.specs.Laws.{Event, out_of, Happens, Stepped, Refused, Served, Unserved, Reported, Unreported, Ticked, Unticked, Restarted}
 use Rattle.operator_core.proofs.Claiming.{changed_all_one, step_may, service_may}
-use Rattle.operator_core.proofs.FinishedClaims.{finished_may}
+use Rattle.operator_core.proofs.FinishedLines.{charger_may, tick_may}
 
 -- what comes out is a step at some moment
 abbrev pub IsStep : State → Out → Type 0
@@ -67,18 +67,14 @@ OneEach s = OneClaimEach s.commands.pending s.booked.reservations
 abbrev MayMake : State → Out → Type 0
 MayMake s out = MayChangeAll s.site s.rows out.changes
 
-report_may : (s : State) (at : ℕ) (report : ChargerEvent) (out : Out) → ChargerLine s at report out → MayMake s out
-report_may s at report out (charger.Ended e is x) = subst (MayMake s) (sym x) (finished_may s.site s.rows (e ∷ []) [] [] s.rows)
-report_may s at report out (charger.Idle none x) = subst (MayMake s) (sym x) tt
-
 event_may : (s t : State) (e : Event) → Happens s e t → OneEach s.rows → MayMake s (out_of e t)
 event_may s t e (Stepped at q comes h) one = step_may s at q (out_of e t) one h
 event_may s t e (Refused at q comes f due x) one = subst (MayMake s) (sym x) tt
 event_may s t e (Served evse works comes h) one = service_may s evse works (out_of e t) h
 event_may s t e (Unserved evse works comes x) one = subst (MayMake s) (sym x) tt
-event_may s t e (Reported at report comes h) one = report_may s at report (out_of e t) h.line
+event_may s t e (Reported at report comes h) one = charger_may s at report (out_of e t) h
 event_may s t e (Unreported at report comes f due x) one = subst (MayMake s) (sym x) tt
-event_may s t e (Ticked at comes h) one = subst (MayMake s) (sym h.line.out_is) (finished_may s.site s.rows h.line.ends h.line.expired h.line.due s.rows)
+event_may s t e (Ticked at comes h) one = tick_may s at (out_of e t) h
 event_may s t e (Unticked at comes f due x) one = subst (MayMake s) (sym x) tt
 event_may s t e (Restarted comes x) one = subst (MayMake s) (sym x) tt
 
