@@ -1,7 +1,6 @@
 -- What is kept of the rows holds on as commands end, reservations expire and pushes are sent again.
 use Rattle.std.proofs.Common.{◌≡◌, ◌≢◌, ◌≤◌, ℕ, ◌+◌, List, [], ◌∷◌, length, inl, inr, sym, ap, subst, ◌∙◌, arith}
 use Rattle.std.specs.Prelude.{Some, Contains}
-use Rattle.std.specs.List.{AllPairs}
 use Rattle.std.specs.FinMap.{get, insert, remove}
 use Rattle.std.proofs.lemmas.List.Elements.{All-contains}
 use Rattle.tables.specs.Keys.{text_number_total, text_number_exact}
@@ -21,7 +20,7 @@ use Rattle.operator_core.specs.Finished.{finished_rows}
 use Rattle.operator_core.specs.Tick.{request_of}
 use Rattle.operator_core.proofs.RowChanges.{in_later}
 use Rattle.operator_core.proofs.Finishing.{Finishes, finishes, pending_without, results_with, pushes_with}
-use Rattle.operator_core.proofs.Endings.{pushes_from}
+use Rattle.operator_core.proofs.Endings.{AreOfDifferent, pushes_from}
 use Rattle.operator_core.proofs.FinishedSteps.{AreFinished}
 
 abbrev HasCommand : book.OpenCommands → Ending → Type 0
@@ -50,18 +49,15 @@ module _ (spent : Spent) (commands : book.Rows) (fine : AreConsistent commands s
     unsettled = λ q c h. get-insert_other text_number_total text_number_exact commands.results k x q (stood q c h).0 ∙ fine.unsettled q c (stood q c h).1;
   }
 
-abbrev NamesOnce : List Ending → Type 0
-NamesOnce ends = AllPairs (λ a b. request_of a ≢ request_of b) ends
-
 -- what is open beside one command stays open when that one ends
-stay_open : (pending : book.OpenCommands) (e : Ending) (es : List Ending) → NamesOnce (e ∷ es) → ((f : Ending) → Contains (e ∷ es) f → HasCommand pending f) → (f : Ending) → Contains es f →
+stay_open : (pending : book.OpenCommands) (e : Ending) (es : List Ending) → AreOfDifferent (e ∷ es) → ((f : Ending) → Contains (e ∷ es) f → HasCommand pending f) → (f : Ending) → Contains es f →
     HasCommand (remove pending (request_of e)) f
 stay_open pending e es once has f i =
     let apart : request_of e ≢ request_of f = All-contains (λ g. request_of e ≢ request_of g) es f (first_pairs (λ a b. request_of a ≢ request_of b) e es once) i in
     let o = has f (in_later e es f i) in
     (o.0, get-remove_other text_number_total text_number_exact pending (request_of e) (request_of f) (λ same. apart (sym same)) ∙ o.1)
 
-pub consistent_ends : (spent : Spent) (ends : List Ending) (commands : book.Rows) → AreConsistent commands spent → NamesOnce ends → ((e : Ending) → Contains ends e → HasCommand commands.pending e) →
+pub consistent_ends : (spent : Spent) (ends : List Ending) (commands : book.Rows) → AreConsistent commands spent → AreOfDifferent ends → ((e : Ending) → Contains ends e → HasCommand commands.pending e) →
     AreConsistent (record { replies = commands.replies; pending = pending_without ends commands.pending; results = results_with ends commands.results }) spent
 consistent_ends spent [] commands fine once has = fine
 consistent_ends spent (e ∷ es) commands fine once has =
