@@ -1,6 +1,7 @@
 -- The laws of an operator, over every list of events.
-use Rattle.std.proofs.Common.{zero, suc, ◌≡◌, ℕ, ◌+◌, ◌≤◌, ◌<◌, List, [], ◌∷◌, ◌++◌, ◌⊎◌, inl, inr, length, refl, sym, ap, subst, ◌∙◌, arith, add-one}
+use Rattle.std.proofs.Common.{zero, suc, ◌≡◌, ◌≢◌, ℕ, ◌+◌, ◌≤◌, ◌<◌, List, [], ◌∷◌, ◌++◌, ◌⊎◌, inl, inr, length, refl, sym, ap, subst, ◌∙◌, arith, add-one}
 use Rattle.std.specs.Prelude.{Some, None, Contains, slice_get}
+use Rattle.std.proofs.Math.Nat.{lt_of_not-le}
 use Rattle.std.specs.FinMap.{get, get-empty}
 use Rattle.std.specs.Ordering.{nat_cmp}
 use Rattle.std.proofs.lemmas.List.Elements.{Contains-append_cases, Contains-append_left, Contains-append_right}
@@ -20,6 +21,7 @@ use Rattle.operator_core.specs.State.{State, opening}
 use Rattle.operator_core.specs.Consistent.{AreGiven}
 use Rattle.operator_core.specs.Laws.{Event, Happens, Run, sent, Came, Comes, Opens, Acknowledged, OneStart, SentRepliesAreKept, RepliesStay, Numbered, RequestsAgree, PushesStand, MarksNeverFall, ReservationsAreNewer}
 use Rattle.tables.proofs.Elements.{in_none}
+use Rattle.tables.proofs.Options.{not_both}
 use Rattle.operator_core.proofs.Shapes.{AcknowledgesIt}
 use Rattle.operator_core.proofs.Endings.{IsPushedTo}
 use Rattle.operator_core.proofs.Sends.{IsSent, Response, Pushed, counts, sends, no_result, no_push}
@@ -200,14 +202,28 @@ later_mark (e ∷ es) s t (u, first, rest) (suc j) f at p id m n has puts =
     let rose = next.2 in
     omega (arith, above, rose)
 
+above_unless : (m n : ℕ) → m ≤ n → m ≢ n → m < n
+above_unless m n above apart = lt_of_not-le (λ back. apart (omega (arith, above, back)))
+
+-- a request that is answered at the start of a run sets no mark in it
+later_apart : (es : List Event) (s t : State) → Run s es t → (j : ℕ) (f : Event) → slice_get es j ≡ Some f → (p id : List ℕ) (m n : ℕ) (r : Reply) → get s.rows.commands.replies (p, m) ≡ Some r → Contains f.changes (Put (row.Mark p id n)) → m ≢ n
+later_apart [] s t run j f at p id m n r has puts = cc
+later_apart (e ∷ es) s t (u, first, rest) zero f at p id m n r has puts = λ equal.
+    let same : e ≡ f = cc in
+    let set = marked s u e first p id n (subst (λ (z : Event). Contains z.changes (Put (row.Mark p id n))) (sym same) puts) in
+    not_both r _ set.new (ap (λ z. get s.rows.commands.replies (p, z)) (sym equal) ∙ has)
+later_apart (e ∷ es) s t (u, first, rest) (suc j) f at p id m n r has puts = later_apart es u t rest j f at p id m n r (replies_stay s u e first (p, m) r has) puts
+
 newer_runs : (es : List Event) (s t : State) → Run s es t → (i j : ℕ) (e f : Event) → slice_get es i ≡ Some e → slice_get es j ≡ Some f → i < j → (p id : List ℕ) (m n : ℕ) →
-    Contains e.changes (Put (row.Mark p id m)) → Contains f.changes (Put (row.Mark p id n)) → m ≤ n
+    Contains e.changes (Put (row.Mark p id m)) → Contains f.changes (Put (row.Mark p id n)) → m < n
 newer_runs [] s t run i j e f at there less p id m n a b = cc
 newer_runs (x ∷ es) s t (u, first, rest) zero zero e f at there less p id m n a b = absurd (omega (arith, less))
 newer_runs (x ∷ es) s t (u, first, rest) zero (suc j) e f at there less p id m n a b =
     let same : x ≡ e = cc in
     let set = marked s u x first p id m (subst (λ (z : Event). Contains z.changes (Put (row.Mark p id m))) (sym same) a) in
-    later_mark es u t rest j f there p id m n set.stands b
+    let above = later_mark es u t rest j f there p id m n set.stands b in
+    let apart = later_apart es u t rest j f there p id m n set.answered.0 set.answered.1 b in
+    above_unless m n above apart
 newer_runs (x ∷ es) s t (u, first, rest) (suc i) zero e f at there less p id m n a b = absurd (omega (arith, less))
 newer_runs (x ∷ es) s t (u, first, rest) (suc i) (suc j) e f at there less p id m n a b = newer_runs es u t rest i j e f at there (omega (arith, less, add-one i, add-one j)) p id m n a b
 

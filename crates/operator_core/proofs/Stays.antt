@@ -29,7 +29,7 @@ use Rattle.operator_core.specs.Consistent.{AreConsistent, AreGiven}
 use Rattle.operator_core.specs.Moves.{Out, told}
 use Rattle.operator_core.specs.Finished.{told_of}
 use Rattle.operator_core.specs.Tick.{request_of}
-use Rattle.operator_core.specs.Steps.{Decides, result_of, reference_of, url_of}
+use Rattle.operator_core.specs.Steps.{Decides, result_of, reference_of, url_of, reply_of}
 use Rattle.operator_core.specs.Laws.{Event, Happens, Opens}
 use Rattle.operator_core.proofs.Effects.{spent_after, spent_with, marks_after, results_after, pushes_after, last_after}
 use Rattle.tables.proofs.Elements.{in_single}
@@ -200,6 +200,9 @@ module _ (s t : State) (e : Event) where
   pub record Marked (p id : List ℕ) (n : ℕ) : Type 0 where
     pub stands : get t.rows.booked.marks (p, id) ≡ Some n
     pub above : (x : ℕ) → get s.rows.booked.marks (p, id) ≡ Some x → x ≤ n
+    -- the request of that number is answered now, and was not before
+    pub new : get s.rows.commands.replies (p, n) ≡ None
+    pub answered : (r : Reply) × (get t.rows.commands.replies (p, n) ≡ Some r)
 
   marked_shape : Shape s e t → (p id : List ℕ) (n : ℕ) → Contains e.changes (Put (row.Mark p id n)) → Marked p id n
   marked_shape (Quiet h) p id n puts = let no = (h.puts (row.Mark p id n) puts).1 in absurd (cc)
@@ -211,6 +214,11 @@ module _ (s t : State) (e : Event) where
       subst (λ z. Marked z id n) m.provider (record {
         stands = set ∙ ap Some m.number;
         above = λ x has. let below = timely x has in let number = m.number in omega (arith, below, number);
+        new = ap (λ z. get s.rows.commands.replies (key h.packet.from, z)) (sym m.number) ∙ h.new;
+        answered =
+            let r = reply_of h.at h.decision in
+            (r, ap (λ (z : book.Replies). get z (key h.packet.from, n)) (decided_leaves s e t h).replies ∙ ap (λ z. get (insert s.rows.commands.replies (key h.packet.from, h.packet.request) r) (key h.packet.from, z)) (sym m.number)
+                ∙ get-insert_same text_number_total text_number_exact s.rows.commands.replies (key h.packet.from, h.packet.request) r);
       })
   marked_shape (Finished h) p id n puts =
       absurd (puts_none (row.Mark p id n) tt s.rows h.ends h.expired h.due (subst (λ l. Contains l (Put (row.Mark p id n))) (ap (λ (z : Out). z.changes) h.out) puts))

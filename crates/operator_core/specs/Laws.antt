@@ -143,8 +143,8 @@ MarksNeverFall = (s t : State) (es : List Event) → Run s es t → (k : List �
 abbrev pub Reserves : Event → List ℕ → List ℕ → ℕ → Type 0
 Reserves e p id n = ((r : Reservation) × Contains e.changes (Put (row.Reservation p id r))) × Contains e.changes (Put (row.Mark p id n))
 
--- a reservation is made only under a number that is at least that of every request about it that was decided before: so one
--- that was cancelled, whether or not it was known, is not made by a request that the cancellation overtook
+-- a reservation is made only under a number above that of every request about it that was decided before: so one that was
+-- cancelled, whether or not it was known, is not made by a request that the cancellation overtook
 abbrev pub ReservationsAreNewer : Type 0
 ReservationsAreNewer = (line : SiteLine) (es : List Event) (t : State) → Run (opening line) es t → (i j : ℕ) (e f : Event) → slice_get es i ≡ Some e → slice_get es j ≡ Some f → i < j →
-    (p id : List ℕ) (m n : ℕ) → Contains e.changes (Put (row.Mark p id m)) → Reserves f p id n → m ≤ n
+    (p id : List ℕ) (m n : ℕ) → Contains e.changes (Put (row.Mark p id m)) → Reserves f p id n → m < n

@@ -59,7 +59,7 @@ pub fn marks_never_fall()
     ensures { MarksNeverFall }
 {}
 
-/// A reservation is made only under a number that is at least that of every request about it that was decided before.
+/// A reservation is made only under a number above that of every request about it that was decided before.
 pub fn reservations_are_newer()
     ensures { ReservationsAreNewer }
 {}
