@@ -1,224 +1,27 @@
 #!/usr/bin/env python3
 """Writes the cases of the program operator_lines, its files stdin and stdout: events at an operator, and what each must give.
 
-Each case is told in short words here and spelled out by this script, which knows the rules apart from the code: what is sent
-and which rows are put or dropped are written beside each event by hand. `python3 tools/operator_cases.py` writes the files.
+Each case is told in short words here and spelled out by `operator_case`, which knows the rules apart from the code: what is sent
+and which rows are put or dropped are written behind each event by hand, and an event behind which nothing stands gives nothing.
+`python3 tools/operator_cases.py` writes the files, and a choice of the cases into bench/. The cases of what charge points report, of time and of new starts are in
+`operator_time_cases`.
 """
-import json
 import pathlib
 
-HERE = pathlib.Path(__file__).resolve().parent.parent / "crates" / "operator_lines"
-OPERATOR = "BE/BEC"
-LINES, WANTED = [], []
+from operator_case import CASES, LINES, OPERATOR, PROVIDERS, WANTED, Case, end, enter, location, moment, refused, text, token, url
+from operator_time_cases import add_time_cases
 
-
-def text(value):
-    return json.dumps(value, separators=(",", ":"), sort_keys=True)
-
-
-def evse(uid):
-    connector = {"format": "SOCKET", "id": "1", "power_type": "AC_3_PHASE", "standard": "IEC_62196_T2"}
-    return {"connectors": [connector], "evse_id": "BE*BEC*" + uid, "uid": uid}
-
-
-def location(name, uids):
-    return {"address": "Korenmarkt 1", "city": "Gent", "country": "BEL", "evses": [evse(uid) for uid in uids], "id": name,
-            "latitude": "51.05421", "longitude": "3.72180"}
-
-
-def moment(clock):
-    return "2025-01-01T%sZ" % clock
-
-
-def token(uid="AA01", party="NL/TNM", valid=True, kind="RFID", whitelist="ALWAYS"):
-    country, name = party.split("/")
-    return {"contract_id": "%s-%s-000001" % (country, name), "country_code": country, "issuer": name,
-            "last_updated": "2025-01-01T09:00:00Z", "party_id": name, "type": kind, "uid": uid, "valid": valid,
-            "whitelist": whitelist}
-
-
-def reference(number, party="NL/TNM"):
-    name = party.replace("/", "")
-    data = b"A" + name.encode() + b"\0\0" + number.to_bytes(8, "big")
-    digits = data.hex()
-    return "-".join([digits[:8], digits[8:12], digits[12:16], digits[16:20], digits[20:]])
-
-
-def url(number, party="NL/TNM"):
-    return "https://node.invalid/%s/%d" % (party, number)
-
-
-# The last command that was sent under each number, so that its rows can be told.
-BODIES = {}
-
-
-class Case:
-    """What has been said so far to one operator: it counts the sender's packets and this operator's rows of counters."""
-
-    def __init__(self, name):
-        self.name = name
-        LINES.append("fresh")
-        self.pushes = {}
-        self.rows = {}
-
-    def hear(self, clock, kind, body, number, party="NL/TNM", to=OPERATOR):
-        packet = {"body": body, "from": party, "kind": kind, "request": number, "serial": 1, "to": to}
-        LINES.append("%s %s" % (moment(clock), text(packet)))
-
-    def command(self, clock, kind, number, party="NL/TNM", **members):
-        body = dict(members, response_url=url(number, party))
-        BODIES[(party, number)] = (kind, body)
-        self.hear(clock, kind, body, number, party)
-
-    def start(self, number, at="10:00:00", party="NL/TNM", uid="AA01", place="LOC1", evse="E1", ref=None, valid=True,
-              connector="1", kind="RFID"):
-        members = {"token": token(uid, party, valid, kind), "location_id": place,
-                   "authorization_reference": reference(number if ref is None else ref, party)}
-        if evse:
-            members.update(evse_uid=evse)
-            if connector:
-                members.update(connector_id=connector)
-        self.command(at, "start_session", number, party, **members)
-
-    def reserve(self, number, name, evse, expiry, at="10:00:00", party="NL/TNM", uid="AA01", place="LOC1", valid=True,
-                owner=None):
-        members = {"token": token(uid, owner or party, valid), "expiry_date": moment(expiry), "reservation_id": name,
-                   "location_id": place}
-        if evse:
-            members.update(evse_uid=evse)
-        self.command(at, "reserve_now", number, party, **members)
-
-    def cancel(self, number, name, at="10:00:00", party="NL/TNM"):
-        self.command(at, "cancel_reservation", number, party, reservation_id=name)
-
-    def stop(self, number, session, at="10:00:00", party="NL/TNM"):
-        self.command(at, "stop_session", number, party, session_id=session)
-
-    def unlock(self, number, at="10:00:00", party="NL/TNM", place="LOC1", evse="E1", connector="1"):
-        self.command(at, "unlock_connector", number, party, location_id=place, evse_uid=evse, connector_id=connector)
-
-    def ack(self, number, at="10:00:00", party="NL/TNM", status=1000):
-        self.hear(at, "ack", {"status_code": status, "timestamp": moment(at)}, number, party)
-
-    def service(self, uid, works):
-        LINES.append(text({"event": "service", "evse_uid": uid, "in_service": works, "node": OPERATOR}))
-
-    # What the operator sends, and the rows that it puts.
-
-    def reply(self, serial, number, answer, at="10:00:00", party="NL/TNM"):
-        if isinstance(answer, int):
-            body = {"status_code": answer, "timestamp": moment(at)}
-        else:
-            body = {"data": {"result": answer, "timeout": 30}, "status_code": 1000, "timestamp": moment(at)}
-        self.body = body
-        self.sent(serial, number, "command_response", body, party)
-
-    def result(self, serial, request, number, word, party="NL/TNM"):
-        body = {"response_url": url(number, party), "result": word}
-        self.pushes[request] = (body, party)
-        self.sent(serial, request, "command_result", body, party)
-
-    def sent(self, serial, request, kind, body, party):
-        packet = {"body": body, "from": OPERATOR, "kind": kind, "request": request, "serial": serial, "to": party}
-        WANTED.append(text(packet))
-
-    def put(self, kind, key, row):
-        self.rows[(kind, key)] = text(row)
-        WANTED.append("put %s %s %s" % (kind, key, text(row)))
-
-    def drop(self, kind, key):
-        del self.rows[(kind, key)]
-        WANTED.append("drop %s %s" % (kind, key))
-
-    def stored(self):
-        """All rows that stand: kind by kind, and each kind by party, and then by number or text."""
-        LINES.append("stored")
-        kinds = ["reply", "pending", "result", "mark", "reservation", "serial", "spent", "service", "request", "push"]
-
-        def place(kind_and_key):
-            kind, key = kind_and_key
-            if kind == "count":
-                return (kinds.index(key), "", 0)
-            if kind in ("reply", "pending", "result"):
-                return (kinds.index(kind), key[:6], int(key[7:]))
-            if kind == "push":
-                return (kinds.index(kind), "", int(key))
-            return (kinds.index(kind), key, 0)
-
-        for kind, key in sorted(self.rows, key=place):
-            WANTED.append("put %s %s %s" % (kind, key, self.rows[(kind, key)]))
-
-    def counted(self, serial, request=None):
-        self.put("count", "serial", {"last": serial})
-        if request is not None:
-            self.put("count", "request", {"last": request})
-
-    def kept(self, number, party="NL/TNM"):
-        self.put("reply", "%s/%d" % (party, number), {"body": self.body, "kind": "command_response"})
-
-    def marked(self, name, number, party="NL/TNM"):
-        self.put("mark", "%s/%s" % (party, name), {"number": number})
-
-    def reserved(self, name, uid, expiry, place="LOC1", user="AA01", party="NL/TNM"):
-        self.put("reservation", "%s/%s" % (party, name), {"evse_uid": uid, "expiry_date": moment(expiry), "location_id": place,
-                                                        "token": token(user, party)})
-
-    def opened(self, number, deadline, uid=None, party="NL/TNM"):
-        kind, body = BODIES[(party, number)]
-        row = {"body": body, "deadline": moment(deadline), "kind": kind}
-        if uid:
-            row.update(evse_uid=uid, connector_id="1")
-        self.put("pending", "%s/%d" % (party, number), row)
-
-    def spent(self, number, party="NL/TNM"):
-        self.put("spent", "%s/%s" % (party, reference(number, party).upper()), {})
-
-    def pushed(self, request):
-        body, party = self.pushes[request]
-        self.put("push", "%d" % request, {"body": body, "kind": "command_result", "to": party})
-
-    def ended(self, request, number, word, party="NL/TNM"):
-        self.pushed(request)
-        self.put("result", "%s/%d" % (party, number), {"result": word})
-
-    # Whole answers.
-
-    def answered(self, serial, number, answer, at="10:00:00", party="NL/TNM"):
-        """A response alone, which is kept."""
-        self.reply(serial, number, answer, at, party)
-        self.counted(serial)
-        self.kept(number, party)
-
-    def repeated(self, serial, number, answer, at="10:00:00", party="NL/TNM"):
-        """A kept response again."""
-        self.reply(serial, number, answer, at, party)
-        self.counted(serial)
-
-    def started(self, serial, number, uid, deadline="10:00:30", used=None, at="10:00:00", party="NL/TNM", ref=None):
-        """ACCEPTED, and the start is open."""
-        self.reply(serial, number, "ACCEPTED", at, party)
-        self.counted(serial)
-        self.kept(number, party)
-        if used:
-            self.drop("reservation", "%s/%s" % (party, used))
-        self.opened(number, deadline, uid, party)
-        self.spent(number if ref is None else ref, party)
-
-    def resulted(self, serial, request, number, word, rows=(), at="10:00:00", party="NL/TNM"):
-        """ACCEPTED, and then that result; `rows` writes the rows between."""
-        self.reply(serial, number, "ACCEPTED", at, party)
-        reply = self.body
-        self.result(serial + 1, request, number, word, party)
-        self.body = reply
-        self.counted(serial + 1, request)
-        self.kept(number, party)
-        for row in rows:
-            row()
-        self.ended(request, number, word, party)
-
-
-def refused(fault):
-    WANTED.append("refused " + fault)
+TOP = pathlib.Path(__file__).resolve().parent.parent
+HERE = TOP / "crates" / "operator_lines"
+BENCH = TOP / "bench"
+# The cases in which each allocation fails once: bench/fail_allocations.sh.
+WITHOUT_MEMORY = [
+    "a START that comes again has the same answer",
+    "a claimed EVSE is occupied for another provider, and for the same one",
+    "a reservation moves to another EVSE, and not to another location",
+    "a connector that was unlocked",
+    "commands that time out by provider and number, reservations that expire, and then pushes that are due",
+]
 
 
 def starts():
@@ -423,14 +226,34 @@ def others():
     c.stored()
 
 
+def taken(names):
+    """The lines of some of the cases, behind the site line, and what they want."""
+    ends = CASES[1:] + [("", len(LINES), len(WANTED))]
+    lines, wanted = LINES[:1], []
+    for (name, line, want), (_, next_line, next_want) in zip(CASES, ends):
+        if name in names:
+            lines += LINES[line:next_line]
+            wanted += WANTED[want:next_want]
+    return lines, wanted
+
+
+def write(file, lines):
+    file.write_text("\n".join(lines) + "\n")
+
+
 def main():
     site = {"currency": "EUR", "locations": [location("LOC1", ["E1", "E2"]), location("LOC2", ["E3"])], "price": 0.25}
-    LINES.append(text({"at": moment("10:00:00"), "party": OPERATOR, "providers": ["NL/TNM", "DE/EMP"], "site": site}))
+    enter(text({"at": moment("10:00:00"), "party": OPERATOR, "providers": PROVIDERS, "site": site}))
     starts()
     reservations()
     others()
-    (HERE / "src" / ".." / "stdin").resolve().write_text("\n".join(LINES) + "\n")
-    (HERE / "stdout").write_text("\n".join(WANTED) + "\n")
+    add_time_cases()
+    end()
+    write(HERE / "stdin", LINES)
+    write(HERE / "stdout", WANTED)
+    lines, wanted = taken(WITHOUT_MEMORY)
+    write(BENCH / "fail_allocations.stdin", lines)
+    write(BENCH / "fail_allocations.stdout", wanted)
     print("%d lines, %d wanted" % (len(LINES), len(WANTED)))
 
 

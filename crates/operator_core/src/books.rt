@@ -151,6 +151,37 @@ fn is_pushed(body: &Body) -> bool
     )
 }
 
+/// Takes the memory that the resend times of packets need which are sent at that moment and are pushes.
+fn reserve_packets(outbox: &mut Outbox, at: Moment, packets: &[Packet]) -> Result<(), AllocError>
+    ensures rows { outbox.new.rows ≡ outbox.old.rows }
+    ensures rooms { outbox.new.rooms ≡ outbox.old.rooms }
+    ensures resend { outbox.new.resend ≡ outbox.old.resend }
+    ensures room { OnOk result (HaveRoomToSend outbox.new.moments at packets.now) }
+    ensures again { HaveRoomToSend outbox.old.moments at packets.now → IsOk result }
+{
+    for packet in packets {
+        if is_pushed(&packet.body) {
+            outbox.reserve_sent(packet.request, at)?;
+        }
+    }
+    Ok(())
+}
+
+/// The packets were sent at that moment: those that are pushes are due again ten seconds later.
+fn packets_sent(outbox: &mut Outbox, at: Moment, packets: &[Packet])
+    requires room { HaveRoomToSend outbox.old.moments at packets.now }
+    requires sendable { AreSendable outbox.old.rows.pushes packets.now }
+    ensures rows { outbox.new.rows ≡ outbox.old.rows }
+    ensures rooms { outbox.new.rooms ≡ outbox.old.rooms }
+    ensures resend { outbox.new.resend ≡ timed_all at packets.now outbox.old.resend }
+{
+    for packet in packets {
+        if is_pushed(&packet.body) {
+            outbox.sent(packet.request, at);
+        }
+    }
+}
+
 /// The number of the last packet once a row is put.
 fn count(serial: Whole, row: &Row) -> Whole
     ensures { result ≡ counted row.now serial }
@@ -417,6 +448,7 @@ impl Books {
     }
 
     /// Puts a row, with the claim that follows from it. It takes no memory.
+    #[tactic(auto, using(crate::proofs::TimeRoom::put_keeps_time))]
     fn put_row(&mut self, row: Row)
         requires room { HasRoomOf self.old.rooms row }
         requires claim { MayPut self.old.site self.old.rows row }
@@ -440,6 +472,7 @@ impl Books {
     }
 
     /// Drops a row, with the claim that followed from it. It takes no memory.
+    #[tactic(auto, using(crate::proofs::TimeRoom::drop_keeps_time))]
     fn drop_row(&mut self, key: RowKey)
         requires { MayChange self.old.site self.old.rows (Change.Drop key) }
         ensures site { self.new.site ≡ self.old.site }
@@ -500,12 +533,7 @@ impl Books {
         ensures room { OnOk result (HaveRoomToSend self.new.moments at packets.now) }
         ensures again { HaveRoomToSend self.old.moments at packets.now → IsOk result }
     {
-        for packet in packets {
-            if is_pushed(&packet.body) {
-                self.outbox.reserve_sent(packet.request, at)?;
-            }
-        }
-        Ok(())
+        reserve_packets(&mut self.outbox, at, packets)
     }
 
     /// The packets were sent at that moment: those that are pushes are due again ten seconds later. It takes no memory.
@@ -516,11 +544,7 @@ impl Books {
         ensures rows { self.new.rows ≡ self.old.rows }
         ensures resend { self.new.resend ≡ timed_all at packets.now self.old.resend }
     {
-        for packet in packets {
-            if is_pushed(&packet.body) {
-                self.outbox.sent(packet.request, at);
-            }
-        }
+        packets_sent(&mut self.outbox, at, packets);
     }
 
     /// The operator starts again: each push is due at once. It takes no memory.

@@ -1,5 +1,6 @@
 //! Hands packets and events to an operator, and writes what each step gives: the packets that are sent, each as its line,
 //! and then the changes of rows, as `put KIND KEY TEXT` or `drop KIND KEY`. A line that is refused gives `refused N Name`.
+//! An empty line ends what a line gives, also where that is nothing.
 //!
 //! The first line of the standard input is a site line. Each other is a moment, a space and a packet; or an event line of an
 //! operator's own (what a charge point reports, `tick`, `service`, `restart`); or the word `fresh`: from there on it is a new
@@ -19,7 +20,7 @@ use ocpi_text::{CiKey, Moment};
 use ocpi_types::{Change, ChargerEvent, Event, EventKind, Field, Packet, Row, RowKey, Word};
 use operator_core::{Operator, OperatorFault, Stepped};
 use std::alloc::{AllocError, Global};
-use std::io::{self, BufWriter, Read, Write};
+use std::io::{self, BufWriter, ErrorKind, Read, Write};
 use std::process::ExitCode;
 use std::str;
 
@@ -53,7 +54,7 @@ fn write_steps(rt: &HostRuntime) -> io::Result<()> {
                 &mut output,
             )?
         }
-        Err(fault) => writeln!(output, "refused {fault}")?,
+        Err(fault) => write_refused(fault, &mut output)?,
     }
     output.flush()
 }
@@ -73,15 +74,9 @@ fn take_lines<W: Write>(
     output: &mut W,
 ) -> io::Result<()> {
     for line in lines.split(|byte| *byte == b'\n') {
-        if line == b"fresh".as_slice() {
-            match open(alloc, site_line) {
-                Ok(fresh) => *operator = fresh,
-                Err(fault) => writeln!(output, "refused {fault}")?,
-            }
-        } else if line == b"stored".as_slice() {
-            write_stored(alloc, operator, output)?;
-        } else if !line.is_empty() {
-            take_line(alloc, operator, line, output)?;
+        if !line.is_empty() {
+            take_line(alloc, operator, site_line, line, output)?;
+            output.write_all(b"\n")?;
         }
     }
     Ok(())
@@ -91,18 +86,39 @@ fn take_lines<W: Write>(
 fn take_line<W: Write>(
     alloc: Global,
     operator: &mut Operator,
+    site_line: &[u8],
     line: &[u8],
     output: &mut W,
 ) -> io::Result<()> {
+    if line == b"stored".as_slice() {
+        return write_stored(alloc, operator, output);
+    }
+    if line == b"fresh".as_slice() {
+        return match open(alloc, site_line) {
+            Ok(fresh) => {
+                *operator = fresh;
+                Ok(())
+            }
+            Err(fault) => write_refused(fault, output),
+        };
+    }
     if line.first() == Some(&b'{') {
         return match read_event(alloc, line) {
             Ok(event) => take_event(alloc, operator, &event, output),
-            Err(fault) => writeln!(output, "refused {fault}"),
+            Err(fault) => write_refused(fault, output),
         };
     }
     match read_line(alloc, line) {
         Ok((at, packet)) => take_packet(alloc, operator, at, &packet, output),
-        Err(fault) => writeln!(output, "refused {fault}"),
+        Err(fault) => write_refused(fault, output),
+    }
+}
+
+/// Writes why a line is refused; where memory ran out, the program ends.
+fn write_refused<W: Write>(fault: JsonFault, output: &mut W) -> io::Result<()> {
+    match fault {
+        JsonFault::Memory => Err(ErrorKind::OutOfMemory.into()),
+        _ => writeln!(output, "refused {fault}"),
     }
 }
 
@@ -152,6 +168,7 @@ fn take_event<W: Write>(
             operator.restart();
             Ok(())
         }
+        EventKind::Refused => Ok(()),
         _ => writeln!(output, "refused {}", OperatorFault::NotForMe),
     }
 }

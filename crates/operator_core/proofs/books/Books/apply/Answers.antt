@@ -31,7 +31,7 @@ loop-change-preserved c =
       rows = rw c.carry_out.ensures.rows (sym (ap (λ l. changed_all l at.self.rows) steps) ∙ at.invariant.rows);
       resend = rw c.carry_out.ensures.resend (sym (ap (λ l. untimed_all l at.self.resend) steps) ∙ at.invariant.resend);
       moments = λ t keeps. at.invariant.moments t (subst (λ l. KeepsTimeRoom at.self.resend l at.self.moments t) (sym steps)
-        (then_keeps at.self.resend c.in-Some.change (into_iter_items c.next.new.self) at.self.moments c.carry_out.new.self.moments t c.carry_out.ensures.moments
+          (then_keeps at.self.resend c.in-Some.change (into_iter_items c.next.new.self) at.self.moments c.carry_out.new.self.moments t c.carry_out.ensures.moments
           (subst (λ z. KeepsTimeRoom z (into_iter_items c.next.new.self) c.carry_out.new.self.moments t) c.carry_out.ensures.resend keeps)));
       site = c.carry_out.ensures.site ∙ at.invariant.site;
       rooms = λ k d e. c.carry_out.ensures.keeps d (apart.0 k d e) (rooms (suc k) d e);

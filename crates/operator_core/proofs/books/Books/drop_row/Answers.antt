@@ -5,7 +5,7 @@ use Rattle.operator_core.specs.contracts.books.Books.{the_view}
 use Rattle.operator_core.proofs.BookRoom.{keeps_other, other_spent}
 use Rattle.operator_core.proofs.ClaimIndex.{IsTaken}
 use Rattle.operator_core.proofs.RowParts.{drop_booked_alone, drop_other_alone, drop_unpushed, drop_indexed, drop_by_parts}
-use Rattle.operator_core.proofs.TimeRoom.{drop_keeps_time, drop_untimed}
+use Rattle.operator_core.proofs.TimeRoom.{drop_untimed}
 use Rattle.operator_core.proofs.books.Books.drop_row.Goals as goal
 
 pub invariant_of-self : goal.invariant_of-self
@@ -40,6 +40,3 @@ returns-in_default c =
       moments = λ moment n keeps had. had;
       keeps = keeps_other _ _ k c.drop_row-in_default.ensures.keeps (other_spent _ _ k c.drop_spent.ensures.room) (λ r apart had. had) (λ r apart had. had);
     })
-
-pub returns-in-Push-clause-moments : goal.returns-in-Push-clause-moments
-returns-in-Push-clause-moments c = rw (← c.self.view_is, c.drop_row-in-Push.ensures.moments) (drop_keeps_time c.args.key c.self.inside.outbox.resend c.self.inside.outbox.moments)

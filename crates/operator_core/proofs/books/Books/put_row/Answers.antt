@@ -6,7 +6,6 @@ use Rattle.operator_core.specs.Stored.{Held}
 use Rattle.operator_core.specs.contracts.books.Books.{the_view}
 use Rattle.operator_core.proofs.ClaimIndex.{IsTaken, taken_of_site}
 use Rattle.operator_core.proofs.RowParts.{put_booked_alone, put_other_alone, put_indexed}
-use Rattle.operator_core.proofs.TimeRoom.{put_keeps_time}
 use Rattle.operator_core.proofs.books.Books.put_row.Goals as goal
 
 pub claim-requires : goal.claim-requires
@@ -37,6 +36,3 @@ invariant_of-self-in_default c =
     put_indexed (the_view s).rows s.places c.self.invariant c.claimed_by-evse_uid.result c.withdraw.new.places.claims (the_view s).site r taken may
     (ap (λ (p : Placed). p.claims) c.withdraw.ensures ∙ ap (λ (p : Placed). p.claims) c.claim.ensures ∙ ap (λ (p : Placed). claimed r p.claims) c.release.ensures)
     c.put_row-in_default.new.self.rows c.put_row-in_default.ensures.rows s.booked.rows (sym (put_other_alone r (the_view s).rows c.in_default.not-Mark c.in_default.not-Reservation))
-
-pub returns-in-Push-clause-moments : goal.returns-in-Push-clause-moments
-returns-in-Push-clause-moments c = rw (← c.self.view_is, c.put_row-in-Push.ensures.moments) (put_keeps_time c.args.row c.self.inside.outbox.resend c.self.inside.outbox.moments)
