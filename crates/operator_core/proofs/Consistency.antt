@@ -23,8 +23,9 @@ use Rattle.operator_core.specs.Steps.{OperatorStep, Decides, reply_of, reference
 use Rattle.operator_core.specs.Service.{ServiceStep}
 use Rattle.operator_core.specs.Laws.{Event, Happens, Stepped, Served, Comes, Serves}
 use Rattle.operator_core.proofs.Effects.{Leaves, results_after, spent_with}
-use Rattle.operator_core.proofs.Shapes.{Shape, Quiet, Repeated, Decided, shape_of}
-use Rattle.operator_core.proofs.Sends.{decided_leaves}
+use Rattle.operator_core.proofs.Shapes.{Shape, Quiet, Repeated, Decided, Finished, shape_of}
+use Rattle.operator_core.proofs.FinishedSound.{consistent_ends}
+use Rattle.operator_core.proofs.Sends.{decided_leaves, finished_leaves}
 use Rattle.operator_core.proofs.Stays.{open_start, not_spent, now_spent, spent_once}
 
 uncarried : (p : List ℕ) (n : ℕ) (reference : List ℕ) → Carries empty p n reference → ⊥
@@ -155,12 +156,12 @@ unplaced s at sender n c decides reference (x, is, names) =
     let no : decision.Opened ≡ decision.Started started.0 started.1 = started.2 in
     cc
 
+same_rows : (a b : book.Rows) (x y : Spent) → a ≡ b → x ≡ y → AreConsistent b y → AreConsistent a x
+same_rows a b x y e f h = subst (λ (z : book.Rows). AreConsistent z x) (sym e) (subst (AreConsistent b) (sym f) h)
+
 module _ (s : State) (at : ℕ) (to sender : List ℕ) (n : ℕ) (c : Command) (t : Rows) (fine : AreConsistent s.rows.commands s.rows.spent) (new : get s.rows.commands.replies (key sender, n) ≡ None) where
   abbrev p : List ℕ
   p = key sender
-
-  same_rows : (a b : book.Rows) (x y : Spent) → a ≡ b → x ≡ y → AreConsistent b y → AreConsistent a x
-  same_rows a b x y e f h = subst (λ (z : book.Rows). AreConsistent z x) (sym e) (subst (AreConsistent b) (sym f) h)
 
   go : (d : Decision) → Leaves at to p n c s.rows d t → Decides s at sender n c d → AreConsistent t.commands t.spent
   go (decision.Refused status) l h =
@@ -191,6 +192,10 @@ consistent_shape s t e (Quiet h) fine = subst (λ (z : book.Rows). AreConsistent
 consistent_shape s t e (Repeated h) fine =
     subst (λ (z : book.Rows). AreConsistent z t.rows.spent) (sym (ap (λ (o : Out). o.state.rows.commands) h.out)) (subst (AreConsistent s.rows.commands) (sym (ap (λ (o : Out). o.state.rows.spent) h.out)) fine)
 consistent_shape s t e (Decided h) fine = go s h.at h.to h.packet.from h.packet.request h.command t.rows fine h.new h.decision (decided_leaves s e t h) h.decides
+consistent_shape s t e (Finished h) fine =
+    let l = finished_leaves s e t h in
+    same_rows t.rows.commands _ t.rows.spent s.rows.spent (λ i. record { replies = l.replies i; pending = l.pending i; results = l.results i }) l.spent
+    (consistent_ends s.rows.spent h.ends s.rows.commands fine h.facts.ends_apart h.facts.opened)
 
 pub consistent : (s t : State) (e : Event) → Happens s e t → AreConsistent s.rows.commands s.rows.spent → AreConsistent t.rows.commands t.rows.spent
 consistent s t e h = consistent_shape s t e (shape_of s t e h)

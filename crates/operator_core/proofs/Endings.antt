@@ -1,10 +1,10 @@
 -- What commands that end leave among results and pushes, and the packets that tell of it.
-use Rattle.std.proofs.Common.{◌≡◌, zero, suc, ℕ, ◌+◌, ◌≤◌, ◌<◌, List, [], ◌∷◌, ◌++◌, ◌⊎◌, inl, inr, length, refl, sym, ap, subst, ◌∙◌, arith, add-one}
+use Rattle.std.proofs.Common.{◌≡◌, zero, suc, ℕ, ◌+◌, ◌≤◌, ◌<◌, List, [], ◌∷◌, ◌⊎◌, inl, inr, length, refl, sym, ap, subst, ◌∙◌, arith, add-one}
 use Rattle.std.specs.Prelude.{◌≢◌, Option, Some, None, Contains, slice_get}
 use Rattle.std.specs.List.{AllPairs}
 use Rattle.std.specs.Cmp.{nat_cmp_total}
 use Rattle.std.specs.FinMap.{get, insert, nat_cmp-IsAntisymmetric}
-use Rattle.std.proofs.lemmas.List.Elements.{All-contains, Contains-append_cases, Contains-append_right}
+use Rattle.std.proofs.lemmas.List.Elements.{All-contains, Contains-append_cases}
 use Rattle.tables.specs.Keys.{text_number_total, text_number_exact}
 use Rattle.tables.proofs.Elements.{in_none, in_single, in_front, first_pairs, later_pairs}
 use Rattle.tables.proofs.Maps.{of_insert, get-insert_same, get-insert_other}
@@ -12,20 +12,14 @@ use Rattle.ocpi_types.specs.Stored.{body_of_push}
 use Rattle.ocpi_types.specs.declared.packet.Packet.{Packet}
 use Rattle.ocpi_types.specs.declared.packet.Body.{Body}
 use Rattle.ocpi_types.specs.declared.stored.Push.TheVariants as push
-use Rattle.ocpi_types.specs.declared.words.CommandResultType.{CommandResultType}
 use Rattle.command_book.specs.Stored as book
 use Rattle.handover.specs.Pushes.{Pushes}
 use Rattle.handover.specs.declared.push_book.Outgoing.{Outgoing}
 use Rattle.operator_core.specs.declared.ending.Ending.{Ending}
 use Rattle.operator_core.specs.Finished.{Message, numbered, told_of, end_message, ends_messages, push_messages, resent_messages}
 use Rattle.operator_core.specs.Tick.{request_of}
+use Rattle.operator_core.proofs.RowChanges.{of_cons, in_later}
 use Rattle.operator_core.proofs.Finishing.{results_with, pushes_with}
-
-pub first_or_later : {X : Type 0} (x : X) (xs : List X) (y : X) → Contains (x ∷ xs) y → (x ≡ y) ⊎ Contains xs y
-first_or_later x xs y h = elim (Contains-append_cases (x ∷ []) xs y h) [ inl i ↦ inl (in_single x y i) | inr i ↦ inr i ]
-
-pub later : {X : Type 0} (x : X) (xs : List X) (y : X) → Contains xs y → Contains (x ∷ xs) y
-later x xs y h = Contains-append_right (x ∷ []) xs y h
 
 -- no two endings are of one command
 abbrev pub AreOfDifferent : List Ending → Type 0
@@ -38,12 +32,12 @@ EndsNot es k = (e : Ending) → Contains es e → request_of e ≡ k → ⊥
 pub results_keep : (es : List Ending) (m : book.Results) (k : book.Request) → EndsNot es k → get (results_with es m) k ≡ get m k
 results_keep [] m k apart = refl
 results_keep (e ∷ es) m k apart =
-    results_keep es (insert m (request_of e) e.result) k (λ x i. apart x (later e es x i)) ∙ get-insert_other text_number_total text_number_exact m (request_of e) e.result k (λ same. apart e (in_front e es) (sym same))
+    results_keep es (insert m (request_of e) e.result) k (λ x i. apart x (in_later e es x i)) ∙ get-insert_other text_number_total text_number_exact m (request_of e) e.result k (λ same. apart e (in_front e es) (sym same))
 
 -- each command that ended has the result of its ending
 pub results_hold : (es : List Ending) (m : book.Results) → AreOfDifferent es → (e : Ending) → Contains es e → get (results_with es m) (request_of e) ≡ Some e.result
 results_hold [] m apart e h = absurd (in_none e h)
-results_hold (x ∷ es) m apart e h = elim (first_or_later x es e h) [
+results_hold (x ∷ es) m apart e h = elim (of_cons x es e h) [
   | inl same ↦ subst (λ z. get (results_with (x ∷ es) m) (request_of z) ≡ Some z.result) same
       (results_keep es (insert m (request_of x) x.result) (request_of x) (λ y i is. All-contains (λ b. request_of x ≢ request_of b) es y (first_pairs (λ a b. request_of a ≢ request_of b) x es apart) i (sym is))
       ∙ get-insert_same text_number_total text_number_exact m (request_of x) x.result)
@@ -77,11 +71,11 @@ pushes_from pending last (e ∷ es) m n o has = elim (pushes_from pending (last 
     | inl i ↦ inr (let same = i.0 in record { ending = e; within = in_front e es; is = i.1; above = omega (arith, same); below = omega (arith, same) })
     | inr i ↦ inl i
   ]
-  | inr h ↦ inr (let low = h.above in let high = h.below in record { ending = h.ending; within = later e es h.ending h.within; is = h.is; above = omega (arith, low); below = omega (arith, high) })
+  | inr h ↦ inr (let low = h.above in let high = h.below in record { ending = h.ending; within = in_later e es h.ending h.within; is = h.is; above = omega (arith, low); below = omega (arith, high) })
 ]
 
 -- a push of that number stands, of that body and to that party
-pub record IsPushed (m : Pushes) (to : List ℕ) (n : ℕ) (b : Body) : Type 0 where
+pub record IsPushedTo (m : Pushes) (to : List ℕ) (n : ℕ) (b : Body) : Type 0 where
   pub outgoing : Outgoing
   pub stands : get m n ≡ Some outgoing
   pub to_is : outgoing.to ≡ to
@@ -89,29 +83,29 @@ pub record IsPushed (m : Pushes) (to : List ℕ) (n : ℕ) (b : Body) : Type 0 w
 
 -- what is told of endings is pushed
 pub ends_pushed : (pending : book.OpenCommands) (last : ℕ) (es : List Ending) (m : Pushes) (x : Message) → Contains (ends_messages pending last es) x →
-    IsPushed (pushes_with pending last es m) x.to x.request x.body
+    IsPushedTo (pushes_with pending last es m) x.to x.request x.body
 ends_pushed pending last [] m x h = absurd (in_none x h)
-ends_pushed pending last (e ∷ es) m x h = elim (first_or_later (end_message pending (last + 1) e) (ends_messages pending (last + 1) es) x h) [
-  | inl same ↦ subst (λ (z : Message). IsPushed (pushes_with pending last (e ∷ es) m) z.to z.request z.body) same (record {
-      outgoing = push_of pending e;
-      stands = pushes_keep pending (last + 1) es (insert m (last + 1) (push_of pending e)) (last + 1) (push_of pending e) (omega arith) (get-insert_same nat_cmp_total nat_cmp-IsAntisymmetric m (last + 1) (push_of pending e));
-      to_is = refl;
-      body_is = refl;
-    })
+ends_pushed pending last (e ∷ es) m x h = elim (of_cons (end_message pending (last + 1) e) (ends_messages pending (last + 1) es) x h) [
+  | inl same ↦ subst (λ (z : Message). IsPushedTo (pushes_with pending last (e ∷ es) m) z.to z.request z.body) same (record {
+    outgoing = push_of pending e;
+    stands = pushes_keep pending (last + 1) es (insert m (last + 1) (push_of pending e)) (last + 1) (push_of pending e) (omega arith) (get-insert_same nat_cmp_total nat_cmp-IsAntisymmetric m (last + 1) (push_of pending e));
+    to_is = refl;
+    body_is = refl;
+  })
   | inr i ↦ ends_pushed pending (last + 1) es (insert m (last + 1) (push_of pending e)) x i
 ]
 
 -- what is sent again was pushed before
-pub resent_pushed : (m : Pushes) (due : List ℕ) (x : Message) → Contains (resent_messages m due) x → IsPushed m x.to x.request x.body
+pub resent_pushed : (m : Pushes) (due : List ℕ) (x : Message) → Contains (resent_messages m due) x → IsPushedTo m x.to x.request x.body
 resent_pushed m [] x h = absurd (in_none x h)
 resent_pushed m (n ∷ ns) x h = elim (Contains-append_cases (push_messages n (get m n)) (resent_messages m ns) x h) [
   | inl i ↦ go (get m n) refl i
   | inr i ↦ resent_pushed m ns x i
 ]
   where
-    go : (o : Option Outgoing) → get m n ≡ o → Contains (push_messages n o) x → IsPushed m x.to x.request x.body
+    go : (o : Option Outgoing) → get m n ≡ o → Contains (push_messages n o) x → IsPushedTo m x.to x.request x.body
     go None e i = absurd (in_none x i)
-    go (Some o) e i = subst (λ (z : Message). IsPushed m z.to z.request z.body) (in_single _ x i) (record { outgoing = o; stands = e; to_is = refl; body_is = refl })
+    go (Some o) e i = subst (λ (z : Message). IsPushedTo m z.to z.request z.body) (in_single _ x i) (record { outgoing = o; stands = e; to_is = refl; body_is = refl })
 
 pub numbered_length : (party : List ℕ) (serial : ℕ) (ms : List Message) → length (numbered party serial ms) ≡ length ms
 numbered_length party serial [] = refl
@@ -133,7 +127,7 @@ pub record Carries (ms : List Message) (x : Packet) : Type 0 where
 
 pub numbered_carries : (party : List ℕ) (serial : ℕ) (ms : List Message) (x : Packet) → Contains (numbered party serial ms) x → Carries ms x
 numbered_carries party serial [] x h = absurd (in_none x h)
-numbered_carries party serial (m ∷ ms) x h = elim (first_or_later _ (numbered party (serial + 1) ms) x h) [
+numbered_carries party serial (m ∷ ms) x h = elim (of_cons _ (numbered party (serial + 1) ms) x h) [
   | inl same ↦ record { message = m; within = in_front m ms; to_is = ap (λ (z : Packet). z.to) same; request_is = ap (λ (z : Packet). z.request) same; body_is = ap (λ (z : Packet). z.body) same }
-  | inr i ↦ let c = numbered_carries party (serial + 1) ms x i in record { message = c.message; within = later m ms c.message c.within; to_is = c.to_is; request_is = c.request_is; body_is = c.body_is }
+  | inr i ↦ let c = numbered_carries party (serial + 1) ms x i in record { message = c.message; within = in_later m ms c.message c.within; to_is = c.to_is; request_is = c.request_is; body_is = c.body_is }
 ]

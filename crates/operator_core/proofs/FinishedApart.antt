@@ -23,6 +23,7 @@ use Rattle.operator_core.specs.Tick.{request_of}
 use Rattle.operator_core.proofs.RowChanges.{of_cons, in_later}
 use Rattle.operator_core.proofs.Apart.{apart}
 use Rattle.operator_core.proofs.Finishing.{serials, requests}
+use Rattle.operator_core.proofs.Endings.{AreOfDifferent}
 use Rattle.operator_core.proofs.FinishedSteps.{AreFinished, reservation_of}
 
 -- the row is one of an end: the command, the push of its result, or the result
@@ -144,10 +145,7 @@ module _ (last : ℕ) (e : Ending) (es : List Ending) (others : (f : Ending) →
     | inr (inr same) ↦ subst (λ (z : Change). k ≢ change_key z) same (ended_apart k of)
   ]
 
-abbrev NamesOnce : List Ending → Type 0
-NamesOnce ends = AllPairs (λ a b. request_of a ≢ request_of b) ends
-
-ends_apart : (m : book.OpenCommands) (last : ℕ) (ends : List Ending) → NamesOnce ends → AreApart (ends_rows m last ends)
+ends_apart : (m : book.OpenCommands) (last : ℕ) (ends : List Ending) → AreOfDifferent ends → AreApart (ends_rows m last ends)
 ends_apart m last [] once = tt
 ends_apart m last (e ∷ es) once =
     apart_joined (end_rows m (last + 1) e) (ends_rows m (last + 1) es) (apart (end_rows m (last + 1) e) refl) (ends_apart m (last + 1) es (later_pairs (λ a b. request_of a ≢ request_of b) e es once))

@@ -2,18 +2,15 @@
 use Rattle.std.proofs.Common.{◌≡◌, ◌≢◌, ◌<◌, ◌≤◌, ℕ, ◌+◌, List, [], ◌∷◌, inl, inr, refl, sym, ap, subst, ◌∙◌, arith}
 use Rattle.std.specs.Prelude.{Option, Some, None, is_some, Contains, IsTrue}
 use Rattle.std.specs.List.{AllPairs}
-use Rattle.std.specs.Cmp.{nat_cmp_total}
-use Rattle.std.specs.FinMap.{nat_cmp-IsAntisymmetric, get, insert, contains_key}
+use Rattle.std.specs.FinMap.{get, contains_key}
 use Rattle.std.proofs.lemmas.List.Elements.{Contains-append_cases, All-contains}
 use Rattle.std.proofs.lemmas.List.Kept.{AllPairs-cons}
 use Rattle.tables.proofs.Elements.{in_none, in_front, in_single, all_of, no_pairs, first_pairs, later_pairs, joined}
-use Rattle.tables.proofs.Maps.{get-insert_same, get-insert_other, told}
 use Rattle.tables.proofs.Options.{known, none_contained, none_else}
 use Rattle.ocpi_types.specs.Stored.{body_of_push}
 use Rattle.ocpi_types.specs.declared.packet.Packet.{Packet}
 use Rattle.ocpi_types.specs.declared.rows.RowKey.{RowKey}
 use Rattle.ocpi_types.specs.declared.rows.RowKey.TheVariants as keys
-use Rattle.ocpi_types.specs.declared.stored.Push.TheVariants as push
 use Rattle.command_book.specs.Stored as book
 use Rattle.handover.specs.Pushes.{Pushes}
 use Rattle.handover.specs.declared.push_book.Outgoing.{Outgoing}
@@ -24,19 +21,12 @@ use Rattle.operator_core.specs.Consistent.{IsConsistent}
 use Rattle.operator_core.specs.Rows.{change_key}
 use Rattle.operator_core.specs.Sending.{IsPushed, KeepsTime, MaySend}
 use Rattle.operator_core.specs.Stored.{changed_all}
-use Rattle.operator_core.specs.Finished.{Message, numbered, end_message, ends_messages, push_messages, resent_messages, finished_messages, finished_rows, told_of}
+use Rattle.operator_core.specs.Finished.{Message, numbered, end_message, ends_messages, push_messages, resent_messages, finished_messages, finished_rows}
 use Rattle.operator_core.proofs.RowChanges.{of_cons, in_later}
 use Rattle.operator_core.proofs.Finishing.{finishes, pushes_with}
+use Rattle.operator_core.proofs.Endings.{pushes_keep, ends_pushed, resent_pushed, numbered_carries}
 use Rattle.operator_core.proofs.FinishedApart.{Opened, Pushed, Ended, IsOfFinish, OfEnd, OfExpiry, OfCounter, of_finish}
 use Rattle.operator_core.proofs.FinishedSteps.{AreFinished}
-
--- a packet carries one of the messages
-pub of_numbered : (party : List ℕ) (serial : ℕ) (ms : List Message) (q : Packet) → Contains (numbered party serial ms) q → (m : Message) × Contains ms m × (q.request ≡ m.request)
-of_numbered party serial [] q h = absurd (in_none q h)
-of_numbered party serial (m ∷ ms) q h = elim (of_cons (record { from = party; to = m.to; serial = serial + 1; request = m.request; body = m.body }) (numbered party (serial + 1) ms) q h) [
-  | inl same ↦ (m, in_front m ms, ap (λ (z : Packet). z.request) (sym same))
-  | inr i ↦ let later = of_numbered party (serial + 1) ms q i in (later.0, in_later m ms later.0 later.1, later.2)
-]
 
 abbrev OtherMessages : Message → Message → Type 0
 OtherMessages a b = a.request ≢ b.request
@@ -49,8 +39,8 @@ packets_apart party serial [] h = no_pairs OtherPackets
 packets_apart party serial (m ∷ ms) h =
     AllPairs-cons OtherPackets (record { from = party; to = m.to; serial = serial + 1; request = m.request; body = m.body }) (numbered party (serial + 1) ms)
     (all_of (OtherPackets (record { from = party; to = m.to; serial = serial + 1; request = m.request; body = m.body })) (numbered party (serial + 1) ms) (λ q i a b same.
-    let later = of_numbered party (serial + 1) ms q i in
-    All-contains (OtherMessages m) ms later.0 (first_pairs OtherMessages m ms h) later.1 (same ∙ later.2)))
+    let c = numbered_carries party (serial + 1) ms q i in
+    All-contains (OtherMessages m) ms c.message (first_pairs OtherMessages m ms h) c.within (same ∙ sym c.request_is)))
     (packets_apart party (serial + 1) ms (later_pairs OtherMessages m ms h))
 
 -- messages of ends have numbers above the last
@@ -93,29 +83,6 @@ resent_differ pushes (n ∷ ns) h =
     let below : n < b.request = All-contains (λ x. n < x) ns b.request (first_pairs (λ x y. x < y) n ns h) (of_resent pushes ns b j) in
     omega (arith, below, same, of_push n (get pushes n) a i))
 
--- the pushes after the ends: those before stand, and each that is sent
-stays : (m : Pushes) (k : ℕ) (x : Outgoing) (n : ℕ) → IsTrue (contains_key m n) → IsTrue (contains_key (insert m k x) n)
-stays m k x n has = elim (told nat_cmp_total nat_cmp-IsAntisymmetric n k) [
-  | inl same ↦ ap is_some (ap (get (insert m k x)) same ∙ get-insert_same nat_cmp_total nat_cmp-IsAntisymmetric m k x)
-  | inr apart ↦ ap is_some (get-insert_other nat_cmp_total nat_cmp-IsAntisymmetric m k x n apart) ∙ has
-]
-
-pub pushes_stay : (pending : book.OpenCommands) (last : ℕ) (ends : List Ending) (m : Pushes) (n : ℕ) → IsTrue (contains_key m n) → IsTrue (contains_key (pushes_with pending last ends m) n)
-pushes_stay pending last [] m n has = has
-pushes_stay pending last (e ∷ es) m n has =
-    let one : Outgoing = record { to = e.to; push = push.CommandResult (told_of pending e) } in
-    pushes_stay pending (last + 1) es (insert m (last + 1) one) n (stays m (last + 1) one n has)
-
-new_stand : (pending : book.OpenCommands) (last : ℕ) (ends : List Ending) (m : Pushes) (x : Message) → Contains (ends_messages pending last ends) x → IsTrue (contains_key (pushes_with pending last ends m) x.request)
-new_stand pending last [] m x h = absurd (in_none x h)
-new_stand pending last (e ∷ es) m x h =
-    let one : Outgoing = record { to = e.to; push = push.CommandResult (told_of pending e) } in
-    elim (of_cons (end_message pending (last + 1) e) (ends_messages pending (last + 1) es) x h) [
-      | inl same ↦ subst (λ (z : Message). IsTrue (contains_key (pushes_with pending last (e ∷ es) m) z.request)) same
-          (pushes_stay pending (last + 1) es (insert m (last + 1) one) (last + 1) (ap is_some (get-insert_same nat_cmp_total nat_cmp-IsAntisymmetric m (last + 1) one)))
-      | inr i ↦ new_stand pending (last + 1) es (insert m (last + 1) one) x i
-    ]
-
 -- no row of a finish is that of a push that was there
 untouched : (last : ℕ) (ends : List Ending) (expired : List Standing) (n : ℕ) (k : RowKey) → n ≤ last → IsOfFinish last ends expired k → k ≢ keys.Push n
 untouched last ends expired n k old (OfEnd (Opened e i x)) same = absurd (cc)
@@ -149,16 +116,20 @@ module _ (s : State) (ends : List Ending) (expired : List Standing) (due : List 
   now = changed_all (finished_rows s.rows ends expired due) s.rows
 
   old_given : (m : Message) → Contains old_messages m → m.request ≤ s.rows.outbox.last
-  old_given m i = given m.request (h.pushed m.request (of_resent s.rows.outbox.pushes due m i))
+  old_given m i = let p = resent_pushed s.rows.outbox.pushes due m i in fine.sound.given m.request p.outgoing p.stands
 
   messages_differ : AllPairs OtherMessages (finished_messages s.rows ends due)
   messages_differ = joined OtherMessages new_messages old_messages (ends_differ s.rows.commands.pending s.rows.outbox.last ends) (resent_differ s.rows.outbox.pushes due h.ascending)
       (λ a b i j same. omega (arith, above s.rows.commands.pending s.rows.outbox.last ends a i, old_given b j, same))
 
+  old_stands : (m : Message) → Contains old_messages m → IsTrue (contains_key (pushes_with s.rows.commands.pending s.rows.outbox.last ends s.rows.outbox.pushes) m.request)
+  old_stands m i = let p = resent_pushed s.rows.outbox.pushes due m i in
+      ap is_some (pushes_keep s.rows.commands.pending s.rows.outbox.last ends s.rows.outbox.pushes m.request p.outgoing (old_given m i) p.stands)
+
   message_stands : (m : Message) → Contains (finished_messages s.rows ends due) m → IsTrue (contains_key now.outbox.pushes m.request)
   message_stands m i = subst (λ z. IsTrue (contains_key z m.request)) (sym (finishes s.rows ends expired due).pushes) (elim (Contains-append_cases new_messages old_messages m i) [
-    | inl j ↦ new_stand s.rows.commands.pending s.rows.outbox.last ends s.rows.outbox.pushes m j
-    | inr j ↦ pushes_stay s.rows.commands.pending s.rows.outbox.last ends s.rows.outbox.pushes m.request (h.pushed m.request (of_resent s.rows.outbox.pushes due m j))
+    | inl j ↦ ap is_some (ends_pushed s.rows.commands.pending s.rows.outbox.last ends s.rows.outbox.pushes m j).stands
+    | inr j ↦ old_stands m j
   ])
 
   message_kept : (m : Message) → Contains (finished_messages s.rows ends due) m → KeepsTime s.resend (finished_rows s.rows ends expired due) m.request
@@ -171,10 +142,10 @@ module _ (s : State) (ends : List Ending) (expired : List Standing) (due : List 
   pub finished_sendings : MaySend s.rows s.resend (finished_rows s.rows ends expired due) packets
   finished_sendings = record {
     sendable = record {
-      stands = λ q i pushed. let m = of_numbered s.party s.rows.serial (finished_messages s.rows ends due) q i in
-          subst (λ z. IsTrue (contains_key now.outbox.pushes z)) (sym m.2) (message_stands m.0 m.1);
+      stands = λ q i pushed. let c = numbered_carries s.party s.rows.serial (finished_messages s.rows ends due) q i in
+          subst (λ z. IsTrue (contains_key now.outbox.pushes z)) c.request_is (message_stands c.message c.within);
       apart = packets_apart s.party s.rows.serial (finished_messages s.rows ends due) messages_differ;
     };
-    kept = λ q i pushed. let m = of_numbered s.party s.rows.serial (finished_messages s.rows ends due) q i in
-        subst (KeepsTime s.resend (finished_rows s.rows ends expired due)) (sym m.2) (message_kept m.0 m.1);
+    kept = λ q i pushed. let c = numbered_carries s.party s.rows.serial (finished_messages s.rows ends due) q i in
+        subst (KeepsTime s.resend (finished_rows s.rows ends expired due)) c.request_is (message_kept c.message c.within);
   }

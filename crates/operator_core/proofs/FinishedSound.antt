@@ -1,15 +1,12 @@
 -- What is kept of the rows holds on as commands end, reservations expire and pushes are sent again.
 use Rattle.std.proofs.Common.{◌≡◌, ◌≢◌, ◌≤◌, ℕ, ◌+◌, List, [], ◌∷◌, length, inl, inr, sym, ap, subst, ◌∙◌, arith}
 use Rattle.std.specs.Prelude.{Some, Contains}
-use Rattle.std.specs.List.{AllPairs}
-use Rattle.std.specs.Cmp.{nat_cmp_total}
-use Rattle.std.specs.FinMap.{nat_cmp-IsAntisymmetric, get, insert, remove}
+use Rattle.std.specs.FinMap.{get, insert, remove}
 use Rattle.std.proofs.lemmas.List.Elements.{All-contains}
 use Rattle.tables.specs.Keys.{text_number_total, text_number_exact}
 use Rattle.tables.proofs.Elements.{in_front, first_pairs, later_pairs}
 use Rattle.tables.proofs.Maps.{of_insert, of_remove, get-insert_other, get-remove_other}
 use Rattle.ocpi_types.specs.declared.stored.OpenCommand.{OpenCommand}
-use Rattle.ocpi_types.specs.declared.stored.Push.TheVariants as push
 use Rattle.ocpi_types.specs.declared.words.CommandResultType.{CommandResultType}
 use Rattle.command_book.specs.Stored as book
 use Rattle.handover.specs.Pushes.{Pushes}
@@ -19,10 +16,11 @@ use Rattle.operator_core.specs.declared.ending.Ending.{Ending}
 use Rattle.operator_core.specs.State.{State, Rows, Spent}
 use Rattle.operator_core.specs.Consistent.{AreConsistent, AreOfProviders, AreGiven, IsSound, Carries}
 use Rattle.operator_core.specs.Stored.{changed_all}
-use Rattle.operator_core.specs.Finished.{finished_rows, told_of}
+use Rattle.operator_core.specs.Finished.{finished_rows}
 use Rattle.operator_core.specs.Tick.{request_of}
 use Rattle.operator_core.proofs.RowChanges.{in_later}
 use Rattle.operator_core.proofs.Finishing.{Finishes, finishes, pending_without, results_with, pushes_with}
+use Rattle.operator_core.proofs.Endings.{AreOfDifferent, pushes_from}
 use Rattle.operator_core.proofs.FinishedSteps.{AreFinished}
 
 abbrev HasCommand : book.OpenCommands → Ending → Type 0
@@ -51,18 +49,15 @@ module _ (spent : Spent) (commands : book.Rows) (fine : AreConsistent commands s
     unsettled = λ q c h. get-insert_other text_number_total text_number_exact commands.results k x q (stood q c h).0 ∙ fine.unsettled q c (stood q c h).1;
   }
 
-abbrev NamesOnce : List Ending → Type 0
-NamesOnce ends = AllPairs (λ a b. request_of a ≢ request_of b) ends
-
 -- what is open beside one command stays open when that one ends
-stay_open : (pending : book.OpenCommands) (e : Ending) (es : List Ending) → NamesOnce (e ∷ es) → ((f : Ending) → Contains (e ∷ es) f → HasCommand pending f) → (f : Ending) → Contains es f →
+stay_open : (pending : book.OpenCommands) (e : Ending) (es : List Ending) → AreOfDifferent (e ∷ es) → ((f : Ending) → Contains (e ∷ es) f → HasCommand pending f) → (f : Ending) → Contains es f →
     HasCommand (remove pending (request_of e)) f
 stay_open pending e es once has f i =
     let apart : request_of e ≢ request_of f = All-contains (λ g. request_of e ≢ request_of g) es f (first_pairs (λ a b. request_of a ≢ request_of b) e es once) i in
     let o = has f (in_later e es f i) in
     (o.0, get-remove_other text_number_total text_number_exact pending (request_of e) (request_of f) (λ same. apart (sym same)) ∙ o.1)
 
-consistent_ends : (spent : Spent) (ends : List Ending) (commands : book.Rows) → AreConsistent commands spent → NamesOnce ends → ((e : Ending) → Contains ends e → HasCommand commands.pending e) →
+pub consistent_ends : (spent : Spent) (ends : List Ending) (commands : book.Rows) → AreConsistent commands spent → AreOfDifferent ends → ((e : Ending) → Contains ends e → HasCommand commands.pending e) →
     AreConsistent (record { replies = commands.replies; pending = pending_without ends commands.pending; results = results_with ends commands.results }) spent
 consistent_ends spent [] commands fine once has = fine
 consistent_ends spent (e ∷ es) commands fine once has =
@@ -80,19 +75,12 @@ of_providers_ends providers (e ∷ es) pending h =
 abbrev AreUpTo : ℕ → Pushes → Type 0
 AreUpTo last m = (n : ℕ) (o : Outgoing) → get m n ≡ Some o → n ≤ last
 
-given_next : (last : ℕ) (m : Pushes) (x : Outgoing) → AreUpTo last m → AreUpTo (last + 1) (insert m (last + 1) x)
-given_next last m x h n o has = elim (of_insert nat_cmp_total nat_cmp-IsAntisymmetric m (last + 1) x n o has) [
-  | inl i ↦ omega (arith, i.0)
-  | inr i ↦ omega (arith, h n o i)
+-- each push that is new has a number after the last
+given_ends : (pending : book.OpenCommands) (last : ℕ) (ends : List Ending) (m : Pushes) → AreUpTo last m → AreUpTo (last + length ends) (pushes_with pending last ends m)
+given_ends pending last ends m h n o has = elim (pushes_from pending last ends m n o has) [
+  | inl i ↦ omega (arith, h n o i)
+  | inr new ↦ new.below
 ]
-
--- each push that is new has the next number
-pub given_ends : (pending : book.OpenCommands) (last : ℕ) (ends : List Ending) (m : Pushes) → AreUpTo last m → AreUpTo (last + length ends) (pushes_with pending last ends m)
-given_ends pending last [] m h n o has = omega (arith, h n o has)
-given_ends pending last (e ∷ es) m h n o has =
-    let one : Outgoing = record { to = e.to; push = push.CommandResult (told_of pending e) } in
-    let below : n ≤ last + 1 + length es = given_ends pending (last + 1) es (insert m (last + 1) one) (given_next last m one h) n o has in
-    omega (arith, below)
 
 module _ (s : State) (ends : List Ending) (expired : List Standing) (due : List ℕ) (sound : IsSound s.providers s.rows) (h : AreFinished s ends expired due) where
   abbrev now : Rows

@@ -8,6 +8,7 @@ pub mod FinishedClaims
 pub mod FinishedKept
 pub mod FinishedSound
 pub mod FinishedSending
+pub mod FinishedLines
 pub mod Shapes
 pub mod Sends
 pub mod Marking
@@ -15,6 +16,9 @@ pub mod Puts
 pub mod Stays
 pub mod Consistency
 pub mod Claiming
+pub mod OneClaim
+pub mod ResendTimes
+pub mod EventConsistency
 pub mod Runs
 pub mod Answered
 pub mod HeldSearch

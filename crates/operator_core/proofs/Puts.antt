@@ -1,7 +1,6 @@
 -- Which open commands, marks and reservations a decision puts; the end of a command puts none.
 use Rattle.std.proofs.Common.{◌≡◌, ℕ, ◌+◌, List, [], ◌∷◌, ◌++◌, ◌⊎◌, inl, inr, true, false, length, map, refl, sym, ap, subst, ◌∙◌}
 use Rattle.std.specs.Prelude.{Option, Some, None, Contains, Bool, cond, nat_eq}
-use Rattle.std.proofs.lemmas.List.Elements.{Contains-append_cases}
 use Rattle.ocpi_types.specs.declared.rows.Place.{Place}
 use Rattle.ocpi_types.specs.declared.rows.Change.{Change}
 use Rattle.ocpi_types.specs.declared.rows.Change.TheVariants.{Put}
@@ -21,11 +20,9 @@ use Rattle.operator_core.specs.declared.decision.Decision.TheVariants as decisio
 use Rattle.operator_core.specs.State.{Rows}
 use Rattle.operator_core.specs.Moves.{spent_rows, used_rows}
 use Rattle.operator_core.specs.Steps.{decided_rows, own_rows, counter_rows, ended_rows, reply_of, result_of, reference_of, deadline}
-use Rattle.tables.proofs.Elements.{in_none, in_single}
+use Rattle.tables.proofs.Elements.{in_none}
+use Rattle.operator_core.proofs.RowChanges.{of_cons}
 use Rattle.operator_core.proofs.Marking.{marked_id}
-
-first : {X : Type 0} (x : X) (xs : List X) (y : X) → Contains (x ∷ xs) y → (x ≡ y) ⊎ Contains xs y
-first x xs y h = elim (Contains-append_cases (x ∷ []) xs y h) [ inl i ↦ inl (in_single x y i) | inr i ↦ inr i ]
 
 -- one of the changes puts the row
 abbrev Holds : List Change → Row → Type 0
@@ -34,7 +31,7 @@ Holds (c ∷ cs) r = (c ≡ Put r) ⊎ Holds cs r
 
 holds : (cs : List Change) (r : Row) → Contains cs (Put r) → Holds cs r
 holds [] r h = in_none (Put r) h
-holds (c ∷ cs) r h = elim (first c cs (Put r) h) [ inl e ↦ inl e | inr i ↦ inr (holds cs r i) ]
+holds (c ∷ cs) r h = elim (of_cons c cs (Put r) h) [ inl e ↦ inl e | inr i ↦ inr (holds cs r i) ]
 
 parted : (xs ys : List Change) (r : Row) → Holds (xs ++ ys) r → Holds xs r ⊎ Holds ys r
 parted [] ys r h = inr h

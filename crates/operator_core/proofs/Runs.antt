@@ -21,7 +21,7 @@ use Rattle.operator_core.specs.Consistent.{AreGiven}
 use Rattle.operator_core.specs.Laws.{Event, Happens, Run, sent, Came, Comes, Opens, Acknowledged, OneStart, SentRepliesAreKept, RepliesStay, Numbered, RequestsAgree, PushesStand, MarksNeverFall, ReservationsAreNewer}
 use Rattle.tables.proofs.Elements.{in_none}
 use Rattle.operator_core.proofs.Shapes.{AcknowledgesIt}
-use Rattle.operator_core.proofs.Endings.{IsPushed}
+use Rattle.operator_core.proofs.Endings.{IsPushedTo}
 use Rattle.operator_core.proofs.Sends.{IsSent, Response, Pushed, counts, sends, no_result, no_push}
 use Rattle.operator_core.proofs.Stays.{replies_stay, spent_stays, opens, marks_rise, marked, Rises, pushes_stay, pushed, last_rises, given_stay}
 
@@ -60,7 +60,7 @@ sends_kept t x (Pushed is) r named = absurd (no_push (reply.CommandResponse r) i
 abbrev pub NumbersGiven : State → Type 0
 NumbersGiven s = AreGiven s.rows.outbox
 
-none_given : (line : SiteLine) → NumbersGiven (opening line)
+pub none_given : (line : SiteLine) → NumbersGiven (opening line)
 none_given line n o has = absurd (let bad : None ≡ Some o = sym (get-empty nat_cmp n) ∙ has in cc)
 
 pub sent_replies_law : SentRepliesAreKept
@@ -114,7 +114,7 @@ numbered line es t run i x at = omega (arith, numbered_runs es _ t run i x at)
 
 -- a push of the packet's number stands, of its body and to its addressee
 abbrev pub Stands : Packet → State → Type 0
-Stands x t = IsPushed t.rows.outbox.pushes x.to x.request x.body
+Stands x t = IsPushedTo t.rows.outbox.pushes x.to x.request x.body
 
 -- a result that was sent stands as a push
 pub result_stands : (t : State) (x : Packet) (a : CommandResult) → x.body ≡ body.CommandResult a → IsSent t x → Stands x t

@@ -27,7 +27,8 @@ use Rattle.operator_core.specs.Finished.{Message, numbered, finished_messages, e
 use Rattle.operator_core.specs.Laws.{Event, Happens}
 use Rattle.operator_core.proofs.Effects.{Leaves, leaves, serial_after, pushes_after}
 use Rattle.operator_core.proofs.Finishing.{Finishes, finishes, pushes_with}
-use Rattle.operator_core.proofs.Endings.{IsPushed, first_or_later, pushes_keep, ends_pushed, resent_pushed, numbered_length, numbered_serial, numbered_carries}
+use Rattle.operator_core.proofs.RowChanges.{of_cons}
+use Rattle.operator_core.proofs.Endings.{IsPushedTo, pushes_keep, ends_pushed, resent_pushed, numbered_length, numbered_serial, numbered_carries}
 use Rattle.operator_core.proofs.Shapes.{Shape, Quiet, Repeated, Decided, Finished, Repeats, DecidesIt, FinishesIt, shape_of}
 
 -- a response that is kept
@@ -39,7 +40,7 @@ pub record IsResponse (t : State) (x : Packet) : Type 0 where
 -- a packet that left: a response that is kept, or a push that stands
 pub data IsSent (t : State) (x : Packet) : Type 0 where
   Response : IsResponse t x → IsSent t x
-  Pushed : IsPushed t.rows.outbox.pushes x.to x.request x.body → IsSent t x
+  Pushed : IsPushedTo t.rows.outbox.pushes x.to x.request x.body → IsSent t x
 
 -- the packets of an event are numbered, each by the next number
 pub record Counts (s : State) (e : Event) (t : State) : Type 0 where
@@ -156,7 +157,7 @@ module _ (s : State) (e : Event) (t : State) (h : DecidesIt s e t) where
 
   sends_with : (o : Option CommandResultType) → result_of h.decision ≡ o → (x : Packet) → Contains e.packets x → IsSent t x
   sends_with None is x i = subst (IsSent t) (in_single response x (subst (λ l. Contains l x) (packets_with None is) i)) (Response is_response)
-  sends_with (Some y) is x i = elim (first_or_later response (result_for y ∷ []) x (subst (λ l. Contains l x) (packets_with (Some y) is) i)) [
+  sends_with (Some y) is x i = elim (of_cons response (result_for y ∷ []) x (subst (λ l. Contains l x) (packets_with (Some y) is) i)) [
     | inl same ↦ subst (IsSent t) same (Response is_response)
     | inr k ↦ subst (IsSent t) (in_single (result_for y) x k) (result_pushed y is)
   ]
@@ -183,7 +184,7 @@ module _ (s : State) (e : Event) (t : State) (h : FinishesIt s e t) where
   abbrev pushes : Pushes
   pushes = pushes_with s.rows.commands.pending s.rows.outbox.last h.ends s.rows.outbox.pushes
 
-  message_pushed : AreGiven s.rows.outbox → (m : Message) → Contains messages m → IsPushed pushes m.to m.request m.body
+  message_pushed : AreGiven s.rows.outbox → (m : Message) → Contains messages m → IsPushedTo pushes m.to m.request m.body
   message_pushed given m i = elim (Contains-append_cases (ends_messages s.rows.commands.pending s.rows.outbox.last h.ends) (resent_messages s.rows.outbox.pushes h.due) m i) [
     | inl k ↦ ends_pushed s.rows.commands.pending s.rows.outbox.last h.ends s.rows.outbox.pushes m k
     | inr k ↦

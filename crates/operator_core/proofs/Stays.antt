@@ -68,8 +68,8 @@ module _ (s t : State) (e : Event) where
   results_shape (Finished h) fine k x has =
       ap (λ (m : book.Results). get m k) (finished_leaves s e t h).results
       ∙ results_keep h.ends s.rows.commands.results k (λ z i same.
-          let open_now = h.facts.opened z i in
-          not_both x _ (fine.unsettled (request_of z) open_now.0 open_now.1) (ap (get s.rows.commands.results) same ∙ has))
+      let open_now = h.facts.opened z i in
+      not_both x _ (fine.unsettled (request_of z) open_now.0 open_now.1) (ap (get s.rows.commands.results) same ∙ has))
       ∙ has
 
   pub results_stay : Happens s e t → AreConsistent s.rows.commands s.rows.spent → (k : book.Request) (x : CommandResultType) → get s.rows.commands.results k ≡ Some x → get t.rows.commands.results k ≡ Some x
@@ -254,18 +254,18 @@ module _ (s t : State) (e : Event) where
       let pushed : Outgoing = record { to = h.to; push = push.CommandResult (told (url_of h.command) y) } in
       elim (of_insert nat_cmp_total nat_cmp-IsAntisymmetric s.rows.outbox.pushes (s.rows.outbox.last + 1) pushed n x has) [
         | inl i ↦ inr (
-          let number = i.0 in
-          let last = l.last ∙ ap (last_after s.rows.outbox.last) is in
-          subst (IsNewPush n) i.1 (record {
-            result = told (url_of h.command) y;
-            tells = refl;
-            above = omega (arith, number);
-            below = omega (arith, number, last);
-            number = h.packet.request;
-            kept = ap (λ (m : book.Results). get m (key h.to, h.packet.request)) (l.results ∙ ap (λ z. results_after (provider_of s t e h) h.packet.request z s.rows.commands.results) is)
-                ∙ ap (λ z. get (insert s.rows.commands.results (provider_of s t e h, h.packet.request) y) (z, h.packet.request)) h.from.same
-                ∙ get-insert_same text_number_total text_number_exact s.rows.commands.results (provider_of s t e h, h.packet.request) y;
-          }))
+            let number = i.0 in
+            let last = l.last ∙ ap (last_after s.rows.outbox.last) is in
+            subst (IsNewPush n) i.1 (record {
+              result = told (url_of h.command) y;
+              tells = refl;
+              above = omega (arith, number);
+              below = omega (arith, number, last);
+              number = h.packet.request;
+              kept = ap (λ (m : book.Results). get m (key h.to, h.packet.request)) (l.results ∙ ap (λ z. results_after (provider_of s t e h) h.packet.request z s.rows.commands.results) is)
+                  ∙ ap (λ z. get (insert s.rows.commands.results (provider_of s t e h, h.packet.request) y) (z, h.packet.request)) h.from.same
+                  ∙ get-insert_same text_number_total text_number_exact s.rows.commands.results (provider_of s t e h, h.packet.request) y;
+            }))
         | inr i ↦ inl i
       ]
 
