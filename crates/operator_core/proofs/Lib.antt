@@ -9,6 +9,9 @@ pub mod FinishedKept
 pub mod FinishedSound
 pub mod FinishedSending
 pub mod FinishedLines
+pub mod Gathering
+pub mod Reporting
+pub mod TimingOut
 pub mod Shapes
 pub mod Sends
 pub mod Marking

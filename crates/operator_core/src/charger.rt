@@ -55,6 +55,7 @@ impl Operator {
     /// The start that took an EVSE and is open.
     fn open_start_at(&self, evse_uid: CiKey<36>) -> Option<(PartyKey, Whole)>
         ensures some { IfSome result (λ k. HasClaim self.now.rows evse_uid (OpenStart k.0 k.1)) }
+        ensures only { IfSome result (λ k. (p : List ℕ) (n : ℕ) → HasClaim self.now.rows evse_uid (OpenStart p n) → (p ≡ k.0) × (n ≡ k.1)) }
         ensures none { IfNone result ((p : List ℕ) (n : ℕ) → HasClaim self.now.rows evse_uid (OpenStart p n) → ⊥) }
     {
         match self.books.places().claim_of(evse_uid)? {

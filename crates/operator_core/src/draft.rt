@@ -1,6 +1,7 @@
 //! What a step is gathered in, message by message.
 
-ghost use Rattle.std.specs.Prelude.{◌≡◌, ◌++◌, ◌∷◌, ◌+◌, [], OnOk, IfOk, IfErr};
+ghost use Rattle.std.specs.Prelude.{◌≡◌, ◌≤◌, ◌++◌, ◌∷◌, ◌+◌, [], OnOk, IfOk, IfErr};
+ghost use Rattle.ocpi_text.specs.Whole.{max_whole};
 ghost use Rattle.operator_core.specs.Drafts.{StopsBy, added};
 ghost use Rattle.operator_core.specs.Finished.{counted_rows};
 
@@ -43,6 +44,15 @@ impl Draft {
             serial,
             request,
         }
+    }
+
+    /// That no number passed its last, which the types of the numbers keep.
+    pub fn numbers_are_in_range(&self)
+        ensures serial { self.now.serial ≤ max_whole }
+        ensures request { self.now.request ≤ max_whole }
+    {
+        let _serial = self.serial.value();
+        let _request = self.request.value();
     }
 
     /// Adds a change of a row.

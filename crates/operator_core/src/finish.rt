@@ -203,6 +203,7 @@ impl Operator {
         ensures err { IfErr result (λ f. (at : ℕ) → IsOwnFault (λ out. out ≡ finished self.now at ends.now expired.now due.now) f) }
     {
         let mut draft = self.gather(ends, expired, due)?;
+        draft.numbers_are_in_range();
         self.count(&mut draft)?;
         Ok(Stepped {
             rows: draft.rows,
