@@ -99,7 +99,7 @@ module _ (s : State) (h : IsConsistent s) (at : ℕ) (to p : List ℕ) (n : ℕ)
   decided_with (Some x) is =
       let pushes = (leaves at to p n c s.rows d).pushes ∙ ap (λ o. pushes_after to (url_of c) s.rows.outbox.last o s.rows.outbox.pushes) is in
       let stands = ap (λ (m : Pushes). get m (s.rows.outbox.last + 1)) pushes
-          ∙ get-insert_same nat_cmp_total nat_cmp-IsAntisymmetric s.rows.outbox.pushes (s.rows.outbox.last + 1) (record { to = to; push = push.CommandResult (told (url_of c) x) }) in
+      ∙ get-insert_same nat_cmp_total nat_cmp-IsAntisymmetric s.rows.outbox.pushes (s.rows.outbox.last + 1) (record { to = to; push = push.CommandResult (told (url_of c) x) }) in
       result_sent s.rows s.resend rows reply_packet (result_packet s 2 to (url_of c) x) (reply_unpushed (reply_of at d)) (ap is_some stands) (next_untimed s h)
 
   decided_sent : MaySend s.rows s.resend rows (decided_packets at to n c d s)

@@ -1,0 +1,19 @@
+use Rattle.operator_core.specs.Requests.{planned}
+use Rattle.operator_core.proofs.FinishedLines.{charger_apart, charger_may, charger_sound, charger_sendings, charger_changes}
+use Rattle.operator_core.proofs.operator.Operator.on_charger.Goals as goal
+
+pub carry_step-requires-clause-apart : goal.carry_step-requires-clause-apart
+carry_step-requires-clause-apart c = charger_apart c.args.self.now c.args.at c.args.report (planned c.args.self.now c.args.at c.in_ok-stepped.stepped) (c.in_ok-stepped.ensures.step c.args.at)
+
+pub carry_step-requires-clause-claims : goal.carry_step-requires-clause-claims
+carry_step-requires-clause-claims c = charger_may c.args.self.now c.args.at c.args.report (planned c.args.self.now c.args.at c.in_ok-stepped.stepped) (c.in_ok-stepped.ensures.step c.args.at)
+
+pub carry_step-requires-clause-sound : goal.carry_step-requires-clause-sound
+carry_step-requires-clause-sound c = charger_sound c.args.self.now c.args.at c.args.report (planned c.args.self.now c.args.at c.in_ok-stepped.stepped) c.consistency.ensures (c.in_ok-stepped.ensures.step c.args.at)
+
+pub carry_step-requires-clause-sending : goal.carry_step-requires-clause-sending
+carry_step-requires-clause-sending c = charger_sendings c.args.self.now c.args.at c.args.report (planned c.args.self.now c.args.at c.in_ok-stepped.stepped) c.consistency.ensures (c.in_ok-stepped.ensures.step c.args.at)
+
+pub returns-clause-rows : goal.returns-clause-rows
+returns-clause-rows c =
+    rw c.in_ok-carry_step.ensures.ok (charger_changes c.args.self.now c.args.at c.args.report (planned c.args.self.now c.args.at c.in_ok-stepped.stepped) (c.in_ok-stepped.ensures.step c.args.at))
