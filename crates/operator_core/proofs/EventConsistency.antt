@@ -1,15 +1,12 @@
 -- What holds of an operator at any time is kept by each event.
-use Rattle.std.proofs.Common.{ℕ, [], ◌∷◌, sym, subst}
+use Rattle.std.proofs.Common.{sym, subst}
 use Rattle.std.specs.FinMap.{get, get-empty}
 use Rattle.std.specs.Ordering.{nat_cmp}
 use Rattle.tables.proofs.Options.{none_contained}
 use Rattle.ocpi_types.specs.declared.site.SiteLine.{SiteLine}
-use Rattle.ocpi_types.specs.declared.events.ChargerEvent.{ChargerEvent}
 use Rattle.operator_core.specs.State.{State, opening}
 use Rattle.operator_core.specs.Consistent.{IsConsistent, IsSound}
 use Rattle.operator_core.specs.Moves.{Out}
-use Rattle.operator_core.specs.Charger.{ChargerLine}
-use Rattle.operator_core.specs.Charger as charger
 use Rattle.operator_core.specs.Laws.{Event, out_of, Happens, Stepped, Refused, Served, Unserved, Reported, Unreported, Ticked, Unticked, Restarted}
 use Rattle.operator_core.proofs.Claiming.{none_claimed}
 use Rattle.operator_core.proofs.OneClaim.{one_claim, event_rows, event_providers}
