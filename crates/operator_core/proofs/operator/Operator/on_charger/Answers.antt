@@ -1,3 +1,4 @@
+use Rattle.std.proofs.lemmas.Result.{err_from_is_err_and}
 use Rattle.operator_core.specs.Requests.{planned}
 use Rattle.operator_core.proofs.FinishedLines.{charger_apart, charger_may, charger_sound, charger_sendings, charger_changes}
 use Rattle.operator_core.proofs.operator.Operator.on_charger.Goals as goal
@@ -17,3 +18,11 @@ carry_step-requires-clause-sending c = charger_sendings c.args.self.now c.args.a
 pub returns-clause-rows : goal.returns-clause-rows
 returns-clause-rows c =
     rw c.in_ok-carry_step.ensures.ok (charger_changes c.args.self.now c.args.at c.args.report (planned c.args.self.now c.args.at c.in_ok-stepped.stepped) (c.in_ok-stepped.ensures.step c.args.at))
+
+pub returns-in_err-stepped-clause-fault : goal.returns-in_err-stepped-clause-fault
+returns-in_err-stepped-clause-fault c =
+    let p = err_from_is_err_and c.from_residual.result c.from_residual.ensures.1 in
+    rw (p.1, p.2) (c.in_err-stepped.ensures.err c.args.at)
+
+pub returns-clause-step : goal.returns-clause-step
+returns-clause-step c = rw c.in_ok-carry_step.ensures.ok (c.in_ok-stepped.ensures.step c.args.at)
