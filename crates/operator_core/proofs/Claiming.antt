@@ -28,7 +28,7 @@ use Rattle.operator_core.specs.declared.decision.Decision.TheVariants as decisio
 use Rattle.operator_core.specs.State.{State, Rows, Takes, Claims, HasClaim, OneClaimEach}
 use Rattle.operator_core.specs.Stored.{changed, changed_all}
 use Rattle.operator_core.specs.Claimed.{IsIndexed, MayClaim, MayChange, MayChangeAll}
-use Rattle.operator_core.specs.Moves.{Out, idle, serial_row, spent_rows, used_rows}
+use Rattle.operator_core.specs.Moves.{Out, serial_row, spent_rows, used_rows}
 use Rattle.operator_core.specs.Start as start
 use Rattle.operator_core.specs.Reserve as reserve
 use Rattle.operator_core.specs.Cancel as cancel
@@ -290,22 +290,6 @@ service_may s evse works out (service.Unknown unknown x) = subst (λ (z : Out). 
 service_may s evse works out (service.Unchanged at is x) = subst (λ (z : Out). MayChangeAll s.site s.rows z.changes) (sym x) tt
 service_may s evse works out (service.Withdrawn at out_now is x) = subst (λ (z : Out). MayChangeAll s.site s.rows z.changes) (sym x) (at, tt)
 service_may s evse works out (service.Restored at in_now is x) = subst (λ (z : Out). MayChangeAll s.site s.rows z.changes) (sym x) (at, tt)
-
--- the rows after a packet, or after an EVSE changed its service
-line_rows : (s : State) (at : ℕ) (q : Packet) (to : List ℕ) (out : Out) → PacketLine s at q to out → out.state.rows ≡ changed_all out.changes s.rows
-line_rows s at q to out (lines.Again c is r kept x) = subst (λ (z : Out). z.state.rows ≡ changed_all z.changes s.rows) (sym x) refl
-line_rows s at q to out (lines.Decided c is new d decides x) = subst (λ (z : Out). z.state.rows ≡ changed_all z.changes s.rows) (sym x) refl
-line_rows s at q to out (lines.Acknowledged a is it x) = subst (λ (z : Out). z.state.rows ≡ changed_all z.changes s.rows) (sym x) refl
-line_rows s at q to out (lines.Idle a is other x) = subst (λ (z : Out). z.state.rows ≡ changed_all z.changes s.rows) (sym x) refl
-
-pub step_rows : (s : State) (at : ℕ) (q : Packet) (out : Out) → OperatorStep s at q out → out.state.rows ≡ changed_all out.changes s.rows
-step_rows s at q out h = line_rows s at q h.comes.provider out h.comes.line
-
-pub service_rows : (s : State) (evse : List ℕ) (works : Bool) (out : Out) → ServiceStep s evse works out → out.state.rows ≡ changed_all out.changes s.rows
-service_rows s evse works out (service.Unknown unknown x) = subst (λ (z : Out). z.state.rows ≡ changed_all z.changes s.rows) (sym x) refl
-service_rows s evse works out (service.Unchanged at is x) = subst (λ (z : Out). z.state.rows ≡ changed_all z.changes s.rows) (sym x) refl
-service_rows s evse works out (service.Withdrawn at out_now is x) = subst (λ (z : Out). z.state.rows ≡ changed_all z.changes s.rows) (sym x) refl
-service_rows s evse works out (service.Restored at in_now is x) = subst (λ (z : Out). z.state.rows ≡ changed_all z.changes s.rows) (sym x) refl
 
 unclaimed : (evse : List ℕ) (c : Claim) → Claims empty empty evse c → ⊥
 unclaimed evse (OpenStart p n) (o, has, at) = not_both o _ (get-empty text_number_cmp (p, n)) has

@@ -1,8 +1,6 @@
 -- What charge points report and what the time does are ends of commands, expiries and resending, or nothing.
-use Rattle.std.proofs.Common.{◌≡◌, ◌≢◌, ℕ, List, [], ◌∷◌, sym, subst}
-use Rattle.tables.proofs.Elements.{in_none, no_pairs}
+use Rattle.std.proofs.Common.{◌≡◌, ℕ, List, [], ◌∷◌, sym, subst}
 use Rattle.ocpi_types.specs.declared.events.ChargerEvent.{ChargerEvent}
-use Rattle.ocpi_types.specs.declared.packet.Packet.{Packet}
 use Rattle.reservation_book.specs.declared.standing.Standing.{Standing}
 use Rattle.operator_core.specs.declared.ending.Ending.{Ending}
 use Rattle.operator_core.specs.State.{State}
@@ -11,11 +9,12 @@ use Rattle.operator_core.specs.Rows.{AreChanges}
 use Rattle.operator_core.specs.Stored.{AreApart, changed_all}
 use Rattle.operator_core.specs.Claimed.{MayChangeAll}
 use Rattle.operator_core.specs.Consistent.{IsConsistent, IsSound}
-use Rattle.operator_core.specs.Sending.{IsPushed, MaySend}
+use Rattle.operator_core.specs.Sending.{MaySend}
 use Rattle.operator_core.specs.Charger.{ChargerLine, ChargerStep, Ended, Idle}
 use Rattle.operator_core.specs.Tick.{TickLine, TickStep}
 use Rattle.operator_core.specs.Finished.{finished}
 use Rattle.operator_core.proofs.RowChanges.{row_changes}
+use Rattle.operator_core.proofs.Sendings.{none_sent}
 use Rattle.operator_core.proofs.FinishedSteps.{AreFinished}
 use Rattle.operator_core.proofs.FinishedFacts.{one_finished, tick_finished}
 use Rattle.operator_core.proofs.FinishedApart.{finished_apart}
@@ -41,15 +40,9 @@ finishing_sound : (s : State) (at : ℕ) (out : Out) → IsConsistent s → Fini
 finishing_sound s at out fine (Finished ends expired due h x) = subst (λ (z : Out). IsSound s.providers (changed_all z.changes s.rows)) (sym x) (finished_sound s ends expired due fine.sound h)
 finishing_sound s at out fine (Nothing x) = subst (λ (z : Out). IsSound s.providers (changed_all z.changes s.rows)) (sym x) fine.sound
 
-no_sendings : (s : State) → MaySend s.rows s.resend [] []
-no_sendings s = record {
-  sendable = record { stands = λ q i. absurd (in_none q i); apart = no_pairs (λ (a b : Packet). IsPushed a.body → IsPushed b.body → a.request ≢ b.request) };
-  kept = λ q i. absurd (in_none q i);
-}
-
 finishing_sendings : (s : State) (at : ℕ) (out : Out) → IsConsistent s → Finishing s at out → MaySend s.rows s.resend out.changes out.packets
 finishing_sendings s at out fine (Finished ends expired due h x) = subst (λ (z : Out). MaySend s.rows s.resend z.changes z.packets) (sym x) (finished_sendings s ends expired due fine h)
-finishing_sendings s at out fine (Nothing x) = subst (λ (z : Out). MaySend s.rows s.resend z.changes z.packets) (sym x) (no_sendings s)
+finishing_sendings s at out fine (Nothing x) = subst (λ (z : Out). MaySend s.rows s.resend z.changes z.packets) (sym x) (none_sent s.rows s.resend [])
 
 finishing_changes : (s : State) (at : ℕ) (out : Out) → Finishing s at out → AreChanges s.rows out.changes (changed_all out.changes s.rows)
 finishing_changes s at out (Finished ends expired due h x) = subst (λ (z : Out). AreChanges s.rows z.changes (changed_all z.changes s.rows)) (sym x) (finished_changes s ends expired due h)

@@ -38,6 +38,5 @@ pub mod Bodies
 pub mod Deciding
 pub mod Apart
 pub mod Kept
-pub mod Given
 pub mod Soundness
 pub mod Sendings

@@ -1,5 +1,5 @@
 -- What a packet's step sends can be sent without memory once its changes are made.
-use Rattle.std.proofs.Common.{◌≡◌, ◌≢◌, ◌≤◌, ℕ, ◌+◌, List, [], ◌∷◌, ◌⊎◌, inl, inr, refl, sym, ap, subst, ◌∙◌, arith}
+use Rattle.std.proofs.Common.{◌≡◌, ◌≢◌, ℕ, ◌+◌, List, [], ◌∷◌, ◌⊎◌, inl, inr, refl, sym, ap, subst, ◌∙◌, arith}
 use Rattle.std.specs.Prelude.{Option, Some, None, Contains, IsTrue, is_some, true}
 use Rattle.std.proofs.lemmas.List.Elements.{Contains-append_cases}
 use Rattle.std.proofs.lemmas.List.Kept.{AllPairs-cons}
@@ -24,7 +24,7 @@ use Rattle.handover.specs.Resend.{Resend}
 use Rattle.operator_core.specs.declared.decision.Decision.{Decision}
 use Rattle.operator_core.specs.Consistent.{IsConsistent}
 use Rattle.operator_core.specs.Moves.{Out, packet_after, result_packet, serial_row, told}
-use Rattle.operator_core.specs.Sending.{AreSendable, IsPushed, KeepsTime, MaySend}
+use Rattle.operator_core.specs.Sending.{IsPushed, MaySend}
 use Rattle.operator_core.specs.State.{State, Rows}
 use Rattle.operator_core.specs.Steps.{OperatorStep, PacketLine, decided_packets, decided_rows, reply_of, result_of, result_packets, url_of}
 use Rattle.operator_core.specs.Steps as lines

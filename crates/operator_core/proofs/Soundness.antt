@@ -1,7 +1,7 @@
 -- What is kept of the rows beside the claims is kept by each packet, and by an EVSE that changes its service.
-use Rattle.std.proofs.Common.{◌≡◌, ◌≤◌, ℕ, List, inl, inr, refl, sym, ap, subst, ◌∙◌}
-use Rattle.std.specs.Prelude.{Option, Some, None, Bool, Contains}
-use Rattle.std.specs.FinMap.{get, insert, empty, get-empty}
+use Rattle.std.proofs.Common.{◌≡◌, ℕ, List, inl, inr, refl, sym, ap, subst, ◌∙◌}
+use Rattle.std.specs.Prelude.{Some, None, Bool, Contains}
+use Rattle.std.specs.FinMap.{insert, get-empty}
 use Rattle.std.specs.Ordering.{nat_cmp}
 use Rattle.tables.specs.Keys.{text_number_cmp, text_number_total, text_number_exact}
 use Rattle.tables.proofs.Options.{not_both}
@@ -11,20 +11,19 @@ use Rattle.ocpi_types.specs.declared.packet.Packet.{Packet}
 use Rattle.ocpi_types.specs.declared.stored.Command.{Command}
 use Rattle.ocpi_types.specs.declared.stored.OpenCommand.{OpenCommand}
 use Rattle.command_book.specs.Stored as book
-use Rattle.handover.specs.Pushes.{Pushes}
 use Rattle.operator_core.specs.declared.decision.Decision.{Decision}
 use Rattle.operator_core.specs.declared.decision.Decision.TheVariants as decision
-use Rattle.operator_core.specs.State.{State, Rows, no_rows}
-use Rattle.operator_core.specs.Consistent.{AreGiven, AreOfProviders, IsSound}
+use Rattle.operator_core.specs.State.{State, no_rows}
+use Rattle.operator_core.specs.Consistent.{AreOfProviders, IsSound}
+use Rattle.operator_core.specs.Laws.{Comes, Serves, Stepped, Served}
 use Rattle.operator_core.specs.Moves.{Out}
 use Rattle.operator_core.specs.Providers.{IsProvider}
-use Rattle.operator_core.specs.Steps.{OperatorStep, PacketLine, result_of, url_of, deadline, decided_rows}
+use Rattle.operator_core.specs.Steps.{OperatorStep, PacketLine, deadline}
 use Rattle.operator_core.specs.Steps as lines
-use Rattle.operator_core.specs.Stored.{changed_all}
 use Rattle.operator_core.specs.Service.{ServiceStep}
 use Rattle.operator_core.specs.Service as service
-use Rattle.operator_core.proofs.Effects.{Leaves, leaves, pending_after}
-use Rattle.operator_core.proofs.Given.{given_decided, given_ended}
+use Rattle.operator_core.proofs.Effects.{leaves, pending_after}
+use Rattle.operator_core.proofs.Stays.{given_stay}
 use Rattle.operator_core.proofs.Consistency.{consistent_empty, step_consistent, service_consistent}
 
 pub sound_empty : (providers : List (List ℕ)) → IsSound providers no_rows
@@ -52,41 +51,34 @@ module _ (providers : List (List ℕ)) (to p : List ℕ) (listed : Contains prov
   decided_of at n c (decision.Reserved id r) = h
   decided_of at n c (decision.Cancelled id) = h
 
--- what is kept beside what is answered
-record AreListed (providers : List (List ℕ)) (s : Rows) : Type 0 where
-  of_providers : AreOfProviders providers s.commands.pending
-  given : AreGiven s.outbox
+module _ (s : State) (at : ℕ) (q : Packet) (to : List ℕ) (h : AreOfProviders s.providers s.rows.commands.pending) (from : IsProvider s.providers q.from to) where
+  abbrev Leaves : Out → Type 0
+  Leaves out = AreOfProviders s.providers out.state.rows.commands.pending
 
-module _ (s : State) (at : ℕ) (q : Packet) (to : List ℕ) (h : AreListed s.providers s.rows) (from : IsProvider s.providers q.from to) where
-  decided_listed : (c : Command) (d : Decision) → AreListed s.providers (changed_all (decided_rows at to (key q.from) q.request c d s.rows) s.rows)
-  decided_listed c d =
-      let l = leaves at to (key q.from) q.request c s.rows d in
-      record {
-        of_providers = subst (AreOfProviders s.providers) (sym l.pending) (decided_of s.providers to (key q.from) from.listed from.same s.rows.commands.pending h.of_providers at q.request c d);
-        given = λ n x has.
-            let below = given_decided s.rows.outbox to (url_of c) (result_of d) h.given n x (ap (λ (m : Pushes). get m n) (sym l.pushes) ∙ has) in
-            subst (λ z. n ≤ z) (sym l.last) below;
-      }
+  line_of : (out : Out) → PacketLine s at q to out → Leaves out
+  line_of out (lines.Again c is r kept x) = subst Leaves (sym x) h
+  line_of out (lines.Decided c is new d decides x) =
+      let opened = decided_of s.providers to (key q.from) from.listed from.same s.rows.commands.pending h at q.request c d in
+      subst Leaves (sym x) (subst (AreOfProviders s.providers) (sym (leaves at to (key q.from) q.request c s.rows d).pending) opened)
+  line_of out (lines.Acknowledged a is it x) = subst Leaves (sym x) h
+  line_of out (lines.Idle a is other x) = subst Leaves (sym x) h
 
-  line_listed : (out : Out) → PacketLine s at q to out → AreListed s.providers out.state.rows
-  line_listed out (lines.Again c is r kept x) = subst (λ (z : Out). AreListed s.providers z.state.rows) (sym x) (record { of_providers = h.of_providers; given = h.given })
-  line_listed out (lines.Decided c is new d decides x) = subst (λ (z : Out). AreListed s.providers z.state.rows) (sym x) (decided_listed c d)
-  line_listed out (lines.Acknowledged a is it x) =
-      subst (λ (z : Out). AreListed s.providers z.state.rows) (sym x) (record { of_providers = h.of_providers; given = given_ended s.rows.outbox q.request h.given })
-  line_listed out (lines.Idle a is other x) = subst (λ (z : Out). AreListed s.providers z.state.rows) (sym x) h
-
-service_listed : (s : State) (evse : List ℕ) (works : Bool) (out : Out) → AreListed s.providers s.rows → ServiceStep s evse works out → AreListed s.providers out.state.rows
-service_listed s evse works out h (service.Unknown unknown x) = subst (λ (z : Out). AreListed s.providers z.state.rows) (sym x) h
-service_listed s evse works out h (service.Unchanged at is x) = subst (λ (z : Out). AreListed s.providers z.state.rows) (sym x) h
-service_listed s evse works out h (service.Withdrawn at out_now is x) = subst (λ (z : Out). AreListed s.providers z.state.rows) (sym x) (record { of_providers = h.of_providers; given = h.given })
-service_listed s evse works out h (service.Restored at in_now is x) = subst (λ (z : Out). AreListed s.providers z.state.rows) (sym x) (record { of_providers = h.of_providers; given = h.given })
+service_pending : (s : State) (evse : List ℕ) (works : Bool) (out : Out) → ServiceStep s evse works out → out.state.rows.commands.pending ≡ s.rows.commands.pending
+service_pending s evse works out (service.Unknown unknown x) = ap (λ (z : Out). z.state.rows.commands.pending) x
+service_pending s evse works out (service.Unchanged at is x) = ap (λ (z : Out). z.state.rows.commands.pending) x
+service_pending s evse works out (service.Withdrawn at out_now is x) = ap (λ (z : Out). z.state.rows.commands.pending) x
+service_pending s evse works out (service.Restored at in_now is x) = ap (λ (z : Out). z.state.rows.commands.pending) x
 
 pub step_sound : (s : State) (at : ℕ) (q : Packet) (out : Out) → IsSound s.providers s.rows → OperatorStep s at q out → IsSound s.providers out.state.rows
-step_sound s at q out h step =
-    let listed = line_listed s at q step.comes.provider (record { of_providers = h.of_providers; given = h.given }) step.comes.from out step.comes.line in
-    record { commands = step_consistent s at q out h.commands step; of_providers = listed.of_providers; given = listed.given }
+step_sound s at q out h step = record {
+  commands = step_consistent s at q out h.commands step;
+  of_providers = line_of s at q step.comes.provider h.of_providers step.comes.from out step.comes.line;
+  given = given_stay s out.state (record { input = Comes at q; changes = out.changes; packets = out.packets }) (Stepped at q refl step) h.given;
+}
 
 pub service_sound : (s : State) (evse : List ℕ) (works : Bool) (out : Out) → IsSound s.providers s.rows → ServiceStep s evse works out → IsSound s.providers out.state.rows
-service_sound s evse works out h step =
-    let listed = service_listed s evse works out (record { of_providers = h.of_providers; given = h.given }) step in
-    record { commands = service_consistent s evse works out h.commands step; of_providers = listed.of_providers; given = listed.given }
+service_sound s evse works out h step = record {
+  commands = service_consistent s evse works out h.commands step;
+  of_providers = subst (AreOfProviders s.providers) (sym (service_pending s evse works out step)) h.of_providers;
+  given = given_stay s out.state (record { input = Serves evse works; changes = out.changes; packets = out.packets }) (Served evse works refl step) h.given;
+}
