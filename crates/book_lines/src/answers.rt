@@ -4,7 +4,7 @@ use command_book::CommandFault;
 use handover::HandoverFault;
 use ocpi_json::{RowKind, write_key, write_row};
 use ocpi_text::{CiKey, CiText, PartyKey, Whole};
-use ocpi_types::{Cdr, Place, Reply, Reservation, Row, Session, Token, Word};
+use ocpi_types::{Cdr, Place, Reservation, Row, Session, Token, Word};
 use reservation_book::ReservationFault;
 use session_state::SessionFault;
 use site::{Claim, SiteFault};
@@ -29,7 +29,6 @@ pub(crate) enum Stored {
     Session(Session),
     Token(Token),
     Reservation(PartyKey, CiKey<36>, Reservation),
-    Reply(PartyKey, Whole, Reply),
 }
 
 /// What a call answers.
@@ -164,11 +163,6 @@ fn row_of(stored: &Stored) -> Row {
             provider: *provider,
             reservation_id: *id,
             reservation: *reservation,
-        },
-        Stored::Reply(sender, number, reply) => Row::Reply {
-            sender: *sender,
-            number: *number,
-            reply: *reply,
         },
     }
 }

@@ -1,10 +1,12 @@
 //! The calls of a book of commands.
 
-use crate::answers::{Answer, DONE, Fault, MEMORY, NONE, NOT_A_CALL, Stored, said, write_rows};
+use crate::answers::{
+    Answer, DONE, Fault, MEMORY, NONE, NOT_A_CALL, said, write_row_text, write_rows,
+};
 use crate::given::Given;
 use command_book::{CommandBook, CommandFault};
 use ocpi_text::{Moment, PartyKey, Whole};
-use ocpi_types::{Command, CommandResultType, OpenCommand, Place, Reply, Word};
+use ocpi_types::{Command, CommandResultType, OpenCommand, Place, Reply, Row, Word};
 use std::alloc::Global;
 use std::fmt::Write;
 
@@ -36,7 +38,7 @@ fn read_commands(alloc: Global, book: &CommandBook, given: &Given, out: &mut Str
     let (provider, number) = (given.party.key(), given.number);
     match given.call {
         "kept" => match book.reply_kept(provider, number) {
-            Some(reply) => Answer::Stored("", Stored::Reply(provider, number, reply)),
+            Some(reply) => said(write_kept(alloc, provider, number, reply, out)),
             None => NONE,
         },
         "answered" => match book.answered(provider, number) {
@@ -120,6 +122,23 @@ pub(crate) fn open(
         return NOT_A_CALL;
     }
     done(book.open(provider, number, command, place, deadline))
+}
+
+/// The text of the row of a kept reply.
+fn write_kept(
+    alloc: Global,
+    sender: PartyKey,
+    number: Whole,
+    reply: &Reply,
+    out: &mut String,
+) -> Option<()> {
+    let reply = reply.copy().ok()?;
+    let row = Row::Reply {
+        sender,
+        number,
+        reply,
+    };
+    write_row_text(alloc, row, out)
 }
 
 /// The kind of an open command, its deadline in milliseconds since 1970, and its place.

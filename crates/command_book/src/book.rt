@@ -89,10 +89,10 @@ impl CommandBook {
     }
 
     /// The reply that a request got, kept so that the request has the same answer when it comes again.
-    pub fn reply_kept(&self, sender: PartyKey, number: Whole) -> Option<Reply>
-        ensures { result ≡ map.get self.now.rows.replies (sender, number) }
+    pub fn reply_kept(&self, sender: PartyKey, number: Whole) -> Option<&Reply>
+        ensures { option_copied result ≡ map.get self.now.rows.replies (sender, number) }
     {
-        self.replies.get((sender, number)).copied()
+        self.replies.get((sender, number))
     }
 
     /// The command of that number of a provider, where it was accepted and has no result yet.
@@ -242,6 +242,15 @@ impl CommandBook {
         drop(self.pending.remove((provider, number)));
     }
 
+    /// Drops the reply to a request, if there is one.
+    fn drop_reply(&mut self, sender: PartyKey, number: Whole)
+        ensures rows { self.new.rows ≡ drop_row (RowKey.Reply sender number) self.old.rows }
+        ensures room { GivesBack (RowKey.Reply sender number) self.old self.new.rooms }
+        ensures keeps { KeepsOtherRoom (RowKey.Reply sender number) self.old.rooms self.new.rooms }
+    {
+        drop(self.replies.remove((sender, number)));
+    }
+
     /// Drops the row of that key, if it is a reply, an open command or a result, with its room. It takes no memory.
     pub fn drop_row(&mut self, key: RowKey)
         ensures rows { self.new.rows ≡ drop_row key self.old.rows }
@@ -249,9 +258,7 @@ impl CommandBook {
         ensures keeps { KeepsOtherRoom key self.old.rooms self.new.rooms }
     {
         match key {
-            RowKey::Reply { sender, number } => {
-                self.replies.remove((sender, number));
-            }
+            RowKey::Reply { sender, number } => self.drop_reply(sender, number),
             RowKey::Pending { provider, number } => self.drop_open(provider, number),
             RowKey::Result { provider, number } => {
                 self.results.remove((provider, number));

@@ -18,7 +18,7 @@ fn push_replies(replies: &Table<Request, Reply>, rows: &mut Vec<Row>) -> Result<
         rows.push(Row::Reply {
             sender: request.0,
             number: request.1,
-            reply: *reply,
+            reply: reply.copy()?,
         })?;
     }
     Ok(())

@@ -4,15 +4,14 @@ ghost use Rattle.serde_json.specs.View.{view};
 ghost use Rattle.json_text.specs.Fault.{Gives};
 ghost use Rattle.ocpi_forms.specs.Bodies.{body_at, body_members, BodyFits};
 
-use crate::authorizations::{authorization_of, authorize_of};
-use crate::cdrs::cdr_of;
-use crate::commands::{
-    cancel_reservation_of, reserve_now_of, start_session_of, stop_session_of, unlock_connector_of,
+use crate::authorizations::authorize_of;
+use crate::commands::{cancel_reservation_of, stop_session_of, unlock_connector_of};
+use crate::on_heap::{
+    boxed_authorization_of, boxed_cdr_of, boxed_reserve_now_of, boxed_session_of,
+    boxed_start_session_of, boxed_token_of,
 };
 use crate::records::Record;
 use crate::replies::{ack_of, command_response_of, command_result_of};
-use crate::sessions::session_of;
-use crate::tokens::token_of;
 use json_text::{JsonFault, RecordWriter};
 use ocpi_types::{Body, PacketKind};
 use serde_json::Value;
@@ -24,9 +23,9 @@ pub fn body_of(alloc: Global, kind: PacketKind, object: &Value) -> Result<Body, 
     ensures { Gives result (body_at kind (view object.now)) }
 {
     match kind {
-        PacketKind::StartSession => start_session_of(alloc, object).map(Body::StartSession),
+        PacketKind::StartSession => boxed_start_session_of(alloc, object).map(Body::StartSession),
         PacketKind::StopSession => stop_session_of(alloc, object).map(Body::StopSession),
-        PacketKind::ReserveNow => reserve_now_of(alloc, object).map(Body::ReserveNow),
+        PacketKind::ReserveNow => boxed_reserve_now_of(alloc, object).map(Body::ReserveNow),
         PacketKind::CancelReservation => {
             cancel_reservation_of(alloc, object).map(Body::CancelReservation)
         }
@@ -35,11 +34,11 @@ pub fn body_of(alloc: Global, kind: PacketKind, object: &Value) -> Result<Body, 
         }
         PacketKind::CommandResponse => command_response_of(object).map(Body::CommandResponse),
         PacketKind::CommandResult => command_result_of(alloc, object).map(Body::CommandResult),
-        PacketKind::PutToken => token_of(object).map(Body::PutToken),
+        PacketKind::PutToken => boxed_token_of(alloc, object).map(Body::PutToken),
         PacketKind::Authorize => authorize_of(alloc, object).map(Body::Authorize),
-        PacketKind::Authorization => authorization_of(object).map(Body::Authorization),
-        PacketKind::PutSession => session_of(object).map(Body::PutSession),
-        PacketKind::PostCdr => cdr_of(alloc, object).map(Body::PostCdr),
+        PacketKind::Authorization => boxed_authorization_of(alloc, object).map(Body::Authorization),
+        PacketKind::PutSession => boxed_session_of(alloc, object).map(Body::PutSession),
+        PacketKind::PostCdr => boxed_cdr_of(alloc, object).map(Body::PostCdr),
         PacketKind::Ack => ack_of(object).map(Body::Ack),
     }
 }

@@ -7,6 +7,7 @@ mod cdr_locations;
 mod cdrs;
 mod charging_periods;
 mod commands;
+mod on_heap;
 mod records;
 mod replies;
 mod sessions;
@@ -19,6 +20,10 @@ pub use bodies::body_of;
 pub use cdrs::cdr_of;
 pub use commands::{
     cancel_reservation_of, reserve_now_of, start_session_of, stop_session_of, unlock_connector_of,
+};
+pub use on_heap::{
+    boxed_authorization_of, boxed_cdr_of, boxed_reserve_now_of, boxed_session_of,
+    boxed_start_session_of, boxed_token_of,
 };
 pub use records::{Record, write_optional_record, write_record, write_records};
 pub use replies::{ack_of, command_response_of, command_result_of};

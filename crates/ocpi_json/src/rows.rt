@@ -44,10 +44,10 @@ fn count_of(key: &str, object: &Value) -> Result<Row, JsonFault>
 }
 
 #[tactic(auto, unfolding(crate::specs::RowForms::reply_row_at))]
-fn reply_row_of(key: &str, object: &Value) -> Result<Row, JsonFault>
-    ensures { result ≡ reply_row_at key.now (view object.now) }
+fn reply_row_of(alloc: Global, key: &str, object: &Value) -> Result<Row, JsonFault>
+    ensures { Gives result (reply_row_at key.now (view object.now)) }
 {
-    let reply = carried_reply(object)?;
+    let reply = carried_reply(alloc, object)?;
     match party_number_of(key) {
         Some(parts) => Ok(Row::Reply {
             sender: parts.party,
@@ -217,7 +217,7 @@ fn row_of(alloc: Global, kind: RowKind, key: &str, object: &Value) -> Result<Row
 {
     match kind {
         RowKind::Count => count_of(key, object),
-        RowKind::Reply => reply_row_of(key, object),
+        RowKind::Reply => reply_row_of(alloc, key, object),
         RowKind::Token => token_row_of(alloc, key, object),
         RowKind::Push => push_row_of(alloc, key, object),
         RowKind::Service => service_row_of(key, object),

@@ -20,9 +20,10 @@ use json_text::fields::{
 };
 use json_text::{JsonFault, RecordWriter};
 use ocpi_forms::{
-    ack_of, authorization_of, cancel_reservation_of, cdr_of, command_response_of,
-    command_result_of, reserve_now_of, session_of, start_session_of, stop_session_of, token_of,
-    unlock_connector_of, write_optional_record, write_record,
+    ack_of, boxed_authorization_of, boxed_cdr_of, boxed_reserve_now_of, boxed_session_of,
+    boxed_start_session_of, boxed_token_of, cancel_reservation_of, command_response_of,
+    command_result_of, stop_session_of, token_of, unlock_connector_of, write_optional_record,
+    write_record,
 };
 use ocpi_text::{CiText, Moment, Party};
 use ocpi_types::{
@@ -125,9 +126,9 @@ fn command_of(alloc: Global, kind: OrderWord, object: &Value) -> Result<Command,
     ensures { Gives result (command_at kind (view object.now)) }
 {
     match kind {
-        OrderWord::StartSession => Ok(Command::StartSession(start_session_of(alloc, object)?)),
+        OrderWord::StartSession => boxed_start_session_of(alloc, object).map(Command::StartSession),
         OrderWord::StopSession => Ok(Command::StopSession(stop_session_of(alloc, object)?)),
-        OrderWord::ReserveNow => Ok(Command::ReserveNow(reserve_now_of(alloc, object)?)),
+        OrderWord::ReserveNow => boxed_reserve_now_of(alloc, object).map(Command::ReserveNow),
         OrderWord::CancelReservation => Ok(Command::CancelReservation(cancel_reservation_of(
             alloc, object,
         )?)),
@@ -138,12 +139,12 @@ fn command_of(alloc: Global, kind: OrderWord, object: &Value) -> Result<Command,
 }
 
 #[tactic(auto, unfolding(crate::specs::StoredForms::reply_at))]
-fn reply_of(kind: ReplyWord, object: &Value) -> Result<Reply, JsonFault>
-    ensures { result ≡ reply_at kind (view object.now) }
+fn reply_of(alloc: Global, kind: ReplyWord, object: &Value) -> Result<Reply, JsonFault>
+    ensures { Gives result (reply_at kind (view object.now)) }
 {
     match kind {
         ReplyWord::CommandResponse => Ok(Reply::CommandResponse(command_response_of(object)?)),
-        ReplyWord::Authorization => Ok(Reply::Authorization(authorization_of(object)?)),
+        ReplyWord::Authorization => boxed_authorization_of(alloc, object).map(Reply::Authorization),
         ReplyWord::Ack => Ok(Reply::Ack(ack_of(object)?)),
     }
 }
@@ -154,9 +155,9 @@ fn push_of(alloc: Global, kind: PushWord, object: &Value) -> Result<Push, JsonFa
 {
     match kind {
         PushWord::CommandResult => Ok(Push::CommandResult(command_result_of(alloc, object)?)),
-        PushWord::PutToken => Ok(Push::PutToken(token_of(object)?)),
-        PushWord::PutSession => Ok(Push::PutSession(session_of(object)?)),
-        PushWord::PostCdr => Ok(Push::PostCdr(cdr_of(alloc, object)?)),
+        PushWord::PutToken => boxed_token_of(alloc, object).map(Push::PutToken),
+        PushWord::PutSession => boxed_session_of(alloc, object).map(Push::PutSession),
+        PushWord::PostCdr => boxed_cdr_of(alloc, object).map(Push::PostCdr),
     }
 }
 
@@ -171,11 +172,11 @@ fn carried_command(alloc: Global, object: &Value) -> Result<Command, JsonFault>
 
 /// The reply in `body`, of the kind in `kind`.
 #[tactic(auto, unfolding(crate::specs::StoredForms::carried_at))]
-pub fn carried_reply(object: &Value) -> Result<Reply, JsonFault>
-    ensures { result ≡ carried_at reply_of_word reply_at (view object.now) }
+pub fn carried_reply(alloc: Global, object: &Value) -> Result<Reply, JsonFault>
+    ensures { Gives result (carried_at reply_of_word reply_at (view object.now)) }
 {
     let kind = reply_kind(object)?;
-    reply_of(kind, record_in(object, Field::Body)?)
+    reply_of(alloc, kind, record_in(object, Field::Body)?)
 }
 
 /// The push in `body`, of the kind in `kind`.

@@ -6,8 +6,8 @@ use Rattle.ocpi_types.specs.declared.packet.Body.{Body}
 use Rattle.ocpi_types.specs.declared.packet.Body.TheVariants as body
 use Rattle.ocpi_types.specs.declared.setup.Node.{Node}
 use Rattle.ocpi_types.specs.declared.setup.Node.TheVariants as node
-use Rattle.ocpi_types.specs.declared.stored.Push.{Push}
-use Rattle.ocpi_types.specs.declared.stored.Push.TheVariants as push
+use Rattle.ocpi_types.specs.declared.stored.Reply.{Reply}
+use Rattle.ocpi_types.specs.declared.stored.Reply.TheVariants as reply
 use Rattle.ocpi_types.specs.declared.rows.Change.{Change}
 use Rattle.ocpi_types.specs.declared.rows.Change.TheVariants as change
 use Rattle.ocpi_types.specs.declared.rows.Row.{Row}
@@ -37,24 +37,23 @@ BodyOwnsMemory (body.CancelReservation b) = Unit {0}
 BodyOwnsMemory (body.UnlockConnector b) = Unit {0}
 BodyOwnsMemory (body.CommandResponse b) = ⊥
 BodyOwnsMemory (body.CommandResult b) = Unit {0}
-BodyOwnsMemory (body.PutToken b) = ⊥
+BodyOwnsMemory (body.PutToken b) = Unit {0}
 BodyOwnsMemory (body.Authorize b) = AuthorizeOwnsMemory b
-BodyOwnsMemory (body.Authorization b) = ⊥
-BodyOwnsMemory (body.PutSession b) = ⊥
+BodyOwnsMemory (body.Authorization b) = Unit {0}
+BodyOwnsMemory (body.PutSession b) = Unit {0}
 BodyOwnsMemory (body.PostCdr b) = Unit {0}
 BodyOwnsMemory (body.Ack b) = ⊥
 
-abbrev pub PushOwnsMemory : Push → Type 0
-PushOwnsMemory (push.CommandResult p) = Unit {0}
-PushOwnsMemory (push.PutToken p) = ⊥
-PushOwnsMemory (push.PutSession p) = ⊥
-PushOwnsMemory (push.PostCdr p) = Unit {0}
+abbrev pub ReplyOwnsMemory : Reply → Type 0
+ReplyOwnsMemory (reply.CommandResponse r) = ⊥
+ReplyOwnsMemory (reply.Authorization r) = Unit {0}
+ReplyOwnsMemory (reply.Ack r) = ⊥
 
 abbrev pub RowOwnsMemory : Row → Type 0
 RowOwnsMemory (row.Count counter last) = ⊥
-RowOwnsMemory (row.Reply sender number reply) = ⊥
+RowOwnsMemory (row.Reply sender number reply) = ReplyOwnsMemory reply
 RowOwnsMemory (row.Token token) = ⊥
-RowOwnsMemory (row.Push number to push) = PushOwnsMemory push
+RowOwnsMemory (row.Push number to push) = Unit {0}
 RowOwnsMemory (row.Service evse_uid) = ⊥
 RowOwnsMemory (row.Spent provider reference) = ⊥
 RowOwnsMemory (row.Mark provider reservation_id number) = ⊥

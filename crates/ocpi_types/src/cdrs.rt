@@ -178,3 +178,9 @@ impl Cdr {
         })
     }
 }
+
+impl ListItem for Cdr {
+    fn item_copy(&self) -> Result<Cdr, AllocError> {
+        self.copy()
+    }
+}

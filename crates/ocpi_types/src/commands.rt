@@ -2,6 +2,7 @@
 
 ghost use Rattle.std.specs.Prelude.{◌≡◌, IfOk};
 
+use crate::copies::ListItem;
 use crate::token::Token;
 use ocpi_text::{CiText, FreeText, Moment};
 use std::alloc::AllocError;
@@ -122,5 +123,17 @@ impl UnlockConnector {
             evse_uid: self.evse_uid,
             connector_id: self.connector_id,
         })
+    }
+}
+
+impl ListItem for StartSession {
+    fn item_copy(&self) -> Result<StartSession, AllocError> {
+        self.copy()
+    }
+}
+
+impl ListItem for ReserveNow {
+    fn item_copy(&self) -> Result<ReserveNow, AllocError> {
+        self.copy()
     }
 }

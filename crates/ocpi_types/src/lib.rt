@@ -4,6 +4,7 @@
 
 mod apart;
 mod authorizations;
+mod boxed;
 mod cdrs;
 mod commands;
 mod copies;
@@ -25,6 +26,7 @@ mod token;
 mod words;
 
 pub use authorizations::{Authorization, AuthorizationInfo, Authorize, LocationReferences};
+pub use boxed::Boxed;
 pub use cdrs::{Cdr, CdrDimension, CdrLocation, ChargingPeriod, GeoLocation};
 pub use commands::{CancelReservation, ReserveNow, StartSession, StopSession, UnlockConnector};
 pub use events::{ChargerEvent, Event, EventKind, Order};

@@ -5,6 +5,7 @@ ghost use Rattle.ocpi_types.specs.Kinds.{kind_of};
 ghost use Rattle.ocpi_types.specs.Memory.{BodyOwnsMemory};
 
 use crate::authorizations::{Authorization, Authorize};
+use crate::boxed::Boxed;
 use crate::cdrs::Cdr;
 use crate::commands::{CancelReservation, ReserveNow, StartSession, StopSession, UnlockConnector};
 use crate::replies::{Ack, CommandResponse, CommandResult};
@@ -14,21 +15,21 @@ use crate::words::PacketKind;
 use ocpi_text::{Party, Whole};
 use std::alloc::AllocError;
 
-/// What a packet carries.
+/// What a packet carries. What is large is on the heap, so that packets are small.
 #[derive(Drop)]
 pub enum Body {
-    StartSession(StartSession),
+    StartSession(Boxed<StartSession>),
     StopSession(StopSession),
-    ReserveNow(ReserveNow),
+    ReserveNow(Boxed<ReserveNow>),
     CancelReservation(CancelReservation),
     UnlockConnector(UnlockConnector),
     CommandResponse(CommandResponse),
     CommandResult(CommandResult),
-    PutToken(Token),
+    PutToken(Boxed<Token>),
     Authorize(Authorize),
-    Authorization(Authorization),
-    PutSession(Session),
-    PostCdr(Cdr),
+    Authorization(Boxed<Authorization>),
+    PutSession(Boxed<Session>),
+    PostCdr(Boxed<Cdr>),
     Ack(Ack),
 }
 
@@ -67,10 +68,10 @@ impl Body {
             Body::UnlockConnector(body) => Ok(Body::UnlockConnector(body.copy()?)),
             Body::CommandResponse(body) => Ok(Body::CommandResponse(*body)),
             Body::CommandResult(body) => Ok(Body::CommandResult(body.copy()?)),
-            Body::PutToken(body) => Ok(Body::PutToken(*body)),
+            Body::PutToken(body) => Ok(Body::PutToken(body.copy()?)),
             Body::Authorize(body) => Ok(Body::Authorize(body.copy()?)),
-            Body::Authorization(body) => Ok(Body::Authorization(*body)),
-            Body::PutSession(body) => Ok(Body::PutSession(*body)),
+            Body::Authorization(body) => Ok(Body::Authorization(body.copy()?)),
+            Body::PutSession(body) => Ok(Body::PutSession(body.copy()?)),
             Body::PostCdr(body) => Ok(Body::PostCdr(body.copy()?)),
             Body::Ack(body) => Ok(Body::Ack(*body)),
         }

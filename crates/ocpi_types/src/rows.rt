@@ -6,7 +6,7 @@
 //! all.
 
 ghost use Rattle.std.specs.Prelude.{◌≡◌, IfOk, OnErr};
-ghost use Rattle.ocpi_types.specs.Memory.{PushOwnsMemory, RowOwnsMemory, ChangeOwnsMemory};
+ghost use Rattle.ocpi_types.specs.Memory.{ReplyOwnsMemory, RowOwnsMemory, ChangeOwnsMemory};
 ghost use Rattle.ocpi_types.specs.Rows.{counter_name, key_of};
 ghost use Rattle.ocpi_types.specs.declared.rows.Row.TheVariants as row;
 
@@ -219,11 +219,7 @@ impl Row {
                 sender,
                 number,
                 reply,
-            } => Ok(Row::Reply {
-                sender: *sender,
-                number: *number,
-                reply: *reply,
-            }),
+            } => copy_reply(*sender, *number, reply),
             Row::Token { token } => Ok(Row::Token { token: *token }),
             Row::Push { number, to, push } => copy_push(*number, *to, push),
             Row::Service { evse_uid } => Ok(Row::Service {
@@ -275,9 +271,20 @@ impl Row {
     }
 }
 
+fn copy_reply(sender: PartyKey, number: Whole, reply: &Reply) -> Result<Row, AllocError>
+    ensures equal { IfOk result (λ t. t ≡ row.Reply sender number reply.now) }
+    ensures err { OnErr result (ReplyOwnsMemory reply.now) }
+{
+    let reply = reply.copy()?;
+    Ok(Row::Reply {
+        sender,
+        number,
+        reply,
+    })
+}
+
 fn copy_push(number: Whole, to: Party, push: &Push) -> Result<Row, AllocError>
-    ensures equal { IfOk result (λ t. t ≡ row.Push number to push.now) }
-    ensures err { OnErr result (PushOwnsMemory push.now) }
+    ensures { IfOk result (λ t. t ≡ row.Push number to push.now) }
 {
     let push = push.copy()?;
     Ok(Row::Push { number, to, push })

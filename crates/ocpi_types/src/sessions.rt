@@ -1,9 +1,11 @@
 //! Charging sessions (OCPI 2.2.1, Sessions: Session object).
 
+use crate::copies::ListItem;
 use crate::price::PricePerKwh;
 use crate::token::CdrToken;
 use crate::words::{AuthMethod, SessionStatus};
 use ocpi_text::{CiText, E4, Moment, Party, Quantity, ShortText};
+use std::alloc::AllocError;
 
 /// An amount of money in the currency of what it stands in (OCPI 2.2.1, Types: Price class). It may be negative.
 #[derive(Clone, Copy)]
@@ -51,4 +53,10 @@ pub struct Opening {
     /// An ISO 4217 code, in which the price is.
     pub currency: ShortText<3, 12>,
     pub price: PricePerKwh,
+}
+
+impl ListItem for Session {
+    fn item_copy(&self) -> Result<Session, AllocError> {
+        Ok(*self)
+    }
 }

@@ -2,10 +2,11 @@
 
 ghost use Rattle.std.specs.Prelude.{◌≡◌, IfOk, OnErr};
 ghost use Rattle.ocpi_types.specs.Kinds.{kind_of};
-ghost use Rattle.ocpi_types.specs.Memory.{PushOwnsMemory};
+ghost use Rattle.ocpi_types.specs.Memory.{ReplyOwnsMemory};
 ghost use Rattle.ocpi_types.specs.Stored.{body_of_command, body_of_reply, body_of_push};
 
 use crate::authorizations::Authorization;
+use crate::boxed::Boxed;
 use crate::cdrs::Cdr;
 use crate::commands::{CancelReservation, ReserveNow, StartSession, StopSession, UnlockConnector};
 use crate::packet::Body;
@@ -16,12 +17,12 @@ use crate::words::{CommandResultType, PacketKind};
 use ocpi_text::{CiText, Moment, Party};
 use std::alloc::AllocError;
 
-/// A command of a provider (OCPI 2.2.1, Commands).
+/// A command of a provider (OCPI 2.2.1, Commands). What is large is on the heap.
 #[derive(Drop)]
 pub enum Command {
-    StartSession(StartSession),
+    StartSession(Boxed<StartSession>),
     StopSession(StopSession),
-    ReserveNow(ReserveNow),
+    ReserveNow(Boxed<ReserveNow>),
     CancelReservation(CancelReservation),
     UnlockConnector(UnlockConnector),
 }
@@ -67,13 +68,14 @@ impl Command {
     }
 }
 
-/// What answers a request, and is kept so that the request has the same answer when it comes again.
-#[derive(Clone, Copy)]
+/// What answers a request, and is kept so that the request has the same answer when it comes again. What is large is on the
+/// heap, so that the replies to commands, which are the most, take little room.
+#[derive(Drop)]
 pub enum Reply {
     /// To a command (OCPI 2.2.1, Commands: CommandResponse).
     CommandResponse(CommandResponse),
     /// To the question whether a token may be used (OCPI 2.2.1, Tokens: AuthorizationInfo).
-    Authorization(Authorization),
+    Authorization(Boxed<Authorization>),
     /// To what is handed over: a result, a token, a session or a CDR.
     Ack(Ack),
 }
@@ -100,19 +102,32 @@ impl Reply {
             Reply::Ack(reply) => Body::Ack(reply),
         }
     }
+
+    /// An equal reply. Memory is wanted only where the reply owns some.
+    pub fn copy(&self) -> Result<Reply, AllocError>
+        ensures equal { IfOk result (λ t. t ≡ self.now) }
+        ensures err { OnErr result (ReplyOwnsMemory self.now) }
+    {
+        match self {
+            Reply::CommandResponse(reply) => Ok(Reply::CommandResponse(*reply)),
+            Reply::Authorization(reply) => reply.copy().map(Reply::Authorization),
+            Reply::Ack(reply) => Ok(Reply::Ack(*reply)),
+        }
+    }
 }
 
-/// What a node sends again until it is acknowledged.
+/// What a node sends again until it is acknowledged. What is large is on the heap, so that the results of commands, which are
+/// the most, take little room.
 #[derive(Drop)]
 pub enum Push {
     /// Of an operator (OCPI 2.2.1, Commands: CommandResult).
     CommandResult(CommandResult),
     /// Of a provider (OCPI 2.2.1, Tokens: Token object).
-    PutToken(Token),
+    PutToken(Boxed<Token>),
     /// Of an operator (OCPI 2.2.1, Sessions: Session object).
-    PutSession(Session),
+    PutSession(Boxed<Session>),
     /// Of an operator (OCPI 2.2.1, CDRs: CDR object).
-    PostCdr(Cdr),
+    PostCdr(Boxed<Cdr>),
 }
 
 impl Push {
@@ -140,15 +155,14 @@ impl Push {
         }
     }
 
-    /// An equal push. Memory is wanted only where the push owns some.
+    /// An equal push.
     pub fn copy(&self) -> Result<Push, AllocError>
-        ensures equal { IfOk result (λ t. t ≡ self.now) }
-        ensures err { OnErr result (PushOwnsMemory self.now) }
+        ensures { IfOk result (λ t. t ≡ self.now) }
     {
         match self {
             Push::CommandResult(push) => Ok(Push::CommandResult(push.copy()?)),
-            Push::PutToken(push) => Ok(Push::PutToken(*push)),
-            Push::PutSession(push) => Ok(Push::PutSession(*push)),
+            Push::PutToken(push) => Ok(Push::PutToken(push.copy()?)),
+            Push::PutSession(push) => Ok(Push::PutSession(push.copy()?)),
             Push::PostCdr(push) => Ok(Push::PostCdr(push.copy()?)),
         }
     }

@@ -1,7 +1,9 @@
 //! Tokens (OCPI 2.2.1, Tokens: Token object).
 
+use crate::copies::ListItem;
 use crate::words::{TokenType, WhitelistType};
 use ocpi_text::{CiText, Moment, Party, ShortText};
+use std::alloc::AllocError;
 
 /// What a driver shows, by the contract with a provider.
 #[derive(Clone, Copy)]
@@ -27,4 +29,10 @@ pub struct CdrToken {
     /// The member `type`.
     pub token_type: TokenType,
     pub contract_id: CiText<36>,
+}
+
+impl ListItem for Token {
+    fn item_copy(&self) -> Result<Token, AllocError> {
+        Ok(*self)
+    }
 }

@@ -1,6 +1,6 @@
 //! What an operator stores, with the claims on the site's EVSEs that follow from it.
 
-ghost use Rattle.std.specs.Prelude.{◌≡◌, ◌↔◌, ◌++◌, ◌∷◌, [], List, ℕ, map as list_map, OnOk, IsOk, IsTrue, None, false, IfOk, IfSome, IfNone};
+ghost use Rattle.std.specs.Prelude.{◌≡◌, ◌↔◌, ◌++◌, ◌∷◌, [], List, ℕ, map as list_map, OnOk, IsOk, IsTrue, None, false, IfOk, IfSome, IfNone, option_copied};
 ghost use Rattle.std.specs.FinMap as map;
 ghost use Rattle.ocpi_types.specs.Rows.{key_of};
 ghost use Rattle.tables.specs.Keys.{text_pair_cmp};
@@ -321,8 +321,8 @@ impl Books {
     }
 
     /// The reply that a request got.
-    pub fn reply(&self, provider: PartyKey, number: Whole) -> Option<Reply>
-        ensures { result ≡ map.get self.now.rows.commands.replies (provider, number) }
+    pub fn reply(&self, provider: PartyKey, number: Whole) -> Option<&Reply>
+        ensures { option_copied result ≡ map.get self.now.rows.commands.replies (provider, number) }
     {
         self.commands.reply_kept(provider, number)
     }

@@ -156,7 +156,7 @@ impl Operator {
         ensures { IfOk result (λ v. (c : CommandOf) → body.now ≡ body_of_command c → v.items ≡ decided_rows request.now.at request.now.from request.now.provider request.now.number c decision.now self.now.rows) }
     {
         let mut rows = counter_rows(self.alloc, numbers)?;
-        rows.push(reply_row(request, &respond(decision, request.at)))?;
+        rows.push(reply_row(request, respond(decision, request.at)))?;
         push_own_rows(&mut rows, request, body, decision)?;
         if let Some(outcome) = decision.result() {
             if let Some(numbers) = &numbers.result {
@@ -222,6 +222,7 @@ impl Operator {
         requires { numbers.now ≡ numbers_for self.now.rows None }
         ensures { IfOk result (λ x. planned self.now request.now.at x ≡ again request.now.at request.now.from request.now.number reply.now self.now) }
     {
+        let reply = reply.copy()?;
         let rows = counter_rows(self.alloc, numbers)?;
         let packet = self.packet(request, numbers.reply, request.number, reply.into_body());
         let packets = vec![in self.alloc; packet]?;
@@ -256,7 +257,7 @@ impl Operator {
             let Some(numbers) = self.numbers(None) else {
                 return Err(OperatorFault::NumbersUsedUp);
             };
-            return Ok(self.again(request, &reply, &numbers)?);
+            return Ok(self.again(request, reply, &numbers)?);
         }
         let decision = self.decision(request, &packet.from, &packet.body);
         let Some(numbers) = self.numbers(decision.result()) else {

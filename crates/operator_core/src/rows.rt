@@ -18,6 +18,10 @@ use ocpi_types::{
 };
 use std::alloc::{AllocError, Global};
 
+/// The most rows that a step on a command changes: a reservation that is made has two counters, a reply, a mark, a
+/// reservation, a push and a result.
+const MOST_ROWS: usize = 7;
+
 /// The row of a counter.
 fn counter_row(counter: Counter, last: Whole) -> Change
     ensures { result ≡ Change.Put (Row.Count counter last) }
@@ -25,11 +29,11 @@ fn counter_row(counter: Counter, last: Whole) -> Change
     Change::Put(Row::Count { counter, last })
 }
 
-/// The rows of the counters.
+/// The rows of the counters, with room for the others of a step.
 pub fn counter_rows(alloc: Global, numbers: &Numbers) -> Result<Vec<Change>, AllocError>
     ensures { IfOk result (λ v. v.items ≡ numbered_rows numbers.now) }
 {
-    let mut rows = Vec::new(alloc);
+    let mut rows = Vec::with_capacity(alloc, MOST_ROWS)?;
     let Some(result) = &numbers.result else {
         rows.push(counter_row(Counter::Serial, numbers.reply))?;
         return Ok(rows);
@@ -40,13 +44,13 @@ pub fn counter_rows(alloc: Global, numbers: &Numbers) -> Result<Vec<Change>, All
 }
 
 /// The row of a kept reply.
-pub fn reply_row(request: &Request, reply: &Reply) -> Change
-    ensures { result ≡ Change.Put (Row.Reply request.now.provider request.now.number reply.now) }
+pub fn reply_row(request: &Request, reply: Reply) -> Change
+    ensures { result ≡ Change.Put (Row.Reply request.now.provider request.now.number reply) }
 {
     Change::Put(Row::Reply {
         sender: request.provider,
         number: request.number,
-        reply: *reply,
+        reply,
     })
 }
 

@@ -4,14 +4,8 @@ use Rattle.command_book.proofs.Roomed.{keeps_other_room}
 use Rattle.ocpi_types.specs.declared.rows.RowKey.TheVariants as keys
 use Rattle.command_book.proofs.book.CommandBook.drop_row.Goals as goal
 
-pub returns-in-Reply-clause-room : goal.returns-in-Reply-clause-room
-returns-in-Reply-clause-room c = rw (c.in-Reply.is, c.remove.ensures.room) (key_gone text_number_total text_number_exact _ _)
-
-pub returns-in-Reply-clause-keeps : goal.returns-in-Reply-clause-keeps
-returns-in-Reply-clause-keeps c = rw (c.in-Reply.is, ← c.self.view_is) (keeps_other_room _ _ _ (record { replies = λ q apart had. rw c.remove.ensures.room (others_keep text_number_total text_number_exact _ _ q (λ same. apart (λ i. keys.Reply (same i).0 (same i).1)) had); pending = λ q apart had. had; results = λ q apart had. had; deadlines = λ d q apart had. had }))
-
 pub returns-in-Result-clause-room : goal.returns-in-Result-clause-room
-returns-in-Result-clause-room c = rw (c.in-Result.is, c.remove-in-Result.ensures.room) (key_gone text_number_total text_number_exact _ _)
+returns-in-Result-clause-room c = rw (c.in-Result.is, c.remove.ensures.room) (key_gone text_number_total text_number_exact _ _)
 
 pub returns-in-Result-clause-keeps : goal.returns-in-Result-clause-keeps
-returns-in-Result-clause-keeps c = rw (c.in-Result.is, ← c.self-in-Result.view_is) (keeps_other_room _ _ _ (record { replies = λ q apart had. had; pending = λ q apart had. had; results = λ q apart had. rw c.remove-in-Result.ensures.room (others_keep text_number_total text_number_exact _ _ q (λ same. apart (λ i. keys.Result (same i).0 (same i).1)) had); deadlines = λ d q apart had. had }))
+returns-in-Result-clause-keeps c = rw (c.in-Result.is, ← c.self.view_is) (keeps_other_room _ _ _ (record { replies = λ q apart had. had; pending = λ q apart had. had; results = λ q apart had. rw c.remove.ensures.room (others_keep text_number_total text_number_exact _ _ q (λ same. apart (λ i. keys.Result (same i).0 (same i).1)) had); deadlines = λ d q apart had. had }))

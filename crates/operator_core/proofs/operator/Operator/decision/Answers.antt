@@ -1,4 +1,6 @@
 use Rattle.std.proofs.Common.{subst}
+use Rattle.ocpi_types.specs.declared.commands.StartSession.{StartSession}
+use Rattle.ocpi_types.specs.declared.commands.ReserveNow.{ReserveNow}
 use Rattle.ocpi_types.specs.declared.stored.Command.TheVariants as command
 use Rattle.operator_core.specs.State.{State}
 use Rattle.operator_core.specs.Start.{StartLine}
@@ -10,12 +12,14 @@ use Rattle.operator_core.proofs.operator.Operator.decision.Goals as goal
 
 pub returns-in-StartSession : goal.returns-in-StartSession
 returns-in-StartSession c =
-    let line = subst (λ (z : State). StartLine z.site z.rows c.args.sender.now c.in-StartSession.command c.decide_start.result) c.self.view_is c.decide_start.ensures in
+    let seen = subst (λ (z : State). StartLine z.site z.rows c.args.sender.now c.deref.result.now c.decide_start.result) c.self.view_is c.decide_start.ensures in
+    let line = subst (λ (x : StartSession). StartLine c.args.self.now.site c.args.self.now.rows c.args.sender.now x c.decide_start.result) c.deref.ensures seen in
     decides_as c.args.self.now c.args.request.now.at c.args.sender.now c.args.request.now.number c.args.body.now (command.StartSession c.in-StartSession.command) c.decide_start.result c.in-StartSession.is line
 
 pub returns-in-ReserveNow : goal.returns-in-ReserveNow
 returns-in-ReserveNow c =
-    let line = subst (λ (z : State). ReserveLine z.site z.rows c.args.request.now.at c.args.sender.now c.args.request.now.number c.in-ReserveNow.command c.decide_reserve.result) c.self.view_is c.decide_reserve.ensures in
+    let seen = subst (λ (z : State). ReserveLine z.site z.rows c.args.request.now.at c.args.sender.now c.args.request.now.number c.deref-in-ReserveNow.result.now c.decide_reserve.result) c.self.view_is c.decide_reserve.ensures in
+    let line = subst (λ (x : ReserveNow). ReserveLine c.args.self.now.site c.args.self.now.rows c.args.request.now.at c.args.sender.now c.args.request.now.number x c.decide_reserve.result) c.deref-in-ReserveNow.ensures seen in
     decides_as c.args.self.now c.args.request.now.at c.args.sender.now c.args.request.now.number c.args.body.now (command.ReserveNow c.in-ReserveNow.command) c.decide_reserve.result c.in-ReserveNow.is line
 
 pub returns-in-CancelReservation : goal.returns-in-CancelReservation

@@ -7,20 +7,20 @@ use Rattle.operator_core.proofs.operator.Operator.on_command.Goals as goal
 
 pub returns-in_default-numbers-clause-fault : goal.returns-in_default-numbers-clause-fault
 returns-in_default-numbers-clause-fault c =
-    let has : get c.args.self.now.rows.commands.replies (c.args.request.now.provider, c.args.request.now.number) ≡ Some c.in-Some.reply = rw (← c.self.view_is) (sym c.in-Some.ensures) in
-    again_used_up c.args.self.now c.args.packet.now c.args.request.now c.requires.request c.requires.command.0 c.requires.command.1 c.in-Some.reply has c.in_default-numbers.ensures.past
+    let has : get c.args.self.now.rows.commands.replies (c.args.request.now.provider, c.args.request.now.number) ≡ Some c.in-Some.reply.now = rw (← c.self.view_is) (sym c.in-Some.ensures) in
+    again_used_up c.args.self.now c.args.packet.now c.args.request.now c.requires.request c.requires.command.0 c.requires.command.1 c.in-Some.reply.now has c.in_default-numbers.ensures.past
 
 pub returns-in_err-again-clause-fault : goal.returns-in_err-again-clause-fault
 returns-in_err-again-clause-fault c =
-    let has : get c.args.self.now.rows.commands.replies (c.args.request.now.provider, c.args.request.now.number) ≡ Some c.in-Some.reply = rw (← c.self.view_is) (sym c.in-Some.ensures) in
+    let has : get c.args.self.now.rows.commands.replies (c.args.request.now.provider, c.args.request.now.number) ≡ Some c.in-Some.reply.now = rw (← c.self.view_is) (sym c.in-Some.ensures) in
     let p = err_from_is_err_and c.from_residual.result c.from_residual.ensures.1 in
     rw (p.1, p.2)
-    (again_may c.args.self.now c.args.packet.now c.args.request.now c.requires.request c.requires.command.0 c.requires.command.1 c.in-Some.reply has c.in-Some-numbers.ensures.within c.counters_are_in_range.ensures)
+    (again_may c.args.self.now c.args.packet.now c.args.request.now c.requires.request c.requires.command.0 c.requires.command.1 c.in-Some.reply.now has c.in-Some-numbers.ensures.within c.counters_are_in_range.ensures)
 
 pub returns-in-Some-clause-step : goal.returns-in-Some-clause-step
 returns-in-Some-clause-step c =
-    let has : get c.args.self.now.rows.commands.replies (c.args.request.now.provider, c.args.request.now.number) ≡ Some c.in-Some.reply = rw (← c.self.view_is) (sym c.in-Some.ensures) in
-    again_step c.args.self.now c.args.packet.now c.args.request.now c.requires.request c.requires.command.0 c.requires.command.1 c.in-Some.reply has c.in-Some-numbers.ensures.within c.counters_are_in_range.ensures
+    let has : get c.args.self.now.rows.commands.replies (c.args.request.now.provider, c.args.request.now.number) ≡ Some c.in-Some.reply.now = rw (← c.self.view_is) (sym c.in-Some.ensures) in
+    again_step c.args.self.now c.args.packet.now c.args.request.now c.requires.request c.requires.command.0 c.requires.command.1 c.in-Some.reply.now has c.in-Some-numbers.ensures.within c.counters_are_in_range.ensures
     _ c.in_ok-again.ensures
 
 pub returns-in_default-numbers-2-clause-fault : goal.returns-in_default-numbers-2-clause-fault
