@@ -216,9 +216,11 @@ module _ (s t : State) (e : Event) where
         above = λ x has. let below = timely x has in let number = m.number in omega (arith, below, number);
         new = ap (λ z. get s.rows.commands.replies (key h.packet.from, z)) (sym m.number) ∙ h.new;
         answered =
-            let r = reply_of h.at h.decision in
-            (r, ap (λ (z : book.Replies). get z (key h.packet.from, n)) (decided_leaves s e t h).replies ∙ ap (λ z. get (insert s.rows.commands.replies (key h.packet.from, h.packet.request) r) (key h.packet.from, z)) (sym m.number)
-                ∙ get-insert_same text_number_total text_number_exact s.rows.commands.replies (key h.packet.from, h.packet.request) r);
+            let r = reply_of h.at h.decision in (
+              r,
+              ap (λ (z : book.Replies). get z (key h.packet.from, n)) (decided_leaves s e t h).replies ∙ ap (λ z. get (insert s.rows.commands.replies (key h.packet.from, h.packet.request) r) (key h.packet.from, z)) (sym m.number)
+                  ∙ get-insert_same text_number_total text_number_exact s.rows.commands.replies (key h.packet.from, h.packet.request) r,
+            );
       })
   marked_shape (Finished h) p id n puts =
       absurd (puts_none (row.Mark p id n) tt s.rows h.ends h.expired h.due (subst (λ l. Contains l (Put (row.Mark p id n))) (ap (λ (z : Out). z.changes) h.out) puts))
