@@ -160,7 +160,7 @@ fn take_event<W: Write>(
         }
         EventKind::Charger { at, event } => write_answer(
             alloc,
-            report(operator, at, event),
+            report(operator, at, &event),
             output,
         ),
         EventKind::Tick { at } => write_answer(alloc, tick(operator, at), output),
@@ -189,10 +189,10 @@ fn serve(
 fn report(
     operator: &mut Operator,
     at: Moment,
-    event: ChargerEvent,
+    event: &ChargerEvent,
 ) -> Result<Stepped, OperatorFault> {
-    match operator.on_charger(at, event) {
-        Err(OperatorFault::Memory) => operator.on_charger(at, event),
+    match operator.on_charger(at, *event) {
+        Err(OperatorFault::Memory) => operator.on_charger(at, *event),
         answer => answer,
     }
 }
