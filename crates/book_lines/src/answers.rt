@@ -4,7 +4,7 @@ use command_book::CommandFault;
 use handover::HandoverFault;
 use ocpi_json::{RowKind, write_key, write_row};
 use ocpi_text::{CiKey, CiText, PartyKey, Whole};
-use ocpi_types::{Cdr, Place, Reservation, Row, Session, Token, Word};
+use ocpi_types::{Boxed, Cdr, Place, Reservation, Row, Session, Token, Word};
 use reservation_book::ReservationFault;
 use session_state::SessionFault;
 use site::{Claim, SiteFault};
@@ -147,7 +147,7 @@ fn write_reference(reference: &Reference, out: &mut String) -> Option<()> {
 }
 
 fn write_stored(alloc: Global, stored: &Stored, out: &mut String) -> Option<()> {
-    write_row_text(alloc, row_of(stored), out)
+    write_row_text(alloc, row_of(alloc, stored)?, out)
 }
 
 /// Writes the text of a row.
@@ -155,16 +155,44 @@ pub(crate) fn write_row_text(alloc: Global, row: Row, out: &mut String) -> Optio
     write_text(alloc, &row, out)
 }
 
-fn row_of(stored: &Stored) -> Row {
+/// What is stored as a row. None, where memory is wanting.
+fn row_of(alloc: Global, stored: &Stored) -> Option<Row> {
     match stored {
-        Stored::Session(session) => Row::Session { session: *session },
-        Stored::Token(token) => Row::Token { token: *token },
-        Stored::Reservation(provider, id, reservation) => Row::Reservation {
-            provider: *provider,
-            reservation_id: *id,
-            reservation: *reservation,
-        },
+        Stored::Session(session) => session_row(alloc, session),
+        Stored::Token(token) => token_row(alloc, token),
+        Stored::Reservation(provider, id, reservation) => {
+            reservation_row(alloc, *provider, *id, reservation)
+        }
     }
+}
+
+fn session_row(alloc: Global, session: &Session) -> Option<Row> {
+    let session = Boxed::new(alloc, *session).ok()?;
+    Some(Row::Session { session })
+}
+
+fn token_row(alloc: Global, token: &Token) -> Option<Row> {
+    let token = Boxed::new(alloc, *token).ok()?;
+    Some(Row::Token { token })
+}
+
+fn reservation_row(
+    alloc: Global,
+    provider: PartyKey,
+    reservation_id: CiKey<36>,
+    reservation: &Reservation,
+) -> Option<Row> {
+    let reservation = Boxed::new(alloc, *reservation).ok()?;
+    Some(Row::Reservation {
+        provider,
+        reservation_id,
+        reservation,
+    })
+}
+
+fn cdr_row(alloc: Global, cdr: Cdr) -> Option<Row> {
+    let cdr = Boxed::new(alloc, cdr).ok()?;
+    Some(Row::Cdr { cdr })
 }
 
 /// The text of a row.
@@ -175,9 +203,13 @@ fn write_text(alloc: Global, row: &Row, out: &mut String) -> Option<()> {
     }
 }
 
+fn write_cdr_text(alloc: Global, cdr: Cdr, out: &mut String) -> Option<()> {
+    write_row_text(alloc, cdr_row(alloc, cdr)?, out)
+}
+
 /// Writes the members of a charge detail record.
 pub(crate) fn write_cdr(alloc: Global, cdr: Cdr, out: &mut String) -> Answer {
-    said(write_row_text(alloc, Row::Cdr { cdr }, out))
+    said(write_cdr_text(alloc, cdr, out))
 }
 
 /// The kind and the key of a row, on a line of its own.

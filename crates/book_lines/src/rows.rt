@@ -90,7 +90,7 @@ fn put_row(books: &mut Books, given: &Given, row: Row) -> Answer {
 fn call_row(alloc: Global, books: &mut Books, given: &Given, row: Row, out: &mut String) -> Answer {
     match row {
         Row::Session { session } => call_version(books, given, &session),
-        Row::Cdr { cdr } => call_cdr(alloc, books, given, cdr, out),
+        Row::Cdr { cdr } => call_cdr(alloc, books, given, cdr.into_inner(), out),
         Row::Reply {
             sender,
             number,
@@ -111,7 +111,7 @@ fn call_row(alloc: Global, books: &mut Books, given: &Given, row: Row, out: &mut
             given,
             provider,
             reservation_id,
-            reservation,
+            reservation.into_inner(),
         ),
         Row::Push { to, push, .. } => call_with_push(&mut books.outbox, given, to, push),
         row => {

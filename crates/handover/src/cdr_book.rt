@@ -11,7 +11,7 @@ ghost use Rattle.handover.specs.Cdrs.{AreOwnCdrs, HasRoomOfCdr, KeepsCdrRoom, Gi
 use crate::currency::Currency;
 use crate::sums::Sums;
 use ocpi_text::{CiKey, CiText, PartyKey};
-use ocpi_types::{Cdr, Row};
+use ocpi_types::{Boxed, Cdr, Row};
 use std::alloc::{AllocError, Global};
 use std::marker::Model;
 use tables::Table;
@@ -99,11 +99,12 @@ impl CdrBook {
     }
 
     /// Adds the row of each record to a list, in the order of their keys.
-    pub(crate) fn push_rows(&self, rows: &mut Vec<Row>) -> Result<(), AllocError>
+    pub(crate) fn push_rows(&self, alloc: Global, rows: &mut Vec<Row>) -> Result<(), AllocError>
         ensures { OnOk result (rows.new.items ≡ rows.old.items ++ cdr_rows self.now.cdrs) }
     {
         for (_, cdr) in self.cdrs.iter() {
-            rows.push(Row::Cdr { cdr: cdr.copy()? })?;
+            let cdr = Boxed::new(alloc, cdr.copy()?)?;
+            rows.push(Row::Cdr { cdr })?;
         }
         Ok(())
     }

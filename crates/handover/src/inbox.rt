@@ -164,6 +164,33 @@ impl Inbox {
         }
     }
 
+    /// Puts a session, in place of the one of its key. An error is want of memory, for one that has no room, and leaves the
+    /// rows as they were.
+    fn add_session(&mut self, session: &Session) -> Result<(), AllocError>
+        ensures ok { OnOk result (self.new.rows ≡ put_row (Row.Session session.now) self.old.rows) }
+        ensures err { OnErr result (self.new.rows ≡ self.old.rows) }
+        ensures keeps { KeepsRoom self.old.rooms self.new.rooms }
+        ensures again { HasRoomOf self.old.rooms (Row.Session session.now) → IsOk result }
+    {
+        let key = (session.party.key(), session.id.key());
+        self.sessions.reserve(key)?;
+        self.sessions.put(key, *session);
+        Ok(())
+    }
+
+    /// Puts a charge detail record, in place of the one of its key. An error is want of memory, for one that has no room, and
+    /// leaves the rows as they were.
+    fn add_cdr(&mut self, cdr: Cdr) -> Result<(), AllocError>
+        ensures ok { OnOk result (self.new.rows ≡ put_row (Row.Cdr cdr) self.old.rows) }
+        ensures err { OnErr result (self.new.rows ≡ self.old.rows) }
+        ensures keeps { KeepsRoom self.old.rooms self.new.rooms }
+        ensures again { HasRoomOf self.old.rooms (Row.Cdr cdr) → IsOk result }
+    {
+        self.cdrs.reserve(&cdr)?;
+        self.cdrs.put(cdr);
+        Ok(())
+    }
+
     /// Takes a version of a session that a sender hands over to the party `own`, where `session_taking` says so. Refused
     /// are what it refuses (`WrongParty`), and want of memory for one that is to be taken and has no room (`Memory`).
     pub fn take_session(
@@ -183,7 +210,7 @@ impl Inbox {
         match self.session_taking(own, sender, session)? {
             SessionTaking::Kept => Ok(SessionTaking::Kept),
             SessionTaking::Taken => {
-                self.add_row(Row::Session { session: *session })?;
+                self.add_session(session)?;
                 Ok(SessionTaking::Taken)
             }
         }
@@ -211,7 +238,7 @@ impl Inbox {
         self.consistency();
         let taking = self.cdr_taking(own, sender, &cdr)?;
         match taking {
-            CdrTaking::Taken => self.add_row(Row::Cdr { cdr })?,
+            CdrTaking::Taken => self.add_cdr(cdr)?,
             CdrTaking::Kept | CdrTaking::Conflict => {}
         }
         Ok(taking)
@@ -251,8 +278,8 @@ impl Inbox {
         match row {
             Row::Session { session } => self
                 .sessions
-                .put((session.party.key(), session.id.key()), session),
-            Row::Cdr { cdr } => self.cdrs.put(cdr),
+                .put((session.party.key(), session.id.key()), *session),
+            Row::Cdr { cdr } => self.cdrs.put(cdr.into_inner()),
             _ => {}
         }
     }

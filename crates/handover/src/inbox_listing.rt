@@ -8,18 +8,20 @@ ghost use Rattle.handover.specs.InboxListing.{AreOwnRows, AreRowsOf, RowsAreAll,
 
 use crate::inbox::Inbox;
 use ocpi_text::{CiKey, PartyKey};
-use ocpi_types::{Row, Session};
+use ocpi_types::{Boxed, Row, Session};
 use std::alloc::{AllocError, Global};
 use tables::Table;
 
 fn push_sessions(
+    alloc: Global,
     sessions: &Table<(PartyKey, CiKey<36>), Session>,
     rows: &mut Vec<Row>,
 ) -> Result<(), AllocError>
     ensures { OnOk result (rows.new.items ≡ rows.old.items ++ session_rows (shown_of text_pair_cmp sessions.now)) }
 {
     for (_, session) in sessions.iter() {
-        rows.push(Row::Session { session: *session })?;
+        let session = Boxed::new(alloc, *session)?;
+        rows.push(Row::Session { session })?;
     }
     Ok(())
 }
@@ -42,11 +44,11 @@ impl Inbox {
     }
 
     /// The rows kind by kind, each in the order of its keys.
-    fn push_rows(&self, rows: &mut Vec<Row>) -> Result<(), AllocError>
+    fn push_rows(&self, alloc: Global, rows: &mut Vec<Row>) -> Result<(), AllocError>
         ensures { OnOk result (rows.new.items ≡ rows.old.items ++ rows_of self.now.rows) }
     {
-        push_sessions(&self.sessions, rows)?;
-        self.cdrs.push_rows(rows)?;
+        push_sessions(alloc, &self.sessions, rows)?;
+        self.cdrs.push_rows(alloc, rows)?;
         Ok(())
     }
 
@@ -56,7 +58,7 @@ impl Inbox {
     {
         self.consistency();
         let mut rows = Vec::new(alloc);
-        self.push_rows(&mut rows)?;
+        self.push_rows(alloc, &mut rows)?;
         Ok(rows)
     }
 
@@ -89,7 +91,7 @@ impl Inbox {
     {
         self.consistency();
         let mut rows = Vec::new(alloc);
-        self.push_rows(&mut rows)?;
+        self.push_rows(alloc, &mut rows)?;
         let mut copy = Inbox::new(alloc);
         copy.add_rows(rows)?;
         Ok(copy)

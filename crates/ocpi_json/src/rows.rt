@@ -13,12 +13,12 @@ ghost use Rattle.ocpi_json.specs.RowForms.{RowTextFits, count_at, reply_row_at, 
 use crate::row_keys::{ci_key_of, counter_of, number_of, party_id_of, party_number_of, write_key};
 use crate::row_kinds::RowKind;
 use crate::stored::{
-    carried_push, carried_reply, open_command_of, reservation_of, sent_command_of,
+    boxed_reservation_of, carried_push, carried_reply, open_command_of, sent_command_of,
     write_open_command, write_push, write_reply, write_reservation, write_sent_command,
 };
 use json_text::fields::{as_record, party_in, whole_in, word_in};
 use json_text::{JsonFault, RecordWriter};
-use ocpi_forms::{Record, cdr_of, session_of, token_of};
+use ocpi_forms::{Record, boxed_cdr_of, boxed_session_of, boxed_token_of};
 use ocpi_text::Whole;
 use ocpi_types::{CommandResultType, Field, Row, RowKey};
 use serde_json::Value;
@@ -62,7 +62,7 @@ fn reply_row_of(alloc: Global, key: &str, object: &Value) -> Result<Row, JsonFau
 fn token_row_of(alloc: Global, key: &str, object: &Value) -> Result<Row, JsonFault>
     ensures { Gives result (token_row_at key.now (view object.now)) }
 {
-    let token = token_of(object)?;
+    let token = boxed_token_of(alloc, object)?;
     let own = RowKey::Token {
         party: token.party.key(),
         token_type: token.token_type,
@@ -125,10 +125,10 @@ fn mark_of(key: &str, object: &Value) -> Result<Row, JsonFault>
 }
 
 #[tactic(auto, unfolding(crate::specs::RowForms::reservation_row_at))]
-fn reservation_row_of(key: &str, object: &Value) -> Result<Row, JsonFault>
-    ensures { result ≡ reservation_row_at key.now (view object.now) }
+fn reservation_row_of(alloc: Global, key: &str, object: &Value) -> Result<Row, JsonFault>
+    ensures { Gives result (reservation_row_at key.now (view object.now)) }
 {
-    let reservation = reservation_of(object)?;
+    let reservation = boxed_reservation_of(alloc, object)?;
     match party_id_of(key) {
         Some(parts) => Ok(Row::Reservation {
             provider: parts.party,
@@ -173,7 +173,7 @@ fn result_row_of(key: &str, object: &Value) -> Result<Row, JsonFault>
 fn session_row_of(alloc: Global, key: &str, object: &Value) -> Result<Row, JsonFault>
     ensures { Gives result (session_row_at key.now (view object.now)) }
 {
-    let session = session_of(object)?;
+    let session = boxed_session_of(alloc, object)?;
     let own = RowKey::Session {
         operator: session.party.key(),
         id: session.id.key(),
@@ -188,7 +188,7 @@ fn session_row_of(alloc: Global, key: &str, object: &Value) -> Result<Row, JsonF
 fn cdr_row_of(alloc: Global, key: &str, object: &Value) -> Result<Row, JsonFault>
     ensures { Gives result (cdr_row_at key.now (view object.now)) }
 {
-    let cdr = cdr_of(alloc, object)?;
+    let cdr = boxed_cdr_of(alloc, object)?;
     let own = RowKey::Cdr {
         operator: cdr.party.key(),
         id: cdr.id.key(),
@@ -223,7 +223,7 @@ fn row_of(alloc: Global, kind: RowKind, key: &str, object: &Value) -> Result<Row
         RowKind::Service => service_row_of(key, object),
         RowKind::Spent => spent_of(key, object),
         RowKind::Mark => mark_of(key, object),
-        RowKind::Reservation => reservation_row_of(key, object),
+        RowKind::Reservation => reservation_row_of(alloc, key, object),
         RowKind::Pending => pending_of(alloc, key, object),
         RowKind::Result => result_row_of(key, object),
         RowKind::Session => session_row_of(alloc, key, object),

@@ -27,8 +27,8 @@ use ocpi_forms::{
 };
 use ocpi_text::{CiText, Moment, Party};
 use ocpi_types::{
-    Command, CommandResponse, CommandResultType, Field, OpenCommand, Push, Reply, Reservation,
-    SentCommand,
+    Boxed, Command, CommandResponse, CommandResultType, Field, OpenCommand, Push, Reply,
+    Reservation, SentCommand,
 };
 use serde_json::Value;
 use std::alloc::{AllocError, Global};
@@ -190,7 +190,7 @@ pub fn carried_push(alloc: Global, object: &Value) -> Result<Push, JsonFault>
 
 /// A reservation.
 #[tactic(auto, unfolding(crate::specs::StoredForms::reservation_at))]
-pub fn reservation_of(object: &Value) -> Result<Reservation, JsonFault>
+fn reservation_of(object: &Value) -> Result<Reservation, JsonFault>
     ensures { result ≡ reservation_at (view object.now) }
 {
     let evse_uid = ci_in(object, Field::EvseUid)?;
@@ -203,6 +203,14 @@ pub fn reservation_of(object: &Value) -> Result<Reservation, JsonFault>
         location_id,
         token,
     })
+}
+
+/// As `reservation_of`, on the heap.
+pub fn boxed_reservation_of(alloc: Global, object: &Value) -> Result<Boxed<Reservation>, JsonFault>
+    ensures { Gives result (reservation_at (view object.now)) }
+{
+    let reservation = reservation_of(object)?;
+    Ok(Boxed::new(alloc, reservation)?)
 }
 
 #[tactic(auto, unfolding(crate::specs::StoredForms::open_parts_at))]

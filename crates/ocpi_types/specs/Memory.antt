@@ -52,15 +52,15 @@ ReplyOwnsMemory (reply.Ack r) = ⊥
 abbrev pub RowOwnsMemory : Row → Type 0
 RowOwnsMemory (row.Count counter last) = ⊥
 RowOwnsMemory (row.Reply sender number reply) = ReplyOwnsMemory reply
-RowOwnsMemory (row.Token token) = ⊥
+RowOwnsMemory (row.Token token) = Unit {0}
 RowOwnsMemory (row.Push number to push) = Unit {0}
 RowOwnsMemory (row.Service evse_uid) = ⊥
 RowOwnsMemory (row.Spent provider reference) = ⊥
 RowOwnsMemory (row.Mark provider reservation_id number) = ⊥
-RowOwnsMemory (row.Reservation provider reservation_id reservation) = ⊥
+RowOwnsMemory (row.Reservation provider reservation_id reservation) = Unit {0}
 RowOwnsMemory (row.Pending provider number open_command) = Unit {0}
 RowOwnsMemory (row.Result provider number result) = ⊥
-RowOwnsMemory (row.Session session) = ⊥
+RowOwnsMemory (row.Session session) = Unit {0}
 RowOwnsMemory (row.Cdr cdr) = Unit {0}
 RowOwnsMemory (row.Command number command) = Unit {0}
 

@@ -10,6 +10,7 @@ ghost use Rattle.ocpi_types.specs.Memory.{ReplyOwnsMemory, RowOwnsMemory, Change
 ghost use Rattle.ocpi_types.specs.Rows.{counter_name, key_of};
 ghost use Rattle.ocpi_types.specs.declared.rows.Row.TheVariants as row;
 
+use crate::boxed::Boxed;
 use crate::cdrs::Cdr;
 use crate::sessions::Session;
 use crate::stored::{OpenCommand, Push, Reply, Reservation, SentCommand};
@@ -55,7 +56,7 @@ pub struct Place {
     pub connector_id: CiText<36>,
 }
 
-/// A row.
+/// A row. What is large is on the heap, so that the changes of a step take little room.
 #[derive(Drop)]
 pub enum Row {
     /// Kind `count`, under the counter's name: the last number that was given. A counter that has given none has no row.
@@ -73,7 +74,7 @@ pub enum Row {
     /// Kind `token`, under `PARTY/TYPE/UID`, which are the token's: a token that is known (OCPI 2.2.1, Tokens: Token
     /// object).
     Token {
-        token: Token,
+        token: Boxed<Token>,
     },
     /// Kind `push`, under its number: a request that is sent again until its addressee acknowledges it.
     Push {
@@ -103,7 +104,7 @@ pub enum Row {
     Reservation {
         provider: PartyKey,
         reservation_id: CiKey<36>,
-        reservation: Reservation,
+        reservation: Boxed<Reservation>,
     },
     /// Kind `pending`, under `PARTY/NUMBER`: a command of that number of that provider that was accepted and has no result
     /// yet (OCPI 2.2.1, Commands).
@@ -121,11 +122,11 @@ pub enum Row {
     },
     /// Kind `session`, under `PARTY/ID`, which are the session's: its newest version (OCPI 2.2.1, Sessions: Session object).
     Session {
-        session: Session,
+        session: Boxed<Session>,
     },
     /// Kind `cdr`, under `PARTY/ID`, which are the charge detail record's (OCPI 2.2.1, CDRs: CDR object).
     Cdr {
-        cdr: Cdr,
+        cdr: Boxed<Cdr>,
     },
     /// Kind `command`, under its number: a command that the provider has sent (OCPI 2.2.1, Commands).
     Command {
@@ -220,7 +221,7 @@ impl Row {
                 number,
                 reply,
             } => copy_reply(*sender, *number, reply),
-            Row::Token { token } => Ok(Row::Token { token: *token }),
+            Row::Token { token } => copy_token(token),
             Row::Push { number, to, push } => copy_push(*number, *to, push),
             Row::Service { evse_uid } => Ok(Row::Service {
                 evse_uid: *evse_uid,
@@ -245,11 +246,7 @@ impl Row {
                 provider,
                 reservation_id,
                 reservation,
-            } => Ok(Row::Reservation {
-                provider: *provider,
-                reservation_id: *reservation_id,
-                reservation: *reservation,
-            }),
+            } => copy_reservation(*provider, *reservation_id, reservation),
             Row::Pending {
                 provider,
                 number,
@@ -264,7 +261,7 @@ impl Row {
                 number: *number,
                 result: *result,
             }),
-            Row::Session { session } => Ok(Row::Session { session: *session }),
+            Row::Session { session } => copy_session(session),
             Row::Cdr { cdr } => copy_cdr(cdr),
             Row::Command { number, command } => copy_command(*number, command),
         }
@@ -301,7 +298,36 @@ fn copy_pending(provider: PartyKey, number: Whole, command: &OpenCommand) -> Res
     })
 }
 
-fn copy_cdr(cdr: &Cdr) -> Result<Row, AllocError>
+fn copy_token(token: &Boxed<Token>) -> Result<Row, AllocError>
+    ensures { IfOk result (λ t. t ≡ row.Token token.now) }
+{
+    let token = token.copy()?;
+    Ok(Row::Token { token })
+}
+
+fn copy_reservation(
+    provider: PartyKey,
+    reservation_id: CiKey<36>,
+    reservation: &Boxed<Reservation>,
+) -> Result<Row, AllocError>
+    ensures { IfOk result (λ t. t ≡ row.Reservation provider reservation_id reservation.now) }
+{
+    let reservation = reservation.copy()?;
+    Ok(Row::Reservation {
+        provider,
+        reservation_id,
+        reservation,
+    })
+}
+
+fn copy_session(session: &Boxed<Session>) -> Result<Row, AllocError>
+    ensures { IfOk result (λ t. t ≡ row.Session session.now) }
+{
+    let session = session.copy()?;
+    Ok(Row::Session { session })
+}
+
+fn copy_cdr(cdr: &Boxed<Cdr>) -> Result<Row, AllocError>
     ensures { IfOk result (λ t. t ≡ row.Cdr cdr.now) }
 {
     let cdr = cdr.copy()?;

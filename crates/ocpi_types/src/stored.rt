@@ -9,6 +9,7 @@ use crate::authorizations::Authorization;
 use crate::boxed::Boxed;
 use crate::cdrs::Cdr;
 use crate::commands::{CancelReservation, ReserveNow, StartSession, StopSession, UnlockConnector};
+use crate::copies::ListItem;
 use crate::packet::Body;
 use crate::replies::{Ack, CommandResponse, CommandResult};
 use crate::sessions::Session;
@@ -205,6 +206,12 @@ pub struct Reservation {
     /// As the site spells it.
     pub location_id: CiText<36>,
     pub token: Token,
+}
+
+impl ListItem for Reservation {
+    fn item_copy(&self) -> Result<Reservation, AllocError> {
+        Ok(*self)
+    }
 }
 
 /// A command that a provider has sent, with what came back. As long as neither came it is sent again.

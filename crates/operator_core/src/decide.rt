@@ -157,7 +157,7 @@ impl Operator {
     {
         let mut rows = counter_rows(self.alloc, numbers)?;
         rows.push(reply_row(request, respond(decision, request.at)))?;
-        push_own_rows(&mut rows, request, body, decision)?;
+        push_own_rows(self.alloc, &mut rows, request, body, decision)?;
         if let Some(outcome) = decision.result() {
             if let Some(numbers) = &numbers.result {
                 push_result_rows(&mut rows, request, body, outcome, numbers)?;

@@ -13,14 +13,13 @@ use crate::decision::Decision;
 use crate::request::{Numbers, Request, ResultNumbers, TIMEOUT};
 use ocpi_text::{CiKey, CiText, FreeText, Moment, Whole};
 use ocpi_types::{
-    Body, Change, Command, CommandResult, CommandResultType, Counter, OpenCommand, Place, Push,
-    Reply, Reservation, Row, RowKey,
+    Body, Boxed, Change, Command, CommandResult, CommandResultType, Counter, OpenCommand, Place,
+    Push, Reply, Reservation, Row, RowKey,
 };
 use std::alloc::{AllocError, Global};
 
-/// The most rows that a step on a command changes: a reservation that is made has two counters, a reply, a mark, a
-/// reservation, a push and a result.
-const MOST_ROWS: usize = 7;
+/// The rows that most steps on a command change: two counters, a reply, a push and a result.
+const USUAL_ROWS: usize = 5;
 
 /// The row of a counter.
 fn counter_row(counter: Counter, last: Whole) -> Change
@@ -33,7 +32,7 @@ fn counter_row(counter: Counter, last: Whole) -> Change
 pub fn counter_rows(alloc: Global, numbers: &Numbers) -> Result<Vec<Change>, AllocError>
     ensures { IfOk result (λ v. v.items ≡ numbered_rows numbers.now) }
 {
-    let mut rows = Vec::with_capacity(alloc, MOST_ROWS)?;
+    let mut rows = Vec::with_capacity(alloc, USUAL_ROWS)?;
     let Some(result) = &numbers.result else {
         rows.push(counter_row(Counter::Serial, numbers.reply))?;
         return Ok(rows);
@@ -182,6 +181,7 @@ fn push_mark_row(
 
 /// Adds the row of a reservation.
 fn push_reservation_row(
+    alloc: Global,
     rows: &mut Vec<Change>,
     request: &Request,
     reservation_id: CiKey<36>,
@@ -189,16 +189,18 @@ fn push_reservation_row(
 ) -> Result<(), AllocError>
     ensures { OnOk result (rows.new.items ≡ rows.old.items ++ Change.Put (Row.Reservation request.now.provider reservation_id reservation.now) ∷ []) }
 {
+    let reservation = Boxed::new(alloc, *reservation)?;
     rows.push(Change::Put(Row::Reservation {
         provider: request.provider,
         reservation_id,
-        reservation: *reservation,
+        reservation,
     }))?;
     Ok(())
 }
 
 /// Adds the rows of a decision on the command that a body carries, beside those of the counters, the reply and the result.
 pub fn push_own_rows(
+    alloc: Global,
     rows: &mut Vec<Change>,
     request: &Request,
     body: &Body,
@@ -222,7 +224,7 @@ pub fn push_own_rows(
             reservation,
         } => {
             push_mark_row(rows, request, *reservation_id)?;
-            push_reservation_row(rows, request, *reservation_id, reservation)
+            push_reservation_row(alloc, rows, request, *reservation_id, reservation)
         }
         Decision::Cancelled { reservation_id } => {
             push_mark_row(rows, request, *reservation_id)?;

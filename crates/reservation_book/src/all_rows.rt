@@ -9,7 +9,7 @@ ghost use Rattle.reservation_book.specs.Rows.{AreRowsOf, HasRoomOf, put_row, put
 use crate::book::ReservationBook;
 use crate::listings::ReservationKey;
 use ocpi_text::Whole;
-use ocpi_types::{Reservation, Row};
+use ocpi_types::{Boxed, Reservation, Row};
 use std::alloc::{AllocError, Global};
 use tables::Table;
 
@@ -27,16 +27,18 @@ fn push_marks(marks: &Table<ReservationKey, Whole>, rows: &mut Vec<Row>) -> Resu
 }
 
 fn push_reservations(
+    alloc: Global,
     reservations: &Table<ReservationKey, Reservation>,
     rows: &mut Vec<Row>,
 ) -> Result<(), AllocError>
     ensures { OnOk result (rows.new.items ≡ rows.old.items ++ map reservation_row (entries (shown_of text_pair_cmp reservations.now))) }
 {
     for (key, reservation) in reservations.iter() {
+        let reservation = Boxed::new(alloc, *reservation)?;
         rows.push(Row::Reservation {
             provider: key.0,
             reservation_id: key.1,
-            reservation: *reservation,
+            reservation,
         })?;
     }
     Ok(())
@@ -44,11 +46,11 @@ fn push_reservations(
 
 impl ReservationBook {
     /// The rows kind by kind, each in the order of its keys.
-    fn push_rows(&self, rows: &mut Vec<Row>) -> Result<(), AllocError>
+    fn push_rows(&self, alloc: Global, rows: &mut Vec<Row>) -> Result<(), AllocError>
         ensures { OnOk result (rows.new.items ≡ rows.old.items ++ rows_of self.now.rows) }
     {
         push_marks(&self.marks, rows)?;
-        push_reservations(&self.reservations, rows)?;
+        push_reservations(alloc, &self.reservations, rows)?;
         Ok(())
     }
 
@@ -57,7 +59,7 @@ impl ReservationBook {
         ensures { IfOk result (λ rows. AreRowsOf rows.items self.now.rows) }
     {
         let mut rows = Vec::new(alloc);
-        self.push_rows(&mut rows)?;
+        self.push_rows(alloc, &mut rows)?;
         Ok(rows)
     }
 
@@ -97,7 +99,7 @@ impl ReservationBook {
         ensures { IfOk result (λ b. b.rows ≡ self.now.rows) }
     {
         let mut rows = Vec::new(alloc);
-        self.push_rows(&mut rows)?;
+        self.push_rows(alloc, &mut rows)?;
         let mut copy = ReservationBook::new(alloc);
         copy.add_rows(rows)?;
         Ok(copy)

@@ -6,7 +6,7 @@ ghost use Rattle.token_desk.specs.Stored.{HasRow, HasRoomOf, KeepsRoom, AreRowsO
 
 use crate::desk::TokenDesk;
 use ocpi_text::Whole;
-use ocpi_types::{Counter, Row, RowKey};
+use ocpi_types::{Boxed, Counter, Row, RowKey};
 use std::alloc::{AllocError, Global};
 
 impl TokenDesk {
@@ -44,7 +44,7 @@ impl TokenDesk {
     {
         match row {
             Row::Count { counter, last } => self.count(*counter, *last),
-            Row::Token { token } => self.put_token(*token),
+            Row::Token { token } => self.put_token(**token),
             _ => {}
         }
     }
@@ -110,7 +110,8 @@ impl TokenDesk {
         self.consistency();
         let mut rows = self.count_rows(alloc)?;
         for (_, token) in self.tokens() {
-            rows.push(Row::Token { token: *token })?;
+            let token = Boxed::new(alloc, *token)?;
+            rows.push(Row::Token { token })?;
         }
         Ok(rows)
     }
