@@ -100,7 +100,7 @@ fn call_row(alloc: Global, books: &mut Books, given: &Given, row: Row, out: &mut
             provider,
             number,
             open: command,
-        } => open(&mut books.commands, provider, number, command),
+        } => open(&mut books.commands, provider, number, command.into_inner()),
         Row::Token { token } => call_with_token(&mut books.tokens, given, &token),
         Row::Reservation {
             provider,

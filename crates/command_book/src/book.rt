@@ -221,7 +221,7 @@ impl CommandBook {
                 provider,
                 number,
                 open,
-            } => self.put_open(provider, number, open),
+            } => self.put_open(provider, number, open.into_inner()),
             Row::Result {
                 provider,
                 number,
@@ -325,11 +325,8 @@ impl CommandBook {
             connector_id: place.as_ref().map(|place| place.connector_id),
             deadline,
         };
-        self.add_row(Row::Pending {
-            provider,
-            number,
-            open,
-        })?;
+        self.reserve_open(provider, number, deadline)?;
+        self.put_open(provider, number, open);
         Ok(())
     }
 

@@ -7,7 +7,7 @@ ghost use Rattle.tables.specs.Tables.{shown_of};
 ghost use Rattle.command_book.specs.Listing.{AreRowsOf, put_rows, rows_of, reply_row, pending_row, result_row};
 
 use crate::book::{CommandBook, Request};
-use ocpi_types::{CommandResultType, OpenCommand, Reply, Row};
+use ocpi_types::{Boxed, CommandResultType, OpenCommand, Reply, Row};
 use std::alloc::{AllocError, Global};
 use tables::Table;
 
@@ -25,16 +25,18 @@ fn push_replies(replies: &Table<Request, Reply>, rows: &mut Vec<Row>) -> Result<
 }
 
 fn push_pending(
+    alloc: Global,
     pending: &Table<Request, OpenCommand>,
     rows: &mut Vec<Row>,
 ) -> Result<(), AllocError>
     ensures { OnOk result (rows.new.items ≡ rows.old.items ++ map pending_row (entries (shown_of text_number_cmp pending.now))) }
 {
     for (request, open) in pending.iter() {
+        let open = Boxed::new(alloc, open.copy()?)?;
         rows.push(Row::Pending {
             provider: request.0,
             number: request.1,
-            open: open.copy()?,
+            open,
         })?;
     }
     Ok(())
@@ -58,11 +60,11 @@ fn push_results(
 
 impl CommandBook {
     /// The rows kind by kind, each in the order of its keys.
-    fn push_rows(&self, rows: &mut Vec<Row>) -> Result<(), AllocError>
+    fn push_rows(&self, alloc: Global, rows: &mut Vec<Row>) -> Result<(), AllocError>
         ensures { OnOk result (rows.new.items ≡ rows.old.items ++ rows_of self.now.rows) }
     {
         push_replies(&self.replies, rows)?;
-        push_pending(&self.pending, rows)?;
+        push_pending(alloc, &self.pending, rows)?;
         push_results(&self.results, rows)?;
         Ok(())
     }
@@ -72,7 +74,7 @@ impl CommandBook {
         ensures { IfOk result (λ rows. AreRowsOf rows.items self.now.rows) }
     {
         let mut rows = Vec::new(alloc);
-        self.push_rows(&mut rows)?;
+        self.push_rows(alloc, &mut rows)?;
         Ok(rows)
     }
 

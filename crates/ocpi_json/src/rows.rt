@@ -13,8 +13,9 @@ ghost use Rattle.ocpi_json.specs.RowForms.{RowTextFits, count_at, reply_row_at, 
 use crate::row_keys::{ci_key_of, counter_of, number_of, party_id_of, party_number_of, write_key};
 use crate::row_kinds::RowKind;
 use crate::stored::{
-    boxed_reservation_of, carried_push, carried_reply, open_command_of, sent_command_of,
-    write_open_command, write_push, write_reply, write_reservation, write_sent_command,
+    boxed_open_command_of, boxed_reservation_of, boxed_sent_command_of, carried_push,
+    carried_reply, write_open_command, write_push, write_reply, write_reservation,
+    write_sent_command,
 };
 use json_text::fields::{as_record, party_in, whole_in, word_in};
 use json_text::{JsonFault, RecordWriter};
@@ -143,7 +144,7 @@ fn reservation_row_of(alloc: Global, key: &str, object: &Value) -> Result<Row, J
 fn pending_of(alloc: Global, key: &str, object: &Value) -> Result<Row, JsonFault>
     ensures { Gives result (pending_at key.now (view object.now)) }
 {
-    let open = open_command_of(alloc, object)?;
+    let open = boxed_open_command_of(alloc, object)?;
     match party_number_of(key) {
         Some(parts) => Ok(Row::Pending {
             provider: parts.party,
@@ -204,7 +205,7 @@ fn cdr_row_of(alloc: Global, key: &str, object: &Value) -> Result<Row, JsonFault
 fn command_row_of(alloc: Global, key: &str, object: &Value) -> Result<Row, JsonFault>
     ensures { Gives result (command_row_at key.now (view object.now)) }
 {
-    let command = sent_command_of(alloc, object)?;
+    let command = boxed_sent_command_of(alloc, object)?;
     match number_of(key) {
         Some(number) => Ok(Row::Command { number, command }),
         None => Err(JsonFault::WrongForm(Field::Key)),

@@ -229,7 +229,7 @@ fn open_parts_of(object: &Value) -> Result<OpenParts, JsonFault>
 
 /// An open command: the command, and then the other members in the order of their names.
 #[tactic(auto, unfolding(crate::specs::StoredForms::open_command_at))]
-pub fn open_command_of(alloc: Global, object: &Value) -> Result<OpenCommand, JsonFault>
+fn open_command_of(alloc: Global, object: &Value) -> Result<OpenCommand, JsonFault>
     ensures { Gives result (open_command_at (view object.now)) }
 {
     let command = carried_command(alloc, object)?;
@@ -240,6 +240,14 @@ pub fn open_command_of(alloc: Global, object: &Value) -> Result<OpenCommand, Jso
         connector_id: parts.connector_id,
         deadline: parts.deadline,
     })
+}
+
+/// As `open_command_of`, on the heap.
+pub fn boxed_open_command_of(alloc: Global, object: &Value) -> Result<Boxed<OpenCommand>, JsonFault>
+    ensures { Gives result (open_command_at (view object.now)) }
+{
+    let open = open_command_of(alloc, object)?;
+    Ok(Boxed::new(alloc, open)?)
 }
 
 #[tactic(auto, unfolding(crate::specs::StoredForms::answer_in))]
@@ -270,7 +278,7 @@ fn sent_parts_of(object: &Value) -> Result<SentParts, JsonFault>
 
 /// A sent command: the answer, the command, the result, the addressee.
 #[tactic(auto, unfolding(crate::specs::StoredForms::sent_command_at))]
-pub fn sent_command_of(alloc: Global, object: &Value) -> Result<SentCommand, JsonFault>
+fn sent_command_of(alloc: Global, object: &Value) -> Result<SentCommand, JsonFault>
     ensures { Gives result (sent_command_at (view object.now)) }
 {
     let answer = optional_answer_in(object, Field::Answer)?;
@@ -282,6 +290,14 @@ pub fn sent_command_of(alloc: Global, object: &Value) -> Result<SentCommand, Jso
         answer,
         result: parts.result,
     })
+}
+
+/// As `sent_command_of`, on the heap.
+pub fn boxed_sent_command_of(alloc: Global, object: &Value) -> Result<Boxed<SentCommand>, JsonFault>
+    ensures { Gives result (sent_command_at (view object.now)) }
+{
+    let command = sent_command_of(alloc, object)?;
+    Ok(Boxed::new(alloc, command)?)
 }
 
 /// The member `body` of a command.

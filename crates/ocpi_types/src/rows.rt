@@ -111,7 +111,7 @@ pub enum Row {
     Pending {
         provider: PartyKey,
         number: Whole,
-        open: OpenCommand,
+        open: Boxed<OpenCommand>,
     },
     /// Kind `result`, under `PARTY/NUMBER`: how the command of that number of that provider ended (OCPI 2.2.1, Commands:
     /// CommandResult).
@@ -131,7 +131,7 @@ pub enum Row {
     /// Kind `command`, under its number: a command that the provider has sent (OCPI 2.2.1, Commands).
     Command {
         number: Whole,
-        command: SentCommand,
+        command: Boxed<SentCommand>,
     },
 }
 
@@ -287,10 +287,14 @@ fn copy_push(number: Whole, to: Party, push: &Push) -> Result<Row, AllocError>
     Ok(Row::Push { number, to, push })
 }
 
-fn copy_pending(provider: PartyKey, number: Whole, command: &OpenCommand) -> Result<Row, AllocError>
-    ensures { IfOk result (λ t. t ≡ row.Pending provider number command.now) }
+fn copy_pending(
+    provider: PartyKey,
+    number: Whole,
+    open: &Boxed<OpenCommand>,
+) -> Result<Row, AllocError>
+    ensures { IfOk result (λ t. t ≡ row.Pending provider number open.now) }
 {
-    let open = command.copy()?;
+    let open = open.copy()?;
     Ok(Row::Pending {
         provider,
         number,
@@ -334,7 +338,7 @@ fn copy_cdr(cdr: &Boxed<Cdr>) -> Result<Row, AllocError>
     Ok(Row::Cdr { cdr })
 }
 
-fn copy_command(number: Whole, command: &SentCommand) -> Result<Row, AllocError>
+fn copy_command(number: Whole, command: &Boxed<SentCommand>) -> Result<Row, AllocError>
     ensures { IfOk result (λ t. t ≡ row.Command number command.now) }
 {
     let command = command.copy()?;

@@ -196,6 +196,12 @@ impl OpenCommand {
     }
 }
 
+impl ListItem for OpenCommand {
+    fn item_copy(&self) -> Result<OpenCommand, AllocError> {
+        self.copy()
+    }
+}
+
 /// A reservation of an EVSE for a token (OCPI 2.2.1, Commands: ReserveNow).
 #[derive(Clone, Copy)]
 pub struct Reservation {
@@ -236,5 +242,11 @@ impl SentCommand {
             answer: self.answer,
             result: self.result,
         })
+    }
+}
+
+impl ListItem for SentCommand {
+    fn item_copy(&self) -> Result<SentCommand, AllocError> {
+        self.copy()
     }
 }

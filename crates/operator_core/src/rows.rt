@@ -107,6 +107,7 @@ fn open_command(command: Command, place: Option<Place>, deadline: Moment) -> Ope
 
 /// Adds the row of the command that a body carries: it is open until its result, a start at the place that it took.
 fn push_pending_row(
+    alloc: Global,
     rows: &mut Vec<Change>,
     request: &Request,
     body: &Body,
@@ -118,7 +119,7 @@ fn push_pending_row(
         return Ok(());
     };
     let deadline = request.at.after(1000 * TIMEOUT);
-    let open = open_command(command, place, deadline);
+    let open = Boxed::new(alloc, open_command(command, place, deadline))?;
     rows.push(Change::Put(Row::Pending {
         provider: request.provider,
         number: request.number,
@@ -209,13 +210,13 @@ pub fn push_own_rows(
     ensures { OnOk result ((c : CommandOf) → body.now ≡ body_of_command c → rows.new.items ≡ rows.old.items ++ own_rows request.now.at request.now.provider request.now.number c decision.now) }
 {
     match decision {
-        Decision::Opened => push_pending_row(rows, request, body, None),
+        Decision::Opened => push_pending_row(alloc, rows, request, body, None),
         Decision::Started {
             place,
             reservation_id,
         } => {
             push_used_row(rows, request, *reservation_id)?;
-            push_pending_row(rows, request, body, Some(*place))?;
+            push_pending_row(alloc, rows, request, body, Some(*place))?;
             push_spent_row(rows, request, reference_of(body))
         }
         Decision::Noted { reservation_id, .. } => push_mark_row(rows, request, *reservation_id),
