@@ -1,6 +1,6 @@
 //! Texts of a limited length that are compared without case (OCPI 2.2.1, Types: CiString).
 
-ghost use Rattle.std.specs.Prelude.{◌≡◌, ◌↔◌, ◌≤◌, length, true, IfOk, IsTrue, Ok, Some, nat_eq, refl};
+ghost use Rattle.std.specs.Prelude.{◌≡◌, ◌↔◌, ◌≤◌, length, take, true, IfOk, IsTrue, Ok, Some, nat_eq, refl};
 ghost use Rattle.std.specs.Ordering.{nat_cmp};
 ghost use Rattle.std.specs.Cmp.{on_equiv, on_total, on_po, on_per, partial_equiv_from_equiv};
 ghost use Rattle.std.specs.Cmp.Lexicographic.{pointwise, slice_cmp, nat_list_eq_equiv, nat_list_cmp_total, texts_po, texts_ties};
@@ -86,6 +86,13 @@ impl<const MAX: usize> CiText<MAX> {
         ensures short { length self.now ≤ MAX }
     {
         unsafe { str::from_utf8_unchecked(&self.cells[..self.len]) }
+    }
+
+    /// The cells, of which the first hold the text.
+    pub(crate) fn cells(&self) -> &[u8; MAX]
+        ensures { take (length self.now) result.now ≡ self.now }
+    {
+        &self.cells
     }
 
     /// The text with `a` to `z` made `A` to `Z`, by which it is compared.

@@ -2,6 +2,7 @@
 
 ghost use Rattle.std.specs.Prelude.{◌≡◌, ◌↔◌, length, IfOk, IsTrue, Ok, Some, nat_eq, refl, string_bytes};
 ghost use Rattle.std.specs.Ordering.{nat_cmp};
+ghost use Rattle.std.specs.Slice.Scan.{big_endian};
 ghost use Rattle.std.specs.Cmp.{partial_equiv_from_equiv};
 ghost use Rattle.std.specs.Cmp.Lexicographic.{pointwise, slice_cmp, nat_list_eq_equiv, nat_list_cmp_total, texts_po, texts_ties};
 ghost use Rattle.ocpi_text.specs.Text.{key};
@@ -118,6 +119,17 @@ impl Party {
     {
         self.text.is_same(&other.text)
     }
+
+    /// The six bytes as a number, the first the most significant, by which parties are compared.
+    fn number(&self) -> u64
+        ensures value { result ≡ big_endian 0 self.now }
+        ensures party { party_at self.now ≡ Ok self.now }
+    {
+        let cells = self.text.cells();
+        u64::from_be_bytes([
+            0, 0, cells[0], cells[1], cells[2], cells[3], cells[4], cells[5],
+        ])
+    }
 }
 
 /// The bytes of a party by those of its halves.
@@ -143,7 +155,7 @@ impl PartialEq for Party {
     ghost laws = { partial_equiv_from_equiv nat_list_eq_equiv };
 
     fn eq(&self, other: &Self) -> bool {
-        self.text == other.text
+        self.number() == other.number()
     }
 }
 
@@ -172,6 +184,6 @@ impl Ord for Party {
     ghost matches_eq = { λ s t. texts_ties s t };
 
     fn cmp(&self, other: &Self) -> Ordering {
-        self.text.cmp(&other.text)
+        self.number().cmp(&other.number())
     }
 }
