@@ -11,9 +11,8 @@ use Rattle.ocpi_types.specs.declared.commands.ReserveNow.{ReserveNow}
 use Rattle.ocpi_types.specs.declared.words.CommandResponseType.TheVariants as response
 use Rattle.site.specs.declared.claim.Claim.{Claim}
 use Rattle.site.specs.declared.claim.Claim.TheVariants.{Reserved}
-use Rattle.site.specs.Places.{Claims as ClaimMap, Idle, IsEvse, IsLocation, is_free, works}
+use Rattle.site.specs.Places.{Claims as ClaimMap, Idle, IsLocation, is_free, works}
 use Rattle.site.specs.Positions.{IsCandidate}
-use Rattle.site.proofs.Finding.{evse_of_site}
 use Rattle.command_book.specs.Stored.{OpenCommands}
 use Rattle.reservation_book.specs.declared.fault.ReservationFault.{ReservationFault}
 use Rattle.reservation_book.specs.declared.fault.ReservationFault.TheVariants.{Stale, OtherLocation, Memory}
@@ -36,10 +35,6 @@ module _ (locations : List Location) (at : ℕ) (l : Location) (stands : slice_g
 
   pub candidate_for : IsEvseFor l c.evse_uid e → IsCandidate locations at c.evse_uid e
   candidate_for x = record { location = l; stands = stands; listed = x.listed; named = x.named }
-
--- an EVSE that the site finds is one of it
-pub candidate_evse : (locations : List Location) (at : ℕ) (name : Option (List ℕ)) (e : Evse) → IsCandidate locations at name e → IsEvse locations (key e.uid)
-candidate_evse locations at name e x = evse_of_site locations at x.location e x.stands x.listed
 
 -- the EVSE that a reservation claims is the one of its uid
 module _ (reservations : Reservations) (p id evse : List ℕ) where
@@ -92,12 +87,9 @@ module _ (x y : Site) (same : x ≡ y) where
     pub works_from : (uid : List ℕ) → IsTrue (works yo uid) → IsTrue (works xo uid)
     works_from uid work = subst (λ (z : Idle). IsTrue (works z uid)) (sym both) work
 
-    -- an EVSE of the site that works is in service
-    pub serves : (at : ℕ) (name : Option (List ℕ)) (e f : Evse) (evse : List ℕ) → e ≡ f → evse ≡ key f.uid → IsCandidate x.locations at name e → IsTrue (works yo (key e.uid)) →
-        IsEvse x.locations evse × IsTrue (works xo evse)
-    serves at name e f evse is named there work =
-        let here : key e.uid ≡ evse = ap (λ (z : Evse). key z.uid) is ∙ sym named in
-        (subst (IsEvse x.locations) here (candidate_evse x.locations at name e there), subst (λ k. IsTrue (works xo k)) here (works_from (key e.uid) work))
+    -- an EVSE that works does so by an equal key
+    pub serves : (e f : Evse) (evse : List ℕ) → e ≡ f → evse ≡ key f.uid → IsTrue (works yo (key e.uid)) → IsTrue (works xo evse)
+    serves e f evse is named work = subst (λ k. IsTrue (works xo k)) (ap (λ (z : Evse). key z.uid) is ∙ sym named) (works_from (key e.uid) work)
 
     module _ (at : ℕ) (l : Location) (stands : slice_get y.locations at ≡ Some l) (c : ReserveNow) where
       pub none_works : (((e : Evse) × IsCandidate x.locations at c.evse_uid e × IsTrue (works xo (key e.uid))) → ⊥) → (f : Evse) → IsEvseFor l c.evse_uid f → IsTrue (works yo (key f.uid)) → ⊥

@@ -10,6 +10,7 @@ mod draft;
 mod ending;
 mod fault;
 mod finish;
+mod found;
 pub mod laws;
 mod operator;
 mod providers;

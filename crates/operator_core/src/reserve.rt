@@ -13,6 +13,7 @@ ghost use Rattle.operator_core.specs.Reserve.{IsVoid, MayHold, ReserveLine};
 
 use crate::books::Books;
 use crate::decision::Decision;
+use crate::found::{free_evse, serves};
 use crate::request::Request;
 use crate::start::{invalid_parameters, unknown_location};
 use ocpi_text::{CiText, Moment, Party};
@@ -45,28 +46,31 @@ fn own_evse(
         return None;
     }
     let evse = places.find_evse(location, &Some(standing.evse_uid))?;
-    if !places.in_service(evse.uid.key()) {
+    if !places.works(evse.uid.key()) {
         return None;
     }
     Some(evse.uid)
 }
 
 /// The uid of an EVSE in service that the command may be about, and that nothing claims but, perhaps, its very reservation.
+/// The uid of one that was found for the command is given.
 fn reservable_evse(
     books: &Books,
     location: usize,
+    evse_uid: &CiText<36>,
     request: &Request,
     command: &ReserveNow,
 ) -> Option<CiText<36>>
+    requires evse { (e : EvseOf) × IsCandidate books.now.site.locations location command.now.evse_uid e × (evse_uid.now ≡ e.uid) }
+    requires service { (e : EvseOf) × IsCandidate books.now.site.locations location command.now.evse_uid e × Works books.now.rows e }
     ensures found { IfSome result (λ uid. (e : EvseOf) × IsCandidate books.now.site.locations location command.now.evse_uid e × Works books.now.rows e × MayReserve books.now.rows request.now.provider (key command.now.reservation_id) e × (uid ≡ e.uid)) }
     ensures none { IfNone result ((e : EvseOf) → IsCandidate books.now.site.locations location command.now.evse_uid e → Works books.now.rows e → ¬ MayReserve books.now.rows request.now.provider (key command.now.reservation_id) e) }
 {
     let places = books.places();
-    if let Some(evse_uid) = own_evse(books, location, request, command) {
-        return Some(evse_uid);
+    if let Some(own) = own_evse(books, location, request, command) {
+        return Some(own);
     }
-    let evse = places.free_evse(location, &command.evse_uid)?;
-    Some(evse.uid)
+    free_evse(places, location, &command.evse_uid, evse_uid)
 }
 
 /// The id of a location of the site, as the site spells it.
@@ -88,20 +92,28 @@ fn is_void(command: &ReserveNow, at: Moment) -> bool
     !command.token.valid || command.expiry_date <= at
 }
 
-/// The decision on a RESERVE_NOW that got as far as the EVSEs of its location, which stands there in the site's list.
-fn decide_at(books: &Books, location: usize, request: &Request, command: &ReserveNow) -> Decision
+/// The decision on a RESERVE_NOW that got as far as the EVSEs of its location, which stands there in the site's list. The
+/// uid of an EVSE that was found for it is given.
+fn decide_at(
+    books: &Books,
+    location: usize,
+    evse_uid: &CiText<36>,
+    request: &Request,
+    command: &ReserveNow,
+) -> Decision
+    requires evse { (e : EvseOf) × IsCandidate books.now.site.locations location command.now.evse_uid e × (evse_uid.now ≡ e.uid) }
     requires known { (l : Location) × IsLocation books.now.site.locations command.now.location_id l }
     requires sole { (l : Location) → IsLocation books.now.site.locations command.now.location_id l → slice_get books.now.site.locations location ≡ Some l }
     ensures { (sender : List ℕ) (l : Location) (e : EvseOf) → request.now.provider ≡ key sender → MayHold books.now.site books.now.rows request.now.at sender request.now.number command.now l e → ReserveLine books.now.site books.now.rows request.now.at sender request.now.number command.now result }
 {
     let reservation_id = command.reservation_id.key();
-    if !books.places().has_service(location, &command.evse_uid) {
+    if !serves(books.places(), location, &command.evse_uid, evse_uid) {
         return Decision::Noted {
             reservation_id,
             result: CommandResultType::EvseInoperative,
         };
     }
-    let Some(evse_uid) = reservable_evse(books, location, request, command) else {
+    let Some(evse_uid) = reservable_evse(books, location, evse_uid, request, command) else {
         return Decision::Noted {
             reservation_id,
             result: CommandResultType::EvseOccupied,
@@ -135,7 +147,7 @@ pub fn decide_reserve(
     let Some(location) = places.find_location(&command.location_id) else {
         return Decision::Refused(unknown_location());
     };
-    let Some(_evse) = places.find_evse(location, &command.evse_uid) else {
+    let Some(evse) = places.find_evse(location, &command.evse_uid) else {
         return Decision::Answered(CommandResponseType::Rejected);
     };
     if is_void(command, request.at) {
@@ -149,6 +161,6 @@ pub fn decide_reserve(
         &command.location_id,
     ) {
         Err(_fault) => Decision::Answered(CommandResponseType::Rejected),
-        Ok(()) => decide_at(books, location, request, command),
+        Ok(()) => decide_at(books, location, &evse.uid, request, command),
     }
 }

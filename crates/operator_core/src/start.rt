@@ -1,19 +1,23 @@
 //! How a START_SESSION is decided (OCPI 2.2.1, Commands: StartSession).
 
-ghost use Rattle.std.specs.Prelude.{◌≡◌, IsTrue, IfSome, IfNone, false, Some, None, slice_get};
+ghost use Rattle.std.specs.Prelude.{◌≡◌, IsTrue, IsSome, IsNone, IfSome, IfNone, false, Some, None, slice_get};
 ghost use Rattle.ocpi_text.specs.Text.{key};
 ghost use Rattle.ocpi_types.specs.declared.site.Location.{Location};
 ghost use Rattle.ocpi_types.specs.declared.site.Evse.{Evse};
 ghost use Rattle.ocpi_types.specs.declared.site.Connector.{Connector};
+ghost use Rattle.site.specs.Places.{Fits, works, is_free};
+ghost use Rattle.site.specs.Positions.{IsCandidate};
 ghost use Rattle.operator_core.specs.Start.{IsMismatched, IsBarred, StartLine};
 ghost use Rattle.operator_core.specs.Held.{HasNoHeld, IsHeld, IsPlaceOf, token_of};
 
 use crate::books::Books;
 use crate::decision::Decision;
+use crate::found::serves;
 use crate::request::Request;
 use ocpi_text::{CiKey, CiText, Party, PartyKey};
 use ocpi_types::{CommandResponseType, CommandResultType, Place, RefusalCode, StartSession};
 use reservation_book::{Standing, TokenAt};
+use site::Places;
 
 /// Invalid or missing parameters (OCPI 2.2.1, Status codes).
 pub fn invalid_parameters() -> RefusalCode
@@ -59,7 +63,7 @@ fn place_held(
 {
     let places = books.places();
     let evse_uid = standing.reservation.evse_uid;
-    if !places.in_service(evse_uid.key()) {
+    if !places.works(evse_uid.key()) {
         return None;
     }
     places.find_place(location, &Some(evse_uid), &command.connector_id)
@@ -129,6 +133,29 @@ fn find_held(
     }
 }
 
+/// As `Places::free_place`, where a place that was found is given, and an EVSE is in service: where the command names its EVSE,
+/// both are that one.
+fn free_place(
+    places: &Places,
+    location: usize,
+    command: &StartSession,
+    place: &Place,
+) -> Option<Place>
+    requires named { IsSome command.now.connector_id × IsNone command.now.evse_uid → ⊥ }
+    requires place { (l : Location) → slice_get places.now.site.locations location ≡ Some l → (e : Evse) × (k : Connector) × Fits l.evses command.now.evse_uid command.now.connector_id e k × (place.now ≡ record { evse_uid = e.uid; connector_id = k.id }) }
+    requires service { (e : Evse) × IsCandidate places.now.site.locations location command.now.evse_uid e × IsTrue (works places.now.out_of_service (key e.uid)) }
+    ensures found { IfSome result (λ p. (l : Location) → slice_get places.now.site.locations location ≡ Some l → (e : Evse) × (k : Connector) × Fits l.evses command.now.evse_uid command.now.connector_id e k × IsTrue (is_free places.now.claims places.now.out_of_service (key e.uid)) × (p ≡ record { evse_uid = e.uid; connector_id = k.id })) }
+    ensures none { IfNone result ((l : Location) → slice_get places.now.site.locations location ≡ Some l → (e : Evse) (k : Connector) → Fits l.evses command.now.evse_uid command.now.connector_id e k → IsTrue (is_free places.now.claims places.now.out_of_service (key e.uid)) → ⊥) }
+{
+    match &command.evse_uid {
+        None => places.free_place(location, &command.evse_uid, &command.connector_id),
+        Some(_name) => match places.claim_of(place.evse_uid.key()) {
+            None => Some(*place),
+            Some(_claim) => None,
+        },
+    }
+}
+
 /// The decision on a START_SESSION, by the first line of its table that applies. The provider is the sender's key.
 pub fn decide_start(
     books: &Books,
@@ -147,22 +174,22 @@ pub fn decide_start(
         return Decision::Refused(unknown_location());
     };
     let (evse_uid, connector_id) = (&command.evse_uid, &command.connector_id);
-    let Some(_place) = places.find_place(location, evse_uid, connector_id) else {
+    let Some(place) = places.find_place(location, evse_uid, connector_id) else {
         return Decision::Answered(CommandResponseType::Rejected);
     };
     if is_barred(books, provider, command) {
         return Decision::Answered(CommandResponseType::Rejected);
     }
-    if !places.has_service(location, evse_uid) {
+    if !serves(places, location, evse_uid, &place.evse_uid) {
         return Decision::Resulted(CommandResultType::EvseInoperative);
     }
-    if let Some((place, id)) = find_held(books, location, provider, command) {
+    if let Some((held, id)) = find_held(books, location, provider, command) {
         return Decision::Started {
-            place,
+            place: held,
             reservation_id: Some(id),
         };
     }
-    match places.free_place(location, evse_uid, connector_id) {
+    match free_place(places, location, command, &place) {
         None => Decision::Resulted(CommandResultType::EvseOccupied),
         Some(place) => Decision::Started {
             place,

@@ -211,6 +211,13 @@ impl Places {
         self.indexes.claims.get(evse).copied()
     }
 
+    /// Whether an EVSE is not out of service.
+    pub fn works(&self, evse: CiKey<36>) -> bool
+        ensures { result ≡ works self.now.out_of_service evse }
+    {
+        self.indexes.works(evse)
+    }
+
     /// Whether an EVSE is of the site and in service.
     pub fn in_service(&self, evse: CiKey<36>) -> bool
         ensures { IsTrue result ↔ (IsEvse self.now.site.locations evse × IsTrue (works self.now.out_of_service evse)) }

@@ -12,14 +12,14 @@ returns-in_default-find_evse c =
 pub returns-then-is_void : goal.returns-then-is_void
 returns-then-is_void c =
     let at = c.in-Some.ensures.found in
-    let evse = c.in-Some-find_evse._evse.now in
+    let evse = c.in-Some-find_evse.evse.now in
     lines.Void at.0 (record { own = c.is_same.ensures.0 c.if-not-is_same.false; location = located _ _ c.places-places.ensures.site _ at.0 at.2 })
     evse (evse_for _ c.in-Some.location at.0 at.1 c.args.command.now evse c.in-Some-find_evse.ensures.found) (c.is_void.ensures.yes c.if-is_void.true) refl
 
 pub returns-in-Err : goal.returns-in-Err
 returns-in-Err c =
     let at = c.in-Some.ensures.found in
-    let evse = c.in-Some-find_evse._evse.now in
+    let evse = c.in-Some-find_evse.evse.now in
     refused _ _ _ _ _ c.args.command.now at.0 evse c.in-Err._fault (λ is. c.check_reservation.ensures.memory (c.in-Err.is ∙ ap Err is)) (refuses_of _ _ c.booked.ensures _ _ _ _ c.requires c.key-reservation_id.ensures _ _ c.in-Err._fault c.in-Err.ensures.err)
     (record { own = c.is_same.ensures.0 c.if-not-is_same.false; location = located _ _ c.places-places.ensures.site _ at.0 at.2 })
     (evse_for _ c.in-Some.location at.0 at.1 c.args.command.now evse c.in-Some-find_evse.ensures.found) (c.is_void.ensures.no c.if-is_void.false)
@@ -27,7 +27,7 @@ returns-in-Err c =
 pub returns-in-Ok : goal.returns-in-Ok
 returns-in-Ok c =
     let at = c.in-Some.ensures.found in
-    let evse = c.in-Some-find_evse._evse.now in
+    let evse = c.in-Some-find_evse.evse.now in
     c.decide_at.ensures c.args.sender.now at.0 evse c.requires (record {
       timely = record {
         placed = record { own = c.is_same.ensures.0 c.if-not-is_same.false; location = located _ _ c.places-places.ensures.site _ at.0 at.2 };

@@ -12,9 +12,9 @@ returns-in_err-evse-clause-none c = none_from c.from_residual-in_err-evse.result
     let stands : get c.args.books.now.rows.booked.reservations (c.args.request.now.provider, key c.args.command.now.reservation_id) ≡ Some c.in_ok-standing.standing = stands_of _ _ c.booked.ensures _ _ _ _ refl c.key-id.ensures _ (sym c.standing.ensures ∙ c.in_ok-standing.was) in
     c.in_err-evse.ensures.none e (held_candidate _ _ c.places-places.ensures.site c.args.location c.args.command.now.evse_uid e c.args.books.now.rows.commands.pending _ _ _ _ stands there claim))
 
-pub returns-then-not-in_service-clause-none : goal.returns-then-not-in_service-clause-none
-returns-then-not-in_service-clause-none c = λ e there work claim.
+pub returns-then-not-works-clause-none : goal.returns-then-not-works-clause-none
+returns-then-not-works-clause-none c = λ e there work claim.
     let stands : get c.args.books.now.rows.booked.reservations (c.args.request.now.provider, key c.args.command.now.reservation_id) ≡ Some c.in_ok-standing.standing = stands_of _ _ c.booked.ensures _ _ _ _ refl c.key-id.ensures _ (sym c.standing.ensures ∙ c.in_ok-standing.was) in
     let held = held_candidate _ _ c.places-places.ensures.site c.args.location c.args.command.now.evse_uid e c.args.books.now.rows.commands.pending _ _ _ _ stands there claim in
-    let in_service = serves _ _ c.places-places.ensures.site _ _ c.places-places.ensures.service c.args.location _ e c.in_ok-evse.evse.now c.key.result (c.in_ok-evse.ensures.sole refl e held) c.key.ensures held work in
-    false≢true (sym c.if-not-in_service.true ∙ c.in_service.ensures.1 in_service)
+    let serving = serves _ _ c.places-places.ensures.site _ _ c.places-places.ensures.service e c.in_ok-evse.evse.now c.key.result (c.in_ok-evse.ensures.sole refl e held) c.key.ensures work in
+    false≢true (sym c.if-not-works.true ∙ c.works.ensures ∙ serving)

@@ -24,13 +24,13 @@ returns-then-is_barred c =
     let barred = rw c.requires at (c.if-is_barred.ensures.yes refl) in
     lines.Barred at.0 (record { matched = c.if-is_mismatched.ensures.no refl; location = at.2 }) place.0 place.1 place.2 barred refl
 
-pub returns-then-not-has_service : goal.returns-then-not-has_service
-returns-then-not-has_service c =
+pub returns-then-not-serves : goal.returns-then-not-serves
+returns-then-not-serves c =
     let at = rw c.places-places.ensures.site at c.in-Some.ensures.found in
     let found = rw c.places-places.ensures.site at c.in-Some-find_place.ensures.found in
     let place = found at.0 at.1 in
     let allowed = rw c.requires at (c.if-is_barred.ensures.no refl) in
-    let service = rw (c.places-places.ensures.site, c.places-places.ensures.service) at c.if-not-has_service.ensures in
+    let service = rw (c.places-places.ensures.site, c.places-places.ensures.service) at c.if-not-serves.ensures in
     lines.Inoperative at.0 place.0 place.1
     (record { placed = record { matched = c.if-is_mismatched.ensures.no refl; location = at.2 }; place = place.2; allowed = allowed })
     (λ f is_for serves. let never : false ≡ true = service.1 (f, candidate _ _ c.args.command.now at.0 at.1 f is_for, serves) in cc) refl
@@ -52,7 +52,7 @@ returns-in-None c =
     let found = rw c.places-places.ensures.site at c.in-Some-find_place.ensures.found in
     let place = found at.0 at.1 in
     let allowed = rw c.requires at (c.if-is_barred.ensures.no refl) in
-    let service = rw (c.places-places.ensures.site, c.places-places.ensures.service) at c.if-not-has_service.ensures in
+    let service = rw (c.places-places.ensures.site, c.places-places.ensures.service) at c.if-not-serves.ensures in
     let working = service.0 refl in
     let no_held = rw c.requires at c.in_default-find_held.ensures.none in
     let none = rw (c.places-places.ensures.site, c.places-places.ensures.service) at c.in-None.ensures.none in
