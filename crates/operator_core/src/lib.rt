@@ -10,7 +10,6 @@ mod draft;
 mod ending;
 mod fault;
 mod finish;
-pub mod laws;
 mod operator;
 mod providers;
 mod request;
