@@ -11,11 +11,9 @@ use Rattle.ocpi_types.specs.declared.rows.Change.{Change}
 use Rattle.ocpi_types.specs.declared.rows.Change.TheVariants.{Put, Drop}
 use Rattle.ocpi_types.specs.declared.rows.Row.TheVariants as row
 use Rattle.ocpi_types.specs.declared.rows.RowKey.TheVariants as keys
-use Rattle.ocpi_types.specs.declared.stored.Command.{Command}
 use Rattle.ocpi_types.specs.declared.stored.OpenCommand.{OpenCommand}
 use Rattle.ocpi_types.specs.declared.stored.Reservation.{Reservation}
 use Rattle.command_book.specs.Stored as book
-use Rattle.reservation_book.specs.Rows as booked
 use Rattle.site.specs.declared.claim.Claim.{Claim}
 use Rattle.site.specs.declared.claim.Claim.TheVariants.{OpenStart, Live, Reserved}
 use Rattle.operator_core.specs.State.{Rows, Takes, Claims, HasClaim, OneClaimEach}
