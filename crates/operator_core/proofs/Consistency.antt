@@ -1,4 +1,4 @@
--- What holds of an operator at any time is kept by each event.
+-- What holds of commands and references is kept by each packet, and by an EVSE that changes its service.
 use Rattle.std.proofs.Common.{◌≡◌, ℕ, List, ◌⊎◌, inl, inr, refl, sym, ap, subst, ◌∙◌}
 use Rattle.std.specs.Prelude.{Option, Some, None, Bool}
 use Rattle.std.specs.FinMap.{get, insert, empty, get-empty}
@@ -19,14 +19,12 @@ use Rattle.operator_core.specs.declared.decision.Decision.TheVariants as decisio
 use Rattle.operator_core.specs.State.{State, Rows, Spent}
 use Rattle.operator_core.specs.Consistent.{AreConsistent, Uses, Carries}
 use Rattle.operator_core.specs.Moves.{Out}
-use Rattle.operator_core.specs.Steps.{OperatorStep, Decides, reply_of, reference_of, deadline}
+use Rattle.operator_core.specs.Steps.{OperatorStep, PacketLine, Decides, reply_of, reference_of, deadline}
+use Rattle.operator_core.specs.Steps as lines
 use Rattle.operator_core.specs.Service.{ServiceStep}
-use Rattle.operator_core.specs.Laws.{Event, Happens, Stepped, Served, Comes, Serves}
-use Rattle.operator_core.proofs.Effects.{Leaves, results_after, spent_with}
-use Rattle.operator_core.proofs.Shapes.{Shape, Quiet, Repeated, Decided, Finished, shape_of}
-use Rattle.operator_core.proofs.FinishedSound.{consistent_ends}
-use Rattle.operator_core.proofs.Sends.{decided_leaves, finished_leaves}
-use Rattle.operator_core.proofs.Stays.{open_start, not_spent, now_spent, spent_once}
+use Rattle.operator_core.specs.Service as service
+use Rattle.operator_core.proofs.Effects.{Leaves, leaves, results_after, spent_with}
+use Rattle.operator_core.proofs.Spending.{open_start, not_spent, now_spent, spent_once}
 
 uncarried : (p : List ℕ) (n : ℕ) (reference : List ℕ) → Carries empty p n reference → ⊥
 uncarried p n reference (o, has, uses) = not_both o _ (get-empty text_number_cmp (p, n)) has
@@ -156,52 +154,53 @@ unplaced s at sender n c decides reference (x, is, names) =
     let no : decision.Opened ≡ decision.Started started.0 started.1 = started.2 in
     cc
 
-same_rows : (a b : book.Rows) (x y : Spent) → a ≡ b → x ≡ y → AreConsistent b y → AreConsistent a x
+pub same_rows : (a b : book.Rows) (x y : Spent) → a ≡ b → x ≡ y → AreConsistent b y → AreConsistent a x
 same_rows a b x y e f h = subst (λ (z : book.Rows). AreConsistent z x) (sym e) (subst (AreConsistent b) (sym f) h)
 
 module _ (s : State) (at : ℕ) (to sender : List ℕ) (n : ℕ) (c : Command) (t : Rows) (fine : AreConsistent s.rows.commands s.rows.spent) (new : get s.rows.commands.replies (key sender, n) ≡ None) where
   abbrev p : List ℕ
   p = key sender
 
-  go : (d : Decision) → Leaves at to p n c s.rows d t → Decides s at sender n c d → AreConsistent t.commands t.spent
-  go (decision.Refused status) l h =
+  -- a decision keeps what holds of the commands
+  pub consistent_decided : (d : Decision) → Leaves at to p n c s.rows d t → Decides s at sender n c d → AreConsistent t.commands t.spent
+  consistent_decided (decision.Refused status) l h =
       same_rows t.commands _ t.spent s.rows.spent (λ i. record { replies = l.replies i; pending = l.pending i; results = l.results i }) l.spent (consistent_reply s.rows.commands s.rows.spent fine p n (reply_of at (decision.Refused status)) new None)
-  go (decision.Answered w) l h =
+  consistent_decided (decision.Answered w) l h =
       same_rows t.commands _ t.spent s.rows.spent (λ i. record { replies = l.replies i; pending = l.pending i; results = l.results i }) l.spent (consistent_reply s.rows.commands s.rows.spent fine p n (reply_of at (decision.Answered w)) new None)
-  go decision.Opened l h =
+  consistent_decided decision.Opened l h =
       same_rows t.commands _ t.spent s.rows.spent (λ i. record { replies = l.replies i; pending = l.pending i; results = l.results i }) l.spent
       (consistent_open s.rows.commands s.rows.spent fine p n (reply_of at decision.Opened) new (book.open_command c None (deadline at)) s.rows.spent
       (λ reference uses has. unplaced s at sender n c h reference uses) (λ k has. has) (λ reference uses. absurd (unplaced s at sender n c h reference uses)))
-  go (decision.Started place used) l h =
+  consistent_decided (decision.Started place used) l h =
       same_rows t.commands _ t.spent _ (λ i. record { replies = l.replies i; pending = l.pending i; results = l.results i }) l.spent
       (consistent_open s.rows.commands s.rows.spent fine p n (reply_of at (decision.Started place used)) new (book.open_command c (Some place) (deadline at)) (spent_with p (reference_of c) s.rows.spent)
       (unspent s at sender n c (decision.Started place used) h (inr (place, used, refl)) (Some place))
       (spent_once p (reference_of c) s.rows.spent)
       (λ reference uses. let named = named_by c (Some place) (deadline at) reference uses in ap (λ z. get (spent_with p (reference_of c) s.rows.spent) (p, z)) (sym named.2) ∙ now_spent p (reference_of c) named.0 s.rows.spent named.1))
-  go (decision.Resulted x) l h =
+  consistent_decided (decision.Resulted x) l h =
       same_rows t.commands _ t.spent s.rows.spent (λ i. record { replies = l.replies i; pending = l.pending i; results = l.results i }) l.spent (consistent_reply s.rows.commands s.rows.spent fine p n (reply_of at (decision.Resulted x)) new (Some x))
-  go (decision.Noted id x) l h =
+  consistent_decided (decision.Noted id x) l h =
       same_rows t.commands _ t.spent s.rows.spent (λ i. record { replies = l.replies i; pending = l.pending i; results = l.results i }) l.spent (consistent_reply s.rows.commands s.rows.spent fine p n (reply_of at (decision.Noted id x)) new (Some x))
-  go (decision.Reserved id x) l h =
+  consistent_decided (decision.Reserved id x) l h =
       same_rows t.commands _ t.spent s.rows.spent (λ i. record { replies = l.replies i; pending = l.pending i; results = l.results i }) l.spent (consistent_reply s.rows.commands s.rows.spent fine p n (reply_of at (decision.Reserved id x)) new (Some Accepted))
-  go (decision.Cancelled id) l h =
+  consistent_decided (decision.Cancelled id) l h =
       same_rows t.commands _ t.spent s.rows.spent (λ i. record { replies = l.replies i; pending = l.pending i; results = l.results i }) l.spent (consistent_reply s.rows.commands s.rows.spent fine p n (reply_of at (decision.Cancelled id)) new (Some Accepted))
 
-consistent_shape : (s t : State) (e : Event) → Shape s e t → AreConsistent s.rows.commands s.rows.spent → AreConsistent t.rows.commands t.rows.spent
-consistent_shape s t e (Quiet h) fine = subst (λ (z : book.Rows). AreConsistent z t.rows.spent) (sym h.commands) (subst (AreConsistent s.rows.commands) (sym h.spent) fine)
-consistent_shape s t e (Repeated h) fine =
-    subst (λ (z : book.Rows). AreConsistent z t.rows.spent) (sym (ap (λ (o : Out). o.state.rows.commands) h.out)) (subst (AreConsistent s.rows.commands) (sym (ap (λ (o : Out). o.state.rows.spent) h.out)) fine)
-consistent_shape s t e (Decided h) fine = go s h.at h.to h.packet.from h.packet.request h.command t.rows fine h.new h.decision (decided_leaves s e t h) h.decides
-consistent_shape s t e (Finished h) fine =
-    let l = finished_leaves s e t h in
-    same_rows t.rows.commands _ t.rows.spent s.rows.spent (λ i. record { replies = l.replies i; pending = l.pending i; results = l.results i }) l.spent
-    (consistent_ends s.rows.spent h.ends s.rows.commands fine h.facts.ends_apart h.facts.opened)
+abbrev IsKept : Out → Type 0
+IsKept out = AreConsistent out.state.rows.commands out.state.rows.spent
 
-pub consistent : (s t : State) (e : Event) → Happens s e t → AreConsistent s.rows.commands s.rows.spent → AreConsistent t.rows.commands t.rows.spent
-consistent s t e h = consistent_shape s t e (shape_of s t e h)
+line_consistent : (s : State) (at : ℕ) (q : Packet) (to : List ℕ) (out : Out) → AreConsistent s.rows.commands s.rows.spent → PacketLine s at q to out → IsKept out
+line_consistent s at q to out fine (lines.Again c is r kept x) = subst IsKept (sym x) fine
+line_consistent s at q to out fine (lines.Decided c is new d decides x) =
+    subst IsKept (sym x) (consistent_decided s at to q.from q.request c _ fine new d (leaves at to (key q.from) q.request c s.rows d) decides)
+line_consistent s at q to out fine (lines.Acknowledged a is it x) = subst IsKept (sym x) fine
+line_consistent s at q to out fine (lines.Idle a is other x) = subst IsKept (sym x) fine
 
-pub step_consistent : (s : State) (at : ℕ) (q : Packet) (out : Out) → AreConsistent s.rows.commands s.rows.spent → OperatorStep s at q out → AreConsistent out.state.rows.commands out.state.rows.spent
-step_consistent s at q out fine h = consistent s out.state (record { input = Comes at q; changes = out.changes; packets = out.packets }) (Stepped at q refl h) fine
+pub step_consistent : (s : State) (at : ℕ) (q : Packet) (out : Out) → AreConsistent s.rows.commands s.rows.spent → OperatorStep s at q out → IsKept out
+step_consistent s at q out fine h = line_consistent s at q h.comes.provider out fine h.comes.line
 
-pub service_consistent : (s : State) (evse : List ℕ) (works : Bool) (out : Out) → AreConsistent s.rows.commands s.rows.spent → ServiceStep s evse works out → AreConsistent out.state.rows.commands out.state.rows.spent
-service_consistent s evse works out fine h = consistent s out.state (record { input = Serves evse works; changes = out.changes; packets = out.packets }) (Served evse works refl h) fine
+pub service_consistent : (s : State) (evse : List ℕ) (works : Bool) (out : Out) → AreConsistent s.rows.commands s.rows.spent → ServiceStep s evse works out → IsKept out
+service_consistent s evse works out fine (service.Unknown unknown x) = subst IsKept (sym x) fine
+service_consistent s evse works out fine (service.Unchanged at is x) = subst IsKept (sym x) fine
+service_consistent s evse works out fine (service.Withdrawn at out_now is x) = subst IsKept (sym x) fine
+service_consistent s evse works out fine (service.Restored at in_now is x) = subst IsKept (sym x) fine

@@ -1,12 +1,11 @@
 -- What commands that end leave among results and pushes, and the packets that tell of it.
-use Rattle.std.proofs.Common.{◌≡◌, zero, suc, ℕ, ◌+◌, ◌≤◌, ◌<◌, List, [], ◌∷◌, ◌⊎◌, inl, inr, length, refl, sym, ap, subst, ◌∙◌, arith, add-one}
-use Rattle.std.specs.Prelude.{◌≢◌, Option, Some, None, Contains, slice_get}
+use Rattle.std.proofs.Common.{◌≡◌, ℕ, ◌+◌, ◌≤◌, ◌<◌, List, [], ◌∷◌, ◌⊎◌, inl, inr, length, refl, ap, subst, ◌∙◌, arith}
+use Rattle.std.specs.Prelude.{◌≢◌, Option, Some, None, Contains}
 use Rattle.std.specs.List.{AllPairs}
 use Rattle.std.specs.Cmp.{nat_cmp_total}
 use Rattle.std.specs.FinMap.{get, insert, nat_cmp-IsAntisymmetric}
-use Rattle.std.proofs.lemmas.List.Elements.{All-contains, Contains-append_cases}
-use Rattle.tables.specs.Keys.{text_number_total, text_number_exact}
-use Rattle.tables.proofs.Elements.{in_none, in_single, in_front, first_pairs, later_pairs}
+use Rattle.std.proofs.lemmas.List.Elements.{Contains-append_cases}
+use Rattle.tables.proofs.Elements.{in_none, in_single, in_front}
 use Rattle.tables.proofs.Maps.{of_insert, get-insert_same, get-insert_other}
 use Rattle.ocpi_types.specs.Stored.{body_of_push}
 use Rattle.ocpi_types.specs.declared.packet.Packet.{Packet}
@@ -19,30 +18,11 @@ use Rattle.operator_core.specs.declared.ending.Ending.{Ending}
 use Rattle.operator_core.specs.Finished.{Message, numbered, told_of, end_message, ends_messages, push_messages, resent_messages}
 use Rattle.operator_core.specs.Tick.{request_of}
 use Rattle.operator_core.proofs.RowChanges.{of_cons, in_later}
-use Rattle.operator_core.proofs.Finishing.{results_with, pushes_with}
+use Rattle.operator_core.proofs.Finishing.{pushes_with}
 
 -- no two endings are of one command
 abbrev pub AreOfDifferent : List Ending → Type 0
 AreOfDifferent es = AllPairs (λ a b. request_of a ≢ request_of b) es
-
--- no ending is of that command
-abbrev pub EndsNot : List Ending → book.Request → Type 0
-EndsNot es k = (e : Ending) → Contains es e → request_of e ≡ k → ⊥
-
-pub results_keep : (es : List Ending) (m : book.Results) (k : book.Request) → EndsNot es k → get (results_with es m) k ≡ get m k
-results_keep [] m k apart = refl
-results_keep (e ∷ es) m k apart =
-    results_keep es (insert m (request_of e) e.result) k (λ x i. apart x (in_later e es x i)) ∙ get-insert_other text_number_total text_number_exact m (request_of e) e.result k (λ same. apart e (in_front e es) (sym same))
-
--- each command that ended has the result of its ending
-pub results_hold : (es : List Ending) (m : book.Results) → AreOfDifferent es → (e : Ending) → Contains es e → get (results_with es m) (request_of e) ≡ Some e.result
-results_hold [] m apart e h = absurd (in_none e h)
-results_hold (x ∷ es) m apart e h = elim (of_cons x es e h) [
-  | inl same ↦ subst (λ z. get (results_with (x ∷ es) m) (request_of z) ≡ Some z.result) same
-      (results_keep es (insert m (request_of x) x.result) (request_of x) (λ y i is. All-contains (λ b. request_of x ≢ request_of b) es y (first_pairs (λ a b. request_of a ≢ request_of b) x es apart) i (sym is))
-      ∙ get-insert_same text_number_total text_number_exact m (request_of x) x.result)
-  | inr i ↦ results_hold es (insert m (request_of x) x.result) (later_pairs (λ a b. request_of a ≢ request_of b) x es apart) e i
-]
 
 -- the push of an ending
 abbrev pub push_of : book.OpenCommands → Ending → Outgoing
@@ -106,16 +86,6 @@ resent_pushed m (n ∷ ns) x h = elim (Contains-append_cases (push_messages n (g
     go : (o : Option Outgoing) → get m n ≡ o → Contains (push_messages n o) x → IsPushedTo m x.to x.request x.body
     go None e i = absurd (in_none x i)
     go (Some o) e i = subst (λ (z : Message). IsPushedTo m z.to z.request z.body) (in_single _ x i) (record { outgoing = o; stands = e; to_is = refl; body_is = refl })
-
-pub numbered_length : (party : List ℕ) (serial : ℕ) (ms : List Message) → length (numbered party serial ms) ≡ length ms
-numbered_length party serial [] = refl
-numbered_length party serial (m ∷ ms) = ap (λ n. suc n) (numbered_length party (serial + 1) ms)
-
--- each packet has the number that follows those before it
-pub numbered_serial : (party : List ℕ) (serial : ℕ) (ms : List Message) (k : ℕ) (x : Packet) → slice_get (numbered party serial ms) k ≡ Some x → x.serial ≡ serial + (k + 1)
-numbered_serial party serial [] k x at = cc
-numbered_serial party serial (m ∷ ms) zero x at = let same : record { from = party; to = m.to; serial = serial + 1; request = m.request; body = m.body } ≡ x = cc in ap (λ (z : Packet). z.serial) (sym same)
-numbered_serial party serial (m ∷ ms) (suc k) x at = let there = numbered_serial party (serial + 1) ms k x at in omega (arith, there, add-one k)
 
 -- a packet carries one of the messages
 pub record Carries (ms : List Message) (x : Packet) : Type 0 where

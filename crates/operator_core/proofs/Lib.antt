@@ -1,4 +1,5 @@
 pub mod Effects
+pub mod Spending
 pub mod Finishing
 pub mod Endings
 pub mod FinishedFacts
@@ -12,18 +13,8 @@ pub mod FinishedLines
 pub mod Gathering
 pub mod Reporting
 pub mod TimingOut
-pub mod Shapes
-pub mod Sends
-pub mod Marking
-pub mod Puts
-pub mod Stays
 pub mod Consistency
 pub mod Claiming
-pub mod OneClaim
-pub mod ResendTimes
-pub mod EventConsistency
-pub mod Runs
-pub mod Answered
 pub mod HeldSearch
 pub mod StartTable
 pub mod ClaimIndex

@@ -1,29 +1,30 @@
 -- What is kept of the rows beside the claims is kept by each packet, and by an EVSE that changes its service.
-use Rattle.std.proofs.Common.{◌≡◌, ℕ, List, inl, inr, refl, sym, ap, subst, ◌∙◌}
-use Rattle.std.specs.Prelude.{Some, None, Bool, Contains}
-use Rattle.std.specs.FinMap.{insert, get-empty}
+use Rattle.std.proofs.Common.{◌≡◌, ℕ, ◌+◌, List, inl, inr, sym, ap, subst, ◌∙◌, arith}
+use Rattle.std.specs.Prelude.{Option, Some, None, Bool, Contains}
+use Rattle.std.specs.Cmp.{nat_cmp_total}
+use Rattle.std.specs.FinMap.{insert, get-empty, nat_cmp-IsAntisymmetric}
 use Rattle.std.specs.Ordering.{nat_cmp}
 use Rattle.tables.specs.Keys.{text_number_cmp, text_number_total, text_number_exact}
 use Rattle.tables.proofs.Options.{not_both}
-use Rattle.tables.proofs.Maps.{of_insert}
+use Rattle.tables.proofs.Maps.{of_insert, of_remove}
 use Rattle.ocpi_text.specs.Text.{key}
 use Rattle.ocpi_types.specs.declared.packet.Packet.{Packet}
 use Rattle.ocpi_types.specs.declared.stored.Command.{Command}
 use Rattle.ocpi_types.specs.declared.stored.OpenCommand.{OpenCommand}
+use Rattle.ocpi_types.specs.declared.words.CommandResultType.{CommandResultType}
 use Rattle.command_book.specs.Stored as book
+use Rattle.handover.specs.Outbox.{OutboxRows}
 use Rattle.operator_core.specs.declared.decision.Decision.{Decision}
 use Rattle.operator_core.specs.declared.decision.Decision.TheVariants as decision
 use Rattle.operator_core.specs.State.{State, no_rows}
-use Rattle.operator_core.specs.Consistent.{AreOfProviders, IsSound}
-use Rattle.operator_core.specs.Laws.{Comes, Serves, Stepped, Served}
+use Rattle.operator_core.specs.Consistent.{AreOfProviders, AreGiven, IsSound}
 use Rattle.operator_core.specs.Moves.{Out}
 use Rattle.operator_core.specs.Providers.{IsProvider}
-use Rattle.operator_core.specs.Steps.{OperatorStep, PacketLine, deadline}
+use Rattle.operator_core.specs.Steps.{OperatorStep, PacketLine, deadline, result_of, url_of}
 use Rattle.operator_core.specs.Steps as lines
 use Rattle.operator_core.specs.Service.{ServiceStep}
 use Rattle.operator_core.specs.Service as service
-use Rattle.operator_core.proofs.Effects.{leaves, pending_after}
-use Rattle.operator_core.proofs.Stays.{given_stay}
+use Rattle.operator_core.proofs.Effects.{leaves, pending_after, last_after, pushes_after}
 use Rattle.operator_core.proofs.Consistency.{consistent_empty, step_consistent, service_consistent}
 
 pub sound_empty : (providers : List (List ℕ)) → IsSound providers no_rows
@@ -69,16 +70,41 @@ service_pending s evse works out (service.Unchanged at is x) = ap (λ (z : Out).
 service_pending s evse works out (service.Withdrawn at out_now is x) = ap (λ (z : Out). z.state.rows.commands.pending) x
 service_pending s evse works out (service.Restored at in_now is x) = ap (λ (z : Out). z.state.rows.commands.pending) x
 
+-- the push of a result has the next number
+given_decided : (to url : List ℕ) (s : OutboxRows) (o : Option CommandResultType) → AreGiven s → AreGiven (record { last = last_after s.last o; pushes = pushes_after to url s.last o s.pushes })
+given_decided to url s None h n o has = h n o has
+given_decided to url s (Some x) h n o has = elim (of_insert nat_cmp_total nat_cmp-IsAntisymmetric s.pushes (s.last + 1) _ n o has) [
+  | inl i ↦ let same = i.0 in omega (arith, same)
+  | inr i ↦ let below = h n o i in omega (arith, below)
+]
+
+abbrev Gives : Out → Type 0
+Gives out = AreGiven out.state.rows.outbox
+
+line_given : (s : State) (at : ℕ) (q : Packet) (to : List ℕ) (out : Out) → AreGiven s.rows.outbox → PacketLine s at q to out → Gives out
+line_given s at q to out h (lines.Again c is r kept x) = subst Gives (sym x) h
+line_given s at q to out h (lines.Decided c is new d decides x) =
+    let l = leaves at to (key q.from) q.request c s.rows d in
+    subst Gives (sym x) (subst AreGiven (λ i. record { last = sym l.last i; pushes = sym l.pushes i }) (given_decided to (url_of c) s.rows.outbox (result_of d) h))
+line_given s at q to out h (lines.Acknowledged a is it x) = subst Gives (sym x) (λ n o has. h n o (of_remove nat_cmp_total nat_cmp-IsAntisymmetric s.rows.outbox.pushes q.request n o has).1)
+line_given s at q to out h (lines.Idle a is other x) = subst Gives (sym x) h
+
+service_given : (s : State) (evse : List ℕ) (works : Bool) (out : Out) → AreGiven s.rows.outbox → ServiceStep s evse works out → Gives out
+service_given s evse works out h (service.Unknown unknown x) = subst Gives (sym x) h
+service_given s evse works out h (service.Unchanged at is x) = subst Gives (sym x) h
+service_given s evse works out h (service.Withdrawn at out_now is x) = subst Gives (sym x) h
+service_given s evse works out h (service.Restored at in_now is x) = subst Gives (sym x) h
+
 pub step_sound : (s : State) (at : ℕ) (q : Packet) (out : Out) → IsSound s.providers s.rows → OperatorStep s at q out → IsSound s.providers out.state.rows
 step_sound s at q out h step = record {
   commands = step_consistent s at q out h.commands step;
   of_providers = line_of s at q step.comes.provider h.of_providers step.comes.from out step.comes.line;
-  given = given_stay s out.state (record { input = Comes at q; changes = out.changes; packets = out.packets }) (Stepped at q refl step) h.given;
+  given = line_given s at q step.comes.provider out h.given step.comes.line;
 }
 
 pub service_sound : (s : State) (evse : List ℕ) (works : Bool) (out : Out) → IsSound s.providers s.rows → ServiceStep s evse works out → IsSound s.providers out.state.rows
 service_sound s evse works out h step = record {
   commands = service_consistent s evse works out h.commands step;
   of_providers = subst (AreOfProviders s.providers) (sym (service_pending s evse works out step)) h.of_providers;
-  given = given_stay s out.state (record { input = Serves evse works; changes = out.changes; packets = out.packets }) (Served evse works refl step) h.given;
+  given = service_given s evse works out h.given step;
 }

@@ -23,5 +23,4 @@ pub mod Service
 pub mod Faults
 pub mod FaultText
 pub mod Requests
-pub mod Laws
 pub mod Listing

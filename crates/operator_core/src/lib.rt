@@ -11,7 +11,6 @@ mod ending;
 mod fault;
 mod finish;
 mod found;
-pub mod laws;
 mod operator;
 mod providers;
 mod request;

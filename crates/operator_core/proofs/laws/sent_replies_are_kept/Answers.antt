@@ -1,5 +1,0 @@
-use Rattle.operator_core.proofs.Runs as runs
-use Rattle.operator_core.proofs.laws.sent_replies_are_kept.Goals as goal
-
-pub returns : goal.returns
-returns c = runs.sent_replies_law

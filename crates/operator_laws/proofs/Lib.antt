@@ -1,0 +1,11 @@
+pub mod Shapes
+pub mod Sends
+pub mod Marking
+pub mod Puts
+pub mod Stays
+pub mod ClaimChanges
+pub mod OneClaim
+pub mod ResendTimes
+pub mod EventConsistency
+pub mod Runs
+pub mod Answered

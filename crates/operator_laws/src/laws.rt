@@ -1,0 +1,65 @@
+//! The laws of an operator, over every list of events from its opening. The steps in them are those of
+//! `Operator::on_packet`, `on_charger`, `on_tick`, `on_service` and `restart`.
+
+ghost use Rattle.operator_laws.specs.Laws.{AlwaysConsistent, OneStart, SentRepliesAreKept, RepliesStay, RepliesAnswer, ResultsStay, Numbered, RequestsAgree, PushesStand, SentResultsAreKept, MarksNeverFall, ReservationsAreNewer};
+
+/// Each EVSE has at most one claim, among open starts and reservations; each reference is carried by at most one open start;
+/// each open command is of a provider of the site, and has a reply and no result; only a push that stands has a resend time.
+pub fn always_consistent()
+    ensures { AlwaysConsistent }
+{}
+
+/// Each authorization reference of a provider opens at most one start.
+pub fn one_start()
+    ensures { OneStart }
+{}
+
+/// Each response that was sent is the reply that is kept for its request: all answers to one request have one body.
+pub fn sent_replies_are_kept()
+    ensures { SentRepliesAreKept }
+{}
+
+/// A reply is kept for good.
+pub fn replies_stay()
+    ensures { RepliesStay }
+{}
+
+/// Each kept reply answers a command that came.
+pub fn replies_answer()
+    ensures { RepliesAnswer }
+{}
+
+/// A result is kept for good.
+pub fn results_stay()
+    ensures { ResultsStay }
+{}
+
+/// The packets of an operator are numbered from 1, each by the next number.
+pub fn numbered()
+    ensures { Numbered }
+{}
+
+/// Each request of an operator has one number, one body and one addressee, however often it is sent.
+pub fn requests_agree()
+    ensures { RequestsAgree }
+{}
+
+/// A result that was sent is pushed until its addressee acknowledges it.
+pub fn pushes_stand()
+    ensures { PushesStand }
+{}
+
+/// A result that was sent is the one that is kept.
+pub fn sent_results_are_kept()
+    ensures { SentResultsAreKept }
+{}
+
+/// No mark falls, and none goes.
+pub fn marks_never_fall()
+    ensures { MarksNeverFall }
+{}
+
+/// A reservation is made only under a number above that of every request about it that was decided before.
+pub fn reservations_are_newer()
+    ensures { ReservationsAreNewer }
+{}
