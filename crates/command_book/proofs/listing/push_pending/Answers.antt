@@ -5,7 +5,7 @@ use Rattle.tables.proofs.Elements.{one_more, none_left}
 use Rattle.command_book.proofs.listing.push_pending.Goals as goal
 
 pub loop-request-preserved : goal.loop-request-preserved
-loop-request-preserved c = one_more _ _ _ _ _ _ c.in_ok-push.ensures.items (ap (map pending_row) c.in-Some.ensures.steps ∙ ap (λ o. row.Pending c.in-Some.request.now.0 c.in-Some.request.now.1 o ∷ map pending_row c.next.new.self) (sym c.in_ok-copy.ensures)) c.loop-request.invariant
+loop-request-preserved c = one_more _ _ _ _ _ _ c.in_ok-push.ensures.items (ap (map pending_row) c.in-Some.ensures.steps ∙ ap (λ o. row.Pending c.in-Some.request.now.0 c.in-Some.request.now.1 o ∷ map pending_row c.next.new.self) (sym (c.in_ok-open.ensures ∙ c.in_ok-copy.ensures))) c.loop-request.invariant
 
 pub returns : goal.returns
 returns c = none_left _ _ _ (ap (map pending_row) c.in-None.ensures.steps.0) c.loop-request.invariant ∙ ap (λ l. c.args.rows.now.items ++ map pending_row l) (cc)

@@ -1,10 +1,11 @@
-use Rattle.std.proofs.Common.{◌++◌, map, ap, ◌∙◌}
+use Rattle.std.proofs.Common.{◌∷◌, ◌++◌, map, sym, ap, ◌∙◌}
+use Rattle.ocpi_types.specs.declared.rows.Row.TheVariants as row
 use Rattle.reservation_book.specs.Rows.{reservation_row}
 use Rattle.tables.proofs.Elements.{one_more, none_left}
 use Rattle.reservation_book.proofs.all_rows.push_reservations.Goals as goal
 
 pub loop-key-preserved : goal.loop-key-preserved
-loop-key-preserved c = one_more _ _ _ _ _ _ c.in_ok-push.ensures.items (ap (map reservation_row) c.in-Some.ensures.steps) c.loop-key.invariant
+loop-key-preserved c = one_more _ _ _ _ _ _ c.in_ok-push.ensures.items (ap (map reservation_row) c.in-Some.ensures.steps ∙ ap (λ r. row.Reservation c.in-Some.key.now.0 c.in-Some.key.now.1 r ∷ map reservation_row c.next.new.self) (sym c.in_ok-reservation.ensures)) c.loop-key.invariant
 
 pub returns : goal.returns
 returns c = none_left _ _ _ (ap (map reservation_row) c.in-None.ensures.steps.0) c.loop-key.invariant ∙ ap (λ l. c.args.rows.now.items ++ map reservation_row l) (cc)
