@@ -5,6 +5,7 @@ ghost use Rattle.std.specs.Io.KnownBytes.{Keeps};
 ghost use Rattle.line_runs.specs.Lines.{IsInLine, ReadsLineOf, TakesPart};
 
 use crate::outcome::RunFault;
+use memchr::memchr;
 use std::io::{self, BufRead, ErrorKind, Write};
 
 /// The most bytes of a line that are looked at: one more than a line may have, so that a longer one shows.
@@ -224,7 +225,7 @@ fn len_through(bytes: &[u8]) -> usize
     ensures some { 0 < length bytes.now → 0 < result }
     ensures before { All (λ b. b ≢ 10) (take (result - 1) bytes.now) }
 {
-    match bytes.iter().position(|byte| *byte == b'\n') {
+    match memchr(b'\n', bytes) {
         Some(at) => at + 1,
         None => bytes.len(),
     }
