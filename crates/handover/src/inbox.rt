@@ -164,6 +164,27 @@ impl Inbox {
         }
     }
 
+    /// Takes the room that a session needs. An error is want of memory, for one that has none. No row changes.
+    fn reserve_session(&mut self, session: &Session) -> Result<(), AllocError>
+        ensures rows { self.new.rows ≡ self.old.rows }
+        ensures keeps { KeepsRoom self.old.rooms self.new.rooms }
+        ensures room { OnOk result (HasRoomOf self.new.rooms (Row.Session session.now)) }
+        ensures again { HasRoomOf self.old.rooms (Row.Session session.now) → IsOk result }
+    {
+        self.sessions
+            .reserve((session.party.key(), session.id.key()))
+    }
+
+    /// Puts a session that has room, in place of the one of its key. It takes no memory.
+    fn put_session(&mut self, session: &Session)
+        requires { HasRoomOf self.old.rooms (Row.Session session.now) }
+        ensures rows { self.new.rows ≡ put_row (Row.Session session.now) self.old.rows }
+        ensures rooms { self.new.rooms ≡ self.old.rooms }
+    {
+        self.sessions
+            .put((session.party.key(), session.id.key()), *session);
+    }
+
     /// Puts a session, in place of the one of its key. An error is want of memory, for one that has no room, and leaves the
     /// rows as they were.
     fn add_session(&mut self, session: &Session) -> Result<(), AllocError>
@@ -172,9 +193,8 @@ impl Inbox {
         ensures keeps { KeepsRoom self.old.rooms self.new.rooms }
         ensures again { HasRoomOf self.old.rooms (Row.Session session.now) → IsOk result }
     {
-        let key = (session.party.key(), session.id.key());
-        self.sessions.reserve(key)?;
-        self.sessions.put(key, *session);
+        self.reserve_session(session)?;
+        self.put_session(session);
         Ok(())
     }
 
@@ -261,9 +281,7 @@ impl Inbox {
         ensures again { HasRoomOf self.old.rooms row.now → IsOk result }
     {
         match row {
-            Row::Session { session } => self
-                .sessions
-                .reserve((session.party.key(), session.id.key())),
+            Row::Session { session } => self.reserve_session(session),
             Row::Cdr { cdr } => self.cdrs.reserve(cdr),
             _ => Ok(()),
         }
@@ -276,9 +294,7 @@ impl Inbox {
         ensures rooms { self.new.rooms ≡ self.old.rooms }
     {
         match row {
-            Row::Session { session } => self
-                .sessions
-                .put((session.party.key(), session.id.key()), *session),
+            Row::Session { session } => self.put_session(&session),
             Row::Cdr { cdr } => self.cdrs.put(cdr.into_inner()),
             _ => {}
         }
