@@ -290,11 +290,11 @@ fn copy_push(number: Whole, to: Party, push: &Push) -> Result<Row, AllocError>
 fn copy_pending(
     provider: PartyKey,
     number: Whole,
-    open: &Boxed<OpenCommand>,
+    command: &Boxed<OpenCommand>,
 ) -> Result<Row, AllocError>
-    ensures { IfOk result (λ t. t ≡ row.Pending provider number open.now) }
+    ensures { IfOk result (λ t. t ≡ row.Pending provider number command.now) }
 {
-    let open = open.copy()?;
+    let open = command.copy()?;
     Ok(Row::Pending {
         provider,
         number,
