@@ -1,6 +1,6 @@
 -- Lists of slots in the order of their keys, read as the map of the values and as the map of the room.
 use Rattle.std.proofs.Common.{◌≡◌, ℕ, ◌+◌, ◌≤◌, Bool, true, false, cond, T, List, [], ◌∷◌, length, refl, sym, ap, subst, ◌∙◌, arith}
-use Rattle.std.specs.Prelude.{Option, Some, None, is_some, ◌&&◌}
+use Rattle.std.specs.Prelude.{Option, Some, None, is_some, IfSome, IfNone, ◌&&◌}
 use Rattle.std.specs.Option.{option_flatten}
 use Rattle.std.specs.Ordering.{eq_by_cmp, is_lt, is_eq, is_le}
 use Rattle.std.specs.declared.cmp.Ordering.{Ordering}
@@ -20,7 +20,7 @@ use Rattle.std.proofs.lemmas.List.{length-map}
 use Rattle.tables.specs.Tables.{shown_slot, shown, slot_keys, shown_of, rooms_of, entries_after}
 use Rattle.tables.proofs.Ordered.{both, looked, turned, in_order, no_entry, all_pass}
 use Rattle.tables.proofs.Options.{is_none}
-use Rattle.tables.proofs.Maps.{equal_of_is_eq, remove_absent, insert_present}
+use Rattle.tables.proofs.Maps.{equal_of_is_eq, remove_absent, insert_present, insert_removed}
 
 -- whether there is a slot
 abbrev pub there : {X : Type 0} → Option X → Option (Unit {0})
@@ -169,6 +169,12 @@ module _ {K : Type 0} {R : K → K → Ordering} (o : IsTotalOrder R) (m : FinMa
   pub kept : (q : K) → contains_key m q ≡ true → contains_key (insert m k tt) q ≡ true
   kept q had = ap is_some (get-insert o m k tt q) ∙ elim (eq_by_cmp R q k) as (λ b. is_some (cond b (Some tt) (get m q)) ≡ true) [ true ↦ refl | false ↦ had ]
 
+module _ {K X : Type 0} {R : K → K → Ordering} (o : IsTotalOrder R) (exact : IsAntisymmetric R) where
+  -- a value that is taken from under a key, if there is one, and put back
+  pub put_back : (m without n : FinMap R X) (k : K) (w : Option X) → get m k ≡ w → without ≡ remove m k → IfSome w (λ v. n ≡ insert without k v) → IfNone w (n ≡ without) → n ≡ m
+  put_back m without n k None had e some none = none ∙ e ∙ remove_absent o exact m k had
+  put_back m without n k (Some v) had e some none = some ∙ ap (λ x. insert x k v) e ∙ insert_removed o exact m k v ∙ insert_present o exact m k v had
+
 module _ {K X : Type 0} {R : K → K → Ordering} (o : IsTotalOrder R) (exact : IsAntisymmetric R) (es fs : List (K × Option X)) (k : K) (w : Option (Option X))
     (s : IsStrictlySortedBy R (keys_of es)) (t : IsStrictlySortedBy R (keys_of fs))
     (h : (q : K) → lookup (is_at (R q)) fs ≡ cond (is_at (R k) q) w (lookup (is_at (R q)) es)) where
@@ -193,10 +199,6 @@ module _ {K X : Type 0} {R : K → K → Ordering} (o : IsTotalOrder R) (exact :
   pub cleared : option_flatten w ≡ None → shown_of R fs ≡ remove (shown_of R es) k
   cleared e = same_map o exact _ _ (λ q. changed q ∙ ap (λ x. cond (eq_by_cmp R q k) x (get (shown_of R es) q)) e ∙ sym (get-remove o (shown_of R es) k q))
 
-  -- and there was no slot before
-  pub still : option_flatten w ≡ None → contains_key (rooms_of R es) k ≡ false → shown_of R fs ≡ shown_of R es
-  still e none = cleared e ∙ remove_absent o exact (shown_of R es) k (got exact es k s ∙ ap option_flatten (is_none _ (sym (has_room R es k s) ∙ none)))
-
   -- and nothing was shown before
   pub still_hidden : option_flatten w ≡ None → contains_key (shown_of R es) k ≡ false → shown_of R fs ≡ shown_of R es
   still_hidden e none = cleared e ∙ remove_absent o exact (shown_of R es) k (is_none _ none)
@@ -214,10 +216,6 @@ module _ {K X : Type 0} {R : K → K → Ordering} (o : IsTotalOrder R) (exact :
   unroomed e = same_map o exact _ _ (λ q. changed_room q ∙ ap (λ x. cond (eq_by_cmp R q k) x (get (rooms_of R es) q)) e ∙ sym (get-remove o (rooms_of R es) k q))
 
 module _ {K X : Type 0} {R : K → K → Ordering} (o : IsTotalOrder R) (exact : IsAntisymmetric R) (es : List (K × Option X)) (k : K) (s : IsStrictlySortedBy R (keys_of es)) where
-  -- room for a key that has it already
-  pub room_again : contains_key (rooms_of R es) k ≡ true → rooms_of R es ≡ insert (rooms_of R es) k tt
-  room_again e = sym (insert_present o exact (rooms_of R es) k tt (unit_there _ e))
-
   -- a key with no slot has nothing to lose
   pub nothing_shown : lookup (is_at (R k)) es ≡ None → shown_of R es ≡ remove (shown_of R es) k
   nothing_shown e = sym (remove_absent o exact (shown_of R es) k (got exact es k s ∙ ap option_flatten e))

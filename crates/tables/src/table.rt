@@ -2,6 +2,7 @@
 
 ghost use Rattle.std.specs.Prelude.{◌≡◌, ◌≤◌, ◌<◌, ◌^◌, IfSome, IfNone, IsOk, OnOk, OnErr, IsTrue, ⊤, false, option_copied};
 ghost use Rattle.std.specs.FinMap as map;
+ghost use Rattle.std.specs.Option.{option_flatten};
 ghost use Rattle.std.specs.BTreeMap.Range.{IsLeBy, IsLtBy, entries_from};
 ghost use Rattle.tables.specs.Keys.{pair_cmp};
 ghost use Rattle.tables.specs.Tables.{shown_of, rooms_of, entries_after, IsLeast, HasNone};
@@ -158,11 +159,22 @@ impl<K: TableKey, V: Drop> Table<K, V> {
         ensures again { IsTrue (map.contains_key (rooms_of K.cmp self.old) key) → IsOk result }
         ensures err { OnErr result (self.new ≡ self.old) }
     {
-        if self.has_room(key) {
-            return Ok(());
-        }
-        self.slots.insert(key, None)?;
+        // Most keys are new, so a key is not looked up before.
+        let replaced = self.slots.insert(key, None)?;
+        self.put_back(key, replaced);
         Ok(())
+    }
+
+    /// Puts the value back that `reserve` took from under a key, if one stood there. It takes no memory.
+    fn put_back(&mut self, key: K, replaced: Option<Option<V>>)
+        requires { IsTrue (map.contains_key (rooms_of K.cmp self.old) key) }
+        ensures some { IfSome (option_flatten replaced) (λ v. shown_of K.cmp self.new ≡ map.insert (shown_of K.cmp self.old) key v) }
+        ensures none { IfNone (option_flatten replaced) (shown_of K.cmp self.new ≡ shown_of K.cmp self.old) }
+        ensures room { rooms_of K.cmp self.new ≡ rooms_of K.cmp self.old }
+    {
+        if let Some(Some(value)) = replaced {
+            self.put(key, value);
+        }
     }
 
     /// Sets the value of a key that has room or a value. It takes no memory.
