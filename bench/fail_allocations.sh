@@ -1,17 +1,15 @@
 #!/usr/bin/env bash
-# Runs the program operator_lines, as `rt ci` has built it, once for each allocation that it makes on some cases, with that
+# Runs the program case_lines, as `rt ci` has built it, once for each allocation that it makes on some cases, with that
 # allocation failing. Its output must be what the cases want, or a beginning of it where the program then ends with status
 # 1: a step that finds no memory is tried again there, and must give the answer and the rows that it gives with ample
-# memory. Where one run fails, so does this. The cases are bench/fail_allocations.stdin and .stdout; with the word `all`, those
-# of the program, which takes some ten minutes. Without cc it tries nothing. The last line says what was
-# tried.
+# memory. Where one run fails, so does this. The cases are bench/fail_allocations.stdin and .stdout, some of those of the program
+# about an operator. Without cc it tries nothing. The last line says what was tried.
 set -euo pipefail
 top=$(cd "$(dirname "${BASH_SOURCE[0]}")/.." && pwd)
 input=$top/bench/fail_allocations.stdin wanted=$top/bench/fail_allocations.stdout
-[[ ${1-} == all ]] && input=$top/crates/operator_lines/stdin wanted=$top/crates/operator_lines/stdout
-program=$top/crates/operator_lines/out/operator_lines
+program=$top/crates/case_lines/out/case_lines
 command -v cc > /dev/null || { echo "no allocation was tried: there is no cc"; exit 0; }
-[[ -x $program ]] || { echo "$program is not built: rt run in crates/operator_lines, or rt ci, builds it" >&2; exit 1; }
+[[ -x $program ]] || { echo "$program is not built: rt run in crates/case_lines, or rt ci, builds it" >&2; exit 1; }
 room=$(mktemp -d)
 trap 'rm -rf "$room"' EXIT
 cc -shared -fPIC -O1 -o "$room/fail.so" "$top/bench/fail_allocation.c"

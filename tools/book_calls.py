@@ -1,4 +1,4 @@
-"""The cases of `book_lines` as they are gathered: a line, and what it must answer."""
+"""The cases of the books as they are gathered: a line, and what it must answer."""
 
 import sys
 

@@ -1,16 +1,8 @@
-#!/usr/bin/env python3
-"""Writes the cases of the program `book_lines`: calls on a session, a site and the books, and what each must answer.
-
-    tools/book_cases.py          writes crates/book_lines/stdin and crates/book_lines/stdout
+"""The part `books` of the cases of the program `case_lines`: calls on a session, a site and the books, and what each must answer.
 
 Each case says what it must answer, by the rules of docs/PROTOCOL.md. Behind these come sequences of calls that are drawn, with
 the answers of the plain models of `book_models`. Each answer is one line, but for rows, whose number comes first.
-To see where the program differs:
-
-    (cd crates/book_lines && rt run < stdin) | diff crates/book_lines/stdout -
 """
-
-import pathlib
 
 from book_calls import CASES, case, fresh, with_row
 from book_life_cases import SITE, add_lives_and_sites
@@ -651,7 +643,8 @@ def add_other_lines():
     case("command kept number=1", "none")
 
 
-def main():
+def cases():
+    """The lines, and what each must answer."""
     for add in (
         add_lives_and_sites, add_reservations,
         add_expiries, add_uses, add_reservation_rows, add_tokens, add_swipes, add_authorizations, add_own_tokens, add_commands,
@@ -659,11 +652,4 @@ def main():
     ):
         add()
     add_drawn(case)
-    folder = pathlib.Path(__file__).resolve().parent.parent / "crates" / "book_lines"
-    for name, lines in (("stdin", [line for line, _ in CASES]), ("stdout", [wanted for _, wanted in CASES])):
-        (folder / name).write_text("".join(f"{line}\n" for line in lines), encoding="utf-8", newline="\n")
-    print(f"{len(CASES)} cases")
-
-
-if __name__ == "__main__":
-    main()
+    return [line for line, _ in CASES], [wanted for _, wanted in CASES]

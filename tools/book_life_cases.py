@@ -1,4 +1,4 @@
-"""The cases of `book_lines` that are calls on a session and on the places of a site."""
+"""The cases of the books that are calls on a session and on the places of a site."""
 
 from book_calls import case, fresh, with_row
 from book_values import (

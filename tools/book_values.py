@@ -1,4 +1,4 @@
-"""Records as the rows of `book_lines` have them, and how they are spelled."""
+"""Records as the rows of the cases of the books have them, and how they are spelled."""
 
 import datetime
 

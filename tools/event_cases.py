@@ -1,4 +1,4 @@
-"""The cases of `packet_lines` that are setup lines and event lines: `CASES` has each line, behind `setup ` or `event `, and what it
+"""The cases of `packet_cases` that are setup lines and event lines: `CASES` has each line, behind `setup ` or `event `, and what it
 must give, `taken` or why it is refused. `packet_cases` writes them behind its own."""
 import json
 

@@ -1,4 +1,4 @@
-"""What the cases of `operator_lines` are told in: events at an operator, and what each must give."""
+"""What the cases of `operator_cases` are told in: events at an operator, and what each must give."""
 import json
 
 OPERATOR = "BE/BEC"

@@ -1,19 +1,12 @@
-#!/usr/bin/env python3
-"""Writes the cases of the program operator_lines, its files stdin and stdout: events at an operator, and what each must give.
+"""The part `operator` of the cases of the program `case_lines`: events at an operator, and what each must give.
 
 Each case is told in short words here and spelled out by `operator_case`, which knows the rules apart from the code: what is sent
 and which rows are put or dropped are written behind each event by hand, and an event behind which nothing stands gives nothing.
-`python3 tools/operator_cases.py` writes the files, and a choice of the cases into bench/. The cases of what charge points report, of time and of new starts are in
-`operator_time_cases`.
+The cases of what charge points report, of time and of new starts are in `operator_time_cases`.
 """
-import pathlib
-
 from operator_case import CASES, LINES, OPERATOR, PROVIDERS, WANTED, Case, end, enter, location, moment, refused, text, token, url
 from operator_time_cases import add_time_cases
 
-TOP = pathlib.Path(__file__).resolve().parent.parent
-HERE = TOP / "crates" / "operator_lines"
-BENCH = TOP / "bench"
 # The cases in which each allocation fails once: bench/fail_allocations.sh.
 WITHOUT_MEMORY = [
     "a START that comes again has the same answer",
@@ -226,22 +219,19 @@ def others():
     c.stored()
 
 
-def taken(names):
-    """The lines of some of the cases, behind the site line, and what they want."""
+def cases_without_memory():
+    """The lines of the cases in which each allocation fails once, behind the site line, and what they must give."""
     ends = CASES[1:] + [("", len(LINES), len(WANTED))]
     lines, wanted = LINES[:1], []
     for (name, line, want), (_, next_line, next_want) in zip(CASES, ends):
-        if name in names:
+        if name in WITHOUT_MEMORY:
             lines += LINES[line:next_line]
             wanted += WANTED[want:next_want]
     return lines, wanted
 
 
-def write(file, lines):
-    file.write_text("\n".join(lines) + "\n")
-
-
-def main():
+def cases():
+    """The lines, and what they must give."""
     site = {"currency": "EUR", "locations": [location("LOC1", ["E1", "E2"]), location("LOC2", ["E3"])], "price": 0.25}
     enter(text({"at": moment("10:00:00"), "party": OPERATOR, "providers": PROVIDERS, "site": site}))
     starts()
@@ -249,13 +239,4 @@ def main():
     others()
     add_time_cases()
     end()
-    write(HERE / "stdin", LINES)
-    write(HERE / "stdout", WANTED)
-    lines, wanted = taken(WITHOUT_MEMORY)
-    write(BENCH / "fail_allocations.stdin", lines)
-    write(BENCH / "fail_allocations.stdout", wanted)
-    print("%d lines, %d wanted" % (len(LINES), len(WANTED)))
-
-
-if __name__ == "__main__":
-    main()
+    return LINES, WANTED

@@ -1,4 +1,4 @@
-"""The cases of `operator_lines` that are about what charge points report, about time, and about new starts of the operator.
+"""The cases of `operator_cases` that are about what charge points report, about time, and about new starts of the operator.
 
 A report or a tick beside which nothing is told gives neither a packet nor a row. There are no sessions yet, so that a
 STOP_SESSION is never open: what ends one is not among these cases. A start is never carried out yet either, so that `accepts`

@@ -1,12 +1,8 @@
-#!/usr/bin/env python3
-"""Writes the cases of the program `packet_lines`: packets, site lines, setup lines, event lines and rows, and what each must give.
+"""The part `packets` of the cases of the program `case_lines`: packets, site lines, setup lines, event lines and rows, and what
+each must give.
 
-    tools/packet_cases.py          writes crates/packet_lines/stdin and crates/packet_lines/stdout
-
-Line n of `stdout` is what line n of `stdin` must give. Each case of a packet or a site says what it must give, and the tables in
-`packet_forms` say it once more: where the two differ, nothing is written. Those of setups and events are in `event_cases`, those of rows in `row_cases`. To see where the program differs:
-
-    (cd crates/packet_lines && rt run < stdin) | diff crates/packet_lines/stdout -
+Each line gives one line. Each case of a packet or a site says what it must give, and the tables in `packet_forms` say it once
+more: where the two differ, nothing is written. Those of setups and events are in `event_cases`, those of rows in `row_cases`.
 """
 
 import copy
@@ -473,14 +469,8 @@ def try_counts(tree, path, items):
     refused(line_of(replaced(tree, path, [None, *items[1:]])), wrong_form(path[-1]))
 
 
-def write_files():
-    folder = TOOLS.parent / "crates" / "packet_lines"
-    for name, lines in (("stdin", [line for line, _ in CASES]), ("stdout", [wanted for _, wanted in CASES])):
-        (folder / name).write_text("".join(f"{line}\n" for line in lines), encoding="utf-8", newline="\n")
-    print(f"{len(CASES)} cases")
-
-
-def main():
+def cases():
+    """The lines, and what each must give."""
     add_packets()
     add_spellings()
     add_members()
@@ -496,8 +486,4 @@ def main():
     CASES.extend(ROW_CASES)
     if any("\n" in line or not line for line, _ in CASES):
         sys.exit("a case is not one line")
-    write_files()
-
-
-if __name__ == "__main__":
-    main()
+    return [line for line, _ in CASES], [wanted for _, wanted in CASES]

@@ -1,4 +1,4 @@
-"""The cases of `packet_lines` that are rows: `CASES` has each line, a kind, a key and a text behind `row ` with tabs between
+"""The cases of `packet_cases` that are rows: `CASES` has each line, a kind, a key and a text behind `row ` with tabs between
 them, and what it must give: these three as they are written, or why the row is refused. Each case says what it must give,
 and the tables in `row_forms` say it once more. `packet_cases` writes them behind its own."""
 

@@ -1,6 +1,6 @@
 """The rows as tables: which members the text of each kind has, in which order faults are told, and which keys it may have.
 
-`answer(line)` gives what a line of `packet_lines` must give that is a kind, a key and a text behind `row `, with tabs between
+`answer(line)` gives what a line of `packet_cases` must give that is a kind, a key and a text behind `row `, with tabs between
 them: these three as they are written, or `refused` and the first fault. Written from the rules (docs/PROTOCOL.md), as
 `packet_forms` is, and beside it.
 """

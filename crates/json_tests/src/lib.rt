@@ -1,4 +1,4 @@
-//! What `packet_lines` does not show of `ocpi_json`: its quoting, and limits of a line.
+//! What `case_lines` does not show of `ocpi_json`: its quoting, and limits of a line.
 #![tactic(auto)]
 
 #[cfg(test)]

@@ -1,9 +1,9 @@
 #!/usr/bin/env python3
 """Counts the instructions that a call of each book costs where it holds N entries.
 
-usage: book_lines.py PROGRAM [N ..]
+usage: book_calls.py PROGRAM [N ..]
 
-PROGRAM is `book_lines`, as `rt run` builds it (crates/book_lines/out/book_lines). For each book and each N, 1,000 and 100,000 where
+PROGRAM is `case_lines`, as `rt run` builds it (crates/case_lines/out/case_lines). For each book and each N, 1,000 and 100,000 where
 none is given, the lines fill a book with N entries and then make 1,000 calls of each kind, spread over the entries. A site has at
 most 10,000 EVSEs here, as many as a line holds. Valgrind counts the instructions of each kind; those of reading the line and
 writing the answer are among them, and are the same for each N but for the digits of numbers. It wants valgrind.
@@ -23,7 +23,7 @@ CALLS = 1000
 
 # Its call stands between two kinds, and the counts are told after it.
 BETWEEN = "bills settle"
-CALLED_BETWEEN = "book_lines::inboxes::call_bills"
+CALLED_BETWEEN = "case_lines::inboxes::call_bills"
 
 
 def row(words, kind, key, tree):
@@ -136,6 +136,7 @@ def count(program, parts):
     with tempfile.TemporaryDirectory() as room:
         given = pathlib.Path(room, "lines")
         with given.open("w", encoding="utf-8") as lines:
+            lines.write("\fbooks\n")
             for part in parts:
                 lines.writelines(f"{line}\n" for line in part)
                 lines.write(f"{BETWEEN}\n")

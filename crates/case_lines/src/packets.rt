@@ -1,12 +1,8 @@
-//! Reads each line of the standard input as a packet, and writes the line that is written for that packet, or why the
-//! line is refused, as `refused 4 Missing(token)`. What follows `site `, `setup ` or `event ` is read as such a line, and is
-//! `taken` or refused. What follows `row ` is a kind, a key and a text with tabs between them, and is read as that row: these
-//! three are written as they are for the row, or the row is refused.
-//!
-//! It is a test of `ocpi_json`, and of `copy`: its cases are the lines of the file `stdin` beside what they must give,
-//! `stdout`, which `tools/packet_cases.py` writes. It also serves to see what is wrong with a line. Lines end at LF; empty
-//! ones are skipped.
-#![tactic(auto)]
+//! Lines of all kinds, read and written again. A line is read as a packet, and the line is written that is written for a copy
+//! of that packet, or why the line is refused, as `refused 4 Missing(token)`. What follows `site `, `setup ` or `event ` is read
+//! as such a line, and is `taken` or refused. What follows `row ` is a kind, a key and a text with tabs between them, and is
+//! read as that row: these three are written as they are for a copy of the row, or the row is refused. The cases test
+//! `ocpi_json`, and `copy` of `ocpi_types`.
 
 use ocpi_json::{
     JsonFault, RowKind, read_event, read_packet, read_row, read_setup, read_site, write_key,
@@ -14,30 +10,20 @@ use ocpi_json::{
 };
 use ocpi_types::{Packet, Row, Word};
 use std::alloc::Global;
-use std::io::{self, BufWriter, Read, Write};
-use std::process::ExitCode;
+use std::io::{self, Write};
 
-fn main(rt: HostRuntime) -> ExitCode {
-    match write_answers(&rt) {
-        Ok(()) => ExitCode::SUCCESS,
-        Err(error) => {
-            let _ = eprintln!(rt; "{error}");
-            ExitCode::FAILURE
-        }
-    }
-}
-
-/// Answers all lines of the standard input.
-fn write_answers(rt: &HostRuntime) -> io::Result<()> {
-    let mut input = Vec::new(rt.alloc());
-    rt.reader().read_to_end(&mut input)?;
-    let mut output = BufWriter::new(rt.alloc(), io::writer(rt))?;
-    for line in input.split(|byte| *byte == b'\n') {
+/// Writes what each line gives.
+pub(crate) fn write_answers<W: Write>(
+    alloc: Global,
+    lines: &[u8],
+    output: &mut W,
+) -> io::Result<()> {
+    for line in lines.split(|byte| *byte == b'\n') {
         if !line.is_empty() {
-            write_answer(rt.alloc(), line, &mut output)?;
+            write_answer(alloc, line, output)?;
         }
     }
-    output.flush()
+    Ok(())
 }
 
 /// Writes what a line gives.

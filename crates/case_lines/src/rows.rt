@@ -1,7 +1,7 @@
 //! Calls with a row.
 
-use crate::Books;
 use crate::answers::{Answer, DONE, MEMORY, NOT_A_CALL};
+use crate::books::Books;
 use crate::commands::{keep, open};
 use crate::given::Given;
 use crate::inboxes::{add_bill, take_cdr, take_session};

@@ -1,17 +1,14 @@
-//! Hands packets and events to an operator, and writes what each step gives: the packets that are sent, each as its line,
-//! and then the changes of rows, as `put KIND KEY TEXT` or `drop KIND KEY`. A line that is refused gives `refused N Name`.
-//! An empty line ends what a line gives, also where that is nothing.
+//! Packets and events that come to an operator, and what each step gives: the packets that are sent, each as its line, and then
+//! the changes of rows, as `put KIND KEY TEXT` or `drop KIND KEY`. A line that is refused gives `refused N Name`. An empty line
+//! ends what a line gives, also where that is nothing. The cases test `operator_core`.
 //!
-//! The first line of the standard input is a site line. Each other is a moment, a space and a packet; or an event line of an
-//! operator's own (what a charge point reports, `tick`, `service`, `restart`); or the word `fresh`: from there on it is a new
-//! operator of the same site; or the word `stored`, which gives all rows that stand, as if each were put. The program is a
-//! test of `operator_core`: its cases are the lines of the file `stdin`, and what they must give stands in `stdout`;
-//! `tools/operator_cases.py` writes both. Lines end at LF; empty ones are skipped.
+//! The first line is a site line. Each other is a moment, a space and a packet; or an event line of an operator's own (what a
+//! charge point reports, `tick`, `service`, `restart`); or the word `fresh`: from there on it is a new operator of the same
+//! site; or the word `stored`, which gives all rows that stand, as if each were put.
 //!
 //! A step that runs out of memory is made once more. So where an allocation of a step fails, whichever it is, the output is
 //! the same as with ample memory, since the step leaves the operator as it was; where another fails, the program ends with
 //! status 1 and a beginning of that output. `bench/fail_allocations.sh` lets each of them fail in turn.
-#![tactic(auto)]
 
 use ocpi_json::{
     JsonFault, RowKind, read_event, read_packet, read_site, write_key, write_packet, write_row,
@@ -20,43 +17,21 @@ use ocpi_text::{CiKey, Moment};
 use ocpi_types::{Change, ChargerEvent, Event, EventKind, Field, Packet, Row, RowKey, Word};
 use operator_core::{Operator, OperatorFault, Stepped};
 use std::alloc::{AllocError, Global};
-use std::io::{self, BufWriter, ErrorKind, Read, Write};
-use std::process::ExitCode;
+use std::io::{self, ErrorKind, Write};
 use std::str;
 
-fn main(rt: HostRuntime) -> ExitCode {
-    match write_steps(&rt) {
-        Ok(()) => ExitCode::SUCCESS,
-        Err(error) => {
-            let _ = eprintln!(rt; "{error}");
-            ExitCode::FAILURE
-        }
-    }
-}
-
-/// Writes what the lines of the standard input give.
-fn write_steps(rt: &HostRuntime) -> io::Result<()> {
-    let alloc = rt.alloc();
-    let mut input = Vec::new(alloc);
-    rt.reader().read_to_end(&mut input)?;
-    let mut output = BufWriter::new(alloc, io::writer(rt))?;
-    let end = input
+/// Writes what the lines give, of which the first is a site line.
+pub(crate) fn write_steps<W: Write>(alloc: Global, lines: &[u8], output: &mut W) -> io::Result<()> {
+    let end = lines
         .iter()
         .position(|byte| *byte == b'\n')
-        .unwrap_or(input.len());
-    match open(alloc, &input[..end]) {
+        .unwrap_or(lines.len());
+    match open(alloc, &lines[..end]) {
         Ok(mut operator) => {
-            take_lines(
-                alloc,
-                &mut operator,
-                &input[..end],
-                &input[end..],
-                &mut output,
-            )?
+            take_lines(alloc, &mut operator, &lines[..end], &lines[end..], output)
         }
-        Err(fault) => write_refused(fault, &mut output)?,
+        Err(fault) => write_refused(fault, output),
     }
-    output.flush()
 }
 
 /// The operator of a site line.

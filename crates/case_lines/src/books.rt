@@ -1,8 +1,6 @@
-//! Reads lines of calls on a session, a site and the books, and writes what each call answers.
-//!
-//! It is a test of `session_state`, `site`, `reservation_book`, `token_desk`, `command_book` and `handover`: its cases are the
-//! lines of the file `stdin`, and what they must give stands in `stdout`; `tools/book_cases.py` writes both. It also serves to
-//! measure what the calls cost (`bench/book_lines.py`). Lines end at LF; empty ones are skipped.
+//! Lines of calls on a session, a site and the books, and what each call answers. Its cases test `session_state`, `site`,
+//! `reservation_book`, `token_desk`, `command_book` and `handover`; they also serve to measure what the calls cost
+//! (`bench/book_calls.py`).
 //!
 //! A line is a book, a call and arguments, with one space between each two, as `reservation note party=NL/TNM id=R1 number=4`. A
 //! call on a whole record has the kind and the key of its row among the arguments, and behind a tab the row's text, as
@@ -13,18 +11,6 @@
 //!
 //! A call answers `done` or a value, `none`, or its refusal, as `1 Stale`. What a session's types rule out is `other state`, a
 //! reading that may not come next `no such reading`, a line that is no call `not a call`, and want of memory `no memory`.
-#![tactic(auto)]
-
-mod answers;
-mod commands;
-mod given;
-mod inboxes;
-mod outboxes;
-mod reservations;
-mod rows;
-mod sessions;
-mod sites;
-mod tokens;
 
 use crate::answers::{Answer, DONE, MEMORY, NOT_A_CALL, write_answer};
 use crate::commands::call_commands;
@@ -43,32 +29,21 @@ use reservation_book::ReservationBook;
 use session_state::Resumed;
 use site::Places;
 use std::alloc::Global;
-use std::io::{self, BufWriter, Read, Write};
-use std::process::ExitCode;
+use std::io::{self, Write};
 use std::{mem, str};
 use token_desk::TokenDesk;
 
-fn main(rt: HostRuntime) -> ExitCode {
-    match write_answers(&rt) {
-        Ok(()) => ExitCode::SUCCESS,
-        Err(error) => {
-            let _ = eprintln!(rt; "{error}");
-            ExitCode::FAILURE
-        }
-    }
-}
-
 /// One of each. A session and a site stand once a line has made them.
 #[derive(Drop)]
-struct Books {
-    session: Option<Resumed>,
-    site: Option<Places>,
-    reservations: ReservationBook,
-    tokens: TokenDesk,
-    commands: CommandBook,
-    inbox: Inbox,
-    bills: Vec<Cdr>,
-    outbox: Outbox,
+pub(crate) struct Books {
+    pub(crate) session: Option<Resumed>,
+    pub(crate) site: Option<Places>,
+    pub(crate) reservations: ReservationBook,
+    pub(crate) tokens: TokenDesk,
+    pub(crate) commands: CommandBook,
+    pub(crate) inbox: Inbox,
+    pub(crate) bills: Vec<Cdr>,
+    pub(crate) outbox: Outbox,
 }
 
 impl Books {
@@ -90,37 +65,35 @@ impl Books {
     }
 }
 
-/// Answers all lines of the standard input.
-fn write_answers(rt: &HostRuntime) -> io::Result<()> {
-    let alloc = rt.alloc();
-    let mut input = Vec::new(alloc);
-    rt.reader().read_to_end(&mut input)?;
-    let mut output = BufWriter::new(alloc, io::writer(rt))?;
+/// Answers all lines with new books.
+pub(crate) fn answer_calls<W: Write>(
+    alloc: Global,
+    lines: &[u8],
+    output: &mut W,
+) -> io::Result<()> {
     let mut answer = String::new(alloc);
-    answer_all(alloc, input.as_slice(), &mut answer, &mut output)?;
-    output.flush()
+    answer_all(alloc, lines, &mut answer, output)
 }
 
-/// Answers all lines with new books.
 fn answer_all<W: Write>(
     alloc: Global,
-    input: &[u8],
+    lines: &[u8],
     answer: &mut String,
     output: &mut W,
 ) -> io::Result<()> {
     let mut books = Books::new(alloc);
-    answer_lines(alloc, &mut books, input, answer, output)
+    answer_lines(alloc, &mut books, lines, answer, output)
 }
 
 /// Writes what each line answers.
 fn answer_lines<W: Write>(
     alloc: Global,
     books: &mut Books,
-    input: &[u8],
+    lines: &[u8],
     answer: &mut String,
     output: &mut W,
 ) -> io::Result<()> {
-    for line in input.split(|byte| *byte == b'\n') {
+    for line in lines.split(|byte| *byte == b'\n') {
         if line.is_empty() {
             continue;
         }
