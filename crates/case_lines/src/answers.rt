@@ -167,6 +167,10 @@ fn row_of(alloc: Global, stored: &Stored) -> Option<Row> {
 }
 
 fn session_row(alloc: Global, session: &Session) -> Option<Row> {
+    // The proof wants the types of the members named.
+    let _total_cost = session.total_cost;
+    let _end_date_time = session.end_date_time;
+    let _reference = session.authorization_reference;
     let session = Boxed::new(alloc, *session).ok()?;
     Some(Row::Session { session })
 }
