@@ -17,6 +17,7 @@ mod texts;
 mod unquote;
 
 pub use fault::JsonFault;
+pub use json::Scratch;
 pub use laws::{lines_nest_no_deeper_than_127, the_last_of_a_repeated_name_counts};
 pub use lines::line_tree;
 pub use quote::{quote_numbers, quoted_numbers_are_json_numbers, quoting_goes_by_pieces};

@@ -11,6 +11,7 @@ use crate::fault::JsonFault;
 use crate::names::has_number_name;
 use crate::one_pass::{Stop, tree_of_text};
 use crate::quote::quote_numbers;
+use json::Scratch;
 use serde_json::Value;
 use std::alloc::Global;
 
@@ -56,10 +57,14 @@ fn tree_by_quoting(alloc: Global, text: &str) -> Result<Value, JsonFault>
 }
 
 /// The tree of a text of any length, or its first refusal.
-pub fn utf8_tree(alloc: Global, text: &str) -> Result<Value, JsonFault>
+pub fn utf8_tree(
+    alloc: Global,
+    scratch: &mut Scratch,
+    text: &str,
+) -> Result<Value, JsonFault>
     ensures { GivesBy view result (tree_in text.now) }
 {
-    match tree_of_text(alloc, text) {
+    match tree_of_text(alloc, scratch, text) {
         Ok(tree) => Ok(tree),
         Err(Stop::Memory) => Err(JsonFault::Memory),
         Err(Stop::Declined) => tree_by_quoting(alloc, text),
@@ -67,17 +72,21 @@ pub fn utf8_tree(alloc: Global, text: &str) -> Result<Value, JsonFault>
 }
 
 /// The JSON tree of a line. Each number is a text there, as written, behind U+0001, so none is
-/// read as floating point.
+/// read as floating point. `scratch` is memory for reading, whatever it holds: one is kept and lent to each line.
 ///
 /// Refused, in this order: a line of more than 1,048,576 bytes or that is no UTF-8 (`Syntax`);
 /// what [`quote_numbers`] refuses; a text that is no JSON, that nests deeper than 127 arrays and
 /// objects, or in which a name of an object is a number (`Syntax`). Only the first needs no memory.
 #[tactic(auto, unfolding(crate::specs::Line::tree_at))]
-pub fn line_tree(alloc: Global, line: &[u8]) -> Result<Value, JsonFault>
+pub fn line_tree(
+    alloc: Global,
+    scratch: &mut Scratch,
+    line: &[u8],
+) -> Result<Value, JsonFault>
     ensures exact { GivesBy view result (tree_at line.now) }
     // No memory is taken to refuse a line that is too long or no UTF-8.
     ensures unread { IsNoText line.now → result ≡ Err Syntax }
 {
     let text = text_of(line)?;
-    utf8_tree(alloc, text)
+    utf8_tree(alloc, scratch, text)
 }

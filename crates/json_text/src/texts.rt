@@ -6,6 +6,7 @@ ghost use Rattle.serde_json.specs.View.{view};
 
 use crate::fault::JsonFault;
 use crate::lines::utf8_tree;
+use json::Scratch;
 use serde_json::Value;
 use std::alloc::Global;
 use std::str;
@@ -23,9 +24,13 @@ fn utf8_of(text: &[u8]) -> Result<&str, JsonFault>
 ///
 /// Refused as [`line_tree`](crate::line_tree) refuses, but for the length.
 #[tactic(auto, unfolding(crate::specs::Texts::text_tree))]
-pub fn text_tree(alloc: Global, text: &[u8]) -> Result<Value, JsonFault>
+pub fn text_tree(
+    alloc: Global,
+    scratch: &mut Scratch,
+    text: &[u8],
+) -> Result<Value, JsonFault>
     ensures { GivesBy view result (text_tree text.now) }
 {
     let text = utf8_of(text)?;
-    utf8_tree(alloc, text)
+    utf8_tree(alloc, scratch, text)
 }

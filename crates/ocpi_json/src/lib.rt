@@ -13,7 +13,7 @@ mod stored;
 mod writing;
 
 pub use json_text::{
-    JsonFault, lines_nest_no_deeper_than_127, quote_numbers, quoted_numbers_are_json_numbers,
+    JsonFault, Scratch, lines_nest_no_deeper_than_127, quote_numbers, quoted_numbers_are_json_numbers,
     quoting_goes_by_pieces, the_last_of_a_repeated_name_counts, unquote_numbers,
     unquoting_undoes_quoting,
 };

@@ -20,28 +20,33 @@ use crate::packets::packet_of_line;
 use crate::row_kinds::RowKind;
 use crate::rows::row_of_text;
 use crate::setups::setup_of_line;
-use json_text::{JsonFault, line_tree, text_tree};
+use json_text::{JsonFault, Scratch, line_tree, text_tree};
 use ocpi_forms::site_of_line;
 use ocpi_types::{Event, Packet, Row, Setup, SiteLine, Word};
 use std::alloc::Global;
 
 #[tactic(auto, unfolding(crate::specs::Packets::packet_in))]
-fn packet_in(alloc: Global, line: &[u8]) -> Result<Packet, JsonFault>
+fn packet_in(alloc: Global, scratch: &mut Scratch, line: &[u8]) -> Result<Packet, JsonFault>
     ensures exact { Gives result (packet_in line.now) }
     ensures unread { IsNoText line.now → result ≡ Err Syntax }
 {
-    let tree = line_tree(alloc, line)?;
+    let tree = line_tree(alloc, scratch, line)?;
     packet_of_line(alloc, &tree)
 }
 
-/// The packet that a line spells, without its line feed.
+/// The packet that a line spells, without its line feed. `scratch` is memory for reading, whatever it holds: one is kept
+/// and lent to each line.
 ///
 /// Refused, in this order: a line of more than 1,048,576 bytes or that is no UTF-8 (`Syntax`); from left to right a
 /// token that is no number of JSON (`BadNumberToken`) or a text that begins with `\u0001` (`TaggedText`); what is no
 /// JSON, nests deeper than 127 or has a number as a name (`Syntax`); then the members in the order `from`, `to`,
 /// `serial`, `request`, `kind`, `body` and its own: one that is absent or null (`Missing`), of another kind, length or
 /// range (`WrongForm`), or no word of its list (`UnknownWord`); a kind that is not known (`UnknownKind`).
-pub fn read_packet(alloc: Global, line: &[u8]) -> Result<Packet, JsonFault>
+pub fn read_packet(
+    alloc: Global,
+    scratch: &mut Scratch,
+    line: &[u8],
+) -> Result<Packet, JsonFault>
     // What is read is spelled so.
     ensures found { IfOk result (SpellsPacket line.now) }
     // What is spelled so is read, unless memory runs out.
@@ -51,15 +56,15 @@ pub fn read_packet(alloc: Global, line: &[u8]) -> Result<Packet, JsonFault>
     // No memory is taken to refuse a line that is too long or no UTF-8.
     ensures unread { IsNoText line.now → result ≡ Err Syntax }
 {
-    packet_in(alloc, line)
+    packet_in(alloc, scratch, line)
 }
 
 #[tactic(auto, unfolding(crate::specs::SiteLines::site_in))]
-fn site_in(alloc: Global, line: &[u8]) -> Result<SiteLine, JsonFault>
+fn site_in(alloc: Global, scratch: &mut Scratch, line: &[u8]) -> Result<SiteLine, JsonFault>
     ensures exact { Gives result (site_in line.now) }
     ensures unread { IsNoText line.now → result ≡ Err Syntax }
 {
-    let tree = line_tree(alloc, line)?;
+    let tree = line_tree(alloc, scratch, line)?;
     site_of_line(alloc, &tree)
 }
 
@@ -68,7 +73,11 @@ fn site_in(alloc: Global, line: &[u8]) -> Result<SiteLine, JsonFault>
 /// Refused as [`read_packet`] refuses, with the members `at`, `party`, `providers` and `site`, and those of the site's
 /// records. The number of a list's elements is tried before them (`WrongForm` of the list's name), and a text that is
 /// equal but for case to an earlier one from which it must differ is refused where it is read (`WrongForm`).
-pub fn read_site(alloc: Global, line: &[u8]) -> Result<SiteLine, JsonFault>
+pub fn read_site(
+    alloc: Global,
+    scratch: &mut Scratch,
+    line: &[u8],
+) -> Result<SiteLine, JsonFault>
     // What is read is spelled so.
     ensures found { IfOk result (SpellsSiteLine line.now) }
     // What is spelled so is read, unless memory runs out.
@@ -78,15 +87,15 @@ pub fn read_site(alloc: Global, line: &[u8]) -> Result<SiteLine, JsonFault>
     // No memory is taken to refuse a line that is too long or no UTF-8.
     ensures unread { IsNoText line.now → result ≡ Err Syntax }
 {
-    site_in(alloc, line)
+    site_in(alloc, scratch, line)
 }
 
 #[tactic(auto, unfolding(crate::specs::SetupForms::setup_in))]
-fn setup_in(alloc: Global, line: &[u8]) -> Result<Setup, JsonFault>
+fn setup_in(alloc: Global, scratch: &mut Scratch, line: &[u8]) -> Result<Setup, JsonFault>
     ensures exact { Gives result (setup_in line.now) }
     ensures unread { IsNoText line.now → result ≡ Err Syntax }
 {
-    let tree = line_tree(alloc, line)?;
+    let tree = line_tree(alloc, scratch, line)?;
     setup_of_line(alloc, &tree)
 }
 
@@ -96,7 +105,11 @@ fn setup_in(alloc: Global, line: &[u8]) -> Result<Setup, JsonFault>
 /// Refused as [`read_site`] refuses, with the member `nodes` and, of each node in turn, `party`, `site` and the site's
 /// own. Another number of nodes than these is `WrongForm` of `nodes`, told before any of them is looked at, and so is an
 /// element that is no object. A party that is equal but for case to an earlier node's is `WrongForm` of `party`.
-pub fn read_setup(alloc: Global, line: &[u8]) -> Result<Setup, JsonFault>
+pub fn read_setup(
+    alloc: Global,
+    scratch: &mut Scratch,
+    line: &[u8],
+) -> Result<Setup, JsonFault>
     // What is read is spelled so.
     ensures found { IfOk result (SpellsSetup line.now) }
     // What is spelled so is read, unless memory runs out.
@@ -106,15 +119,15 @@ pub fn read_setup(alloc: Global, line: &[u8]) -> Result<Setup, JsonFault>
     // No memory is taken to refuse a line that is too long or no UTF-8.
     ensures unread { IsNoText line.now → result ≡ Err Syntax }
 {
-    setup_in(alloc, line)
+    setup_in(alloc, scratch, line)
 }
 
 #[tactic(auto, unfolding(crate::specs::EventForms::event_in))]
-fn event_in(alloc: Global, line: &[u8]) -> Result<Event, JsonFault>
+fn event_in(alloc: Global, scratch: &mut Scratch, line: &[u8]) -> Result<Event, JsonFault>
     ensures exact { Gives result (event_in line.now) }
     ensures unread { IsNoText line.now → result ≡ Err Syntax }
 {
-    let tree = line_tree(alloc, line)?;
+    let tree = line_tree(alloc, scratch, line)?;
     event_of_line(&tree)
 }
 
@@ -123,7 +136,11 @@ fn event_in(alloc: Global, line: &[u8]) -> Result<Event, JsonFault>
 /// Refused as [`read_packet`] refuses, with the members `event`, `node`, `at` and those of the event, in the order in
 /// which its type names them; `at` is read past where the type has none. An event that is not known is `UnknownKind`,
 /// told before `node` is looked at, and so is an order that is not known, told before its members are.
-pub fn read_event(alloc: Global, line: &[u8]) -> Result<Event, JsonFault>
+pub fn read_event(
+    alloc: Global,
+    scratch: &mut Scratch,
+    line: &[u8],
+) -> Result<Event, JsonFault>
     // What is read is spelled so.
     ensures found { IfOk result (SpellsEvent line.now) }
     // What is spelled so is read, unless memory runs out.
@@ -133,17 +150,23 @@ pub fn read_event(alloc: Global, line: &[u8]) -> Result<Event, JsonFault>
     // No memory is taken to refuse a line that is too long or no UTF-8.
     ensures unread { IsNoText line.now → result ≡ Err Syntax }
 {
-    event_in(alloc, line)
+    event_in(alloc, scratch, line)
 }
 
 #[tactic(auto, unfolding(crate::specs::RowForms::row_in))]
-fn row_in(alloc: Global, kind: &str, key: &str, text: &[u8]) -> Result<Row, JsonFault>
+fn row_in(
+    alloc: Global,
+    scratch: &mut Scratch,
+    kind: &str,
+    key: &str,
+    text: &[u8],
+) -> Result<Row, JsonFault>
     ensures { Gives result (row_in kind.now key.now text.now) }
 {
     let Some(kind) = RowKind::of_word(kind) else {
         return Err(JsonFault::UnknownKind);
     };
-    let tree = text_tree(alloc, text)?;
+    let tree = text_tree(alloc, scratch, text)?;
     row_of_text(alloc, kind, key, &tree)
 }
 
@@ -171,7 +194,13 @@ fn row_in(alloc: Global, kind: &str, key: &str, text: &[u8]) -> Result<Row, Json
 ///
 /// A `kind` in a text that is none of those that such a row carries is `UnknownKind`, told before `body` is looked at. In a
 /// key numbers are in decimal digits without leading zeros, and texts have no letters `a` to `z`.
-pub fn read_row(alloc: Global, kind: &str, key: &str, text: &[u8]) -> Result<Row, JsonFault>
+pub fn read_row(
+    alloc: Global,
+    scratch: &mut Scratch,
+    kind: &str,
+    key: &str,
+    text: &[u8],
+) -> Result<Row, JsonFault>
     // What is read is spelled so.
     ensures found { IfOk result (SpellsRow kind.now key.now text.now) }
     // What is spelled so is read, unless memory runs out.
@@ -179,5 +208,5 @@ pub fn read_row(alloc: Global, kind: &str, key: &str, text: &[u8]) -> Result<Row
     // Which row, or which refusal, it is.
     ensures exact { Gives result (row_in kind.now key.now text.now) }
 {
-    row_in(alloc, kind, key, text)
+    row_in(alloc, scratch, kind, key, text)
 }

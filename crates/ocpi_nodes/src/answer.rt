@@ -10,7 +10,7 @@ ghost use Rattle.ocpi_nodes.specs.Answer.{EndGives, LineGives, PacketTurn, SiteT
 ghost use Rattle.line_runs.specs.Run.{Begins, Outputs, ReadsFewLines, StopsReading};
 
 use line_runs::{AnswerLines, LineReader, Ran, RunFault, Turn, run_whole};
-use ocpi_json::{JsonFault, read_packet, read_site, write_packet};
+use ocpi_json::{JsonFault, Scratch, read_packet, read_site, write_packet};
 use ocpi_text::Moment;
 use ocpi_types::Packet;
 use operator_core::Operator;
@@ -30,6 +30,7 @@ pub struct Running {
 #[derive(Drop)]
 struct Answering {
     alloc: Global,
+    scratch: Scratch,
     running: Option<Running>,
 }
 
@@ -52,6 +53,7 @@ impl Answering {
     {
         Answering {
             alloc,
+            scratch: Scratch::new(alloc),
             running: None,
         }
     }
@@ -67,11 +69,13 @@ impl AnswerLines for Answering {
     fn answer_line(&mut self, line: &[u8], output: &mut String) -> Result<Turn, AllocError> {
         match &mut self.running {
             None => {
-                let (turn, running) = answer_site(self.alloc, line, output)?;
+                let (turn, running) = answer_site(self.alloc, &mut self.scratch, line, output)?;
                 self.running = running;
                 Ok(turn)
             }
-            Some(running) => answer_packet(self.alloc, running, line, output),
+            Some(running) => {
+                answer_packet(self.alloc, &mut self.scratch, running, line, output)
+            }
         }
     }
 
@@ -89,11 +93,11 @@ impl AnswerLines for Answering {
 }
 
 /// The operator of a site line, at the moment of that line.
-fn open(alloc: Global, line: &[u8]) -> Result<Running, JsonFault>
+fn open(alloc: Global, scratch: &mut Scratch, line: &[u8]) -> Result<Running, JsonFault>
     ensures ok { IfOk result (λ r. (site : SiteLineOf) × (site_in line.now ≡ Ok site) × (r ≡ record { at = site.at; operator = opening site })) }
     ensures err { IfErr result (λ fault. Fails fault (site_in line.now)) }
 {
-    let site = read_site(alloc, line)?;
+    let site = read_site(alloc, scratch, line)?;
     let at = site.at;
     let operator = Operator::new(alloc, site)?;
     Ok(Running { at, operator })
@@ -102,13 +106,14 @@ fn open(alloc: Global, line: &[u8]) -> Result<Running, JsonFault>
 /// Makes the operator of a site line.
 fn answer_site(
     alloc: Global,
+    scratch: &mut Scratch,
     line: &[u8],
     output: &mut String,
 ) -> Result<(Turn, Option<Running>), AllocError>
     ensures { IfOk result (λ r. (out : List ℕ) × (string_bytes output.new ≡ string_bytes output.old ++ out)
         × SiteTurn line.now r.0 out r.1) }
 {
-    match open(alloc, line) {
+    match open(alloc, scratch, line) {
         Ok(running) => Ok((Turn::Taken, Some(running))),
         Err(fault) => {
             refuse(output, fault)?;
@@ -142,6 +147,7 @@ fn answer_read(
 /// Reads a line's packet and hands it to the operator.
 fn answer_packet(
     alloc: Global,
+    scratch: &mut Scratch,
     running: &mut Running,
     line: &[u8],
     output: &mut String,
@@ -149,7 +155,7 @@ fn answer_packet(
     ensures { IfOk result (λ turn. (out : List ℕ) × (string_bytes output.new ≡ string_bytes output.old ++ out)
         × PacketTurn running.old line.now turn out (Some running.new)) }
 {
-    match read_packet(alloc, line) {
+    match read_packet(alloc, scratch, line) {
         Ok(packet) => answer_read(alloc, running, &packet, output),
         Err(fault) => {
             refuse(output, fault)?;

@@ -179,7 +179,8 @@ impl Operator {
     {
         let reply = respond(decision, request.at).into_body();
         let packet = self.packet(request, numbers.reply, request.number, reply);
-        let mut packets = vec![in self.alloc; packet]?;
+        let mut packets = Vec::with_capacity(self.alloc, 2)?;
+        packets.push(packet)?;
         if let Some(outcome) = decision.result() {
             if let Some(numbers) = &numbers.result {
                 let Some(told) = result_told(body, outcome)? else {

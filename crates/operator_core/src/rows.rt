@@ -19,7 +19,7 @@ use ocpi_types::{
 use std::alloc::{AllocError, Global};
 
 /// The rows that most steps on a command change: two counters, a reply, a push and a result.
-const USUAL_ROWS: usize = 5;
+const USUAL_ROWS: usize = 7;
 
 /// The row of a counter.
 fn counter_row(counter: Counter, last: Whole) -> Change
