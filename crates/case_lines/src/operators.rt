@@ -11,7 +11,8 @@
 //! status 1 and a beginning of that output. `bench/fail_allocations.sh` lets each of them fail in turn.
 
 use ocpi_json::{
-    JsonFault, RowKind, read_event, read_packet, read_site, write_key, write_packet, write_row,
+    JsonFault, RowKind, Scratch, read_event, read_packet, read_site, write_key, write_packet,
+    write_row,
 };
 use ocpi_text::{CiKey, Moment};
 use ocpi_types::{Change, ChargerEvent, Event, EventKind, Field, Packet, Row, RowKey, Word};
@@ -26,23 +27,26 @@ pub(crate) fn write_steps<W: Write>(alloc: Global, lines: &[u8], output: &mut W)
         .iter()
         .position(|byte| *byte == b'\n')
         .unwrap_or(lines.len());
-    match open(alloc, &lines[..end]) {
+    let mut scratch = Scratch::new(alloc);
+    match open(alloc, &mut scratch, &lines[..end]) {
         Ok(mut operator) => {
-            take_lines(alloc, &mut operator, &lines[..end], &lines[end..], output)
+            let (site_line, rest) = (&lines[..end], &lines[end..]);
+            take_lines(alloc, &mut scratch, &mut operator, site_line, rest, output)
         }
         Err(fault) => write_refused(fault, output),
     }
 }
 
 /// The operator of a site line.
-fn open(alloc: Global, line: &[u8]) -> Result<Operator, JsonFault> {
-    let site_line = read_site(alloc, line)?;
+fn open(alloc: Global, scratch: &mut Scratch, line: &[u8]) -> Result<Operator, JsonFault> {
+    let site_line = read_site(alloc, scratch, line)?;
     Ok(Operator::new(alloc, site_line)?)
 }
 
 /// Writes what each of the lines behind the site line gives.
 fn take_lines<W: Write>(
     alloc: Global,
+    scratch: &mut Scratch,
     operator: &mut Operator,
     site_line: &[u8],
     lines: &[u8],
@@ -50,7 +54,7 @@ fn take_lines<W: Write>(
 ) -> io::Result<()> {
     for line in lines.split(|byte| *byte == b'\n') {
         if !line.is_empty() {
-            take_line(alloc, operator, site_line, line, output)?;
+            take_line(alloc, scratch, operator, site_line, line, output)?;
             output.write_all(b"\n")?;
         }
     }
@@ -60,6 +64,7 @@ fn take_lines<W: Write>(
 /// Writes what a line gives.
 fn take_line<W: Write>(
     alloc: Global,
+    scratch: &mut Scratch,
     operator: &mut Operator,
     site_line: &[u8],
     line: &[u8],
@@ -69,7 +74,7 @@ fn take_line<W: Write>(
         return write_stored(alloc, operator, output);
     }
     if line == b"fresh".as_slice() {
-        return match open(alloc, site_line) {
+        return match open(alloc, scratch, site_line) {
             Ok(fresh) => {
                 *operator = fresh;
                 Ok(())
@@ -78,12 +83,12 @@ fn take_line<W: Write>(
         };
     }
     if line.first() == Some(&b'{') {
-        return match read_event(alloc, line) {
+        return match read_event(alloc, scratch, line) {
             Ok(event) => take_event(alloc, operator, &event, output),
             Err(fault) => write_refused(fault, output),
         };
     }
-    match read_line(alloc, line) {
+    match read_line(alloc, scratch, line) {
         Ok((at, packet)) => take_packet(alloc, operator, at, &packet, output),
         Err(fault) => write_refused(fault, output),
     }
@@ -98,12 +103,16 @@ fn write_refused<W: Write>(fault: JsonFault, output: &mut W) -> io::Result<()> {
 }
 
 /// The moment and the packet of a line.
-fn read_line(alloc: Global, line: &[u8]) -> Result<(Moment, Packet), JsonFault> {
+fn read_line(
+    alloc: Global,
+    scratch: &mut Scratch,
+    line: &[u8],
+) -> Result<(Moment, Packet), JsonFault> {
     let Some(space) = line.iter().position(|byte| *byte == b' ') else {
         return Err(JsonFault::Syntax);
     };
     let at = read_moment(&line[..space])?;
-    let packet = read_packet(alloc, &line[space..])?;
+    let packet = read_packet(alloc, scratch, &line[space..])?;
     Ok((at, packet))
 }
 

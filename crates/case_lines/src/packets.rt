@@ -5,8 +5,8 @@
 //! `ocpi_json`, and `copy` of `ocpi_types`.
 
 use ocpi_json::{
-    JsonFault, RowKind, read_event, read_packet, read_row, read_setup, read_site, write_key,
-    write_packet, write_row,
+    JsonFault, RowKind, Scratch, read_event, read_packet, read_row, read_setup, read_site,
+    write_key, write_packet, write_row,
 };
 use ocpi_types::{Packet, Row, Word};
 use std::alloc::Global;
@@ -18,42 +18,48 @@ pub(crate) fn write_answers<W: Write>(
     lines: &[u8],
     output: &mut W,
 ) -> io::Result<()> {
+    let mut scratch = Scratch::new(alloc);
     for line in lines.split(|byte| *byte == b'\n') {
         if !line.is_empty() {
-            write_answer(alloc, line, output)?;
+            write_answer(alloc, &mut scratch, line, output)?;
         }
     }
     Ok(())
 }
 
 /// Writes what a line gives.
-fn write_answer<W: Write>(alloc: Global, line: &[u8], output: &mut W) -> io::Result<()> {
-    match answer(alloc, line) {
+fn write_answer<W: Write>(
+    alloc: Global,
+    scratch: &mut Scratch,
+    line: &[u8],
+    output: &mut W,
+) -> io::Result<()> {
+    match answer(alloc, scratch, line) {
         Ok(text) => writeln!(output, "{text}"),
         Err(fault) => writeln!(output, "refused {fault}"),
     }
 }
 
 /// What a line gives, by the word in front of it.
-fn answer(alloc: Global, line: &[u8]) -> Result<String, JsonFault> {
+fn answer(alloc: Global, scratch: &mut Scratch, line: &[u8]) -> Result<String, JsonFault> {
     if let Some(site_line) = line.strip_prefix(b"site ") {
-        return take_site(alloc, site_line);
+        return take_site(alloc, scratch, site_line);
     }
     if let Some(setup_line) = line.strip_prefix(b"setup ") {
-        return take_setup(alloc, setup_line);
+        return take_setup(alloc, scratch, setup_line);
     }
     if let Some(event_line) = line.strip_prefix(b"event ") {
-        return take_event(alloc, event_line);
+        return take_event(alloc, scratch, event_line);
     }
     if let Some(row) = line.strip_prefix(b"row ") {
-        return take_row(alloc, row);
+        return take_row(alloc, scratch, row);
     }
-    write_again(alloc, line)
+    write_again(alloc, scratch, line)
 }
 
 /// The line that is written for a copy of the packet of a line.
-fn write_again(alloc: Global, line: &[u8]) -> Result<String, JsonFault> {
-    match read_packet(alloc, line) {
+fn write_again(alloc: Global, scratch: &mut Scratch, line: &[u8]) -> Result<String, JsonFault> {
+    match read_packet(alloc, scratch, line) {
         Ok(packet) => write_copy(alloc, &packet),
         Err(fault) => Err(fault),
     }
@@ -73,29 +79,29 @@ fn write_one(alloc: Global, packet: &Packet) -> Result<String, JsonFault> {
 }
 
 /// Reads and copies a site line.
-fn take_site(alloc: Global, line: &[u8]) -> Result<String, JsonFault> {
-    let site_line = read_site(alloc, line)?;
+fn take_site(alloc: Global, scratch: &mut Scratch, line: &[u8]) -> Result<String, JsonFault> {
+    let site_line = read_site(alloc, scratch, line)?;
     let _copy = site_line.copy()?;
     Ok(String::from_str(alloc, "taken")?)
 }
 
 /// Reads and copies a setup line.
-fn take_setup(alloc: Global, line: &[u8]) -> Result<String, JsonFault> {
-    let setup = read_setup(alloc, line)?;
+fn take_setup(alloc: Global, scratch: &mut Scratch, line: &[u8]) -> Result<String, JsonFault> {
+    let setup = read_setup(alloc, scratch, line)?;
     let _copy = setup.copy()?;
     Ok(String::from_str(alloc, "taken")?)
 }
 
 /// Reads an event line.
-fn take_event(alloc: Global, line: &[u8]) -> Result<String, JsonFault> {
-    match read_event(alloc, line) {
+fn take_event(alloc: Global, scratch: &mut Scratch, line: &[u8]) -> Result<String, JsonFault> {
+    match read_event(alloc, scratch, line) {
         Ok(_) => Ok(String::from_str(alloc, "taken")?),
         Err(fault) => Err(fault),
     }
 }
 
 /// Reads the row of a kind, a key and a text. Where there are not all three it is refused as no JSON.
-fn take_row(alloc: Global, line: &[u8]) -> Result<String, JsonFault> {
+fn take_row(alloc: Global, scratch: &mut Scratch, line: &[u8]) -> Result<String, JsonFault> {
     let Ok(line) = str::from_utf8(line) else {
         return Err(JsonFault::Syntax);
     };
@@ -105,7 +111,7 @@ fn take_row(alloc: Global, line: &[u8]) -> Result<String, JsonFault> {
     let Some((key, text)) = rest.split_once('\t') else {
         return Err(JsonFault::Syntax);
     };
-    match read_row(alloc, kind, key, text.as_bytes()) {
+    match read_row(alloc, scratch, kind, key, text.as_bytes()) {
         Ok(row) => write_row_copy(alloc, &row),
         Err(fault) => Err(fault),
     }

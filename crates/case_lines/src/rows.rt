@@ -9,7 +9,7 @@ use crate::outboxes::call_with_push;
 use crate::reservations::reserve;
 use crate::sessions::{begin, bill};
 use crate::tokens::call_with_token;
-use ocpi_json::read_row;
+use ocpi_json::{Scratch, read_row};
 use ocpi_types::{Cdr, Row, Session};
 use std::alloc::{AllocError, Global};
 
@@ -24,7 +24,8 @@ pub(crate) fn call_with_row(
     if !puts_rows(given) && !takes_row(given) {
         return NOT_A_CALL;
     }
-    match read_row(alloc, given.kind, given.key, text.as_bytes()) {
+    let mut scratch = Scratch::new(alloc);
+    match read_row(alloc, &mut scratch, given.kind, given.key, text.as_bytes()) {
         Ok(row) => match given.call {
             "row" => put_row(books, given, row),
             _ => call_row(alloc, books, given, row, out),

@@ -2,7 +2,7 @@
 
 use crate::answers::{Answer, DONE, Fault, NONE, NOT_A_CALL, whether};
 use crate::given::{Given, named};
-use ocpi_json::read_site;
+use ocpi_json::{Scratch, read_site};
 use ocpi_text::CiKey;
 use ocpi_types::Place;
 use site::{Claim, Places, SiteFault};
@@ -10,7 +10,8 @@ use std::alloc::Global;
 
 /// `open`, with a site line: its places, none of which is claimed or out of service.
 pub(crate) fn open_site(alloc: Global, text: &str) -> Option<Places> {
-    match read_site(alloc, text.as_bytes()) {
+    let mut scratch = Scratch::new(alloc);
+    match read_site(alloc, &mut scratch, text.as_bytes()) {
         Ok(line) => Places::new(alloc, line.site).ok(),
         Err(_) => None,
     }

@@ -1,6 +1,6 @@
 //! The pass over tokens, and what is no JSON.
 
-use ocpi_json::{JsonFault, quote_numbers, read_site, unquote_numbers};
+use ocpi_json::{JsonFault, Scratch, quote_numbers, read_site, unquote_numbers};
 use ocpi_types::Field;
 use std::alloc::{AllocError, Global};
 use std::test::Fail;
@@ -34,7 +34,8 @@ fn bad_tokens_are_found_to_the_end(rt: HostRuntime) {
 /// A byte that is no UTF-8 is told before a token behind it.
 #[test]
 fn lines_are_utf_8(rt: HostRuntime) {
-    let fault = read_site(rt.alloc(), b"\"\xff\" -").err();
+    let mut scratch = Scratch::new(rt.alloc());
+    let fault = read_site(rt.alloc(), &mut scratch, b"\"\xff\" -").err();
     assert_eq!(rt; fault, Some(JsonFault::Syntax));
 }
 
@@ -43,7 +44,8 @@ fn fault_of_length(alloc: Global, length: usize) -> Result<Option<JsonFault>, Al
     let mut line = Vec::new(alloc);
     line.push(b'1')?;
     line.resize(length, b' ')?;
-    Ok(read_site(alloc, &line).err())
+    let mut scratch = Scratch::new(alloc);
+    Ok(read_site(alloc, &mut scratch, &line).err())
 }
 
 #[test]

@@ -57,11 +57,7 @@ fn tree_by_quoting(alloc: Global, text: &str) -> Result<Value, JsonFault>
 }
 
 /// The tree of a text of any length, or its first refusal.
-pub fn utf8_tree(
-    alloc: Global,
-    scratch: &mut Scratch,
-    text: &str,
-) -> Result<Value, JsonFault>
+pub fn utf8_tree(alloc: Global, scratch: &mut Scratch, text: &str) -> Result<Value, JsonFault>
     ensures { GivesBy view result (tree_in text.now) }
 {
     match tree_of_text(alloc, scratch, text) {
@@ -78,11 +74,7 @@ pub fn utf8_tree(
 /// what [`quote_numbers`] refuses; a text that is no JSON, that nests deeper than 127 arrays and
 /// objects, or in which a name of an object is a number (`Syntax`). Only the first needs no memory.
 #[tactic(auto, unfolding(crate::specs::Line::tree_at))]
-pub fn line_tree(
-    alloc: Global,
-    scratch: &mut Scratch,
-    line: &[u8],
-) -> Result<Value, JsonFault>
+pub fn line_tree(alloc: Global, scratch: &mut Scratch, line: &[u8]) -> Result<Value, JsonFault>
     ensures exact { GivesBy view result (tree_at line.now) }
     // No memory is taken to refuse a line that is too long or no UTF-8.
     ensures unread { IsNoText line.now → result ≡ Err Syntax }

@@ -143,11 +143,7 @@ fn read_members(
 
 /// The tree of a text of JSON that nests no deeper than 127 arrays and objects, and in which no text and no name begins
 /// with U+0001. Any other is declined: its refusal is told by quoting its numbers and reading what that gives.
-pub(crate) fn tree_of_text(
-    alloc: Global,
-    scratch: &mut Scratch,
-    text: &str,
-) -> Result<Value, Stop>
+pub(crate) fn tree_of_text(alloc: Global, scratch: &mut Scratch, text: &str) -> Result<Value, Stop>
     ensures ok { IfOk result (λ v. tagged_tree text.now ≡ Some (view v)) }
     ensures declined { result ≡ Err Declined → tagged_tree text.now ≡ None }
     // It is the tree of the text whose numbers are quoted.

@@ -24,11 +24,7 @@ fn utf8_of(text: &[u8]) -> Result<&str, JsonFault>
 ///
 /// Refused as [`line_tree`](crate::line_tree) refuses, but for the length.
 #[tactic(auto, unfolding(crate::specs::Texts::text_tree))]
-pub fn text_tree(
-    alloc: Global,
-    scratch: &mut Scratch,
-    text: &[u8],
-) -> Result<Value, JsonFault>
+pub fn text_tree(alloc: Global, scratch: &mut Scratch, text: &[u8]) -> Result<Value, JsonFault>
     ensures { GivesBy view result (text_tree text.now) }
 {
     let text = utf8_of(text)?;
