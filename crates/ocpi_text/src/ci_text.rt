@@ -165,7 +165,7 @@ impl<const MAX: usize> PartialEq for CiText<MAX> {
     ghost laws = { partial_equiv_from_equiv nat_list_eq_equiv };
 
     fn eq(&self, other: &Self) -> bool {
-        self.as_str() == other.as_str()
+        order_of_cells(&self.cells, &other.cells).is_eq()
     }
 }
 
