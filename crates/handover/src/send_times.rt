@@ -62,6 +62,23 @@ fn unqueue(queue: &mut Table<(Moment, Whole), ()>, moment: Option<Moment>, numbe
     }
 }
 
+/// Takes the moment of a number away, if it has one, and the number out of the queue. It keeps the room for a moment.
+fn clear_moment(
+    moments: &mut Table<Whole, Moment>,
+    queue: &mut Table<(Moment, Whole), ()>,
+    number: Whole,
+)
+    ensures moments { shown_of nat_cmp moments.new ≡ map.remove (shown_of nat_cmp moments.old) number }
+    ensures room { rooms_of nat_cmp moments.new ≡ rooms_of nat_cmp moments.old }
+    ensures queue { shown_of moment_number_cmp queue.new ≡ unqueued (map.get (shown_of nat_cmp moments.old) number) number (shown_of moment_number_cmp queue.old) }
+    ensures queue_room { rooms_of moment_number_cmp queue.new ≡ unqueued (map.get (shown_of nat_cmp moments.old) number) number (rooms_of moment_number_cmp queue.old) }
+{
+    if let Some(moment) = moments.get(number).copied() {
+        queue.remove((moment, number));
+        moments.clear(number);
+    }
+}
+
 /// The lesser of two numbers.
 fn lower(a: Whole, b: Whole) -> Whole
     ensures first { result ≤ a }
@@ -170,9 +187,7 @@ impl SendTimes {
         ensures numbers { (n : ℕ) → HasRoomOfNumber self.old.rooms n → HasRoomOfNumber self.new.rooms n }
         ensures moments { self.new.rooms.moments ≡ unqueued (map.get self.old.resend number) number self.old.rooms.moments }
     {
-        let moment = self.moments.get(number).copied();
-        unqueue(&mut self.queue, moment, number);
-        self.moments.clear(number);
+        clear_moment(&mut self.moments, &mut self.queue, number);
         self.fresh.put(number, ());
         self.first = lower(self.first, number);
     }
