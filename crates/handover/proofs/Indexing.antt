@@ -1,5 +1,5 @@
 -- The index of pushes by what they are about is kept by each change of them.
-use Rattle.std.proofs.Common.{◌≡◌, ◌≢◌, ◌↔◌, inl, inr, ℕ, refl, sym, ap, ◌∙◌, false}
+use Rattle.std.proofs.Common.{◌≡◌, ◌≢◌, ◌↔◌, inl, inr, ℕ, refl, sym, ap, subst, ◌∙◌, false}
 use Rattle.std.specs.Prelude.{Some, None, is_some}
 use Rattle.std.specs.Ordering.{nat_cmp, ordering_then, is_gt}
 use Rattle.std.specs.Cmp.{IsTotalOrder, nat_cmp_total}
@@ -8,10 +8,10 @@ use Rattle.std.proofs.lemmas.Map.Keys.{le_from_not_gt}
 use Rattle.tables.specs.Tables.{IsLeast, HasNone}
 use Rattle.std.specs.FinMap.{FinMap, IsAntisymmetric, nat_cmp-IsAntisymmetric, get, insert, remove, empty, get-empty, contains_key}
 use Rattle.tables.specs.Keys.{pair_exact}
-use Rattle.tables.proofs.Maps.{get-insert_same, get-insert_other, get-remove_same, get-remove_other, told}
+use Rattle.tables.proofs.Maps.{get-insert_same, get-insert_other, get-remove_same, get-remove_other, told, remove_absent}
 use Rattle.handover.specs.declared.push_book.Outgoing.{Outgoing}
 use Rattle.handover.specs.declared.push_book.Subject.{Subject}
-use Rattle.handover.specs.Pushes.{Pushes, subject_of, subject_cmp, subject_total, subject_exact, subject_number_cmp, AreIndexed, IsReplaced}
+use Rattle.handover.specs.Pushes.{Pushes, subject_of, subject_cmp, subject_total, subject_exact, subject_number_cmp, AreIndexed, IsAbout, IsReplaced}
 use Rattle.std.proofs.lemmas.Option.{same_Some}
 use Rattle.tables.proofs.Options.{not_both, none_else}
 
@@ -56,6 +56,9 @@ module _ (m : Pushes) (subjects : FinMap subject_number_cmp (Unit {0})) (indexed
       let was = (indexed q).0 h in
       let one : was.0 ≡ x = same_Some _ _ (sym was.1 ∙ ap (get m) at ∙ had) in
       not_both q.0 (subject_of x) about (ap subject_of (sym one) ∙ was.2))
+
+  pub clear_absent : get m n ≡ None → AreIndexed (remove m n) subjects
+  clear_absent none q = subst (λ (z : Pushes). (get subjects q ≡ Some tt) ↔ IsAbout z q.0 q.1) (sym (remove_absent nat_cmp_total nat_cmp-IsAntisymmetric m n none)) (indexed q)
 
   module _ (x : Outgoing) (new : get m n ≡ None) where
     put : get (insert m n x) n ≡ Some x
