@@ -14,7 +14,7 @@ use std::marker::Model;
 use tables::{Table, Visits};
 
 /// When each push is due: at once, or from a moment on. Both are found without the pushes that are not due, but for
-/// those above the first that is due at once.
+/// those from `first` on.
 #[derive(Drop)]
 pub(crate) struct SendTimes {
     /// The pushes that are due at once. Each push keeps its room here.
