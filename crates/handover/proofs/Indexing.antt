@@ -1,19 +1,19 @@
 -- The index of pushes by what they are about is kept by each change of them.
-use Rattle.std.proofs.Common.{◌≡◌, ◌≢◌, ◌↔◌, inl, inr, ℕ, refl, sym, ap, ◌∙◌, false}
+use Rattle.std.proofs.Common.{◌≡◌, ◌≢◌, ◌↔◌, inl, inr, ℕ, refl, sym, ap, subst, ◌∙◌}
 use Rattle.std.specs.Prelude.{Some, None, is_some}
 use Rattle.std.specs.Ordering.{nat_cmp, ordering_then, is_gt}
 use Rattle.std.specs.Cmp.{IsTotalOrder, nat_cmp_total}
 use Rattle.std.proofs.lemmas.Cmp.{tied_itself, on_total, then_total}
 use Rattle.std.proofs.lemmas.Map.Keys.{le_from_not_gt}
 use Rattle.tables.specs.Tables.{IsLeast, HasNone}
-use Rattle.std.specs.FinMap.{FinMap, IsAntisymmetric, nat_cmp-IsAntisymmetric, get, insert, remove, empty, get-empty, contains_key}
+use Rattle.std.specs.FinMap.{FinMap, IsAntisymmetric, nat_cmp-IsAntisymmetric, get, insert, remove, empty, get-empty}
 use Rattle.tables.specs.Keys.{pair_exact}
-use Rattle.tables.proofs.Maps.{get-insert_same, get-insert_other, get-remove_same, get-remove_other, told}
+use Rattle.tables.proofs.Maps.{get-insert_same, get-insert_other, get-remove_same, get-remove_other, told, remove_absent}
 use Rattle.handover.specs.declared.push_book.Outgoing.{Outgoing}
 use Rattle.handover.specs.declared.push_book.Subject.{Subject}
-use Rattle.handover.specs.Pushes.{Pushes, subject_of, subject_cmp, subject_total, subject_exact, subject_number_cmp, AreIndexed, IsReplaced}
+use Rattle.handover.specs.Pushes.{Pushes, subject_of, subject_cmp, subject_total, subject_exact, subject_number_cmp, AreIndexed, IsAbout, IsReplaced}
 use Rattle.std.proofs.lemmas.Option.{same_Some}
-use Rattle.tables.proofs.Options.{not_both, none_else}
+use Rattle.tables.proofs.Options.{not_both}
 
 pub numbered_total : IsTotalOrder subject_number_cmp
 numbered_total = then_total (on_total (λ (p : Subject × ℕ). p.0) subject_total) (on_total (λ (p : Subject × ℕ). p.1) nat_cmp_total)
@@ -56,6 +56,9 @@ module _ (m : Pushes) (subjects : FinMap subject_number_cmp (Unit {0})) (indexed
       let was = (indexed q).0 h in
       let one : was.0 ≡ x = same_Some _ _ (sym was.1 ∙ ap (get m) at ∙ had) in
       not_both q.0 (subject_of x) about (ap subject_of (sym one) ∙ was.2))
+
+  pub clear_absent : get m n ≡ None → AreIndexed (remove m n) subjects
+  clear_absent none q = subst (λ (z : Pushes). (get subjects q ≡ Some tt) ↔ IsAbout z q.0 q.1) (sym (remove_absent nat_cmp_total nat_cmp-IsAntisymmetric m n none)) (indexed q)
 
   module _ (x : Outgoing) (new : get m n ≡ None) where
     put : get (insert m n x) n ≡ Some x
@@ -108,7 +111,3 @@ replaced_some m subjects indexed u n v least = (
 
 pub replaced_none : (m : Pushes) (subjects : FinMap subject_number_cmp (Unit {0})) → AreIndexed m subjects → (u : Subject) → HasNone subject_number_cmp subjects (λ q. q.0 ≡ u) → IsReplaced m (Some u) None
 replaced_none m subjects indexed u none n about = not_both tt (get subjects (u, n)) (none (u, n) refl) ((indexed (u, n)).1 about)
-
--- no subject lists a number without a push
-pub unlisted_number : (m : Pushes) (subjects : FinMap subject_number_cmp (Unit {0})) → AreIndexed m subjects → (n : ℕ) → get m n ≡ None → (u : Subject) → contains_key subjects (u, n) ≡ false
-unlisted_number m subjects indexed n none u = ap is_some (none_else (get subjects (u, n)) (λ _ h. let was = (indexed (u, n)).0 h in not_both was.0 (get m n) none was.1))

@@ -11,9 +11,9 @@ use Rattle.std.specs.Cmp.{IsTotalOrder, nat_cmp_total}
 use Rattle.std.proofs.lemmas.Cmp.{on_total, then_total}
 use Rattle.std.specs.FinMap.{FinMap, IsAntisymmetric, nat_cmp-IsAntisymmetric, empty, get, insert, remove, contains_key, get-empty}
 use Rattle.tables.specs.Keys.{pair_exact}
-use Rattle.tables.proofs.Maps.{get-insert_same, get-insert_other, get-remove_same, get-remove_other, told, others_keep, insert_present, insert_removed}
+use Rattle.tables.proofs.Maps.{get-insert_same, get-insert_other, get-remove_same, get-remove_other, told, others_keep, insert_present, insert_removed, remove_absent}
 use Rattle.handover.specs.Resend.{Numbers, Resend, Moments, moment_number_cmp, unqueued, IsQueue, queue_entry, queue_number, TimeRooms, HasRoomOfNumber, AreTimes}
-use Rattle.tables.proofs.Options.{none_contained, known}
+use Rattle.tables.proofs.Options.{none_contained, known, none_of}
 use Rattle.handover.proofs.Rooms.{other_room}
 use Rattle.tables.proofs.Indexing.{listed, unlisted, none_unlisted, relisted, nothing_listed}
 
@@ -124,7 +124,7 @@ module _ (fresh : Numbers) (resend : Resend) (queue : Moments) (rooms : TimeRoom
     }
 
     pub times_set : (d : ℕ) (stale : Option ℕ) → IfSome stale (λ e. (get resend n ≡ Some e) × (e ≢ d)) → IfNone stale ((e : ℕ) → get resend n ≡ Some e → e ≡ d) →
-        HasRoomOfNumber rooms n → ((q : ℕ) → HasRoomOfNumber rooms q → HasRoomOfNumber after q) → ((q : ℕ) → IsTrue (contains_key (remove fresh n) q) → first ≤ q → lower ≤ q) →
+        HasRoomOfNumber rooms n → ((q : ℕ) → HasRoomOfNumber rooms q → HasRoomOfNumber after q) → ((q : ℕ) → q ≢ n → IsTrue (contains_key (remove fresh n) q) → first ≤ q → lower ≤ q) →
         AreTimes (remove fresh n) (insert resend n d) (insert (unqueued stale n queue) (d, n) tt) after lower
     times_set d stale found none room keeps least = record {
       queued = queue_set queue resend h.queued n d stale found none;
@@ -135,10 +135,10 @@ module _ (fresh : Numbers) (resend : Resend) (queue : Moments) (rooms : TimeRoom
         | inl f ↦ h.roomed q (inl (stood nat_cmp_total nat_cmp-IsAntisymmetric fresh n q f).1)
         | inr r ↦ elim (put_or nat_cmp_total nat_cmp-IsAntisymmetric resend n d q r) [ inl same ↦ subst (HasRoomOfNumber rooms) (sym same) room | inr g ↦ h.roomed q (inr g.1) ]
       ]);
-      lowest = λ q f. least q f (h.lowest q (stood nat_cmp_total nat_cmp-IsAntisymmetric fresh n q f).1);
+      lowest = λ q f. let was = stood nat_cmp_total nat_cmp-IsAntisymmetric fresh n q f in least q was.0 f (h.lowest q was.1);
     }
 
-    pub times_remove : ((q : ℕ) → q ≢ n → HasRoomOfNumber rooms q → HasRoomOfNumber after q) → ((q : ℕ) → IsTrue (contains_key (remove fresh n) q) → first ≤ q → lower ≤ q) →
+    pub times_remove : ((q : ℕ) → q ≢ n → HasRoomOfNumber rooms q → HasRoomOfNumber after q) → ((q : ℕ) → q ≢ n → IsTrue (contains_key (remove fresh n) q) → first ≤ q → lower ≤ q) →
         AreTimes (remove fresh n) (remove resend n) (unqueued (get resend n) n queue) after lower
     times_remove keeps least = record {
       queued = queue_out queue resend h.queued n;
@@ -147,8 +147,19 @@ module _ (fresh : Numbers) (resend : Resend) (queue : Moments) (rooms : TimeRoom
         | inl f ↦ let was = stood nat_cmp_total nat_cmp-IsAntisymmetric fresh n q f in keeps q was.0 (h.roomed q (inl was.1))
         | inr r ↦ let was = stood nat_cmp_total nat_cmp-IsAntisymmetric resend n q r in keeps q was.0 (h.roomed q (inr was.1))
       ];
-      lowest = λ q f. least q f (h.lowest q (stood nat_cmp_total nat_cmp-IsAntisymmetric fresh n q f).1);
+      lowest = λ q f. let was = stood nat_cmp_total nat_cmp-IsAntisymmetric fresh n q f in least q was.0 f (h.lowest q was.1);
     }
+
+  module _ (n : ℕ) (has : IsTrue (contains_key resend n)) where
+    -- a number that has a resend time is not due at once
+    pub not_fresh : remove fresh n ≡ fresh
+    not_fresh = remove_absent nat_cmp_total nat_cmp-IsAntisymmetric fresh n (none_of (get fresh n) (λ f. h.apart n f has))
+
+    pub times_set_again : (after : TimeRooms) (d : ℕ) (stale : Option ℕ) → IfSome stale (λ e. (get resend n ≡ Some e) × (e ≢ d)) → IfNone stale ((e : ℕ) → get resend n ≡ Some e → e ≡ d) →
+        ((q : ℕ) → HasRoomOfNumber rooms q → HasRoomOfNumber after q) → AreTimes fresh (insert resend n d) (insert (unqueued stale n queue) (d, n) tt) after first
+    times_set_again after d stale found none keeps =
+        subst (λ (m : Numbers). AreTimes m (insert resend n d) (insert (unqueued stale n queue) (d, n) tt) after first) not_fresh
+        (times_set n after first d stale found none (h.roomed n (inr has)) keeps (λ q apart f above. above))
 
 -- the room of numbers
 pub keeps_number : (s t : TimeRooms) → ((q : ℕ) → IsTrue (contains_key s.fresh q) → IsTrue (contains_key t.fresh q)) → ((q : ℕ) → IsTrue (contains_key s.resend q) → IsTrue (contains_key t.resend q)) →

@@ -201,15 +201,11 @@ impl PushBook {
         ensures rooms { (n : ℕ) (u : Option Subject) → n ≢ number → HasRoomOfPush self.old.rooms n u → HasRoomOfPush self.new.rooms n u }
         ensures slots { self.new.rooms.pushes ≡ map.remove self.old.rooms.pushes number }
     {
-        let Some(outgoing) = self.pushes.get(number) else {
-            self.pushes.release(number);
+        let Some(outgoing) = self.pushes.remove(number) else {
             return;
         };
-        let subject = subject_of(&outgoing.to, &outgoing.push);
-        self.clear(number);
-        self.pushes.release(number);
-        if let Some(subject) = subject {
-            self.subjects.release((subject, number));
+        if let Some(subject) = subject_of(&outgoing.to, &outgoing.push) {
+            self.subjects.remove((subject, number));
         }
     }
 }

@@ -14,7 +14,7 @@ use std::marker::Model;
 use tables::{Table, Visits};
 
 /// When each push is due: at once, or from a moment on. Both are found without the pushes that are not due, but for
-/// those above the first that is due at once.
+/// those from `first` on.
 #[derive(Drop)]
 pub(crate) struct SendTimes {
     /// The pushes that are due at once. Each push keeps its room here.
@@ -62,6 +62,34 @@ fn unqueue(queue: &mut Table<(Moment, Whole), ()>, moment: Option<Moment>, numbe
     }
 }
 
+/// A moment that is not that one.
+fn other_than(found: Option<Moment>, moment: Moment) -> Option<Moment>
+    ensures some { IfSome result (λ d. (found ≡ Some d) × (d ≢ moment)) }
+    ensures none { IfNone result ((d : ℕ) → found ≡ Some d → d ≡ moment) }
+{
+    match found {
+        Some(other) if other != moment => Some(other),
+        _ => None,
+    }
+}
+
+/// Takes the moment of a number away, if it has one, and the number out of the queue. It keeps the room for a moment.
+fn clear_moment(
+    moments: &mut Table<Whole, Moment>,
+    queue: &mut Table<(Moment, Whole), ()>,
+    number: Whole,
+)
+    ensures moments { shown_of nat_cmp moments.new ≡ map.remove (shown_of nat_cmp moments.old) number }
+    ensures room { rooms_of nat_cmp moments.new ≡ rooms_of nat_cmp moments.old }
+    ensures queue { shown_of moment_number_cmp queue.new ≡ unqueued (map.get (shown_of nat_cmp moments.old) number) number (shown_of moment_number_cmp queue.old) }
+    ensures queue_room { rooms_of moment_number_cmp queue.new ≡ unqueued (map.get (shown_of nat_cmp moments.old) number) number (rooms_of moment_number_cmp queue.old) }
+{
+    if let Some(moment) = moments.get(number).copied() {
+        queue.remove((moment, number));
+        moments.clear(number);
+    }
+}
+
 /// The lesser of two numbers.
 fn lower(a: Whole, b: Whole) -> Whole
     ensures first { result ≤ a }
@@ -77,6 +105,42 @@ fn lowest_from(fresh: &Table<Whole, ()>, first: Whole) -> Whole
     match fresh.first_from(first) {
         Some(found) => found.0,
         None => Whole::new(Whole::MAX).unwrap(),
+    }
+}
+
+/// A number that no number of a table is below, but for `number`, where none of them is below `first`. It is looked up
+/// only where `first` is not that number.
+fn first_without(fresh: &Table<Whole, ()>, first: Whole, number: Whole) -> Whole
+    ensures { (n : ℕ) → n ≢ number → IsTrue (map.contains_key (shown_of nat_cmp fresh.now) n) → first ≤ n → result ≤ n }
+{
+    if first == number
+        && let Some(next) = number.next()
+    {
+        return next;
+    }
+    lowest_from(fresh, first)
+}
+
+/// Takes a number out of a table, and answers a number that none of the others is below, where none was below `first`.
+/// It keeps the room of the number.
+fn clear_fresh(fresh: &mut Table<Whole, ()>, first: Whole, number: Whole) -> Whole
+    ensures shown { shown_of nat_cmp fresh.new ≡ map.remove (shown_of nat_cmp fresh.old) number }
+    ensures room { rooms_of nat_cmp fresh.new ≡ rooms_of nat_cmp fresh.old }
+    ensures lowest { (n : ℕ) → n ≢ number → IsTrue (map.contains_key (shown_of nat_cmp fresh.new) n) → first ≤ n → result ≤ n }
+{
+    fresh.clear(number);
+    first_without(fresh, first, number)
+}
+
+/// As `clear_fresh`, and gives the room of the number back.
+fn remove_fresh(fresh: &mut Table<Whole, ()>, first: Whole, number: Whole) -> Whole
+    ensures shown { shown_of nat_cmp fresh.new ≡ map.remove (shown_of nat_cmp fresh.old) number }
+    ensures room { rooms_of nat_cmp fresh.new ≡ map.remove (rooms_of nat_cmp fresh.old) number }
+    ensures lowest { (n : ℕ) → n ≢ number → IsTrue (map.contains_key (shown_of nat_cmp fresh.new) n) → first ≤ n → result ≤ n }
+{
+    match fresh.remove(number) {
+        Some(()) => first_without(fresh, first, number),
+        None => first,
     }
 }
 
@@ -151,17 +215,6 @@ impl SendTimes {
         self.queue.reserve((moment, number))
     }
 
-    /// The moment by which a push stands in the queue, where that is not `moment`.
-    fn stale(&self, number: Whole, moment: Moment) -> Option<Moment>
-        ensures found { IfSome result (λ d. (map.get self.now.resend number ≡ Some d) × (d ≢ moment)) }
-        ensures none { IfNone result ((d : ℕ) → map.get self.now.resend number ≡ Some d → d ≡ moment) }
-    {
-        match self.moments.get(number) {
-            Some(found) if *found != moment => Some(*found),
-            _ => None,
-        }
-    }
-
     /// A push is due at once. It takes no memory.
     pub(crate) fn start(&mut self, number: Whole)
         requires { HasRoomOfNumber self.old.rooms number }
@@ -170,9 +223,7 @@ impl SendTimes {
         ensures numbers { (n : ℕ) → HasRoomOfNumber self.old.rooms n → HasRoomOfNumber self.new.rooms n }
         ensures moments { self.new.rooms.moments ≡ unqueued (map.get self.old.resend number) number self.old.rooms.moments }
     {
-        let moment = self.moments.get(number).copied();
-        unqueue(&mut self.queue, moment, number);
-        self.moments.clear(number);
+        clear_moment(&mut self.moments, &mut self.queue, number);
         self.fresh.put(number, ());
         self.first = lower(self.first, number);
     }
@@ -186,12 +237,13 @@ impl SendTimes {
         ensures numbers { (n : ℕ) → HasRoomOfNumber self.old.rooms n → HasRoomOfNumber self.new.rooms n }
         ensures moments { self.new.rooms.moments ≡ map.insert (unqueued (map.get self.old.resend number) number self.old.rooms.moments) (moment, number) tt }
     {
-        let stale = self.stale(number, moment);
-        unqueue(&mut self.queue, stale, number);
+        let old = self.moments.get(number).copied();
+        unqueue(&mut self.queue, other_than(old, moment), number);
         self.queue.put((moment, number), ());
         self.moments.put(number, moment);
-        self.fresh.clear(number);
-        self.first = lowest_from(&self.fresh, self.first);
+        if old.is_none() {
+            self.first = clear_fresh(&mut self.fresh, self.first, number);
+        }
     }
 
     /// A push ends, and gives its room back. It takes no memory.
@@ -203,8 +255,7 @@ impl SendTimes {
     {
         let moment = self.moments.remove(number);
         unqueue(&mut self.queue, moment, number);
-        self.fresh.remove(number);
-        self.first = lowest_from(&self.fresh, self.first);
+        self.first = remove_fresh(&mut self.fresh, self.first, number);
     }
 
     /// Each number that has a resend time, with that.

@@ -1,7 +1,8 @@
 //! Texts of a limited length that are compared without case (OCPI 2.2.1, Types: CiString).
 
-ghost use Rattle.std.specs.Prelude.{◌≡◌, ◌↔◌, ◌≤◌, length, take, true, IfOk, IsTrue, Ok, Some, nat_eq, refl};
+ghost use Rattle.std.specs.Prelude.{◌≡◌, ◌↔◌, ◌≤◌, ◌+◌, length, take, drop, true, IfOk, IsTrue, Ok, Some, nat_eq, refl};
 ghost use Rattle.std.specs.Ordering.{nat_cmp};
+ghost use Rattle.std.specs.Slice.Scan.{big_endian};
 ghost use Rattle.std.specs.Cmp.{on_equiv, on_total, on_po, on_per, partial_equiv_from_equiv};
 ghost use Rattle.std.specs.Cmp.Lexicographic.{pointwise, slice_cmp, nat_list_eq_equiv, nat_list_cmp_total, texts_po, texts_ties};
 ghost use Rattle.ocpi_text.specs.Text.{ci_text, exact_text, is_ascii_text, key};
@@ -122,6 +123,41 @@ impl<const MAX: usize> CiText<MAX> {
     }
 }
 
+/// Eight cells as a number, the first the most significant.
+#[inline(always)]
+fn eight_at(cells: &[u8], at: usize) -> u64
+    requires { at + 8 ≤ length cells.now }
+    ensures { result ≡ big_endian 0 (take 8 (drop at cells.now)) }
+{
+    u64::from_be_bytes([
+        cells[at],
+        cells[at + 1],
+        cells[at + 2],
+        cells[at + 3],
+        cells[at + 4],
+        cells[at + 5],
+        cells[at + 6],
+        cells[at + 7],
+    ])
+}
+
+/// The order of cells, as many on both sides: eight at once.
+#[inline(always)]
+fn order_of_cells(left: &[u8], right: &[u8]) -> Ordering
+    requires { length left.now ≡ length right.now }
+    ensures { result ≡ slice_cmp nat_cmp left.now right.now }
+{
+    let mut at = 0;
+    'eights: while left.len() - at >= 8 {
+        let (a, b) = (eight_at(left, at), eight_at(right, at));
+        if a != b {
+            return a.cmp(&b);
+        }
+        at += 8;
+    }
+    left[at..].cmp(&right[at..])
+}
+
 /// As spelled.
 impl<const MAX: usize> PartialEq for CiText<MAX> {
     ghost eq = { λ s t. pointwise nat_eq s t };
@@ -129,7 +165,7 @@ impl<const MAX: usize> PartialEq for CiText<MAX> {
     ghost laws = { partial_equiv_from_equiv nat_list_eq_equiv };
 
     fn eq(&self, other: &Self) -> bool {
-        self.as_str() == other.as_str()
+        order_of_cells(&self.cells, &other.cells).is_eq()
     }
 }
 
@@ -158,6 +194,6 @@ impl<const MAX: usize> Ord for CiText<MAX> {
     ghost matches_eq = { λ s t. texts_ties s t };
 
     fn cmp(&self, other: &Self) -> Ordering {
-        self.as_str().cmp(other.as_str())
+        order_of_cells(&self.cells, &other.cells)
     }
 }
