@@ -60,10 +60,7 @@ impl RecordWriter {
         ensures utf8 { IsUtf8 (print self) }
         ensures again { tokens (print self) ≡ self }
     {
-        match String::from_utf8(self.out.into_inner()) {
-            Ok(text) => text,
-            Err(_) => unreachable!(),
-        }
+        unsafe { String::from_utf8_unchecked(self.out.into_inner()) }
     }
 
     /// Opens an object.

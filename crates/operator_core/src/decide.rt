@@ -31,6 +31,9 @@ use ocpi_types::{
 };
 use std::alloc::AllocError;
 
+/// The most packets that a step on a command sends: a reply and a result.
+const MOST_PACKETS: usize = 2;
+
 /// The response of status 1000 with a result.
 fn done(at: Moment, result_word: CommandResponseType) -> Reply
     ensures { result ≡ responded at result_word }
@@ -179,7 +182,7 @@ impl Operator {
     {
         let reply = respond(decision, request.at).into_body();
         let packet = self.packet(request, numbers.reply, request.number, reply);
-        let mut packets = Vec::with_capacity(self.alloc, 2)?;
+        let mut packets = Vec::with_capacity(self.alloc, MOST_PACKETS)?;
         packets.push(packet)?;
         if let Some(outcome) = decision.result() {
             if let Some(numbers) = &numbers.result {

@@ -6,12 +6,16 @@ ghost use Rattle.operator_core.specs.Providers.{IsProvider};
 
 use ocpi_text::{Party, PartyKey};
 
-/// The provider that is this party.
+/// The provider that is this party. Nearly each party spells itself as the site does, so such a provider is looked for
+/// first.
 pub fn find_provider<'a>(providers: &'a [Party], party: &Party) -> Option<&'a Party>
     ensures found { IfSome result (λ p. IsProvider providers.now party.now p.now) }
     ensures none { IfNone result ((p : List ℕ) → IsProvider providers.now party.now p → ⊥) }
 {
-    providers.iter().find(|p| p.is_same(party))
+    match providers.iter().find(|p| *p == party) {
+        Some(found) => Some(found),
+        None => providers.iter().find(|p| p.is_same(party)),
+    }
 }
 
 /// The provider that has a key.

@@ -18,8 +18,8 @@ use ocpi_types::{
 };
 use std::alloc::{AllocError, Global};
 
-/// The rows that most steps on a command change: two counters, a reply, a push and a result.
-const USUAL_ROWS: usize = 7;
+/// The most rows that a step on a command changes: two counters, a reply, a mark, a reservation, a push and a result.
+const MOST_ROWS: usize = 7;
 
 /// The row of a counter.
 fn counter_row(counter: Counter, last: Whole) -> Change
@@ -32,7 +32,7 @@ fn counter_row(counter: Counter, last: Whole) -> Change
 pub fn counter_rows(alloc: Global, numbers: &Numbers) -> Result<Vec<Change>, AllocError>
     ensures { IfOk result (λ v. v.items ≡ numbered_rows numbers.now) }
 {
-    let mut rows = Vec::with_capacity(alloc, USUAL_ROWS)?;
+    let mut rows = Vec::with_capacity(alloc, MOST_ROWS)?;
     let Some(result) = &numbers.result else {
         rows.push(counter_row(Counter::Serial, numbers.reply))?;
         return Ok(rows);
