@@ -126,9 +126,9 @@ impl Party {
         ensures party { party_at self.now ≡ Ok self.now }
     {
         let cells = self.text.cells();
-        u64::from_be_bytes([
-            0, 0, cells[0], cells[1], cells[2], cells[3], cells[4], cells[5],
-        ])
+        let front = u32::from_be_bytes([cells[0], cells[1], cells[2], cells[3]]);
+        let rest = u16::from_be_bytes([cells[4], cells[5]]);
+        front as u64 * 65_536 + rest as u64
     }
 }
 
