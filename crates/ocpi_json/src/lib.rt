@@ -13,9 +13,9 @@ mod stored;
 mod writing;
 
 pub use json_text::{
-    JsonFault, Scratch, lines_nest_no_deeper_than_127, quote_numbers, quoted_numbers_are_json_numbers,
-    quoting_goes_by_pieces, the_last_of_a_repeated_name_counts, unquote_numbers,
-    unquoting_undoes_quoting,
+    JsonFault, Scratch, lines_nest_no_deeper_than_127, quote_numbers,
+    quoted_numbers_are_json_numbers, quoting_goes_by_pieces, the_last_of_a_repeated_name_counts,
+    unquote_numbers, unquoting_undoes_quoting,
 };
 pub use reading::{read_event, read_packet, read_row, read_setup, read_site};
 pub use row_keys::{row_keys_are_apart, write_key};

@@ -42,11 +42,7 @@ fn packet_in(alloc: Global, scratch: &mut Scratch, line: &[u8]) -> Result<Packet
 /// JSON, nests deeper than 127 or has a number as a name (`Syntax`); then the members in the order `from`, `to`,
 /// `serial`, `request`, `kind`, `body` and its own: one that is absent or null (`Missing`), of another kind, length or
 /// range (`WrongForm`), or no word of its list (`UnknownWord`); a kind that is not known (`UnknownKind`).
-pub fn read_packet(
-    alloc: Global,
-    scratch: &mut Scratch,
-    line: &[u8],
-) -> Result<Packet, JsonFault>
+pub fn read_packet(alloc: Global, scratch: &mut Scratch, line: &[u8]) -> Result<Packet, JsonFault>
     // What is read is spelled so.
     ensures found { IfOk result (SpellsPacket line.now) }
     // What is spelled so is read, unless memory runs out.
@@ -73,11 +69,7 @@ fn site_in(alloc: Global, scratch: &mut Scratch, line: &[u8]) -> Result<SiteLine
 /// Refused as [`read_packet`] refuses, with the members `at`, `party`, `providers` and `site`, and those of the site's
 /// records. The number of a list's elements is tried before them (`WrongForm` of the list's name), and a text that is
 /// equal but for case to an earlier one from which it must differ is refused where it is read (`WrongForm`).
-pub fn read_site(
-    alloc: Global,
-    scratch: &mut Scratch,
-    line: &[u8],
-) -> Result<SiteLine, JsonFault>
+pub fn read_site(alloc: Global, scratch: &mut Scratch, line: &[u8]) -> Result<SiteLine, JsonFault>
     // What is read is spelled so.
     ensures found { IfOk result (SpellsSiteLine line.now) }
     // What is spelled so is read, unless memory runs out.
@@ -105,11 +97,7 @@ fn setup_in(alloc: Global, scratch: &mut Scratch, line: &[u8]) -> Result<Setup, 
 /// Refused as [`read_site`] refuses, with the member `nodes` and, of each node in turn, `party`, `site` and the site's
 /// own. Another number of nodes than these is `WrongForm` of `nodes`, told before any of them is looked at, and so is an
 /// element that is no object. A party that is equal but for case to an earlier node's is `WrongForm` of `party`.
-pub fn read_setup(
-    alloc: Global,
-    scratch: &mut Scratch,
-    line: &[u8],
-) -> Result<Setup, JsonFault>
+pub fn read_setup(alloc: Global, scratch: &mut Scratch, line: &[u8]) -> Result<Setup, JsonFault>
     // What is read is spelled so.
     ensures found { IfOk result (SpellsSetup line.now) }
     // What is spelled so is read, unless memory runs out.
@@ -136,11 +124,7 @@ fn event_in(alloc: Global, scratch: &mut Scratch, line: &[u8]) -> Result<Event, 
 /// Refused as [`read_packet`] refuses, with the members `event`, `node`, `at` and those of the event, in the order in
 /// which its type names them; `at` is read past where the type has none. An event that is not known is `UnknownKind`,
 /// told before `node` is looked at, and so is an order that is not known, told before its members are.
-pub fn read_event(
-    alloc: Global,
-    scratch: &mut Scratch,
-    line: &[u8],
-) -> Result<Event, JsonFault>
+pub fn read_event(alloc: Global, scratch: &mut Scratch, line: &[u8]) -> Result<Event, JsonFault>
     // What is read is spelled so.
     ensures found { IfOk result (SpellsEvent line.now) }
     // What is spelled so is read, unless memory runs out.
