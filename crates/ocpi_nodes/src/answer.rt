@@ -73,7 +73,7 @@ impl AnswerLines for Answering {
                 self.running = running;
                 Ok(turn)
             }
-            Some(running) => { answer_packet(self.alloc, &mut self.scratch, running, line, output) }
+            Some(running) => answer_packet(self.alloc, &mut self.scratch, running, line, output),
         }
     }
 
