@@ -22,7 +22,7 @@ fn utf8_of(text: &[u8]) -> Result<&str, JsonFault>
 
 /// The JSON tree of a text of any length, as that of a line: each number is a text there, as written, behind U+0001.
 ///
-/// Refused as [`line_tree`](crate::line_tree) refuses, but for the length.
+/// Refused as [`line_tree`](crate::line_tree) refuses, but for the length; `scratch` as there.
 #[tactic(auto, unfolding(crate::specs::Texts::text_tree))]
 pub fn text_tree(alloc: Global, scratch: &mut Scratch, text: &[u8]) -> Result<Value, JsonFault>
     ensures { GivesBy view result (text_tree text.now) }

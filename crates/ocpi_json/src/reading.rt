@@ -64,7 +64,7 @@ fn site_in(alloc: Global, scratch: &mut Scratch, line: &[u8]) -> Result<SiteLine
     site_of_line(alloc, &tree)
 }
 
-/// The site line that a line spells, without its line feed.
+/// The site line that a line spells, without its line feed. `scratch` as for [`read_packet`].
 ///
 /// Refused as [`read_packet`] refuses, with the members `at`, `party`, `providers` and `site`, and those of the site's
 /// records. The number of a list's elements is tried before them (`WrongForm` of the list's name), and a text that is
@@ -92,7 +92,8 @@ fn setup_in(alloc: Global, scratch: &mut Scratch, line: &[u8]) -> Result<Setup, 
 }
 
 /// The setup that a line spells, without its line feed: the nodes of a run, one to 64, no two of one party. A node with
-/// a site, which is neither absent nor null, is an operator, and one without is a provider.
+/// a site, which is neither absent nor null, is an operator, and one without is a provider. `scratch` as for
+/// [`read_packet`].
 ///
 /// Refused as [`read_site`] refuses, with the member `nodes` and, of each node in turn, `party`, `site` and the site's
 /// own. Another number of nodes than these is `WrongForm` of `nodes`, told before any of them is looked at, and so is an
@@ -119,7 +120,7 @@ fn event_in(alloc: Global, scratch: &mut Scratch, line: &[u8]) -> Result<Event, 
     event_of_line(&tree)
 }
 
-/// The event that a line spells, without its line feed.
+/// The event that a line spells, without its line feed. `scratch` as for [`read_packet`].
 ///
 /// Refused as [`read_packet`] refuses, with the members `event`, `node`, `at` and those of the event, in the order in
 /// which its type names them; `at` is read past where the type has none. An event that is not known is `UnknownKind`,
@@ -154,7 +155,7 @@ fn row_in(
     row_of_text(alloc, kind, key, &tree)
 }
 
-/// The row that is stored under that kind and key with that text, of any length.
+/// The row that is stored under that kind and key with that text, of any length. `scratch` as for [`read_packet`].
 ///
 /// Refused, in this order: a kind of row that is not known (`UnknownKind`); the text as [`read_packet`] refuses, but for
 /// its length, with the members of its kind in the order in which they are listed here; a key that is not of its kind's
