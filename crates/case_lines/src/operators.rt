@@ -1,6 +1,7 @@
 //! Packets and events that come to an operator, and what each step gives: the packets that are sent, each as its line, and then
-//! the changes of rows, as `put KIND KEY TEXT` or `drop KIND KEY`. A line that is refused gives `refused N Name`. An empty line
-//! ends what a line gives, also where that is nothing. The cases test `operator_core`.
+//! the changes of rows, as `put KIND KEY TEXT` or `drop KIND KEY`, sorted, since a step promises which rows it changes and not in
+//! which order it lists them. A line that is refused gives `refused N Name`. An empty line ends what a line gives, also where
+//! that is nothing. The cases test `operator_core`.
 //!
 //! The first line is a site line. Each other is a moment, a space and a packet; or an event line of an operator's own (what a
 //! charge point reports, `tick`, `service`, `restart`); or the word `fresh`: from there on it is a new operator of the same
@@ -224,44 +225,52 @@ fn stepped(operator: &mut Operator, at: Moment, packet: &Packet) -> Result<Stepp
 fn write_stored<W: Write>(alloc: Global, operator: &Operator, output: &mut W) -> io::Result<()> {
     let rows = operator.stored()?;
     for row in rows.as_slice() {
-        write_put(alloc, row, output)?;
+        let line = put_line(alloc, row)?;
+        writeln!(output, "{line}")?;
     }
     Ok(())
 }
 
-/// Writes the packets that a step sends and the rows that it changes.
+/// Writes the packets that a step sends, and then the lines of the rows that it changes, sorted.
 fn write_step<W: Write>(alloc: Global, step: &Stepped, output: &mut W) -> io::Result<()> {
     for packet in step.packets.as_slice() {
         let line = write_packet(alloc, packet)?;
         writeln!(output, "{line}")?;
     }
-    for change in step.rows.as_slice() {
-        write_change(alloc, change, output)?;
+    let mut lines = change_lines(alloc, step.rows.as_slice())?;
+    lines.sort()?;
+    for line in lines.iter() {
+        writeln!(output, "{line}")?;
     }
     Ok(())
 }
 
-/// Writes a change of a row.
-fn write_change<W: Write>(alloc: Global, change: &Change, output: &mut W) -> io::Result<()> {
-    match change {
-        Change::Put(row) => write_put(alloc, row, output),
-        Change::Drop(key) => write_drop(alloc, key, output),
+/// The lines of changes of rows.
+fn change_lines(alloc: Global, changes: &[Change]) -> Result<Vec<String>, AllocError> {
+    let mut lines = Vec::new(alloc);
+    for change in changes {
+        let line = match change {
+            Change::Put(row) => put_line(alloc, row)?,
+            Change::Drop(key) => drop_line(alloc, key)?,
+        };
+        lines.push(line)?;
     }
+    Ok(lines)
 }
 
-/// Writes a row that is put.
-fn write_put<W: Write>(alloc: Global, row: &Row, output: &mut W) -> io::Result<()> {
+/// The line of a row that is put.
+fn put_line(alloc: Global, row: &Row) -> Result<String, AllocError> {
     let row_key = row.key();
     let (kind, key) = (
         RowKind::of_key(&row_key).word(),
         write_key(alloc, &row_key)?,
     );
     let text = write_row(alloc, row)?;
-    writeln!(output, "put {kind} {key} {text}")
+    format!(in alloc; "put {kind} {key} {text}")
 }
 
-/// Writes which row is dropped.
-fn write_drop<W: Write>(alloc: Global, row_key: &RowKey, output: &mut W) -> io::Result<()> {
+/// The line of a row that is dropped.
+fn drop_line(alloc: Global, row_key: &RowKey) -> Result<String, AllocError> {
     let (kind, key) = (RowKind::of_key(row_key).word(), write_key(alloc, row_key)?);
-    writeln!(output, "drop {kind} {key}")
+    format!(in alloc; "drop {kind} {key}")
 }
