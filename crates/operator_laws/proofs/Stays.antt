@@ -45,16 +45,16 @@ use Rattle.operator_laws.proofs.Marking.{marked_id, in_time}
 use Rattle.operator_laws.proofs.Puts.{puts_pending, puts_mark, puts_none}
 
 -- no ending is of that command
-abbrev EndsNot : List Ending → book.Request → Type 0
+abbrev pub EndsNot : List Ending → book.Request → Type 0
 EndsNot es k = (e : Ending) → Contains es e → request_of e ≡ k → ⊥
 
-results_keep : (es : List Ending) (m : book.Results) (k : book.Request) → EndsNot es k → get (results_with es m) k ≡ get m k
+pub results_keep : (es : List Ending) (m : book.Results) (k : book.Request) → EndsNot es k → get (results_with es m) k ≡ get m k
 results_keep [] m k apart = refl
 results_keep (e ∷ es) m k apart =
     results_keep es (insert m (request_of e) e.result) k (λ x i. apart x (in_later e es x i)) ∙ get-insert_other text_number_total text_number_exact m (request_of e) e.result k (λ same. apart e (in_front e es) (sym same))
 
 -- each command that ended has the result of its ending
-results_hold : (es : List Ending) (m : book.Results) → AreOfDifferent es → (e : Ending) → Contains es e → get (results_with es m) (request_of e) ≡ Some e.result
+pub results_hold : (es : List Ending) (m : book.Results) → AreOfDifferent es → (e : Ending) → Contains es e → get (results_with es m) (request_of e) ≡ Some e.result
 results_hold [] m apart e h = absurd (in_none e h)
 results_hold (x ∷ es) m apart e h = elim (of_cons x es e h) [
   | inl same ↦ subst (λ z. get (results_with (x ∷ es) m) (request_of z) ≡ Some z.result) same
