@@ -11,3 +11,4 @@ pub mod Runs
 pub mod Answered
 pub mod Replying
 pub mod Carried
+pub mod Posting

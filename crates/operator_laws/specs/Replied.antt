@@ -1,20 +1,23 @@
 -- What the answer to a command brings about, then and for good; and what stands only because it was asked for.
-use Rattle.std.specs.Prelude.{◌≡◌, ◌⊎◌, ◌≤◌, ℕ, List, Some, None}
+use Rattle.std.specs.Prelude.{◌≡◌, ◌⊎◌, ◌≤◌, ℕ, List, Some, None, Contains}
 use Rattle.std.specs.FinMap.{get}
 use Rattle.ocpi_text.specs.Text.{key}
+use Rattle.ocpi_types.specs.Stored.{body_of_command}
 use Rattle.ocpi_types.specs.declared.commands.CancelReservation.{CancelReservation}
 use Rattle.ocpi_types.specs.declared.commands.ReserveNow.{ReserveNow}
 use Rattle.ocpi_types.specs.declared.packet.Body.TheVariants as body
 use Rattle.ocpi_types.specs.declared.packet.Packet.{Packet}
 use Rattle.ocpi_types.specs.declared.site.SiteLine.{SiteLine}
+use Rattle.ocpi_types.specs.declared.replies.CommandResult.{CommandResult}
+use Rattle.ocpi_types.specs.declared.stored.Command.{Command}
 use Rattle.ocpi_types.specs.declared.stored.OpenCommand.{OpenCommand}
 use Rattle.ocpi_types.specs.declared.stored.Reply.{Reply}
 use Rattle.ocpi_types.specs.declared.stored.Reservation.{Reservation}
 use Rattle.ocpi_types.specs.declared.words.CommandResponseType.TheVariants.{Accepted}
 use Rattle.ocpi_types.specs.declared.words.CommandResultType.{CommandResultType}
 use Rattle.operator_core.specs.State.{State, opening}
-use Rattle.operator_core.specs.Steps.{responded}
-use Rattle.operator_laws.specs.Laws.{Came, Comes, Event, Happens, Run}
+use Rattle.operator_core.specs.Steps.{responded, url_of}
+use Rattle.operator_laws.specs.Laws.{Came, Comes, Event, Happens, Run, sent}
 
 -- the event answers the request of that packet: no reply was kept for it before, and this one is after
 pub record AnswersIt (s : State) (e : Event) (t : State) (q : Packet) (r : Reply) : Type 0 where
@@ -62,3 +65,13 @@ IsSettled t p n = (x : CommandResultType) × (get t.rows.commands.results (p, n)
 abbrev pub AcceptedIsOpenOrSettled : Type 0
 AcceptedIsOpenOrSettled = (line : SiteLine) (es : List Event) (t : State) → Run (opening line) es t → (p : List ℕ) (n at : ℕ) →
     get t.rows.commands.replies (p, n) ≡ Some (responded at Accepted) → (IsOpenNow t p n ⊎ IsSettled t p n) × (IsOpenNow t p n → IsSettled t p n → ⊥)
+
+-- a packet with that command came from that provider under that number, among these
+abbrev pub Asked : (Packet → Type 0) → List ℕ → ℕ → Command → Type 0
+Asked Came p n c = (q : Packet) × Came q × (key q.from ≡ p) × (q.request ≡ n) × (q.body ≡ body_of_command c)
+
+-- a result that was sent answers a command that came from its addressee: it is posted where that command says, and is the result
+-- that is kept for it
+abbrev pub ResultsArePosted : Type 0
+ResultsArePosted = (line : SiteLine) (es : List Event) (t : State) → Run (opening line) es t → (x : Packet) (a : CommandResult) → Contains (sent es) x → x.body ≡ body.CommandResult a →
+    (n : ℕ) × (c : Command) × Asked (Came es) (key x.to) n c × (a.response_url ≡ url_of c) × (get t.rows.commands.results (key x.to, n) ≡ Some a.result)

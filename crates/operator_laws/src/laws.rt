@@ -1,7 +1,7 @@
 //! The laws of an operator, over every list of events from its opening. The steps in them are those of
 //! `Operator::on_packet`, `on_charger`, `on_tick`, `on_service` and `restart`.
 
-ghost use Rattle.operator_laws.specs.Replied.{AcceptedIsOpenOrSettled, CancellationsAreMarked, ReservationsAreAskedFor, ReservationsAreMarked, SpentStays};
+ghost use Rattle.operator_laws.specs.Replied.{AcceptedIsOpenOrSettled, CancellationsAreMarked, ReservationsAreAskedFor, ReservationsAreMarked, ResultsArePosted, SpentStays};
 ghost use Rattle.operator_laws.specs.Laws.{AlwaysConsistent, OneStart, SentRepliesAreKept, RepliesStay, RepliesAnswer, ResultsStay, Numbered, RequestsAgree, PushesStand, SentResultsAreKept, MarksNeverFall, ReservationsAreNewer};
 
 /// Each EVSE has at most one claim, among open starts and reservations; each reference is carried by at most one open start;
@@ -88,4 +88,10 @@ pub fn reservations_are_asked_for()
 /// A command whose response was ACCEPTED is open or has its result, and never both.
 pub fn accepted_is_open_or_settled()
     ensures { AcceptedIsOpenOrSettled }
+{}
+
+/// A result that was sent answers a command that came from its addressee: it is posted where that command says, and is the
+/// result that is kept for it.
+pub fn results_are_posted()
+    ensures { ResultsArePosted }
 {}
