@@ -130,7 +130,3 @@ module _ {K : Type 0} {R : K → K → Ordering} (o : IsTotalOrder R) (exact : I
   rise xs ys apart moved up i j d below bound =
       let distinct = IsDistinct-IsPermutation (eq_by_cmp R) (eq_by_cmp_equiv o).symm xs ys moved (IsDistinct-from_apart (eq_by_cmp R) xs (λ i j d below bound. untied _ _ (apart i j d below bound))) in
       turned (get_or ys i d) (get_or ys j d) _ refl (sorted_far (λ x y. is_lt (R x y)) (ranks_by o (λ x. x)) ys up i j d (omega arith) bound) (apart_from_distinct (eq_by_cmp R) ys i j d distinct below bound)
-
--- a front from which a key is taken is not empty
-pub not_done : {A K : Type 0} (k : K) (ks front : List K) → front ≡ k ∷ ks → front ≡ [] → A
-not_done k ks front is none = absurd (in_none k (subst (λ l. Contains l k) (sym is ∙ none) (in_front k ks)))
