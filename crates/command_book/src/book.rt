@@ -297,7 +297,8 @@ impl CommandBook {
         ensures again { HasRoomOf self.old.rooms (Row.Reply sender number reply) → IsOk result }
         ensures call { Leaves (KeepReply (sender, number) reply) self.old.rows self.new.rows }
     {
-        self.replies.insert((sender, number), reply)
+        self.replies.insert((sender, number), reply)?;
+        Ok(())
     }
 
     /// Opens a command that was accepted, until its result or the first tick at the deadline or later; a start with the
@@ -333,6 +334,23 @@ impl CommandBook {
         Ok(())
     }
 
+    /// Keeps a result. An error is want of memory, and leaves everything as it was.
+    fn add_result(
+        &mut self,
+        provider: PartyKey,
+        number: Whole,
+        outcome: CommandResultType,
+    ) -> Result<(), AllocError>
+        ensures ok { OnOk result (self.new.rows ≡ put_row (Row.Result provider number outcome) self.old.rows) }
+        ensures err { OnErr result (self.new ≡ self.old) }
+        ensures again { HasRoomOf self.old.rooms (Row.Result provider number outcome) → IsOk result }
+        ensures room { OnOk result (HasRoomOf self.new.rooms (Row.Result provider number outcome)) }
+        ensures keeps { KeepsRoom self.old.rooms self.new.rooms }
+    {
+        self.results.insert((provider, number), outcome)?;
+        Ok(())
+    }
+
     /// Ends the command of that number, if it is open, whose room is given back, and keeps its result for good. Refused is a
     /// command that has its result (`Settled`), and then want of memory (`Memory`); either leaves everything as it was.
     pub fn settle(
@@ -352,7 +370,7 @@ impl CommandBook {
         ensures call { Leaves (Settle (provider, number) outcome) self.old.rows self.new.rows }
     {
         self.may_settle(provider, number)?;
-        self.results.insert((provider, number), outcome)?;
+        self.add_result(provider, number, outcome)?;
         self.drop_open(provider, number);
         Ok(())
     }

@@ -86,8 +86,7 @@ impl CommandBook {
 
     /// Adds rows one after the other. An error is want of memory.
     fn add_rows(&mut self, rows: Vec<Row>) -> Result<(), AllocError>
-        ensures ok { OnOk result (self.new.rows ≡ put_rows rows.items self.old.rows) }
-        ensures none { rows.items ≡ [] → IsOk result }
+        ensures { OnOk result (self.new.rows ≡ put_rows rows.items self.old.rows) }
     {
         for row in rows {
             self.add_row(row)?;
@@ -95,10 +94,9 @@ impl CommandBook {
         Ok(())
     }
 
-    /// A command book with the same rows. An error is want of memory, and the copy of an empty book takes none.
+    /// A command book with the same rows. An error is want of memory.
     pub fn copy(&self, alloc: Global) -> Result<CommandBook, AllocError>
-        ensures ok { IfOk result (λ b. b.rows ≡ self.now.rows) }
-        ensures none { self.now.rows ≡ no_rows → IsOk result }
+        ensures { IfOk result (λ b. b.rows ≡ self.now.rows) }
     {
         let rows = self.rows(alloc)?;
         let mut copy = CommandBook::new(alloc);
