@@ -1,16 +1,17 @@
 -- The rows of a command book as a list, and the command book of a list.
-use Rattle.std.proofs.Common.{◌≡◌, ◌≢◌, ◌↔◌, List, [], ◌∷◌, ◌++◌, map, ◌⊎◌, inl, inr, sym, subst}
+use Rattle.std.proofs.Common.{◌≡◌, ◌≢◌, ◌↔◌, List, [], ◌∷◌, ◌++◌, map, ◌⊎◌, inl, inr, refl, sym, ap, subst, ◌∙◌}
 use Rattle.std.specs.Prelude.{Contains}
 use Rattle.std.specs.List.{AllPairs}
-use Rattle.std.specs.FinMap.{entries}
+use Rattle.std.specs.FinMap.{FinMap, entries, get, empty, get-empty}
 use Rattle.std.proofs.lemmas.List.Elements.{Contains-append_left, Contains-append_right, Contains-append_cases}
-use Rattle.tables.specs.Keys.{text_number_total, text_number_exact}
+use Rattle.tables.specs.Keys.{text_number_cmp, text_number_total, text_number_exact}
+use Rattle.tables.proofs.Options.{not_both}
 use Rattle.tables.proofs.Elements.{in_none, in_single, in_front, of_map, first_pairs, later_pairs, joined}
-use Rattle.tables.proofs.Entries.{found_in, each_in, all_apart}
+use Rattle.tables.proofs.Entries.{found_in, each_in, all_apart, listed_only}
 use Rattle.ocpi_types.specs.Rows.{key_of}
 use Rattle.ocpi_types.specs.declared.rows.Row.{Row}
 use Rattle.ocpi_types.specs.declared.rows.Row.TheVariants as row
-use Rattle.command_book.specs.Stored.{Rows, no_rows, HasRow, put_row}
+use Rattle.command_book.specs.Stored.{Request, Rows, no_rows, HasRow, put_row}
 use Rattle.command_book.specs.Listing.{AreRowsOf, put_rows, reply_row, pending_row, result_row, rows_of}
 use Rattle.command_book.proofs.RowChanges.{IsKept, is_kept, no_row, same_rows, same_key, other_key, put_stands, put_alone}
 
@@ -118,3 +119,11 @@ put_rows_of list s h = same_rows (put_rows list no_rows) s (λ r. (
   where
     all : (r : Row) → HasRow (put_rows list no_rows) r ↔ (Contains list r ⊎ HasRow no_rows r)
     all = put_all list no_rows (λ a i. is_kept s a ((h.exact a).0 i)) h.apart (λ a r i none. absurd (no_row r none))
+
+-- an empty table has no entries
+pub no_entries : {X : Type 0} (m : FinMap text_number_cmp X) → m ≡ empty → entries m ≡ []
+no_entries {X} m none = go (entries m) (λ e i. not_both e.1 (get m e.0) (ap (λ n. get n e.0) none ∙ get-empty text_number_cmp e.0) (listed_only text_number_total text_number_exact m e.0 e.1 i))
+  where
+    go : (es : List (Request × X)) → ((e : Request × X) → Contains es e → ⊥) → es ≡ []
+    go [] h = refl
+    go (e ∷ es) h = absurd (h e (in_front e es))

@@ -2,12 +2,11 @@
 use Rattle.std.proofs.Common.{◌≡◌, ◌≢◌, ◌↔◌, ℕ, inl, inr, sym, ap, ◌∙◌}
 use Rattle.std.specs.Prelude.{Option, Some, None, IfSome, IfNone}
 use Rattle.std.specs.Option.{option_map}
-use Rattle.std.specs.Ordering.{nat_cmp}
-use Rattle.std.specs.Cmp.{IsTotalOrder, nat_cmp_total}
-use Rattle.std.proofs.lemmas.Cmp.{on_total, then_total}
+use Rattle.std.specs.Cmp.{IsTotalOrder}
 use Rattle.std.proofs.lemmas.Option.{same_Some}
-use Rattle.std.specs.FinMap.{IsAntisymmetric, nat_cmp-IsAntisymmetric, empty, get, insert, remove, get-empty}
-use Rattle.tables.specs.Keys.{pair_exact, text_number_cmp, text_number_total, text_number_exact}
+use Rattle.std.specs.FinMap.{IsAntisymmetric, empty, get, insert, remove, get-empty}
+use Rattle.tables.specs.Keys.{text_number_cmp, text_number_total, text_number_exact}
+use Rattle.tables.proofs.DueFront.{queue_total, queue_exact}
 use Rattle.tables.proofs.Options.{none_some}
 use Rattle.tables.proofs.Maps.{told, of_insert, of_remove, get-insert_same, get-insert_other, get-remove_same, get-remove_other}
 use Rattle.ocpi_types.specs.declared.stored.OpenCommand.{OpenCommand}
@@ -15,10 +14,10 @@ use Rattle.command_book.specs.Stored.{Request, OpenCommands}
 use Rattle.command_book.specs.Queue.{deadline_cmp, Queue, deadline_of, IsQueue, unqueued}
 
 pub deadline_total : IsTotalOrder deadline_cmp
-deadline_total = then_total (on_total (λ (p : ℕ × Request). p.0) nat_cmp_total) (on_total (λ (p : ℕ × Request). p.1) text_number_total)
+deadline_total = queue_total text_number_total text_number_exact
 
 pub deadline_exact : IsAntisymmetric deadline_cmp
-deadline_exact = pair_exact nat_cmp text_number_cmp nat_cmp-IsAntisymmetric text_number_exact
+deadline_exact = queue_exact text_number_total text_number_exact
 
 -- the queue has each open command of another request, and of this one what passes
 pub record IsQueueBut (k : Request) (P : ℕ → Type 0) (queue : Queue) (pending : OpenCommands) : Type 0 where

@@ -1,8 +1,9 @@
 -- The room that rows of a command book have.
-use Rattle.std.proofs.Common.{◌≡◌, ◌≢◌, ℕ, false, refl, sym, subst}
-use Rattle.std.specs.Prelude.{Option, Some, None, IsTrue}
-use Rattle.std.specs.FinMap.{contains_key}
-use Rattle.tables.proofs.Maps.{others_keep, key_gone}
+use Rattle.std.proofs.Common.{◌≡◌, ◌≢◌, ℕ, false, inl, inr, refl, sym, ap, subst, ◌∙◌}
+use Rattle.std.specs.Prelude.{Option, Some, None, IsTrue, is_some}
+use Rattle.std.specs.FinMap.{FinMap, contains_key, insert}
+use Rattle.tables.specs.Keys.{text_number_cmp, text_number_total, text_number_exact}
+use Rattle.tables.proofs.Maps.{told, others_keep, key_gone, get-insert_same, get-insert_other}
 use Rattle.ocpi_types.specs.Rows.{key_of}
 use Rattle.ocpi_types.specs.declared.rows.Row.{Row}
 use Rattle.ocpi_types.specs.declared.rows.Row.TheVariants as row
@@ -42,3 +43,10 @@ not_queued queue k d = key_gone deadline_total deadline_exact queue (d, k)
 
 pub given_back : (queue : Queue) (k : Request) (out : Option ℕ) (d : ℕ) → out ≡ Some d → contains_key (unqueued out k queue) (d, k) ≡ false
 given_back queue k out d e = subst (λ o. contains_key (unqueued o k queue) (d, k) ≡ false) (sym e) (not_queued queue k d)
+
+-- what has room keeps it where more is taken
+pub still_there : (m : FinMap text_number_cmp (Unit {0})) (k q : Request) → IsTrue (contains_key m q) → IsTrue (contains_key (insert m k tt) q)
+still_there m k q had = elim (told text_number_total text_number_exact q k) [
+  | inl same ↦ subst (λ z. IsTrue (contains_key (insert m k tt) z)) (sym same) (ap is_some (get-insert_same text_number_total text_number_exact m k tt))
+  | inr apart ↦ ap is_some (get-insert_other text_number_total text_number_exact m k tt q apart) ∙ had
+]

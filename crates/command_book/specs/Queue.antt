@@ -1,5 +1,5 @@
 -- The order in which open commands are due.
-use Rattle.std.specs.Prelude.{◌≡◌, ◌↔◌, ℕ, nat_le, List, map, take_while, Option, Some, None}
+use Rattle.std.specs.Prelude.{◌≡◌, ◌↔◌, ℕ, Option, Some, None}
 use Rattle.std.specs.Option.{option_map}
 use Rattle.std.specs.declared.cmp.Ordering.{Ordering}
 use Rattle.std.specs.Ordering.{nat_cmp}
@@ -28,7 +28,3 @@ IsQueue queue pending = (deadline : ℕ) (request : Request) → (get queue (dea
 abbrev pub unqueued : {X : Type 0} → Option ℕ → Request → FinMap deadline_cmp X → FinMap deadline_cmp X
 unqueued None request queue = queue
 unqueued (Some deadline) request queue = remove queue (deadline, request)
-
--- the requests at the front of the queue, up to the first whose deadline is behind the moment
-abbrev pub due_front : ℕ → List ((ℕ × Request) × Unit {0}) → List Request
-due_front at queue = map (λ e. e.0.1) (take_while (λ e. nat_le e.0.0 at) queue)

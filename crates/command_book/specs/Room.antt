@@ -33,7 +33,16 @@ abbrev pub HasRoomOf : Rooms → Row → Type 0
 HasRoomOf s (row.Reply sender number reply) = IsTrue (contains_key s.replies (sender, number))
 HasRoomOf s (row.Pending provider number o) = HasRoomUntil s (provider, number) o.deadline
 HasRoomOf s (row.Result provider number result) = IsTrue (contains_key s.results (provider, number))
-HasRoomOf s other = ⊤
+HasRoomOf s (row.Count counter last) = ⊤
+HasRoomOf s (row.Token t) = ⊤
+HasRoomOf s (row.Push number to push) = ⊤
+HasRoomOf s (row.Service evse_uid) = ⊤
+HasRoomOf s (row.Spent provider reference) = ⊤
+HasRoomOf s (row.Mark provider reservation_id number) = ⊤
+HasRoomOf s (row.Reservation provider reservation_id reservation) = ⊤
+HasRoomOf s (row.Session session) = ⊤
+HasRoomOf s (row.Cdr cdr) = ⊤
+HasRoomOf s (row.Command number command) = ⊤
 
 -- what has room keeps it
 abbrev pub KeepsRoom : Rooms → Rooms → Type 0
@@ -50,4 +59,13 @@ GivesBack (keys.Pending provider number) s t =
     (contains_key t.pending (provider, number) ≡ false)
     × ((o : OpenCommand) → get s.rows.pending (provider, number) ≡ Some o → contains_key t.deadlines (o.deadline, (provider, number)) ≡ false)
 GivesBack (keys.Result provider number) s t = contains_key t.results (provider, number) ≡ false
-GivesBack other s t = ⊤
+GivesBack (keys.Count counter) s t = ⊤
+GivesBack (keys.Token party token_type uid) s t = ⊤
+GivesBack (keys.Push number) s t = ⊤
+GivesBack (keys.Service evse_uid) s t = ⊤
+GivesBack (keys.Spent provider reference) s t = ⊤
+GivesBack (keys.Mark provider reservation_id) s t = ⊤
+GivesBack (keys.Reservation provider reservation_id) s t = ⊤
+GivesBack (keys.Session party id) s t = ⊤
+GivesBack (keys.Cdr party id) s t = ⊤
+GivesBack (keys.Command number) s t = ⊤

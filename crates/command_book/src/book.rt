@@ -196,6 +196,7 @@ impl CommandBook {
         ensures rows { self.new.rows ≡ put_row (Row.Pending provider number command) self.old.rows }
         ensures room { HasRoomUntil self.new.rooms (provider, number) command.deadline }
         ensures keeps { KeepsOtherRoom (RowKey.Pending provider number) self.old.rooms self.new.rooms }
+        ensures fresh { map.get self.old.rows.pending (provider, number) ≡ None → KeepsRoom self.old.rooms self.new.rooms }
     {
         let deadline = command.deadline;
         let stale = self.stale(provider, number, deadline);
@@ -268,18 +269,21 @@ impl CommandBook {
     }
 
     /// Adds a row that was read from a store, as `put_row`. An error is want of memory, for a row that has no room, and
-    /// leaves the rows as they were.
+    /// leaves the rows as they were. What has room keeps it, but for that of another row under the same key.
     pub fn add_row(&mut self, row: Row) -> Result<(), AllocError>
         ensures ok { OnOk result (self.new.rows ≡ put_row row self.old.rows) }
         ensures err { OnErr result (self.new.rows ≡ self.old.rows) }
         ensures again { HasRoomOf self.old.rooms row → IsOk result }
+        ensures room { OnOk result (HasRoomOf self.new.rooms row) }
+        ensures keeps { KeepsOtherRoom (key_of row) self.old.rooms self.new.rooms }
+        ensures kept { OnErr result (KeepsRoom self.old.rooms self.new.rooms) }
     {
         self.reserve_row(&row)?;
         self.put_row(row);
         Ok(())
     }
 
-    /// Keeps the reply to a request that has none yet. An error is want of memory, and leaves the rows as they were.
+    /// Keeps the reply to a request that has none yet. An error is want of memory, and leaves everything as it was.
     pub fn keep_reply(
         &mut self,
         sender: PartyKey,
@@ -288,20 +292,18 @@ impl CommandBook {
     ) -> Result<(), AllocError>
         requires { map.get self.old.rows.replies (sender, number) ≡ None }
         ensures ok { OnOk result (self.new.rows ≡ record self.old.rows { replies = map.insert self.old.rows.replies (sender, number) reply }) }
-        ensures err { OnErr result (self.new.rows ≡ self.old.rows) }
+        ensures rooms { OnOk result (self.new.rooms ≡ record self.old.rooms { replies = map.insert self.old.rooms.replies (sender, number) tt }) }
+        ensures err { OnErr result (self.new ≡ self.old) }
         ensures again { HasRoomOf self.old.rooms (Row.Reply sender number reply) → IsOk result }
         ensures call { Leaves (KeepReply (sender, number) reply) self.old.rows self.new.rows }
     {
-        self.add_row(Row::Reply {
-            sender,
-            number,
-            reply,
-        })
+        self.replies.insert((sender, number), reply)?;
+        Ok(())
     }
 
     /// Opens a command that was accepted, until its result or the first tick at the deadline or later; a start with the
     /// place that it took. Refused is a command that is open or has its result (`AlreadyOpen`), and then want of memory
-    /// (`Memory`); either leaves the rows as they were.
+    /// (`Memory`); either leaves the rows as they were. What has room keeps it.
     pub fn open(
         &mut self,
         provider: PartyKey,
@@ -316,6 +318,8 @@ impl CommandBook {
         ensures refused { IfErr result (λ e. BarsOpening self.old.rows (provider, number) e) }
         ensures err { OnErr result (self.new.rows ≡ self.old.rows) }
         ensures again { MayOpen self.old.rows (provider, number) → HasRoomOf self.old.rooms (Row.Pending provider number (open_command command place deadline)) → IsOk result }
+        ensures room { OnOk result (HasRoomOf self.new.rooms (Row.Pending provider number (open_command command place deadline))) }
+        ensures keeps { KeepsRoom self.old.rooms self.new.rooms }
         ensures call { Leaves (Open (provider, number) (open_command command place deadline)) self.old.rows self.new.rows }
     {
         self.may_open(provider, number)?;
@@ -330,8 +334,25 @@ impl CommandBook {
         Ok(())
     }
 
-    /// Ends the command of that number, if it is open, and keeps its result for good. Refused is a command that has its
-    /// result (`Settled`), and then want of memory (`Memory`); either leaves the rows as they were.
+    /// Keeps a result. An error is want of memory, and leaves everything as it was.
+    fn add_result(
+        &mut self,
+        provider: PartyKey,
+        number: Whole,
+        outcome: CommandResultType,
+    ) -> Result<(), AllocError>
+        ensures ok { OnOk result (self.new.rows ≡ put_row (Row.Result provider number outcome) self.old.rows) }
+        ensures err { OnErr result (self.new ≡ self.old) }
+        ensures again { HasRoomOf self.old.rooms (Row.Result provider number outcome) → IsOk result }
+        ensures room { OnOk result (HasRoomOf self.new.rooms (Row.Result provider number outcome)) }
+        ensures keeps { KeepsRoom self.old.rooms self.new.rooms }
+    {
+        self.results.insert((provider, number), outcome)?;
+        Ok(())
+    }
+
+    /// Ends the command of that number, if it is open, whose room is given back, and keeps its result for good. Refused is a
+    /// command that has its result (`Settled`), and then want of memory (`Memory`); either leaves everything as it was.
     pub fn settle(
         &mut self,
         provider: PartyKey,
@@ -341,17 +362,16 @@ impl CommandBook {
         ensures ok { OnOk result (self.new.rows ≡ record self.old.rows { pending = map.remove self.old.rows.pending (provider, number); results = map.insert self.old.rows.results (provider, number) outcome }) }
         ensures may { OnOk result (MaySettle self.old.rows (provider, number)) }
         ensures refused { IfErr result (λ e. BarsSettling self.old.rows (provider, number) e) }
-        ensures err { OnErr result (self.new.rows ≡ self.old.rows) }
+        ensures room { OnOk result (HasRoomOf self.new.rooms (Row.Result provider number outcome)) }
+        ensures gives_back { OnOk result (GivesBack (RowKey.Pending provider number) self.old self.new.rooms) }
+        ensures keeps { KeepsOtherRoom (RowKey.Pending provider number) self.old.rooms self.new.rooms }
+        ensures err { OnErr result (self.new ≡ self.old) }
         ensures again { MaySettle self.old.rows (provider, number) → HasRoomOf self.old.rooms (Row.Result provider number outcome) → IsOk result }
         ensures call { Leaves (Settle (provider, number) outcome) self.old.rows self.new.rows }
     {
         self.may_settle(provider, number)?;
-        self.add_row(Row::Result {
-            provider,
-            number,
-            result: outcome,
-        })?;
-        self.drop_row(RowKey::Pending { provider, number });
+        self.add_result(provider, number, outcome)?;
+        self.drop_open(provider, number);
         Ok(())
     }
 }

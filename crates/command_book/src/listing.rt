@@ -1,9 +1,10 @@
 //! The rows of a command book as a list, and a copy of a command book.
 
-ghost use Rattle.std.specs.Prelude.{◌≡◌, ◌++◌, IfOk, OnErr, OnOk, map};
+ghost use Rattle.std.specs.Prelude.{◌≡◌, ◌++◌, [], IfOk, IsOk, OnErr, OnOk, map};
 ghost use Rattle.std.specs.FinMap.{entries};
 ghost use Rattle.tables.specs.Keys.{text_number_cmp};
 ghost use Rattle.tables.specs.Tables.{shown_of};
+ghost use Rattle.command_book.specs.Stored.{no_rows};
 ghost use Rattle.command_book.specs.Listing.{AreRowsOf, put_rows, rows_of, reply_row, pending_row, result_row};
 
 use crate::book::{CommandBook, Request};
@@ -12,7 +13,8 @@ use std::alloc::{AllocError, Global};
 use tables::Table;
 
 fn push_replies(replies: &Table<Request, Reply>, rows: &mut Vec<Row>) -> Result<(), AllocError>
-    ensures { OnOk result (rows.new.items ≡ rows.old.items ++ map reply_row (entries (shown_of text_number_cmp replies.now))) }
+    ensures list { OnOk result (rows.new.items ≡ rows.old.items ++ map reply_row (entries (shown_of text_number_cmp replies.now))) }
+    ensures none { entries (shown_of text_number_cmp replies.now) ≡ [] → IsOk result }
 {
     for (request, reply) in replies.iter() {
         rows.push(Row::Reply {
@@ -29,7 +31,8 @@ fn push_pending(
     pending: &Table<Request, OpenCommand>,
     rows: &mut Vec<Row>,
 ) -> Result<(), AllocError>
-    ensures { OnOk result (rows.new.items ≡ rows.old.items ++ map pending_row (entries (shown_of text_number_cmp pending.now))) }
+    ensures list { OnOk result (rows.new.items ≡ rows.old.items ++ map pending_row (entries (shown_of text_number_cmp pending.now))) }
+    ensures none { entries (shown_of text_number_cmp pending.now) ≡ [] → IsOk result }
 {
     for (request, open) in pending.iter() {
         let open = Boxed::new(alloc, open.copy()?)?;
@@ -46,7 +49,8 @@ fn push_results(
     results: &Table<Request, CommandResultType>,
     rows: &mut Vec<Row>,
 ) -> Result<(), AllocError>
-    ensures { OnOk result (rows.new.items ≡ rows.old.items ++ map result_row (entries (shown_of text_number_cmp results.now))) }
+    ensures list { OnOk result (rows.new.items ≡ rows.old.items ++ map result_row (entries (shown_of text_number_cmp results.now))) }
+    ensures none { entries (shown_of text_number_cmp results.now) ≡ [] → IsOk result }
 {
     for (request, outcome) in results.iter() {
         rows.push(Row::Result {
@@ -61,7 +65,8 @@ fn push_results(
 impl CommandBook {
     /// The rows kind by kind, each in the order of its keys.
     fn push_rows(&self, alloc: Global, rows: &mut Vec<Row>) -> Result<(), AllocError>
-        ensures { OnOk result (rows.new.items ≡ rows.old.items ++ rows_of self.now.rows) }
+        ensures list { OnOk result (rows.new.items ≡ rows.old.items ++ rows_of self.now.rows) }
+        ensures none { self.now.rows ≡ no_rows → IsOk result }
     {
         push_replies(&self.replies, rows)?;
         push_pending(alloc, &self.pending, rows)?;
@@ -69,16 +74,17 @@ impl CommandBook {
         Ok(())
     }
 
-    /// The rows: exactly those that stand, each once.
+    /// The rows: exactly those that stand, each once. An error is want of memory, and an empty book takes none.
     pub fn rows(&self, alloc: Global) -> Result<Vec<Row>, AllocError>
-        ensures { IfOk result (λ rows. AreRowsOf rows.items self.now.rows) }
+        ensures list { IfOk result (λ rows. AreRowsOf rows.items self.now.rows) }
+        ensures none { self.now.rows ≡ no_rows → IsOk result }
     {
         let mut rows = Vec::new(alloc);
         self.push_rows(alloc, &mut rows)?;
         Ok(rows)
     }
 
-    /// Adds rows one after the other.
+    /// Adds rows one after the other. An error is want of memory.
     fn add_rows(&mut self, rows: Vec<Row>) -> Result<(), AllocError>
         ensures { OnOk result (self.new.rows ≡ put_rows rows.items self.old.rows) }
     {
@@ -88,7 +94,7 @@ impl CommandBook {
         Ok(())
     }
 
-    /// A command book with the same rows.
+    /// A command book with the same rows. An error is want of memory.
     pub fn copy(&self, alloc: Global) -> Result<CommandBook, AllocError>
         ensures { IfOk result (λ b. b.rows ≡ self.now.rows) }
     {

@@ -7,3 +7,4 @@ pub mod Entries
 pub mod Indexing
 pub mod Parts
 pub mod Ties
+pub mod DueFront

@@ -2,6 +2,7 @@
 #![tactic(auto)]
 
 mod key;
+mod queue;
 mod table;
 mod visits;
 

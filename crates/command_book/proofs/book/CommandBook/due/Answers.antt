@@ -1,7 +1,11 @@
-use Rattle.command_book.proofs.DueFront.{due_sorted}
+use Rattle.command_book.proofs.Cases.{ok_not_err}
+use Rattle.command_book.proofs.DueFront.{due_sorted, none_due}
 use Rattle.command_book.proofs.book.CommandBook.due.Goals as goal
 
-pub returns : goal.returns
-returns c =
-    rw (← c.self.view_is) (due_sorted _ _ c.args.at c.new-due.result.items c.push_due.new.due.items c.sort_unstable.new.self.items c.self.invariant c.new-due.ensures.items c.in_ok-push_due.ensures
+pub returns-in_err-push_due-clause-none : goal.returns-in_err-push_due-clause-none
+returns-in_err-push_due-clause-none c = rw (← c.self.view_is) (λ none. ok_not_err c.push_due.result _ c.in_err-push_due.was (c.push_due.ensures.none (none_due _ _ c.args.at c.self.invariant none)))
+
+pub returns-clause-list : goal.returns-clause-list
+returns-clause-list c =
+    rw (← c.self.view_is) (due_sorted _ _ c.args.at c.self.invariant c.new-due.result.items c.push_due.new.due.items c.sort_unstable.new.self.items c.new-due.ensures.items c.in_ok-push_due.ensures.list
     c.sort_unstable.ensures.permutation c.sort_unstable.ensures.sorted)
