@@ -1,8 +1,17 @@
 //! Charging sessions whose state is a type (OCPI 2.2.1, Sessions), and the charge detail records that completed ones
 //! give (OCPI 2.2.1, CDRs).
 //!
+//! ```
+//! let pending = start(opening, at);
+//! let active = pending.activate(at)?;
+//! let active = active.meter(later, kwh)?;
+//! let (completed, draft) = active.complete(end)?;
+//! let cdr = draft.issue(alloc, id, location)?;
+//! ```
+//!
 //! A session is moved by value: a call that takes it gives the session in its new state, or hands it back. So a session
-//! that has ended cannot be metered, and each completed session gives one draft of a charge detail record.
+//! that has ended cannot be metered. Each call of `complete` gives one draft of a charge detail record, so a session gives one,
+//! unless it was copied before.
 #![tactic(auto)]
 
 mod costs;

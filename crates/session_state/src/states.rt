@@ -9,7 +9,7 @@ pub trait State: Copy {
     ghost status: { SessionStatus };
 }
 
-/// The session is authorized, and no energy has flowed yet.
+/// The session is authorized, and its charging has not begun. One that was started has used no energy.
 #[derive(Clone, Copy)]
 pub struct Pending;
 
@@ -25,7 +25,8 @@ impl State for Active {
     ghost status = { status.Active };
 }
 
-/// The session has ended, and is billed.
+/// The session was charged and has ended. What ends it (`Session::complete`) gives the draft of its charge detail record; one
+/// that is made again of what was stored (`resume`) gives none.
 #[derive(Clone, Copy)]
 pub struct Completed;
 
@@ -33,7 +34,7 @@ impl State for Completed {
     ghost status = { status.Completed };
 }
 
-/// The session has ended before energy flowed, and is not billed.
+/// The session has ended before its charging began. It gives no charge detail record.
 #[derive(Clone, Copy)]
 pub struct Invalid;
 
