@@ -3,21 +3,22 @@ use Rattle.std.proofs.Common.{◌≡◌, ◌≢◌, List, [], ◌∷◌, ◌++�
 use Rattle.std.specs.Prelude.{Some, Contains}
 use Rattle.std.specs.List.{AllPairs}
 use Rattle.std.specs.Cmp.{IsTotalOrder}
-use Rattle.std.specs.FinMap.{FinMap, IsAntisymmetric, get, insert, entries, same_map}
+use Rattle.std.specs.FinMap.{FinMap, IsAntisymmetric, get, insert, entries, same_map, empty, get-empty, len-entries, len-empty}
 use Rattle.std.specs.declared.cmp.Ordering.{Ordering}
 use Rattle.std.proofs.lemmas.List.Elements.{Contains-append_left, Contains-append_right, Contains-append_cases}
-use Rattle.tables.specs.Keys.{text_pair_total, text_pair_exact}
+use Rattle.std.proofs.lemmas.List.{nil_from_length}
+use Rattle.tables.specs.Keys.{text_pair_cmp, text_pair_total, text_pair_exact}
 use Rattle.ocpi_types.specs.Rows.{key_of}
 use Rattle.ocpi_types.specs.declared.cdrs.Cdr.{Cdr}
 use Rattle.ocpi_types.specs.declared.sessions.Session.{Session}
 use Rattle.ocpi_types.specs.declared.rows.Row.{Row}
 use Rattle.ocpi_types.specs.declared.rows.Row.TheVariants as row
-use Rattle.handover.specs.Cdrs.{cdr_key, cdr_row}
+use Rattle.handover.specs.Cdrs.{cdr_key, cdr_row, cdr_rows}
 use Rattle.handover.specs.Inbox.{InboxRows, no_rows, HasRow, put_row, session_key}
 use Rattle.handover.specs.InboxListing.{AreOwnRows, AreRowsOf, RowsAreAll, put_rows, rows_of, session_row}
 use Rattle.tables.proofs.Elements.{in_front, of_map, joined}
 use Rattle.tables.proofs.Entries.{listed_only, found_in, each_in, all_apart, insert_all, all_entries}
-use Rattle.tables.proofs.Options.{same_option}
+use Rattle.tables.proofs.Options.{same_option, not_both}
 use Rattle.handover.proofs.Keeping.{Texts}
 
 abbrev Apart : Row → Row → Type 0
@@ -68,7 +69,17 @@ module _ (s : InboxRows) (are : AreOwnRows s) where
   stands : (r : Row) → HasRow s r → Contains (rows_of s) r
   stands (row.Session x) h = Contains-append_left sessions cdrs _ (found_in text_pair_total text_pair_exact session_row s.sessions (session_key x) x h)
   stands (row.Cdr x) h = Contains-append_right sessions cdrs _ (found_in text_pair_total text_pair_exact cdr_row s.cdrs (cdr_key x) x h)
-  stands other h = absurd h
+  stands (row.Count counter last) h = absurd h
+  stands (row.Reply sender number reply) h = absurd h
+  stands (row.Token t) h = absurd h
+  stands (row.Push number to push) h = absurd h
+  stands (row.Service evse_uid) h = absurd h
+  stands (row.Spent provider reference) h = absurd h
+  stands (row.Mark provider id number) h = absurd h
+  stands (row.Reservation provider id reservation) h = absurd h
+  stands (row.Pending provider number open_command) h = absurd h
+  stands (row.Result provider number result) h = absurd h
+  stands (row.Command number command) h = absurd h
 
   cross : (x y : Row) → Contains sessions x → Contains cdrs y → Apart x y
   cross x y i j =
@@ -110,3 +121,19 @@ put_rows_of s are =
     ∙ ap (put_rows (map cdr_row (entries s.cdrs))) (put_sessions (entries s.sessions) (own_entry text_pair_total text_pair_exact session_key s.sessions are.of_sessions) no_rows)
     ∙ put_cdrs (entries s.cdrs) (own_entry text_pair_total text_pair_exact cdr_key s.cdrs are.of_cdrs) _
     ∙ (λ i. record { sessions = all_entries text_pair_total text_pair_exact s.sessions i; cdrs = all_entries text_pair_total text_pair_exact s.cdrs i })
+
+-- an empty inbox has no rows
+no_entries : (X : Type 0) → entries (empty {X = X} {R = text_pair_cmp}) ≡ []
+no_entries X = nil_from_length (entries empty) (sym (len-entries empty) ∙ len-empty text_pair_cmp X)
+
+none_of : rows_of no_rows ≡ []
+none_of = ap (λ es. map session_row es ++ cdr_rows empty) (no_entries Session) ∙ ap (λ es. map cdr_row es) (no_entries Cdr)
+
+pub nothing_listed : (s : InboxRows) → s ≡ no_rows → AreRowsOf [] s
+nothing_listed s is =
+    let own : AreOwnRows no_rows = record { of_sessions = λ k x h. not_both x _ (get-empty text_pair_cmp k) h; of_cdrs = λ k x h. not_both x _ (get-empty text_pair_cmp k) h } in
+    subst (AreRowsOf []) (sym is) (subst (λ l. AreRowsOf l no_rows) none_of (rows_are no_rows own))
+
+-- one that holds something is not empty
+pub not_empty : {X : Type 0} (m : FinMap text_pair_cmp X) (k : Texts) (x : X) → get m k ≡ Some x → m ≡ empty → ⊥
+not_empty m k x has is = not_both x _ (get-empty text_pair_cmp k) (ap (λ z. get z k) (sym is) ∙ has)

@@ -56,7 +56,17 @@ no_rows = record { sessions = empty; cdrs = empty }
 abbrev pub HasRow : InboxRows → Row → Type 0
 HasRow s (row.Session x) = get s.sessions (session_key x) ≡ Some x
 HasRow s (row.Cdr x) = get s.cdrs (cdr_key x) ≡ Some x
-HasRow s other = ⊥
+HasRow s (row.Count counter last) = ⊥
+HasRow s (row.Reply sender number reply) = ⊥
+HasRow s (row.Token t) = ⊥
+HasRow s (row.Push number to push) = ⊥
+HasRow s (row.Service evse_uid) = ⊥
+HasRow s (row.Spent provider reference) = ⊥
+HasRow s (row.Mark provider id number) = ⊥
+HasRow s (row.Reservation provider id reservation) = ⊥
+HasRow s (row.Pending provider number open_command) = ⊥
+HasRow s (row.Result provider number result) = ⊥
+HasRow s (row.Command number command) = ⊥
 
 abbrev pub with_session : SessionTaking → Session → InboxRows → InboxRows
 with_session session_taking.Taken s r = record r { sessions = insert r.sessions (session_key s) s }
@@ -134,7 +144,17 @@ pub record HeldInbox : Type 0 where
 abbrev pub GivesBack : RowKey → HeldInbox → InboxRooms → Type 0
 GivesBack (keys.Session operator id) s t = contains_key t.sessions (operator, id) ≡ false
 GivesBack (keys.Cdr operator id) s t = GivesCdrBack (operator, id) s.rows.cdrs t.cdrs
-GivesBack other s t = ⊤
+GivesBack (keys.Count counter) s t = ⊤
+GivesBack (keys.Reply sender number) s t = ⊤
+GivesBack (keys.Token party token_type uid) s t = ⊤
+GivesBack (keys.Push number) s t = ⊤
+GivesBack (keys.Service evse_uid) s t = ⊤
+GivesBack (keys.Spent provider reference) s t = ⊤
+GivesBack (keys.Mark provider id) s t = ⊤
+GivesBack (keys.Reservation provider id) s t = ⊤
+GivesBack (keys.Pending provider number) s t = ⊤
+GivesBack (keys.Result provider number) s t = ⊤
+GivesBack (keys.Command number) s t = ⊤
 
 -- each session stands under its own operator and id
 abbrev pub AreOwnSessions : Sessions → Type 0

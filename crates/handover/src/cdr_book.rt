@@ -1,6 +1,6 @@
 //! The charge detail records that are held, with what finds them by their sessions, and what is owed by them.
 
-ghost use Rattle.std.specs.Prelude.{◌≡◌, ◌≢◌, ◌↔◌, ◌++◌, ◌<◌, unsigned_abs, [], Some, None, IsOk, IsTrue, OnOk, option_copied};
+ghost use Rattle.std.specs.Prelude.{◌≡◌, ◌≢◌, ◌↔◌, ◌++◌, ◌<◌, unsigned_abs, [], Some, None, IsOk, IsTrue, OnOk, false, option_copied};
 ghost use Rattle.std.specs.FinMap as map;
 ghost use Rattle.ocpi_text.specs.Text.{key};
 ghost use Rattle.ocpi_text.specs.Decimal.{e4_limit};
@@ -96,6 +96,17 @@ impl CdrBook {
         ensures { AreOwnCdrs self.now.cdrs }
     {
         let _cdrs = &self.cdrs;
+    }
+
+    /// Whether no record is held.
+    pub(crate) fn is_empty(&self) -> bool
+        ensures yes { IsTrue result → self.now.cdrs ≡ map.empty }
+        ensures no { result ≡ false → self.now.cdrs ≢ map.empty }
+    {
+        match self.cdrs.first() {
+            Some(_first) => false,
+            None => true,
+        }
     }
 
     /// Adds the row of each record to a list, in the order of their keys.

@@ -22,8 +22,8 @@ use std::marker::Model;
 use tables::Table;
 
 /// The newest versions of sessions and the charge detail records that a node holds, each by its operator and its id
-/// without case (OCPI 2.2.1, Sessions and CDRs: Receiver Interface). Each call but `settle_all` costs the logarithm of
-/// what is held.
+/// without case (OCPI 2.2.1, Sessions and CDRs: Receiver Interface). Each call but `rows` and `copy` costs the logarithm
+/// of what is held.
 #[derive(Drop)]
 pub struct Inbox {
     pub(crate) sessions: Table<(PartyKey, CiKey<36>), Session>,
@@ -264,8 +264,9 @@ impl Inbox {
         Ok(taking)
     }
 
-    /// What is owed to an operator in a currency, in ten-thousandths: the sum of the costs of its charge detail records
-    /// in that currency that are held, each once. Currencies are compared exactly. It takes no memory.
+    /// What is owed to an operator in a currency, in ten-thousandths: the sum of the costs of its charge detail records in that
+    /// currency that are held, and 0 where none is. The operator is compared without case, the currency as spelled. It takes no
+    /// memory.
     pub fn settlement(&self, operator: &Party, currency: ShortText<3, 12>) -> i128
         ensures { result ≡ owed (key operator.now, currency) (map.values self.now.rows.cdrs) }
     {
@@ -283,7 +284,17 @@ impl Inbox {
         match row {
             Row::Session { session } => self.reserve_session(session),
             Row::Cdr { cdr } => self.cdrs.reserve(cdr),
-            _ => Ok(()),
+            Row::Count { .. }
+            | Row::Reply { .. }
+            | Row::Token { .. }
+            | Row::Push { .. }
+            | Row::Service { .. }
+            | Row::Spent { .. }
+            | Row::Mark { .. }
+            | Row::Reservation { .. }
+            | Row::Pending { .. }
+            | Row::Result { .. }
+            | Row::Command { .. } => Ok(()),
         }
     }
 
@@ -296,7 +307,17 @@ impl Inbox {
         match row {
             Row::Session { session } => self.put_session(&session),
             Row::Cdr { cdr } => self.cdrs.put(cdr.into_inner()),
-            _ => {}
+            Row::Count { .. }
+            | Row::Reply { .. }
+            | Row::Token { .. }
+            | Row::Push { .. }
+            | Row::Service { .. }
+            | Row::Spent { .. }
+            | Row::Mark { .. }
+            | Row::Reservation { .. }
+            | Row::Pending { .. }
+            | Row::Result { .. }
+            | Row::Command { .. } => {}
         }
     }
 
@@ -312,7 +333,17 @@ impl Inbox {
                 self.sessions.remove((operator, id));
             }
             RowKey::Cdr { operator, id } => self.cdrs.remove(operator, id),
-            _ => {}
+            RowKey::Count { .. }
+            | RowKey::Reply { .. }
+            | RowKey::Token { .. }
+            | RowKey::Push { .. }
+            | RowKey::Service { .. }
+            | RowKey::Spent { .. }
+            | RowKey::Mark { .. }
+            | RowKey::Reservation { .. }
+            | RowKey::Pending { .. }
+            | RowKey::Result { .. }
+            | RowKey::Command { .. } => {}
         }
     }
 }

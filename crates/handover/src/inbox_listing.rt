@@ -1,9 +1,9 @@
 //! The rows of an inbox as a list, and a copy of an inbox.
 
-ghost use Rattle.std.specs.Prelude.{◌≡◌, ◌++◌, IfOk, IsOk, OnErr, OnOk};
+ghost use Rattle.std.specs.Prelude.{◌≡◌, ◌≢◌, ◌++◌, IfOk, IsOk, OnErr, OnOk, IsTrue, false};
 ghost use Rattle.tables.specs.Keys.{text_pair_cmp};
 ghost use Rattle.tables.specs.Tables.{shown_of};
-ghost use Rattle.handover.specs.Inbox.{HasRoomOf, KeepsRoom, put_row};
+ghost use Rattle.handover.specs.Inbox.{HasRoomOf, KeepsRoom, no_rows, put_row};
 ghost use Rattle.handover.specs.InboxListing.{AreOwnRows, AreRowsOf, RowsAreAll, put_rows, rows_of, session_rows};
 
 use crate::inbox::Inbox;
@@ -52,14 +52,36 @@ impl Inbox {
         Ok(())
     }
 
-    /// The rows: exactly those that stand, each once.
-    pub fn rows(&self, alloc: Global) -> Result<Vec<Row>, AllocError>
+    /// Whether nothing is held.
+    pub fn is_empty(&self) -> bool
+        ensures yes { IsTrue result → self.now.rows ≡ no_rows }
+        ensures no { result ≡ false → self.now.rows ≢ no_rows }
+    {
+        match self.sessions.first() {
+            Some(_first) => false,
+            None => self.cdrs.is_empty(),
+        }
+    }
+
+    /// The rows that stand, as a list.
+    fn list_rows(&self, alloc: Global) -> Result<Vec<Row>, AllocError>
         ensures { IfOk result (λ rows. AreRowsOf rows.items self.now.rows) }
     {
         self.consistency();
         let mut rows = Vec::new(alloc);
         self.push_rows(alloc, &mut rows)?;
         Ok(rows)
+    }
+
+    /// The rows: exactly those that stand, each once. An error is want of memory, which an empty inbox does not need.
+    pub fn rows(&self, alloc: Global) -> Result<Vec<Row>, AllocError>
+        ensures ok { IfOk result (λ rows. AreRowsOf rows.items self.now.rows) }
+        ensures err { OnErr result (self.now.rows ≢ no_rows) }
+    {
+        if self.is_empty() {
+            return Ok(Vec::new(alloc));
+        }
+        self.list_rows(alloc)
     }
 
     /// Adds a row that was read from a store, as `put_row`. An error is want of memory, for a row that has no room, and
@@ -85,8 +107,19 @@ impl Inbox {
         Ok(())
     }
 
-    /// An inbox with the same rows.
+    /// An inbox with the same rows. An error is want of memory, which an empty inbox does not need.
     pub fn copy(&self, alloc: Global) -> Result<Inbox, AllocError>
+        ensures ok { IfOk result (λ b. b.rows ≡ self.now.rows) }
+        ensures err { OnErr result (self.now.rows ≢ no_rows) }
+    {
+        if self.is_empty() {
+            return Ok(Inbox::new(alloc));
+        }
+        self.copy_rows(alloc)
+    }
+
+    /// An inbox to which the rows were added one after the other.
+    fn copy_rows(&self, alloc: Global) -> Result<Inbox, AllocError>
         ensures { IfOk result (λ b. b.rows ≡ self.now.rows) }
     {
         self.consistency();

@@ -29,9 +29,9 @@ fn number_of(cdrs: &[Cdr]) -> usize
     cdrs.len()
 }
 
-/// What is owed to each operator in each currency, in ten-thousandths, where one of the records is of both: the sum of
-/// the costs of these records, by operator and then by currency. Operators are compared without case, currencies exactly.
-/// An error is want of memory, which no record needs where there is none.
+/// What is owed to each operator in each currency of which there is a record, in ten-thousandths: the sum of the costs of the
+/// records of both, each as often as it stands in the list, by operator and then by currency. Operators are compared without
+/// case, currencies as spelled. An error is want of memory; an empty list needs none.
 pub fn settle_all(
     alloc: Global,
     cdrs: &[Cdr],

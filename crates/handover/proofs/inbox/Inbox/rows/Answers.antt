@@ -1,7 +1,5 @@
-use Rattle.std.proofs.Common.{sym, ap, subst, ◌∙◌, ◌++◌}
-use Rattle.handover.specs.InboxListing.{AreRowsOf, rows_of}
-use Rattle.handover.proofs.InboxListed.{rows_are}
+use Rattle.handover.proofs.InboxListed.{nothing_listed}
 use Rattle.handover.proofs.inbox.Inbox.rows.Goals as goal
 
-pub returns : goal.returns
-returns c = subst (λ l. AreRowsOf l c.args.self.now.rows) (sym (c.in_ok-push_rows.ensures ∙ ap (λ l. l ++ rows_of c.args.self.now.rows) c.new-rows.ensures.items)) (rows_are c.args.self.now.rows c.consistency.ensures)
+pub returns-then-is_empty-clause-ok : goal.returns-then-is_empty-clause-ok
+returns-then-is_empty-clause-ok c = rw c.new.ensures.items (nothing_listed _ (c.is_empty.ensures.yes c.if-is_empty.true))

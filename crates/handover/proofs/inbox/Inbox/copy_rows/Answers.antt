@@ -1,7 +1,7 @@
 use Rattle.std.proofs.Common.{ap, ◌∙◌, ◌++◌}
 use Rattle.handover.specs.InboxListing.{put_rows, rows_of}
 use Rattle.handover.proofs.InboxListed.{put_rows_of}
-use Rattle.handover.proofs.inbox.Inbox.copy.Goals as goal
+use Rattle.handover.proofs.inbox.Inbox.copy_rows.Goals as goal
 
 pub returns : goal.returns
 returns c =
