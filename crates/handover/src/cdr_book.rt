@@ -227,13 +227,14 @@ impl CdrBook {
         ensures rooms { (x : Cdr) → HasRoomOfCdr self.old.rooms x → cdr_key x ≢ (operator, id) → HasRoomOfCdr self.new.rooms x }
         ensures back { GivesCdrBack (operator, id) self.old.cdrs self.new.rooms }
     {
-        let Some(cdr) = self.cdrs.get((operator, id)) else {
-            self.cdrs.release((operator, id));
+        let _most = self.cdrs.room_count();
+        let Some(cdr) = self.cdrs.remove((operator, id)) else {
             return;
         };
-        let session = session_of(cdr);
-        self.clear(operator, id);
-        self.cdrs.release((operator, id));
-        self.sessions.release((session, id));
+        let session = session_of(&cdr);
+        let currency = currency_of(&cdr);
+        let cost = cost_of(&cdr);
+        self.sessions.remove((session, id));
+        self.sums.add(operator, currency, 0 - cost);
     }
 }
