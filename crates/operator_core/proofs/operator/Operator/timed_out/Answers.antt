@@ -19,7 +19,7 @@ loop-provider-preserved c =
             each = one_more_timeout s.providers at.ends.items e at.invariant.each (record { result_is = w.in-Some.ensures.is.2; of_site = w.in-Some.ensures.of_site });
           })
       | in_default w ↦
-          let due : AreDue s.rows.commands.pending c.args.at c.as_slice-provider-items.result.now = rw (c.as_slice-provider-items.ensures.value, ← c.self.view_is, ← c.commands.ensures) c.in_ok-due.ensures in
+          let due : AreDue s.rows.commands.pending c.args.at c.as_slice-provider-items.result.now = rw (c.as_slice-provider-items.ensures.value, ← c.self.view_is, ← c.commands.ensures) c.in_ok-due.ensures.list in
           absurd (due_of_provider s c.consistency.ensures c.args.at c.as_slice-provider-items.result.now due request.0 request.1
           (at.provider-index, c.loop-provider-test.true, sym c.loop-provider-item.is) w.in_default.ensures.none)
     ]
