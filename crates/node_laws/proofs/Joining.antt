@@ -29,7 +29,7 @@ given_after s t e h given n r has = elim ((h.asks given).made n r has) [
   | inr made ↦ made.given
 ]
 
-one_value : {X : Type 0} (x y : X) → Some x ≡ Some y → x ≡ y
+pub one_value : {X : Type 0} (x y : X) → Some x ≡ Some y → x ≡ y
 one_value x y e = cc
 
 module _ (s u t : Node) (e f : Exchange) (h : NodeStep s e u) (g : NodeStep u f t) where
