@@ -9,3 +9,5 @@ pub mod ResendTimes
 pub mod EventConsistency
 pub mod Runs
 pub mod Answered
+pub mod CommandSteps
+pub mod CommandRuns

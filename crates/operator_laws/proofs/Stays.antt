@@ -48,13 +48,13 @@ use Rattle.operator_laws.proofs.Puts.{puts_pending, puts_mark, puts_none}
 abbrev EndsNot : List Ending → book.Request → Type 0
 EndsNot es k = (e : Ending) → Contains es e → request_of e ≡ k → ⊥
 
-results_keep : (es : List Ending) (m : book.Results) (k : book.Request) → EndsNot es k → get (results_with es m) k ≡ get m k
+pub results_keep : (es : List Ending) (m : book.Results) (k : book.Request) → EndsNot es k → get (results_with es m) k ≡ get m k
 results_keep [] m k apart = refl
 results_keep (e ∷ es) m k apart =
     results_keep es (insert m (request_of e) e.result) k (λ x i. apart x (in_later e es x i)) ∙ get-insert_other text_number_total text_number_exact m (request_of e) e.result k (λ same. apart e (in_front e es) (sym same))
 
 -- each command that ended has the result of its ending
-results_hold : (es : List Ending) (m : book.Results) → AreOfDifferent es → (e : Ending) → Contains es e → get (results_with es m) (request_of e) ≡ Some e.result
+pub results_hold : (es : List Ending) (m : book.Results) → AreOfDifferent es → (e : Ending) → Contains es e → get (results_with es m) (request_of e) ≡ Some e.result
 results_hold [] m apart e h = absurd (in_none e h)
 results_hold (x ∷ es) m apart e h = elim (of_cons x es e h) [
   | inl same ↦ subst (λ z. get (results_with (x ∷ es) m) (request_of z) ≡ Some z.result) same
@@ -171,7 +171,7 @@ rises_after s at sender n c (decision.Noted id x) h = set_rises s.rows.booked.ma
 rises_after s at sender n c (decision.Reserved id r) h = set_rises s.rows.booked.marks (key sender, id) n (in_time s at sender n (decision.Reserved id r) id refl c h)
 rises_after s at sender n c (decision.Cancelled id) h = set_rises s.rows.booked.marks (key sender, id) n (in_time s at sender n (decision.Cancelled id) id refl c h)
 
-mark_set : (p : List ℕ) (n : ℕ) (d : Decision) (m : booked.Marks) (id : List ℕ) → marked_id d ≡ Some id → get (marks_after p n d m) (p, id) ≡ Some n
+pub mark_set : (p : List ℕ) (n : ℕ) (d : Decision) (m : booked.Marks) (id : List ℕ) → marked_id d ≡ Some id → get (marks_after p n d m) (p, id) ≡ Some n
 mark_set p n (decision.Refused status) m id e = absurd (let bad : None ≡ Some id = e in cc)
 mark_set p n (decision.Answered w) m id e = absurd (let bad : None ≡ Some id = e in cc)
 mark_set p n decision.Opened m id e = absurd (let bad : None ≡ Some id = e in cc)
