@@ -10,4 +10,5 @@ pub mod EventConsistency
 pub mod Runs
 pub mod Answered
 pub mod CommandSteps
+pub mod Reserving
 pub mod CommandRuns
