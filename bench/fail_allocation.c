@@ -1,10 +1,10 @@
-/* Loaded before the C library: the allocation of the number that FAIL_ALLOCATION names fails, counted from 1, and
-   standard error says so. */
+/* Linked into a program in place of malloc and realloc (tools/build_unproved): the allocation of the number that
+   FAIL_ALLOCATION names fails, counted from 1, and standard error says so. */
 #include <stdlib.h>
 #include <unistd.h>
 
-extern void *__libc_malloc(size_t);
-extern void *__libc_realloc(void *, size_t);
+extern void *__real_malloc(size_t);
+extern void *__real_realloc(void *, size_t);
 
 static int fails(void) {
     static long count, wanted = -1;
@@ -17,5 +17,5 @@ static int fails(void) {
     return write(2, said, sizeof said - 1) > 0;
 }
 
-void *malloc(size_t size) { return fails() ? NULL : __libc_malloc(size); }
-void *realloc(void *old, size_t size) { return fails() ? NULL : __libc_realloc(old, size); }
+void *__wrap_malloc(size_t size) { return fails() ? NULL : __real_malloc(size); }
+void *__wrap_realloc(void *old, size_t size) { return fails() ? NULL : __real_realloc(old, size); }

@@ -1,39 +1,38 @@
 #!/usr/bin/env bash
-# Runs the program case_lines, as `rt ci` has built it, once for each allocation that it makes on some cases, with that
-# allocation failing. Its output must be what the cases want, or a beginning of it where the program then ends with status
-# 1: a step that finds no memory is tried again there, and must give the answer and the rows that it gives with ample
-# memory. Where one run fails, so does this. The cases are bench/fail_allocations.stdin and .stdout, some of those of the program
-# about an operator. Without cc it tries nothing. The last line says what was tried.
+# Runs the program case_lines, built at the path $1 with bench/fail_allocation.c (tools/try_cases), once for each allocation that
+# it makes on each of some cases of an operator, with that allocation failing. Its output must be what the case wants, or a
+# beginning of it where the program then ends with status 1: a step that finds no memory is tried again there, and must give
+# the answer and the rows that it gives with ample memory. Where one run fails, so does this. The cases are the files of
+# bench/fail_allocations, each with what it must give. The last line says what was tried.
 set -euo pipefail
 top=$(cd "$(dirname "${BASH_SOURCE[0]}")/.." && pwd)
-input=$top/bench/fail_allocations.stdin wanted=$top/bench/fail_allocations.stdout
-program=$top/crates/case_lines/out/case_lines
-command -v cc > /dev/null || { echo "no allocation was tried: there is no cc"; exit 0; }
-[[ -x $program ]] || { echo "$program is not built: rt run in crates/case_lines, or rt ci, builds it" >&2; exit 1; }
+program=$1
 room=$(mktemp -d)
 trap 'rm -rf "$room"' EXIT
-cc -shared -fPIC -O1 -o "$room/fail.so" "$top/bench/fail_allocation.c"
 
-# Runs the program with the allocation $1 failing, and tells how its output is not as wanted.
+# Runs the program on the case $1 with the allocation $2 failing, and tells how its output is not as wanted.
 try_allocation() {
     local ended=0 size
-    LD_PRELOAD=$room/fail.so FAIL_ALLOCATION=$1 "$program" < "$input" > "$room/out" 2> "$room/said" || ended=$?
+    FAIL_ALLOCATION=$2 "$program" < "$1" > "$room/out" 2> "$room/said" || ended=$?
     size=$(stat -c %s "$room/out")
     if ((ended == 0)); then
         whole=$((whole + 1))
-        cmp -s "$room/out" "$wanted" && return
+        cmp -s "$room/out" "$1.stdout" && return
     elif ((ended == 1)); then
-        cmp -s -n "$size" "$room/out" "$wanted" && return
+        cmp -s -n "$size" "$room/out" "$1.stdout" && return
     fi
-    echo "allocation $1: status $ended, $(head -c 300 "$room/said")" >&2
+    echo "${1##*/}, allocation $2: status $ended, $(head -c 300 "$room/said")" >&2
     status=1
 }
 
-status=0 whole=0 number=0
-while true; do
-    number=$((number + 1))
-    try_allocation "$number"
-    grep -q 'an allocation failed' "$room/said" || break
+status=0 whole=0 failed=0
+for wanted in "$top"/bench/fail_allocations/*.stdout; do
+    number=1
+    while try_allocation "${wanted%.stdout}" "$number"; grep -q 'an allocation failed' "$room/said"; do
+        number=$((number + 1)) failed=$((failed + 1))
+    done
+    whole=$((whole - 1))
 done
-echo "each of $((number - 1)) allocations failed once; $((whole - 1)) times the output was whole"
+((failed > 0)) || status=1
+echo "each of $failed allocations failed once; $whole times the output was whole"
 exit $status

@@ -1,11 +1,12 @@
 #!/usr/bin/env python3
-"""Writes the cases of the program `case_lines`, its files stdin and stdout, and a choice of them into bench/.
+"""Writes the cases of the program `case_lines`, a file and what it must give for each part, in the folder cases/lines, and
+a choice of them into bench/.
 
     tools/case_lines.py
 
 What each part holds is told in `packet_cases`, `book_cases` and `operator_cases`. To see where the program differs:
 
-    (cd crates/case_lines && rt run < stdin) | diff crates/case_lines/stdout -
+    tools/try_cases
 """
 
 import pathlib
@@ -27,17 +28,15 @@ def write(file, lines):
 
 
 def main():
-    lines, wanted = [], []
+    lines = TOP / "cases" / "lines"
     for name, cases in (("packets", packet_cases.cases), ("books", book_cases.cases), ("operator", operator_cases.cases)):
         given, gives = cases()
-        lines += part(name, given)
-        wanted += gives
+        write(lines / name, part(name, given))
+        write(lines / f"{name}.stdout", gives)
         print(f"{name}: {len(given)} lines")
-    write(TOP / "crates" / "case_lines" / "stdin", lines)
-    write(TOP / "crates" / "case_lines" / "stdout", wanted)
-    given, gives = operator_cases.cases_without_memory()
-    write(TOP / "bench" / "fail_allocations.stdin", part("operator", given))
-    write(TOP / "bench" / "fail_allocations.stdout", gives)
+    for at, (given, gives) in enumerate(operator_cases.cases_without_memory(), 1):
+        write(TOP / "bench" / "fail_allocations" / f"{at}", part("operator", given))
+        write(TOP / "bench" / "fail_allocations" / f"{at}.stdout", gives)
 
 
 if __name__ == "__main__":

@@ -57,9 +57,16 @@ def enter(line):
 
 
 def end():
-    """Ends what the last line gives. The first is the site line, which gives nothing."""
-    if len(LINES) > 1:
-        WANTED.append("")
+    """Ends what the last line gives. The first is the site line, which gives nothing. The rows of a step are told in any order,
+    and wanted sorted, behind its packets; those of `stored` have the order in which they are told."""
+    if len(LINES) <= 1:
+        return
+    if LINES[-1] != "stored":
+        first = len(WANTED)
+        while first and WANTED[first - 1].startswith(("put ", "drop ")):
+            first -= 1
+        WANTED[first:] = sorted(WANTED[first:])
+    WANTED.append("")
 
 
 class Case:

@@ -220,14 +220,13 @@ def others():
 
 
 def cases_without_memory():
-    """The lines of the cases in which each allocation fails once, behind the site line, and what they must give."""
+    """The cases in which each allocation fails once: of each the lines, behind the site line, and what they must give."""
     ends = CASES[1:] + [("", len(LINES), len(WANTED))]
-    lines, wanted = LINES[:1], []
-    for (name, line, want), (_, next_line, next_want) in zip(CASES, ends):
-        if name in WITHOUT_MEMORY:
-            lines += LINES[line:next_line]
-            wanted += WANTED[want:next_want]
-    return lines, wanted
+    return [
+        (LINES[:1] + LINES[line:next_line], WANTED[want:next_want])
+        for (name, line, want), (_, next_line, next_want) in zip(CASES, ends)
+        if name in WITHOUT_MEMORY
+    ]
 
 
 def cases():

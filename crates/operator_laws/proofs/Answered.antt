@@ -115,7 +115,7 @@ tells_none line = record {
 abbrev IsEnded : Packet → State → Type 0
 IsEnded x t = (a : CommandResult) → x.body ≡ body.CommandResult a → (n : ℕ) × (get t.rows.commands.results (key x.to, n) ≡ Some a.result)
 
-result_push : (p : Push) (a : CommandResult) → body_of_push p ≡ body.CommandResult a → p ≡ push.CommandResult a
+pub result_push : (p : Push) (a : CommandResult) → body_of_push p ≡ body.CommandResult a → p ≡ push.CommandResult a
 result_push (push.CommandResult x) a e = let same : x ≡ a = cc in ap (λ z. push.CommandResult z) same
 result_push (push.PutToken x) a e = cc
 result_push (push.PutSession x) a e = cc

@@ -9,6 +9,6 @@ pub mod ResendTimes
 pub mod EventConsistency
 pub mod Runs
 pub mod Answered
-pub mod CommandSteps
-pub mod Reserving
-pub mod CommandRuns
+pub mod Replying
+pub mod Carried
+pub mod Posting

@@ -45,7 +45,7 @@ use Rattle.operator_laws.proofs.Marking.{marked_id, in_time}
 use Rattle.operator_laws.proofs.Puts.{puts_pending, puts_mark, puts_none}
 
 -- no ending is of that command
-abbrev EndsNot : List Ending → book.Request → Type 0
+abbrev pub EndsNot : List Ending → book.Request → Type 0
 EndsNot es k = (e : Ending) → Contains es e → request_of e ≡ k → ⊥
 
 pub results_keep : (es : List Ending) (m : book.Results) (k : book.Request) → EndsNot es k → get (results_with es m) k ≡ get m k

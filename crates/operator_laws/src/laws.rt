@@ -1,6 +1,7 @@
 //! The laws of an operator, over every list of events from its opening. The steps in them are those of
 //! `Operator::on_packet`, `on_charger`, `on_tick`, `on_service` and `restart`.
 
+ghost use Rattle.operator_laws.specs.Replied.{AcceptedIsOpenOrSettled, CancellationsAreMarked, ReservationsAreAskedFor, ReservationsAreMarked, ResultsArePosted, SpentStays};
 ghost use Rattle.operator_laws.specs.Laws.{AlwaysConsistent, OneStart, SentRepliesAreKept, RepliesStay, RepliesAnswer, ResultsStay, Numbered, RequestsAgree, PushesStand, SentResultsAreKept, MarksNeverFall, ReservationsAreNewer};
 
 /// Each EVSE has at most one claim, among open starts and reservations; each reference is carried by at most one open start;
@@ -62,4 +63,35 @@ pub fn marks_never_fall()
 /// A reservation is made only under a number above that of every request about it that was decided before.
 pub fn reservations_are_newer()
     ensures { ReservationsAreNewer }
+{}
+
+/// A cancellation that was answered, however it was, holds from then on against older requests about its reservation.
+pub fn cancellations_are_marked()
+    ensures { CancellationsAreMarked }
+{}
+
+/// A request to reserve that was accepted holds from then on against older requests about its reservation.
+pub fn reservations_are_marked()
+    ensures { ReservationsAreMarked }
+{}
+
+/// An authorization reference that is spent stays spent.
+pub fn spent_stays()
+    ensures { SpentStays }
+{}
+
+/// A reservation that stands, and did not stand so before, was asked for by its provider in between.
+pub fn reservations_are_asked_for()
+    ensures { ReservationsAreAskedFor }
+{}
+
+/// A command whose response was ACCEPTED is open or has its result, and never both.
+pub fn accepted_is_open_or_settled()
+    ensures { AcceptedIsOpenOrSettled }
+{}
+
+/// A result that was sent answers a command that came from its addressee: it is posted where that command says, and is the
+/// result that is kept for it.
+pub fn results_are_posted()
+    ensures { ResultsArePosted }
 {}

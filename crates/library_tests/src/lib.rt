@@ -1,0 +1,10 @@
+//! Calls of the crates below by values from outside: texts, parties, moments and numbers; each call of a table once, at keys that
+//! are numbers and at keys of a party and a number; the quoting of JSON numbers, and the limits of a line.
+#![tactic(auto)]
+
+#[cfg(test)]
+mod quoting;
+#[cfg(test)]
+mod table_calls;
+#[cfg(test)]
+mod texts;

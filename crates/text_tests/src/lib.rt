@@ -1,5 +1,0 @@
-//! Texts, parties, moments and numbers by values from outside.
-#![tactic(auto)]
-
-#[cfg(test)]
-mod tests;
