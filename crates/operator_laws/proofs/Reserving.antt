@@ -1,13 +1,12 @@
 -- A reservation that stands after an event and not before it was made by a RESERVE_NOW.
-use Rattle.std.proofs.Common.{◌≡◌, ◌≢◌, ℕ, List, [], ◌∷◌, ◌++◌, ◌⊎◌, inl, inr, refl, sym, ap, subst, ◌∙◌}
+use Rattle.std.proofs.Common.{◌≡◌, ℕ, List, [], ◌∷◌, ◌⊎◌, inl, inr, refl, sym, ap, subst, ◌∙◌}
 use Rattle.std.specs.Prelude.{Option, Some, None}
-use Rattle.std.specs.FinMap.{get, insert, remove}
+use Rattle.std.specs.FinMap.{get, remove}
 use Rattle.ocpi_text.specs.Text.{key}
-use Rattle.tables.specs.Keys.{text_pair_total, text_pair_exact}
-use Rattle.tables.proofs.Maps.{of_insert, get-remove_same, get-remove_other, told as same_or_not}
+use Rattle.tables.specs.Keys.{text_number_total, text_number_exact, text_pair_total, text_pair_exact}
+use Rattle.tables.proofs.Maps.{of_insert, get-insert_same, get-remove_same, get-remove_other, told as same_or_not}
 use Rattle.tables.proofs.Options.{not_both}
 use Rattle.ocpi_types.specs.declared.commands.ReserveNow.{ReserveNow}
-use Rattle.ocpi_types.specs.declared.rows.Place.{Place}
 use Rattle.ocpi_types.specs.declared.packet.Packet.{Packet}
 use Rattle.ocpi_types.specs.declared.stored.Command.{Command}
 use Rattle.ocpi_types.specs.declared.stored.Command.TheVariants as command
@@ -32,9 +31,10 @@ use Rattle.operator_core.specs.Steps.{Decides, decided_rows, reference_of, reply
 use Rattle.operator_core.proofs.Effects.{start_rows}
 use Rattle.operator_core.proofs.Finishing.{reservations_without}
 use Rattle.operator_laws.specs.Laws.{Event, Happens}
+use Rattle.operator_laws.specs.Replied.{AnswersIt}
+use Rattle.ocpi_types.specs.Stored.{body_of_command}
 use Rattle.operator_laws.proofs.Shapes.{Shape, Quiet, Repeated, Decided, Finished, DecidesIt, shape_of}
-use Rattle.operator_laws.proofs.Sends.{finished_leaves}
-use Rattle.operator_laws.proofs.CommandSteps.{DecidesNow, decides_now}
+use Rattle.operator_laws.proofs.Sends.{decided_leaves, finished_leaves}
 
 -- some reservation of that key stands
 abbrev pub IsStanding : booked.Reservations → List ℕ × List ℕ → Type 0
@@ -128,12 +128,23 @@ module _ (s : State) (at : ℕ) (sender : List ℕ) (n : ℕ) (d : Decision) (id
   timely_line x (reserve.Occupied l f a b g e) = absurd (none_reserved d _ id e refl is)
   timely_line x (reserve.Held l f a b g e) = a.timely.in_time
 
+-- a decision answers its packet
+pub answers_now : (s t : State) (e : Event) (h : DecidesIt s e t) → AnswersIt s e t h.packet (reply_of h.at h.decision)
+answers_now s t e h = record {
+  at = h.at;
+  comes = h.comes;
+  new = h.new;
+  kept = ap (λ (m : book.Replies). get m (key h.packet.from, h.packet.request)) (decided_leaves s e t h).replies
+      ∙ get-insert_same text_number_total text_number_exact s.rows.commands.replies (key h.packet.from, h.packet.request) (reply_of h.at h.decision);
+}
+
 -- this event makes the reservation
 pub record ReservesNow (s : State) (e : Event) (t : State) (p id : List ℕ) : Type 0 where
   pub packet : Packet
   pub asked : ReserveNow
   pub reply : Reply
-  pub now : DecidesNow s e t packet (command.ReserveNow asked) reply
+  pub answers : AnswersIt s e t packet reply
+  pub carries : packet.body ≡ body_of_command (command.ReserveNow asked)
   pub by : key packet.from ≡ p
   pub id_is : key asked.reservation_id ≡ id
   pub timely : IsInTime s.rows.booked.marks (p, id) packet.request
@@ -151,7 +162,8 @@ module _ (s t : State) (e : Event) (p id : List ℕ) where
         packet = h.packet;
         asked = found.0;
         reply = reply_of h.at h.decision;
-        now = subst (λ z. DecidesNow s e t h.packet z (reply_of h.at h.decision)) found.1 (decides_now s t e h);
+        answers = answers_now s t e h;
+        carries = h.carries ∙ ap body_of_command found.1;
         by = by;
         id_is = id_is;
         timely = subst (λ (k : List ℕ × List ℕ). IsInTime s.rows.booked.marks k h.packet.request) (λ i. (by i, id_is i))
