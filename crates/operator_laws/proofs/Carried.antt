@@ -1,5 +1,5 @@
 -- An accepted command is open or has its result, and a reservation stands only because it was asked for.
-use Rattle.std.proofs.Common.{◌≡◌, ℕ, ◌≤◌, List, [], ◌∷◌, ◌⊎◌, inl, inr, refl, sym, ap, subst, ◌∙◌}
+use Rattle.std.proofs.Common.{◌≡◌, ℕ, List, [], ◌∷◌, ◌⊎◌, inl, inr, refl, sym, ap, subst, ◌∙◌}
 use Rattle.std.specs.Prelude.{Option, Some, None, Contains}
 use Rattle.std.specs.FinMap.{get, get-empty, insert, remove}
 use Rattle.ocpi_text.specs.Text.{key}
@@ -9,23 +9,20 @@ use Rattle.tables.proofs.Options.{not_both}
 use Rattle.tables.proofs.Maps.{get-insert_same, get-insert_other, get-remove_other, of_insert, of_remove, told as same_or_not}
 use Rattle.ocpi_types.specs.Stored.{body_of_command}
 use Rattle.ocpi_types.specs.declared.commands.ReserveNow.{ReserveNow}
-use Rattle.ocpi_types.specs.declared.packet.Packet.{Packet}
 use Rattle.ocpi_types.specs.declared.stored.Command.{Command}
 use Rattle.ocpi_types.specs.declared.stored.Command.TheVariants as command
 use Rattle.ocpi_types.specs.declared.stored.OpenCommand.{OpenCommand}
 use Rattle.ocpi_types.specs.declared.stored.Reply.{Reply}
 use Rattle.ocpi_types.specs.declared.stored.Reservation.{Reservation}
-use Rattle.ocpi_types.specs.declared.words.CommandResponseType.{CommandResponseType}
 use Rattle.ocpi_types.specs.declared.words.CommandResponseType.TheVariants.{Accepted}
 use Rattle.ocpi_types.specs.declared.words.CommandResultType.{CommandResultType}
-use Rattle.ocpi_types.specs.declared.rows.Place.{Place}
 use Rattle.command_book.specs.Stored as book
 use Rattle.reservation_book.specs.Rows as booked
 use Rattle.reservation_book.specs.declared.standing.Standing.{Standing}
 use Rattle.operator_core.specs.declared.decision.Decision.{Decision}
 use Rattle.operator_core.specs.declared.decision.Decision.TheVariants as decision
 use Rattle.operator_core.specs.declared.ending.Ending.{Ending}
-use Rattle.operator_core.specs.State.{State, Rows, opening}
+use Rattle.operator_core.specs.State.{State, Rows}
 use Rattle.operator_core.specs.Moves.{Out}
 use Rattle.operator_core.specs.Start as start
 use Rattle.operator_core.specs.Reserve as reserve
@@ -36,10 +33,9 @@ use Rattle.operator_core.specs.Steps.{Decides, decided_rows, deadline, reference
 use Rattle.operator_core.specs.Stored.{changed_all}
 use Rattle.operator_core.specs.Tick.{request_of}
 use Rattle.operator_core.proofs.Effects.{pending_after, results_after, start_rows}
-use Rattle.operator_core.proofs.Endings.{AreOfDifferent}
 use Rattle.operator_core.proofs.Finishing.{pending_without, reservations_without, results_with}
 use Rattle.operator_core.proofs.RowChanges.{in_later, of_cons}
-use Rattle.operator_laws.specs.Laws.{Came, Event, Happens, Run}
+use Rattle.operator_laws.specs.Laws.{Event}
 use Rattle.operator_laws.specs.Replied.{AcceptedIsOpenOrSettled, AskedToReserve, ReservationsAreAskedFor}
 use Rattle.operator_laws.proofs.Answered.{always_consistent}
 use Rattle.operator_laws.proofs.Replying.{no_word, same_word}

@@ -12,3 +12,5 @@ pub mod Answered
 pub mod Replying
 pub mod Carried
 pub mod Posting
+pub mod Reserving
+pub mod Making

@@ -1,9 +1,9 @@
 -- A result that was sent is posted where its command says.
-use Rattle.std.proofs.Common.{◌≡◌, ℕ, ◌+◌, List, [], ◌∷◌, ◌++◌, ◌⊎◌, inl, inr, refl, sym, ap, subst, ◌∙◌}
+use Rattle.std.proofs.Common.{◌≡◌, ℕ, ◌+◌, List, [], ◌∷◌, ◌⊎◌, inl, inr, refl, sym, ap, subst, ◌∙◌}
 use Rattle.std.specs.Prelude.{Option, Some, None, Contains}
 use Rattle.std.proofs.lemmas.List.Elements.{Contains-append_cases}
 use Rattle.std.specs.Cmp.{nat_cmp_total}
-use Rattle.std.specs.FinMap.{get, get-empty, insert, remove, nat_cmp-IsAntisymmetric}
+use Rattle.std.specs.FinMap.{get, get-empty, remove, nat_cmp-IsAntisymmetric}
 use Rattle.std.specs.Ordering.{nat_cmp}
 use Rattle.ocpi_text.specs.Text.{key}
 use Rattle.tables.specs.Keys.{text_number_cmp, text_number_total, text_number_exact}
@@ -14,8 +14,6 @@ use Rattle.ocpi_types.specs.Stored.{body_of_command}
 use Rattle.ocpi_types.specs.declared.packet.Body.TheVariants as body
 use Rattle.ocpi_types.specs.declared.packet.Packet.{Packet}
 use Rattle.ocpi_types.specs.declared.replies.CommandResult.{CommandResult}
-use Rattle.ocpi_types.specs.declared.rows.Place.{Place}
-use Rattle.ocpi_types.specs.declared.site.SiteLine.{SiteLine}
 use Rattle.ocpi_types.specs.declared.stored.Command.{Command}
 use Rattle.ocpi_types.specs.declared.stored.OpenCommand.{OpenCommand}
 use Rattle.ocpi_types.specs.declared.stored.Push.TheVariants as push
@@ -29,12 +27,12 @@ use Rattle.operator_core.specs.declared.ending.Ending.{Ending}
 use Rattle.operator_core.specs.Consistent.{AreConsistent}
 use Rattle.operator_core.specs.Finished.{told_of, url_in}
 use Rattle.operator_core.specs.Moves.{Out, told}
-use Rattle.operator_core.specs.State.{State, opening}
+use Rattle.operator_core.specs.State.{State}
 use Rattle.operator_core.specs.Steps.{deadline, result_of, url_of}
 use Rattle.operator_core.proofs.Consistency.{consistent_empty}
 use Rattle.operator_core.proofs.Effects.{pending_after, pushes_after, results_after}
 use Rattle.operator_core.proofs.Endings.{TellsOf, pushes_from}
-use Rattle.operator_core.proofs.Finishing.{pending_without, results_with}
+use Rattle.operator_core.proofs.Finishing.{pending_without}
 use Rattle.operator_core.proofs.RowChanges.{in_later}
 use Rattle.operator_laws.specs.Laws.{Came, Comes, Event, Happens, Run, sent}
 use Rattle.operator_laws.specs.Replied.{Asked, ResultsArePosted}
@@ -46,7 +44,7 @@ use Rattle.operator_laws.proofs.Shapes.{DecidesIt, Decided, Finished, FinishesIt
 use Rattle.operator_laws.proofs.Stays.{given_stay, results_hold, results_stay}
 
 -- what a decision opens is its command; all else was open
-pending_from : (at : ℕ) (p : List ℕ) (n : ℕ) (c : Command) (d : Decision) (m : book.OpenCommands) (k : book.Request) (o : OpenCommand) → get (pending_after at p n c d m) k ≡ Some o →
+pub pending_from : (at : ℕ) (p : List ℕ) (n : ℕ) (c : Command) (d : Decision) (m : book.OpenCommands) (k : book.Request) (o : OpenCommand) → get (pending_after at p n c d m) k ≡ Some o →
     ((k ≡ (p, n)) × (o.command ≡ c)) ⊎ (get m k ≡ Some o)
 pending_from at p n c decision.Opened m k o has = elim (of_insert text_number_total text_number_exact m (p, n) (book.open_command c None (deadline at)) k o has) [
   | inl i ↦ inl (i.0, ap (λ (z : OpenCommand). z.command) (sym i.1))
@@ -64,7 +62,7 @@ pending_from at p n c (decision.Reserved id r) m k o has = inr has
 pending_from at p n c (decision.Cancelled id) m k o has = inr has
 
 -- what is left open was open
-open_before : (es : List Ending) (m : book.OpenCommands) (k : book.Request) (o : OpenCommand) → get (pending_without es m) k ≡ Some o → get m k ≡ Some o
+pub open_before : (es : List Ending) (m : book.OpenCommands) (k : book.Request) (o : OpenCommand) → get (pending_without es m) k ≡ Some o → get m k ≡ Some o
 open_before [] m k o has = has
 open_before (e ∷ es) m k o has = (of_remove text_number_total text_number_exact m (e.provider, e.number) k o (open_before es (remove m (e.provider, e.number)) k o has)).1
 

@@ -1,5 +1,5 @@
 -- What the answer to a command brings about.
-use Rattle.std.proofs.Common.{◌≡◌, ℕ, ◌≤◌, ◌<◌, List, [], ◌∷◌, ◌⊎◌, inl, inr, refl, sym, ap, subst, ◌∙◌, arith}
+use Rattle.std.proofs.Common.{◌≡◌, ℕ, ◌≤◌, List, inl, inr, sym, ap, subst, ◌∙◌, arith}
 use Rattle.std.proofs.lemmas.Bool.{cases_order}
 use Rattle.std.specs.Prelude.{Option, Some, None}
 use Rattle.std.specs.FinMap.{get, insert}
@@ -10,7 +10,6 @@ use Rattle.tables.proofs.Maps.{get-insert_same}
 use Rattle.ocpi_types.specs.Stored.{body_of_command}
 use Rattle.ocpi_types.specs.declared.commands.CancelReservation.{CancelReservation}
 use Rattle.ocpi_types.specs.declared.commands.ReserveNow.{ReserveNow}
-use Rattle.ocpi_types.specs.declared.packet.Body.TheVariants as body
 use Rattle.ocpi_types.specs.declared.packet.Packet.{Packet}
 use Rattle.ocpi_types.specs.declared.stored.Command.{Command}
 use Rattle.ocpi_types.specs.declared.stored.Command.TheVariants as command
@@ -23,7 +22,6 @@ use Rattle.command_book.specs.Stored as book
 use Rattle.reservation_book.specs.Rows as booked
 use Rattle.reservation_book.specs.Refusals.{IsInTime}
 use Rattle.operator_core.specs.declared.decision.Decision.{Decision}
-use Rattle.operator_core.specs.declared.decision.Decision.TheVariants as decision
 use Rattle.operator_core.specs.State.{State, Rows}
 use Rattle.operator_core.specs.Moves.{Out}
 use Rattle.operator_core.specs.Cancel as cancel

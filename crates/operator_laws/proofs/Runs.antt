@@ -202,7 +202,7 @@ later_mark (e ∷ es) s t (u, first, rest) (suc j) f at p id m n has puts =
     let rose = next.2 in
     omega (arith, above, rose)
 
-above_unless : (m n : ℕ) → m ≤ n → m ≢ n → m < n
+pub above_unless : (m n : ℕ) → m ≤ n → m ≢ n → m < n
 above_unless m n above apart = lt_of_not-le (λ back. apart (omega (arith, above, back)))
 
 -- a request that is answered at the start of a run sets no mark in it

@@ -171,7 +171,7 @@ rises_after s at sender n c (decision.Noted id x) h = set_rises s.rows.booked.ma
 rises_after s at sender n c (decision.Reserved id r) h = set_rises s.rows.booked.marks (key sender, id) n (in_time s at sender n (decision.Reserved id r) id refl c h)
 rises_after s at sender n c (decision.Cancelled id) h = set_rises s.rows.booked.marks (key sender, id) n (in_time s at sender n (decision.Cancelled id) id refl c h)
 
-mark_set : (p : List ℕ) (n : ℕ) (d : Decision) (m : booked.Marks) (id : List ℕ) → marked_id d ≡ Some id → get (marks_after p n d m) (p, id) ≡ Some n
+pub mark_set : (p : List ℕ) (n : ℕ) (d : Decision) (m : booked.Marks) (id : List ℕ) → marked_id d ≡ Some id → get (marks_after p n d m) (p, id) ≡ Some n
 mark_set p n (decision.Refused status) m id e = absurd (let bad : None ≡ Some id = e in cc)
 mark_set p n (decision.Answered w) m id e = absurd (let bad : None ≡ Some id = e in cc)
 mark_set p n decision.Opened m id e = absurd (let bad : None ≡ Some id = e in cc)

@@ -1,7 +1,7 @@
 -- The laws of an operator over every list of events from its opening: packets that come, in any order and any number of
 -- times, what charge points report, time that passes, at moments that may go back, EVSEs that go out of service and come
 -- back, and new starts of the operator from what it stored; events that are refused among them.
-use Rattle.std.specs.Prelude.{◌≡◌, ◌⊎◌, ℕ, ◌+◌, ◌≤◌, ◌<◌, Bool, List, [], ◌∷◌, Some, Contains, slice_get}
+use Rattle.std.specs.Prelude.{◌≡◌, ◌⊎◌, ℕ, ◌+◌, ◌≤◌, ◌<◌, Bool, List, Some, Contains, slice_get}
 use Rattle.std.specs.List.{flat_map}
 use Rattle.std.specs.FinMap.{get}
 use Rattle.ocpi_text.specs.Text.{key}
@@ -21,6 +21,7 @@ use Rattle.ocpi_types.specs.declared.events.ChargerEvent.{ChargerEvent}
 use Rattle.ocpi_types.specs.declared.rows.Change.{Change}
 use Rattle.ocpi_types.specs.declared.rows.Change.TheVariants.{Put}
 use Rattle.ocpi_types.specs.declared.rows.Row.TheVariants as row
+use Rattle.node_laws.specs.Runs as runs
 use Rattle.handover.specs.declared.push_book.Outgoing.{Outgoing}
 use Rattle.operator_core.specs.declared.fault.OperatorFault.{OperatorFault}
 use Rattle.operator_core.specs.State.{State, opening}
@@ -69,8 +70,7 @@ pub data Happens (s : State) (e : Event) (t : State) : Type 0 where
 
 -- a run from one state to another, event by event
 abbrev pub Run : State → List Event → State → Type 0
-Run s [] t = t ≡ s
-Run s (e ∷ es) t = (u : State) × Happens s e u × Run u es t
+Run s es t = runs.Run Happens s es t
 
 -- all packets of a run, in order
 abbrev pub sent : List Event → List Packet

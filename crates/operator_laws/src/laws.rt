@@ -1,6 +1,7 @@
 //! The laws of an operator, over every list of events from its opening. The steps in them are those of
 //! `Operator::on_packet`, `on_charger`, `on_tick`, `on_service` and `restart`.
 
+ghost use Rattle.operator_laws.specs.Made.{ReservationsAreMade, OpenCommandsCame};
 ghost use Rattle.operator_laws.specs.Replied.{AcceptedIsOpenOrSettled, CancellationsAreMarked, ReservationsAreAskedFor, ReservationsAreMarked, ResultsArePosted, SpentStays};
 ghost use Rattle.operator_laws.specs.Laws.{AlwaysConsistent, OneStart, SentRepliesAreKept, RepliesStay, RepliesAnswer, ResultsStay, Numbered, RequestsAgree, PushesStand, SentResultsAreKept, MarksNeverFall, ReservationsAreNewer};
 
@@ -94,4 +95,15 @@ pub fn accepted_is_open_or_settled()
 /// result that is kept for it.
 pub fn results_are_posted()
     ensures { ResultsArePosted }
+{}
+
+/// A reservation that stands, and did not at an earlier state, was made in between by a RESERVE_NOW that came, under a number
+/// above that of every CANCEL_RESERVATION about it that was answered before.
+pub fn reservations_are_made()
+    ensures { ReservationsAreMade }
+{}
+
+/// An open command was open before, or is the command that came under its number.
+pub fn open_commands_came()
+    ensures { OpenCommandsCame }
 {}

@@ -1,0 +1,5 @@
+use Rattle.node_laws.proofs.NodeRuns as runs
+use Rattle.node_laws.proofs.laws.requests_stand.Goals as goal
+
+pub returns : goal.returns
+returns c = runs.requests_stand
