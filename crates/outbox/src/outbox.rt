@@ -1,6 +1,6 @@
 //! What a node sends until it is answered.
 
-ghost use Rattle.std.specs.Prelude.{◌≡◌, ◌↔◌, ◌+◌, ◌≤◌, None, IfOk, IfErr, IsTrue, option_copied};
+ghost use Rattle.std.specs.Prelude.{◌≡◌, ◌↔◌, ◌+◌, ◌≤◌, ℕ, None, IfOk, IfErr, IsTrue, option_copied};
 ghost use Rattle.std.specs.FinMap as map;
 ghost use Rattle.ocpi_text.specs.Whole.{max_whole};
 ghost use Rattle.ocpi_types.specs.declared.rows.RowKey.TheVariants as keys;
@@ -54,6 +54,25 @@ impl Model for Outbox {
     } };
 
     ghost invariant = { λ b. AreHeld (record { last = b.last; pushes = b.book.pushes; commands = b.commands.commands }) b.times.resend b.first };
+}
+
+/// `first`, or once it is above the last number a number after the next one.
+fn raised(first: Whole, last: Whole, next: Whole) -> Whole
+    ensures { (n : ℕ) → first ≤ n → n ≤ last → result ≤ n }
+{
+    if last < first {
+        next.next().unwrap_or(next)
+    } else {
+        first
+    }
+}
+
+/// The lesser of two numbers.
+pub(crate) fn lower(a: Whole, b: Whole) -> Whole
+    ensures first { result ≤ a }
+    ensures second { result ≤ b }
+{
+    if b < a { b } else { a }
 }
 
 impl Outbox {
@@ -156,9 +175,7 @@ impl Outbox {
         requires { AreUpTo self.old.rows last }
         ensures { self.new ≡ record self.old { rows = record self.old.rows { last = last } } }
     {
-        if self.last < self.first {
-            self.first = last.next().unwrap_or(last);
-        }
+        self.first = raised(self.first, self.last, last);
         self.last = last;
     }
 
@@ -168,6 +185,7 @@ impl Outbox {
         ensures ok { IfOk result (λ n. (n ≡ self.old.rows.last + 1) × (self.new ≡ record self.old { rows = record self.old.rows { last = n } })) }
         ensures err { IfErr result (λ e. (e ≡ NumbersUsedUp) × (max_whole ≤ self.old.rows.last) × (self.new ≡ self.old)) }
     {
+        let _last = self.last;
         let number = self.next_number()?;
         self.count_to(number);
         Ok(number)
@@ -196,6 +214,7 @@ impl Outbox {
         ensures gives { IsTo self.old.rows.pushes from.now number → GivesBack (keys.Push number) self.new.rooms }
         ensures other { (IsTo self.old.rows.pushes from.now number → ⊥) → self.new ≡ self.old }
     {
+        let _last = self.last;
         if self.is_to(from, number) {
             self.end_push(number);
         }

@@ -10,7 +10,7 @@ ghost use Rattle.outbox.specs.OutboxListing.{AreRowsOf, command_row, count_rows,
 ghost use Rattle.outbox.specs.Pushes.{HasRoomOfPush, subject};
 ghost use Rattle.outbox.specs.Resend.{given_back, released};
 
-use crate::outbox::Outbox;
+use crate::outbox::{Outbox, lower};
 use crate::push_book::PushBook;
 use crate::sent_commands::SentCommands;
 use ocpi_text::{Party, Whole};
@@ -83,7 +83,7 @@ impl Outbox {
     {
         match row {
             Row::Push { number, to, push } => self.book.reserve(*number, to, push),
-            Row::Command { number, command } => self.commands.reserve(*number, command),
+            Row::Command { number, command } => self.reserve_for(*number, command),
             Row::Count { .. }
             | Row::Reply { .. }
             | Row::Token { .. }
@@ -109,9 +109,7 @@ impl Outbox {
         } }
     {
         self.times.clear(number);
-        if number < self.first {
-            self.first = number;
-        }
+        self.first = lower(self.first, number);
         self.book.put(number, to, push);
     }
 
@@ -126,9 +124,7 @@ impl Outbox {
         ensures room { HasRoomOfCommand self.new.rooms.commands number command }
     {
         self.times.clear(number);
-        if number < self.first {
-            self.first = number;
-        }
+        self.first = lower(self.first, number);
         self.commands.put(number, command);
     }
 

@@ -6,7 +6,7 @@ ghost use Rattle.outbox.specs.Due.{AreExactly, IsDue};
 ghost use Rattle.outbox.specs.Outbox.{Waits};
 ghost use Rattle.outbox.specs.Resend.{HasRoomToSend, KeepsSendRoom, due_again, moved_to};
 
-use crate::outbox::Outbox;
+use crate::outbox::{Outbox, lower};
 use crate::send_times::{SendTimes, push_untimed};
 use ocpi_text::{Moment, Whole};
 use std::alloc::{AllocError, Global};
@@ -34,7 +34,7 @@ impl Outbox {
     {
         let push = self.book.lowest_from(self.first);
         let command = self.commands.lowest_from(self.first);
-        if command < push { command } else { push }
+        lower(push, command)
     }
 
     /// A number that no request is below which waits without a resend time, but for `number`.

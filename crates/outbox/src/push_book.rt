@@ -154,7 +154,10 @@ impl PushBook {
     pub(crate) fn is_up_to(&self, last: Whole) -> bool
         ensures { IsTrue result ↔ ((n : ℕ) → IsTrue (map.contains_key self.now.pushes n) → n ≤ last) }
     {
-        self.pushes.first_after(last).is_none()
+        match self.pushes.first_after(last) {
+            Some(_) => false,
+            None => true,
+        }
     }
 
     /// The number of a push about the same as a newer one, which replaces it.
@@ -255,7 +258,7 @@ impl PushBook {
         ensures { IfOk result (λ b. b.pushes ≡ self.now.pushes) }
     {
         let mut copy = PushBook::new(alloc);
-        for (number, outgoing) in self.pushes.iter() {
+        for (number, outgoing) in self.visits() {
             copy.add(*number, outgoing)?;
         }
         Ok(copy)

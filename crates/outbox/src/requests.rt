@@ -1,11 +1,10 @@
 //! New requests, and what comes back to commands.
 
-ghost use Rattle.std.specs.Prelude.{◌≡◌, ◌+◌, IfOk, IfErr, IfSome, IfNone, IsOk, OnErr, OnOk};
+ghost use Rattle.std.specs.Prelude.{◌≡◌, ◌+◌, ℕ, None, Some, IfOk, IfErr, IfSome, IfNone, IsOk, OnErr, OnOk};
 ghost use Rattle.std.specs.FinMap as map;
-ghost use Rattle.ocpi_types.specs.declared.rows.RowKey.TheVariants as keys;
 ghost use Rattle.ocpi_types.specs.declared.stored.SentCommand.{SentCommand};
 ghost use Rattle.outbox.specs.Commands.{HasRoomOfCommand};
-ghost use Rattle.outbox.specs.Outbox.{Changes, CommandsNew, KeepsRoom, MayPutCommand, PushesNew, RefusesNew};
+ghost use Rattle.outbox.specs.Outbox.{Changes, CommandsNew, KeepsRoom, KeepsRoomWithout, MayPutCommand, PushesNew, RefusesNew, given_back_of, without};
 ghost use Rattle.outbox.specs.Pushes.{HasRoomOfPush, subject};
 ghost use Rattle.outbox.specs.declared.fault.OutboxFault.TheVariants.{NumbersUsedUp};
 
@@ -31,6 +30,19 @@ impl Outbox {
         Ok(number)
     }
 
+    /// Takes a push out, if a number is given, with its resend time, and gives its room back. It takes no memory.
+    fn end_any(&mut self, number: Option<Whole>)
+        requires { (n : ℕ) → number ≡ Some n → map.get self.old.rows.commands n ≡ None }
+        ensures rows { self.new.rows ≡ record self.old.rows { pushes = without number self.old.rows.pushes } }
+        ensures resend { self.new.resend ≡ without number self.old.resend }
+        ensures sending { self.new.sending ≡ given_back_of number self.old.resend self.old.sending }
+        ensures keeps { KeepsRoomWithout number self.old.rooms self.new.rooms }
+    {
+        if let Some(number) = number {
+            self.end_push(number);
+        }
+    }
+
     /// Adds a push under the number of the next request, due at once, and ends the one that it replaces: `replaced`.
     /// Refused where the last request has the greatest number (`NumbersUsedUp`), and then for want of memory (`Memory`);
     /// either leaves the rows and the resend times as they were.
@@ -43,13 +55,29 @@ impl Outbox {
         ensures keeps { OnErr result (KeepsRoom self.old.rooms self.new.rooms) }
         ensures again { HasRoomOfPush self.old.rooms.pushes (self.old.rows.last + 1) (subject to push) → IfErr result (λ e. e ≡ NumbersUsedUp) }
     {
+        self.consistency();
         let number = self.reserve_push(&to, &push)?;
-        if let Some(older) = self.book.replaced(&to, &push) {
-            self.end_push(older);
-        }
+        let older = self.replaced(&to, &push);
+        self.end_any(older);
         self.count_to(number);
         self.put_push(number, to, push);
         Ok(number)
+    }
+
+    /// Takes the memory that a command needs. An error is want of memory, for one that has no room.
+    pub(crate) fn reserve_for(
+        &mut self,
+        number: Whole,
+        command: &SentCommand,
+    ) -> Result<(), AllocError>
+        ensures rows { self.new.rows ≡ self.old.rows }
+        ensures resend { self.new.resend ≡ self.old.resend }
+        ensures sending { self.new.sending ≡ self.old.sending }
+        ensures keeps { KeepsRoom self.old.rooms self.new.rooms }
+        ensures room { OnOk result (HasRoomOfCommand self.new.rooms.commands number command.now) }
+        ensures again { HasRoomOfCommand self.old.rooms.commands number command.now → IsOk result }
+    {
+        self.commands.reserve(number, command)
     }
 
     /// Takes the memory that the next command needs, and answers its number.
@@ -63,7 +91,7 @@ impl Outbox {
         ensures again { HasRoomOfCommand self.old.rooms.commands (self.old.rows.last + 1) command.now → IfErr result (λ e. e ≡ NumbersUsedUp) }
     {
         let number = self.next_number()?;
-        self.commands.reserve(number, command)?;
+        self.reserve_for(number, command)?;
         Ok(number)
     }
 
@@ -79,14 +107,29 @@ impl Outbox {
         ensures keeps { OnErr result (KeepsRoom self.old.rooms self.new.rooms) }
         ensures again { HasRoomOfCommand self.old.rooms.commands (self.old.rows.last + 1) command → IfErr result (λ e. e ≡ NumbersUsedUp) }
     {
+        self.consistency();
         let number = self.reserve_command(&command)?;
         self.count_to(number);
         self.put_command(number, command);
         Ok(number)
     }
 
+    /// The command of a number is that one from then on, without a resend time.
+    fn change(&mut self, number: Whole, command: Boxed<SentCommand>) -> Result<(), AllocError>
+        requires { MayPutCommand self.old.rows number }
+        ensures ok { OnOk result (Changes self.old number command self.new) }
+        ensures rows { OnErr result (self.new.rows ≡ self.old.rows) }
+        ensures resend { OnErr result (self.new.resend ≡ self.old.resend) }
+        ensures sending { OnErr result (self.new.sending ≡ self.old.sending) }
+        ensures keeps { OnErr result (KeepsRoom self.old.rooms self.new.rooms) }
+    {
+        self.reserve_for(number, &command)?;
+        self.put_command(number, command);
+        Ok(())
+    }
+
     /// What a command was answered at once came: its row has it from then on, and it waits no more. Where no such command
-    /// was sent nothing changes. An error is want of memory, and leaves all as it was.
+    /// was sent nothing changes. An error is want of memory, and leaves the rows and the resend times as they were.
     pub fn set_answer(
         &mut self,
         alloc: Global,
@@ -95,18 +138,21 @@ impl Outbox {
     ) -> Result<(), AllocError>
         ensures ok { OnOk result (IfSome (map.get self.old.rows.commands number) (λ c. Changes self.old number (record c { answer = Some answer }) self.new)) }
         ensures none { IfNone (map.get self.old.rows.commands number) (IsOk result × (self.new ≡ self.old)) }
-        ensures err { OnErr result (self.new ≡ self.old) }
+        ensures rows { OnErr result (self.new.rows ≡ self.old.rows) }
+        ensures resend { OnErr result (self.new.resend ≡ self.old.resend) }
+        ensures sending { OnErr result (self.new.sending ≡ self.old.sending) }
+        ensures keeps { OnErr result (KeepsRoom self.old.rooms self.new.rooms) }
     {
-        let Some(sent) = self.commands.get(number) else {
+        self.consistency();
+        let Some(sent) = self.command(number) else {
             return Ok(());
         };
         let changed = with_answer(alloc, sent, answer)?;
-        self.put_command(number, changed);
-        Ok(())
+        self.change(number, changed)
     }
 
     /// How a command ended came: its row has it from then on, and it waits no more. Where no such command was sent nothing
-    /// changes. An error is want of memory, and leaves all as it was.
+    /// changes. An error is want of memory, and leaves the rows and the resend times as they were.
     pub fn set_result(
         &mut self,
         alloc: Global,
@@ -115,14 +161,17 @@ impl Outbox {
     ) -> Result<(), AllocError>
         ensures ok { OnOk result (IfSome (map.get self.old.rows.commands number) (λ c. Changes self.old number (record c { result = Some outcome }) self.new)) }
         ensures none { IfNone (map.get self.old.rows.commands number) (IsOk result × (self.new ≡ self.old)) }
-        ensures err { OnErr result (self.new ≡ self.old) }
+        ensures rows { OnErr result (self.new.rows ≡ self.old.rows) }
+        ensures resend { OnErr result (self.new.resend ≡ self.old.resend) }
+        ensures sending { OnErr result (self.new.sending ≡ self.old.sending) }
+        ensures keeps { OnErr result (KeepsRoom self.old.rooms self.new.rooms) }
     {
-        let Some(sent) = self.commands.get(number) else {
+        self.consistency();
+        let Some(sent) = self.command(number) else {
             return Ok(());
         };
         let changed = with_result(alloc, sent, outcome)?;
-        self.put_command(number, changed);
-        Ok(())
+        self.change(number, changed)
     }
 }
 

@@ -66,13 +66,32 @@ pub(crate) fn push_untimed<V>(
     times: &SendTimes,
     due: &mut Vec<Whole>,
 ) -> Result<(), AllocError>
-    ensures ok { OnOk result (due.new.items ≡ due.old.items ++ untimed times.now.resend entries) }
-    ensures err { OnErr result ((n : ℕ) × Contains (untimed times.now.resend entries) n) }
+    ensures ok { OnOk result (due.new.items ≡ due.old.items ++ untimed times.now.resend entries.entry) }
+    ensures err { OnErr result ((n : ℕ) × Contains (untimed times.now.resend entries.entry) n) }
 {
     for (number, _) in entries {
         if times.get(*number).is_none() {
             due.push(*number)?;
         }
+    }
+    Ok(())
+}
+
+/// Adds the numbers at the front of a queue whose moments are at or before that one. An error is want of memory for one of
+/// these.
+fn push_due(
+    queue: &Table<(Moment, Whole), ()>,
+    at: Moment,
+    due: &mut Vec<Whole>,
+) -> Result<(), AllocError>
+    ensures ok { OnOk result (due.new.items ≡ due.old.items ++ due_front at (map.entries (shown_of moment_number_cmp queue.now))) }
+    ensures err { OnErr result ((n : ℕ) × Contains (due_front at (map.entries (shown_of moment_number_cmp queue.now))) n) }
+{
+    for (key, _) in queue.iter() {
+        if key.0 > at {
+            return Ok(());
+        }
+        due.push(key.1)?;
     }
     Ok(())
 }
@@ -144,13 +163,14 @@ impl SendTimes {
         ensures err { OnErr result ((n : ℕ) × Contains (due_front at (map.entries self.now.queue)) n) }
         ensures exact { IsQueue self.now.queue self.now.resend }
     {
-        for (key, _) in self.queue.iter() {
-            if key.0 > at {
-                return Ok(());
-            }
-            due.push(key.1)?;
-        }
-        Ok(())
+        push_due(&self.queue, at, due)
+    }
+
+    /// Each number that has a resend time, with that.
+    fn visits(&self) -> Visits<'_, Whole, Moment>
+        ensures { result ≡ map.entries self.now.resend }
+    {
+        self.moments.iter()
     }
 
     /// Adds a time.
@@ -167,7 +187,7 @@ impl SendTimes {
         ensures { IfOk result (λ t. t.resend ≡ self.now.resend) }
     {
         let mut copy = SendTimes::new(alloc);
-        for (number, moment) in self.moments.iter() {
+        for (number, moment) in self.visits() {
             copy.add(*number, *moment)?;
         }
         Ok(copy)

@@ -109,7 +109,10 @@ impl SentCommands {
     pub(crate) fn is_up_to(&self, last: Whole) -> bool
         ensures { IsTrue result ↔ ((n : ℕ) → IsTrue (map.contains_key self.now.commands n) → n ≤ last) }
     {
-        self.commands.first_after(last).is_none()
+        match self.commands.first_after(last) {
+            Some(_) => false,
+            None => true,
+        }
     }
 
     /// Takes the room that a command needs. An error is want of memory, for a command that has none.
@@ -133,12 +136,13 @@ impl SentCommands {
         ensures keeps { (n : ℕ) (c : SentCommand) → n ≢ number → HasRoomOfCommand self.old.rooms n c → HasRoomOfCommand self.new.rooms n c }
         ensures room { HasRoomOfCommand self.new.rooms number command }
     {
-        if is_unanswered(&command) {
+        let waits = is_unanswered(&command);
+        self.commands.put(number, command);
+        if waits {
             self.waiting.put(number, ());
         } else {
             self.waiting.remove(number);
         }
-        self.commands.put(number, command);
     }
 
     /// Takes the command of a number out, if there is one, and gives its room back. It takes no memory.
@@ -156,7 +160,7 @@ impl SentCommands {
         ensures { IfOk result (λ b. b.commands ≡ self.now.commands) }
     {
         let mut copy = SentCommands::new(alloc);
-        for (number, command) in self.commands.iter() {
+        for (number, command) in self.visits() {
             copy.add(*number, command)?;
         }
         Ok(copy)
