@@ -1,12 +1,25 @@
 -- Whether a push may be put, by the one about the same.
-use Rattle.std.proofs.Common.{◌≡◌, ◌≤◌, ℕ, refl, sym, ap, subst, ◌∙◌}
-use Rattle.std.specs.Prelude.{Option, Some, None}
+use Rattle.std.proofs.Common.{Bool, true, arith, nat_eq, ◌≡◌, ◌≤◌, ℕ, refl, sym, ap, subst, ◌∙◌}
+use Rattle.std.specs.Prelude.{Option, Some, None, IsTrue}
+use Rattle.std.proofs.lemmas.Bool.Decides.{nat_tests}
 use Rattle.std.specs.FinMap.{get}
 use Rattle.tables.proofs.Options.{none_some}
 use Rattle.std.proofs.lemmas.Option.{same_Some}
 use Rattle.outbox.specs.declared.push_book.Subject.{Subject}
 use Rattle.outbox.specs.Pushes.{Pushes, IsAbout, IsReplaced}
 use Rattle.outbox.specs.Outbox.{OutboxRows, AreConsistent, MayPutPush}
+
+pub same_numbers : (a b : ℕ) (t : Bool) → t ≡ nat_eq a b → IsTrue t → a ≡ b
+same_numbers a b t is yes = tested a b (sym is ∙ yes)
+  where
+    tested : (a b : ℕ) → nat_eq a b ≡ true → a ≡ b
+    tested a b h = grind (arith, nat_tests)
+
+pub told_same : (a b : ℕ) (t : Bool) → t ≡ nat_eq a b → a ≡ b → IsTrue t
+told_same a b t is same = is ∙ tested a b same
+  where
+    tested : (a b : ℕ) → a ≡ b → nat_eq a b ≡ true
+    tested a b h = grind (arith, nat_tests)
 
 about_found : (m : Pushes) (of : Option Subject) (u : Subject) (found : ℕ) → of ≡ Some u → IsReplaced m of (Some found) → IsAbout m u found
 about_found m None u found e is = none_some u e
