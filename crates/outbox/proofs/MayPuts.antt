@@ -10,7 +10,7 @@ use Rattle.outbox.specs.Pushes.{Pushes, IsAbout, IsReplaced}
 use Rattle.outbox.specs.Outbox.{OutboxRows, AreConsistent, MayPutPush}
 
 pub same_numbers : (a b : ℕ) (t : Bool) → t ≡ nat_eq a b → IsTrue t → a ≡ b
-same_numbers a b t is yes = tested a b (sym is ∙ yes)
+same_numbers a b t is holds = tested a b (sym is ∙ holds)
   where
     tested : (a b : ℕ) → nat_eq a b ≡ true → a ≡ b
     tested a b h = grind (arith, nat_tests)
