@@ -1,0 +1,15 @@
+pub mod Rooms
+pub mod Failing
+pub mod Indexing
+pub mod PushRoom
+pub mod Timing
+pub mod Upper
+pub mod Waiting
+pub mod Copying
+pub mod Held
+pub mod RowRoom
+pub mod NewRequest
+pub mod MayPuts
+pub mod DueNumbers
+pub mod OutboxRowChanges
+pub mod OutboxListed

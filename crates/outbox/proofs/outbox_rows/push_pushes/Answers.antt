@@ -1,0 +1,11 @@
+use Rattle.std.proofs.Common.{◌∷◌, ◌++◌, map, sym, ap, ◌∙◌}
+use Rattle.ocpi_types.specs.declared.rows.Row.TheVariants as row
+use Rattle.outbox.specs.OutboxListing.{push_row}
+use Rattle.tables.proofs.Elements.{one_more, none_left}
+use Rattle.outbox.proofs.outbox_rows.push_pushes.Goals as goal
+
+pub loop-number-preserved : goal.loop-number-preserved
+loop-number-preserved c = one_more _ _ _ _ _ _ c.in_ok-push.ensures.items (ap (map push_row) c.in-Some.ensures.steps ∙ ap (λ p. row.Push c.in-Some.number.now c.in-Some.outgoing.now.to p ∷ map push_row c.next.new.self) (sym c.in_ok-copy.ensures)) c.loop-number.invariant
+
+pub returns : goal.returns
+returns c = none_left _ _ _ (ap (map push_row) c.in-None.ensures.steps.0) c.loop-number.invariant ∙ ap (λ l. c.args.rows.now.items ++ map push_row l) (cc)

@@ -1,0 +1,7 @@
+use Rattle.std.proofs.Common.{◌≡◌}
+use Rattle.std.specs.FinMap.{empty}
+use Rattle.tables.proofs.Entries.{insert_all}
+use Rattle.outbox.proofs.push_book.PushBook.copy.Given as goal
+
+abbrev pub invariant-loop-number : goal.invariant-loop-number
+invariant-loop-number l = insert_all l.number-iterator l.copy.pushes ≡ insert_all l.initial.number-iterator empty

@@ -1,0 +1,12 @@
+use Rattle.std.proofs.Common.{◌∙◌, sym}
+use Rattle.std.specs.Cmp.{nat_cmp_total}
+use Rattle.std.specs.FinMap.{nat_cmp-IsAntisymmetric}
+use Rattle.tables.proofs.Maps.{remove_absent}
+use Rattle.outbox.proofs.Timing.{queue_out_of}
+use Rattle.outbox.proofs.send_times.SendTimes.clear.Goals as goal
+
+pub invariant_of-self : goal.invariant_of-self
+invariant_of-self c = rw (c.remove.ensures.shown, c.remove-in-Some.ensures.shown) (queue_out_of _ _ c.self.invariant c.args.number c.in-Some.moment (sym c.get.ensures ∙ sym c.copied.ensures ∙ c.in-Some.is))
+
+pub returns-in_default-clause-resend : goal.returns-in_default-clause-resend
+returns-in_default-clause-resend c = rw (← c.self.view_is) (sym (remove_absent nat_cmp_total nat_cmp-IsAntisymmetric _ _ (sym c.get.ensures ∙ sym c.copied.ensures ∙ c.in_default.is)))

@@ -1,0 +1,5 @@
+use Rattle.outbox.proofs.Copying.{copied}
+use Rattle.outbox.proofs.send_times.SendTimes.copy.Goals as goal
+
+pub returns : goal.returns
+returns c = copied c.args.self.now.resend _ _ c.into_iter-number-iterator.result c.in-None.ensures.steps.0 c.loop-number.invariant (cc)
