@@ -9,17 +9,19 @@ ghost use Rattle.site.specs.Places.{IsEvse};
 ghost use Rattle.ocpi_types.specs.declared.rows.Row.{Row as RowData};
 ghost use Rattle.operator_core.specs.State.{no_rows};
 ghost use Rattle.operator_core.specs.Rows.{change_key, AreRowsOf};
-ghost use Rattle.operator_core.specs.Listing.{count_rows, spent_row, service_row, push_row, other_rows};
+ghost use Rattle.operator_core.specs.Listing.{other_rows};
 ghost use Rattle.operator_core.specs.Moves.{timed_all, untimed, untimed_all};
-ghost use Rattle.operator_core.specs.Sending.{AreSendable, HaveRoomToSend, IsPushed, KeepsTimeRoom};
+ghost use Rattle.operator_core.specs.Sending.{AreSendable, HaveRoomToSend, KeepsTimeRoom};
 ghost use Rattle.operator_core.specs.Start.{IsSpent};
 ghost use Rattle.operator_core.specs.Claimed.{IsIndexed, Holds, RowTakes, released, claimed, MayPut, MayChange, MayChangeAll};
 ghost use Rattle.operator_core.specs.Stored.{AreApart, HasRoom, HasRoomOf, HasRooms, KeepsOtherRoom, KeepsRoom, HasSpentRoom, changed, changed_all, put_row, drop_row, counted, uncounted, spending, unspending, withdrawing, restoring};
 
+use crate::row_lists::{push_count, push_pushes, push_service, push_spent};
+use crate::sending::{packets_sent, reserve_packets};
 use command_book::CommandBook;
 use handover::Outbox;
 use ocpi_text::{CiKey, CiText, Moment, PartyKey, Whole};
-use ocpi_types::{Body, Change, Counter, Packet, Reply, Row, RowKey, Site};
+use ocpi_types::{Change, Counter, Packet, Reply, Row, RowKey, Site};
 use reservation_book::ReservationBook;
 use site::{Claim, Places};
 use std::alloc::{AllocError, Global};
@@ -27,7 +29,7 @@ use std::marker::Model;
 use tables::Table;
 
 /// The references that are spent, by provider.
-type SpentTable = Table<(PartyKey, CiKey<36>), ()>;
+pub(crate) type SpentTable = Table<(PartyKey, CiKey<36>), ()>;
 
 /// The rows of an operator, the room that is taken beside them, and the claims that follow from them.
 #[derive(Drop)]
@@ -141,47 +143,6 @@ fn restore(places: &mut Places, key: &RowKey)
     }
 }
 
-/// Whether a packet with that body is pushed, until it is acknowledged.
-fn is_pushed(body: &Body) -> bool
-    ensures { IsTrue result ↔ IsPushed body.now }
-{
-    matches!(
-        body,
-        Body::CommandResult(_) | Body::PutToken(_) | Body::PutSession(_) | Body::PostCdr(_)
-    )
-}
-
-/// Takes the memory that the resend times of packets need which are sent at that moment and are pushes.
-fn reserve_packets(outbox: &mut Outbox, at: Moment, packets: &[Packet]) -> Result<(), AllocError>
-    ensures rows { outbox.new.rows ≡ outbox.old.rows }
-    ensures rooms { outbox.new.rooms ≡ outbox.old.rooms }
-    ensures resend { outbox.new.resend ≡ outbox.old.resend }
-    ensures room { OnOk result (HaveRoomToSend outbox.new.moments at packets.now) }
-    ensures again { HaveRoomToSend outbox.old.moments at packets.now → IsOk result }
-{
-    for packet in packets {
-        if is_pushed(&packet.body) {
-            outbox.reserve_sent(packet.request, at)?;
-        }
-    }
-    Ok(())
-}
-
-/// The packets were sent at that moment: those that are pushes are due again ten seconds later.
-fn packets_sent(outbox: &mut Outbox, at: Moment, packets: &[Packet])
-    requires room { HaveRoomToSend outbox.old.moments at packets.now }
-    requires sendable { AreSendable outbox.old.rows.pushes packets.now }
-    ensures rows { outbox.new.rows ≡ outbox.old.rows }
-    ensures rooms { outbox.new.rooms ≡ outbox.old.rooms }
-    ensures resend { outbox.new.resend ≡ timed_all at packets.now outbox.old.resend }
-{
-    for packet in packets {
-        if is_pushed(&packet.body) {
-            outbox.sent(packet.request, at);
-        }
-    }
-}
-
 /// The number of the last packet once a row is put.
 fn count(serial: Whole, row: &Row) -> Whole
     ensures { result ≡ counted row.now serial }
@@ -248,51 +209,6 @@ fn claim(places: &mut Places, row: &Row)
         }
         _ => {}
     }
-}
-
-/// The row of a counter, where it has given a number.
-fn push_count(counter: Counter, last: Whole, rows: &mut Vec<Row>) -> Result<(), AllocError>
-    ensures { OnOk result (rows.new.items ≡ rows.old.items ++ count_rows counter last) }
-{
-    if last.value() == 0 {
-        return Ok(());
-    }
-    rows.push(Row::Count { counter, last })?;
-    Ok(())
-}
-
-fn push_spent(spent: &SpentTable, rows: &mut Vec<Row>) -> Result<(), AllocError>
-    ensures { OnOk result (rows.new.items ≡ rows.old.items ++ list_map spent_row (map.entries (shown_of text_pair_cmp spent.now))) }
-{
-    for (key, _) in spent.iter() {
-        rows.push(Row::Spent {
-            provider: key.0,
-            reference: key.1,
-        })?;
-    }
-    Ok(())
-}
-
-fn push_service(places: &Places, rows: &mut Vec<Row>) -> Result<(), AllocError>
-    ensures { OnOk result (rows.new.items ≡ rows.old.items ++ list_map service_row (map.entries places.now.out_of_service)) }
-{
-    for (key, _) in places.idle() {
-        rows.push(Row::Service { evse_uid: *key })?;
-    }
-    Ok(())
-}
-
-fn push_pushes(outbox: &Outbox, rows: &mut Vec<Row>) -> Result<(), AllocError>
-    ensures { OnOk result (rows.new.items ≡ rows.old.items ++ list_map push_row (map.entries outbox.now.rows.pushes)) }
-{
-    for (number, outgoing) in outbox.unacked() {
-        rows.push(Row::Push {
-            number: *number,
-            to: outgoing.to,
-            push: outgoing.push.copy()?,
-        })?;
-    }
-    Ok(())
 }
 
 impl Books {

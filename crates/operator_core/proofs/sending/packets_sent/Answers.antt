@@ -4,8 +4,8 @@ use Rattle.tables.proofs.Elements.{in_front}
 use Rattle.operator_core.specs.Moves.{timed, timed_all}
 use Rattle.operator_core.specs.Sending.{AreSendable, HaveRoomToSend, IsPushed}
 use Rattle.operator_core.proofs.TimeRoom.{timed_push, timed_other, later_sendable, later_room, sent_room}
-use Rattle.operator_core.proofs.books.packets_sent.Goals as goal
-use Rattle.operator_core.proofs.books.packets_sent.Goals.{then-is_pushed, else-is_pushed}
+use Rattle.operator_core.proofs.sending.packets_sent.Goals as goal
+use Rattle.operator_core.proofs.sending.packets_sent.Goals.{then-is_pushed, else-is_pushed}
 
 pub loop-packet-preserved : goal.loop-packet-preserved
 loop-packet-preserved c =

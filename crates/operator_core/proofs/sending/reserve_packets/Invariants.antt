@@ -1,7 +1,7 @@
 use Rattle.std.proofs.Common.{◌≡◌, take}
 use Rattle.handover.specs.Resend.{KeepsMoments}
 use Rattle.operator_core.specs.Sending.{HaveRoomToSend}
-use Rattle.operator_core.proofs.books.reserve_packets.Given as goal
+use Rattle.operator_core.proofs.sending.reserve_packets.Given as goal
 
 abbrev pub invariant-loop-packet : goal.invariant-loop-packet
 invariant-loop-packet l = record {

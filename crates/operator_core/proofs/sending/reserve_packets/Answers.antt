@@ -1,7 +1,7 @@
 use Rattle.std.proofs.Common.{◌≡◌, ◌∙◌, sym, arith, false, true}
 use Rattle.operator_core.proofs.TimeRoom.{more_room}
-use Rattle.operator_core.proofs.books.reserve_packets.Goals as goal
-use Rattle.operator_core.proofs.books.reserve_packets.Goals.{then-is_pushed+in_ok-reserve_sent, else-is_pushed}
+use Rattle.operator_core.proofs.sending.reserve_packets.Goals as goal
+use Rattle.operator_core.proofs.sending.reserve_packets.Goals.{then-is_pushed+in_ok-reserve_sent, else-is_pushed}
 
 pub loop-packet-preserved : goal.loop-packet-preserved
 loop-packet-preserved c =

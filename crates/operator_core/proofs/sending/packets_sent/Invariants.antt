@@ -1,7 +1,7 @@
 use Rattle.std.proofs.Common.{◌≡◌, drop}
 use Rattle.operator_core.specs.Moves.{timed_all}
 use Rattle.operator_core.specs.Sending.{AreSendable, HaveRoomToSend}
-use Rattle.operator_core.proofs.books.packets_sent.Given as goal
+use Rattle.operator_core.proofs.sending.packets_sent.Given as goal
 
 abbrev pub invariant-loop-packet : goal.invariant-loop-packet
 invariant-loop-packet l = record {

@@ -1,7 +1,7 @@
 use Rattle.std.proofs.Common.{◌++◌, map, ap, ◌∙◌}
 use Rattle.operator_core.specs.Listing.{spent_row}
 use Rattle.tables.proofs.Elements.{one_more, none_left}
-use Rattle.operator_core.proofs.books.push_spent.Goals as goal
+use Rattle.operator_core.proofs.row_lists.push_spent.Goals as goal
 
 pub loop-key-preserved : goal.loop-key-preserved
 loop-key-preserved c = one_more _ _ _ _ _ _ c.in_ok-push.ensures.items (ap (map spent_row) c.in-Some.ensures.steps) c.loop-key.invariant

@@ -2,7 +2,7 @@ use Rattle.std.proofs.Common.{◌∷◌, ◌++◌, map, sym, ap, ◌∙◌}
 use Rattle.ocpi_types.specs.declared.rows.Row.TheVariants as row
 use Rattle.operator_core.specs.Listing.{push_row}
 use Rattle.tables.proofs.Elements.{one_more, none_left}
-use Rattle.operator_core.proofs.books.push_pushes.Goals as goal
+use Rattle.operator_core.proofs.row_lists.push_pushes.Goals as goal
 
 pub loop-number-preserved : goal.loop-number-preserved
 loop-number-preserved c = one_more _ _ _ _ _ _ c.in_ok-push.ensures.items (ap (map push_row) c.in-Some.ensures.steps ∙ ap (λ x. row.Push c.in-Some.number.now c.in-Some.outgoing.now.to x ∷ map push_row c.next.new.self) (sym c.in_ok-copy.ensures)) c.loop-number.invariant
