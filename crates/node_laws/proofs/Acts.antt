@@ -51,8 +51,9 @@ module _ (s t : Node) where
   }
 
   -- what is sent stood
-  same_requests : (e : Exchange) → SameStanding s t → ((x : Packet) → Contains e.packets x → ¬ IsReply x.body → s.standing x.request ≡ Some (request_of x)) → KeepsRequests s e t
-  same_requests e same stood = record {
+  same_requests : (e : Exchange) → SameStanding s t → ((x : Packet) → Contains e.packets x → Contains s.peers x.to) → ((x : Packet) → Contains e.packets x → ¬ IsReply x.body → s.standing x.request ≡ Some (request_of x)) → KeepsRequests s e t
+  same_requests e same peer stood = record {
+    to_peer = peer;
     own = λ x i apart. inl (stood x i apart);
     one = λ x y i j x_apart y_apart equal. one_value (request_of x) (request_of y) (sym (stood x i x_apart) ∙ ap s.standing equal ∙ stood y j y_apart);
     made = λ n r has. inl (sym (same n) ∙ has);
@@ -66,18 +67,18 @@ quiet_step s t came among serial last replies standing = record {
   counts = counts_none s t among came serial;
   replies = same_replies s t (sends_none came) replies (λ x r i is. absurd (in_none x i));
   rises = omega (arith, last);
-  asks = λ given. same_requests s t (sends_none came) standing (λ x i apart. absurd (in_none x i));
+  asks = λ given. same_requests s t (sends_none came) standing (λ x i. absurd (in_none x i)) (λ x i apart. absurd (in_none x i));
 }
 
 -- a reply that is kept, or is kept from now on, is sent
-module _ (s t : Node) (came : List Packet) (x : Packet) (r : Reply) (among : StaysAmong s t) (next : IsNumbered s 0 x) (is : x.body ≡ body_of_reply r)
+module _ (s t : Node) (came : List Packet) (x : Packet) (r : Reply) (among : StaysAmong s t) (next : IsNumbered s 0 x) (peer : Contains s.peers x.to) (is : x.body ≡ body_of_reply r)
     (serial : t.serial ≡ s.serial + 1) (last : t.last ≡ s.last) (standing : SameStanding s t) where
   reply_step : KeepsReplies s (sends_one came x) t → NodeStep s (sends_one came x) t
   reply_step keeps = record {
     counts = counts_one s t among came x next serial;
     replies = keeps;
     rises = omega (arith, last);
-    asks = λ given. same_requests s t (sends_one came x) standing (λ y i apart. absurd (apart (r, subst (λ (z : Packet). z.body ≡ body_of_reply r) (in_single x y i) is)));
+    asks = λ given. same_requests s t (sends_one came x) standing (λ y i. subst (λ (z : Packet). Contains s.peers z.to) (in_single x y i) peer) (λ y i apart. absurd (apart (r, subst (λ (z : Packet). z.body ≡ body_of_reply r) (in_single x y i) is)));
   }
 
   same_reply : (y : Packet) (q : Reply) → Contains (x ∷ []) y → y.body ≡ body_of_reply q → (x.body ≡ body_of_reply q) × (x ≡ y)
@@ -119,18 +120,19 @@ module _ (s t : Node) (came : List Packet) (x : Packet) (among : StaysAmong s t)
 
   -- it stood
   pub resend_step : t.last ≡ s.last → SameStanding s t → s.standing x.request ≡ Some (request_of x) → NodeStep s (sends_one came x) t
-  resend_step last standing stood = request_step (omega (arith, last)) (λ given. same_requests s t (sends_one came x) standing (λ y i other.
+  resend_step last standing stood = request_step (omega (arith, last)) (λ given. same_requests s t (sends_one came x) standing (λ y i. subst (λ (z : Packet). Contains s.peers z.to) (in_single x y i) (given x.request (request_of x) stood).peer) (λ y i other.
       subst (λ (z : Packet). s.standing z.request ≡ Some (request_of z)) (in_single x y i) stood))
 
   -- it is new, and stands from now on; another that is about the same may end
-  pub request_new_step : t.last ≡ s.last + 1 → x.request ≡ s.last + 1 → t.standing x.request ≡ Some (request_of x) →
+  pub request_new_step : Contains s.peers x.to → t.last ≡ s.last + 1 → x.request ≡ s.last + 1 → t.standing x.request ≡ Some (request_of x) →
       ((n : ℕ) (r : Request) → n ≢ x.request → s.standing n ≡ Some r → (t.standing n ≡ Some r) ⊎ IsSettled (sends_one came x) n r) →
       ((n : ℕ) (r : Request) → n ≢ x.request → t.standing n ≡ Some r → s.standing n ≡ Some r) → NodeStep s (sends_one came x) t
-  request_new_step last number stands stay old = request_step (omega (arith, last)) (λ given. record {
+  request_new_step peer last number stands stay old = request_step (omega (arith, last)) (λ given. record {
+    to_peer = λ y i. subst (λ (z : Packet). Contains s.peers z.to) (in_single x y i) peer;
     own = λ y i other. subst (λ (z : Packet). (s.standing z.request ≡ Some (request_of z)) ⊎ ((s.last < z.request) × (z.request ≤ t.last))) (in_single x y i) (inr (omega (arith, number), omega (arith, number, last)));
     one = λ y z i j y_apart z_apart equal. ap request_of (sym (in_single x y i) ∙ in_single x z j);
     made = λ n r has. made_by n r has;
-    stays = λ n r has. stay n r (λ same. let below = given n r has in absurd (omega (arith, below, same, number))) has;
+    stays = λ n r has. stay n r (λ same. let below = (given n r has).below in absurd (omega (arith, below, same, number))) has;
     stands = λ y i repeated. inl (subst (λ (z : Packet). t.standing z.request ≡ Some (request_of z)) (in_single x y i) stands);
   })
     where
@@ -148,8 +150,9 @@ module _ (s t : Node) (came : List Packet) (x : Packet) (among : StaysAmong s t)
       made_by n r has = elim (told nat_cmp_total nat_cmp-IsAntisymmetric n x.request) [ inl same ↦ inr (made_at n r has same) | inr other ↦ inl (old n r other has) ]
 
   -- it is new, and is sent once
-  pub ask_step : t.last ≡ s.last + 1 → x.request ≡ s.last + 1 → ¬ IsRepeated x.body → SameStanding s t → NodeStep s (sends_one came x) t
-  ask_step last number once standing = request_step (omega (arith, last)) (λ given. record {
+  pub ask_step : Contains s.peers x.to → t.last ≡ s.last + 1 → x.request ≡ s.last + 1 → ¬ IsRepeated x.body → SameStanding s t → NodeStep s (sends_one came x) t
+  ask_step peer last number once standing = request_step (omega (arith, last)) (λ given. record {
+    to_peer = λ y i. subst (λ (z : Packet). Contains s.peers z.to) (in_single x y i) peer;
     own = λ y i other. subst (λ (z : Packet). (s.standing z.request ≡ Some (request_of z)) ⊎ ((s.last < z.request) × (z.request ≤ t.last))) (in_single x y i) (inr (omega (arith, number), omega (arith, number, last)));
     one = λ y z i j y_apart z_apart equal. ap request_of (sym (in_single x y i) ∙ in_single x z j);
     made = λ n r has. inl (sym (standing n) ∙ has);
@@ -165,6 +168,7 @@ settle_step s t came among serial last replies m other none settled = record {
   replies = same_replies s t (sends_none came) replies (λ x r i is. absurd (in_none x i));
   rises = omega (arith, last);
   asks = λ given. record {
+    to_peer = λ x i. absurd (in_none x i);
     own = λ x i apart. absurd (in_none x i);
     one = λ x y i j x_apart y_apart same. absurd (in_none x i);
     made = λ n r has. elim (told nat_cmp_total nat_cmp-IsAntisymmetric n m) [
@@ -195,6 +199,7 @@ wider_step s t e f same came h = record {
   };
   rises = h.rises;
   asks = λ given. let asks = h.asks given in record {
+    to_peer = λ x i. asks.to_peer x (back x i);
     own = λ x i apart. asks.own x (back x i) apart;
     one = λ x y i j x_apart y_apart equal. asks.one x y (back x i) (back y j) x_apart y_apart equal;
     made = λ n r has. elim (asks.made n r has) [

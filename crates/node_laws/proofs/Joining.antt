@@ -25,8 +25,11 @@ module _ (e f : Exchange) (part : IsPart e f) where
 -- the numbers of what stands after a step were given
 pub given_after : (s t : Node) (e : Exchange) → NodeStep s e t → AreGiven s → AreGiven t
 given_after s t e h given n r has = elim ((h.asks given).made n r has) [
-  | inl old ↦ let below = given n r old in let rises = h.rises in omega (arith, below, rises)
-  | inr made ↦ made.given
+  | inl old ↦ let was = given n r old in record { below = let below = was.below in let rises = h.rises in omega (arith, below, rises); peer = subst (λ l. Contains l r.to) (sym h.counts.peers) was.peer }
+  | inr made ↦ record {
+    below = made.given;
+    peer = subst (λ l. Contains l r.to) (sym h.counts.peers) (subst (λ (q : Request). Contains s.peers q.to) made.request ((h.asks given).to_peer made.packet made.was_sent));
+  }
 ]
 
 pub one_value : {X : Type 0} (x y : X) → Some x ≡ Some y → x ≡ y
@@ -51,7 +54,6 @@ module _ (s u t : Node) (e f : Exchange) (h : NodeStep s e u) (g : NodeStep u f 
       | inl here ↦ h.counts.each k x here
       | inr (j, is, there) ↦ let later = g.counts.each j x there in record {
         from = later.from ∙ h.counts.party;
-        to = subst (λ l. Contains l x.to) h.counts.peers later.to;
         serial = let behind = later.serial in let first = h.counts.serial in omega (arith, behind, first, is);
       }
     ];
@@ -89,7 +91,7 @@ module _ (s u t : Node) (e f : Exchange) (h : NodeStep s e u) (g : NodeStep u f 
 
     below_first : (x : Packet) → Contains e.packets x → ¬ IsReply x.body → x.request ≤ u.last
     below_first x here apart = elim (first.own x here apart) [
-      | inl old ↦ let below = given x.request (request_of x) old in let rises = h.rises in omega (arith, below, rises)
+      | inl old ↦ let below = (given x.request (request_of x) old).below in let rises = h.rises in omega (arith, below, rises)
       | inr (above, below) ↦ below
     ]
 
@@ -98,7 +100,7 @@ module _ (s u t : Node) (e f : Exchange) (h : NodeStep s e u) (g : NodeStep u f 
     agree_before x y here no_x no_y same stands = elim (first.made y.request (request_of y) stands) [
       | inl old ↦ elim (first.own x here no_x) [
         | inl mine ↦ one_value (request_of x) (request_of y) (sym mine ∙ ap s.standing same ∙ old)
-        | inr (above, below) ↦ absurd (let given_y = given y.request (request_of y) old in omega (arith, above, same, given_y))
+        | inr (above, below) ↦ absurd (let given_y = (given y.request (request_of y) old).below in omega (arith, above, same, given_y))
       ]
       | inr made ↦
           first.one x made.packet here made.was_sent no_x (λ is. no_y (subst IsReply (ap (λ (r : Request). r.body) made.request) is)) (same ∙ sym made.number) ∙ made.request
@@ -149,8 +151,11 @@ module _ (s u t : Node) (e f : Exchange) (h : NodeStep s e u) (g : NodeStep u f 
       | inr there ↦ elim (then.stands x there repeated) [ inl still ↦ inl still | inr settled ↦ inr (settled_of_part f (both e f) right x.request (request_of x) settled) ]
     ]
 
+    to_both : (x : Packet) → Contains (both e f).packets x → Contains s.peers x.to
+    to_both x i = elim (in_both x i) [ inl here ↦ first.to_peer x here | inr there ↦ subst (λ l. Contains l x.to) h.counts.peers (then.to_peer x there) ]
+
     asks_both : KeepsRequests s (both e f) t
-    asks_both = record { own = own_both; one = agree_both; made = made_both; stays = λ n r has. stays_then n r (first.stays n r has); stands = stands_both }
+    asks_both = record { to_peer = to_both; own = own_both; one = agree_both; made = made_both; stays = λ n r has. stays_then n r (first.stays n r has); stands = stands_both }
 
   pub join : NodeStep s (both e f) t
   join = record { counts = counts_both; replies = replies_both; rises = let first = h.rises in let then = g.rises in omega (arith, first, then); asks = asks_both }
@@ -162,6 +167,7 @@ idle_step s came = record {
   replies = record { stay = λ k r has. has; answer = λ p n r has. inl has; kept = λ x r i is. absurd (in_none x i) };
   rises = omega arith;
   asks = λ given. record {
+    to_peer = λ x i. absurd (in_none x i);
     own = λ x i apart. absurd (in_none x i);
     one = λ x y i j no_x no_y same. absurd (in_none x i);
     made = λ n r has. inl has;

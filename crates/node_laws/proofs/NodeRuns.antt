@@ -1,7 +1,7 @@
 -- The laws of a node of either role: a run is one step.
 use Rattle.std.proofs.Common.{[], ◌∷◌, sym, subst}
 use Rattle.node_laws.specs.Nodes.{NodeStep, no_exchange, exchanged}
-use Rattle.node_laws.specs.Laws.{RunsAreSteps, Numbered, SentRepliesAreKept, RepliesStay, RepliesAnswer, RequestsAgree, RequestsStand, RequestsWereSent, StayGiven}
+use Rattle.node_laws.specs.Laws.{RunsAreSteps, Numbered, SentToPeers, SentRepliesAreKept, RepliesStay, RepliesAnswer, RequestsAgree, RequestsStand, RequestsWereSent, StayGiven}
 use Rattle.node_laws.proofs.Joining.{join, idle_step, given_after}
 
 pub runs_are_steps : RunsAreSteps
@@ -31,3 +31,6 @@ requests_were_sent s t es run given = ((runs_are_steps s t es run).asks given).m
 
 pub stay_given : StayGiven
 stay_given s t es run given = given_after s t (exchanged es) (runs_are_steps s t es run) given
+
+pub sent_to_peers : SentToPeers
+sent_to_peers s t es run given = ((runs_are_steps s t es run).asks given).to_peer

@@ -18,9 +18,13 @@ sent es = (exchanged es).packets
 abbrev pub RunsAreSteps : Type 0
 RunsAreSteps = (s t : Node) (es : List Exchange) → NodeRun s es t → NodeStep s (exchanged es) t
 
--- packets leave under the next numbers, from this party to its peers
+-- packets leave under the next numbers, from this party
 abbrev pub Numbered : Type 0
 Numbered = (s t : Node) (es : List Exchange) → NodeRun s es t → (t.serial ≡ s.serial + length (sent es)) × ((k : ℕ) (x : Packet) → slice_get (sent es) k ≡ Some x → IsNumbered s k x)
+
+-- each packet is to a peer
+abbrev pub SentToPeers : Type 0
+SentToPeers = (s t : Node) (es : List Exchange) → NodeRun s es t → AreGiven s → (x : Packet) → Contains (sent es) x → Contains s.peers x.to
 
 -- each reply that was sent, of whatever kind, is the one that is kept for its request
 abbrev pub SentRepliesAreKept : Type 0
@@ -48,6 +52,6 @@ RequestsStand = (s t : Node) (es : List Exchange) → NodeRun s es t → AreGive
 abbrev pub RequestsWereSent : Type 0
 RequestsWereSent = (s t : Node) (es : List Exchange) → NodeRun s es t → AreGiven s → (n : ℕ) (r : Request) → t.standing n ≡ Some r → (s.standing n ≡ Some r) ⊎ IsMade s (exchanged es) t n r
 
--- the numbers of the requests that stand stay given
+-- the requests that stand stay given
 abbrev pub StayGiven : Type 0
 StayGiven = (s t : Node) (es : List Exchange) → NodeRun s es t → AreGiven s → AreGiven t

@@ -73,7 +73,6 @@ Answers (reply.Ack r) b = (p : Push) × (b ≡ body_of_push p)
 -- the k-th packet of those that a node sends from here on
 pub record IsNumbered (s : Node) (k : ℕ) (x : Packet) : Type 0 where
   pub from : x.from ≡ s.party
-  pub to : Contains s.peers x.to
   pub serial : x.serial ≡ s.serial + (k + 1)
 
 -- packets leave under the next numbers
@@ -122,17 +121,23 @@ pub record IsMade (s : Node) (e : Exchange) (t : Node) (n : ℕ) (r : Request) :
 abbrev pub IsOwn : Node → Node → Packet → Type 0
 IsOwn s t x = (s.standing x.request ≡ Some (request_of x)) ⊎ ((s.last < x.request) × (x.request ≤ t.last))
 
--- what the node asks: a number stands for one request, which stands until it is settled
+-- what the node asks: a number is of one request, which stands until it is settled. All that is sent is to a peer
 pub record KeepsRequests (s : Node) (e : Exchange) (t : Node) : Type 0 where
+  pub to_peer : (x : Packet) → Contains e.packets x → Contains s.peers x.to
   pub own : (x : Packet) → Contains e.packets x → ¬ IsReply x.body → IsOwn s t x
   pub one : (x y : Packet) → Contains e.packets x → Contains e.packets y → ¬ IsReply x.body → ¬ IsReply y.body → x.request ≡ y.request → request_of x ≡ request_of y
   pub made : (n : ℕ) (r : Request) → t.standing n ≡ Some r → (s.standing n ≡ Some r) ⊎ IsMade s e t n r
   pub stays : (n : ℕ) (r : Request) → s.standing n ≡ Some r → (t.standing n ≡ Some r) ⊎ IsSettled e n r
   pub stands : (x : Packet) → Contains e.packets x → IsRepeated x.body → (t.standing x.request ≡ Some (request_of x)) ⊎ IsSettled e x.request (request_of x)
 
--- the numbers of the requests that stand were given
+-- the number of a request was given, and it is to a peer
+pub record IsGiven (s : Node) (n : ℕ) (r : Request) : Type 0 where
+  pub below : n ≤ s.last
+  pub peer : Contains s.peers r.to
+
+-- all requests that stand are such
 abbrev pub AreGiven : Node → Type 0
-AreGiven s = (n : ℕ) (r : Request) → s.standing n ≡ Some r → n ≤ s.last
+AreGiven s = (n : ℕ) (r : Request) → s.standing n ≡ Some r → IsGiven s n r
 
 -- a node of either role may go on so
 pub record NodeStep (s : Node) (e : Exchange) (t : Node) : Type 0 where

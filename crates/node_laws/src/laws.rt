@@ -1,16 +1,21 @@
 //! The laws of a node of either role, over every list of exchanges, from any state to any later one. An operator and a
 //! provider keep to them, since each of their steps is a `NodeStep`.
 
-ghost use Rattle.node_laws.specs.Laws.{RunsAreSteps, Numbered, SentRepliesAreKept, RepliesStay, RepliesAnswer, RequestsAgree, RequestsStand, RequestsWereSent, StayGiven};
+ghost use Rattle.node_laws.specs.Laws.{RunsAreSteps, Numbered, SentToPeers, SentRepliesAreKept, RepliesStay, RepliesAnswer, RequestsAgree, RequestsStand, RequestsWereSent, StayGiven};
 
 /// A run is one step, by all that came and all that was sent.
 pub fn runs_are_steps()
     ensures { RunsAreSteps }
 {}
 
-/// Packets leave under the next numbers, from this party to its peers.
+/// Packets leave under the next numbers, from this party.
 pub fn numbered()
     ensures { Numbered }
+{}
+
+/// Each packet is to a peer.
+pub fn sent_to_peers()
+    ensures { SentToPeers }
 {}
 
 /// Each reply that was sent, of whatever kind, is the one that is kept for its request.
@@ -43,7 +48,7 @@ pub fn requests_were_sent()
     ensures { RequestsWereSent }
 {}
 
-/// The numbers of the requests that stand stay given.
+/// The requests that stand stay given.
 pub fn stay_given()
     ensures { StayGiven }
 {}

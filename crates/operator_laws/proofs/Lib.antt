@@ -14,3 +14,5 @@ pub mod Carried
 pub mod Posting
 pub mod Reserving
 pub mod Making
+pub mod NodeSteps
+pub mod NodeLaws

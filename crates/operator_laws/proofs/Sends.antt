@@ -113,7 +113,7 @@ module _ (s : State) (e : Event) (t : State) (h : Repeats s e t) where
   counts_repeated : Counts s e t
   counts_repeated = counts_one s e t repeated (ap (λ (o : Out). o.packets) h.out) refl (ap (λ (o : Out). o.state.rows.serial) h.out)
 
-  sends_repeated : (x : Packet) → Contains e.packets x → IsSent t x
+  pub sends_repeated : (x : Packet) → Contains e.packets x → IsSent t x
   sends_repeated x i = subst (IsSent t) (in_single repeated x (subst (λ l. Contains l x) (ap (λ (o : Out). o.packets) h.out) i)) (Response (record {
     reply = h.reply;
     is_reply = refl;
@@ -127,10 +127,10 @@ module _ (s : State) (e : Event) (t : State) (h : DecidesIt s e t) where
   pub decided_leaves : Leaves h.at h.to p h.packet.request h.command s.rows h.decision t.rows
   decided_leaves = subst (λ (z : State). Leaves h.at h.to p h.packet.request h.command s.rows h.decision z.rows) (sym (ap (λ (o : Out). o.state) h.out)) (leaves h.at h.to p h.packet.request h.command s.rows h.decision)
 
-  abbrev response : Packet
+  abbrev pub response : Packet
   response = record { from = s.party; to = h.to; serial = s.rows.serial + 1; request = h.packet.request; body = body_of_reply (reply_of h.at h.decision) }
 
-  abbrev result_for : CommandResultType → Packet
+  abbrev pub result_for : CommandResultType → Packet
   result_for x = record { from = s.party; to = h.to; serial = s.rows.serial + 2; request = s.rows.outbox.last + 1; body = body.CommandResult (record { response_url = url_of h.command; result = x }) }
 
   is_response : IsResponse t response
@@ -145,7 +145,7 @@ module _ (s : State) (e : Event) (t : State) (h : DecidesIt s e t) where
   packets : e.packets ≡ decided_packets h.at h.to h.packet.request h.command h.decision s
   packets = ap (λ (o : Out). o.packets) h.out
 
-  packets_with : (o : Option CommandResultType) → result_of h.decision ≡ o → e.packets ≡ response ∷ result_packets h.to h.command o s
+  pub packets_with : (o : Option CommandResultType) → result_of h.decision ≡ o → e.packets ≡ response ∷ result_packets h.to h.command o s
   packets_with o is = packets ∙ ap (λ o. response ∷ result_packets h.to h.command o s) is
 
   counts_with : (o : Option CommandResultType) → result_of h.decision ≡ o → Counts s e t
@@ -172,17 +172,17 @@ module _ (s : State) (e : Event) (t : State) (h : DecidesIt s e t) where
     | inr k ↦ subst (IsSent t) (in_single (result_for y) x k) (result_pushed y is)
   ]
 
-  sends_decided : (x : Packet) → Contains e.packets x → IsSent t x
+  pub sends_decided : (x : Packet) → Contains e.packets x → IsSent t x
   sends_decided = sends_with (result_of h.decision) refl
 
 module _ (s : State) (e : Event) (t : State) (h : FinishesIt s e t) where
   pub finished_leaves : Finishes s.rows h.ends h.expired h.due t.rows
   finished_leaves = subst (λ (z : State). Finishes s.rows h.ends h.expired h.due z.rows) (sym (ap (λ (o : Out). o.state) h.out)) (finishes s.rows h.ends h.expired h.due)
 
-  abbrev messages : List Message
+  abbrev pub messages : List Message
   messages = finished_messages s.rows h.ends h.due
 
-  packets_are : e.packets ≡ numbered s.party s.rows.serial messages
+  pub packets_are : e.packets ≡ numbered s.party s.rows.serial messages
   packets_are = ap (λ (o : Out). o.packets) h.out
 
   counts_finished : Counts s e t

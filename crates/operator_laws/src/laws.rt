@@ -1,6 +1,7 @@
 //! The laws of an operator, over every list of events from its opening. The steps in them are those of
 //! `Operator::on_packet`, `on_charger`, `on_tick`, `on_service` and `restart`.
 
+ghost use Rattle.operator_laws.specs.AsNode.{StepsAreNodeSteps, RunsAreNodeRuns, PacketsAreAddressed, PushesWereSent};
 ghost use Rattle.operator_laws.specs.Made.{ReservationsAreMade, OpenCommandsCame};
 ghost use Rattle.operator_laws.specs.Replied.{AcceptedIsOpenOrSettled, CancellationsAreMarked, ReservationsAreAskedFor, ReservationsAreMarked, ResultsArePosted, SpentStays};
 ghost use Rattle.operator_laws.specs.Laws.{AlwaysConsistent, OneStart, SentRepliesAreKept, RepliesStay, RepliesAnswer, ResultsStay, Numbered, RequestsAgree, PushesStand, SentResultsAreKept, MarksNeverFall, ReservationsAreNewer};
@@ -106,4 +107,24 @@ pub fn reservations_are_made()
 /// An open command was open before, or is the command that came under its number.
 pub fn open_commands_came()
     ensures { OpenCommandsCame }
+{}
+
+/// Each event of an operator is a step of a node.
+pub fn steps_are_node_steps()
+    ensures { StepsAreNodeSteps }
+{}
+
+/// Each run of an operator is a run of a node, and keeps to the laws of nodes (`node_laws`).
+pub fn runs_are_node_runs()
+    ensures { RunsAreNodeRuns }
+{}
+
+/// Each packet is from this operator, and to a provider of its site.
+pub fn packets_are_addressed()
+    ensures { PacketsAreAddressed }
+{}
+
+/// A push that stands was sent under its number.
+pub fn pushes_were_sent()
+    ensures { PushesWereSent }
 {}
