@@ -1,0 +1,5 @@
+pub mod Peers
+pub mod FaultText
+pub mod Messages
+pub mod Acts
+pub mod Drafts

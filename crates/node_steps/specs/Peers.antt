@@ -1,0 +1,12 @@
+-- The peers of a node, each found by its key (OCPI 2.2.1, Credentials: country_code and party_id).
+use Rattle.std.specs.Prelude.{◌≡◌, ℕ, List, Contains}
+use Rattle.ocpi_text.specs.Text.{key}
+
+-- a peer of the list that is this party, as the list spells it
+pub record IsPeer (peers : List (List ℕ)) (party p : List ℕ) : Type 0 where
+  pub listed : Contains peers p
+  pub same : key p ≡ key party
+
+-- the party of that key is one of the peers
+abbrev pub HasPeer : List (List ℕ) → List ℕ → Type 0
+HasPeer peers party = (p : List ℕ) × Contains peers p × (key p ≡ party)

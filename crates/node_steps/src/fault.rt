@@ -1,0 +1,54 @@
+//! Why an event was refused.
+
+ghost use Rattle.std.specs.Prelude.{◌≡◌, Some};
+
+use std::alloc::{AllocError, AllocFailed};
+use std::error::Error;
+use std::fmt;
+
+/// Why a node refused an event: the first of these that applies, in this order.
+#[derive(Clone, Copy, Debug, PartialEq, Eq)]
+pub enum NodeFault {
+    /// The packet is to another party, from a party that is no peer of the node, or of a kind that the node does not take.
+    NotForMe,
+    /// A counter has given its last number.
+    NumbersUsedUp,
+    /// Memory ran out, for an event that has neither of these faults.
+    Memory,
+}
+
+impl fmt::Display for NodeFault {
+    ghost use Rattle.node_steps.specs.FaultText.{fault_text};
+
+    ghost output = { λ f. Some (fault_text f) };
+
+    fn fmt<W: fmt::Write>(&self, f: &mut fmt::Formatter<W>) -> fmt::Result {
+        match self {
+            NodeFault::NotForMe => f.write_str("1 NotForMe"),
+            NodeFault::NumbersUsedUp => f.write_str("2 NumbersUsedUp"),
+            NodeFault::Memory => f.write_str("4 Memory"),
+        }
+    }
+}
+
+impl Error for NodeFault {}
+
+impl From<AllocError> for NodeFault {
+    ghost use Rattle.node_steps.specs.declared.fault.NodeFault.TheVariants.{Memory};
+
+    ghost from_gives = { λ _ e. e ≡ Memory };
+
+    fn from(_e: AllocError) -> NodeFault {
+        NodeFault::Memory
+    }
+}
+
+impl<T: Drop> From<AllocFailed<T>> for NodeFault {
+    ghost use Rattle.node_steps.specs.declared.fault.NodeFault.TheVariants.{Memory};
+
+    ghost from_gives = { λ _ e. e ≡ Memory };
+
+    fn from(_e: AllocFailed<T>) -> NodeFault {
+        NodeFault::Memory
+    }
+}

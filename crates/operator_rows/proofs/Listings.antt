@@ -1,0 +1,433 @@
+-- The rows of an operator, listed part by part.
+use Rattle.std.proofs.Common.{append_assoc, ◌≡◌, ◌≢◌, ◌↔◌, ℕ, ◌+◌, ◌<◌, List, [], ◌∷◌, ◌++◌, map, ◌⊎◌, inl, inr, Bool, true, false, cond, eqb-true, refl, sym, ap, subst, ◌∙◌, arith}
+use Rattle.std.specs.Prelude.{Some, Contains, nat_eq}
+use Rattle.std.specs.List.{AllPairs}
+use Rattle.std.specs.Ordering.{nat_cmp}
+use Rattle.std.specs.declared.cmp.Ordering.{Ordering}
+use Rattle.std.specs.Cmp.{IsTotalOrder}
+use Rattle.std.specs.FinMap.{FinMap, IsAntisymmetric, get, entries, get-empty}
+use Rattle.std.proofs.lemmas.List.Elements.{Contains-append_left, Contains-append_right, Contains-append_cases}
+use Rattle.tables.specs.Keys.{text_total, text_exact, text_pair_total, text_pair_exact}
+use Rattle.ocpi_types.specs.Rows.{key_of}
+use Rattle.ocpi_types.specs.declared.rows.Row.{Row}
+use Rattle.ocpi_types.specs.declared.rows.Row.TheVariants as row
+use Rattle.ocpi_types.specs.declared.rows.RowKey.{RowKey}
+use Rattle.ocpi_types.specs.declared.rows.RowKey.TheVariants as keys
+use Rattle.ocpi_types.specs.declared.rows.Counter.TheVariants as counter
+use Rattle.command_book.specs.Stored as commands
+use Rattle.command_book.specs.Listing as command_lists
+use Rattle.reservation_book.specs.Rows as booked
+use Rattle.outbox.specs.Outbox as outbox
+use Rattle.outbox.specs.OutboxListing as outbox_lists
+use Rattle.tables.proofs.Elements.{in_none, in_single, in_front, in_map, of_map, no_pairs, joined}
+use Rattle.tables.proofs.Entries.{listed, listed_only, all_apart}
+use Rattle.tables.proofs.Options.{none_some}
+use Rattle.operator_rows.specs.State.{Rows, as_outbox}
+use Rattle.operator_rows.specs.Rows.{HasRow, AreRowsOf}
+use Rattle.operator_rows.specs.Listing.{serial_rows, spent_row, service_row, other_rows}
+
+abbrev Apart : Row → Row → Type 0
+Apart a b = key_of a ≢ key_of b
+
+-- the part that a key is of
+abbrev part : RowKey → ℕ
+part (keys.Reply p n) = 0
+part (keys.Pending p n) = 0
+part (keys.Result p n) = 0
+part (keys.Mark p id) = 1
+part (keys.Reservation p id) = 1
+part (keys.Count counter.Request) = 2
+part (keys.Push n) = 2
+part (keys.Command n) = 2
+part (keys.Count counter.Serial) = 3
+part (keys.Count counter.Session) = 6
+part (keys.Count counter.Cdr) = 6
+part (keys.Count counter.Reference) = 6
+part (keys.Spent p reference) = 4
+part (keys.Service evse) = 5
+part (keys.Token p t u) = 6
+part (keys.Session p id) = 6
+part (keys.Cdr p id) = 6
+
+-- the list has exactly the rows of which P holds, each once, and they are of the first k parts
+record AreExactly (k : ℕ) (P : Row → Type 0) (list : List Row) : Type 0 where
+  exact : (r : Row) → Contains list r ↔ P r
+  apart : AllPairs Apart list
+  parts : (r : Row) → P r → part (key_of r) < k
+
+-- one more part
+and_part : (k : ℕ) (P Q : Row → Type 0) (xs ys : List Row) → AreExactly k P xs → AreExactly (k + 1) Q ys → ((r : Row) → Q r → part (key_of r) ≡ k) → AreExactly (k + 1) (λ r. P r ⊎ Q r) (xs ++ ys)
+and_part k P Q xs ys a b last = record { exact = λ r. (there r, back r); apart = joined Apart xs ys a.apart b.apart cross; parts = parts }
+  where
+    there : (r : Row) → Contains (xs ++ ys) r → P r ⊎ Q r
+    there r h = elim (Contains-append_cases xs ys r h) [ inl i ↦ inl ((a.exact r).0 i) | inr i ↦ inr ((b.exact r).0 i) ]
+
+    back : (r : Row) → P r ⊎ Q r → Contains (xs ++ ys) r
+    back r (inl p) = Contains-append_left xs ys r ((a.exact r).1 p)
+    back r (inr q) = Contains-append_right xs ys r ((b.exact r).1 q)
+
+    cross : (x y : Row) → Contains xs x → Contains ys y → Apart x y
+    cross x y i j e =
+        let low : part (key_of x) < k = a.parts x ((a.exact x).0 i) in
+        let high : part (key_of y) ≡ k = last y ((b.exact y).0 j) in
+        let same : part (key_of x) ≡ part (key_of y) = ap part e in
+        omega arith
+
+    parts : (r : Row) → P r ⊎ Q r → part (key_of r) < k + 1
+    parts r (inl p) = let low : part (key_of r) < k = a.parts r p in omega arith
+    parts r (inr q) = b.parts r q
+
+-- the rows made of the entries of a map
+module _ {K X : Type 0} {R : K → K → Ordering} (o : IsTotalOrder R) (antisymmetric : IsAntisymmetric R) (m : FinMap R X) (f : K × X → Row) (P : Row → Type 0) where
+  of_entries : (k : ℕ) → ((q : K) (x : X) → get m q ≡ Some x → P (f (q, x))) → ((r : Row) → P r → (q : K) × (x : X) × (get m q ≡ Some x) × (f (q, x) ≡ r)) →
+      ((a b : K × X) → a.0 ≢ b.0 → Apart (f a) (f b)) → ((r : Row) → P r → part (key_of r) < k) → AreExactly k P (map f (entries m))
+  of_entries k makes made differ parts = record {
+    exact = λ r. (
+      λ h. let from = of_map f (entries m) r h in subst P from.2 (makes from.0.0 from.0.1 (listed_only o antisymmetric m from.0.0 from.0.1 from.1)),
+      λ p. let (q, x, has, is) = made r p in subst (λ z. Contains (map f (entries m)) z) is (in_map f (entries m) (q, x) (listed o antisymmetric m q x has)),
+    );
+    apart = all_apart o antisymmetric f m Apart (λ a b p q below. differ a b below);
+    parts = parts;
+  }
+
+-- the rows of one kind
+abbrev IsSerial : ℕ → Row → Type 0
+IsSerial last r = (n : ℕ) × (r ≡ row.Count counter.Serial n) × (last ≡ n) × (n ≢ 0)
+
+abbrev IsSpentRow : Rows → Row → Type 0
+IsSpentRow s (row.Spent p reference) = get s.spent (p, reference) ≡ Some tt
+IsSpentRow s (row.Count c q) = ⊥
+IsSpentRow s (row.Reply p q x) = ⊥
+IsSpentRow s (row.Token x) = ⊥
+IsSpentRow s (row.Push q to x) = ⊥
+IsSpentRow s (row.Service evse) = ⊥
+IsSpentRow s (row.Mark p id q) = ⊥
+IsSpentRow s (row.Reservation p id x) = ⊥
+IsSpentRow s (row.Pending p q x) = ⊥
+IsSpentRow s (row.Result p q x) = ⊥
+IsSpentRow s (row.Session x) = ⊥
+IsSpentRow s (row.Cdr x) = ⊥
+IsSpentRow s (row.Command q x) = ⊥
+
+abbrev IsServiceRow : Rows → Row → Type 0
+IsServiceRow s (row.Service evse) = get s.out_of_service evse ≡ Some tt
+IsServiceRow s (row.Count c q) = ⊥
+IsServiceRow s (row.Reply p q x) = ⊥
+IsServiceRow s (row.Token x) = ⊥
+IsServiceRow s (row.Push q to x) = ⊥
+IsServiceRow s (row.Spent p reference) = ⊥
+IsServiceRow s (row.Mark p id q) = ⊥
+IsServiceRow s (row.Reservation p id x) = ⊥
+IsServiceRow s (row.Pending p q x) = ⊥
+IsServiceRow s (row.Result p q x) = ⊥
+IsServiceRow s (row.Session x) = ⊥
+IsServiceRow s (row.Cdr x) = ⊥
+IsServiceRow s (row.Command q x) = ⊥
+
+of_serial : (last : ℕ) → AreExactly 4 (IsSerial last) (serial_rows last)
+of_serial last = go (nat_eq last 0) refl
+  where
+    parts : (r : Row) → IsSerial last r → part (key_of r) < 4
+    parts r (n, is, same, some) = subst (λ x. part (key_of x) < 4) (sym is) (omega arith)
+
+    go : (b : Bool) → nat_eq last 0 ≡ b → AreExactly 4 (IsSerial last) (cond b [] (row.Count counter.Serial last ∷ []))
+    go true e =
+        let zero : last ≡ 0 = eqb-true last 0 e in
+        record { exact = λ r. (λ h. absurd (in_none r h), λ h. absurd (h.3 (sym h.2 ∙ zero))); apart = no_pairs Apart; parts = parts }
+    go false e = record {
+      exact = λ r. (
+        λ h. (last, sym (in_single (row.Count counter.Serial last) r h), refl, λ zero. let t : nat_eq last 0 ≡ true = subst (λ z. nat_eq z 0 ≡ true) (sym zero) refl in cc),
+        λ h. subst (λ z. Contains (row.Count counter.Serial last ∷ []) z) (ap (row.Count counter.Serial) h.2 ∙ sym h.1) (in_front (row.Count counter.Serial last) []),
+      );
+      apart = joined Apart (row.Count counter.Serial last ∷ []) [] (λ i j d a b. absurd (omega arith)) (no_pairs Apart) (λ x y i j. absurd (in_none y j));
+      parts = parts;
+    }
+
+module _ (s : Rows) where
+  of_commands : (list : List Row) → command_lists.AreRowsOf list s.commands → AreExactly 1 (commands.HasRow s.commands) list
+  of_commands list h = record { exact = h.exact; apart = h.apart; parts = parts }
+    where
+      parts : (r : Row) → commands.HasRow s.commands r → part (key_of r) < 1
+      parts (row.Reply p n x) has = omega arith
+      parts (row.Pending p n x) has = omega arith
+      parts (row.Result p n x) has = omega arith
+      parts (row.Count c q) has = absurd has
+      parts (row.Token x) has = absurd has
+      parts (row.Push q to x) has = absurd has
+      parts (row.Service evse) has = absurd has
+      parts (row.Spent p reference) has = absurd has
+      parts (row.Mark p id q) has = absurd has
+      parts (row.Reservation p id x) has = absurd has
+      parts (row.Session x) has = absurd has
+      parts (row.Cdr x) has = absurd has
+      parts (row.Command q x) has = absurd has
+
+  booked_part : (r : Row) → booked.HasRow s.booked r → part (key_of r) ≡ 1
+  booked_part (row.Mark p id n) has = refl
+  booked_part (row.Reservation p id x) has = refl
+  booked_part (row.Count c q) has = absurd has
+  booked_part (row.Reply p q x) has = absurd has
+  booked_part (row.Token x) has = absurd has
+  booked_part (row.Push q to x) has = absurd has
+  booked_part (row.Service evse) has = absurd has
+  booked_part (row.Spent p reference) has = absurd has
+  booked_part (row.Pending p q x) has = absurd has
+  booked_part (row.Result p q x) has = absurd has
+  booked_part (row.Session x) has = absurd has
+  booked_part (row.Cdr x) has = absurd has
+  booked_part (row.Command q x) has = absurd has
+
+  of_booked : (list : List Row) → booked.AreRowsOf list s.booked → AreExactly 2 (booked.HasRow s.booked) list
+  of_booked list h = record { exact = h.exact; apart = h.apart; parts = λ r has. let is = booked_part r has in omega arith }
+
+  pushed_part : (r : Row) → outbox.HasRow (as_outbox s) r → part (key_of r) ≡ 2
+  pushed_part (row.Count counter.Request n) has = refl
+  pushed_part (row.Count counter.Serial n) has = absurd has
+  pushed_part (row.Count counter.Session n) has = absurd has
+  pushed_part (row.Count counter.Cdr n) has = absurd has
+  pushed_part (row.Count counter.Reference n) has = absurd has
+  pushed_part (row.Push n to x) has = refl
+  pushed_part (row.Command n x) has = refl
+  pushed_part (row.Reply p q x) has = absurd has
+  pushed_part (row.Token x) has = absurd has
+  pushed_part (row.Service evse) has = absurd has
+  pushed_part (row.Spent p reference) has = absurd has
+  pushed_part (row.Mark p id q) has = absurd has
+  pushed_part (row.Reservation p id x) has = absurd has
+  pushed_part (row.Pending p q x) has = absurd has
+  pushed_part (row.Result p q x) has = absurd has
+  pushed_part (row.Session x) has = absurd has
+  pushed_part (row.Cdr x) has = absurd has
+
+  of_pushed : (list : List Row) → outbox_lists.AreRowsOf list (as_outbox s) → AreExactly 3 (outbox.HasRow (as_outbox s)) list
+  of_pushed list h = record { exact = h.exact; apart = h.apart; parts = λ r has. let is = pushed_part r has in omega arith }
+
+  serial_part : (r : Row) → IsSerial s.serial r → part (key_of r) ≡ 3
+  serial_part r h = ap (λ z. part (key_of z)) h.1
+
+  spent_part : (r : Row) → IsSpentRow s r → part (key_of r) ≡ 4
+  spent_part (row.Spent p reference) has = refl
+  spent_part (row.Count c q) has = absurd has
+  spent_part (row.Reply p q x) has = absurd has
+  spent_part (row.Token x) has = absurd has
+  spent_part (row.Push q to x) has = absurd has
+  spent_part (row.Service evse) has = absurd has
+  spent_part (row.Mark p id q) has = absurd has
+  spent_part (row.Reservation p id x) has = absurd has
+  spent_part (row.Pending p q x) has = absurd has
+  spent_part (row.Result p q x) has = absurd has
+  spent_part (row.Session x) has = absurd has
+  spent_part (row.Cdr x) has = absurd has
+  spent_part (row.Command q x) has = absurd has
+
+  of_spent : AreExactly 5 (IsSpentRow s) (map spent_row (entries s.spent))
+  of_spent =
+      of_entries text_pair_total text_pair_exact s.spent spent_row (IsSpentRow s) 5 (λ q x e. e) made
+      (λ a b apart e. apart (let p : a.0.0 ≡ b.0.0 = cc in let n : a.0.1 ≡ b.0.1 = cc in λ i. (p i, n i))) (λ r has. let is = spent_part r has in omega arith)
+    where
+      made : (r : Row) → IsSpentRow s r → (q : List ℕ × List ℕ) × (x : Unit {0}) × (get s.spent q ≡ Some x) × (spent_row (q, x) ≡ r)
+      made (row.Spent p reference) h = ((p, reference), tt, h, refl)
+      made (row.Count c q) h = absurd h
+      made (row.Reply p q x) h = absurd h
+      made (row.Token x) h = absurd h
+      made (row.Push q to x) h = absurd h
+      made (row.Service evse) h = absurd h
+      made (row.Mark p id q) h = absurd h
+      made (row.Reservation p id x) h = absurd h
+      made (row.Pending p q x) h = absurd h
+      made (row.Result p q x) h = absurd h
+      made (row.Session x) h = absurd h
+      made (row.Cdr x) h = absurd h
+      made (row.Command q x) h = absurd h
+
+  service_part : (r : Row) → IsServiceRow s r → part (key_of r) ≡ 5
+  service_part (row.Service evse) has = refl
+  service_part (row.Count c q) has = absurd has
+  service_part (row.Reply p q x) has = absurd has
+  service_part (row.Token x) has = absurd has
+  service_part (row.Push q to x) has = absurd has
+  service_part (row.Spent p reference) has = absurd has
+  service_part (row.Mark p id q) has = absurd has
+  service_part (row.Reservation p id x) has = absurd has
+  service_part (row.Pending p q x) has = absurd has
+  service_part (row.Result p q x) has = absurd has
+  service_part (row.Session x) has = absurd has
+  service_part (row.Cdr x) has = absurd has
+  service_part (row.Command q x) has = absurd has
+
+  of_service : AreExactly 6 (IsServiceRow s) (map service_row (entries s.out_of_service))
+  of_service =
+      of_entries text_total text_exact s.out_of_service service_row (IsServiceRow s) 6 (λ q x e. e) made
+      (λ a b apart e. apart (let p : a.0 ≡ b.0 = cc in p)) (λ r has. let is = service_part r has in omega arith)
+    where
+      made : (r : Row) → IsServiceRow s r → (q : List ℕ) × (x : Unit {0}) × (get s.out_of_service q ≡ Some x) × (service_row (q, x) ≡ r)
+      made (row.Service evse) h = (evse, tt, h, refl)
+      made (row.Count c q) h = absurd h
+      made (row.Reply p q x) h = absurd h
+      made (row.Token x) h = absurd h
+      made (row.Push q to x) h = absurd h
+      made (row.Spent p reference) h = absurd h
+      made (row.Mark p id q) h = absurd h
+      made (row.Reservation p id x) h = absurd h
+      made (row.Pending p q x) h = absurd h
+      made (row.Result p q x) h = absurd h
+      made (row.Session x) h = absurd h
+      made (row.Cdr x) h = absurd h
+      made (row.Command q x) h = absurd h
+
+  -- a row of one of the parts
+  abbrev OfBooks : Row → Type 0
+  OfBooks r = commands.HasRow s.commands r ⊎ booked.HasRow s.booked r
+
+  abbrev WithPushed : Row → Type 0
+  WithPushed r = OfBooks r ⊎ outbox.HasRow (as_outbox s) r
+
+  abbrev WithSerial : Row → Type 0
+  WithSerial r = WithPushed r ⊎ IsSerial s.serial r
+
+  abbrev WithSpent : Row → Type 0
+  WithSpent r = WithSerial r ⊎ IsSpentRow s r
+
+  abbrev OfAny : Row → Type 0
+  OfAny r = WithSpent r ⊎ IsServiceRow s r
+
+  -- the rows of each part stand
+  command : (r : Row) → commands.HasRow s.commands r → HasRow s r
+  command (row.Reply p n x) h = h
+  command (row.Pending p n x) h = h
+  command (row.Result p n x) h = h
+  command (row.Count c q) h = absurd h
+  command (row.Token x) h = absurd h
+  command (row.Push q to x) h = absurd h
+  command (row.Service evse) h = absurd h
+  command (row.Spent p reference) h = absurd h
+  command (row.Mark p id q) h = absurd h
+  command (row.Reservation p id x) h = absurd h
+  command (row.Session x) h = absurd h
+  command (row.Cdr x) h = absurd h
+  command (row.Command q x) h = absurd h
+
+  of_book : (r : Row) → booked.HasRow s.booked r → HasRow s r
+  of_book (row.Mark p id n) h = h
+  of_book (row.Reservation p id x) h = h
+  of_book (row.Count c q) h = absurd h
+  of_book (row.Reply p q x) h = absurd h
+  of_book (row.Token x) h = absurd h
+  of_book (row.Push q to x) h = absurd h
+  of_book (row.Service evse) h = absurd h
+  of_book (row.Spent p reference) h = absurd h
+  of_book (row.Pending p q x) h = absurd h
+  of_book (row.Result p q x) h = absurd h
+  of_book (row.Session x) h = absurd h
+  of_book (row.Cdr x) h = absurd h
+  of_book (row.Command q x) h = absurd h
+
+  pushed : (r : Row) → outbox.HasRow (as_outbox s) r → HasRow s r
+  pushed (row.Count counter.Request n) h = h
+  pushed (row.Count counter.Serial n) h = absurd h
+  pushed (row.Count counter.Session n) h = absurd h
+  pushed (row.Count counter.Cdr n) h = absurd h
+  pushed (row.Count counter.Reference n) h = absurd h
+  pushed (row.Push n to x) h = h
+  pushed (row.Command n x) h = none_some x (sym (get-empty nat_cmp n) ∙ h)
+  pushed (row.Reply p q x) h = absurd h
+  pushed (row.Token x) h = absurd h
+  pushed (row.Service evse) h = absurd h
+  pushed (row.Spent p reference) h = absurd h
+  pushed (row.Mark p id q) h = absurd h
+  pushed (row.Reservation p id x) h = absurd h
+  pushed (row.Pending p q x) h = absurd h
+  pushed (row.Result p q x) h = absurd h
+  pushed (row.Session x) h = absurd h
+  pushed (row.Cdr x) h = absurd h
+
+  spent : (r : Row) → IsSpentRow s r → HasRow s r
+  spent (row.Spent p reference) h = h
+  spent (row.Count c q) h = absurd h
+  spent (row.Reply p q x) h = absurd h
+  spent (row.Token x) h = absurd h
+  spent (row.Push q to x) h = absurd h
+  spent (row.Service evse) h = absurd h
+  spent (row.Mark p id q) h = absurd h
+  spent (row.Reservation p id x) h = absurd h
+  spent (row.Pending p q x) h = absurd h
+  spent (row.Result p q x) h = absurd h
+  spent (row.Session x) h = absurd h
+  spent (row.Cdr x) h = absurd h
+  spent (row.Command q x) h = absurd h
+
+  service : (r : Row) → IsServiceRow s r → HasRow s r
+  service (row.Service evse) h = h
+  service (row.Count c q) h = absurd h
+  service (row.Reply p q x) h = absurd h
+  service (row.Token x) h = absurd h
+  service (row.Push q to x) h = absurd h
+  service (row.Spent p reference) h = absurd h
+  service (row.Mark p id q) h = absurd h
+  service (row.Reservation p id x) h = absurd h
+  service (row.Pending p q x) h = absurd h
+  service (row.Result p q x) h = absurd h
+  service (row.Session x) h = absurd h
+  service (row.Cdr x) h = absurd h
+  service (row.Command q x) h = absurd h
+
+  stands : (r : Row) → OfAny r → HasRow s r
+  stands r (inr h) = service r h
+  stands r (inl (inr h)) = spent r h
+  stands r (inl (inl (inr (n, is, same, some)))) = subst (HasRow s) (sym is) (same, some)
+  stands r (inl (inl (inl (inr h)))) = pushed r h
+  stands r (inl (inl (inl (inl (inr h))))) = of_book r h
+  stands r (inl (inl (inl (inl (inl h))))) = command r h
+
+  -- and each row that stands is of a part
+  of_part : (r : Row) → HasRow s r → OfAny r
+  of_part (row.Count counter.Serial n) h = inl (inl (inr (n, refl, h.0, h.1)))
+  of_part (row.Count counter.Request n) h = inl (inl (inl (inr h)))
+  of_part (row.Count counter.Session n) h = absurd h
+  of_part (row.Count counter.Cdr n) h = absurd h
+  of_part (row.Count counter.Reference n) h = absurd h
+  of_part (row.Reply p n x) h = inl (inl (inl (inl (inl h))))
+  of_part (row.Token x) h = absurd h
+  of_part (row.Push n to x) h = inl (inl (inl (inr h)))
+  of_part (row.Service evse) h = inr h
+  of_part (row.Spent p reference) h = inl (inr h)
+  of_part (row.Mark p id n) h = inl (inl (inl (inl (inr h))))
+  of_part (row.Reservation p id x) h = inl (inl (inl (inl (inr h))))
+  of_part (row.Pending p n x) h = inl (inl (inl (inl (inl h))))
+  of_part (row.Result p n x) h = inl (inl (inl (inl (inl h))))
+  of_part (row.Session x) h = absurd h
+  of_part (row.Cdr x) h = absurd h
+  of_part (row.Command n x) h = absurd h
+
+  module _ (xs ys zs : List Row) where
+    -- the rows of the books, and of the parts after them
+    abbrev of_books : List Row
+    of_books = (xs ++ ys) ++ zs
+
+    abbrev with_serial : List Row
+    with_serial = of_books ++ serial_rows s.serial
+
+    abbrev with_spent : List Row
+    with_spent = with_serial ++ map spent_row (entries s.spent)
+
+    -- the rows of all parts, one after the other
+    pub all_rows : command_lists.AreRowsOf xs s.commands → booked.AreRowsOf ys s.booked → outbox_lists.AreRowsOf zs (as_outbox s) → AreRowsOf (((xs ++ ys) ++ zs) ++ other_rows s) s
+    all_rows a b c = subst (λ l. AreRowsOf l s) regrouped (record { exact = λ r. (λ h. stands r ((all.exact r).0 h), λ h. (all.exact r).1 (of_part r h)); apart = all.apart })
+      where
+        two : AreExactly 2 OfBooks (xs ++ ys)
+        two = and_part 1 (commands.HasRow s.commands) (booked.HasRow s.booked) xs ys (of_commands xs a) (of_booked ys b) booked_part
+
+        three : AreExactly 3 WithPushed of_books
+        three = and_part 2 OfBooks (outbox.HasRow (as_outbox s)) (xs ++ ys) zs two (of_pushed zs c) pushed_part
+
+        four : AreExactly 4 WithSerial with_serial
+        four = and_part 3 WithPushed (IsSerial s.serial) of_books (serial_rows s.serial) three (of_serial s.serial) serial_part
+
+        five : AreExactly 5 WithSpent with_spent
+        five = and_part 4 WithSerial (IsSpentRow s) with_serial (map spent_row (entries s.spent)) four of_spent spent_part
+
+        all : AreExactly 6 OfAny (with_spent ++ map service_row (entries s.out_of_service))
+        all = and_part 5 WithSpent (IsServiceRow s) with_spent (map service_row (entries s.out_of_service)) five of_service service_part
+
+        regrouped : with_spent ++ map service_row (entries s.out_of_service) ≡ ((xs ++ ys) ++ zs) ++ other_rows s
+        regrouped = simp append_assoc

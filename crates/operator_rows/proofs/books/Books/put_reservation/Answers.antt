@@ -1,0 +1,13 @@
+use Rattle.std.proofs.Common.{sym, subst}
+use Rattle.ocpi_types.specs.declared.rows.RowKey.TheVariants as keys
+use Rattle.operator_rows.specs.contracts.books.Books.{the_view}
+use Rattle.operator_rows.specs.Steps.{Node}
+use Rattle.operator_rows.proofs.ClaimIndex.{IsTaken}
+use Rattle.operator_rows.proofs.KeepingRows.{kept_put_reserved}
+use Rattle.operator_rows.proofs.books.Books.put_reservation.Goals as goal
+
+pub invariant_of-self : goal.invariant_of-self
+invariant_of-self c =
+    let taken : IsTaken (the_view c.self.inside).state.rows (keys.Reservation c.args.provider c.args.reservation_id) c.held_by_reservation-before.result = subst (λ (h : Node). IsTaken h.state.rows (keys.Reservation c.args.provider c.args.reservation_id) c.held_by_reservation-before.result) (sym c.self.view_is) (c.held_by_reservation-before.ensures.taken, c.held_by_reservation-before.ensures.none) in
+    rw (c.put_row.ensures.rows, c.claim.ensures, c.release.ensures, c.key.ensures, c.deref.ensures)
+    (kept_put_reserved _ _ _ c.self.invariant c.args.provider c.args.reservation_id c.args.reservation _ taken (rw (← c.self.view_is) at c.requires.may))

@@ -1,0 +1,36 @@
+-- What a value of `Books` keeps together.
+use Rattle.std.specs.Prelude.{◌≡◌, ℕ}
+use Rattle.std.specs.FinMap.{empty}
+use Rattle.ocpi_types.specs.Parties.{SiteParties}
+use Rattle.site_book.specs.Sites.{Claims, SiteState}
+use Rattle.command_book.specs.Stored as commands
+use Rattle.reservation_book.specs.Rows as booked
+use Rattle.outbox.specs.Commands.{Commands}
+use Rattle.outbox.specs.Outbox.{HeldOutbox}
+use Rattle.operator_rows.specs.State.{State, Spent}
+use Rattle.operator_rows.specs.Claimed.{IsIndexed}
+use Rattle.operator_rows.specs.Sound.{IsSound}
+
+-- the state that the parts of an operator make up
+abbrev pub state_of : SiteParties → ℕ → commands.Rows → Spent → booked.Rows → HeldOutbox → SiteState → State
+state_of parties serial commands spent booked outbox site = record {
+  party = parties.operator;
+  providers = parties.providers;
+  site = site.site;
+  rows = record {
+    serial = serial;
+    request = outbox.rows.last;
+    commands = commands;
+    spent = spent;
+    booked = booked;
+    pushes = outbox.rows.pushes;
+    out_of_service = site.out_of_service;
+  };
+  resend = outbox.resend;
+}
+
+-- the claims are those of the rows, what holds of an operator at all times holds, and no command is kept that it sent
+pub record AreKept (claims : Claims) (s : State) (sent : Commands) : Type 0 where
+  pub indexed : IsIndexed claims s.rows
+  pub sound : IsSound s
+  pub none_sent : sent ≡ empty

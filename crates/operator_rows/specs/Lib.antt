@@ -1,0 +1,9 @@
+pub mod State
+pub mod Stored
+pub mod Claimed
+pub mod Sound
+pub mod Rows
+pub mod Steps
+pub mod Listing
+pub mod Kept
+pub mod RowLaws

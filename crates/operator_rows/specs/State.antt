@@ -1,0 +1,90 @@
+-- What an operator stores, and the claims that follow from it. Keys are in the form by which texts are compared.
+use Rattle.std.specs.Prelude.{◌≡◌, ℕ, List, Option, Some, None, ⊤}
+use Rattle.std.specs.FinMap.{FinMap, get, empty}
+use Rattle.ocpi_text.specs.Text.{key}
+use Rattle.tables.specs.Keys.{text_pair_cmp}
+use Rattle.ocpi_types.specs.declared.site.Site.{Site}
+use Rattle.ocpi_types.specs.declared.site.SiteLine.{SiteLine}
+use Rattle.ocpi_types.specs.declared.stored.Command.{Command}
+use Rattle.ocpi_types.specs.declared.stored.Command.TheVariants as command
+use Rattle.ocpi_types.specs.declared.stored.OpenCommand.{OpenCommand}
+use Rattle.ocpi_types.specs.declared.stored.Reservation.{Reservation}
+use Rattle.site_book.specs.declared.claim.Claim.{Claim}
+use Rattle.site_book.specs.declared.claim.Claim.TheVariants.{OpenStart, Live, Reserved}
+use Rattle.site_book.specs.Sites.{OutOfService}
+use Rattle.command_book.specs.Stored as commands
+use Rattle.reservation_book.specs.Rows as booked
+use Rattle.outbox.specs.Outbox.{OutboxRows}
+use Rattle.outbox.specs.Pushes.{Pushes}
+use Rattle.outbox.specs.Resend.{Resend}
+
+-- the authorization references that were used, by provider and reference
+abbrev pub Spent : Type 0
+Spent = FinMap text_pair_cmp (Unit {0})
+
+-- what an operator stores, part by part
+pub record Rows : Type 0 where
+  -- the number of the last packet that was sent
+  pub serial : ℕ
+  -- the number of the last request of its own
+  pub request : ℕ
+  -- the reply to each request, the commands that are open, and the results of commands
+  pub commands : commands.Rows
+  pub spent : Spent
+  -- the reservations that stand, and the marks of all that were ever spoken of
+  pub booked : booked.Rows
+  -- its own requests that are sent until they are acknowledged
+  pub pushes : Pushes
+  pub out_of_service : OutOfService
+
+pub record State : Type 0 where
+  pub party : List ℕ
+  pub providers : List (List ℕ)
+  pub site : Site
+  pub rows : Rows
+  -- the moment from which on each push is due again; one that has none is due at once. A restart empties it
+  pub resend : Resend
+
+abbrev pub no_rows : Rows
+no_rows = record { serial = 0; request = 0; commands = commands.no_rows; spent = empty; booked = booked.no_rows; pushes = empty; out_of_service = empty }
+
+-- before the first event
+abbrev pub opening : SiteLine → State
+opening line = record { party = line.parties.operator; providers = line.parties.providers; site = line.site; rows = no_rows; resend = empty }
+
+-- what an outbox keeps of the rows: an operator sends no commands
+abbrev pub as_outbox : Rows → OutboxRows
+as_outbox s = record { last = s.request; pushes = s.pushes; commands = empty }
+
+-- there is a reference, and the provider used it before
+abbrev pub IsSpent : Spent → List ℕ → Option (List ℕ) → Type 0
+IsSpent spent provider None = ⊥
+IsSpent spent provider (Some reference) = get spent (provider, key reference) ≡ Some tt
+
+-- the command is a start (OCPI 2.2.1, Commands: StartSession)
+abbrev pub IsStart : Command → Type 0
+IsStart (command.StartSession c) = ⊤
+IsStart (command.StopSession c) = ⊥
+IsStart (command.ReserveNow c) = ⊥
+IsStart (command.CancelReservation c) = ⊥
+IsStart (command.UnlockConnector c) = ⊥
+
+-- the open command is a start that took the EVSE of that key
+pub record Takes (o : OpenCommand) (evse : List ℕ) : Type 0 where
+  pub start : IsStart o.command
+  pub uid : List ℕ
+  pub named : o.evse_uid ≡ Some uid
+  pub same : key uid ≡ evse
+
+-- the claims on the EVSE of a key, gathered from the open starts and the reservations; there are no sessions yet
+abbrev pub HasClaim : Rows → List ℕ → Claim → Type 0
+HasClaim s evse (OpenStart p n) = (o : OpenCommand) × (get s.commands.pending (p, n) ≡ Some o) × Takes o evse
+HasClaim s evse (Live p session) = ⊥
+HasClaim s evse (Reserved p id) = (r : Reservation) × (get s.booked.reservations (p, id) ≡ Some r) × (key r.evse_uid ≡ evse)
+
+abbrev pub IsFree : Rows → List ℕ → Type 0
+IsFree s evse = (c : Claim) → HasClaim s evse c → ⊥
+
+-- no EVSE has two claims
+abbrev pub OneClaimEach : Rows → Type 0
+OneClaimEach s = (evse : List ℕ) (c d : Claim) → HasClaim s evse c → HasClaim s evse d → c ≡ d

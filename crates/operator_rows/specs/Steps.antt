@@ -1,0 +1,103 @@
+-- What a step leaves: its changes of rows are carried out, and what stands in no row follows.
+use Rattle.std.specs.Prelude.{◌≡◌, ◌≢◌, ◌⊎◌, ℕ, List, [], ◌∷◌, None, Contains, IsTrue}
+use Rattle.std.specs.List.{AllPairs}
+use Rattle.std.specs.FinMap.{get, insert, empty, contains_key}
+use Rattle.ocpi_types.specs.declared.rows.Change.{Change}
+use Rattle.ocpi_types.specs.declared.rows.Change.TheVariants.{Drop}
+use Rattle.ocpi_types.specs.declared.rows.RowKey.TheVariants as keys
+use Rattle.outbox.specs.Outbox.{request_of, without}
+use Rattle.outbox.specs.Pushes.{Pushes}
+use Rattle.outbox.specs.Resend.{Resend, SendRooms, HasRoomUntil, HasRoomToSend, due_again, moved_to}
+use Rattle.node_steps.specs.Drafts.{Step}
+use Rattle.node_steps.specs.declared.plan.Volatile.{Volatile}
+use Rattle.node_steps.specs.declared.plan.Volatile.TheVariants.{Sent}
+use Rattle.operator_rows.specs.State.{State}
+use Rattle.operator_rows.specs.Stored.{AreApart, Each, HasRoom, Rooms, changed, changed_all, change_key}
+use Rattle.operator_rows.specs.Sound.{MayChangeAll}
+
+-- a push that is put or dropped has no resend time
+abbrev pub untimed : Change → Resend → Resend
+untimed c m = without (request_of (change_key c)) m
+
+abbrev pub untimed_all : List Change → Resend → Resend
+untimed_all [] m = m
+untimed_all (c ∷ cs) m = untimed_all cs (untimed c m)
+
+-- a request that is sent at a moment is due again ten seconds later
+abbrev pub timed : Volatile → Resend → Resend
+timed (Sent n at) m = insert m n (due_again at)
+
+abbrev pub timed_all : List Volatile → Resend → Resend
+timed_all [] m = m
+timed_all (v ∷ vs) m = timed_all vs (timed v m)
+
+-- the state once a change is carried out
+abbrev pub after_change : Change → State → State
+after_change c s = record s { rows = changed c s.rows; resend = untimed c s.resend }
+
+-- and once changes are, one after the other
+abbrev pub after_changes : List Change → State → State
+after_changes cs s = record s { rows = changed_all cs s.rows; resend = untimed_all cs s.resend }
+
+-- and once a whole step is
+abbrev pub after : Step → State → State
+after x s = record s { rows = changed_all x.changes s.rows; resend = timed_all x.volatile (untimed_all x.changes s.resend) }
+
+-- the operator starts again from what it stored: each push is due at once
+abbrev pub restarted : State → State
+restarted s = record s { resend = empty }
+
+abbrev pub number_of : Volatile → ℕ
+number_of (Sent n at) = n
+
+-- a push that has no resend time, or that no change is of
+abbrev pub KeepsTime : Resend → List Change → ℕ → Type 0
+KeepsTime resend changes n = (get resend n ≡ None) ⊎ ((c : Change) → Contains changes c → change_key c ≢ keys.Push n)
+
+-- the requests that are sent stand once the changes are made, each is sent once, and the room for its resend time outlasts the
+-- changes
+pub record MaySend (s : State) (changes : List Change) (sent : List Volatile) : Type 0 where
+  pub stands : (v : Volatile) → Contains sent v → IsTrue (contains_key (changed_all changes s.rows).pushes (number_of v))
+  pub apart : AllPairs (λ v w. number_of v ≢ number_of w) sent
+  pub kept : (v : Volatile) → Contains sent v → KeepsTime s.resend changes (number_of v)
+
+-- a request whose room for a resend time outlasts the changes: they do not drop it, nor put it if it has such a time
+pub record Outlasts (resend : Resend) (changes : List Change) (n : ℕ) : Type 0 where
+  pub undropped : ¬ Contains changes (Drop (keys.Push n))
+  pub kept : KeepsTime resend changes n
+
+-- the room for the resend times of such requests stays
+abbrev pub KeepsTimeRoom : Resend → List Change → SendRooms → SendRooms → Type 0
+KeepsTimeRoom resend changes s t = (n moment : ℕ) → Outlasts resend changes n → HasRoomUntil s n moment → HasRoomUntil t n moment
+
+-- the step may be carried out
+pub record MayFollow (s : State) (x : Step) : Type 0 where
+  pub apart : AreApart x.changes
+  pub may : MayChangeAll s x.changes
+  pub sends : MaySend s x.changes x.volatile
+
+-- the state of an operator, and the room that is taken beside it
+pub record Node : Type 0 where
+  pub state : State
+  pub rooms : Rooms
+  pub sending : SendRooms
+
+abbrev pub HasTimeRoom : SendRooms → Volatile → Type 0
+HasTimeRoom rooms (Sent n at) = HasRoomToSend rooms n at
+
+-- the room by the old resend time of a request is given back, and that by the new one stays
+abbrev pub time_taken : Volatile → Resend → SendRooms → SendRooms
+time_taken (Sent n at) resend rooms = moved_to (due_again at) (get resend n) n rooms
+
+abbrev pub HaveTimeRoom : SendRooms → List Volatile → Type 0
+HaveTimeRoom rooms sent = (v : Volatile) → Contains sent v → HasTimeRoom rooms v
+
+-- each request that is sent is a push that stands, and no two are the same
+pub record AreSendable (pushes : Pushes) (sent : List Volatile) : Type 0 where
+  pub stands : (v : Volatile) → Contains sent v → IsTrue (contains_key pushes (number_of v))
+  pub apart : AllPairs (λ v w. number_of v ≢ number_of w) sent
+
+-- the step takes no memory
+pub record HasRoomFor (b : Node) (x : Step) : Type 0 where
+  pub changes : Each (HasRoom b.rooms) x.changes
+  pub volatile : HaveTimeRoom b.sending x.volatile

@@ -1,0 +1,18 @@
+//! What an operator stores: its rows, the claims on the site's EVSEs that follow from them, and the resend times of its pushes;
+//! and how a step that is decided is carried out.
+//!
+//! A step comes as a `Plan`. `Books::make_room` takes all the memory that it needs, and changes nothing that is stored;
+//! `Books::apply` then carries it out, takes no memory and cannot fail.
+#![tactic(auto)]
+
+mod books;
+mod claims;
+mod dropping;
+mod making_room;
+mod putting;
+mod row_laws;
+mod row_lists;
+mod stepping;
+
+pub use books::Books;
+pub use row_laws::{rows_change, stays_consistent, steps_stay_sound};

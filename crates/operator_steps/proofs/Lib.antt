@@ -1,0 +1,17 @@
+pub mod Orderly
+pub mod Fitting
+pub mod Sending
+pub mod Planning
+pub mod Counts
+pub mod Results
+pub mod Ends
+pub mod EndsFit
+pub mod Expiring
+pub mod Resending
+pub mod ServiceSteps
+pub mod ReportSteps
+pub mod DecidedSteps
+pub mod PacketSteps
+pub mod TickStages
+pub mod TickSteps
+pub mod TimingOut

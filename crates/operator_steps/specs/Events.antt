@@ -1,0 +1,46 @@
+-- The events of an operator, each with what it may leave.
+use Rattle.std.specs.Prelude.{◌≡◌, ℕ, Bool, List}
+use Rattle.ocpi_types.specs.declared.events.ChargerEvent.{ChargerEvent}
+use Rattle.ocpi_types.specs.declared.packet.Packet.{Packet}
+use Rattle.ocpi_types.specs.declared.rows.Change.{Change}
+use Rattle.node_steps.specs.Acts.{Act}
+use Rattle.operator_rows.specs.State.{State}
+use Rattle.operator_rows.specs.Steps.{restarted}
+use Rattle.operator_steps.specs.Moves.{Out, StepBy, idle}
+use Rattle.operator_steps.specs.Steps.{Comes}
+use Rattle.operator_steps.specs.Charger.{ChargerLine}
+use Rattle.operator_steps.specs.Tick.{TickLine}
+use Rattle.operator_steps.specs.Service.{ServiceLine}
+
+-- what reaches an operator: a packet comes at a moment, an EVSE goes out of service or comes back, a charge point reports at a
+-- moment, time passes, and the operator starts again from what it stored
+pub data Input : Type 0 where
+  Arrives : ℕ → Packet → Input
+  Serves : List ℕ → Bool → Input
+  Reports : ℕ → ChargerEvent → Input
+  Ticks : ℕ → Input
+  Restarts : Input
+
+-- what an input comes to, were there no last number. A new start is no list of acts
+abbrev pub Asks : State → Input → List Act → Type 0
+Asks s (Arrives at q) acts = Comes s at q acts
+Asks s (Serves evse in_service) acts = ServiceLine s evse in_service acts
+Asks s (Reports at report) acts = ChargerLine s at report acts
+Asks s (Ticks at) acts = TickLine s at acts
+Asks s Restarts acts = ⊥
+
+-- what reached the operator, the rows that it changed, and the packets that it sent
+pub record Event : Type 0 where
+  pub input : Input
+  pub changes : List Change
+  pub packets : List Packet
+
+abbrev pub event_out : Event → State → Out
+event_out e t = record { state = t; changes = e.changes; packets = e.packets }
+
+-- an event leads from one state to another: the operator does what the input asks for, or starts again; or the event is refused,
+-- by the operator or by the keeper of its rows, and then nothing changes and nothing is sent
+pub data Happens (s : State) (e : Event) (t : State) : Type 0 where
+  Done : StepBy (Asks s e.input) s (event_out e t) → Happens s e t
+  Restarted : e.input ≡ Restarts → event_out e t ≡ idle (restarted s) → Happens s e t
+  Refused : event_out e t ≡ idle s → Happens s e t

@@ -1,0 +1,29 @@
+-- What follows for each step of an operator.
+use Rattle.std.specs.Prelude.{ℕ, List, Bool}
+use Rattle.ocpi_types.specs.declared.events.ChargerEvent.{ChargerEvent}
+use Rattle.ocpi_types.specs.declared.packet.Packet.{Packet}
+use Rattle.node_steps.specs.Acts.{Act}
+use Rattle.operator_rows.specs.State.{State}
+use Rattle.operator_rows.specs.Sound.{IsConsistent}
+use Rattle.operator_rows.specs.Steps.{MayFollow}
+use Rattle.operator_steps.specs.Moves.{Stage, step_of_acts}
+use Rattle.operator_steps.specs.Steps.{Comes}
+use Rattle.operator_steps.specs.Charger.{ChargerLine}
+use Rattle.operator_steps.specs.Service.{ServiceLine}
+use Rattle.operator_steps.specs.Tick.{TickLine}
+
+-- where what holds at all times holds, what the line asks for may be carried out
+abbrev pub MayBeCarriedOut : Stage → Type 0
+MayBeCarriedOut Line = (s : State) (acts : List Act) → IsConsistent s → Line s acts → MayFollow s (step_of_acts s acts)
+
+abbrev pub PacketsMayFollow : Type 0
+PacketsMayFollow = (at : ℕ) (q : Packet) → MayBeCarriedOut (λ s. Comes s at q)
+
+abbrev pub ReportsMayFollow : Type 0
+ReportsMayFollow = (at : ℕ) (report : ChargerEvent) → MayBeCarriedOut (λ s. ChargerLine s at report)
+
+abbrev pub ServiceMayFollow : Type 0
+ServiceMayFollow = (evse : List ℕ) (in_service : Bool) → MayBeCarriedOut (λ s. ServiceLine s evse in_service)
+
+abbrev pub TicksMayFollow : Type 0
+TicksMayFollow = (at : ℕ) → MayBeCarriedOut (λ s. TickLine s at)

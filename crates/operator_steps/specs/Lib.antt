@@ -1,0 +1,11 @@
+pub mod Moves
+pub mod Acts
+pub mod Steps
+pub mod Ends
+pub mod Charger
+pub mod Tick
+pub mod Service
+pub mod Faults
+pub mod Events
+pub mod Facts
+pub mod TickFacts

@@ -1,0 +1,66 @@
+-- What the tables ask of claims and of reservations for a token.
+use Rattle.std.proofs.Common.{◌≡◌, ℕ, Bool, true, false, List, refl, sym, ap, subst, ◌∙◌}
+use Rattle.std.specs.Prelude.{Option, Some, None, IsTrue, is_some, not, ◌&&◌}
+use Rattle.std.specs.FinMap.{get, contains_key}
+use Rattle.ocpi_text.specs.Text.{key}
+use Rattle.ocpi_types.specs.declared.site.Location.{Location}
+use Rattle.ocpi_types.specs.declared.site.Evse.{Evse}
+use Rattle.ocpi_types.specs.declared.site.Connector.{Connector}
+use Rattle.ocpi_types.specs.declared.commands.StartSession.{StartSession}
+use Rattle.reservation_book.specs.declared.standing.Standing.{Standing}
+use Rattle.reservation_book.specs.Tokens.{IsFor}
+use Rattle.site_book.specs.declared.claim.Claim.{Claim}
+use Rattle.site_book.specs.Sites.{Claims, OutOfService, is_free, works}
+use Rattle.operator_rows.specs.State.{Rows, HasClaim, IsFree}
+use Rattle.operator_rows.specs.Claimed.{IsIndexed}
+use Rattle.operator_tables.specs.Places.{IsHeldFor, token_at}
+use Rattle.operator_tables.specs.Start.{NoneHeld}
+use Rattle.operator_tables.specs.Held.{token_of, IsHeldBy, HasNoHeld}
+
+neither : (a b : Bool) → IsTrue (not a && not b) → (a ≡ false) × IsTrue (not b)
+neither true b h = absurd (let f : false ≡ true = h in cc)
+neither false b h = (refl, h)
+
+module _ (claims : Claims) (out : OutOfService) (s : Rows) (h : IsIndexed claims s) (evse : List ℕ) where
+  -- an EVSE has one claim
+  pub only_claim : (c d : Claim) → HasClaim s evse c → HasClaim s evse d → d ≡ c
+  only_claim c d one other =
+      let a : get claims evse ≡ Some c = (h evse c).1 one in
+      let b : get claims evse ≡ Some d = (h evse d).1 other in
+      cc
+
+  -- an EVSE is free where it has no claim among the kept ones and is in service
+  pub in_service : IsTrue (is_free claims out evse) → IsTrue (works out evse)
+  in_service free = (neither _ _ free).1
+
+  pub unclaimed : IsTrue (is_free claims out evse) → IsFree s evse
+  unclaimed free c has =
+      let there : contains_key claims evse ≡ true = ap is_some ((h evse c).1 has) in
+      let never : true ≡ false = sym there ∙ (neither _ _ free).0 in cc
+
+  pub free_of : IsFree s evse → IsTrue (works out evse) → IsTrue (is_free claims out evse)
+  free_of free serves = go (get claims evse) refl
+    where
+      go : (o : Option Claim) → get claims evse ≡ o → IsTrue (is_free claims out evse)
+      go None e = ap (λ (o : Option Claim). not (is_some o) && works out evse) e ∙ serves
+      go (Some d) e = absurd (free d ((h evse d).0 e))
+
+  -- an EVSE that works is free, or has a claim
+  pub works_free : IsTrue (works out evse) → (IsTrue (is_free claims out evse) → ⊥) → (c : Claim) × HasClaim s evse c
+  works_free work not_free = go (get claims evse) refl
+    where
+      go : (o : Option Claim) → get claims evse ≡ o → (c : Claim) × HasClaim s evse c
+      go None e = absurd (not_free (ap (λ (o : Option Claim). not (is_some o) && works out evse) e ∙ work))
+      go (Some c) e = (c, (h evse c).0 e)
+
+module _ (s : Rows) (sender : List ℕ) (c : StartSession) (l : Location) (same : key l.id ≡ key c.location_id) where
+  same_token : token_of (key sender) c ≡ token_at sender c.token l
+  same_token = λ i. record { provider = key sender; location_id = sym same i; uid = key c.token.uid; token_type = c.token.token_type }
+
+  -- what is held for the token at the location that the command names is held for it at that location
+  pub held_for : (x : Standing) (e : Evse) (k : Connector) → IsHeldBy s (token_of (key sender) c) c l x e k → IsHeldFor s sender c.token l e x
+  held_for x e k h = record { is_for = subst (λ t. IsFor s.booked.reservations t x) same_token h.is_for; here = h.here }
+
+  pub none_held : HasNoHeld s (token_of (key sender) c) c l → NoneHeld s sender c l
+  none_held none f j x place serves held =
+      none x f j (record { place = place; works = serves; is_for = subst (λ t. IsFor s.booked.reservations t x) (sym same_token) held.is_for; here = held.here })

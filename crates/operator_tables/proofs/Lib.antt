@@ -1,0 +1,5 @@
+pub mod HeldSearch
+pub mod FreePlaces
+pub mod Reserving
+pub mod Bodies
+pub mod Lines

@@ -1,0 +1,9 @@
+pub mod Places
+pub mod Start
+pub mod Held
+pub mod Reserve
+pub mod Cancel
+pub mod Stop
+pub mod Unlock
+pub mod Decides
+pub mod Outcomes

@@ -1,0 +1,5 @@
+pub mod FaultText
+pub mod Flags
+pub mod Indexes
+pub mod Positions
+pub mod Sites
