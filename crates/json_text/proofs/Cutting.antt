@@ -19,33 +19,33 @@ pub record Cut (text : List ℕ) : Type 0 where
   pub ends : Last rest last
 
 -- the text as the rest of a number token, and what follows
-record Run (text : List ℕ) : Type 0 where
-  digits : List ℕ
-  after : List ℕ
-  parts : text ≡ digits ++ after
-  goes_on : list_all is_number_char digits ≡ true
-  stops : Stops after
-  cut : Cut after
+pub record Run (text : List ℕ) : Type 0 where
+  pub digits : List ℕ
+  pub after : List ℕ
+  pub parts : text ≡ digits ++ after
+  pub goes_on : list_all is_number_char digits ≡ true
+  pub stops : Stops after
+  pub cut : Cut after
 
 -- the text as the rest of a string, and what follows
-record Body (text : List ℕ) : Type 0 where
-  characters : List Character
-  ending : Ending
-  after : List ℕ
-  parts : text ≡ (characters_text characters ++ ending_text ending) ++ after
-  are : AreCharacters characters
-  ends : EndsBefore ending after
-  cut : Cut after
+pub record Body (text : List ℕ) : Type 0 where
+  pub characters : List Character
+  pub ending : Ending
+  pub after : List ℕ
+  pub parts : text ≡ (characters_text characters ++ ending_text ending) ++ after
+  pub are : AreCharacters characters
+  pub ends : EndsBefore ending after
+  pub cut : Cut after
 
-record Cuts (text : List ℕ) : Type 0 where
-  cut : Cut text
-  run : Run text
-  body : Body text
-  escape : Body (92 ∷ text)
+pub record Cuts (text : List ℕ) : Type 0 where
+  pub cut : Cut text
+  pub run : Run text
+  pub body : Body text
+  pub escape : Body (92 ∷ text)
 
 -- ---- whether a string begins with its tag
 
-data Begins (front text : List ℕ) : Type 0 where
+pub data Begins (front text : List ℕ) : Type 0 where
   begins : (more : List ℕ) → text ≡ front ++ more → Begins front text
   differs : ((more : List ℕ) → text ≡ front ++ more → ⊥) → Begins front text
 
@@ -54,7 +54,7 @@ begins_by x y front text false e h = differs (λ more is. absurd (test_is_not y 
 begins_by x y front text true e (begins more is) = begins more (first_is y x text (front ++ more) (test_is y x e) is)
 begins_by x y front text true e (differs n) = differs (λ more is. n more (cc is))
 
-begins_with : (front text : List ℕ) → Begins front text
+pub begins_with : (front text : List ℕ) → Begins front text
 begins_with [] text = begins text refl
 begins_with (x ∷ front) [] = differs (λ more is. absurd (cc is))
 begins_with (x ∷ front) (y ∷ text) = begins_by x y front text (y == x) refl (begins_with front text)
@@ -118,7 +118,7 @@ body_by c text false false h g k = plain_body c text (test_is_not c 34 h) (test_
 abbrev nothing : Cut []
 nothing = record { pieces = []; rest = []; last = Ok []; are = tt; parts = refl; ends = whole refl refl }
 
-cuts : (text : List ℕ) → Cuts text
+pub cuts : (text : List ℕ) → Cuts text
 cuts [] = record {
   cut = nothing;
   run = record { digits = []; after = []; parts = refl; goes_on = refl; stops = tt; cut = nothing };

@@ -7,6 +7,8 @@ pub mod Digits
 pub mod Elements
 pub mod Exact
 pub mod Fails
+pub mod FaultyTexts
+pub mod FaultyTrees
 pub mod JsonNumbers
 pub mod LineTrees
 pub mod Listing
@@ -28,6 +30,9 @@ pub mod TaggedTrees
 pub mod Tags
 pub mod TextBytes
 pub mod TextTrees
+pub mod TreeViews
 pub mod UnquoteRuns
+pub mod UntaggedStrings
 pub mod Unquoting
 pub mod WellFormed
+pub mod WholeNumbers

@@ -15,7 +15,7 @@ use Rattle.ocpi_types.specs.declared.field.Field.{Field}
 use Rattle.ocpi_types.specs.declared.field.Field.TheVariants as field
 use Rattle.ocpi_types.specs.Fields.{name_of}
 use Rattle.json_text.specs.Fits.{FitsCi, FitsFree, FitsOption, FitsOptionalMoment, FitsQuantity}
-use Rattle.json_text.specs.Form.{Has, Required, Lacks, Optional, IsText, IsCi, IsFree, IsParty, IsMoment, IsWhole, IsE4, IsWord, IsTruth, IsQuantity, IsRecord, HasParty, AreItems, IsList}
+use Rattle.json_text.specs.Form.{Has, Required, Lacks, Optional, IsCi, IsFree, IsParty, IsMoment, IsWhole, IsE4, IsWord, IsTruth, IsQuantity, IsRecord, HasParty, AreItems, IsList}
 use Rattle.json_text.specs.Members.{Member, object_of, items_of, objects, strings}
 use Rattle.json_text.specs.Tag.{is_tagged}
 use Rattle.json_text.proofs.Tagged.{tagged, tagged_items, ascends, lookup, get_is}

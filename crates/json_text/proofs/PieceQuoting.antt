@@ -155,14 +155,14 @@ not_whole : (c : ℕ) (s : List ℕ) (b : Bool) → begins_number c ≡ true →
 not_whole c s true h e n = absurd (n (json_from_places c s h e))
 not_whole c s false h e n = refl
 
-token_fails : (token after : List ℕ) → IsToken token after → ¬ (IsJsonNumber token) → quote_from Between (token ++ after) ≡ Err BadNumberToken
+pub token_fails : (token after : List ℕ) → IsToken token after → ¬ (IsJsonNumber token) → quote_from Between (token ++ after) ≡ Err BadNumberToken
 token_fails token after t n =
     let bad : is_whole (place_after (first_place t.first) t.more) ≡ false = not_whole t.first t.more _ t.begins refl (λ j. n (subst IsJsonNumber (sym t.is) j)) in
     ap (λ (x : List ℕ). quote_from Between (x ++ after)) t.is
     ∙ number_begins t.first (t.more ++ after) t.begins
     ∙ ap (before (34 ∷ 92 ∷ 117 ∷ 48 ∷ 48 ∷ 48 ∷ 49 ∷ t.first ∷ [])) (number_run (first_place t.first) t.more after t.goes_on ∙ ap (before t.more) (number_fails _ after bad t.stops))
 
-tag_fails : (after : List ℕ) → quote_from Between (codes "\"\\u0001" ++ after) ≡ Err TaggedText
+pub tag_fails : (after : List ℕ) → quote_from Between (codes "\"\\u0001" ++ after) ≡ Err TaggedText
 unfolding quote_from next_mode
 tag_fails after = refl
 

@@ -1,5 +1,5 @@
 -- The text of a well formed JSON value is read as its tree.
-use Rattle.std.proofs.Common.{◌≡◌, ℕ, ◌≤◌, false, List, [], ◌∷◌, length, Some, Ok, option_map, Greater, refl, sym, ap, subst, ◌∙◌, append-nil}
+use Rattle.std.proofs.Common.{◌≡◌, ℕ, ◌≤◌, List, [], length, Some, Ok, option_map, Greater, refl, sym, ap, subst, ◌∙◌, append-nil}
 use Rattle.std.specs.Str.{IsUtf8}
 use Rattle.json.specs.Token.{Token}
 use Rattle.json.specs.Lex.{tokens}
@@ -14,7 +14,6 @@ use Rattle.json_text.specs.Line.{max_line, tree_at}
 use Rattle.json_text.specs.Members.{Member, object_of, json_text, said}
 use Rattle.json_text.specs.Tagged as one
 use Rattle.json_text.specs.Tagged.{tree_in}
-use Rattle.json_text.specs.Tag.{is_tagged}
 use Rattle.json_text.proofs.MemberForms.{tree}
 use Rattle.json_text.proofs.Said.{said_is}
 use Rattle.json_text.proofs.Tagged.{cmp, tagged, tagged_items, tagged_members}

@@ -53,7 +53,7 @@ put_by q k l d e ms Greater is within =
     ∙ two_names (bytes_eq q k) (bytes_eq q l) (Some d) (Some e) (get_member q ms) (λ x y. not_above k l is (sym ((bytes_eq-Decides q k).0 x) ∙ (bytes_eq-Decides q l).0 y))
     ∙ ap (λ (o : Option Data). cond (bytes_eq q k) (Some d) o) (sym (look q l e ms))
 
-get_put : (q k : List ℕ) (d : Data) (ms : Members) → get_member q (put k d ms) ≡ cond (bytes_eq q k) (Some d) (get_member q ms)
+pub get_put : (q k : List ℕ) (d : Data) (ms : Members) → get_member q (put k d ms) ≡ cond (bytes_eq q k) (Some d) (get_member q ms)
 get_put q k d no_members = look q k d no_members
 get_put q k d (member l e ms) = put_by q k l d e ms (slice_cmp nat_cmp k l) refl (get_put q k d ms)
 

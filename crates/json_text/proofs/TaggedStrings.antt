@@ -28,15 +28,15 @@ record Closed (w : Within) (xs s : List ℕ) : Type 0 where
 
 -- ---- cases
 
-either : (G : Type 0) (s : List ℕ) (b : Bool) (x y : Option (List ℕ)) → cond b x y ≡ Some s → (b ≡ true → x ≡ Some s → G) → (b ≡ false → y ≡ Some s → G) → G
+pub either : (G : Type 0) (s : List ℕ) (b : Bool) (x y : Option (List ℕ)) → cond b x y ≡ Some s → (b ≡ true → x ≡ Some s → G) → (b ≡ false → y ≡ Some s → G) → G
 either G s true x y e f g = f refl e
 either G s false x y e f g = g refl e
 
-bound : (f : ℕ → Option (List ℕ)) (o : Option ℕ) (s : List ℕ) → option_and_then f o ≡ Some s → (u : ℕ) × (o ≡ Some u) × (f u ≡ Some s)
+pub bound : (f : ℕ → Option (List ℕ)) (o : Option ℕ) (s : List ℕ) → option_and_then f o ≡ Some s → (u : ℕ) × (o ≡ Some u) × (f u ≡ Some s)
 bound f None s e = absurd cc
 bound f (Some u) s e = (u, refl, e)
 
-behind : (bytes : List ℕ) (o : Option (List ℕ)) (s : List ℕ) → prepend bytes o ≡ Some s → (t : List ℕ) × (o ≡ Some t) × (Some (bytes ++ t) ≡ Some s)
+pub behind : (bytes : List ℕ) (o : Option (List ℕ)) (s : List ℕ) → prepend bytes o ≡ Some s → (t : List ℕ) × (o ≡ Some t) × (Some (bytes ++ t) ≡ Some s)
 behind bytes None s e = absurd cc
 behind bytes (Some t) s e = (t, refl, e)
 

@@ -72,21 +72,22 @@ clean_rest [] more h = h
 clean_rest (l ∷ ls) more h = clean_rest ls more h.1
 
 -- the front of a text, of one lexeme or a space, and what quoting makes of it
-record Front (text : List ℕ) : Type 0 where
-  lexemes : List Lexeme
-  after : List ℕ
-  front : List ℕ
-  lexes : lex between text ≡ lexemes ++ lex between after
-  quotes : quote_from Between text ≡ before front (quote_from Between after)
-  again : (rest : List ℕ) → quote_from Between after ≡ Ok rest → lex between (front ++ rest) ≡ map tag_lexeme lexemes ++ lex between rest
-  shorter : length after < length text
+pub record Front (text : List ℕ) : Type 0 where
+  pub lexemes : List Lexeme
+  pub after : List ℕ
+  pub front : List ℕ
+  pub lexes : lex between text ≡ lexemes ++ lex between after
+  pub quotes : quote_from Between text ≡ before front (quote_from Between after)
+  pub again : (rest : List ℕ) → quote_from Between after ≡ Ok rest → lex between (front ++ rest) ≡ map tag_lexeme lexemes ++ lex between rest
+  pub shorter : length after < length text
+  pub are_clean : AreCleanLexemes lexemes
 
 -- ---- operators and spaces
 
 class_is : (c : ℕ) (a b o s : Bool) → (c == 34) ≡ a → (c == 92) ≡ b → is_operator c ≡ o → is_space c ≡ s → class c ≡ cond a quote (cond b backslash (cond o operator (cond s space other)))
 class_is c a b o s ea eb eo es = rw (ea, eb, eo, es) refl
 
-lex_as : (c : ℕ) (cs : List ℕ) (k : Class) → class c ≡ k → lex between (c ∷ cs) ≡ lex_byte between k c cs (λ m. lex m cs)
+pub lex_as : (c : ℕ) (cs : List ℕ) (k : Class) → class c ≡ k → lex between (c ∷ cs) ≡ lex_byte between k c cs (λ m. lex m cs)
 unfolding lex
 lex_as c cs k e = ap (λ (k : Class). lex_byte between k c cs (λ m. lex m cs)) e
 
@@ -99,19 +100,28 @@ tag_operator c =
     tag_either (c == 123) (token begin_object) _ refl (tag_either (c == 125) (token end_object) _ refl (tag_either (c == 91) (token begin_array) _ refl
     (tag_either (c == 93) (token end_array) _ refl (tag_either (c == 44) comma colon refl refl))))
 
--- what ends a word begins no number and no string, and is in no number
-record IsDelimiter (c : ℕ) : Type 0 where
-  quote_not : c ≢ 34
-  number_not : begins_number c ≡ false
-  char_not : is_number_char c ≡ false
+either_clean : (b : Bool) (x y : Lexeme) → IsCleanLexeme x → IsCleanLexeme y → IsCleanLexeme (cond b x y)
+either_clean true x y e f = e
+either_clean false x y e f = f
 
-delimiter : (c : ℕ) → (is_operator c || is_space c) ≡ true → IsDelimiter c
+operator_clean : (c : ℕ) → IsCleanLexeme (operator_lexeme c)
+operator_clean c =
+    either_clean (c == 123) (token begin_object) _ tt (either_clean (c == 125) (token end_object) _ tt (either_clean (c == 91) (token begin_array) _ tt
+    (either_clean (c == 93) (token end_array) _ tt (either_clean (c == 44) comma colon tt tt))))
+
+-- what ends a word begins no number and no string, and is in no number
+pub record IsDelimiter (c : ℕ) : Type 0 where
+  pub quote_not : c ≢ 34
+  pub number_not : begins_number c ≡ false
+  pub char_not : is_number_char c ≡ false
+
+pub delimiter : (c : ℕ) → (is_operator c || is_space c) ≡ true → IsDelimiter c
 delimiter c h = record { quote_not = λ e. grind (arith, nat_tests); number_not = grind (arith, nat_tests); char_not = grind (arith, nat_tests) }
 
 copied : (c : ℕ) (cs : List ℕ) → IsDelimiter c → quote_from Between (c ∷ cs) ≡ before (c ∷ []) (quote_from Between cs)
 copied c cs d = piece_quotes (pieces.other c) cs (d.quote_not, d.number_not)
 
-operator_front : (c : ℕ) (cs : List ℕ) → class c ≡ operator → IsDelimiter c → Front (c ∷ cs)
+pub operator_front : (c : ℕ) (cs : List ℕ) → class c ≡ operator → IsDelimiter c → Front (c ∷ cs)
 operator_front c cs k d = record {
   lexemes = operator_lexeme c ∷ [];
   after = cs;
@@ -120,9 +130,10 @@ operator_front c cs k d = record {
   quotes = copied c cs d;
   again = λ rest e. lex_as c rest operator k ∙ ap (λ (l : Lexeme). l ∷ lex between rest) (sym (tag_operator c));
   shorter = omega arith;
+  are_clean = (operator_clean c, tt);
 }
 
-space_front : (c : ℕ) (cs : List ℕ) → class c ≡ space → IsDelimiter c → Front (c ∷ cs)
+pub space_front : (c : ℕ) (cs : List ℕ) → class c ≡ space → IsDelimiter c → Front (c ∷ cs)
 space_front c cs k d = record {
   lexemes = [];
   after = cs;
@@ -131,6 +142,7 @@ space_front c cs k d = record {
   quotes = copied c cs d;
   again = λ rest e. lex_as c rest space k;
   shorter = omega arith;
+  are_clean = tt;
 }
 
 -- ---- where a word ends, it ends also in the quoted text
@@ -148,7 +160,7 @@ ends_again (c ∷ cs) rest h e =
 
 -- ---- literals
 
-true_front : (after : List ℕ) → ends_word after ≡ true → Front (116 ∷ 114 ∷ 117 ∷ 101 ∷ after)
+pub true_front : (after : List ℕ) → ends_word after ≡ true → Front (116 ∷ 114 ∷ 117 ∷ 101 ∷ after)
 unfolding lex word
 true_front after h = record {
   lexemes = token (boolean true) ∷ [];
@@ -158,9 +170,10 @@ true_front after h = record {
   quotes = (copies_more 116 (114 ∷ 117 ∷ 101 ∷ []) refl (copies_more 114 (117 ∷ 101 ∷ []) refl (copies_more 117 (101 ∷ []) refl (copies_char 101 refl)))) after;
   again = λ rest e. let g = ends_again after rest h e in ap₂ (λ b l. token (cond b (boolean true) bad) ∷ l) g (in_word-ended rest g);
   shorter = omega arith;
+  are_clean = (tt, tt);
 }
 
-false_front : (after : List ℕ) → ends_word after ≡ true → Front (102 ∷ 97 ∷ 108 ∷ 115 ∷ 101 ∷ after)
+pub false_front : (after : List ℕ) → ends_word after ≡ true → Front (102 ∷ 97 ∷ 108 ∷ 115 ∷ 101 ∷ after)
 unfolding lex word
 false_front after h = record {
   lexemes = token (boolean false) ∷ [];
@@ -170,9 +183,10 @@ false_front after h = record {
   quotes = (copies_more 102 (97 ∷ 108 ∷ 115 ∷ 101 ∷ []) refl (copies_more 97 (108 ∷ 115 ∷ 101 ∷ []) refl (copies_more 108 (115 ∷ 101 ∷ []) refl (copies_more 115 (101 ∷ []) refl (copies_char 101 refl))))) after;
   again = λ rest e. let g = ends_again after rest h e in ap₂ (λ b l. token (cond b (boolean false) bad) ∷ l) g (in_word-ended rest g);
   shorter = omega arith;
+  are_clean = (tt, tt);
 }
 
-null_front : (after : List ℕ) → ends_word after ≡ true → Front (110 ∷ 117 ∷ 108 ∷ 108 ∷ after)
+pub null_front : (after : List ℕ) → ends_word after ≡ true → Front (110 ∷ 117 ∷ 108 ∷ 108 ∷ after)
 unfolding lex word
 null_front after h = record {
   lexemes = token null ∷ [];
@@ -182,9 +196,10 @@ null_front after h = record {
   quotes = (copies_more 110 (117 ∷ 108 ∷ 108 ∷ []) refl (copies_more 117 (108 ∷ 108 ∷ []) refl (copies_more 108 (108 ∷ []) refl (copies_char 108 refl)))) after;
   again = λ rest e. let g = ends_again after rest h e in ap₂ (λ b l. token (cond b null bad) ∷ l) g (in_word-ended rest g);
   shorter = omega arith;
+  are_clean = (tt, tt);
 }
 
-same_front : (name t : List ℕ) → pointwise nat_eq name (take (length name) t) ≡ true → t ≡ name ++ drop (length name) t
+pub same_front : (name t : List ℕ) → pointwise nat_eq name (take (length name) t) ≡ true → t ≡ name ++ drop (length name) t
 same_front [] t e = refl
 same_front (n ∷ name) [] e = absurd cc
 same_front (n ∷ name) (x ∷ xs) e =
@@ -200,11 +215,11 @@ literal_by name t k true e h f =
 
 -- ---- numbers
 
-lex_quoted : (s rest : List ℕ) → lex between (quoted s ++ rest) ≡ token (string s) ∷ lex between rest
+pub lex_quoted : (s rest : List ℕ) → lex between (quoted s ++ rest) ≡ token (string s) ∷ lex between rest
 unfolding lex
 lex_quoted s rest = ap (λ l. lex between (34 ∷ l)) (append_assoc (escape s) (34 ∷ []) rest) ∙ ap₂ (λ o l. token (string_token o) ∷ l) (content-escape s rest) (lex-escape s rest)
 
-number_front : (number after : List ℕ) → IsJsonNumber number → IsNumber number → ends_word after ≡ true → Front (number ++ after)
+pub number_front : (number after : List ℕ) → IsJsonNumber number → IsNumber number → ends_word after ≡ true → Front (number ++ after)
 number_front [] after json is h = absurd (no_empty_number json)
 number_front (c ∷ cs) after json is h = record {
   lexemes = token (number (c ∷ cs)) ∷ [];
@@ -214,6 +229,7 @@ number_front (c ∷ cs) after json is h = record {
   quotes = piece_quotes (pieces.number (c ∷ cs)) after (json, stops after h);
   again = λ rest e. ap (λ (t : List ℕ). lex between (t ++ rest)) (sym (quoted_number c cs (number_from_json c cs json))) ∙ lex_quoted (1 ∷ c ∷ cs) rest;
   shorter = omega (arith, length-append (c ∷ cs) after);
+  are_clean = (tt, tt);
 }
 
 ended_by : (t rest : List ℕ) (b : Bool) → ends_word rest ≡ b → after_number t ≡ Some rest → (k : Token) → IsClean (cond b k bad) → Front t
@@ -248,7 +264,7 @@ string_lexes : (cs s rest : List ℕ) → content plain (cs ++ 34 ∷ rest) ≡ 
 unfolding lex
 string_lexes cs s rest e l = ap₂ (λ o l. token (string_token o) ∷ l) e l
 
-string_front : (xs s : List ℕ) → IsString xs s → is_tagged s ≡ false → Front (34 ∷ xs)
+pub string_front : (xs s : List ℕ) → IsString xs s → is_tagged s ≡ false → Front (34 ∷ xs)
 string_front xs s st clean =
     let text = characters_text st.characters in
     let lexes : (rest : List ℕ) → lex between (34 ∷ (text ++ 34 ∷ rest)) ≡ token (string s) ∷ lex between rest =
@@ -264,6 +280,7 @@ string_front xs s st clean =
       quotes = ap (quote_from Between) (sym (joined st.after)) ∙ piece_quotes (pieces.string st.characters pieces.closed) st.after (st.are, tt, untagged);
       again = λ rest e. ap (lex between) (joined rest) ∙ lexes rest;
       shorter = omega (arith, length-append text (34 ∷ st.after));
+      are_clean = (clean, tt);
     })
 
 string_by : (xs : List ℕ) (o : Option (List ℕ)) → content plain xs ≡ o → IsClean (string_token o) → Front (34 ∷ xs)

@@ -8,7 +8,7 @@ abbrev pub AreClean : List Token → Type 0
 AreClean [] = Unit {0}
 AreClean (t ∷ ts) = IsClean t × AreClean ts
 
-colon_again : (ls : List Lexeme) → begins_colon (map tag_lexeme ls) ≡ begins_colon ls
+pub colon_again : (ls : List Lexeme) → begins_colon (map tag_lexeme ls) ≡ begins_colon ls
 colon_again [] = refl
 colon_again (token t ∷ ls) = refl
 colon_again (comma ∷ ls) = refl

@@ -6,8 +6,8 @@ use Rattle.json.specs.Json.{Parse, parse_map, after_end_array, read_key, items_s
 use Rattle.json.proofs.Grammar.{items_end, items_more, members_end, members_no_key, members_more}
 use Rattle.serde_json.specs.Data.{Data, array, object, Items, no_items, item, Members, no_members, put}
 use Rattle.serde_json.specs.Read.{converted}
-use Rattle.serde_json.specs.View.{view, items_view}
-use Rattle.serde_json.specs.declared.value.Value.{Value}
+use Rattle.json_text.specs.Trees.{view, items_view}
+use Rattle.json_text.specs.declared.trees.Tree.{Tree}
 use Rattle.json_text.specs.Tagged.{tagged, tagged_items, tagged_members}
 use Rattle.json_text.specs.Tag.{is_tagged}
 
@@ -114,19 +114,19 @@ module _ (p : Parse json.Json) where
 
 -- ---- a list that grows at its end
 
-abbrev pub items_before : List Value → Items → Items
+abbrev pub items_before : List Tree → Items → Items
 items_before [] rest = rest
 items_before (v ∷ vs) rest = item (view v) (items_before vs rest)
 
-pub items_before_none : (vs : List Value) → items_before vs no_items ≡ items_view vs
+pub items_before_none : (vs : List Tree) → items_before vs no_items ≡ items_view vs
 items_before_none [] = refl
 items_before_none (v ∷ vs) = ap (item (view v)) (items_before_none vs)
 
-before_pushed : (vs : List Value) (v : Value) (rest : Items) → items_before vs (item (view v) rest) ≡ items_before (vs ++ v ∷ []) rest
+before_pushed : (vs : List Tree) (v : Tree) (rest : Items) → items_before vs (item (view v) rest) ≡ items_before (vs ++ v ∷ []) rest
 before_pushed [] v rest = refl
 before_pushed (w ∷ vs) v rest = ap (item (view w)) (before_pushed vs v rest)
 
-pub one_more_item : (vs : List Value) (v : Value) (r : Option (Items × List Token)) → parse_map (items_before vs) (parse_map (item (view v)) r) ≡ parse_map (items_before (vs ++ v ∷ [])) r
+pub one_more_item : (vs : List Tree) (v : Tree) (r : Option (Items × List Token)) → parse_map (items_before vs) (parse_map (item (view v)) r) ≡ parse_map (items_before (vs ++ v ∷ [])) r
 one_more_item vs v None = refl
 one_more_item vs v (Some p) = ap (λ ds. Some (ds, p.1)) (before_pushed vs v p.0)
 

@@ -13,4 +13,5 @@ pub mod Quote
 pub mod Tag
 pub mod Tagged
 pub mod Texts
+pub mod Trees
 pub mod Unquote

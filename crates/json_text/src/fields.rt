@@ -1,64 +1,64 @@
 //! One member of an object, by its name.
 
 ghost use Rattle.std.specs.Prelude.{◌≡◌, ◌≤◌, ◌*◌, IfOk, Ok};
-ghost use Rattle.serde_json.specs.View.{view, items_view};
+ghost use Rattle.json_text.specs.Trees.{view, items_view};
 ghost use Rattle.ocpi_text.specs.Party.{country_at, party_id_at};
 ghost use Rattle.json_text.specs.Fault.{Gives, IsBy};
 ghost use Rattle.json_text.specs.Fields.{as_record, as_text, is_absent, optional, required, text_in, number_in, truth_in, record_in, list_in, ci_in, free_in, moment_in, word_in, whole_in, e4_in, quantity_in, party_in, country_in, party_id_in};
 
 use crate::fault::JsonFault;
 use crate::tag::{behind_tag, is_tagged};
+use crate::trees::Tree;
 use ocpi_text::{CiText, E4, FreeText, Moment, Party, Quantity, ShortText, TextFault, Whole};
 use ocpi_types::{Field, Word};
-use serde_json::Value;
 use std::alloc::Global;
 
 /// The member that must be there. One that is absent or null is `Missing`.
 #[tactic(auto, unfolding(crate::specs::Fields::required))]
-pub fn required(object: &Value, field: Field) -> Result<&Value, JsonFault>
+pub fn required<'t, 'a>(object: &'t Tree<'a>, field: Field) -> Result<&'t Tree<'a>, JsonFault>
     ensures { IsBy (λ v. view v.now) result (required field (view object.now)) }
 {
     match object.get(field.name()) {
         None => Err(JsonFault::Missing(field)),
-        Some(Value::Null) => Err(JsonFault::Missing(field)),
+        Some(Tree::Null) => Err(JsonFault::Missing(field)),
         Some(value) => Ok(value),
     }
 }
 
 /// Whether an optional member is absent or null.
 #[tactic(auto, unfolding(crate::specs::Fields::is_absent))]
-pub fn is_absent(object: &Value, field: Field) -> bool
+pub fn is_absent(object: &Tree<'_>, field: Field) -> bool
     ensures { result ≡ is_absent field (view object.now) }
 {
     match object.get(field.name()) {
         None => true,
-        Some(value) => value.is_null(),
+        Some(value) => matches!(value, Tree::Null),
     }
 }
 
 /// A value of that name as a text.
-pub fn as_text(value: &Value, field: Field) -> Result<&str, JsonFault>
+pub fn as_text<'a>(value: &Tree<'a>, field: Field) -> Result<&'a str, JsonFault>
     ensures { IsBy (λ s. s.now) result (as_text field (view value.now)) }
 {
-    match value.as_str() {
-        Some(text) if !is_tagged(text) => Ok(text),
+    match value {
+        Tree::Text(text) if !is_tagged(text) => Ok(*text),
         _ => Err(JsonFault::WrongForm(field)),
     }
 }
 
 /// A value of that name as an object.
-pub fn as_record(value: &Value, field: Field) -> Result<&Value, JsonFault>
+pub fn as_record<'t, 'a>(value: &'t Tree<'a>, field: Field) -> Result<&'t Tree<'a>, JsonFault>
     ensures { IsBy (λ v. view v.now) result (as_record field (view value.now)) }
 {
-    if !value.is_object() {
-        return Err(JsonFault::WrongForm(field));
+    match value {
+        Tree::Object(_) => Ok(value),
+        _ => Err(JsonFault::WrongForm(field)),
     }
-    Ok(value)
 }
 
 /// A text.
 #[tactic(auto, unfolding(crate::specs::Fields::text_in))]
-pub fn text_in(object: &Value, field: Field) -> Result<&str, JsonFault>
+pub fn text_in<'a>(object: &Tree<'a>, field: Field) -> Result<&'a str, JsonFault>
     ensures { IsBy (λ s. s.now) result (text_in field (view object.now)) }
 {
     as_text(required(object, field)?, field)
@@ -66,29 +66,30 @@ pub fn text_in(object: &Value, field: Field) -> Result<&str, JsonFault>
 
 /// The token of a number.
 #[tactic(auto, unfolding(crate::specs::Fields::number_in))]
-fn number_in(object: &Value, field: Field) -> Result<&str, JsonFault>
+fn number_in<'a>(object: &Tree<'a>, field: Field) -> Result<&'a str, JsonFault>
     ensures { IsBy (λ s. s.now) result (number_in field (view object.now)) }
 {
-    match required(object, field)?.as_str() {
-        Some(text) if is_tagged(text) => Ok(behind_tag(text)),
+    match required(object, field)? {
+        Tree::Number(token) => Ok(*token),
+        Tree::Text(text) if is_tagged(text) => Ok(behind_tag(text)),
         _ => Err(JsonFault::WrongForm(field)),
     }
 }
 
 /// True or false.
 #[tactic(auto, unfolding(crate::specs::Fields::truth_in))]
-pub fn truth_in(object: &Value, field: Field) -> Result<bool, JsonFault>
+pub fn truth_in(object: &Tree<'_>, field: Field) -> Result<bool, JsonFault>
     ensures { result ≡ truth_in field (view object.now) }
 {
-    match required(object, field)?.as_bool() {
-        Some(truth) => Ok(truth),
-        None => Err(JsonFault::WrongForm(field)),
+    match required(object, field)? {
+        Tree::Truth(truth) => Ok(*truth),
+        _ => Err(JsonFault::WrongForm(field)),
     }
 }
 
 /// An object.
 #[tactic(auto, unfolding(crate::specs::Fields::record_in))]
-pub fn record_in(object: &Value, field: Field) -> Result<&Value, JsonFault>
+pub fn record_in<'t, 'a>(object: &'t Tree<'a>, field: Field) -> Result<&'t Tree<'a>, JsonFault>
     ensures { IsBy (λ v. view v.now) result (record_in field (view object.now)) }
 {
     as_record(required(object, field)?, field)
@@ -96,18 +97,18 @@ pub fn record_in(object: &Value, field: Field) -> Result<&Value, JsonFault>
 
 /// The elements of a list.
 #[tactic(auto, unfolding(crate::specs::Fields::list_in))]
-pub fn list_in(object: &Value, field: Field) -> Result<&[Value], JsonFault>
+pub fn list_in<'t, 'a>(object: &'t Tree<'a>, field: Field) -> Result<&'t [Tree<'a>], JsonFault>
     ensures { IsBy (λ v. items_view v.now) result (list_in field (view object.now)) }
 {
-    match required(object, field)?.as_array() {
-        Some(items) => Ok(items.as_slice()),
-        None => Err(JsonFault::WrongForm(field)),
+    match required(object, field)? {
+        Tree::Array(items) => Ok(items.as_slice()),
+        _ => Err(JsonFault::WrongForm(field)),
     }
 }
 
 /// A text that is compared without case, of at most `MAX` characters.
 #[tactic(auto, unfolding(crate::specs::Fields::ci_in))]
-pub fn ci_in<const MAX: usize>(object: &Value, field: Field) -> Result<CiText<MAX>, JsonFault>
+pub fn ci_in<const MAX: usize>(object: &Tree<'_>, field: Field) -> Result<CiText<MAX>, JsonFault>
     ensures { result ≡ ci_in MAX field (view object.now) }
 {
     match CiText::new(text_in(object, field)?) {
@@ -119,7 +120,7 @@ pub fn ci_in<const MAX: usize>(object: &Value, field: Field) -> Result<CiText<MA
 /// The same, where it is neither absent nor null.
 #[tactic(auto, unfolding(crate::specs::Fields::optional))]
 pub fn optional_ci_in<const MAX: usize>(
-    object: &Value,
+    object: &Tree<'_>,
     field: Field,
 ) -> Result<Option<CiText<MAX>>, JsonFault>
     ensures { result ≡ optional (ci_in MAX) field (view object.now) }
@@ -134,7 +135,7 @@ pub fn optional_ci_in<const MAX: usize>(
 #[tactic(auto, unfolding(crate::specs::Fields::free_in))]
 pub fn free_in<const MAX: usize>(
     alloc: Global,
-    object: &Value,
+    object: &Tree<'_>,
     field: Field,
 ) -> Result<FreeText<MAX>, JsonFault>
     ensures { Gives result (free_in MAX field (view object.now)) }
@@ -149,7 +150,7 @@ pub fn free_in<const MAX: usize>(
 /// The same, of few characters, in the value itself.
 #[tactic(auto, unfolding(crate::specs::Fields::free_in))]
 pub fn short_in<const MAX: usize, const BYTES: usize>(
-    object: &Value,
+    object: &Tree<'_>,
     field: Field,
 ) -> Result<ShortText<MAX, BYTES>, JsonFault>
     requires { 4 * MAX ≤ BYTES }
@@ -163,7 +164,7 @@ pub fn short_in<const MAX: usize, const BYTES: usize>(
 
 /// A moment.
 #[tactic(auto, unfolding(crate::specs::Fields::moment_in))]
-pub fn moment_in(object: &Value, field: Field) -> Result<Moment, JsonFault>
+pub fn moment_in(object: &Tree<'_>, field: Field) -> Result<Moment, JsonFault>
     ensures { result ≡ moment_in field (view object.now) }
 {
     match Moment::read(text_in(object, field)?) {
@@ -174,7 +175,7 @@ pub fn moment_in(object: &Value, field: Field) -> Result<Moment, JsonFault>
 
 /// The same, where it is neither absent nor null.
 #[tactic(auto, unfolding(crate::specs::Fields::optional))]
-pub fn optional_moment_in(object: &Value, field: Field) -> Result<Option<Moment>, JsonFault>
+pub fn optional_moment_in(object: &Tree<'_>, field: Field) -> Result<Option<Moment>, JsonFault>
     ensures { result ≡ optional moment_in field (view object.now) }
 {
     if is_absent(object, field) {
@@ -185,7 +186,7 @@ pub fn optional_moment_in(object: &Value, field: Field) -> Result<Option<Moment>
 
 /// A word of a closed list. Another one is `UnknownWord`.
 #[tactic(auto, unfolding(crate::specs::Fields::word_in))]
-pub fn word_in<W: Word>(object: &Value, field: Field) -> Result<W, JsonFault>
+pub fn word_in<W: Word>(object: &Tree<'_>, field: Field) -> Result<W, JsonFault>
     ensures { result ≡ word_in W.entry field (view object.now) }
 {
     match W::of_word(text_in(object, field)?) {
@@ -196,7 +197,7 @@ pub fn word_in<W: Word>(object: &Value, field: Field) -> Result<W, JsonFault>
 
 /// The same, where it is neither absent nor null.
 #[tactic(auto, unfolding(crate::specs::Fields::optional))]
-pub fn optional_word_in<W: Word>(object: &Value, field: Field) -> Result<Option<W>, JsonFault>
+pub fn optional_word_in<W: Word>(object: &Tree<'_>, field: Field) -> Result<Option<W>, JsonFault>
     ensures { result ≡ optional (word_in W.entry) field (view object.now) }
 {
     if is_absent(object, field) {
@@ -207,7 +208,7 @@ pub fn optional_word_in<W: Word>(object: &Value, field: Field) -> Result<Option<
 
 /// A whole number.
 #[tactic(auto, unfolding(crate::specs::Fields::whole_in))]
-pub fn whole_in(object: &Value, field: Field) -> Result<Whole, JsonFault>
+pub fn whole_in(object: &Tree<'_>, field: Field) -> Result<Whole, JsonFault>
     ensures { result ≡ whole_in field (view object.now) }
 {
     match Whole::read(number_in(object, field)?) {
@@ -218,7 +219,7 @@ pub fn whole_in(object: &Value, field: Field) -> Result<Whole, JsonFault>
 
 /// A number of four decimals.
 #[tactic(auto, unfolding(crate::specs::Fields::e4_in))]
-pub fn e4_in(object: &Value, field: Field) -> Result<E4, JsonFault>
+pub fn e4_in(object: &Tree<'_>, field: Field) -> Result<E4, JsonFault>
     ensures { result ≡ e4_in field (view object.now) }
 {
     match E4::read(number_in(object, field)?) {
@@ -229,7 +230,7 @@ pub fn e4_in(object: &Value, field: Field) -> Result<E4, JsonFault>
 
 /// A number of four decimals that is not negative.
 #[tactic(auto, unfolding(crate::specs::Fields::quantity_in))]
-pub fn quantity_in(object: &Value, field: Field) -> Result<Quantity, JsonFault>
+pub fn quantity_in(object: &Tree<'_>, field: Field) -> Result<Quantity, JsonFault>
     ensures { result ≡ quantity_in field (view object.now) }
 {
     match Quantity::new(e4_in(object, field)?) {
@@ -240,7 +241,7 @@ pub fn quantity_in(object: &Value, field: Field) -> Result<Quantity, JsonFault>
 
 /// A party, as `BE/BEC`.
 #[tactic(auto, unfolding(crate::specs::Fields::party_in))]
-pub fn party_in(object: &Value, field: Field) -> Result<Party, JsonFault>
+pub fn party_in(object: &Tree<'_>, field: Field) -> Result<Party, JsonFault>
     ensures { result ≡ party_in field (view object.now) }
 {
     match Party::read(text_in(object, field)?) {
@@ -251,7 +252,7 @@ pub fn party_in(object: &Value, field: Field) -> Result<Party, JsonFault>
 
 /// The country of a party, of two characters.
 #[tactic(auto, unfolding(crate::specs::Fields::country_in))]
-pub fn country_in(object: &Value, field: Field) -> Result<CiText<2>, JsonFault>
+pub fn country_in(object: &Tree<'_>, field: Field) -> Result<CiText<2>, JsonFault>
     ensures exact { result ≡ country_in field (view object.now) }
     ensures again { IfOk result (λ t. country_at t ≡ Ok t) }
 {
@@ -263,7 +264,7 @@ pub fn country_in(object: &Value, field: Field) -> Result<CiText<2>, JsonFault>
 
 /// The id of a party in its country, of three characters.
 #[tactic(auto, unfolding(crate::specs::Fields::party_id_in))]
-pub fn party_id_in(object: &Value, field: Field) -> Result<CiText<3>, JsonFault>
+pub fn party_id_in(object: &Tree<'_>, field: Field) -> Result<CiText<3>, JsonFault>
     ensures exact { result ≡ party_id_in field (view object.now) }
     ensures again { IfOk result (λ t. party_id_at t ≡ Ok t) }
 {

@@ -14,6 +14,7 @@ mod record_writer;
 mod same;
 mod tag;
 mod texts;
+mod trees;
 mod unquote;
 
 pub use fault::JsonFault;
@@ -24,4 +25,5 @@ pub use quote::{quote_numbers, quoted_numbers_are_json_numbers, quoting_goes_by_
 pub use record_writer::RecordWriter;
 pub use same::{is_same_id, is_same_party};
 pub use texts::text_tree;
+pub use trees::Tree;
 pub use unquote::{unquote_numbers, unquoting_undoes_quoting};

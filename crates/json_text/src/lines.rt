@@ -1,16 +1,18 @@
 //! Lines of bytes to trees.
 
-ghost use Rattle.std.specs.Prelude.{◌≡◌, Err};
+ghost use Rattle.std.specs.Prelude.{◌≡◌, None, Err};
 ghost use Rattle.json_text.specs.declared.fault.JsonFault.TheVariants.{Syntax};
 ghost use Rattle.json_text.specs.Fault.{GivesBy, IsBy};
 ghost use Rattle.json_text.specs.Line.{IsNoText, text_of, tree_of, tree_at};
-ghost use Rattle.json_text.specs.Tagged.{tree_in};
-ghost use Rattle.serde_json.specs.View.{view};
+ghost use Rattle.json_text.specs.Tagged.{tagged_tree, tree_in};
+ghost use Rattle.json_text.specs.Trees.{view};
+ghost use Rattle.serde_json.specs.View.{view as value_view};
 
 use crate::fault::JsonFault;
 use crate::names::has_number_name;
 use crate::one_pass::{Stop, tree_of_text};
 use crate::quote::quote_numbers;
+use crate::trees::Tree;
 use json::Scratch;
 use serde_json::Value;
 use std::alloc::Global;
@@ -34,7 +36,7 @@ fn text_of(line: &[u8]) -> Result<&str, JsonFault>
 /// The tree of a text whose numbers are quoted.
 #[tactic(auto, unfolding(crate::specs::Line::tree_of))]
 fn tree_of(alloc: Global, quoted: &str) -> Result<Value, JsonFault>
-    ensures { GivesBy view result (tree_of quoted.now) }
+    ensures { GivesBy value_view result (tree_of quoted.now) }
 {
     if has_number_name(alloc, quoted)? {
         return Err(JsonFault::Syntax);
@@ -46,24 +48,32 @@ fn tree_of(alloc: Global, quoted: &str) -> Result<Value, JsonFault>
     }
 }
 
-/// The tree of a text, or its first refusal: its numbers are quoted, and the quoted text is read.
+/// The refusal of a text that has no tree in one pass: its numbers are quoted, and the quoted text is read.
 #[cold]
 #[inline(never)]
-fn tree_by_quoting(alloc: Global, text: &str) -> Result<Value, JsonFault>
+fn refused_by_quoting<'a>(alloc: Global, text: &str) -> Result<Tree<'a>, JsonFault>
+    requires { tagged_tree text.now ≡ None }
     ensures { GivesBy view result (tree_in text.now) }
 {
     let quoted = quote_numbers(alloc, text)?;
-    tree_of(alloc, &quoted)
+    match tree_of(alloc, &quoted) {
+        Ok(_) => unreachable!(),
+        Err(fault) => Err(fault),
+    }
 }
 
 /// The tree of a text of any length, or its first refusal.
-pub fn utf8_tree(alloc: Global, scratch: &mut Scratch, text: &str) -> Result<Value, JsonFault>
+pub fn utf8_tree<'a>(
+    alloc: Global,
+    scratch: &'a mut Scratch,
+    text: &'a str,
+) -> Result<Tree<'a>, JsonFault>
     ensures { GivesBy view result (tree_in text.now) }
 {
     match tree_of_text(alloc, scratch, text) {
         Ok(tree) => Ok(tree),
         Err(Stop::Memory) => Err(JsonFault::Memory),
-        Err(Stop::Declined) => tree_by_quoting(alloc, text),
+        Err(Stop::Declined) => refused_by_quoting(alloc, text),
     }
 }
 
@@ -74,7 +84,11 @@ pub fn utf8_tree(alloc: Global, scratch: &mut Scratch, text: &str) -> Result<Val
 /// what [`quote_numbers`] refuses; a text that is no JSON, that nests deeper than 127 arrays and
 /// objects, or in which a name of an object is a number (`Syntax`). Only the first needs no memory.
 #[tactic(auto, unfolding(crate::specs::Line::tree_at))]
-pub fn line_tree(alloc: Global, scratch: &mut Scratch, line: &[u8]) -> Result<Value, JsonFault>
+pub fn line_tree<'a>(
+    alloc: Global,
+    scratch: &'a mut Scratch,
+    line: &'a [u8],
+) -> Result<Tree<'a>, JsonFault>
     ensures exact { GivesBy view result (tree_at line.now) }
     // No memory is taken to refuse a line that is too long or no UTF-8.
     ensures unread { IsNoText line.now → result ≡ Err Syntax }

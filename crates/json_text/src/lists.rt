@@ -1,15 +1,15 @@
 //! Lists, element by element.
 
 ghost use Rattle.std.specs.Prelude.{◌≡◌, ◌≤◌, [], length, IfOk, Ok};
-ghost use Rattle.serde_json.specs.View.{view, items_view};
+ghost use Rattle.json_text.specs.Trees.{view, items_view};
 ghost use Rattle.json_text.specs.Fault.{Gives, GivesBy, IsBy};
 ghost use Rattle.json_text.specs.Fields.{each_after, non_empty_in};
 ghost use Rattle.json_text.specs.Lists.{counted_in};
 
 use crate::fault::JsonFault;
 use crate::fields::list_in;
+use crate::trees::Tree;
 use ocpi_types::Field;
-use serde_json::Value;
 use std::alloc::Global;
 
 /// How an element of a list is read.
@@ -22,7 +22,7 @@ pub trait ElementReader<T> {
     ghost at: { Self → List T → Data → Read T };
 
     /// One element, beside those before it.
-    fn element(&self, alloc: Global, before: &[T], value: &Value) -> Result<T, JsonFault>
+    fn element(&self, alloc: Global, before: &[T], value: &Tree<'_>) -> Result<T, JsonFault>
         ensures { Gives result (Self.at self.now before.now (view value.now)) };
 }
 
@@ -30,7 +30,7 @@ pub trait ElementReader<T> {
 pub fn elements<T: Drop, R: ElementReader<T>>(
     alloc: Global,
     reader: &R,
-    values: &[Value],
+    values: &[Tree<'_>],
 ) -> Result<Vec<T>, JsonFault>
     ensures { GivesBy (λ v. v.items) result (each_after (R.at reader.now) [] (items_view values.now)) }
 {
@@ -44,12 +44,12 @@ pub fn elements<T: Drop, R: ElementReader<T>>(
 
 /// The elements of a list of `least` to `most` elements. Another number is `WrongForm` of the list's name.
 #[tactic(auto, unfolding(crate::specs::Lists::counted_in))]
-pub fn counted_in(
-    object: &Value,
+pub fn counted_in<'t, 'a>(
+    object: &'t Tree<'a>,
     field: Field,
     least: usize,
     most: usize,
-) -> Result<&[Value], JsonFault>
+) -> Result<&'t [Tree<'a>], JsonFault>
     ensures exact { IsBy (λ v. items_view v.now) result (counted_in least most field (view object.now)) }
     ensures count { IfOk result (λ v. (least ≤ length v.now) × (length v.now ≤ most)) }
 {
@@ -63,7 +63,7 @@ pub fn counted_in(
 
 /// The elements of a list of one or more. An empty one is `WrongForm` of the list's name.
 #[tactic(auto, using(crate::proofs::Listing::is_some_list, crate::proofs::Listing::is_empty_list), unfolding(crate::specs::Fields::non_empty_in))]
-pub fn non_empty_in(object: &Value, field: Field) -> Result<&[Value], JsonFault>
+pub fn non_empty_in<'t, 'a>(object: &'t Tree<'a>, field: Field) -> Result<&'t [Tree<'a>], JsonFault>
     ensures { IsBy (λ v. items_view v.now) result (non_empty_in field (view object.now)) }
 {
     let items = list_in(object, field)?;

@@ -1,20 +1,23 @@
 //! The tree of a text in one pass over its tokens, its numbers as texts behind U+0001.
 
-ghost use Rattle.std.specs.Prelude.{◌≡◌, ◌<◌, ◌∷◌, Some, None, Ok, Err, length, string_bytes, IfOk, OnOk};
+ghost use Rattle.std.specs.Prelude.{◌≡◌, ◌<◌, ◌∷◌, ◌++◌, [], Some, None, Err, length, IfOk, OnOk};
 ghost use Rattle.json.specs.Json.{value, items, members};
 ghost use Rattle.serde_json.specs.Data.{no_members};
 ghost use Rattle.serde_json.specs.Read.{converted};
-ghost use Rattle.serde_json.specs.View.{view, items_view, members_view};
+ghost use Rattle.json_text.specs.Trees.{view, items_view, members_view};
 ghost use Rattle.json_text.specs.Tagged.{tagged, tagged_items, tagged_members, tagged_tree, tree_in};
 ghost use Rattle.json_text.specs.declared.one_pass.Stop.TheVariants.{Declined, Memory};
 
 use crate::tag::is_tagged;
+use crate::trees::Tree;
 use json::{Invalid, Reader, Scratch, Token};
-use serde_json::{Map, Value};
 use std::alloc::{AllocError, AllocFailed, Global};
 
 /// How many arrays and objects may stand within one another.
 const MAX_DEPTH: usize = 127;
+
+/// How many members an object has room for once it has one.
+const FIRST_MEMBERS: usize = 8;
 
 /// Why one pass gave no tree.
 #[derive(Clone, Copy)]
@@ -49,20 +52,24 @@ impl<T: Drop> From<AllocFailed<T>> for Stop {
     }
 }
 
-/// The number's text behind U+0001.
-fn tagged_number(alloc: Global, number: &str) -> Result<String, AllocError>
-    ensures { IfOk result (λ s. string_bytes s ≡ 1 ∷ number.now) }
+/// Puts a member behind the others.
+#[inline(always)]
+fn push_member<'a>(
+    members: &mut Vec<(&'a str, Tree<'a>)>,
+    member: (&'a str, Tree<'a>),
+) -> Result<(), AllocError>
+    ensures { OnOk result (members.new.items ≡ members.old.items ++ member.entry ∷ []) }
 {
-    let mut text = String::new(alloc);
-    text.reserve(number.len() + 1)?;
-    text.push_str("\u{1}")?;
-    text.push_str(number)?;
-    Ok(text)
+    if members.is_empty() {
+        members.reserve(FIRST_MEMBERS)?;
+    }
+    members.push(member)?;
+    Ok(())
 }
 
 #[cycle(read)]
 #[inline(always)]
-fn read(alloc: Global, reader: &mut Reader<'_>, depth: usize) -> Result<Value, Stop>
+fn read<'a>(alloc: Global, reader: &mut Reader<'a>, depth: usize) -> Result<Tree<'a>, Stop>
     ensures ok { IfOk result
         (λ v. converted tagged (value depth reader.old) ≡ Some (view v, reader.new)) }
     ensures shorter { OnOk result (length reader.new < length reader.old) }
@@ -74,30 +81,34 @@ fn read(alloc: Global, reader: &mut Reader<'_>, depth: usize) -> Result<Value, S
             if is_tagged(text) {
                 return Err(Stop::Declined);
             }
-            Ok(Value::String(String::from_str(alloc, text)?))
+            Ok(Tree::Text(text))
         }
-        Token::Number(text) => Ok(Value::String(tagged_number(alloc, text)?)),
-        Token::Bool(b) => Ok(Value::Bool(b)),
-        Token::Null => Ok(Value::Null),
+        Token::Number(text) => Ok(Tree::Number(text)),
+        Token::Bool(b) => Ok(Tree::Truth(b)),
+        Token::Null => Ok(Tree::Null),
         Token::EndObject | Token::EndArray | Token::Key(_) | Token::Bad => Err(Stop::Declined),
         Token::BeginArray => {
             if depth == 0 {
                 return Err(Stop::Declined);
             }
-            Ok(Value::Array(read_items(alloc, reader, depth - 1)?))
+            Ok(Tree::Array(read_items(alloc, reader, depth - 1)?))
         }
         Token::BeginObject => {
             if depth == 0 {
                 return Err(Stop::Declined);
             }
-            Ok(Value::Object(read_members(alloc, reader, depth - 1)?))
+            Ok(Tree::Object(read_members(alloc, reader, depth - 1)?))
         }
     }
 }
 
 #[cycle(read)]
 #[inline(never)]
-fn read_items(alloc: Global, reader: &mut Reader<'_>, depth: usize) -> Result<Vec<Value>, Stop>
+fn read_items<'a>(
+    alloc: Global,
+    reader: &mut Reader<'a>,
+    depth: usize,
+) -> Result<Vec<Tree<'a>>, Stop>
     ensures ok { IfOk result
         (λ v. converted tagged_items (items (value depth) (length reader.old) reader.old)
         ≡ Some (items_view v.items, reader.new)) }
@@ -115,35 +126,38 @@ fn read_items(alloc: Global, reader: &mut Reader<'_>, depth: usize) -> Result<Ve
 
 #[cycle(read)]
 #[inline(never)]
-fn read_members(
+fn read_members<'a>(
     alloc: Global,
-    reader: &mut Reader<'_>,
+    reader: &mut Reader<'a>,
     depth: usize,
-) -> Result<Map<String, Value>, Stop>
+) -> Result<Vec<(&'a str, Tree<'a>)>, Stop>
     ensures ok { IfOk result
         (λ m. converted (λ ms. tagged_members ms no_members)
         (members (value depth) (length reader.old) reader.old)
-        ≡ Some (members_view m.entries, reader.new)) }
+        ≡ Some (members_view m.items, reader.new)) }
     ensures shorter { OnOk result (length reader.new < length reader.old) }
     ensures declined { result ≡ Err Declined
         → converted (λ ms. tagged_members ms no_members)
         (members (value depth) (length reader.old) reader.old) ≡ None }
 {
-    let mut found = Map::new(alloc);
+    let mut found = Vec::new(alloc);
     'members: while let Some(name) = reader.next_key()? {
         if is_tagged(name) {
             return Err(Stop::Declined);
         }
-        let key = String::from_str(alloc, name)?;
         let member = read(alloc, reader, depth)?;
-        drop(found.insert(key, member)?);
+        push_member(&mut found, (name, member))?;
     }
     Ok(found)
 }
 
 /// The tree of a text of JSON that nests no deeper than 127 arrays and objects, and in which no text and no name begins
 /// with U+0001. Any other is declined: its refusal is told by quoting its numbers and reading what that gives.
-pub(crate) fn tree_of_text(alloc: Global, scratch: &mut Scratch, text: &str) -> Result<Value, Stop>
+pub(crate) fn tree_of_text<'a>(
+    alloc: Global,
+    scratch: &'a mut Scratch,
+    text: &'a str,
+) -> Result<Tree<'a>, Stop>
     ensures ok { IfOk result (λ v. tagged_tree text.now ≡ Some (view v)) }
     ensures declined { result ≡ Err Declined → tagged_tree text.now ≡ None }
     // It is the tree of the text whose numbers are quoted.

@@ -2,12 +2,12 @@
 
 ghost use Rattle.json_text.specs.Fault.{GivesBy, IsBy};
 ghost use Rattle.json_text.specs.Texts.{utf8_of, text_tree};
-ghost use Rattle.serde_json.specs.View.{view};
+ghost use Rattle.json_text.specs.Trees.{view};
 
 use crate::fault::JsonFault;
 use crate::lines::utf8_tree;
+use crate::trees::Tree;
 use json::Scratch;
-use serde_json::Value;
 use std::alloc::Global;
 use std::str;
 
@@ -24,7 +24,11 @@ fn utf8_of(text: &[u8]) -> Result<&str, JsonFault>
 ///
 /// Refused as [`line_tree`](crate::line_tree) refuses, but for the length; `scratch` as there.
 #[tactic(auto, unfolding(crate::specs::Texts::text_tree))]
-pub fn text_tree(alloc: Global, scratch: &mut Scratch, text: &[u8]) -> Result<Value, JsonFault>
+pub fn text_tree<'a>(
+    alloc: Global,
+    scratch: &'a mut Scratch,
+    text: &'a [u8],
+) -> Result<Tree<'a>, JsonFault>
     ensures { GivesBy view result (text_tree text.now) }
 {
     let text = utf8_of(text)?;

@@ -6,8 +6,8 @@ use Rattle.std.specs.FinSet.{FinSet, contains, insert, from_list, from_list_push
 use Rattle.std.proofs.lemmas.List.{append-nil, map-append}
 use Rattle.std.proofs.lemmas.Grind.{flat_map-append}
 use Rattle.serde_json.specs.Data.{Data}
-use Rattle.serde_json.specs.View.{view, items_view}
-use Rattle.serde_json.specs.declared.value.Value.{Value}
+use Rattle.json_text.specs.Trees.{view, items_view}
+use Rattle.json_text.specs.declared.trees.Tree.{Tree}
 use Rattle.ocpi_text.specs.Text.{key}
 use Rattle.ocpi_types.specs.Locations.{evse_keys, location_keys, site_evse_keys}
 use Rattle.ocpi_types.specs.declared.field.Field.{Field}
@@ -66,15 +66,15 @@ pub its_evses_more : (before : List Location) (l : Location) → site_evse_keys 
 its_evses_more before l = ap (λ (k : List (List ℕ)). site_evse_keys before ++ k) (sym (append-nil (evse_keys l.evses))) ∙ sym (flat_map-append (λ (x : Location). evse_keys x.evses) before (l ∷ []))
 
 -- what the set has when some of a location's EVSEs are read
-pub record EvsesSoFar (earlier : List Location) (values : List Value) (i : ℕ) (before : List Evse) (uids : FinSet (slice_cmp nat_cmp)) : Type 0 where
+pub record EvsesSoFar (earlier : List Location) (values : List Tree) (i : ℕ) (before : List Evse) (uids : FinSet (slice_cmp nat_cmp)) : Type 0 where
   pub seen : uids ≡ from_list (site_evse_keys earlier ++ evse_keys before)
   pub read : each_after (evse_element earlier) before (items_view (drop i values)) ≡ each_after (evse_element earlier) [] (items_view values)
 
-pub record EvsesRead (values : List Value) (i : ℕ) (before : List Evse) (first uids : FinSet (slice_cmp nat_cmp)) : Type 0 where
+pub record EvsesRead (values : List Tree) (i : ℕ) (before : List Evse) (first uids : FinSet (slice_cmp nat_cmp)) : Type 0 where
   pub count : length before ≡ i
   pub beside : (earlier : List Location) → first ≡ from_list (site_evse_keys earlier) → EvsesSoFar earlier values i before uids
 
-pub record LocationsSoFar (values : List Value) (i : ℕ) (before : List Location) (seen : SiteIds) : Type 0 where
+pub record LocationsSoFar (values : List Tree) (i : ℕ) (before : List Location) (seen : SiteIds) : Type 0 where
   pub ids : HasIds seen before
   pub read : each_after location_element before (items_view (drop i values)) ≡ each_after location_element [] (items_view values)
 
@@ -84,14 +84,14 @@ module _ {X : Type 0} (f : Field) (at : List X → Data → Read X) where
   abbrev pub element : List X → Data → Read X
   element before d = as_record f d >>= at before
 
-  pub no_object : (front : List X) (vs : List Value) (i : ℕ) (v : Value) (e : JsonFault) (total : Read (List X)) → i < length vs → v ≡ get_or vs i v → as_record f (view v) ≡ Err e
+  pub no_object : (front : List X) (vs : List Tree) (i : ℕ) (v : Tree) (e : JsonFault) (total : Read (List X)) → i < length vs → v ≡ get_or vs i v → as_record f (view v) ≡ Err e
       → each_after element front (items_view (drop i vs)) ≡ total → Fails e total
   no_object front vs i v e total lt is err so_far = fails element front vs i v front e total lt is refl (first_fails e (as_record f (view v)) (at front) (Fails-err e (as_record f (view v)) err)) so_far
 
-  pub no_element : (front : List X) (vs : List Value) (i : ℕ) (v : Value) (d : Data) (e : JsonFault) (total : Read (List X)) → i < length vs → v ≡ get_or vs i v → as_record f (view v) ≡ Ok d → Fails e (at front d)
+  pub no_element : (front : List X) (vs : List Tree) (i : ℕ) (v : Tree) (d : Data) (e : JsonFault) (total : Read (List X)) → i < length vs → v ≡ get_or vs i v → as_record f (view v) ≡ Ok d → Fails e (at front d)
       → each_after element front (items_view (drop i vs)) ≡ total → Fails e total
   no_element front vs i v d e total lt is object err so_far = fails element front vs i v front e total lt is refl (next_fails e (as_record f (view v)) (at front) d object err) so_far
 
-  pub one_element : (front : List X) (vs : List Value) (i : ℕ) (v : Value) (d : Data) (x : X) (total : Read (List X)) → i < length vs → v ≡ get_or vs i v → as_record f (view v) ≡ Ok d → at front d ≡ Ok x
+  pub one_element : (front : List X) (vs : List Tree) (i : ℕ) (v : Tree) (d : Data) (x : X) (total : Read (List X)) → i < length vs → v ≡ get_or vs i v → as_record f (view v) ≡ Ok d → at front d ≡ Ok x
       → each_after element front (items_view (drop i vs)) ≡ total → each_after element (front ++ x ∷ []) (items_view (drop (i + 1) vs)) ≡ total
   one_element front vs i v d x total lt is object read so_far = goes_on element front vs i v front x total lt is refl (both_steps (as_record f (view v)) (at front) d x object read) so_far

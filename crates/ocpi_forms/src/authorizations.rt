@@ -2,7 +2,7 @@
 //! first fault, in the order of the members here.
 
 ghost use Rattle.std.specs.Prelude.{◌≡◌};
-ghost use Rattle.serde_json.specs.View.{view};
+ghost use Rattle.json_text.specs.Trees.{view};
 ghost use Rattle.ocpi_forms.specs.AuthorizationForms.{uid_at, evse_uids_in, location_references_at, location_references_in, location_references_members, LocationReferencesFits, authorize_at, authorize_members, AuthorizeFits, authorization_info_at, authorization_info_members, AuthorizationInfoFits, reply_at, authorization_at, authorization_members, AuthorizationFits};
 ghost use Rattle.json_text.specs.Fault.{Gives};
 ghost use Rattle.json_text.specs.Fields.{optional};
@@ -15,13 +15,12 @@ use json_text::fields::{
     word_in,
 };
 use json_text::lists::{ElementReader, elements};
-use json_text::{JsonFault, RecordWriter};
+use json_text::{JsonFault, RecordWriter, Tree};
 use ocpi_text::{CiText, Moment};
 use ocpi_types::{
     Authorization, AuthorizationInfo, Authorize, EvseUids, Field, LocationReferences, RefusalCode,
     StatusCode,
 };
-use serde_json::Value;
 use std::alloc::{AllocError, Global};
 
 /// How the uids of EVSEs are read.
@@ -35,14 +34,14 @@ impl ElementReader<CiText<36>> for UidReader {
         &self,
         _alloc: Global,
         _before: &[CiText<36>],
-        value: &Value,
+        value: &Tree<'_>,
     ) -> Result<CiText<36>, JsonFault> {
         uid_of(value)
     }
 }
 
 #[tactic(auto, unfolding(crate::specs::AuthorizationForms::uid_at))]
-fn uid_of(value: &Value) -> Result<CiText<36>, JsonFault>
+fn uid_of(value: &Tree<'_>) -> Result<CiText<36>, JsonFault>
     ensures { result ≡ uid_at (view value.now) }
 {
     match CiText::new(as_text(value, Field::EvseUids)?) {
@@ -53,7 +52,7 @@ fn uid_of(value: &Value) -> Result<CiText<36>, JsonFault>
 
 /// The uids of EVSEs, any number of them.
 #[tactic(auto, unfolding(crate::specs::AuthorizationForms::evse_uids_in))]
-fn evse_uids_in(alloc: Global, object: &Value, field: Field) -> Result<EvseUids, JsonFault>
+fn evse_uids_in(alloc: Global, object: &Tree<'_>, field: Field) -> Result<EvseUids, JsonFault>
     ensures { Gives result (evse_uids_in field (view object.now)) }
 {
     let values = list_in(object, field)?;
@@ -65,7 +64,7 @@ fn evse_uids_in(alloc: Global, object: &Value, field: Field) -> Result<EvseUids,
 #[tactic(auto, unfolding(json_text::specs::Fields::optional))]
 fn optional_evse_uids_in(
     alloc: Global,
-    object: &Value,
+    object: &Tree<'_>,
     field: Field,
 ) -> Result<Option<EvseUids>, JsonFault>
     ensures { Gives result (optional evse_uids_in field (view object.now)) }
@@ -78,7 +77,7 @@ fn optional_evse_uids_in(
 
 /// Where a token is to be used (OCPI 2.2.1, Tokens: LocationReferences object).
 #[tactic(auto, unfolding(crate::specs::AuthorizationForms::location_references_at))]
-fn location_references_of(alloc: Global, object: &Value) -> Result<LocationReferences, JsonFault>
+fn location_references_of(alloc: Global, object: &Tree<'_>) -> Result<LocationReferences, JsonFault>
     ensures { Gives result (location_references_at (view object.now)) }
 {
     let location_id = ci_in(object, Field::LocationId)?;
@@ -107,7 +106,7 @@ impl Record for LocationReferences {
 #[tactic(auto, unfolding(json_text::specs::Fields::optional, crate::specs::AuthorizationForms::location_references_in))]
 fn optional_location_in(
     alloc: Global,
-    object: &Value,
+    object: &Tree<'_>,
     field: Field,
 ) -> Result<Option<LocationReferences>, JsonFault>
     ensures { Gives result (optional location_references_in field (view object.now)) }
@@ -121,7 +120,7 @@ fn optional_location_in(
 
 /// A question whether a token may be used.
 #[tactic(auto, unfolding(crate::specs::AuthorizationForms::authorize_at))]
-pub fn authorize_of(alloc: Global, object: &Value) -> Result<Authorize, JsonFault>
+pub fn authorize_of(alloc: Global, object: &Tree<'_>) -> Result<Authorize, JsonFault>
     ensures { Gives result (authorize_at (view object.now)) }
 {
     let token_uid = ci_in(object, Field::TokenUid)?;
@@ -151,7 +150,7 @@ impl Record for Authorize {
 
 /// What a provider says of a token (OCPI 2.2.1, Tokens: AuthorizationInfo object).
 #[tactic(auto, unfolding(crate::specs::AuthorizationForms::authorization_info_at))]
-fn authorization_info_of(object: &Value) -> Result<AuthorizationInfo, JsonFault>
+fn authorization_info_of(object: &Tree<'_>) -> Result<AuthorizationInfo, JsonFault>
     ensures { result ≡ authorization_info_at (view object.now) }
 {
     let allowed = word_in(object, Field::Allowed)?;
@@ -184,7 +183,7 @@ impl Record for AuthorizationInfo {
 fn reply_of(
     status: StatusCode,
     timestamp: Moment,
-    object: &Value,
+    object: &Tree<'_>,
 ) -> Result<Authorization, JsonFault>
     ensures { result ≡ reply_at status timestamp (view object.now) }
 {
@@ -202,7 +201,7 @@ fn reply_of(
 
 /// A reply to the question (OCPI 2.2.1, Tokens: Real-time authorization; Transport and format: Response format).
 #[tactic(auto, unfolding(crate::specs::AuthorizationForms::authorization_at))]
-pub fn authorization_of(object: &Value) -> Result<Authorization, JsonFault>
+pub fn authorization_of(object: &Tree<'_>) -> Result<Authorization, JsonFault>
     ensures { result ≡ authorization_at (view object.now) }
 {
     let status = status_in(object)?;

@@ -1,6 +1,6 @@
 //! What a packet carries, by its kind.
 
-ghost use Rattle.serde_json.specs.View.{view};
+ghost use Rattle.json_text.specs.Trees.{view};
 ghost use Rattle.json_text.specs.Fault.{Gives};
 ghost use Rattle.ocpi_forms.specs.Bodies.{body_at, body_members, BodyFits};
 
@@ -12,14 +12,13 @@ use crate::on_heap::{
 };
 use crate::records::Record;
 use crate::replies::{ack_of, command_response_of, command_result_of};
-use json_text::{JsonFault, RecordWriter};
+use json_text::{JsonFault, RecordWriter, Tree};
 use ocpi_types::{Body, PacketKind};
-use serde_json::Value;
 use std::alloc::{AllocError, Global};
 
 /// What a packet of that kind carries. The first fault is told.
 #[tactic(auto, unfolding(crate::specs::Bodies::body_at))]
-pub fn body_of(alloc: Global, kind: PacketKind, object: &Value) -> Result<Body, JsonFault>
+pub fn body_of(alloc: Global, kind: PacketKind, object: &Tree<'_>) -> Result<Body, JsonFault>
     ensures { Gives result (body_at kind (view object.now)) }
 {
     match kind {

@@ -1,22 +1,21 @@
 //! Where a session was, as a charge detail record keeps it (OCPI 2.2.1, CDRs: CdrLocation class).
 
 ghost use Rattle.std.specs.Prelude.{◌≡◌};
-ghost use Rattle.serde_json.specs.View.{view};
+ghost use Rattle.json_text.specs.Trees.{view};
 ghost use Rattle.json_text.specs.Fault.{Gives};
 ghost use Rattle.ocpi_forms.specs.CdrLocationForms.{geo_location_at, address_at, connector_texts_at, evse_part_at, place_part_at, cdr_location_at, geo_location_members, cdr_location_members, GeoLocationFits, CdrLocationFits};
 
 use crate::records::{Record, write_record};
 use json_text::fields::{ci_in, free_in, record_in};
-use json_text::{JsonFault, RecordWriter};
+use json_text::{JsonFault, RecordWriter, Tree};
 use ocpi_text::{CiText, FreeText};
 use ocpi_types::{CdrLocation, Field, GeoLocation};
-use serde_json::Value;
 use std::alloc::{AllocError, Global};
 
 /// A place on the earth (OCPI 2.2.1, Locations: GeoLocation class). The first fault is told, in the order of the members
 /// here.
 #[tactic(auto, unfolding(crate::specs::CdrLocationForms::geo_location_at))]
-fn geo_location_of(alloc: Global, object: &Value) -> Result<GeoLocation, JsonFault>
+fn geo_location_of(alloc: Global, object: &Tree<'_>) -> Result<GeoLocation, JsonFault>
     ensures { Gives result (geo_location_at (view object.now)) }
 {
     let latitude = free_in(alloc, object, Field::Latitude)?;
@@ -36,7 +35,7 @@ struct Address {
 }
 
 #[tactic(auto, unfolding(crate::specs::CdrLocationForms::address_at))]
-fn address_of(alloc: Global, object: &Value) -> Result<Address, JsonFault>
+fn address_of(alloc: Global, object: &Tree<'_>) -> Result<Address, JsonFault>
     ensures { Gives result (address_at (view object.now)) }
 {
     let address = free_in(alloc, object, Field::Address)?;
@@ -58,7 +57,7 @@ struct ConnectorTexts {
 }
 
 #[tactic(auto, unfolding(crate::specs::CdrLocationForms::connector_texts_at))]
-fn connector_texts_of(alloc: Global, object: &Value) -> Result<ConnectorTexts, JsonFault>
+fn connector_texts_of(alloc: Global, object: &Tree<'_>) -> Result<ConnectorTexts, JsonFault>
     ensures { Gives result (connector_texts_at (view object.now)) }
 {
     let standard = free_in(alloc, object, Field::ConnectorStandard)?;
@@ -81,7 +80,7 @@ struct EvsePart {
 }
 
 #[tactic(auto, unfolding(crate::specs::CdrLocationForms::evse_part_at))]
-fn evse_part_of(alloc: Global, object: &Value) -> Result<EvsePart, JsonFault>
+fn evse_part_of(alloc: Global, object: &Tree<'_>) -> Result<EvsePart, JsonFault>
     ensures { Gives result (evse_part_at (view object.now)) }
 {
     let evse_uid = ci_in(object, Field::EvseUid)?;
@@ -104,7 +103,7 @@ struct PlacePart {
 }
 
 #[tactic(auto, unfolding(crate::specs::CdrLocationForms::place_part_at))]
-fn place_part_of(alloc: Global, object: &Value) -> Result<PlacePart, JsonFault>
+fn place_part_of(alloc: Global, object: &Tree<'_>) -> Result<PlacePart, JsonFault>
     ensures { Gives result (place_part_at (view object.now)) }
 {
     let coordinates = geo_location_of(alloc, record_in(object, Field::Coordinates)?)?;
@@ -115,7 +114,7 @@ fn place_part_of(alloc: Global, object: &Value) -> Result<PlacePart, JsonFault>
 /// The location, EVSE and connector of a session. The first fault is told, in the order of the members of
 /// [`CdrLocation`].
 #[tactic(auto, unfolding(crate::specs::CdrLocationForms::cdr_location_at))]
-pub fn cdr_location_of(alloc: Global, object: &Value) -> Result<CdrLocation, JsonFault>
+pub fn cdr_location_of(alloc: Global, object: &Tree<'_>) -> Result<CdrLocation, JsonFault>
     ensures { Gives result (cdr_location_at (view object.now)) }
 {
     let id = ci_in(object, Field::Id)?;

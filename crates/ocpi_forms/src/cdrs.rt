@@ -1,7 +1,7 @@
 //! Charge detail records (OCPI 2.2.1, CDRs: CDR object).
 
 ghost use Rattle.std.specs.Prelude.{◌≡◌};
-ghost use Rattle.serde_json.specs.View.{view};
+ghost use Rattle.json_text.specs.Trees.{view};
 ghost use Rattle.ocpi_forms.specs.CdrForms.{is_credit, cdr_head_at, cdr_totals_at, cdr_charges_at, cdr_at, cdr_members, CdrFits};
 ghost use Rattle.json_text.specs.Fault.{Gives};
 
@@ -13,10 +13,9 @@ use json_text::fields::{
     ci_in, country_in, moment_in, optional_ci_in, party_id_in, quantity_in, record_in, short_in,
     word_in,
 };
-use json_text::{JsonFault, RecordWriter};
+use json_text::{JsonFault, RecordWriter, Tree};
 use ocpi_text::{CiText, Moment, Party, Quantity, ShortText};
 use ocpi_types::{AuthMethod, Cdr, CdrToken, ChargingPeriod, Field, NonEmpty, Price};
-use serde_json::Value;
 use std::alloc::{AllocError, Global};
 
 /// A charge detail record before its location.
@@ -33,7 +32,7 @@ struct CdrHead {
 }
 
 #[tactic(auto, unfolding(crate::specs::CdrForms::cdr_head_at))]
-fn cdr_head_of(object: &Value) -> Result<CdrHead, JsonFault>
+fn cdr_head_of(object: &Tree<'_>) -> Result<CdrHead, JsonFault>
     ensures { result ≡ cdr_head_at (view object.now) }
 {
     let country = country_in(object, Field::CountryCode)?;
@@ -59,11 +58,11 @@ fn cdr_head_of(object: &Value) -> Result<CdrHead, JsonFault>
 
 /// Whether it says that it is a credit: its member `credit` is true.
 #[tactic(auto, unfolding(crate::specs::CdrForms::is_credit))]
-fn is_credit(object: &Value) -> bool
+fn is_credit(object: &Tree<'_>) -> bool
     ensures { result ≡ is_credit (view object.now) }
 {
     match object.get(Field::Credit.name()) {
-        Some(Value::Bool(credit)) => *credit,
+        Some(Tree::Truth(credit)) => *credit,
         _ => false,
     }
 }
@@ -79,7 +78,7 @@ struct CdrTotals {
 
 /// The totals of a charge detail record that is no credit. A credit is `WrongForm` of `credit`.
 #[tactic(auto, unfolding(crate::specs::CdrForms::cdr_totals_at))]
-fn cdr_totals_of(object: &Value) -> Result<CdrTotals, JsonFault>
+fn cdr_totals_of(object: &Tree<'_>) -> Result<CdrTotals, JsonFault>
     ensures { result ≡ cdr_totals_at (view object.now) }
 {
     let total_cost = price_in(object, Field::TotalCost)?;
@@ -106,7 +105,7 @@ struct CdrCharges {
 }
 
 #[tactic(auto, unfolding(crate::specs::CdrForms::cdr_charges_at))]
-fn cdr_charges_of(alloc: Global, object: &Value) -> Result<CdrCharges, JsonFault>
+fn cdr_charges_of(alloc: Global, object: &Tree<'_>) -> Result<CdrCharges, JsonFault>
     ensures { Gives result (cdr_charges_at (view object.now)) }
 {
     let currency = short_in(object, Field::Currency)?;
@@ -122,7 +121,7 @@ fn cdr_charges_of(alloc: Global, object: &Value) -> Result<CdrCharges, JsonFault
 /// A charge detail record. The first fault is told, in the order of the members of [`Cdr`]; behind them all, one whose
 /// member `credit` is true is `WrongForm` of `credit`. Any other `credit` is read past.
 #[tactic(auto, unfolding(crate::specs::CdrForms::cdr_at))]
-pub fn cdr_of(alloc: Global, object: &Value) -> Result<Cdr, JsonFault>
+pub fn cdr_of(alloc: Global, object: &Tree<'_>) -> Result<Cdr, JsonFault>
     ensures { Gives result (cdr_at (view object.now)) }
 {
     let head = cdr_head_of(object)?;

@@ -1,21 +1,20 @@
 //! The parts of a session that a charge detail record lists (OCPI 2.2.1, CDRs: ChargingPeriod and CdrDimension classes).
 
 ghost use Rattle.std.specs.Prelude.{◌≡◌};
-ghost use Rattle.serde_json.specs.View.{view};
+ghost use Rattle.json_text.specs.Trees.{view};
 ghost use Rattle.ocpi_forms.specs.ChargingPeriodForms.{cdr_dimension_at, dimension_element, dimensions_in, charging_period_at, period_element, charging_periods_in, cdr_dimension_members, charging_period_members, CdrDimensionFits, ChargingPeriodFits};
 ghost use Rattle.json_text.specs.Fault.{Gives};
 
 use crate::records::{Record, write_records};
 use json_text::fields::{as_record, e4_in, moment_in, short_in};
 use json_text::lists::{ElementReader, elements, non_empty_in};
-use json_text::{JsonFault, RecordWriter};
+use json_text::{JsonFault, RecordWriter, Tree};
 use ocpi_types::{CdrDimension, ChargingPeriod, Field, NonEmpty};
-use serde_json::Value;
 use std::alloc::{AllocError, Global};
 
 /// What was used in a charging period. The first fault is told, in the order of the members here.
 #[tactic(auto, unfolding(crate::specs::ChargingPeriodForms::cdr_dimension_at))]
-fn cdr_dimension_of(object: &Value) -> Result<CdrDimension, JsonFault>
+fn cdr_dimension_of(object: &Tree<'_>) -> Result<CdrDimension, JsonFault>
     ensures { result ≡ cdr_dimension_at (view object.now) }
 {
     let dimension_type = short_in(object, Field::TypeOf)?;
@@ -37,7 +36,7 @@ impl ElementReader<CdrDimension> for DimensionReader {
         &self,
         _alloc: Global,
         _before: &[CdrDimension],
-        value: &Value,
+        value: &Tree<'_>,
     ) -> Result<CdrDimension, JsonFault> {
         cdr_dimension_of(as_record(value, Field::Dimensions)?)
     }
@@ -45,7 +44,7 @@ impl ElementReader<CdrDimension> for DimensionReader {
 
 /// The dimensions of a charging period, one or more.
 #[tactic(auto, using(json_text::proofs::Elements::some_elements), unfolding(crate::specs::ChargingPeriodForms::dimensions_in))]
-fn dimensions_of(alloc: Global, object: &Value) -> Result<NonEmpty<CdrDimension>, JsonFault>
+fn dimensions_of(alloc: Global, object: &Tree<'_>) -> Result<NonEmpty<CdrDimension>, JsonFault>
     ensures { Gives result (dimensions_in (view object.now)) }
 {
     let values = non_empty_in(object, Field::Dimensions)?;
@@ -58,7 +57,7 @@ fn dimensions_of(alloc: Global, object: &Value) -> Result<NonEmpty<CdrDimension>
 
 /// A charging period. The first fault is told, in the order of the members here.
 #[tactic(auto, unfolding(crate::specs::ChargingPeriodForms::charging_period_at))]
-fn charging_period_of(alloc: Global, object: &Value) -> Result<ChargingPeriod, JsonFault>
+fn charging_period_of(alloc: Global, object: &Tree<'_>) -> Result<ChargingPeriod, JsonFault>
     ensures { Gives result (charging_period_at (view object.now)) }
 {
     let start_date_time = moment_in(object, Field::StartDateTime)?;
@@ -80,7 +79,7 @@ impl ElementReader<ChargingPeriod> for PeriodReader {
         &self,
         alloc: Global,
         _before: &[ChargingPeriod],
-        value: &Value,
+        value: &Tree<'_>,
     ) -> Result<ChargingPeriod, JsonFault> {
         charging_period_of(alloc, as_record(value, Field::ChargingPeriods)?)
     }
@@ -90,7 +89,7 @@ impl ElementReader<ChargingPeriod> for PeriodReader {
 #[tactic(auto, using(json_text::proofs::Elements::some_elements), unfolding(crate::specs::ChargingPeriodForms::charging_periods_in))]
 pub fn charging_periods_of(
     alloc: Global,
-    object: &Value,
+    object: &Tree<'_>,
 ) -> Result<NonEmpty<ChargingPeriod>, JsonFault>
     ensures { Gives result (charging_periods_in (view object.now)) }
 {

@@ -1,19 +1,18 @@
 //! Commands (OCPI 2.2.1, Commands). Each reader tells the first fault, in the order of the members here.
 
 ghost use Rattle.std.specs.Prelude.{◌≡◌};
-ghost use Rattle.serde_json.specs.View.{view};
+ghost use Rattle.json_text.specs.Trees.{view};
 ghost use Rattle.json_text.specs.Fault.{Gives};
 ghost use Rattle.ocpi_forms.specs.CommandForms.{start_parts_at, start_session_at, start_session_members, StartSessionFits, stop_session_at, stop_session_members, StopSessionFits, reserve_parts_at, reserve_now_at, reserve_now_members, ReserveNowFits, cancel_reservation_at, cancel_reservation_members, CancelReservationFits, unlock_connector_at, unlock_connector_members, UnlockConnectorFits};
 
 use crate::records::{Record, write_record};
 use crate::tokens::token_of;
 use json_text::fields::{ci_in, free_in, moment_in, optional_ci_in, record_in};
-use json_text::{JsonFault, RecordWriter};
+use json_text::{JsonFault, RecordWriter, Tree};
 use ocpi_text::{CiText, Moment};
 use ocpi_types::{
     CancelReservation, Field, ReserveNow, StartSession, StopSession, Token, UnlockConnector,
 };
-use serde_json::Value;
 use std::alloc::{AllocError, Global};
 
 /// A start of a session, but for the address of its result.
@@ -27,7 +26,7 @@ struct StartParts {
 }
 
 #[tactic(auto, unfolding(crate::specs::CommandForms::start_parts_at))]
-fn start_parts_of(object: &Value) -> Result<StartParts, JsonFault>
+fn start_parts_of(object: &Tree<'_>) -> Result<StartParts, JsonFault>
     ensures { result ≡ start_parts_at (view object.now) }
 {
     let token = token_of(record_in(object, Field::Token)?)?;
@@ -46,7 +45,7 @@ fn start_parts_of(object: &Value) -> Result<StartParts, JsonFault>
 
 /// A start of a session (OCPI 2.2.1, Commands: StartSession object).
 #[tactic(auto, unfolding(crate::specs::CommandForms::start_session_at))]
-pub fn start_session_of(alloc: Global, object: &Value) -> Result<StartSession, JsonFault>
+pub fn start_session_of(alloc: Global, object: &Tree<'_>) -> Result<StartSession, JsonFault>
     ensures { Gives result (start_session_at (view object.now)) }
 {
     let response_url = free_in(alloc, object, Field::ResponseUrl)?;
@@ -81,7 +80,7 @@ impl Record for StartSession {
 
 /// A stop of a session (OCPI 2.2.1, Commands: StopSession object).
 #[tactic(auto, unfolding(crate::specs::CommandForms::stop_session_at))]
-pub fn stop_session_of(alloc: Global, object: &Value) -> Result<StopSession, JsonFault>
+pub fn stop_session_of(alloc: Global, object: &Tree<'_>) -> Result<StopSession, JsonFault>
     ensures { Gives result (stop_session_at (view object.now)) }
 {
     let response_url = free_in(alloc, object, Field::ResponseUrl)?;
@@ -117,7 +116,7 @@ struct ReserveParts {
 }
 
 #[tactic(auto, unfolding(crate::specs::CommandForms::reserve_parts_at))]
-fn reserve_parts_of(object: &Value) -> Result<ReserveParts, JsonFault>
+fn reserve_parts_of(object: &Tree<'_>) -> Result<ReserveParts, JsonFault>
     ensures { result ≡ reserve_parts_at (view object.now) }
 {
     let token = token_of(record_in(object, Field::Token)?)?;
@@ -136,7 +135,7 @@ fn reserve_parts_of(object: &Value) -> Result<ReserveParts, JsonFault>
 
 /// A reservation (OCPI 2.2.1, Commands: ReserveNow object).
 #[tactic(auto, unfolding(crate::specs::CommandForms::reserve_now_at))]
-pub fn reserve_now_of(alloc: Global, object: &Value) -> Result<ReserveNow, JsonFault>
+pub fn reserve_now_of(alloc: Global, object: &Tree<'_>) -> Result<ReserveNow, JsonFault>
     ensures { Gives result (reserve_now_at (view object.now)) }
 {
     let response_url = free_in(alloc, object, Field::ResponseUrl)?;
@@ -171,7 +170,10 @@ impl Record for ReserveNow {
 
 /// The end of a reservation (OCPI 2.2.1, Commands: CancelReservation object).
 #[tactic(auto, unfolding(crate::specs::CommandForms::cancel_reservation_at))]
-pub fn cancel_reservation_of(alloc: Global, object: &Value) -> Result<CancelReservation, JsonFault>
+pub fn cancel_reservation_of(
+    alloc: Global,
+    object: &Tree<'_>,
+) -> Result<CancelReservation, JsonFault>
     ensures { Gives result (cancel_reservation_at (view object.now)) }
 {
     let response_url = free_in(alloc, object, Field::ResponseUrl)?;
@@ -198,7 +200,7 @@ impl Record for CancelReservation {
 
 /// A connector that is to be unlocked (OCPI 2.2.1, Commands: UnlockConnector object).
 #[tactic(auto, unfolding(crate::specs::CommandForms::unlock_connector_at))]
-pub fn unlock_connector_of(alloc: Global, object: &Value) -> Result<UnlockConnector, JsonFault>
+pub fn unlock_connector_of(alloc: Global, object: &Tree<'_>) -> Result<UnlockConnector, JsonFault>
     ensures { Gives result (unlock_connector_at (view object.now)) }
 {
     let response_url = free_in(alloc, object, Field::ResponseUrl)?;

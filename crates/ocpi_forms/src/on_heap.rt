@@ -1,6 +1,6 @@
 //! Records that packets, commands, replies and pushes hold on the heap.
 
-ghost use Rattle.serde_json.specs.View.{view};
+ghost use Rattle.json_text.specs.Trees.{view};
 ghost use Rattle.json_text.specs.Fault.{Gives};
 ghost use Rattle.ocpi_forms.specs.AuthorizationForms.{authorization_at};
 ghost use Rattle.ocpi_forms.specs.CdrForms.{cdr_at};
@@ -14,17 +14,16 @@ use crate::commands::{reserve_now_of, start_session_of};
 use crate::records::Record;
 use crate::sessions::session_of;
 use crate::tokens::token_of;
-use json_text::{JsonFault, RecordWriter};
+use json_text::{JsonFault, RecordWriter, Tree};
 use ocpi_types::{
     Authorization, AuthorizationInfo, Boxed, Cdr, ReserveNow, Session, StartSession, Token,
 };
-use serde_json::Value;
 use std::alloc::{AllocError, Global};
 
 /// As `start_session_of`, on the heap.
 pub fn boxed_start_session_of(
     alloc: Global,
-    object: &Value,
+    object: &Tree<'_>,
 ) -> Result<Boxed<StartSession>, JsonFault>
     ensures { Gives result (start_session_at (view object.now)) }
 {
@@ -33,7 +32,10 @@ pub fn boxed_start_session_of(
 }
 
 /// As `reserve_now_of`, on the heap.
-pub fn boxed_reserve_now_of(alloc: Global, object: &Value) -> Result<Boxed<ReserveNow>, JsonFault>
+pub fn boxed_reserve_now_of(
+    alloc: Global,
+    object: &Tree<'_>,
+) -> Result<Boxed<ReserveNow>, JsonFault>
     ensures { Gives result (reserve_now_at (view object.now)) }
 {
     let command = reserve_now_of(alloc, object)?;
@@ -41,7 +43,7 @@ pub fn boxed_reserve_now_of(alloc: Global, object: &Value) -> Result<Boxed<Reser
 }
 
 /// As `token_of`, on the heap.
-pub fn boxed_token_of(alloc: Global, object: &Value) -> Result<Boxed<Token>, JsonFault>
+pub fn boxed_token_of(alloc: Global, object: &Tree<'_>) -> Result<Boxed<Token>, JsonFault>
     ensures { Gives result (token_at (view object.now)) }
 {
     let token = token_of(object)?;
@@ -59,7 +61,7 @@ fn info_of(authorization: &Authorization) -> Option<&AuthorizationInfo> {
 /// As `authorization_of`, on the heap.
 pub fn boxed_authorization_of(
     alloc: Global,
-    object: &Value,
+    object: &Tree<'_>,
 ) -> Result<Boxed<Authorization>, JsonFault>
     ensures { Gives result (authorization_at (view object.now)) }
 {
@@ -73,7 +75,7 @@ pub fn boxed_authorization_of(
 }
 
 /// As `session_of`, on the heap.
-pub fn boxed_session_of(alloc: Global, object: &Value) -> Result<Boxed<Session>, JsonFault>
+pub fn boxed_session_of(alloc: Global, object: &Tree<'_>) -> Result<Boxed<Session>, JsonFault>
     ensures { Gives result (session_at (view object.now)) }
 {
     let session = session_of(object)?;
@@ -85,7 +87,7 @@ pub fn boxed_session_of(alloc: Global, object: &Value) -> Result<Boxed<Session>,
 }
 
 /// As `cdr_of`, on the heap.
-pub fn boxed_cdr_of(alloc: Global, object: &Value) -> Result<Boxed<Cdr>, JsonFault>
+pub fn boxed_cdr_of(alloc: Global, object: &Tree<'_>) -> Result<Boxed<Cdr>, JsonFault>
     ensures { Gives result (cdr_at (view object.now)) }
 {
     let cdr = cdr_of(alloc, object)?;

@@ -2,24 +2,23 @@
 //! Each reader tells the first fault, in the order of the members here.
 
 ghost use Rattle.std.specs.Prelude.{◌≡◌};
-ghost use Rattle.serde_json.specs.View.{view};
+ghost use Rattle.json_text.specs.Trees.{view};
 ghost use Rattle.json_text.specs.Fault.{Gives};
 ghost use Rattle.ocpi_forms.specs.ReplyForms.{response_data_at, response_data_members, ResponseDataFits, response_at, command_response_at, command_response_members, CommandResponseFits, command_result_at, command_result_members, CommandResultFits, ack_at, ack_members, AckFits};
 
 use crate::records::{Record, write_record};
 use crate::status::status_in;
 use json_text::fields::{free_in, moment_in, record_in, whole_in, word_in};
-use json_text::{JsonFault, RecordWriter};
+use json_text::{JsonFault, RecordWriter, Tree};
 use ocpi_text::Moment;
 use ocpi_types::{
     Ack, CommandResponse, CommandResult, Field, RefusalCode, ResponseData, StatusCode,
 };
-use serde_json::Value;
 use std::alloc::{AllocError, Global};
 
 /// What a command is answered (OCPI 2.2.1, Commands: CommandResponse object).
 #[tactic(auto, unfolding(crate::specs::ReplyForms::response_data_at))]
-fn response_data_of(object: &Value) -> Result<ResponseData, JsonFault>
+fn response_data_of(object: &Tree<'_>) -> Result<ResponseData, JsonFault>
     ensures { result ≡ response_data_at (view object.now) }
 {
     let result = word_in(object, Field::Result)?;
@@ -46,7 +45,7 @@ impl Record for ResponseData {
 fn response_of(
     status: StatusCode,
     timestamp: Moment,
-    object: &Value,
+    object: &Tree<'_>,
 ) -> Result<CommandResponse, JsonFault>
     ensures { result ≡ response_at status timestamp (view object.now) }
 {
@@ -67,7 +66,7 @@ fn response_of(
 
 /// A reply to a command (OCPI 2.2.1, Commands: CommandResponse object; Transport and format: Response format).
 #[tactic(auto, unfolding(crate::specs::ReplyForms::command_response_at))]
-pub fn command_response_of(object: &Value) -> Result<CommandResponse, JsonFault>
+pub fn command_response_of(object: &Tree<'_>) -> Result<CommandResponse, JsonFault>
     ensures { result ≡ command_response_at (view object.now) }
 {
     let status = status_in(object)?;
@@ -106,7 +105,7 @@ impl Record for CommandResponse {
 
 /// What became of a command (OCPI 2.2.1, Commands: CommandResult object).
 #[tactic(auto, unfolding(crate::specs::ReplyForms::command_result_at))]
-pub fn command_result_of(alloc: Global, object: &Value) -> Result<CommandResult, JsonFault>
+pub fn command_result_of(alloc: Global, object: &Tree<'_>) -> Result<CommandResult, JsonFault>
     ensures { Gives result (command_result_at (view object.now)) }
 {
     let response_url = free_in(alloc, object, Field::ResponseUrl)?;
@@ -133,7 +132,7 @@ impl Record for CommandResult {
 
 /// An acknowledgement (OCPI 2.2.1, Transport and format: Response format).
 #[tactic(auto, unfolding(crate::specs::ReplyForms::ack_at))]
-pub fn ack_of(object: &Value) -> Result<Ack, JsonFault>
+pub fn ack_of(object: &Tree<'_>) -> Result<Ack, JsonFault>
     ensures { result ≡ ack_at (view object.now) }
 {
     let status_code = status_in(object)?;

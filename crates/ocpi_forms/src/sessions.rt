@@ -2,7 +2,7 @@
 //! Price class).
 
 ghost use Rattle.std.specs.Prelude.{◌≡◌};
-ghost use Rattle.serde_json.specs.View.{view};
+ghost use Rattle.json_text.specs.Trees.{view};
 ghost use Rattle.json_text.specs.Fields.{optional};
 ghost use Rattle.ocpi_forms.specs.SessionForms.{cdr_token_at, cdr_token_members, CdrTokenFits, price_at, price_in, price_members, PriceFits, charging_parts_at, place_parts_at, session_at, session_members, SessionFits};
 
@@ -11,15 +11,14 @@ use json_text::fields::{
     ci_in, country_in, e4_in, is_absent, moment_in, optional_ci_in, optional_moment_in,
     party_id_in, quantity_in, record_in, short_in, word_in,
 };
-use json_text::{JsonFault, RecordWriter};
+use json_text::{JsonFault, RecordWriter, Tree};
 use ocpi_text::{CiText, Moment, Party, Quantity, ShortText};
 use ocpi_types::{AuthMethod, CdrToken, Field, Price, Session, SessionStatus};
-use serde_json::Value;
 use std::alloc::AllocError;
 
 /// A token as sessions and charge detail records name it. The first fault is told, in the order of the members here.
 #[tactic(auto, unfolding(crate::specs::SessionForms::cdr_token_at))]
-pub fn cdr_token_of(object: &Value) -> Result<CdrToken, JsonFault>
+pub fn cdr_token_of(object: &Tree<'_>) -> Result<CdrToken, JsonFault>
     ensures { result ≡ cdr_token_at (view object.now) }
 {
     let country = country_in(object, Field::CountryCode)?;
@@ -54,7 +53,7 @@ impl Record for CdrToken {
 
 /// An amount of money.
 #[tactic(auto, unfolding(crate::specs::SessionForms::price_at))]
-pub fn price_of(object: &Value) -> Result<Price, JsonFault>
+pub fn price_of(object: &Tree<'_>) -> Result<Price, JsonFault>
     ensures { result ≡ price_at (view object.now) }
 {
     let excl_vat = e4_in(object, Field::ExclVat)?;
@@ -76,7 +75,7 @@ impl Record for Price {
 
 /// The amount of money under that name.
 #[tactic(auto, unfolding(crate::specs::SessionForms::price_in))]
-pub fn price_in(object: &Value, field: Field) -> Result<Price, JsonFault>
+pub fn price_in(object: &Tree<'_>, field: Field) -> Result<Price, JsonFault>
     ensures { result ≡ price_in field (view object.now) }
 {
     price_of(record_in(object, field)?)
@@ -84,7 +83,7 @@ pub fn price_in(object: &Value, field: Field) -> Result<Price, JsonFault>
 
 /// The same, where it is neither absent nor null.
 #[tactic(auto, unfolding(json_text::specs::Fields::optional))]
-fn optional_price_in(object: &Value, field: Field) -> Result<Option<Price>, JsonFault>
+fn optional_price_in(object: &Tree<'_>, field: Field) -> Result<Option<Price>, JsonFault>
     ensures { result ≡ optional price_in field (view object.now) }
 {
     if is_absent(object, field) {
@@ -107,7 +106,7 @@ struct ChargingParts {
 }
 
 #[tactic(auto, unfolding(crate::specs::SessionForms::charging_parts_at))]
-fn charging_parts_of(object: &Value) -> Result<ChargingParts, JsonFault>
+fn charging_parts_of(object: &Tree<'_>) -> Result<ChargingParts, JsonFault>
     ensures { result ≡ charging_parts_at (view object.now) }
 {
     let country = country_in(object, Field::CountryCode)?;
@@ -144,7 +143,7 @@ struct PlaceParts {
 }
 
 #[tactic(auto, unfolding(crate::specs::SessionForms::place_parts_at))]
-fn place_parts_of(object: &Value) -> Result<PlaceParts, JsonFault>
+fn place_parts_of(object: &Tree<'_>) -> Result<PlaceParts, JsonFault>
     ensures { result ≡ place_parts_at (view object.now) }
 {
     let location_id = ci_in(object, Field::LocationId)?;
@@ -167,7 +166,7 @@ fn place_parts_of(object: &Value) -> Result<PlaceParts, JsonFault>
 
 /// A version of a session. The first fault is told, in the order of the members of the parts.
 #[tactic(auto, unfolding(crate::specs::SessionForms::session_at))]
-pub fn session_of(object: &Value) -> Result<Session, JsonFault>
+pub fn session_of(object: &Tree<'_>) -> Result<Session, JsonFault>
     ensures { result ≡ session_at (view object.now) }
 {
     let charging = charging_parts_of(object)?;

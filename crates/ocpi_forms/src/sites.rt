@@ -3,7 +3,7 @@
 ghost use Rattle.std.specs.Prelude.{◌≡◌, ℕ, List, [], ◌∷◌, ◌++◌, length, map, IfOk, Ok};
 ghost use Rattle.std.specs.FinSet as set;
 ghost use Rattle.std.specs.Str.{bytes_eq};
-ghost use Rattle.serde_json.specs.View.{view, items_view};
+ghost use Rattle.json_text.specs.Trees.{view, items_view};
 ghost use Rattle.ocpi_text.specs.Text.{key};
 ghost use Rattle.ocpi_types.specs.Connectors.{connector_keys};
 ghost use Rattle.ocpi_types.specs.Locations.{evse_keys, site_evse_keys};
@@ -20,13 +20,12 @@ use json_text::fields::{
     as_record, as_text, ci_in, e4_in, free_in, moment_in, party_in, record_in,
 };
 use json_text::lists::{ElementReader, counted_in, elements};
-use json_text::{JsonFault, is_same_id, is_same_party};
+use json_text::{JsonFault, Tree, is_same_id, is_same_party};
 use ocpi_text::{CiText, FreeText, Party};
 use ocpi_types::{
     Connector, Connectors, Evse, Evses, Field, IdSet, Location, Locations, Parties, PricePerKwh,
     Site, SiteLine,
 };
-use serde_json::Value;
 use std::alloc::Global;
 
 /// Whether one of the connectors has that id.
@@ -54,14 +53,18 @@ impl ElementReader<Connector> for ConnectorReader {
         &self,
         alloc: Global,
         before: &[Connector],
-        value: &Value,
+        value: &Tree<'_>,
     ) -> Result<Connector, JsonFault> {
         connector_of(alloc, before, as_record(value, Field::Connectors)?)
     }
 }
 
 #[tactic(auto, unfolding(crate::specs::Sites::connector_at, json_text::specs::Lists::new_ci_in))]
-fn connector_of(alloc: Global, before: &[Connector], object: &Value) -> Result<Connector, JsonFault>
+fn connector_of(
+    alloc: Global,
+    before: &[Connector],
+    object: &Tree<'_>,
+) -> Result<Connector, JsonFault>
     ensures { Gives result (connector_at before.now (view object.now)) }
 {
     let id = ci_in(object, Field::Id)?;
@@ -81,7 +84,7 @@ fn connector_of(alloc: Global, before: &[Connector], object: &Value) -> Result<C
 
 /// The connectors of an EVSE, one to ten, whose ids differ.
 #[tactic(auto, using(crate::proofs::SiteForm::connectors_are), unfolding(crate::specs::Sites::connectors_in))]
-fn connectors_of(alloc: Global, object: &Value) -> Result<Connectors, JsonFault>
+fn connectors_of(alloc: Global, object: &Tree<'_>) -> Result<Connectors, JsonFault>
     ensures { Gives result (connectors_in (view object.now)) }
 {
     let values = counted_in(object, Field::Connectors, 1, 10)?;
@@ -94,7 +97,7 @@ fn connectors_of(alloc: Global, object: &Value) -> Result<Connectors, JsonFault>
 
 /// An id that is the same as none of the set, but for case; the set has it then.
 #[tactic(auto, unfolding(json_text::specs::Lists::new_ci_in))]
-fn new_id_in(seen: &mut IdSet, object: &Value, field: Field) -> Result<CiText<36>, JsonFault>
+fn new_id_in(seen: &mut IdSet, object: &Tree<'_>, field: Field) -> Result<CiText<36>, JsonFault>
     ensures read { (keys : List (List ℕ)) → seen.old ≡ set.from_list keys → Gives result (new_ci_in 36 field keys (view object.now)) }
     ensures seen { IfOk result (λ id. seen.new ≡ set.insert seen.old (key id)) }
 {
@@ -108,7 +111,7 @@ fn new_id_in(seen: &mut IdSet, object: &Value, field: Field) -> Result<CiText<36
 
 /// An EVSE, whose uid is the same as none of the set, but for case; the set has it then.
 #[tactic(auto, unfolding(crate::specs::Sites::evse_at))]
-fn evse_of(alloc: Global, uids: &mut IdSet, object: &Value) -> Result<Evse, JsonFault>
+fn evse_of(alloc: Global, uids: &mut IdSet, object: &Tree<'_>) -> Result<Evse, JsonFault>
     ensures read { (earlier : List Location) (before : List Evse) → uids.old ≡ set.from_list (site_evse_keys earlier ++ evse_keys before) → Gives result (evse_at earlier before (view object.now)) }
     ensures seen { IfOk result (λ e. uids.new ≡ set.insert uids.old (key e.uid)) }
 {
@@ -123,7 +126,11 @@ fn evse_of(alloc: Global, uids: &mut IdSet, object: &Value) -> Result<Evse, Json
 }
 
 /// Each EVSE in turn, beside those whose uids the set has; it has theirs then.
-fn evse_elements(alloc: Global, uids: &mut IdSet, values: &[Value]) -> Result<Vec<Evse>, JsonFault>
+fn evse_elements(
+    alloc: Global,
+    uids: &mut IdSet,
+    values: &[Tree<'_>],
+) -> Result<Vec<Evse>, JsonFault>
     ensures read { (earlier : List Location) → uids.old ≡ set.from_list (site_evse_keys earlier) → GivesBy (λ v. v.items) result (each_after (evse_element earlier) [] (items_view values.now)) }
     ensures seen { (earlier : List Location) → uids.old ≡ set.from_list (site_evse_keys earlier) → IfOk result (λ v. uids.new ≡ set.from_list (site_evse_keys earlier ++ evse_keys v.items)) }
     ensures count { IfOk result (λ v. length v.items ≡ length values.now) }
@@ -139,7 +146,7 @@ fn evse_elements(alloc: Global, uids: &mut IdSet, values: &[Value]) -> Result<Ve
 
 /// The EVSEs of a location, one to a thousand, beside those whose uids the set has; it has theirs then.
 #[tactic(auto, unfolding(crate::specs::Sites::evses_in))]
-fn evses_of(alloc: Global, uids: &mut IdSet, object: &Value) -> Result<Evses, JsonFault>
+fn evses_of(alloc: Global, uids: &mut IdSet, object: &Tree<'_>) -> Result<Evses, JsonFault>
     ensures read { (earlier : List Location) → uids.old ≡ set.from_list (site_evse_keys earlier) → Gives result (evses_in earlier (view object.now)) }
     ensures seen { (earlier : List Location) → uids.old ≡ set.from_list (site_evse_keys earlier) → IfOk result (λ evses. uids.new ≡ set.from_list (site_evse_keys earlier ++ evse_keys evses)) }
 {
@@ -162,7 +169,7 @@ struct LocationPlace {
 }
 
 #[tactic(auto, unfolding(crate::specs::Sites::location_place_at))]
-fn location_place_of(alloc: Global, object: &Value) -> Result<LocationPlace, JsonFault>
+fn location_place_of(alloc: Global, object: &Tree<'_>) -> Result<LocationPlace, JsonFault>
     ensures { Gives result (location_place_at (view object.now)) }
 {
     let address = free_in(alloc, object, Field::Address)?;
@@ -188,7 +195,7 @@ struct SiteIds {
 
 /// A location, beside those whose ids and uids are seen; its own are seen then.
 #[tactic(auto, unfolding(crate::specs::Sites::location_at))]
-fn location_of(alloc: Global, seen: &mut SiteIds, object: &Value) -> Result<Location, JsonFault>
+fn location_of(alloc: Global, seen: &mut SiteIds, object: &Tree<'_>) -> Result<Location, JsonFault>
     ensures read { (before : List Location) → HasIds seen.old before → Gives result (location_at before (view object.now)) }
     ensures seen { (before : List Location) → HasIds seen.old before → IfOk result (λ l. HasIds seen.new (before ++ l ∷ [])) }
 {
@@ -207,7 +214,7 @@ fn location_of(alloc: Global, seen: &mut SiteIds, object: &Value) -> Result<Loca
 }
 
 /// Each location in turn.
-fn location_elements(alloc: Global, values: &[Value]) -> Result<Vec<Location>, JsonFault>
+fn location_elements(alloc: Global, values: &[Tree<'_>]) -> Result<Vec<Location>, JsonFault>
     ensures { GivesBy (λ v. v.items) result (each_after location_element [] (items_view values.now)) }
 {
     let mut seen = SiteIds {
@@ -225,7 +232,7 @@ fn location_elements(alloc: Global, values: &[Value]) -> Result<Vec<Location>, J
 
 /// The locations of a site, one to a thousand, whose ids differ, as do the uids of all their EVSEs.
 #[tactic(auto, using(crate::proofs::SiteForm::locations_are), unfolding(crate::specs::Sites::locations_in))]
-fn locations_of(alloc: Global, object: &Value) -> Result<Locations, JsonFault>
+fn locations_of(alloc: Global, object: &Tree<'_>) -> Result<Locations, JsonFault>
     ensures { Gives result (locations_in (view object.now)) }
 {
     let values = counted_in(object, Field::Locations, 1, 1000)?;
@@ -238,7 +245,7 @@ fn locations_of(alloc: Global, object: &Value) -> Result<Locations, JsonFault>
 
 /// A price, from 0.0000 to 10,000.0000.
 #[tactic(auto, unfolding(crate::specs::Sites::price_in))]
-fn price_of(object: &Value) -> Result<PricePerKwh, JsonFault>
+fn price_of(object: &Tree<'_>) -> Result<PricePerKwh, JsonFault>
     ensures { result ≡ price_in (view object.now) }
 {
     match PricePerKwh::new(e4_in(object, Field::Price)?) {
@@ -249,7 +256,7 @@ fn price_of(object: &Value) -> Result<PricePerKwh, JsonFault>
 
 /// The site of an operator: its currency, its price, and its locations.
 #[tactic(auto, unfolding(crate::specs::Sites::site_at))]
-pub fn site_of(alloc: Global, object: &Value) -> Result<Site, JsonFault>
+pub fn site_of(alloc: Global, object: &Tree<'_>) -> Result<Site, JsonFault>
     ensures { Gives result (site_at (view object.now)) }
 {
     let currency = free_in(alloc, object, Field::Currency)?;
@@ -271,13 +278,18 @@ struct ProviderReader {
 impl ElementReader<Party> for ProviderReader {
     ghost at = { λ r. provider_at r.operator };
 
-    fn element(&self, _alloc: Global, before: &[Party], value: &Value) -> Result<Party, JsonFault> {
+    fn element(
+        &self,
+        _alloc: Global,
+        before: &[Party],
+        value: &Tree<'_>,
+    ) -> Result<Party, JsonFault> {
         provider_of(self.operator, before, value)
     }
 }
 
 #[tactic(auto, unfolding(crate::specs::Sites::provider_at))]
-fn provider_of(operator: Party, before: &[Party], value: &Value) -> Result<Party, JsonFault>
+fn provider_of(operator: Party, before: &[Party], value: &Tree<'_>) -> Result<Party, JsonFault>
     ensures { result ≡ provider_at operator before.now (view value.now) }
 {
     match Party::read(as_text(value, Field::Providers)?) {
@@ -291,7 +303,7 @@ fn provider_of(operator: Party, before: &[Party], value: &Value) -> Result<Party
 
 /// The operator of a site line and its providers, at most 63, all of them different parties.
 #[tactic(auto, unfolding(crate::specs::Sites::parties_at, crate::specs::Sites::providers_in))]
-fn parties_of(alloc: Global, object: &Value) -> Result<Parties, JsonFault>
+fn parties_of(alloc: Global, object: &Tree<'_>) -> Result<Parties, JsonFault>
     ensures { Gives result (parties_at (view object.now)) }
 {
     let operator = party_in(object, Field::Party)?;
@@ -304,7 +316,7 @@ fn parties_of(alloc: Global, object: &Value) -> Result<Parties, JsonFault>
 }
 
 #[tactic(auto, unfolding(crate::specs::Sites::site_line_at))]
-fn site_line_of(alloc: Global, object: &Value) -> Result<SiteLine, JsonFault>
+fn site_line_of(alloc: Global, object: &Tree<'_>) -> Result<SiteLine, JsonFault>
     ensures { Gives result (site_line_at (view object.now)) }
 {
     let at = moment_in(object, Field::At)?;
@@ -314,14 +326,14 @@ fn site_line_of(alloc: Global, object: &Value) -> Result<SiteLine, JsonFault>
 }
 
 #[tactic(auto, unfolding(crate::specs::Sites::site_of_line))]
-fn line_site(alloc: Global, tree: &Value) -> Result<SiteLine, JsonFault>
+fn line_site(alloc: Global, tree: &Tree<'_>) -> Result<SiteLine, JsonFault>
     ensures { Gives result (site_of_line (view tree.now)) }
 {
     site_line_of(alloc, as_record(tree, Field::Line)?)
 }
 
 /// The site line that the tree of a line spells. A line that is no object is told as such.
-pub fn site_of_line(alloc: Global, tree: &Value) -> Result<SiteLine, JsonFault>
+pub fn site_of_line(alloc: Global, tree: &Tree<'_>) -> Result<SiteLine, JsonFault>
     // What is read has the form of a site line.
     ensures found { IfOk result (λ l. IsSiteLineTree (view tree.now) l) }
     // What has the form of a site line is read, unless memory runs out.

@@ -1,20 +1,19 @@
 //! Tokens (OCPI 2.2.1, Tokens: Token object).
 
 ghost use Rattle.std.specs.Prelude.{◌≡◌};
-ghost use Rattle.serde_json.specs.View.{view};
+ghost use Rattle.json_text.specs.Trees.{view};
 ghost use Rattle.ocpi_forms.specs.Tokens.{token_at, token_members, TokenFits};
 
 use crate::records::Record;
 use json_text::fields::{ci_in, country_in, moment_in, party_id_in, short_in, truth_in, word_in};
-use json_text::{JsonFault, RecordWriter};
+use json_text::{JsonFault, RecordWriter, Tree};
 use ocpi_text::Party;
 use ocpi_types::{Field, Token};
-use serde_json::Value;
 use std::alloc::AllocError;
 
 /// A token. The first fault is told, in the order of the members here.
 #[tactic(auto, unfolding(crate::specs::Tokens::token_at))]
-pub fn token_of(object: &Value) -> Result<Token, JsonFault>
+pub fn token_of(object: &Tree<'_>) -> Result<Token, JsonFault>
     ensures { result ≡ token_at (view object.now) }
 {
     let country = country_in(object, Field::CountryCode)?;

@@ -1,5 +1,5 @@
 -- An event is read just where the tree has its form.
-use Rattle.std.proofs.Common.{◌≡◌, ℕ, List, Option, Some, None, Ok, Err, IfOk, refl, sym, subst, ap}
+use Rattle.std.proofs.Common.{◌≡◌, ℕ, List, Ok, Err, IfOk, refl, sym, subst, ap}
 use Rattle.serde_json.specs.Data.{Data}
 use Rattle.ocpi_types.specs.Words.{token_type_of}
 use Rattle.ocpi_types.specs.declared.events.ChargerEvent.{ChargerEvent}
@@ -9,7 +9,6 @@ use Rattle.ocpi_types.specs.declared.events.EventKind.{EventKind}
 use Rattle.ocpi_types.specs.declared.events.EventKind.TheVariants as kind
 use Rattle.ocpi_types.specs.declared.events.Order.{Order}
 use Rattle.ocpi_types.specs.declared.events.Order.TheVariants as order
-use Rattle.ocpi_types.specs.declared.field.Field.{Field}
 use Rattle.ocpi_types.specs.declared.field.Field.TheVariants as field
 use Rattle.ocpi_json.specs.declared.events.ChargerWord.{ChargerWord}
 use Rattle.ocpi_json.specs.declared.events.ChargerWord.TheVariants as report

@@ -1,6 +1,5 @@
 -- A packet is read just where the tree has a packet's form, and a packet that is written is read again.
-use Rattle.std.proofs.Common.{◌≡◌, ℕ, ◌≤◌, List, true, false, Option, Some, None, Ok, refl, sym, subst, ap, ◌∙◌, arith}
-use Rattle.json.specs.Json as json
+use Rattle.std.proofs.Common.{◌≡◌, ℕ, List, true, false, Some, Ok, refl, sym, subst}
 use Rattle.serde_json.specs.Data.{Data}
 use Rattle.ocpi_types.specs.Fields.{name_of}
 use Rattle.ocpi_types.specs.Kinds.{kind_of}
@@ -11,7 +10,6 @@ use Rattle.ocpi_types.specs.declared.words.PacketKind.{PacketKind}
 use Rattle.ocpi_types.specs.declared.words.PacketKind.TheVariants as kind
 use Rattle.json_text.specs.Fields.{party_in, whole_in, record_in, known_in}
 use Rattle.json_text.specs.Form.{Required, IsParty, IsWhole, IsWord, IsRecord}
-use Rattle.json_text.specs.Members.{object_of}
 use Rattle.ocpi_forms.proofs.BodyLemmas.{OfKind, body_exact, body_form, body_well}
 use Rattle.ocpi_forms.specs.Bodies.{body_at, IsBody, body_members}
 use Rattle.ocpi_json.specs.declared.packets.Envelope.{Envelope}

@@ -1,5 +1,5 @@
 -- A row is read just where its text has the row's form and its key is the row's, and a row that is written is read again.
-use Rattle.std.proofs.Common.{◌≡◌, ℕ, ◌≤◌, Bool, true, false, cond, List, [], ◌∷◌, Option, Some, None, Ok, Err, refl, sym, subst, ap, ◌∙◌, arith}
+use Rattle.std.proofs.Common.{◌≡◌, ℕ, ◌≤◌, Bool, true, false, cond, List, [], Option, Some, None, Ok, Err, refl, sym, subst, ap, ◌∙◌, arith}
 use Rattle.std.specs.Str.{bytes_eq}
 use Rattle.std.proofs.lemmas.Slice.Eq.{bytes_eq-Decides}
 use Rattle.json.specs.Json as json
@@ -13,11 +13,9 @@ use Rattle.ocpi_types.specs.declared.rows.Row.{Row}
 use Rattle.ocpi_types.specs.declared.rows.Row.TheVariants as row
 use Rattle.ocpi_types.specs.declared.words.CommandResultType.{CommandResultType}
 use Rattle.json_text.specs.declared.fault.JsonFault.TheVariants.{WrongForm}
-use Rattle.json_text.specs.Fault.{Read, ◌>>=◌}
 use Rattle.json_text.specs.Fields.{known, party_in, whole_in, word_in}
 use Rattle.json_text.specs.Form.{Required, IsRecord, IsWhole, IsWord}
 use Rattle.json_text.specs.Members.{object_of}
-use Rattle.json_text.specs.Texts.{text_tree}
 use Rattle.ocpi_forms.specs.CdrForms.{cdr_at}
 use Rattle.ocpi_forms.specs.SessionForms.{session_at}
 use Rattle.ocpi_forms.specs.Tokens.{token_at}

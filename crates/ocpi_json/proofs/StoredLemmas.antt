@@ -1,5 +1,5 @@
 -- What rows hold beside OCPI's records is read just where its form holds, and what is written has that form.
-use Rattle.std.proofs.Common.{◌≡◌, ℕ, ◌≤◌, List, true, false, Option, Some, None, Ok, option_map, refl, sym, subst, ap, ◌∙◌, arith}
+use Rattle.std.proofs.Common.{◌≡◌, ℕ, List, true, Option, Some, Ok, refl, sym, subst, ap, ◌∙◌}
 use Rattle.std.specs.Prelude.{IfSome}
 use Rattle.json.specs.Json as json
 use Rattle.serde_json.specs.Data.{Data}
@@ -22,7 +22,7 @@ use Rattle.ocpi_types.specs.declared.stored.Reply.{Reply}
 use Rattle.ocpi_types.specs.declared.stored.Reply.TheVariants as reply
 use Rattle.ocpi_types.specs.declared.stored.Reservation.{Reservation}
 use Rattle.ocpi_types.specs.declared.stored.SentCommand.{SentCommand}
-use Rattle.json_text.specs.Fault.{Read, ◌>>=◌}
+use Rattle.json_text.specs.Fault.{Read}
 use Rattle.json_text.specs.Fields.{ci_in, known_in, moment_in, optional, party_in, record_in, word_in}
 use Rattle.json_text.specs.Form.{Required, Optional, IsCi, IsMoment, IsParty, IsRecord, IsWord}
 use Rattle.json_text.specs.Members.{Member, object_of}

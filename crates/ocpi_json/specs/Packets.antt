@@ -1,6 +1,6 @@
 -- Packets in JSON (OCPI 2.2.1, Commands, Sessions, CDRs and Tokens, in an envelope that says whose the packet is, and under which
 -- numbers): how one is read, which form its tree has, and what is written.
-use Rattle.std.specs.Prelude.{◌≡◌, ◌≤◌, ℕ, List, [], ◌∷◌, Option, Some, None, Ok, Err}
+use Rattle.std.specs.Prelude.{◌≡◌, ◌≤◌, ℕ, List, [], ◌∷◌, Ok}
 use Rattle.json.specs.Json as json
 use Rattle.serde_json.specs.Data.{Data}
 use Rattle.ocpi_text.specs.Party.{party_at}
@@ -9,7 +9,6 @@ use Rattle.ocpi_types.specs.Kinds.{kind_of}
 use Rattle.ocpi_types.specs.Words.{kind_word, kind_of_word}
 use Rattle.ocpi_types.specs.declared.field.Field.TheVariants as field
 use Rattle.ocpi_types.specs.declared.packet.Packet.{Packet}
-use Rattle.ocpi_types.specs.declared.words.PacketKind.{PacketKind}
 use Rattle.ocpi_json.specs.declared.packets.Envelope.{Envelope}
 use Rattle.ocpi_forms.specs.Bodies.{body_at, IsBody, body_members, BodyFits}
 use Rattle.json_text.specs.Fault.{Read, ◌>>=◌}

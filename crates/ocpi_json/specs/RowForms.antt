@@ -12,7 +12,7 @@ use Rattle.ocpi_types.specs.declared.rows.Row.{Row}
 use Rattle.ocpi_types.specs.declared.rows.Row.TheVariants as row
 use Rattle.ocpi_types.specs.declared.rows.RowKey.TheVariants as keys
 use Rattle.ocpi_types.specs.declared.words.CommandResultType.{CommandResultType}
-use Rattle.json_text.specs.declared.fault.JsonFault.TheVariants.{UnknownKind, WrongForm}
+use Rattle.json_text.specs.declared.fault.JsonFault.TheVariants.{WrongForm}
 use Rattle.json_text.specs.Fault.{Read, ◌>>=◌}
 use Rattle.json_text.specs.Fields.{as_record, known, party_in, whole_in, word_in}
 use Rattle.json_text.specs.Form.{Required, IsParty, IsRecord, IsWhole, IsWord}

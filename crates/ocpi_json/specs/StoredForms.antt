@@ -8,7 +8,6 @@ use Rattle.ocpi_text.specs.Party.{party_at}
 use Rattle.ocpi_types.specs.Kinds.{kind_of}
 use Rattle.ocpi_types.specs.Stored.{body_of_command, body_of_reply, body_of_push}
 use Rattle.ocpi_types.specs.Words.{kind_word, result_of, result_word}
-use Rattle.ocpi_types.specs.declared.commands.StartSession.{StartSession}
 use Rattle.ocpi_types.specs.declared.field.Field.{Field}
 use Rattle.ocpi_types.specs.declared.field.Field.TheVariants as field
 use Rattle.ocpi_types.specs.declared.packet.Body.{Body}

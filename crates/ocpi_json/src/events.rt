@@ -1,20 +1,19 @@
 //! Event lines: what happens at a node of a run. Each reader tells the first fault, in the order of the members here.
 
 ghost use Rattle.std.specs.Prelude.{◌≡◌, IfOk, Ok};
-ghost use Rattle.serde_json.specs.View.{view};
+ghost use Rattle.json_text.specs.Trees.{view};
 ghost use Rattle.ocpi_json.specs.EventForms.{event_of_word, order_of_word, start_order_at, reserve_order_at, unlock_order_at, order_at, submit_at, token_event_at, service_at, swipe_at, meter_at, command_number_at, report_at, charger_at, deliver_at, kind_at, event_at, event_of_line, IsEventLine};
 ghost use Rattle.json_text.specs.Fields.{known_in};
 ghost use Rattle.ocpi_types.specs.declared.field.Field.TheVariants as field;
 
-use json_text::JsonFault;
 use json_text::fields::{
     as_record, ci_in, moment_in, optional_ci_in, party_in, quantity_in, record_in, text_in,
     truth_in, whole_in, word_in,
 };
+use json_text::{JsonFault, Tree};
 use ocpi_forms::token_of;
 use ocpi_text::{Party, Whole};
 use ocpi_types::{ChargerEvent, Event, EventKind, Field, Order};
-use serde_json::Value;
 
 /// What a charge point reports, or a driver does there, by its word.
 #[derive(Clone, Copy)]
@@ -99,7 +98,7 @@ pub fn order_word(word: &str) -> Option<OrderWord>
 
 /// The word of the event. One that names none is `UnknownKind`.
 #[tactic(auto, unfolding(json_text::specs::Fields::known_in))]
-fn event_word_of(object: &Value) -> Result<EventWord, JsonFault>
+fn event_word_of(object: &Tree<'_>) -> Result<EventWord, JsonFault>
     ensures { result ≡ known_in event_of_word field.Event (view object.now) }
 {
     match event_word(text_in(object, Field::Event)?) {
@@ -110,7 +109,7 @@ fn event_word_of(object: &Value) -> Result<EventWord, JsonFault>
 
 /// The word of the order. One that names none is `UnknownKind`.
 #[tactic(auto, unfolding(json_text::specs::Fields::known_in))]
-fn order_word_of(object: &Value) -> Result<OrderWord, JsonFault>
+fn order_word_of(object: &Tree<'_>) -> Result<OrderWord, JsonFault>
     ensures { result ≡ known_in order_of_word field.Order (view object.now) }
 {
     match order_word(text_in(object, Field::Order)?) {
@@ -120,7 +119,7 @@ fn order_word_of(object: &Value) -> Result<OrderWord, JsonFault>
 }
 
 #[tactic(auto, unfolding(crate::specs::EventForms::start_order_at))]
-fn start_order_of(object: &Value) -> Result<Order, JsonFault>
+fn start_order_of(object: &Tree<'_>) -> Result<Order, JsonFault>
     ensures { result ≡ start_order_at (view object.now) }
 {
     let token_uid = ci_in(object, Field::TokenUid)?;
@@ -138,7 +137,7 @@ fn start_order_of(object: &Value) -> Result<Order, JsonFault>
 }
 
 #[tactic(auto, unfolding(crate::specs::EventForms::reserve_order_at))]
-fn reserve_order_of(object: &Value) -> Result<Order, JsonFault>
+fn reserve_order_of(object: &Tree<'_>) -> Result<Order, JsonFault>
     ensures { result ≡ reserve_order_at (view object.now) }
 {
     let token_uid = ci_in(object, Field::TokenUid)?;
@@ -158,7 +157,7 @@ fn reserve_order_of(object: &Value) -> Result<Order, JsonFault>
 }
 
 #[tactic(auto, unfolding(crate::specs::EventForms::unlock_order_at))]
-fn unlock_order_of(object: &Value) -> Result<Order, JsonFault>
+fn unlock_order_of(object: &Tree<'_>) -> Result<Order, JsonFault>
     ensures { result ≡ unlock_order_at (view object.now) }
 {
     let location_id = ci_in(object, Field::LocationId)?;
@@ -173,7 +172,7 @@ fn unlock_order_of(object: &Value) -> Result<Order, JsonFault>
 
 /// What is ordered by that word.
 #[tactic(auto, unfolding(crate::specs::EventForms::order_at))]
-fn order_of(word: OrderWord, object: &Value) -> Result<Order, JsonFault>
+fn order_of(word: OrderWord, object: &Tree<'_>) -> Result<Order, JsonFault>
     ensures { result ≡ order_at word (view object.now) }
 {
     match word {
@@ -192,7 +191,7 @@ fn order_of(word: OrderWord, object: &Value) -> Result<Order, JsonFault>
 }
 
 #[tactic(auto, unfolding(crate::specs::EventForms::submit_at))]
-fn submit_of(object: &Value) -> Result<EventKind, JsonFault>
+fn submit_of(object: &Tree<'_>) -> Result<EventKind, JsonFault>
     ensures { result ≡ submit_at (view object.now) }
 {
     let at = moment_in(object, Field::At)?;
@@ -207,7 +206,7 @@ fn submit_of(object: &Value) -> Result<EventKind, JsonFault>
 }
 
 #[tactic(auto, unfolding(crate::specs::EventForms::token_event_at))]
-fn token_event_of(object: &Value) -> Result<EventKind, JsonFault>
+fn token_event_of(object: &Tree<'_>) -> Result<EventKind, JsonFault>
     ensures { result ≡ token_event_at (view object.now) }
 {
     let at = moment_in(object, Field::At)?;
@@ -216,7 +215,7 @@ fn token_event_of(object: &Value) -> Result<EventKind, JsonFault>
 }
 
 #[tactic(auto, unfolding(crate::specs::EventForms::service_at))]
-fn service_of(object: &Value) -> Result<EventKind, JsonFault>
+fn service_of(object: &Tree<'_>) -> Result<EventKind, JsonFault>
     ensures { result ≡ service_at (view object.now) }
 {
     let evse_uid = ci_in(object, Field::EvseUid)?;
@@ -228,7 +227,7 @@ fn service_of(object: &Value) -> Result<EventKind, JsonFault>
 }
 
 #[tactic(auto, unfolding(crate::specs::EventForms::swipe_at))]
-fn swipe_of(object: &Value) -> Result<ChargerEvent, JsonFault>
+fn swipe_of(object: &Tree<'_>) -> Result<ChargerEvent, JsonFault>
     ensures { result ≡ swipe_at (view object.now) }
 {
     let evse_uid = ci_in(object, Field::EvseUid)?;
@@ -244,7 +243,7 @@ fn swipe_of(object: &Value) -> Result<ChargerEvent, JsonFault>
 }
 
 #[tactic(auto, unfolding(crate::specs::EventForms::meter_at))]
-fn meter_of(object: &Value) -> Result<ChargerEvent, JsonFault>
+fn meter_of(object: &Tree<'_>) -> Result<ChargerEvent, JsonFault>
     ensures { result ≡ meter_at (view object.now) }
 {
     let evse_uid = ci_in(object, Field::EvseUid)?;
@@ -254,7 +253,7 @@ fn meter_of(object: &Value) -> Result<ChargerEvent, JsonFault>
 
 /// Which of the commands that are open.
 #[tactic(auto, unfolding(crate::specs::EventForms::command_number_at))]
-fn command_number_of(object: &Value) -> Result<CommandNumber, JsonFault>
+fn command_number_of(object: &Tree<'_>) -> Result<CommandNumber, JsonFault>
     ensures { result ≡ command_number_at (view object.now) }
 {
     let provider = party_in(object, Field::Provider)?;
@@ -264,7 +263,7 @@ fn command_number_of(object: &Value) -> Result<CommandNumber, JsonFault>
 
 /// What is reported by that word.
 #[tactic(auto, unfolding(crate::specs::EventForms::report_at))]
-fn report_of(word: ChargerWord, object: &Value) -> Result<ChargerEvent, JsonFault>
+fn report_of(word: ChargerWord, object: &Tree<'_>) -> Result<ChargerEvent, JsonFault>
     ensures { result ≡ report_at word (view object.now) }
 {
     match word {
@@ -298,7 +297,7 @@ fn report_of(word: ChargerWord, object: &Value) -> Result<ChargerEvent, JsonFaul
 }
 
 #[tactic(auto, unfolding(crate::specs::EventForms::charger_at))]
-fn charger_of(word: ChargerWord, object: &Value) -> Result<EventKind, JsonFault>
+fn charger_of(word: ChargerWord, object: &Tree<'_>) -> Result<EventKind, JsonFault>
     ensures { result ≡ charger_at word (view object.now) }
 {
     let at = moment_in(object, Field::At)?;
@@ -307,7 +306,7 @@ fn charger_of(word: ChargerWord, object: &Value) -> Result<EventKind, JsonFault>
 }
 
 #[tactic(auto, unfolding(crate::specs::EventForms::deliver_at))]
-fn deliver_of(object: &Value) -> Result<EventKind, JsonFault>
+fn deliver_of(object: &Tree<'_>) -> Result<EventKind, JsonFault>
     ensures { result ≡ deliver_at (view object.now) }
 {
     let at = moment_in(object, Field::At)?;
@@ -318,7 +317,7 @@ fn deliver_of(object: &Value) -> Result<EventKind, JsonFault>
 
 /// What happens by that word.
 #[tactic(auto, unfolding(crate::specs::EventForms::kind_at))]
-fn kind_of(word: EventWord, object: &Value) -> Result<EventKind, JsonFault>
+fn kind_of(word: EventWord, object: &Tree<'_>) -> Result<EventKind, JsonFault>
     ensures { result ≡ kind_at word (view object.now) }
 {
     match word {
@@ -337,7 +336,7 @@ fn kind_of(word: EventWord, object: &Value) -> Result<EventKind, JsonFault>
 }
 
 #[tactic(auto, unfolding(crate::specs::EventForms::event_at))]
-fn event_of(object: &Value) -> Result<Event, JsonFault>
+fn event_of(object: &Tree<'_>) -> Result<Event, JsonFault>
     ensures { result ≡ event_at (view object.now) }
 {
     let word = event_word_of(object)?;
@@ -347,14 +346,14 @@ fn event_of(object: &Value) -> Result<Event, JsonFault>
 }
 
 #[tactic(auto, unfolding(crate::specs::EventForms::event_of_line))]
-fn line_event(tree: &Value) -> Result<Event, JsonFault>
+fn line_event(tree: &Tree<'_>) -> Result<Event, JsonFault>
     ensures { result ≡ event_of_line (view tree.now) }
 {
     event_of(as_record(tree, Field::Line)?)
 }
 
 /// The event that the tree of a line spells. A line that is no object is told as such.
-pub fn event_of_line(tree: &Value) -> Result<Event, JsonFault>
+pub fn event_of_line(tree: &Tree<'_>) -> Result<Event, JsonFault>
     // What is read has the form of an event.
     ensures found { IfOk result (λ e. IsEventLine (view tree.now) e) }
     // What has the form of an event is read.

@@ -1,7 +1,7 @@
 //! Packets: an envelope that says whose the packet is and under which numbers, and what it carries.
 
 ghost use Rattle.std.specs.Prelude.{◌≡◌, IfOk, Ok, OnOk};
-ghost use Rattle.serde_json.specs.View.{view};
+ghost use Rattle.json_text.specs.Trees.{view};
 ghost use Rattle.ocpi_types.specs.Words.{kind_of_word};
 ghost use Rattle.ocpi_types.specs.declared.field.Field.TheVariants as field;
 ghost use Rattle.json_text.specs.Fault.{Gives};
@@ -10,16 +10,15 @@ ghost use Rattle.json_text.specs.Members.{said};
 ghost use Rattle.ocpi_json.specs.Packets.{envelope_at, packet_at, packet_of_line, IsPacketLine, packet_members, PacketFits};
 
 use json_text::fields::{as_record, party_in, record_in, text_in, whole_in};
-use json_text::{JsonFault, RecordWriter};
+use json_text::{JsonFault, RecordWriter, Tree};
 use ocpi_forms::{body_of, write_record};
 use ocpi_text::{Party, Whole};
 use ocpi_types::{Field, Packet, PacketKind, Word};
-use serde_json::Value;
 use std::alloc::{AllocError, Global};
 
 /// The kind of a packet. A word that names none is `UnknownKind`.
 #[tactic(auto, unfolding(json_text::specs::Fields::known_in))]
-fn kind_of(object: &Value) -> Result<PacketKind, JsonFault>
+fn kind_of(object: &Tree<'_>) -> Result<PacketKind, JsonFault>
     ensures { result ≡ known_in kind_of_word field.Kind (view object.now) }
 {
     match PacketKind::of_word(text_in(object, Field::Kind)?) {
@@ -39,7 +38,7 @@ struct Envelope {
 }
 
 #[tactic(auto, unfolding(crate::specs::Packets::envelope_at))]
-fn envelope_of(object: &Value) -> Result<Envelope, JsonFault>
+fn envelope_of(object: &Tree<'_>) -> Result<Envelope, JsonFault>
     ensures { result ≡ envelope_at (view object.now) }
 {
     let from = party_in(object, Field::From)?;
@@ -57,7 +56,7 @@ fn envelope_of(object: &Value) -> Result<Envelope, JsonFault>
 }
 
 #[tactic(auto, unfolding(crate::specs::Packets::packet_at))]
-fn packet_of(alloc: Global, object: &Value) -> Result<Packet, JsonFault>
+fn packet_of(alloc: Global, object: &Tree<'_>) -> Result<Packet, JsonFault>
     ensures { Gives result (packet_at (view object.now)) }
 {
     let envelope = envelope_of(object)?;
@@ -73,14 +72,14 @@ fn packet_of(alloc: Global, object: &Value) -> Result<Packet, JsonFault>
 }
 
 #[tactic(auto, unfolding(crate::specs::Packets::packet_of_line))]
-fn line_packet(alloc: Global, tree: &Value) -> Result<Packet, JsonFault>
+fn line_packet(alloc: Global, tree: &Tree<'_>) -> Result<Packet, JsonFault>
     ensures { Gives result (packet_of_line (view tree.now)) }
 {
     packet_of(alloc, as_record(tree, Field::Line)?)
 }
 
 /// The packet that the tree of a line spells. A line that is no object is told as such.
-pub fn packet_of_line(alloc: Global, tree: &Value) -> Result<Packet, JsonFault>
+pub fn packet_of_line(alloc: Global, tree: &Tree<'_>) -> Result<Packet, JsonFault>
     // What is read has the form of a packet.
     ensures found { IfOk result (λ p. IsPacketLine (view tree.now) p) }
     // What has the form of a packet is read, unless memory runs out.

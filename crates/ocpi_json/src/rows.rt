@@ -3,7 +3,7 @@
 
 ghost use Rattle.std.specs.Prelude.{◌≡◌, ◌≤◌, [], IfOk, OnOk};
 ghost use Rattle.std.specs.Str.{bytes_eq};
-ghost use Rattle.serde_json.specs.View.{view};
+ghost use Rattle.json_text.specs.Trees.{view};
 ghost use Rattle.ocpi_text.specs.Whole.{max_whole};
 ghost use Rattle.json_text.specs.Fault.{Gives};
 ghost use Rattle.json_text.specs.Members.{said};
@@ -18,11 +18,10 @@ use crate::stored::{
     write_sent_command,
 };
 use json_text::fields::{as_record, party_in, whole_in, word_in};
-use json_text::{JsonFault, RecordWriter};
+use json_text::{JsonFault, RecordWriter, Tree};
 use ocpi_forms::{Record, boxed_cdr_of, boxed_session_of, boxed_token_of};
 use ocpi_text::Whole;
 use ocpi_types::{CommandResultType, Field, Row, RowKey};
-use serde_json::Value;
 use std::alloc::{AllocError, Global};
 
 /// Whether the text is that key's.
@@ -34,7 +33,7 @@ fn is_text_of(alloc: Global, text: &str, key: &RowKey) -> Result<bool, AllocErro
 }
 
 #[tactic(auto, unfolding(crate::specs::RowForms::count_at))]
-fn count_of(key: &str, object: &Value) -> Result<Row, JsonFault>
+fn count_of(key: &str, object: &Tree<'_>) -> Result<Row, JsonFault>
     ensures { result ≡ count_at key.now (view object.now) }
 {
     let last = whole_in(object, Field::Last)?;
@@ -45,7 +44,7 @@ fn count_of(key: &str, object: &Value) -> Result<Row, JsonFault>
 }
 
 #[tactic(auto, unfolding(crate::specs::RowForms::reply_row_at))]
-fn reply_row_of(alloc: Global, key: &str, object: &Value) -> Result<Row, JsonFault>
+fn reply_row_of(alloc: Global, key: &str, object: &Tree<'_>) -> Result<Row, JsonFault>
     ensures { Gives result (reply_row_at key.now (view object.now)) }
 {
     let reply = carried_reply(alloc, object)?;
@@ -60,7 +59,7 @@ fn reply_row_of(alloc: Global, key: &str, object: &Value) -> Result<Row, JsonFau
 }
 
 #[tactic(auto, unfolding(crate::specs::RowForms::token_row_at, crate::specs::RowForms::own_key))]
-fn token_row_of(alloc: Global, key: &str, object: &Value) -> Result<Row, JsonFault>
+fn token_row_of(alloc: Global, key: &str, object: &Tree<'_>) -> Result<Row, JsonFault>
     ensures { Gives result (token_row_at key.now (view object.now)) }
 {
     let token = boxed_token_of(alloc, object)?;
@@ -76,7 +75,7 @@ fn token_row_of(alloc: Global, key: &str, object: &Value) -> Result<Row, JsonFau
 }
 
 #[tactic(auto, unfolding(crate::specs::RowForms::push_row_at))]
-fn push_row_of(alloc: Global, key: &str, object: &Value) -> Result<Row, JsonFault>
+fn push_row_of(alloc: Global, key: &str, object: &Tree<'_>) -> Result<Row, JsonFault>
     ensures { Gives result (push_row_at key.now (view object.now)) }
 {
     let push = carried_push(alloc, object)?;
@@ -88,7 +87,7 @@ fn push_row_of(alloc: Global, key: &str, object: &Value) -> Result<Row, JsonFaul
 }
 
 #[tactic(auto, unfolding(crate::specs::RowForms::service_row_at))]
-fn service_row_of(key: &str, object: &Value) -> Result<Row, JsonFault>
+fn service_row_of(key: &str, object: &Tree<'_>) -> Result<Row, JsonFault>
     ensures { result ≡ service_row_at key.now (view object.now) }
 {
     match ci_key_of(key) {
@@ -98,7 +97,7 @@ fn service_row_of(key: &str, object: &Value) -> Result<Row, JsonFault>
 }
 
 #[tactic(auto, unfolding(crate::specs::RowForms::spent_at))]
-fn spent_of(key: &str, object: &Value) -> Result<Row, JsonFault>
+fn spent_of(key: &str, object: &Tree<'_>) -> Result<Row, JsonFault>
     ensures { result ≡ spent_at key.now (view object.now) }
 {
     match party_id_of(key) {
@@ -111,7 +110,7 @@ fn spent_of(key: &str, object: &Value) -> Result<Row, JsonFault>
 }
 
 #[tactic(auto, unfolding(crate::specs::RowForms::mark_at))]
-fn mark_of(key: &str, object: &Value) -> Result<Row, JsonFault>
+fn mark_of(key: &str, object: &Tree<'_>) -> Result<Row, JsonFault>
     ensures { result ≡ mark_at key.now (view object.now) }
 {
     let number = whole_in(object, Field::Number)?;
@@ -126,7 +125,7 @@ fn mark_of(key: &str, object: &Value) -> Result<Row, JsonFault>
 }
 
 #[tactic(auto, unfolding(crate::specs::RowForms::reservation_row_at))]
-fn reservation_row_of(alloc: Global, key: &str, object: &Value) -> Result<Row, JsonFault>
+fn reservation_row_of(alloc: Global, key: &str, object: &Tree<'_>) -> Result<Row, JsonFault>
     ensures { Gives result (reservation_row_at key.now (view object.now)) }
 {
     let reservation = boxed_reservation_of(alloc, object)?;
@@ -141,7 +140,7 @@ fn reservation_row_of(alloc: Global, key: &str, object: &Value) -> Result<Row, J
 }
 
 #[tactic(auto, unfolding(crate::specs::RowForms::pending_at))]
-fn pending_of(alloc: Global, key: &str, object: &Value) -> Result<Row, JsonFault>
+fn pending_of(alloc: Global, key: &str, object: &Tree<'_>) -> Result<Row, JsonFault>
     ensures { Gives result (pending_at key.now (view object.now)) }
 {
     let open = boxed_open_command_of(alloc, object)?;
@@ -156,7 +155,7 @@ fn pending_of(alloc: Global, key: &str, object: &Value) -> Result<Row, JsonFault
 }
 
 #[tactic(auto, unfolding(crate::specs::RowForms::result_row_at))]
-fn result_row_of(key: &str, object: &Value) -> Result<Row, JsonFault>
+fn result_row_of(key: &str, object: &Tree<'_>) -> Result<Row, JsonFault>
     ensures { result ≡ result_row_at key.now (view object.now) }
 {
     let result = word_in(object, Field::Result)?;
@@ -171,7 +170,7 @@ fn result_row_of(key: &str, object: &Value) -> Result<Row, JsonFault>
 }
 
 #[tactic(auto, unfolding(crate::specs::RowForms::session_row_at, crate::specs::RowForms::own_key))]
-fn session_row_of(alloc: Global, key: &str, object: &Value) -> Result<Row, JsonFault>
+fn session_row_of(alloc: Global, key: &str, object: &Tree<'_>) -> Result<Row, JsonFault>
     ensures { Gives result (session_row_at key.now (view object.now)) }
 {
     let session = boxed_session_of(alloc, object)?;
@@ -186,7 +185,7 @@ fn session_row_of(alloc: Global, key: &str, object: &Value) -> Result<Row, JsonF
 }
 
 #[tactic(auto, unfolding(crate::specs::RowForms::cdr_row_at, crate::specs::RowForms::own_key))]
-fn cdr_row_of(alloc: Global, key: &str, object: &Value) -> Result<Row, JsonFault>
+fn cdr_row_of(alloc: Global, key: &str, object: &Tree<'_>) -> Result<Row, JsonFault>
     ensures { Gives result (cdr_row_at key.now (view object.now)) }
 {
     let cdr = boxed_cdr_of(alloc, object)?;
@@ -202,7 +201,7 @@ fn cdr_row_of(alloc: Global, key: &str, object: &Value) -> Result<Row, JsonFault
 }
 
 #[tactic(auto, unfolding(crate::specs::RowForms::command_row_at))]
-fn command_row_of(alloc: Global, key: &str, object: &Value) -> Result<Row, JsonFault>
+fn command_row_of(alloc: Global, key: &str, object: &Tree<'_>) -> Result<Row, JsonFault>
     ensures { Gives result (command_row_at key.now (view object.now)) }
 {
     let command = boxed_sent_command_of(alloc, object)?;
@@ -213,7 +212,7 @@ fn command_row_of(alloc: Global, key: &str, object: &Value) -> Result<Row, JsonF
 }
 
 #[tactic(auto, unfolding(crate::specs::RowForms::row_at))]
-fn row_of(alloc: Global, kind: RowKind, key: &str, object: &Value) -> Result<Row, JsonFault>
+fn row_of(alloc: Global, kind: RowKind, key: &str, object: &Tree<'_>) -> Result<Row, JsonFault>
     ensures { Gives result (row_at kind key.now (view object.now)) }
 {
     match kind {
@@ -235,7 +234,12 @@ fn row_of(alloc: Global, kind: RowKind, key: &str, object: &Value) -> Result<Row
 
 /// The row of that kind and key that the tree of a text spells. A text that is no object is told as such.
 #[tactic(auto, unfolding(crate::specs::RowForms::row_of_text))]
-pub fn row_of_text(alloc: Global, kind: RowKind, key: &str, tree: &Value) -> Result<Row, JsonFault>
+pub fn row_of_text(
+    alloc: Global,
+    kind: RowKind,
+    key: &str,
+    tree: &Tree<'_>,
+) -> Result<Row, JsonFault>
     ensures { Gives result (row_of_text kind key.now (view tree.now)) }
 {
     row_of(alloc, kind, key, as_record(tree, Field::Line)?)

@@ -3,7 +3,7 @@
 //! before the body is looked at.
 
 ghost use Rattle.std.specs.Prelude.{◌≡◌, Ok, OnOk};
-ghost use Rattle.serde_json.specs.View.{view};
+ghost use Rattle.json_text.specs.Trees.{view};
 ghost use Rattle.ocpi_text.specs.Party.{party_at};
 ghost use Rattle.ocpi_types.specs.Stored.{body_of_command, body_of_reply, body_of_push};
 ghost use Rattle.ocpi_types.specs.declared.field.Field.TheVariants as field;
@@ -18,7 +18,7 @@ use crate::events::{OrderWord, order_word};
 use json_text::fields::{
     ci_in, is_absent, moment_in, optional_ci_in, optional_word_in, party_in, record_in, text_in,
 };
-use json_text::{JsonFault, RecordWriter};
+use json_text::{JsonFault, RecordWriter, Tree};
 use ocpi_forms::{
     ack_of, boxed_authorization_of, boxed_cdr_of, boxed_reserve_now_of, boxed_session_of,
     boxed_start_session_of, boxed_token_of, cancel_reservation_of, command_response_of,
@@ -30,7 +30,6 @@ use ocpi_types::{
     Boxed, Command, CommandResponse, CommandResultType, Field, OpenCommand, Push, Reply,
     Reservation, SentCommand,
 };
-use serde_json::Value;
 use std::alloc::{AllocError, Global};
 
 /// The kind of a reply that is kept, by its word.
@@ -90,7 +89,7 @@ fn push_word(word: &str) -> Option<PushWord>
 
 /// The kind of a command. A word that names none is `UnknownKind`.
 #[tactic(auto, unfolding(json_text::specs::Fields::known_in))]
-fn command_kind(object: &Value) -> Result<OrderWord, JsonFault>
+fn command_kind(object: &Tree<'_>) -> Result<OrderWord, JsonFault>
     ensures { result ≡ known_in order_of_word field.Kind (view object.now) }
 {
     match order_word(text_in(object, Field::Kind)?) {
@@ -101,7 +100,7 @@ fn command_kind(object: &Value) -> Result<OrderWord, JsonFault>
 
 /// The kind of a reply. A word that names none is `UnknownKind`.
 #[tactic(auto, unfolding(json_text::specs::Fields::known_in))]
-fn reply_kind(object: &Value) -> Result<ReplyWord, JsonFault>
+fn reply_kind(object: &Tree<'_>) -> Result<ReplyWord, JsonFault>
     ensures { result ≡ known_in reply_of_word field.Kind (view object.now) }
 {
     match reply_word(text_in(object, Field::Kind)?) {
@@ -112,7 +111,7 @@ fn reply_kind(object: &Value) -> Result<ReplyWord, JsonFault>
 
 /// The kind of a push. A word that names none is `UnknownKind`.
 #[tactic(auto, unfolding(json_text::specs::Fields::known_in))]
-fn push_kind(object: &Value) -> Result<PushWord, JsonFault>
+fn push_kind(object: &Tree<'_>) -> Result<PushWord, JsonFault>
     ensures { result ≡ known_in push_of_word field.Kind (view object.now) }
 {
     match push_word(text_in(object, Field::Kind)?) {
@@ -122,7 +121,7 @@ fn push_kind(object: &Value) -> Result<PushWord, JsonFault>
 }
 
 #[tactic(auto, unfolding(crate::specs::StoredForms::command_at))]
-fn command_of(alloc: Global, kind: OrderWord, object: &Value) -> Result<Command, JsonFault>
+fn command_of(alloc: Global, kind: OrderWord, object: &Tree<'_>) -> Result<Command, JsonFault>
     ensures { Gives result (command_at kind (view object.now)) }
 {
     match kind {
@@ -139,7 +138,7 @@ fn command_of(alloc: Global, kind: OrderWord, object: &Value) -> Result<Command,
 }
 
 #[tactic(auto, unfolding(crate::specs::StoredForms::reply_at))]
-fn reply_of(alloc: Global, kind: ReplyWord, object: &Value) -> Result<Reply, JsonFault>
+fn reply_of(alloc: Global, kind: ReplyWord, object: &Tree<'_>) -> Result<Reply, JsonFault>
     ensures { Gives result (reply_at kind (view object.now)) }
 {
     match kind {
@@ -150,7 +149,7 @@ fn reply_of(alloc: Global, kind: ReplyWord, object: &Value) -> Result<Reply, Jso
 }
 
 #[tactic(auto, unfolding(crate::specs::StoredForms::push_at))]
-fn push_of(alloc: Global, kind: PushWord, object: &Value) -> Result<Push, JsonFault>
+fn push_of(alloc: Global, kind: PushWord, object: &Tree<'_>) -> Result<Push, JsonFault>
     ensures { Gives result (push_at kind (view object.now)) }
 {
     match kind {
@@ -163,7 +162,7 @@ fn push_of(alloc: Global, kind: PushWord, object: &Value) -> Result<Push, JsonFa
 
 /// The command in `body`, of the kind in `kind`.
 #[tactic(auto, unfolding(crate::specs::StoredForms::carried_at))]
-fn carried_command(alloc: Global, object: &Value) -> Result<Command, JsonFault>
+fn carried_command(alloc: Global, object: &Tree<'_>) -> Result<Command, JsonFault>
     ensures { Gives result (carried_at order_of_word command_at (view object.now)) }
 {
     let kind = command_kind(object)?;
@@ -172,7 +171,7 @@ fn carried_command(alloc: Global, object: &Value) -> Result<Command, JsonFault>
 
 /// The reply in `body`, of the kind in `kind`.
 #[tactic(auto, unfolding(crate::specs::StoredForms::carried_at))]
-pub fn carried_reply(alloc: Global, object: &Value) -> Result<Reply, JsonFault>
+pub fn carried_reply(alloc: Global, object: &Tree<'_>) -> Result<Reply, JsonFault>
     ensures { Gives result (carried_at reply_of_word reply_at (view object.now)) }
 {
     let kind = reply_kind(object)?;
@@ -181,7 +180,7 @@ pub fn carried_reply(alloc: Global, object: &Value) -> Result<Reply, JsonFault>
 
 /// The push in `body`, of the kind in `kind`.
 #[tactic(auto, unfolding(crate::specs::StoredForms::carried_at))]
-pub fn carried_push(alloc: Global, object: &Value) -> Result<Push, JsonFault>
+pub fn carried_push(alloc: Global, object: &Tree<'_>) -> Result<Push, JsonFault>
     ensures { Gives result (carried_at push_of_word push_at (view object.now)) }
 {
     let kind = push_kind(object)?;
@@ -190,7 +189,7 @@ pub fn carried_push(alloc: Global, object: &Value) -> Result<Push, JsonFault>
 
 /// A reservation.
 #[tactic(auto, unfolding(crate::specs::StoredForms::reservation_at))]
-fn reservation_of(object: &Value) -> Result<Reservation, JsonFault>
+fn reservation_of(object: &Tree<'_>) -> Result<Reservation, JsonFault>
     ensures { result ≡ reservation_at (view object.now) }
 {
     let evse_uid = ci_in(object, Field::EvseUid)?;
@@ -206,7 +205,10 @@ fn reservation_of(object: &Value) -> Result<Reservation, JsonFault>
 }
 
 /// As `reservation_of`, on the heap.
-pub fn boxed_reservation_of(alloc: Global, object: &Value) -> Result<Boxed<Reservation>, JsonFault>
+pub fn boxed_reservation_of(
+    alloc: Global,
+    object: &Tree<'_>,
+) -> Result<Boxed<Reservation>, JsonFault>
     ensures { Gives result (reservation_at (view object.now)) }
 {
     let reservation = reservation_of(object)?;
@@ -214,7 +216,7 @@ pub fn boxed_reservation_of(alloc: Global, object: &Value) -> Result<Boxed<Reser
 }
 
 #[tactic(auto, unfolding(crate::specs::StoredForms::open_parts_at))]
-fn open_parts_of(object: &Value) -> Result<OpenParts, JsonFault>
+fn open_parts_of(object: &Tree<'_>) -> Result<OpenParts, JsonFault>
     ensures { result ≡ open_parts_at (view object.now) }
 {
     let connector_id = optional_ci_in(object, Field::ConnectorId)?;
@@ -229,7 +231,7 @@ fn open_parts_of(object: &Value) -> Result<OpenParts, JsonFault>
 
 /// An open command: the command, and then the other members in the order of their names.
 #[tactic(auto, unfolding(crate::specs::StoredForms::open_command_at))]
-fn open_command_of(alloc: Global, object: &Value) -> Result<OpenCommand, JsonFault>
+fn open_command_of(alloc: Global, object: &Tree<'_>) -> Result<OpenCommand, JsonFault>
     ensures { Gives result (open_command_at (view object.now)) }
 {
     let command = carried_command(alloc, object)?;
@@ -243,7 +245,10 @@ fn open_command_of(alloc: Global, object: &Value) -> Result<OpenCommand, JsonFau
 }
 
 /// As `open_command_of`, on the heap.
-pub fn boxed_open_command_of(alloc: Global, object: &Value) -> Result<Boxed<OpenCommand>, JsonFault>
+pub fn boxed_open_command_of(
+    alloc: Global,
+    object: &Tree<'_>,
+) -> Result<Boxed<OpenCommand>, JsonFault>
     ensures { Gives result (open_command_at (view object.now)) }
 {
     let open = open_command_of(alloc, object)?;
@@ -251,14 +256,14 @@ pub fn boxed_open_command_of(alloc: Global, object: &Value) -> Result<Boxed<Open
 }
 
 #[tactic(auto, unfolding(crate::specs::StoredForms::answer_in))]
-fn answer_in(object: &Value, field: Field) -> Result<CommandResponse, JsonFault>
+fn answer_in(object: &Tree<'_>, field: Field) -> Result<CommandResponse, JsonFault>
     ensures { result ≡ answer_in field (view object.now) }
 {
     command_response_of(record_in(object, field)?)
 }
 
 #[tactic(auto, unfolding(json_text::specs::Fields::optional))]
-fn optional_answer_in(object: &Value, field: Field) -> Result<Option<CommandResponse>, JsonFault>
+fn optional_answer_in(object: &Tree<'_>, field: Field) -> Result<Option<CommandResponse>, JsonFault>
     ensures { result ≡ optional answer_in field (view object.now) }
 {
     if is_absent(object, field) {
@@ -268,7 +273,7 @@ fn optional_answer_in(object: &Value, field: Field) -> Result<Option<CommandResp
 }
 
 #[tactic(auto, unfolding(crate::specs::StoredForms::sent_parts_at))]
-fn sent_parts_of(object: &Value) -> Result<SentParts, JsonFault>
+fn sent_parts_of(object: &Tree<'_>) -> Result<SentParts, JsonFault>
     ensures { result ≡ sent_parts_at (view object.now) }
 {
     let result = optional_word_in(object, Field::Result)?;
@@ -278,7 +283,7 @@ fn sent_parts_of(object: &Value) -> Result<SentParts, JsonFault>
 
 /// A sent command: the answer, the command, the result, the addressee.
 #[tactic(auto, unfolding(crate::specs::StoredForms::sent_command_at))]
-fn sent_command_of(alloc: Global, object: &Value) -> Result<SentCommand, JsonFault>
+fn sent_command_of(alloc: Global, object: &Tree<'_>) -> Result<SentCommand, JsonFault>
     ensures { Gives result (sent_command_at (view object.now)) }
 {
     let answer = optional_answer_in(object, Field::Answer)?;
@@ -293,7 +298,10 @@ fn sent_command_of(alloc: Global, object: &Value) -> Result<SentCommand, JsonFau
 }
 
 /// As `sent_command_of`, on the heap.
-pub fn boxed_sent_command_of(alloc: Global, object: &Value) -> Result<Boxed<SentCommand>, JsonFault>
+pub fn boxed_sent_command_of(
+    alloc: Global,
+    object: &Tree<'_>,
+) -> Result<Boxed<SentCommand>, JsonFault>
     ensures { Gives result (sent_command_at (view object.now)) }
 {
     let command = sent_command_of(alloc, object)?;

@@ -1,6 +1,6 @@
 use Rattle.std.proofs.Common.{[]}
 use Rattle.std.proofs.lemmas.Result.{err_from_is_err_and}
-use Rattle.serde_json.specs.View.{items_view}
+use Rattle.json_text.specs.Trees.{items_view}
 use Rattle.json_text.specs.Fields.{each_after}
 use Rattle.json_text.proofs.Listing.{goes_on, fails, is_done}
 use Rattle.json_text.proofs.lists.elements.Goals as goal

@@ -1,5 +1,5 @@
 use Rattle.std.proofs.Common.{◌≡◌, [], drop}
-use Rattle.serde_json.specs.View.{items_view}
+use Rattle.json_text.specs.Trees.{items_view}
 use Rattle.json_text.specs.Fields.{each_after}
 use Rattle.json_text.proofs.lists.elements.Given as goal
 

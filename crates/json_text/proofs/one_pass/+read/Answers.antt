@@ -1,15 +1,15 @@
-use Rattle.std.proofs.Common.{◌≡◌, ◌-◌, ◌<◌, [], ◌∷◌, List, length, Some, None, true, false, string_bytes, sym, ap, ap₂, ◌∙◌, arith, rules}
+use Rattle.std.proofs.Common.{◌≡◌, ◌-◌, ◌<◌, [], ◌∷◌, List, length, Some, None, true, false, sym, ap, ap₂, ◌∙◌, arith, rules}
 use Rattle.json.specs.Token.{Token}
 use Rattle.json.specs.Json.{parse_map, after_end_array, read_key, items, members, value}
 use Rattle.json.specs.Reads.{token_of}
 use Rattle.json.proofs.Grammar.{value_is, value-begin_array, value-begin_object, read_key-shorter}
 use Rattle.serde_json.specs.Data.{null, boolean, string, array, object, put}
 use Rattle.serde_json.specs.Read.{converted}
-use Rattle.serde_json.specs.View.{view, members_view}
-use Rattle.serde_json.specs.declared.value.Value.{Value, String, Bool, Null, the_lemmas}
-use Rattle.serde_json.proofs.Views.{view-Array, view-Object, members_view-insert_entry}
+use Rattle.json_text.specs.Trees.{view, members_view}
+use Rattle.json_text.specs.declared.trees.Tree.{Tree, Text, Truth, Null, Number, the_lemmas}
 use Rattle.json_text.specs.Tagged.{tagged, tagged_items, tagged_members}
 use Rattle.json_text.specs.Tag.{is_tagged}
+use Rattle.json_text.proofs.TreeViews.{view-Array, view-Object, members_view-push}
 use Rattle.json_text.proofs.TaggedTrees.{tagged_array, tagged_object, item_read, items_over, member_read, members_over, item_refused, member_refused, key_refused, name_refused, items_before, items_before_none, one_more_item, none_before}
 use Rattle.json_text.proofs.one_pass.+read.Goals as goal
 
@@ -57,26 +57,26 @@ read-returns-in-EndObject-clause-declined t c refused =
     let none : value c.args.depth c.args.reader.now ≡ None = rw (value_is c.args.depth c.args.reader.now, first) (grind arith) in
     ap (converted tagged) none
 
-pub read-returns-in_ok-from_str-in-String-clause-ok : goal.read-returns-in_ok-from_str-in-String-clause-ok
-read-returns-in_ok-from_str-in-String-clause-ok t c =
+pub read-returns-else-is_tagged-clause-ok : goal.read-returns-else-is_tagged-clause-ok
+read-returns-else-is_tagged-clause-ok t c =
     let first : c.args.reader.now ≡ token_of c.in_ok-token.token ∷ c.next.new.self = grind arith in
     let is : c.args.reader.now ≡ Token.string c.in-String.text.now ∷ c.next.new.self = grind (arith, first) in
-    let seen : view (String c.in_ok-from_str-in-String.field-0) ≡ string c.in-String.text.now = search (rules, the_lemmas) in
+    let seen : view (Text c.in-String.text) ≡ string c.in-String.text.now = search (rules, the_lemmas) in
     let untagged : is_tagged c.in-String.text.now ≡ false = grind arith in
     ap (converted tagged) (ap (value c.args.depth) is ∙ value_is c.args.depth _) ∙ rw (untagged, seen)
 
-pub read-returns-in_ok-tagged_number-in-Number-clause-ok : goal.read-returns-in_ok-tagged_number-in-Number-clause-ok
-read-returns-in_ok-tagged_number-in-Number-clause-ok t c =
+pub read-returns-in-Number-clause-ok : goal.read-returns-in-Number-clause-ok
+read-returns-in-Number-clause-ok t c =
     let first : c.args.reader.now ≡ token_of c.in_ok-token.token ∷ c.next.new.self = grind arith in
     let is : c.args.reader.now ≡ Token.number c.in-Number.text.now ∷ c.next.new.self = grind (arith, first) in
-    let seen : view (String c.in_ok-tagged_number-in-Number.field-0) ≡ string (1 ∷ c.in-Number.text.now) = search (rules, the_lemmas) in
+    let seen : view (Number c.in-Number.text) ≡ string (1 ∷ c.in-Number.text.now) = search (rules, the_lemmas) in
     ap (converted tagged) (ap (value c.args.depth) is ∙ value_is c.args.depth _) ∙ ap (λ d. Some (d, c.next.new.self)) (sym seen)
 
 pub read-returns-in-Bool-clause-ok : goal.read-returns-in-Bool-clause-ok
 read-returns-in-Bool-clause-ok t c =
     let first : c.args.reader.now ≡ token_of c.in_ok-token.token ∷ c.next.new.self = grind arith in
     let is : c.args.reader.now ≡ Token.boolean c.in-Bool.b ∷ c.next.new.self = grind (arith, first) in
-    let seen : view (Bool c.in-Bool.b) ≡ boolean c.in-Bool.b = search (rules, the_lemmas) in
+    let seen : view (Truth c.in-Bool.b) ≡ boolean c.in-Bool.b = search (rules, the_lemmas) in
     ap (converted tagged) (ap (value c.args.depth) is ∙ value_is c.args.depth _) ∙ ap (λ d. Some (d, c.next.new.self)) (sym seen)
 
 pub read-returns-in-Null-clause-ok : goal.read-returns-in-Null-clause-ok
@@ -127,7 +127,7 @@ read_items-items-preserved t c =
       n - 1,
       omega (arith, l.invariant.1),
       l.invariant.2 ∙ ap (parse_map (items_before l.found.items)) turn ∙ one_more_item l.found.items v _
-          ∙ ap (λ vs. parse_map (items_before vs) (converted tagged_items (items p (n - 1) r))) (sym {A = List Value} c.in_ok-push.ensures.items),
+          ∙ ap (λ vs. parse_map (items_before vs) (converted tagged_items (items p (n - 1) r))) (sym {A = List Tree} c.in_ok-push.ensures.items),
       omega (arith, l.invariant.3),
     )
 
@@ -142,14 +142,14 @@ read_items-returns-clause-ok t c =
 pub read_members-members-init : goal.read_members-members-init
 read_members-members-init t c =
     let all = members (value c.args.depth) (length c.args.reader.now) c.args.reader.now in
-    (length c.args.reader.now, omega arith, ap (λ es. converted (λ ms. tagged_members ms (members_view es)) all) (sym c.new-found.ensures.empty), omega arith)
+    (length c.args.reader.now, omega arith, ap (λ es. converted (λ ms. tagged_members ms (members_view es)) all) (sym c.new-found.ensures.items), omega arith)
 
 pub read_members-returns-in_err-name-clause-declined : goal.read_members-returns-in_err-name-clause-declined
 read_members-returns-in_err-name-clause-declined t c refused =
     let p = value c.args.depth in
     let l = c.members in
     let n = l.invariant.0 in
-    let old = members_view l.found.entries in
+    let old = members_view l.found.items in
     l.invariant.2 ∙ key_refused p old n l.reader c.in_err-name.ensures.value
 
 pub read_members-returns-then-is_tagged-clause-declined : goal.read_members-returns-then-is_tagged-clause-declined
@@ -157,7 +157,7 @@ read_members-returns-then-is_tagged-clause-declined t c refused =
     let p = value c.args.depth in
     let l = c.members in
     let n = l.invariant.0 in
-    let old = members_view l.found.entries in
+    let old = members_view l.found.items in
     let k = c.in-Some.name.now in
     let s = c.next_key.new.self in
     let named : read_key l.reader ≡ Some (Some k, s) = grind arith in
@@ -169,7 +169,7 @@ read_members-returns-in_err-member-clause-declined t c refused =
     let p = value c.args.depth in
     let l = c.members in
     let n = l.invariant.0 in
-    let old = members_view l.found.entries in
+    let old = members_view l.found.items in
     let k = c.in-Some.name.now in
     let s = c.next_key.new.self in
     let named : read_key l.reader ≡ Some (Some k, s) = grind arith in
@@ -181,7 +181,7 @@ read_members-members-preserved t c =
     let p = value c.args.depth in
     let l = c.members in
     let n = l.invariant.0 in
-    let old = members_view l.found.entries in
+    let old = members_view l.found.items in
     let k = c.in-Some.name.now in
     let s = c.next_key.new.self in
     let named : read_key l.reader ≡ Some (Some k, s) = grind arith in
@@ -191,13 +191,12 @@ read_members-members-preserved t c =
     let r = c.read.new.reader in
     let less = read_key-shorter l.reader (Some k) s named in
     let lesser = done.shorter in
-    let copied : string_bytes c.in_ok-key.key ≡ k = search rules in
-    let inserted : members_view c.insert.new.self.entries ≡ put k (view v) old =
-    ap members_view c.in_ok-insert.ensures.entries ∙ members_view-insert_entry l.found.entries c.in_ok-key.key v ∙ ap (λ name. put name (view v) old) copied in (
+    let pushed : members_view c.push_member.new.members.items ≡ put k (view v) old =
+    ap members_view c.in_ok-push_member.ensures ∙ members_view-push l.found.items (c.in-Some.name, v) in (
       n - 1,
       omega (arith, l.invariant.1),
       l.invariant.2 ∙ member_read p old n k l.reader s r (view v) (omega (arith, l.invariant.1)) untagged named done.ok
-          ∙ ap (λ found. converted (λ ms. tagged_members ms found) (members p (n - 1) r)) (sym inserted),
+          ∙ ap (λ found. converted (λ ms. tagged_members ms found) (members p (n - 1) r)) (sym pushed),
       omega (arith, l.invariant.3),
     )
 
@@ -206,5 +205,5 @@ read_members-returns-clause-ok t c =
     let p = value c.args.depth in
     let l = c.members in
     let n = l.invariant.0 in
-    let old = members_view l.found.entries in
+    let old = members_view l.found.items in
     l.invariant.2 ∙ members_over p old n l.reader c.next_key.new.self l.invariant.1 (grind arith)

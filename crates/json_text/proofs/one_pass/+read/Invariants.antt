@@ -2,7 +2,7 @@ use Rattle.std.proofs.Common.{◌≡◌, ℕ, ◌+◌, ◌*◌, ◌≤◌, lengt
 use Rattle.json.specs.Json.{items, members, value, parse_map}
 use Rattle.serde_json.specs.Data.{no_members}
 use Rattle.serde_json.specs.Read.{converted}
-use Rattle.serde_json.specs.View.{members_view}
+use Rattle.json_text.specs.Trees.{members_view}
 use Rattle.json_text.specs.Tagged.{tagged_items, tagged_members}
 use Rattle.json_text.proofs.TaggedTrees.{items_before}
 use Rattle.json_text.proofs.one_pass.+read.Given as goal
@@ -28,7 +28,7 @@ decreases-read_items-items l = length l.reader
 abbrev pub invariant-read_members-members : goal.invariant-read_members-members
 invariant-read_members-members l =
     (n : ℕ) × (length l.reader ≤ n)
-    × (converted (λ ms. tagged_members ms no_members) (members (value l.depth) (length l.initial.reader) l.initial.reader) ≡ converted (λ ms. tagged_members ms (members_view l.found.entries)) (members (value l.depth) n l.reader))
+    × (converted (λ ms. tagged_members ms no_members) (members (value l.depth) (length l.initial.reader) l.initial.reader) ≡ converted (λ ms. tagged_members ms (members_view l.found.items)) (members (value l.depth) n l.reader))
     × (length l.reader ≤ length l.initial.reader)
 
 abbrev pub decreases-read_members-members : goal.decreases-read_members-members

@@ -1,5 +1,5 @@
 use Rattle.std.proofs.lemmas.Result.{err_from_is_err_and}
-use Rattle.serde_json.specs.View.{view}
+use Rattle.json_text.specs.Trees.{view}
 use Rattle.ocpi_types.specs.declared.field.Field.TheVariants as field
 use Rattle.ocpi_forms.specs.Sites.{location_at, location_element}
 use Rattle.json_text.proofs.Listing.{is_done}
