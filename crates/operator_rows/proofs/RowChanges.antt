@@ -255,13 +255,13 @@ drops (keys.Command n) s (row.Command m x) = (λ h. absurd h, λ h. h.0)
 drops (keys.Command n) s r = other_drop (HasRow s r) (keys.Command n) r (λ e. cc)
 
 -- one change: what stands is what was put, and what stood under other keys
-abbrev One : Change → Rows → Type 0
+abbrev pub One : Change → Rows → Type 0
 One c s = (r : Row) → HasRow (changed c s) r ↔ ((c ≡ Put r) ⊎ (HasRow s r × (key_of r ≢ change_key c)))
 
-one_put : (x : Row) (s : Rows) → IsStored x → One (Put x) s
+pub one_put : (x : Row) (s : Rows) → IsStored x → One (Put x) s
 one_put x s stored r = of_put (puts x s stored r) (λ e. ap Put (sym e)) (λ e. let is : r ≡ x = cc in is) (λ a. a) (λ a. a)
 
-one_drop : (k : RowKey) (s : Rows) → One (Drop k) s
+pub one_drop : (k : RowKey) (s : Rows) → One (Drop k) s
 one_drop k s r = (λ h. inr ((drops k s r).0 h), λ y. elim y [ inl e ↦ absurd (cc) | inr h ↦ (drops k s r).1 h ])
 
 module _ {X : Type 0} where

@@ -1,0 +1,40 @@
+-- Parts of a step that are gathered one after the other.
+use Rattle.std.proofs.Common.{◌≡◌, ℕ, ◌++◌, List, sym, ap, subst, ◌∙◌}
+use Rattle.std.specs.Prelude.{Result, Ok, Err, Option, Some, None, OnOk, IfOk, IfErr, IfNone}
+use Rattle.node_steps.specs.Acts.{Act}
+use Rattle.node_steps.specs.Drafts.{Gathered, HasNumbersOf, with_acts}
+use Rattle.node_steps.proofs.Gathering.{both, has_first, has_rest}
+
+pub on_more : {T E P Q : Type 0} → (r : Result T E) → (P → Q) → OnOk r P → OnOk r Q
+on_more (Ok x) f h = f h
+on_more (Err e) f h = tt
+
+pub none_more : {T P Q : Type 0} → (o : Option T) → (P → Q) → IfNone o P → IfNone o Q
+none_more None f h = f h
+none_more (Some x) f h = tt
+
+module _ (first second third : List Act) (d : Gathered) (h : HasNumbersOf ((first ++ second) ++ third) d) where
+  pub first_has : HasNumbersOf first d
+  first_has = has_first first second d (has_first (first ++ second) third d h)
+
+  pub third_has : (x y : Gathered) → x ≡ with_acts first d → y ≡ with_acts second x → HasNumbersOf third y
+  third_has x y one two =
+      let all : y ≡ with_acts (first ++ second) d = two ∙ ap (λ (g : Gathered). with_acts second g) one ∙ both first second d in
+      subst (HasNumbersOf third) (sym all) (has_rest (first ++ second) third d h)
+
+pub three_parts : (first second third : List Act) (d x y z : Gathered) → x ≡ with_acts first d → y ≡ with_acts second x → z ≡ with_acts third y → z ≡ with_acts ((first ++ second) ++ third) d
+three_parts first second third d x y z one two three =
+    three ∙ ap (λ (g : Gathered). with_acts third g) (two ∙ ap (λ (g : Gathered). with_acts second g) one ∙ both first second d) ∙ both (first ++ second) third d
+
+-- what is said of every case of a result, said of one
+pub ok_at : {T E A : Type 0} (Q : A → Type 0) (P : A → T → Type 0) (a : A) → Q a → (r : Result T E) → IfOk r (λ x. (b : A) → Q b → P b x) → IfOk r (P a)
+ok_at Q P a q (Ok x) h = h a q
+ok_at Q P a q (Err e) h = tt
+
+pub on_at : {T E A : Type 0} (Q : A → Type 0) (P : A → Type 0) (a : A) → Q a → (r : Result T E) → OnOk r ((b : A) → Q b → P b) → OnOk r (P a)
+on_at Q P a q (Ok x) h = h a q
+on_at Q P a q (Err e) h = tt
+
+pub err_at : {T E A : Type 0} (Q : A → Type 0) (P : A → E → Type 0) (a : A) → Q a → (r : Result T E) → IfErr r (λ x. (b : A) → Q b → P b x) → IfErr r (P a)
+err_at Q P a q (Ok x) h = tt
+err_at Q P a q (Err e) h = h a q

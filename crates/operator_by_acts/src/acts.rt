@@ -1,0 +1,223 @@
+//! What an operator does in answer to a command, act by act.
+
+ghost use Rattle.std.specs.Prelude.{◌≡◌, ◌∷◌, [], OnOk};
+ghost use Rattle.ocpi_types.specs.Stored.{body_of_command};
+ghost use Rattle.ocpi_types.specs.declared.stored.Command.{Command as CommandOf};
+ghost use Rattle.command_book.specs.Stored as book;
+ghost use Rattle.node_steps.specs.Drafts.{HasNumbersOf, with_acts};
+ghost use Rattle.operator_steps.specs.Acts.{deadline, decided_acts, freed, marked, opened, own_acts, reference_of, reserved, result_of, settled_if, spent, url_of, used};
+
+use crate::bodies::{command_of, reference_of, told};
+use crate::respond::respond;
+use node_steps::Draft;
+use ocpi_text::{CiKey, CiText, Moment};
+use ocpi_types::{
+    Body, Boxed, Change, Command, CommandResultType, OpenCommand, Place, Push, Reservation, Row,
+    RowKey,
+};
+use operator_tables::{Decision, Request, TIMEOUT};
+use std::alloc::{AllocError, Global};
+
+/// A command that is open until a deadline, a start with the place that it took.
+fn open_command(command: Command, place: Option<Place>, deadline: Moment) -> OpenCommand
+    ensures { result ≡ book.open_command command place deadline }
+{
+    OpenCommand {
+        command,
+        evse_uid: place.as_ref().map(|place| place.evse_uid),
+        connector_id: place.as_ref().map(|place| place.connector_id),
+        deadline,
+    }
+}
+
+/// Adds that the command which a body carries is open until its result, a start at the place that it took.
+fn add_opened(
+    alloc: Global,
+    draft: &mut Draft,
+    request: &Request,
+    body: &Body,
+    place: Option<Place>,
+) -> Result<(), AllocError>
+    ensures { OnOk result ((c : CommandOf) → body.now ≡ body_of_command c → draft.new ≡ with_acts (opened request.now.provider request.now.number (book.open_command c place (deadline request.now.at)) ∷ []) draft.old) }
+{
+    let Some(command) = command_of(body)? else {
+        return Ok(());
+    };
+    let deadline = request.at.after(1000 * TIMEOUT);
+    let open = Boxed::new(alloc, open_command(command, place, deadline))?;
+    draft.change(Change::Put(Row::Pending {
+        provider: request.provider,
+        number: request.number,
+        open,
+    }))
+}
+
+/// Adds that a reservation ends.
+fn add_freed(
+    draft: &mut Draft,
+    request: &Request,
+    reservation_id: CiKey<36>,
+) -> Result<(), AllocError>
+    ensures { OnOk result (draft.new ≡ with_acts (freed request.now.provider reservation_id ∷ []) draft.old) }
+{
+    draft.change(Change::Drop(RowKey::Reservation {
+        provider: request.provider,
+        reservation_id,
+    }))
+}
+
+/// Adds that the reservation ends which a start uses, where it uses one.
+fn add_used(
+    draft: &mut Draft,
+    request: &Request,
+    reservation_id: Option<CiKey<36>>,
+) -> Result<(), AllocError>
+    ensures { OnOk result (draft.new ≡ with_acts (used request.now.provider reservation_id) draft.old) }
+{
+    match reservation_id {
+        None => Ok(()),
+        Some(reservation_id) => add_freed(draft, request, reservation_id),
+    }
+}
+
+/// Adds that a reference is spent, where there is one.
+fn add_spent(
+    draft: &mut Draft,
+    request: &Request,
+    reference: Option<CiText<36>>,
+) -> Result<(), AllocError>
+    ensures { OnOk result (draft.new ≡ with_acts (spent request.now.provider reference) draft.old) }
+{
+    match reference {
+        None => Ok(()),
+        Some(reference) => draft.change(Change::Put(Row::Spent {
+            provider: request.provider,
+            reference: reference.key(),
+        })),
+    }
+}
+
+/// Adds the mark of a reservation.
+fn add_marked(
+    draft: &mut Draft,
+    request: &Request,
+    reservation_id: CiKey<36>,
+) -> Result<(), AllocError>
+    ensures { OnOk result (draft.new ≡ with_acts (marked request.now.provider reservation_id request.now.number ∷ []) draft.old) }
+{
+    draft.change(Change::Put(Row::Mark {
+        provider: request.provider,
+        reservation_id,
+        number: request.number,
+    }))
+}
+
+/// Adds that a reservation stands.
+fn add_reserved(
+    alloc: Global,
+    draft: &mut Draft,
+    request: &Request,
+    reservation_id: CiKey<36>,
+    reservation: &Reservation,
+) -> Result<(), AllocError>
+    ensures { OnOk result (draft.new ≡ with_acts (reserved request.now.provider reservation_id reservation.now ∷ []) draft.old) }
+{
+    let reservation = Boxed::new(alloc, *reservation)?;
+    draft.change(Change::Put(Row::Reservation {
+        provider: request.provider,
+        reservation_id,
+        reservation,
+    }))
+}
+
+/// Adds what a start does: the reservation that it uses ends, the start is open, and its reference is spent.
+fn add_started(
+    alloc: Global,
+    draft: &mut Draft,
+    request: &Request,
+    body: &Body,
+    place: Place,
+    reservation_id: Option<CiKey<36>>,
+) -> Result<(), AllocError>
+    ensures { OnOk result ((c : CommandOf) → body.now ≡ body_of_command c → draft.new ≡ with_acts (own_acts request.now.at request.now.provider request.now.number c (Decision.Started place reservation_id)) draft.old) }
+{
+    add_used(draft, request, reservation_id)?;
+    add_opened(alloc, draft, request, body, Some(place))?;
+    add_spent(draft, request, reference_of(body))
+}
+
+/// Adds what a decision does on the command that a body carries, beside its reply and its result.
+fn add_own(
+    alloc: Global,
+    draft: &mut Draft,
+    request: &Request,
+    body: &Body,
+    decision: &Decision,
+) -> Result<(), AllocError>
+    ensures { OnOk result ((c : CommandOf) → body.now ≡ body_of_command c → draft.new ≡ with_acts (own_acts request.now.at request.now.provider request.now.number c decision.now) draft.old) }
+{
+    match decision {
+        Decision::Refused(_) | Decision::Answered(_) | Decision::Resulted(_) => Ok(()),
+        Decision::Opened => add_opened(alloc, draft, request, body, None),
+        Decision::Started {
+            place,
+            reservation_id,
+        } => add_started(alloc, draft, request, body, *place, *reservation_id),
+        Decision::Noted { reservation_id, .. } => add_marked(draft, request, *reservation_id),
+        Decision::Reserved {
+            reservation_id,
+            reservation,
+        } => {
+            add_marked(draft, request, *reservation_id)?;
+            add_reserved(alloc, draft, request, *reservation_id, reservation)
+        }
+        Decision::Cancelled { reservation_id } => {
+            add_marked(draft, request, *reservation_id)?;
+            add_freed(draft, request, *reservation_id)
+        }
+    }
+}
+
+/// Adds the result of the command that a body carries, where it has one at once: it is pushed, and kept.
+fn add_settled(
+    draft: &mut Draft,
+    request: &Request,
+    body: &Body,
+    outcome: Option<CommandResultType>,
+) -> Result<(), AllocError>
+    requires command { (c : CommandOf) × (body.now ≡ body_of_command c) }
+    requires numbers { (c : CommandOf) → body.now ≡ body_of_command c → HasNumbersOf (settled_if request.now.at draft.old.counters.request request.now.from request.now.provider request.now.number (url_of c) outcome) draft.old }
+    ensures { OnOk result ((c : CommandOf) → body.now ≡ body_of_command c → draft.new ≡ with_acts (settled_if request.now.at draft.old.counters.request request.now.from request.now.provider request.now.number (url_of c) outcome) draft.old) }
+{
+    let Some(outcome) = outcome else {
+        return Ok(());
+    };
+    let Some(told) = told(body, outcome)? else {
+        return Ok(());
+    };
+    draft.push(request.at, request.from, Push::CommandResult(told))?;
+    draft.change(Change::Put(Row::Result {
+        provider: request.provider,
+        number: request.number,
+        result: outcome,
+    }))
+}
+
+/// Adds a decision on the command that a body carries: it is answered, what was decided is done, and its result follows, where there
+/// is one.
+pub fn add_decided(
+    alloc: Global,
+    draft: &mut Draft,
+    request: &Request,
+    body: &Body,
+    decision: &Decision,
+) -> Result<(), AllocError>
+    requires command { (c : CommandOf) × (body.now ≡ body_of_command c) }
+    requires numbers { (c : CommandOf) → body.now ≡ body_of_command c → HasNumbersOf (decided_acts request.now.at draft.old.counters.request request.now.from request.now.provider request.now.number c decision.now) draft.old }
+    ensures { OnOk result ((c : CommandOf) → body.now ≡ body_of_command c → draft.new ≡ with_acts (decided_acts request.now.at draft.old.counters.request request.now.from request.now.provider request.now.number c decision.now) draft.old) }
+{
+    let reply = respond(decision, request.at);
+    draft.answer(request.provider, request.from, request.number, reply)?;
+    add_own(alloc, draft, request, body, decision)?;
+    add_settled(draft, request, body, decision.result())
+}

@@ -1,0 +1,182 @@
+//! What a packet makes an operator do. Nothing is changed here.
+
+ghost use Rattle.std.specs.Prelude.{◌≡◌, ◌↔◌, ◌∷◌, [], IsTrue, IfOk, IfErr, OnOk, IfSome, IfNone, List, ℕ};
+ghost use Rattle.ocpi_text.specs.Text.{key};
+ghost use Rattle.ocpi_types.specs.Stored.{body_of_command};
+ghost use Rattle.ocpi_types.specs.declared.stored.Command.{Command as CommandOf};
+ghost use Rattle.ocpi_types.specs.declared.packet.Body.TheVariants as body;
+ghost use Rattle.node_steps.specs.Acts.{repeated};
+ghost use Rattle.node_steps.specs.Drafts.{IsInRange, StopsBy, counted, later, opened, step_of};
+ghost use Rattle.node_steps.specs.Peers.{IsPeer};
+ghost use Rattle.operator_steps.specs.Acts.{decided_acts};
+ghost use Rattle.operator_steps.specs.Faults.{IsDue, MayStep};
+ghost use Rattle.operator_steps.specs.Moves.{AreInRange, PlannedBy, counters_of, step_of_acts};
+ghost use Rattle.operator_steps.specs.Steps.{Acknowledges, Comes, IsForMe, IsTaken};
+ghost use Rattle.operator_by_acts.specs.Requests.{IsRequest, result_count};
+
+use crate::acts::add_decided;
+use crate::bodies::is_taken;
+use crate::operator::Operator;
+use node_steps::{Draft, Needs, NodeFault, Plan, find_peer};
+use ocpi_text::{Moment, Party};
+use ocpi_types::{Ack, Body, Change, CommandResultType, Packet, Reply, RowKey};
+use operator_tables::{Decision, Request, decide};
+use std::alloc::AllocError;
+
+/// The most rows that a decision changes, beside the counters: a reply, a mark, a reservation, a push and a result; or a reply, a
+/// reservation, an open command and a reference.
+const MOST_CHANGES: usize = 5;
+
+/// How many results there are: one, or none.
+fn count(outcome: Option<CommandResultType>) -> usize
+    ensures { result ≡ result_count outcome }
+{
+    match outcome {
+        None => 0,
+        Some(_result) => 1,
+    }
+}
+
+impl Operator {
+    /// The provider that sent a packet to this operator, as the site spells it.
+    fn peer(&self, packet: &Packet) -> Option<&Party>
+        ensures to { IfSome result (λ p. key packet.now.to ≡ key self.now.state.party) }
+        ensures found { IfSome result (λ p. IsPeer self.now.state.providers packet.now.from p.now) }
+        ensures none { IfNone result (key packet.now.to ≡ key self.now.state.party → (p : List ℕ) → IsPeer self.now.state.providers packet.now.from p → ⊥) }
+    {
+        if !packet.to.is_same(&self.books.party()) {
+            return None;
+        }
+        find_peer(self.books.providers(), &packet.from)
+    }
+
+    /// The request that a packet to this operator makes.
+    fn request(&self, at: Moment, packet: &Packet) -> Option<Request>
+        ensures request { IfSome result (λ r. IsRequest self.now.state at packet.now r) }
+        ensures taken { IfSome result (λ r. IsTaken packet.now.body) }
+        ensures none { IfNone result (IsForMe self.now.state packet.now → ⊥) }
+    {
+        if !is_taken(&packet.body) {
+            return None;
+        }
+        let peer = self.peer(packet)?;
+        Some(Request {
+            at,
+            from: *peer,
+            provider: packet.from.key(),
+            number: packet.request,
+        })
+    }
+
+    /// No counter passed its last number, which the types of the counters keep.
+    pub(crate) fn counters_in_range(&self)
+        ensures { IsInRange (counters_of self.now.state) }
+    {
+        self.books.counters_in_range();
+    }
+
+    /// A draft of a step that takes so many numbers.
+    pub(crate) fn draft(&self, needs: Needs) -> Result<Draft, NodeFault>
+        ensures ok { IfOk result (λ d. d ≡ opened self.now.state.party (counters_of self.now.state) needs.packets needs.requests) }
+        ensures in_range { OnOk result (IsInRange (later (counters_of self.now.state) needs.packets needs.requests)) }
+        ensures err { IfErr result (StopsBy (later (counters_of self.now.state) needs.packets needs.requests)) }
+    {
+        let (serial, request) = (self.books.serial(), self.books.last_request());
+        Draft::open(self.alloc, self.books.party(), serial, request, needs)
+    }
+
+    /// The step that sends a kept reply again.
+    fn plan_again(&self, request: &Request, reply: &Reply) -> Result<Plan, NodeFault>
+        ensures ok { IfOk result (λ x. step_of x ≡ step_of_acts self.now.state (repeated request.now.from request.now.number reply.now ∷ [])) }
+        ensures in_range { OnOk result (AreInRange self.now.state (repeated request.now.from request.now.number reply.now ∷ [])) }
+        ensures err { IfErr result (StopsBy (counted (counters_of self.now.state) (repeated request.now.from request.now.number reply.now ∷ []))) }
+    {
+        let mut draft = self.draft(Needs {
+            packets: 1,
+            requests: 0,
+            changes: 0,
+        })?;
+        draft.repeat(request.from, request.number, reply)?;
+        Ok(draft.into_plan())
+    }
+
+    /// The step of a decision on the command that a body carries.
+    fn plan_decided(
+        &self,
+        request: &Request,
+        body: &Body,
+        decision: &Decision,
+    ) -> Result<Plan, NodeFault>
+        requires { (c : CommandOf) × (body.now ≡ body_of_command c) }
+        ensures ok { IfOk result (λ x. (c : CommandOf) → body.now ≡ body_of_command c → step_of x ≡ step_of_acts self.now.state (decided_acts request.now.at self.now.state.rows.request request.now.from request.now.provider request.now.number c decision.now)) }
+        ensures in_range { OnOk result ((c : CommandOf) → body.now ≡ body_of_command c → AreInRange self.now.state (decided_acts request.now.at self.now.state.rows.request request.now.from request.now.provider request.now.number c decision.now)) }
+        ensures err { IfErr result (λ e. (c : CommandOf) → body.now ≡ body_of_command c → StopsBy (counted (counters_of self.now.state) (decided_acts request.now.at self.now.state.rows.request request.now.from request.now.provider request.now.number c decision.now)) e) }
+    {
+        let results = count(decision.result());
+        let mut draft = self.draft(Needs {
+            packets: 1 + results,
+            requests: results,
+            changes: MOST_CHANGES,
+        })?;
+        add_decided(self.alloc, &mut draft, request, body, decision)?;
+        Ok(draft.into_plan())
+    }
+
+    /// What becomes of a command. A request that was answered before gets the same reply again.
+    fn plan_command(&self, request: &Request, packet: &Packet) -> Result<Plan, NodeFault>
+        requires request { IsRequest self.now.state request.now.at packet.now request.now }
+        requires command { (c : CommandOf) × (packet.now.body ≡ body_of_command c) }
+        ensures step { IfOk result (λ x. PlannedBy (Comes self.now.state request.now.at packet.now) self.now.state (step_of x)) }
+        ensures fault { IfErr result (IsDue self.now.state request.now.at packet.now) }
+    {
+        if let Some(reply) = self.books.reply(request.provider, request.number) {
+            return self.plan_again(request, reply);
+        }
+        let decision = decide(&self.books, request, &packet.from, &packet.body);
+        self.plan_decided(request, &packet.body, &decision)
+    }
+
+    /// Whether an acknowledgement is for a push of this operator: it has status 1000, and comes from the addressee under the
+    /// push's number.
+    fn acknowledges(&self, packet: &Packet, ack: &Ack) -> bool
+        ensures { IsTrue result ↔ Acknowledges self.now.state packet.now ack.now }
+    {
+        if ack.status_code.value().value() != 1000 {
+            return false;
+        }
+        self.books.outbox().is_to(&packet.from, packet.request)
+    }
+
+    /// What becomes of an acknowledgement: it ends the push that it is for, or is idle. An error is want of memory.
+    fn plan_ack(&self, request: &Request, packet: &Packet, ack: &Ack) -> Result<Plan, AllocError>
+        requires request { IsRequest self.now.state request.now.at packet.now request.now }
+        requires ack { packet.now.body ≡ body.Ack ack.now }
+        ensures step { IfOk result (λ x. PlannedBy (Comes self.now.state request.now.at packet.now) self.now.state (step_of x)) }
+        ensures memory { MayStep (Comes self.now.state request.now.at packet.now) self.now.state }
+    {
+        self.counters_in_range();
+        if !self.acknowledges(packet, ack) {
+            return Ok(Plan::nothing(self.alloc));
+        }
+        Plan::one(
+            self.alloc,
+            Change::Drop(RowKey::Push {
+                number: request.number,
+            }),
+        )
+    }
+
+    /// What becomes of a packet at a moment. Nothing changes. Refused as `on_packet` says.
+    pub fn plan_packet(&self, at: Moment, packet: &Packet) -> Result<Plan, NodeFault>
+        ensures step { IfOk result (λ x. PlannedBy (Comes self.now.state at packet.now) self.now.state (step_of x)) }
+        ensures fault { IfErr result (IsDue self.now.state at packet.now) }
+    {
+        let Some(request) = self.request(at, packet) else {
+            return Err(NodeFault::NotForMe);
+        };
+        match &packet.body {
+            Body::Ack(ack) => Ok(self.plan_ack(&request, packet, ack)?),
+            _ => self.plan_command(&request, packet),
+        }
+    }
+}

@@ -1,0 +1,180 @@
+//! The operator.
+
+ghost use Rattle.std.specs.Prelude.{◌≡◌, IfOk, IfErr, OnErr, OnOk};
+ghost use Rattle.operator_rows.specs.State.{opening};
+
+use node_steps::{NodeFault, Plan, Stepped, copies};
+use ocpi_text::{CiKey, Moment};
+use ocpi_types::{ChargerEvent, Packet, Row, SiteLine};
+use operator_rows::Books;
+use std::alloc::{AllocError, Global};
+use std::marker::Model;
+
+/// An operator: it owns the charge points of a site, and answers the site's providers.
+///
+/// What happens to it is first planned (`plan_packet` and its kin, which change nothing), then the memory for it is taken
+/// (`make_room`), and then it is carried out (`apply`, which cannot fail). A keeper that stores the rows does so between the last
+/// two. `on_packet` and its kin are all three.
+#[derive(Drop)]
+pub struct Operator {
+    pub(crate) alloc: Global,
+    pub(crate) books: Books,
+}
+
+impl Model for Operator {
+    ghost use Rattle.std.specs.FinMap as map;
+    ghost use Rattle.std.specs.Coded.{codes};
+    ghost use Rattle.operator_rows.specs.Steps.{Node};
+
+    ghost Value = { Node };
+
+    ghost coded = { Prim.hlevel (codes, map.code) };
+
+    ghost view = { λ o. o.books };
+}
+
+impl Operator {
+    ghost use Rattle.node_steps.specs.Drafts.{step_of};
+    ghost use Rattle.operator_rows.specs.Rows.{AreChanges, AreRowsOf};
+    ghost use Rattle.operator_rows.specs.Sound.{IsConsistent};
+    ghost use Rattle.operator_rows.specs.Steps.{HasRoomFor, MayFollow, after, restarted};
+    ghost use Rattle.operator_steps.specs.Charger.{ChargerLine, ChargerStep};
+    ghost use Rattle.operator_steps.specs.Faults.{IsDue, IsOwnFault};
+    ghost use Rattle.operator_steps.specs.Moves.{carried};
+    ghost use Rattle.operator_steps.specs.Service.{ServiceStep};
+    ghost use Rattle.operator_steps.specs.Steps.{OperatorStep};
+    ghost use Rattle.operator_steps.specs.Tick.{TickLine, TickStep};
+    ghost use Rattle.operator_by_acts.specs.Requests.{out_of};
+
+    /// The operator of a site before its first event. An error is want of memory.
+    pub fn new(alloc: Global, line: SiteLine) -> Result<Operator, AllocError>
+        ensures { IfOk result (λ o. o.state ≡ opening line) }
+    {
+        let books = Books::new(alloc, line)?;
+        Ok(Operator { alloc, books })
+    }
+
+    /// What holds of every operator at any time, which its type keeps: each EVSE has at most one claim; each open command was
+    /// answered, has no result, and is of a provider of the site, and an open start has an EVSE and a connector of the site; each
+    /// command that has a result was answered; each reservation is on an EVSE of the site and names its location; each push is
+    /// to a provider of the site, and has a number that was given; only a push that stands has a resend time.
+    pub fn consistency(&self)
+        ensures { IsConsistent self.now.state }
+    {
+        self.books.consistency();
+    }
+
+    /// All rows that stand, each once. An error is want of memory.
+    pub fn stored(&self) -> Result<Vec<Row>, AllocError>
+        ensures { IfOk result (λ rows. AreRowsOf rows.items self.now.state.rows) }
+    {
+        self.books.stored(self.alloc)
+    }
+
+    /// Takes the memory that a planned step needs. Nothing that stands changes, whether there is enough or not. An error is want
+    /// of memory, for a step that has no room yet.
+    pub fn make_room(&mut self, plan: &Plan) -> Result<(), AllocError>
+        ensures state { self.new.state ≡ self.old.state }
+        ensures room { OnOk result (HasRoomFor self.new (step_of plan.now)) }
+    {
+        self.books.make_room(plan)
+    }
+
+    /// Carries a planned step out, and answers the packets that are to be sent. It takes no memory and cannot fail.
+    pub fn apply(&mut self, plan: Plan) -> Vec<Packet>
+        requires room { HasRoomFor self.old (step_of plan) }
+        requires may { MayFollow self.old.state (step_of plan) }
+        ensures state { self.new.state ≡ after (step_of plan) self.old.state }
+        ensures packets { result.items ≡ (step_of plan).packets }
+    {
+        self.books.apply(plan)
+    }
+
+    /// Makes room for a planned step and carries it out. An error is want of memory, and changes nothing.
+    fn carry_out(&mut self, plan: Plan) -> Result<Stepped, AllocError>
+        requires { MayFollow self.old.state (step_of plan) }
+        ensures ok { IfOk result (λ x. out_of self.new.state x ≡ carried self.old.state (step_of plan)) }
+        ensures err { OnErr result (self.new.state ≡ self.old.state) }
+        ensures rows { IfOk result (λ x. AreChanges self.old.state.rows x.rows.items self.new.state.rows) }
+    {
+        let rows = copies(self.alloc, plan.changes.as_slice())?;
+        self.make_room(&plan)?;
+        let packets = self.apply(plan);
+        Ok(Stepped { rows, packets })
+    }
+
+    /// A packet comes at a moment. It is refused (`NotForMe`) where it is to another party, from a party that is no provider
+    /// of the site, or of a kind that an operator does not take; and else (`NumbersUsedUp`) where a counter of packets or of
+    /// requests would pass its last number. A refusal, want of memory included, changes nothing and sends nothing.
+    ///
+    /// A request that was answered before gets the same reply again, under a new serial. A command that was not is decided
+    /// by its table, and its reply is kept for good (OCPI 2.2.1, Commands). An acknowledgement ends the push that it is
+    /// for.
+    pub fn on_packet(&mut self, at: Moment, packet: &Packet) -> Result<Stepped, NodeFault>
+        ensures step { IfOk result (λ x. OperatorStep self.old.state at packet.now (out_of self.new.state x)) }
+        ensures fault { IfErr result (IsDue self.old.state at packet.now) }
+        ensures err { OnErr result (self.new.state ≡ self.old.state) }
+        ensures rows { IfOk result (λ x. AreChanges self.old.state.rows x.rows.items self.new.state.rows) }
+    {
+        self.consistency();
+        let plan = self.plan_packet(at, packet)?;
+        Ok(self.carry_out(plan)?)
+    }
+
+    /// A charge point reports at a moment. The open command that the report ends gets its result, which is kept and pushed
+    /// to its provider: that a stop or an unlock was carried out (`Accepts`, `Unlocked`), that a command cannot be
+    /// (`Refuses`), that the EVSE failed which an open start took (`Fault`). A report that ends no command does nothing;
+    /// so do swipes and what is said of sessions, which an operator does not have yet. Refused (`NumbersUsedUp`) where a
+    /// counter of packets or of requests would pass its last number. A refusal, want of memory included, changes nothing
+    /// and sends nothing.
+    pub fn on_charger(&mut self, at: Moment, report: ChargerEvent) -> Result<Stepped, NodeFault>
+        ensures step { IfOk result (λ x. ChargerStep self.old.state at report (out_of self.new.state x)) }
+        ensures fault { IfErr result (IsOwnFault (ChargerLine self.old.state at report) self.old.state) }
+        ensures err { OnErr result (self.new.state ≡ self.old.state) }
+        ensures rows { IfOk result (λ x. AreChanges self.old.state.rows x.rows.items self.new.state.rows) }
+    {
+        self.consistency();
+        let plan = self.plan_charger(at, &report)?;
+        Ok(self.carry_out(plan)?)
+    }
+
+    /// Time has come to a moment: open commands whose deadline is at or before it end by a timeout; reservations whose
+    /// expiry is at or before it end, of which nobody is told; pushes that were last sent ten seconds before it, or
+    /// earlier, or not since the operator started, are sent again. Packets leave in this order. Refused (`NumbersUsedUp`)
+    /// where a counter of packets or of requests would pass its last number. A refusal, want of memory included, changes
+    /// nothing and sends nothing.
+    pub fn on_tick(&mut self, at: Moment) -> Result<Stepped, NodeFault>
+        ensures step { IfOk result (λ x. TickStep self.old.state at (out_of self.new.state x)) }
+        ensures fault { IfErr result (IsOwnFault (TickLine self.old.state at) self.old.state) }
+        ensures err { OnErr result (self.new.state ≡ self.old.state) }
+        ensures rows { IfOk result (λ x. AreChanges self.old.state.rows x.rows.items self.new.state.rows) }
+    {
+        self.consistency();
+        let plan = self.plan_tick(at)?;
+        Ok(self.carry_out(plan)?)
+    }
+
+    /// An EVSE goes out of service, or comes back. Standing claims stay. An EVSE that is unknown, or already is what it is
+    /// to be, is left as it is. An error is want of memory, and changes nothing.
+    pub fn on_service(
+        &mut self,
+        evse_uid: CiKey<36>,
+        in_service: bool,
+    ) -> Result<Stepped, AllocError>
+        ensures step { IfOk result (λ x. ServiceStep self.old.state evse_uid in_service (out_of self.new.state x)) }
+        ensures err { OnErr result (self.new.state ≡ self.old.state) }
+        ensures rows { IfOk result (λ x. AreChanges self.old.state.rows x.rows.items self.new.state.rows) }
+    {
+        self.consistency();
+        let plan = self.plan_service(evse_uid, in_service)?;
+        Ok(self.carry_out(plan)?)
+    }
+
+    /// The operator starts again from what it stored: each push is due at once, and nothing else changes. It takes no
+    /// memory.
+    pub fn restart(&mut self)
+        ensures { self.new.state ≡ restarted self.old.state }
+    {
+        self.books.restart(self.alloc);
+    }
+}

@@ -1,0 +1,129 @@
+-- The laws of an operator over every list of events from its opening: packets that come, in any order and any number of
+-- times, what charge points report, time that passes, at moments that may go back, EVSEs that go out of service and come
+-- back, and new starts of the operator from what it stored; events that are refused among them.
+use Rattle.std.specs.Prelude.{◌≡◌, ◌⊎◌, ℕ, ◌+◌, ◌≤◌, ◌<◌, List, Some, Contains, slice_get}
+use Rattle.std.specs.List.{flat_map}
+use Rattle.std.specs.FinMap.{get}
+use Rattle.ocpi_text.specs.Text.{key}
+use Rattle.ocpi_types.specs.Stored.{body_of_command, body_of_reply, body_of_push}
+use Rattle.ocpi_types.specs.declared.site.SiteLine.{SiteLine}
+use Rattle.ocpi_types.specs.declared.packet.Packet.{Packet}
+use Rattle.ocpi_types.specs.declared.packet.Body.TheVariants as body
+use Rattle.ocpi_types.specs.declared.replies.Ack.{Ack}
+use Rattle.ocpi_types.specs.declared.replies.CommandResponse.{CommandResponse}
+use Rattle.ocpi_types.specs.declared.replies.CommandResult.{CommandResult}
+use Rattle.ocpi_types.specs.declared.stored.Command.{Command}
+use Rattle.ocpi_types.specs.declared.stored.OpenCommand.{OpenCommand}
+use Rattle.ocpi_types.specs.declared.stored.Reply.{Reply}
+use Rattle.ocpi_types.specs.declared.stored.Reservation.{Reservation}
+use Rattle.ocpi_types.specs.declared.words.CommandResultType.{CommandResultType}
+use Rattle.ocpi_types.specs.declared.rows.Change.TheVariants.{Put}
+use Rattle.ocpi_types.specs.declared.rows.Row.TheVariants as row
+use Rattle.node_laws.specs.Runs as runs
+use Rattle.outbox.specs.declared.push_book.Outgoing.{Outgoing}
+use Rattle.operator_rows.specs.State.{State, opening}
+use Rattle.operator_rows.specs.Sound.{IsConsistent}
+use Rattle.operator_steps.specs.Events.{Arrives, Event, Happens}
+use Rattle.operator_by_acts_laws.specs.References.{AreSpent, HaveOneCarrier, Uses}
+
+-- a run from one state to another, event by event
+abbrev pub Run : State → List Event → State → Type 0
+Run s es t = runs.Run Happens s es t
+
+-- all packets of a run, in order
+abbrev pub sent : List Event → List Packet
+sent es = flat_map (λ e. e.packets) es
+
+-- the packet came in the run
+abbrev pub Came : List Event → Packet → Type 0
+Came es q = (e : Event) × Contains es e × ((at : ℕ) × (e.input ≡ Arrives at q))
+
+-- what holds of an operator at any time: what is kept of its rows and times, each EVSE with at most one claim among it; and each
+-- reference of a provider is carried by one open start at most, and may not be used again
+pub record HoldsAlways (t : State) : Type 0 where
+  pub consistent : IsConsistent t
+  pub one_carrier : HaveOneCarrier t.rows
+  pub carried_spent : AreSpent t.rows
+
+abbrev pub AlwaysConsistent : Type 0
+AlwaysConsistent = (line : SiteLine) (es : List Event) (t : State) → Run (opening line) es t → HoldsAlways t
+
+-- two open starts of a provider with one reference are one
+abbrev pub ReferencesHaveOneCarrier : Type 0
+ReferencesHaveOneCarrier = (line : SiteLine) (es : List Event) (t : State) → Run (opening line) es t → HaveOneCarrier t.rows
+
+-- the reference of an open start may not be used again
+abbrev pub CarriedReferencesAreSpent : Type 0
+CarriedReferencesAreSpent = (line : SiteLine) (es : List Event) (t : State) → Run (opening line) es t → AreSpent t.rows
+
+-- the event opens a start of a provider, both in key form, with a reference in key form
+abbrev pub Opens : Event → List ℕ → List ℕ → Type 0
+Opens e p reference = (n : ℕ) × (o : OpenCommand) × Contains e.changes (Put (row.Pending p n o)) × Uses o reference
+
+-- each reference of a provider opens at most one start, in all the time of an operator
+abbrev pub OneStart : Type 0
+OneStart = (line : SiteLine) (es : List Event) (t : State) → Run (opening line) es t → (i j : ℕ) (e f : Event) → slice_get es i ≡ Some e → slice_get es j ≡ Some f →
+    (p reference : List ℕ) → Opens e p reference → Opens f p reference → i ≡ j
+
+-- each response that was sent is the reply that is kept for its request
+abbrev pub SentRepliesAreKept : Type 0
+SentRepliesAreKept = (line : SiteLine) (es : List Event) (t : State) → Run (opening line) es t → (x : Packet) (r : CommandResponse) → Contains (sent es) x →
+    x.body ≡ body.CommandResponse r → (reply : Reply) × (get t.rows.commands.replies (key x.to, x.request) ≡ Some reply) × (x.body ≡ body_of_reply reply)
+
+-- a reply is kept for good
+abbrev pub RepliesStay : Type 0
+RepliesStay = (s t : State) (es : List Event) → Run s es t → (k : List ℕ × ℕ) (reply : Reply) → get s.rows.commands.replies k ≡ Some reply →
+    get t.rows.commands.replies k ≡ Some reply
+
+-- each kept reply answers a command that came, from that party under that number
+abbrev pub RepliesAnswer : Type 0
+RepliesAnswer = (line : SiteLine) (es : List Event) (t : State) → Run (opening line) es t → (p : List ℕ) (n : ℕ) (reply : Reply) →
+    get t.rows.commands.replies (p, n) ≡ Some reply →
+    (q : Packet) × Came es q × (key q.from ≡ p) × (q.request ≡ n) × ((c : Command) × (q.body ≡ body_of_command c))
+
+-- a result is kept for good
+abbrev pub ResultsStay : Type 0
+ResultsStay = (s t : State) (es : List Event) → IsConsistent s → Run s es t → (k : List ℕ × ℕ) (x : CommandResultType) → get s.rows.commands.results k ≡ Some x →
+    get t.rows.commands.results k ≡ Some x
+
+-- the packets are numbered from 1, each by the next number
+abbrev pub Numbered : Type 0
+Numbered = (line : SiteLine) (es : List Event) (t : State) → Run (opening line) es t → (i : ℕ) (x : Packet) → slice_get (sent es) i ≡ Some x → x.serial ≡ i + 1
+
+-- each of the operator's own requests, which are results so far, has one number, one body and one addressee, however often it
+-- is sent
+abbrev pub RequestsAgree : Type 0
+RequestsAgree = (line : SiteLine) (es : List Event) (t : State) → Run (opening line) es t → (x y : Packet) (a b : CommandResult) → Contains (sent es) x → Contains (sent es) y →
+    x.body ≡ body.CommandResult a → y.body ≡ body.CommandResult b → x.request ≡ y.request → (x.body ≡ y.body) × (x.to ≡ y.to)
+
+-- the party acknowledged the request of that number, in the run
+abbrev pub Acknowledged : List Event → List ℕ → ℕ → Type 0
+Acknowledged es to n = (q : Packet) × Came es q × ((a : Ack) × (q.body ≡ body.Ack a) × (a.status_code ≡ 1000)) × (key q.from ≡ key to) × (q.request ≡ n)
+
+-- a result that was sent is pushed until its addressee acknowledges its number
+abbrev pub PushesStand : Type 0
+PushesStand = (line : SiteLine) (es : List Event) (t : State) → Run (opening line) es t → (x : Packet) (a : CommandResult) → Contains (sent es) x →
+    x.body ≡ body.CommandResult a →
+    ((o : Outgoing) × (get t.rows.pushes x.request ≡ Some o) × (o.to ≡ x.to) × (body_of_push o.push ≡ x.body)) ⊎ Acknowledged es x.to x.request
+
+-- a result that was sent is the one that is kept for a command of its addressee, to be posted where it says
+abbrev pub SentResultsAreKept : Type 0
+SentResultsAreKept = (line : SiteLine) (es : List Event) (t : State) → Run (opening line) es t → (x : Packet) (a : CommandResult) → Contains (sent es) x →
+    x.body ≡ body.CommandResult a →
+    (n : ℕ) × (get t.rows.commands.results (key x.to, n) ≡ Some a.result)
+
+-- no mark falls, and none goes
+abbrev pub MarksNeverFall : Type 0
+MarksNeverFall = (s t : State) (es : List Event) → Run s es t → (k : List ℕ × List ℕ) (m : ℕ) → get s.rows.booked.marks k ≡ Some m →
+    (n : ℕ) × (get t.rows.booked.marks k ≡ Some n) × (m ≤ n)
+
+-- the event makes or replaces the reservation of that id of a provider, under that number
+abbrev pub Reserves : Event → List ℕ → List ℕ → ℕ → Type 0
+Reserves e p id n = ((r : Reservation) × Contains e.changes (Put (row.Reservation p id r))) × Contains e.changes (Put (row.Mark p id n))
+
+-- a reservation is made only under a number above that of every request about it that was decided before: so one that was
+-- cancelled, whether or not it was known, is not made by a request that the cancellation overtook
+abbrev pub ReservationsAreNewer : Type 0
+ReservationsAreNewer = (line : SiteLine) (es : List Event) (t : State) → Run (opening line) es t → (i j : ℕ) (e f : Event) → slice_get es i ≡ Some e →
+    slice_get es j ≡ Some f → i < j →
+    (p id : List ℕ) (m n : ℕ) → Contains e.changes (Put (row.Mark p id m)) → Reserves f p id n → m < n

@@ -1,0 +1,65 @@
+-- What stands because a command made it: the event that answered the command is named, and what was answered before it.
+use Rattle.std.specs.Prelude.{◌≡◌, ◌⊎◌, ◌<◌, ◌++◌, ℕ, List, ◌∷◌, Some, None}
+use Rattle.std.specs.FinMap.{get}
+use Rattle.ocpi_text.specs.Text.{key}
+use Rattle.ocpi_types.specs.Stored.{body_of_command}
+use Rattle.ocpi_types.specs.declared.commands.CancelReservation.{CancelReservation}
+use Rattle.ocpi_types.specs.declared.commands.ReserveNow.{ReserveNow}
+use Rattle.ocpi_types.specs.declared.packet.Body.TheVariants as body
+use Rattle.ocpi_types.specs.declared.packet.Packet.{Packet}
+use Rattle.ocpi_types.specs.declared.stored.Command.{Command}
+use Rattle.ocpi_types.specs.declared.stored.OpenCommand.{OpenCommand}
+use Rattle.ocpi_types.specs.declared.stored.Reply.{Reply}
+use Rattle.ocpi_types.specs.declared.stored.Reservation.{Reservation}
+use Rattle.operator_rows.specs.State.{State}
+use Rattle.operator_steps.specs.Events.{Event, Happens}
+use Rattle.operator_by_acts_laws.specs.Laws.{Run}
+use Rattle.operator_by_acts_laws.specs.Replied.{AnswersIt}
+
+-- an event of the run answered the request of that packet
+pub record IsAnsweredIn (s : State) (es : List Event) (t : State) (q : Packet) (r : Reply) : Type 0 where
+  pub before : State
+  pub after : State
+  pub earlier : List Event
+  pub event : Event
+  pub later : List Event
+  pub reached : Run s earlier before
+  pub happens : Happens before event after
+  pub left : Run after later t
+  pub all : es ≡ earlier ++ event ∷ later
+  pub answers : AnswersIt before event after q r
+
+-- a RESERVE_NOW of that provider about that id was answered in the events from s to t, under a number above that of every
+-- CANCEL_RESERVATION about it that was answered in those from r to s
+pub record IsReserved (r : State) (es : List Event) (s : State) (fs : List Event) (t : State) (p id : List ℕ) : Type 0 where
+  pub packet : Packet
+  pub asked : ReserveNow
+  pub reply : Reply
+  pub answered : IsAnsweredIn s fs t packet reply
+  pub carries : packet.body ≡ body.ReserveNow asked
+  pub by : key packet.from ≡ p
+  pub id_is : key asked.reservation_id ≡ id
+  pub newer : (x : Packet) (c : CancelReservation) (w : Reply) → IsAnsweredIn r es s x w → x.body ≡ body.CancelReservation c → key x.from ≡ p → key c.reservation_id ≡ id →
+      x.request < packet.request
+
+-- a reservation that stands, and did not at an earlier state, was made in between by a RESERVE_NOW that came, and not by one
+-- that a cancellation overtook
+abbrev pub ReservationsAreMade : Type 0
+ReservationsAreMade = (r s t : State) (es fs : List Event) → Run r es s → Run s fs t → (p id : List ℕ) → get s.rows.booked.reservations (p, id) ≡ None → (x : Reservation) →
+    get t.rows.booked.reservations (p, id) ≡ Some x →
+    IsReserved r es s fs t p id
+
+-- the command of number n of the party of key p came, and was answered, in the run
+pub record IsCommandOf (s : State) (es : List Event) (t : State) (p : List ℕ) (n : ℕ) (c : Command) : Type 0 where
+  pub packet : Packet
+  pub reply : Reply
+  pub answered : IsAnsweredIn s es t packet reply
+  pub carries : packet.body ≡ body_of_command c
+  pub by : key packet.from ≡ p
+  pub number : packet.request ≡ n
+
+-- an open command was open before, or is the command that came under its number. So is an open start with its authorization
+-- reference, which is spent and is carried by no other open start (`HoldsAlways`)
+abbrev pub OpenCommandsCame : Type 0
+OpenCommandsCame = (s t : State) (es : List Event) → Run s es t → (p : List ℕ) (n : ℕ) (o : OpenCommand) → get t.rows.commands.pending (p, n) ≡ Some o →
+    (get s.rows.commands.pending (p, n) ≡ Some o) ⊎ IsCommandOf s es t p n o.command
