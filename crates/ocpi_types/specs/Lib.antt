@@ -8,5 +8,7 @@ pub mod Memory
 pub mod Parties
 pub mod Rows
 pub mod Setups
+pub mod Stamps
 pub mod Stored
+pub mod TypePlaces
 pub mod Words

@@ -21,8 +21,10 @@ mod rows;
 mod sessions;
 mod setup;
 mod site;
+mod stamps;
 mod stored;
 mod token;
+mod type_places;
 mod words;
 
 pub use authorizations::{Authorization, AuthorizationInfo, Authorize, LocationReferences};
@@ -42,8 +44,10 @@ pub use rows::{Change, Counter, Place, Row, RowKey};
 pub use sessions::{Opening, Price, Session};
 pub use setup::{Node, Setup};
 pub use site::{Connector, Connectors, Evse, Evses, Location, Locations, Site, SiteLine};
+pub use stamps::next_stamp;
 pub use stored::{Command, OpenCommand, Push, Reply, Reservation, SentCommand};
 pub use token::{CdrToken, Token};
+pub use type_places::type_place;
 pub use words::{
     AllowedType, AuthMethod, CommandResponseType, CommandResultType, PacketKind, SessionStatus,
     TokenType, WhitelistType, Word,

@@ -20,10 +20,11 @@ use Rattle.tables.proofs.Maps.{told, get-remove_same, get-remove_other}
 use Rattle.tables.proofs.Parts.{first_part_le}
 use Rattle.reservation_book.specs.declared.standing.Standing.{Standing}
 use Rattle.reservation_book.specs.Places.{Key, Expiry, expiry_cmp, expiry_key, expiry_of}
-use Rattle.reservation_book.specs.Rows.{Rows, Reservations}
+use Rattle.reservation_book.specs.Rows.{Rows, Held, Reservations}
 use Rattle.reservation_book.specs.Tokens.{Stands}
-use Rattle.reservation_book.specs.Calls.{HasExpired, expiry_at, AreExpired, IsFront, Expires, not_expired, ended, ended_each}
+use Rattle.reservation_book.specs.Calls.{HasExpired, expiry_at, AreExpired, IsFront, Expires, not_expired, ended, ended_each, held_without, held_without_each}
 use Rattle.reservation_book.proofs.Orders.{expiry_total, expiry_exact}
+use Rattle.reservation_book.proofs.Rooms.{rows_each}
 
 -- what comes later in the order does not expire earlier
 not_earlier : (a b : Expiry) → expiry_cmp a b ≡ Less → a.0 ≤ b.0
@@ -94,6 +95,15 @@ module _ (at : ℕ) (m : Reservations) (index : FinMap expiry_cmp (Unit {0})) (h
       let d = of_map (λ (d : Expiry × Unit {0}). d.0) (entries index) e.0 among in
       stands_at e.0 (ap (get index) (sym d.2) ∙ listed_only expiry_total expiry_exact index d.0.0 tt d.1)
 
+  -- it has expired
+  pub next_expired : (list : List Standing) (e : Expiry × Unit {0}) (left rest : List (Expiry × Unit {0})) → rest ≡ e ∷ left → IsFront at m index list rest → (x : Standing) → x.provider ≡ e.0.1 → x.id ≡ e.0.2 →
+      get m (e.0.1, e.0.2) ≡ Some x.reservation → e.0.0 ≤ at → HasExpired at m x
+  next_expired list e left rest is f x provider id stands due =
+      let there = next_stands list e left rest is f in
+      let same : x.reservation ≡ there.0 = same_Some x.reservation there.0 (sym stands ∙ there.1) in
+      let when : x.reservation.expiry_date ≡ e.0.0 = ap (λ (r : Reservation). r.expiry_date) same ∙ there.2 in
+      (subst (λ (k : Key). get m k ≡ Some x.reservation) (λ i. (sym provider i, sym id i)) stands, subst (λ n. n ≤ at) (sym when) due)
+
   -- it is taken
   pub next_more : (list : List Standing) (e : Expiry × Unit {0}) (left rest : List (Expiry × Unit {0})) → rest ≡ e ∷ left → IsFront at m index list rest → (x : Standing) → x.provider ≡ e.0.1 → x.id ≡ e.0.2 →
       get m (e.0.1, e.0.2) ≡ Some x.reservation → e.0.0 ≤ at → IsFront at m index (list ++ x ∷ []) left
@@ -101,8 +111,7 @@ module _ (at : ℕ) (m : Reservations) (index : FinMap expiry_cmp (Unit {0})) (h
       let there = next_stands list e left rest is f in
       let same : x.reservation ≡ there.0 = same_Some x.reservation there.0 (sym stands ∙ there.1) in
       let when : x.reservation.expiry_date ≡ e.0.0 = ap (λ (r : Reservation). r.expiry_date) same ∙ there.2 in
-      front_more list e left (subst (λ l. IsFront at m index list l) is f) x (λ i. (when i, provider i, id i))
-      (subst (λ (k : Key). get m k ≡ Some x.reservation) (λ i. (sym provider i, sym id i)) stands, subst (λ n. n ≤ at) (sym when) due)
+      front_more list e left (subst (λ l. IsFront at m index list l) is f) x (λ i. (when i, provider i, id i)) (next_expired list e left rest is f x provider id stands due)
 
   -- it expires later
   pub next_later : (list : List Standing) (e : Expiry × Unit {0}) (left rest : List (Expiry × Unit {0})) → rest ≡ e ∷ left → IsFront at m index list rest → at < e.0.0 → AreExpired at m list
@@ -112,21 +121,24 @@ module _ (at : ℕ) (m : Reservations) (index : FinMap expiry_cmp (Unit {0})) (h
   none_next list rest is f = front_all list (subst (λ l. IsFront at m index list l) is f)
 
 -- reservations end one after the other
-pub each_then : (xs : List Standing) (x : Standing) (s : Rows) → ended_each (xs ++ x ∷ []) s ≡ ended (x.provider, x.id) (ended_each xs s)
-each_then [] x s = refl
-each_then (y ∷ ys) x s = each_then ys x (ended (y.provider, y.id) s)
+each_then : (xs : List Standing) (x : Standing) (h : Held) → held_without_each (xs ++ x ∷ []) h ≡ held_without (x.provider, x.id) (held_without_each xs h)
+each_then [] x h = refl
+each_then (y ∷ ys) x h = each_then ys x (held_without (y.provider, y.id) h)
 
-pub each_next : (xs : List Standing) (i : ℕ) (d : Standing) (s : Rows) → i < length xs → ended_each (take (i + 1) xs) s ≡ ended ((get_or xs i d).provider, (get_or xs i d).id) (ended_each (take i xs) s)
-each_next xs i d s within =
+each_next : (xs : List Standing) (i : ℕ) (d : Standing) (h : Held) → i < length xs →
+    held_without_each (take (i + 1) xs) h ≡ held_without ((get_or xs i d).provider, (get_or xs i d).id) (held_without_each (take i xs) h)
+each_next xs i d h within =
     let next : i + 1 ≡ suc i = omega arith in
-    ap (λ n. ended_each (take n xs) s) next ∙ ap (λ l. ended_each l s) (take-suc xs i d within) ∙ each_then (take i xs) (get_or xs i d) s
+    ap (λ n. held_without_each (take n xs) h) next ∙ ap (λ l. held_without_each l h) (take-suc xs i d within) ∙ each_then (take i xs) (get_or xs i d) h
 
-pub each_stepped : (xs : List Standing) (i : ℕ) (x : Standing) (s t u : Rows) → i < length xs → x ≡ get_or xs i x → t ≡ ended_each (take i xs) s → u ≡ ended (x.provider, x.id) t → u ≡ ended_each (take (i + 1) xs) s
-each_stepped xs i x s t u within is was now =
-    now ∙ ap (ended (x.provider, x.id)) was ∙ ap (λ (z : Standing). ended (z.provider, z.id) (ended_each (take i xs) s)) is ∙ sym (each_next xs i x s within)
+pub each_stepped : (xs : List Standing) (i : ℕ) (x : Standing) (h g u : Held) → i < length xs → x ≡ get_or xs i x → g ≡ held_without_each (take i xs) h → u.rows ≡ (held_without (x.provider, x.id) g).rows →
+    u.rooms ≡ (held_without (x.provider, x.id) g).rooms → u ≡ held_without_each (take (i + 1) xs) h
+each_stepped xs i x h g u within is was rows rooms =
+    let now : u ≡ held_without (x.provider, x.id) g = λ i. record { rows = rows i; rooms = rooms i } in
+    now ∙ ap (held_without (x.provider, x.id)) was ∙ ap (λ (z : Standing). held_without (z.provider, z.id) (held_without_each (take i xs) h)) is ∙ sym (each_next xs i x h within)
 
-pub each_taken : (xs : List Standing) (i : ℕ) (s : Rows) → length xs ≤ i → ended_each (take i xs) s ≡ ended_each xs s
-each_taken xs i s all = ap (λ l. ended_each l s) (take_all i xs all)
+pub each_taken : (xs : List Standing) (i : ℕ) (h : Held) → length xs ≤ i → held_without_each (take i xs) h ≡ held_without_each xs h
+each_taken xs i h all = ap (λ l. held_without_each l h) (take_all i xs all)
 
 same_marks : (xs : List Standing) (s : Rows) → (ended_each xs s).marks ≡ s.marks
 same_marks [] s = refl
@@ -156,7 +168,7 @@ module _ (k : Key) where
   ]
 
 -- where all that have expired end, the others stand
-pub all_expire : (at : ℕ) (list : List Standing) (s : Rows) → AreExpired at s.reservations list → ((ended_each list s).marks ≡ s.marks) × Expires at s.reservations (ended_each list s).reservations
+all_expire : (at : ℕ) (list : List Standing) (s : Rows) → AreExpired at s.reservations list → ((ended_each list s).marks ≡ s.marks) × Expires at s.reservations (ended_each list s).reservations
 all_expire at list s h = (same_marks list s, λ k. go k (get s.reservations k) refl)
   where
     go : (k : Key) (r : Option Reservation) → get s.reservations k ≡ r → get (ended_each list s).reservations k ≡ not_expired at r
@@ -171,3 +183,7 @@ all_expire at list s h = (same_marks list s, λ k. go k (get s.reservations k) r
           let due : r.expiry_date ≤ at = subst (λ (z : Reservation). z.expiry_date ≤ at) (sym is) now.1 in
           let no : true ≡ false = sym (le-leb r.expiry_date at due) ∙ later in cc) ∙ has
     ] refl
+
+pub all_held_expire : (at : ℕ) (list : List Standing) (h : Held) → AreExpired at h.rows.reservations list →
+    ((held_without_each list h).rows.marks ≡ h.rows.marks) × Expires at h.rows.reservations (held_without_each list h).rows.reservations
+all_held_expire at list h are = subst (λ (s : Rows). (s.marks ≡ h.rows.marks) × Expires at h.rows.reservations s.reservations) (sym (rows_each list h)) (all_expire at list h.rows are)

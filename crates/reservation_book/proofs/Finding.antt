@@ -1,40 +1,21 @@
 -- What is found by its place is a reservation for the token.
-use Rattle.std.proofs.Common.{◌≡◌, ℕ, List, true, refl, sym, ap, subst, ◌∙◌, arith}
+use Rattle.std.proofs.Common.{◌≡◌, ℕ, List, true, sym, ap, subst, ◌∙◌}
 use Rattle.std.specs.Prelude.{Option, Some, None, IfNone, IsTrue, is_some}
 use Rattle.std.specs.Ordering.{is_gt}
 use Rattle.std.specs.BTreeMap.Range.{IsLeBy, IsLtBy}
 use Rattle.std.specs.FinMap.{FinMap, get, contains_key}
 use Rattle.std.proofs.lemmas.Option.{same_Some}
-use Rattle.ocpi_types.specs.declared.words.TokenType.{TokenType}
-use Rattle.ocpi_types.specs.declared.words.TokenType.TheVariants.{AdHocUser, AppUser, Other, Rfid}
+use Rattle.ocpi_types.specs.TypePlaces.{type_place, one_type}
 use Rattle.tables.specs.Keys.{text_pair_cmp}
 use Rattle.tables.specs.Tables.{IsLeast, HasNone}
 use Rattle.tables.specs.Indexes.{Indexes}
 use Rattle.reservation_book.specs.declared.standing.Standing.{Standing}
 use Rattle.reservation_book.specs.declared.standing.TokenAt.{TokenAt}
-use Rattle.reservation_book.specs.Places.{Place, place_cmp, type_number, place_key, place_of}
+use Rattle.reservation_book.specs.Places.{Place, place_cmp, place_key, place_of}
 use Rattle.reservation_book.specs.Rows.{Reservations}
 use Rattle.reservation_book.specs.Tokens.{Stands, IsFor, IsOn, spot, IsFirstFor, IsNextFor}
 use Rattle.reservation_book.specs.Listed.{IsPlaceFor, IsPlaceOn, IsPlaceAfter, IsPlaceNamed}
 use Rattle.reservation_book.proofs.Orders.{by_spot, same_groups, same_types}
-
-pub one_type : (a b : TokenType) → type_number a ≡ type_number b → a ≡ b
-one_type AdHocUser AdHocUser e = refl
-one_type AppUser AppUser e = refl
-one_type Other Other e = refl
-one_type Rfid Rfid e = refl
-one_type AdHocUser AppUser e = absurd (omega arith)
-one_type AdHocUser Other e = absurd (omega arith)
-one_type AdHocUser Rfid e = absurd (omega arith)
-one_type AppUser AdHocUser e = absurd (omega arith)
-one_type AppUser Other e = absurd (omega arith)
-one_type AppUser Rfid e = absurd (omega arith)
-one_type Other AdHocUser e = absurd (omega arith)
-one_type Other AppUser e = absurd (omega arith)
-one_type Other Rfid e = absurd (omega arith)
-one_type Rfid AdHocUser e = absurd (omega arith)
-one_type Rfid AppUser e = absurd (omega arith)
-one_type Rfid Other e = absurd (omega arith)
 
 -- the place of a reservation that stands
 abbrev pub place_at : Standing → Place
@@ -44,7 +25,7 @@ module _ (m : Reservations) (places : FinMap place_cmp (Unit {0})) (h : Indexes 
   pub to_place : (x : Standing) → IsFor m t x → IsPlaceFor t (place_at x)
   to_place x f = record {
     group_is = λ i. (f.provider_is i, f.location_is i, f.token_is.uid_is i);
-    type_is = ap type_number f.token_is.type_is;
+    type_is = ap type_place f.token_is.type_is;
   }
 
   pub has_place : (x : Standing) → IsFor m t x → IsTrue (contains_key places (place_at x))

@@ -1,6 +1,6 @@
 pub mod Orders
-pub mod Rooms
 pub mod Relisting
+pub mod Rooms
 pub mod Finding
 pub mod RowLists
 pub mod ExpiryFront

@@ -8,6 +8,7 @@ use Rattle.tables.specs.Keys.{text_pair_total, text_pair_exact}
 use Rattle.tables.proofs.Options.{same_option}
 use Rattle.tables.proofs.Elements.{of_map, joined}
 use Rattle.tables.proofs.Entries.{insert_all, found_in, each_in, all_apart, all_entries}
+use Rattle.tables.proofs.Nothing.{no_entries}
 use Rattle.ocpi_types.specs.Rows.{key_of}
 use Rattle.ocpi_types.specs.declared.rows.Row.{Row}
 use Rattle.ocpi_types.specs.declared.rows.Row.TheVariants as row
@@ -79,3 +80,10 @@ put_rows_of s =
     ∙ ap (put_rows (map reservation_row (entries s.reservations))) (put_marks (entries s.marks) no_rows)
     ∙ put_reservations (entries s.reservations) _
     ∙ (λ i. record { reservations = all_entries text_pair_total text_pair_exact s.reservations i; marks = all_entries text_pair_total text_pair_exact s.marks i })
+
+-- no rows are the empty list
+pub none_listed : (s : Rows) → s ≡ no_rows → rows_of s ≡ []
+none_listed s none =
+    let marks = no_entries text_pair_total text_pair_exact s.marks (ap (λ (z : Rows). z.marks) none) in
+    let reservations = no_entries text_pair_total text_pair_exact s.reservations (ap (λ (z : Rows). z.reservations) none) in
+    λ i. map mark_row (marks i) ++ map reservation_row (reservations i)

@@ -1,14 +1,18 @@
 -- What the calls of a reservation book leave, and what holds over any list of them.
-use Rattle.std.specs.Prelude.{◌≡◌, ◌↔◌, ℕ, ◌≤◌, nat_le, if◌then◌else◌, List, [], ◌∷◌, ◌++◌, Option, Some, None, Contains, map}
+use Rattle.std.specs.Prelude.{◌≡◌, ◌≢◌, ◌↔◌, ℕ, ◌≤◌, nat_le, if◌then◌else◌, List, [], ◌∷◌, ◌++◌, Option, Some, None, Contains, map}
 use Rattle.std.specs.List.Sorted.{IsStrictlySortedBy}
 use Rattle.std.specs.FinMap.{FinMap, get, insert, remove, entries}
 use Rattle.ocpi_text.specs.Text.{key}
+use Rattle.ocpi_types.specs.Rows.{key_of}
+use Rattle.ocpi_types.specs.declared.rows.Row.{Row}
+use Rattle.ocpi_types.specs.declared.rows.RowKey.{RowKey}
+use Rattle.ocpi_types.specs.declared.rows.RowKey.TheVariants as keys
 use Rattle.ocpi_types.specs.declared.stored.Reservation.{Reservation}
 use Rattle.reservation_book.specs.declared.standing.Standing.{Standing}
 use Rattle.reservation_book.specs.declared.standing.CancelOutcome.{CancelOutcome}
 use Rattle.reservation_book.specs.declared.standing.CancelOutcome.TheVariants.{Ended, Unknown}
 use Rattle.reservation_book.specs.Places.{Key, Expiry, expiry_cmp}
-use Rattle.reservation_book.specs.Rows.{Rows, Marks, Reservations}
+use Rattle.reservation_book.specs.Rows.{Rows, Marks, Reservations, Rooms, Held, HasRoomOf, GivesBack, without}
 use Rattle.reservation_book.specs.Tokens.{Stands}
 use Rattle.reservation_book.specs.Refusals.{IsInTime, IsHere}
 
@@ -49,10 +53,31 @@ not_expired at (Some r) = if nat_le r.expiry_date at then None else Some r
 abbrev pub Expires : ℕ → Reservations → Reservations → Type 0
 Expires at m n = (k : Key) → get n k ≡ not_expired at (get m k)
 
+-- the row's key of a reservation that stands
+abbrev pub standing_key : Standing → RowKey
+standing_key x = keys.Reservation x.provider x.id
+
+-- what has room keeps it, but for these reservations
+abbrev pub KeepsRoomBut : List Standing → Rooms → Rooms → Type 0
+KeepsRoomBut list s t = (r : Row) → ((x : Standing) → Contains list x → key_of r ≢ standing_key x) → HasRoomOf s r → HasRoomOf t r
+
+-- the room of each of these reservations is given back
+abbrev pub GivesEachBack : List Standing → Rows → Rooms → Type 0
+GivesEachBack list s t = (x : Standing) → Contains list x → GivesBack (standing_key x) s t
+
 -- these reservations end, one after the other
 abbrev pub ended_each : List Standing → Rows → Rows
 ended_each [] s = s
 ended_each (x ∷ xs) s = ended_each xs (ended (x.provider, x.id) s)
+
+-- the reservation of the key, if there is one, ends, and gives its room back
+abbrev pub held_without : Key → Held → Held
+held_without k h = record { rows = ended k h.rows; rooms = without k (get h.rows.reservations k) h.rooms }
+
+-- these do, one after the other
+abbrev pub held_without_each : List Standing → Held → Held
+held_without_each [] h = h
+held_without_each (x ∷ xs) h = held_without_each xs (held_without (x.provider, x.id) h)
 
 -- the front of the queue: what was taken of it has expired, and the rest is left
 pub record IsFront (at : ℕ) (m : Reservations) (index : FinMap expiry_cmp (Unit {0})) (list : List Standing) (left : List (Expiry × Unit {0})) : Type 0 where

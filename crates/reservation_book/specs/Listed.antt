@@ -1,12 +1,13 @@
 -- What finds reservations by their expiry and by their place.
-use Rattle.std.specs.Prelude.{◌≡◌, ℕ, List, Option, Some, None, IsTrue}
-use Rattle.std.specs.FinMap.{contains_key}
+use Rattle.std.specs.Prelude.{◌≡◌, ◌≢◌, ℕ, List, Option, Some, None, IsTrue, false}
+use Rattle.std.specs.FinMap.{contains_key, remove}
 use Rattle.std.specs.BTreeMap.Range.{IsLtBy}
 use Rattle.tables.specs.Keys.{text_pair_cmp}
 use Rattle.tables.specs.Tables.{shown_of, rooms_of}
 use Rattle.tables.specs.Indexes.{Indexes}
+use Rattle.ocpi_types.specs.TypePlaces.{type_place}
 use Rattle.ocpi_types.specs.declared.stored.Reservation.{Reservation}
-use Rattle.reservation_book.specs.Places.{Key, Expiry, Place, expiry_cmp, place_cmp, expiry_key, place_key, expiry_of, place_of, type_number}
+use Rattle.reservation_book.specs.Places.{Key, Expiry, Place, expiry_cmp, place_cmp, expiry_key, place_key, expiry_of, place_of}
 use Rattle.reservation_book.specs.declared.standing.TokenAt.{TokenAt}
 use Rattle.reservation_book.specs.Rows.{Reservations}
 use Rattle.reservation_book.specs.declared.listings.Listings.{Listings}
@@ -31,10 +32,22 @@ pub record KeepRoom (t u : Listings) : Type 0 where
   pub expiring : (q : Expiry) → IsTrue (contains_key (rooms_of expiry_cmp t.expiring) q) → IsTrue (contains_key (rooms_of expiry_cmp u.expiring) q)
   pub places : (q : Place) → IsTrue (contains_key (rooms_of place_cmp t.places) q) → IsTrue (contains_key (rooms_of place_cmp u.places) q)
 
+-- the room by the reservation's expiry and by its place is given back, where nothing is listed by them
+pub record Releases (t : Listings) (k : Key) (r : Reservation) (u : Listings) : Type 0 where
+  pub expiry_used : IsTrue (contains_key (shown_of expiry_cmp t.expiring) (expiry_key k r)) → rooms_of expiry_cmp u.expiring ≡ rooms_of expiry_cmp t.expiring
+  pub expiry_free : contains_key (shown_of expiry_cmp t.expiring) (expiry_key k r) ≡ false → rooms_of expiry_cmp u.expiring ≡ remove (rooms_of expiry_cmp t.expiring) (expiry_key k r)
+  pub place_used : IsTrue (contains_key (shown_of place_cmp t.places) (place_key k r)) → rooms_of place_cmp u.places ≡ rooms_of place_cmp t.places
+  pub place_free : contains_key (shown_of place_cmp t.places) (place_key k r) ≡ false → rooms_of place_cmp u.places ≡ remove (rooms_of place_cmp t.places) (place_key k r)
+
+-- the same of a reservation whose place another takes, unless that one has the same
+pub record GivesUpListed (t : Listings) (k : Key) (w r : Reservation) : Type 0 where
+  pub expiry : expiry_key k w ≢ expiry_key k r → contains_key (rooms_of expiry_cmp t.expiring) (expiry_key k w) ≡ false
+  pub place : place_key k w ≢ place_key k r → contains_key (rooms_of place_cmp t.places) (place_key k w) ≡ false
+
 -- the place of a reservation for the token
 pub record IsPlaceFor (t : TokenAt) (q : Place) : Type 0 where
   pub group_is : q.0 ≡ (t.provider, t.location_id, t.uid)
-  pub type_is : q.1.0 ≡ type_number t.token_type
+  pub type_is : q.1.0 ≡ type_place t.token_type
 
 -- of those, on the EVSE
 pub record IsPlaceOn (t : TokenAt) (evse : List ℕ) (q : Place) : Type 0 where

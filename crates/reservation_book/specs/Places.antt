@@ -5,20 +5,12 @@ use Rattle.std.specs.declared.cmp.Ordering.{Ordering}
 use Rattle.std.specs.Ordering.{nat_cmp, ordering_then}
 use Rattle.ocpi_text.specs.Text.{key}
 use Rattle.ocpi_types.specs.declared.stored.Reservation.{Reservation}
-use Rattle.ocpi_types.specs.declared.words.TokenType.{TokenType}
-use Rattle.ocpi_types.specs.declared.words.TokenType.TheVariants.{AdHocUser, AppUser, Other, Rfid}
+use Rattle.ocpi_types.specs.TypePlaces.{type_place}
 use Rattle.tables.specs.Keys.{text_cmp, pair_cmp}
 
 -- a provider and the id of a reservation
 abbrev pub Key : Type 0
 Key = List ℕ × List ℕ
-
--- the number of a token's type, by which tokens are ordered
-abbrev pub type_number : TokenType → ℕ
-type_number AdHocUser = 0
-type_number AppUser = 1
-type_number Other = 2
-type_number Rfid = 3
 
 -- by the first part that differs
 abbrev pub triple_cmp : {A B C : Type 0} → (A → A → Ordering) → (B → B → Ordering) → (C → C → Ordering) → A × B × C → A × B × C → Ordering
@@ -49,7 +41,7 @@ abbrev pub expiry_key : Key → Reservation → Expiry
 expiry_key k r = (r.expiry_date, k.0, k.1)
 
 abbrev pub place_key : Key → Reservation → Place
-place_key k r = ((k.0, key r.location_id, key r.token.uid), (type_number r.token.token_type, key r.evse_uid, k.1))
+place_key k r = ((k.0, key r.location_id, key r.token.uid), (type_place r.token.token_type, key r.evse_uid, k.1))
 
 -- whose expiry or place it is
 abbrev pub expiry_of : Expiry → Key

@@ -10,7 +10,7 @@ ghost use Rattle.ocpi_types.specs.declared.stored.Reservation.{Reservation};
 ghost use Rattle.reservation_book.specs.declared.fault.ReservationFault.TheVariants.{Memory};
 ghost use Rattle.reservation_book.specs.declared.standing.Standing.{Standing};
 ghost use Rattle.reservation_book.specs.Places.{Key};
-ghost use Rattle.reservation_book.specs.Rows.{HasPlaces, HasRoomOf, KeepsRoom, KeepsOtherRoom, no_rows, put_row, drop_row};
+ghost use Rattle.reservation_book.specs.Rows.{HasPlaces, HasRoomOf, KeepsRoom, KeepsOtherRoom, GivesBack, GivesBackReplaced, GivesUp, no_rows, put_row, drop_row, without};
 ghost use Rattle.reservation_book.specs.Tokens.{IsToken, IsFor, IsOn, IsFirstFor, IsNextFor, spot};
 ghost use Rattle.reservation_book.specs.Refusals.{IsInTime, IsHere, RefusesNumber, RefusesReservation};
 ghost use Rattle.reservation_book.specs.Calls.{marked, reserved, ended};
@@ -237,6 +237,8 @@ impl ReservationBook {
         ensures rows { self.new.rows ≡ reserved key.now reservation.now self.old.rows }
         ensures marks { self.new.rooms.marks ≡ self.old.rooms.marks }
         ensures keeps { (k : Key) (r : Reservation) → (k ≡ key.now → ⊥) → HasPlaces self.old.rooms k r → HasPlaces self.new.rooms k r }
+        ensures room { HasPlaces self.new.rooms key.now reservation.now }
+        ensures gives_back { (w : Reservation) → map.get self.old.rows.reservations key.now ≡ Some w → GivesUp self.new.rooms key.now w reservation.now }
     {
         let replaced = self.reservations.get(*key).copied();
         self.reservations.put(*key, *reservation);
@@ -247,8 +249,7 @@ impl ReservationBook {
     pub(crate) fn end(&mut self, key: &ReservationKey) -> Option<Reservation>
         ensures value { result ≡ map.get self.old.rows.reservations key.now }
         ensures rows { self.new.rows ≡ ended key.now self.old.rows }
-        ensures marks { self.new.rooms.marks ≡ self.old.rooms.marks }
-        ensures keeps { (k : Key) (r : Reservation) → (k ≡ key.now → ⊥) → HasPlaces self.old.rooms k r → HasPlaces self.new.rooms k r }
+        ensures rooms { self.new.rooms ≡ without key.now (map.get self.old.rows.reservations key.now) self.old.rooms }
     {
         let ended = self.reservations.remove(*key);
         if let Some(reservation) = &ended {
@@ -276,7 +277,17 @@ impl ReservationBook {
                 reservation_id,
                 reservation,
             } => self.reserve_reservation(&(*provider, *reservation_id), reservation),
-            _ => Ok(()),
+            Row::Count { .. }
+            | Row::Reply { .. }
+            | Row::Token { .. }
+            | Row::Push { .. }
+            | Row::Service { .. }
+            | Row::Spent { .. }
+            | Row::Pending { .. }
+            | Row::Result { .. }
+            | Row::Session { .. }
+            | Row::Cdr { .. }
+            | Row::Command { .. } => Ok(()),
         }
     }
 
@@ -284,6 +295,8 @@ impl ReservationBook {
     pub(crate) fn put_row_of(&mut self, row: &Row)
         requires { HasRoomOf self.old.rooms row.now }
         ensures rows { self.new.rows ≡ put_row row.now self.old.rows }
+        ensures room { HasRoomOf self.new.rooms row.now }
+        ensures gives_back { GivesBackReplaced row.now self.old.rows self.new.rooms }
         ensures keeps { KeepsOtherRoom (key_of row.now) self.old.rooms self.new.rooms }
     {
         match row {
@@ -297,22 +310,37 @@ impl ReservationBook {
                 reservation_id,
                 reservation,
             } => self.put_reservation(&(*provider, *reservation_id), reservation),
-            _ => {}
+            Row::Count { .. }
+            | Row::Reply { .. }
+            | Row::Token { .. }
+            | Row::Push { .. }
+            | Row::Service { .. }
+            | Row::Spent { .. }
+            | Row::Pending { .. }
+            | Row::Result { .. }
+            | Row::Session { .. }
+            | Row::Cdr { .. }
+            | Row::Command { .. } => {}
         }
     }
 
-    /// Puts a row, in place of the one of its key if there is one; rows of other kinds change nothing. It takes no memory.
+    /// Puts a row, in place of the one of its key if there is one; rows of other kinds change nothing. It takes no memory,
+    /// the room of rows of other keys stays, and that of the replaced row is given back, but for what the new one needs.
     pub fn put_row(&mut self, row: Row)
         requires { HasRoomOf self.old.rooms row }
         ensures rows { self.new.rows ≡ put_row row self.old.rows }
+        ensures room { HasRoomOf self.new.rooms row }
+        ensures gives_back { GivesBackReplaced row self.old.rows self.new.rooms }
         ensures keeps { KeepsOtherRoom (key_of row) self.old.rooms self.new.rooms }
     {
         self.put_row_of(&row);
     }
 
-    /// Drops the row of a key, if there is one, with its room; keys of other kinds change nothing. It takes no memory.
+    /// Drops the row of a key, if there is one, and gives its room back; keys of other kinds change nothing. It takes no memory,
+    /// and the room of rows of other keys stays.
     pub fn drop_row(&mut self, key: RowKey)
         ensures rows { self.new.rows ≡ drop_row key self.old.rows }
+        ensures gives_back { GivesBack key self.old.rows self.new.rooms }
         ensures keeps { KeepsOtherRoom key self.old.rooms self.new.rooms }
     {
         match key {
@@ -324,7 +352,17 @@ impl ReservationBook {
                 provider,
                 reservation_id,
             } => drop(self.end(&(provider, reservation_id))),
-            _ => {}
+            RowKey::Count { .. }
+            | RowKey::Reply { .. }
+            | RowKey::Token { .. }
+            | RowKey::Push { .. }
+            | RowKey::Service { .. }
+            | RowKey::Spent { .. }
+            | RowKey::Pending { .. }
+            | RowKey::Result { .. }
+            | RowKey::Session { .. }
+            | RowKey::Cdr { .. }
+            | RowKey::Command { .. } => {}
         }
     }
 }

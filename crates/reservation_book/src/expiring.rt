@@ -1,10 +1,11 @@
 //! The reservations that have expired (OCPI 2.2.1, Commands: ReserveNow, expiry_date).
 
-ghost use Rattle.std.specs.Prelude.{◌≡◌, ◌<◌, ◌≤◌, [], IfOk, IsTrue, OnOk, false};
+ghost use Rattle.std.specs.Prelude.{◌≡◌, ◌<◌, ◌≤◌, [], IfOk, IsOk, IsTrue, OnOk, false};
 ghost use Rattle.tables.specs.Keys.{text_pair_cmp};
 ghost use Rattle.tables.specs.Tables.{shown_of};
+ghost use Rattle.reservation_book.specs.declared.standing.Standing.{Standing};
 ghost use Rattle.reservation_book.specs.Listed.{AreListed};
-ghost use Rattle.reservation_book.specs.Calls.{AreExpired, ended_each};
+ghost use Rattle.reservation_book.specs.Calls.{HasExpired, AreExpired, held_without_each};
 
 use crate::book::{ReservationBook, standing_of};
 use crate::listings::{Listings, ReservationKey};
@@ -31,7 +32,8 @@ fn push_expired(
 ) -> Result<(), AllocError>
     requires empty { expired.old.items ≡ [] }
     requires listed { AreListed (shown_of text_pair_cmp reservations.now) listings.now }
-    ensures { OnOk result (AreExpired at (shown_of text_pair_cmp reservations.now) expired.new.items) }
+    ensures list { OnOk result (AreExpired at (shown_of text_pair_cmp reservations.now) expired.new.items) }
+    ensures none { ((x : Standing) → HasExpired at (shown_of text_pair_cmp reservations.now) x → ⊥) → IsOk result }
 {
     for (expiry, _) in listings.expiring.iter() {
         if is_later(expiry.0, at) {
@@ -44,17 +46,19 @@ fn push_expired(
 
 impl ReservationBook {
     /// The reservations whose expiry is at or before a moment, in the order of their expiry, then of their providers and ids.
+    /// An error is want of memory, and none is taken where nothing has expired.
     pub fn expired(&self, alloc: Global, at: Moment) -> Result<Vec<Standing>, AllocError>
-        ensures { IfOk result (λ v. AreExpired at self.now.rows.reservations v.items) }
+        ensures list { IfOk result (λ v. AreExpired at self.now.rows.reservations v.items) }
+        ensures none { ((x : Standing) → HasExpired at self.now.rows.reservations x → ⊥) → IsOk result }
     {
         let mut expired = Vec::new(alloc);
         push_expired(&mut expired, &self.reservations, &self.listings, at)?;
         Ok(expired)
     }
 
-    /// Ends reservations, one after the other. It takes no memory.
+    /// Ends reservations, one after the other, with their room. It takes no memory.
     pub(crate) fn end_each(&mut self, standing: &[Standing])
-        ensures { self.new.rows ≡ ended_each standing.now self.old.rows }
+        ensures { self.new ≡ held_without_each standing.now self.old }
     {
         for reservation in standing {
             self.end(&(reservation.provider, reservation.id));

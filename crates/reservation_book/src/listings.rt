@@ -1,19 +1,19 @@
 //! What finds reservations by their expiry and by their place.
 
-ghost use Rattle.std.specs.Prelude.{◌≡◌, [], IfNone, IfSome, IsOk, IsTrue, OnOk, false};
+ghost use Rattle.std.specs.Prelude.{◌≡◌, IfNone, IfSome, IsOk, IsTrue, OnOk, Some, false};
 ghost use Rattle.std.specs.FinMap as map;
 ghost use Rattle.tables.specs.Tables.{shown_of, rooms_of, IsLeast, HasNone};
-ghost use Rattle.reservation_book.specs.Places.{Key, Expiry, Place, expiry_cmp, place_cmp, type_number, expiry_key, place_key};
-ghost use Rattle.reservation_book.specs.Listed.{ShowSame, HaveRoom, KeepRoom, IsPlaceFor, IsPlaceOn, IsPlaceAfter, IsPlaceNamed, AreListed};
+ghost use Rattle.reservation_book.specs.Places.{Key, Expiry, Place, expiry_cmp, place_cmp, expiry_key, place_key};
+ghost use Rattle.reservation_book.specs.Listed.{ShowSame, HaveRoom, KeepRoom, Releases, GivesUpListed, IsPlaceFor, IsPlaceOn, IsPlaceAfter, IsPlaceNamed, AreListed};
 ghost use Rattle.reservation_book.specs.Tokens.{IsToken};
 ghost use Rattle.reservation_book.specs.Rows.{Reservations};
 ghost use Rattle.ocpi_types.specs.declared.stored.Reservation.{Reservation};
 
 use crate::standing::TokenAt;
-use ocpi_text::{CiKey, CiText, Moment, PartyKey};
-use ocpi_types::{Reservation, Token, TokenType};
+use ocpi_text::{CiKey, Moment, PartyKey};
+use ocpi_types::{Reservation, Token, TokenType, type_place};
 use std::alloc::{AllocError, Global};
-use tables::Table;
+use tables::{Table, least_text};
 
 /// A provider and the id of a reservation.
 pub(crate) type ReservationKey = (PartyKey, CiKey<36>);
@@ -27,24 +27,12 @@ pub(crate) type PlaceKey = (
     (u64, CiKey<36>, CiKey<36>),
 );
 
-/// The number of a token's type, by which tokens are ordered.
-fn type_number(token_type: TokenType) -> u64
-    ensures { result ≡ type_number token_type }
-{
-    match token_type {
-        TokenType::AdHocUser => 0,
-        TokenType::AppUser => 1,
-        TokenType::Other => 2,
-        TokenType::Rfid => 3,
-    }
-}
-
 /// Whether it is the token of that uid and type.
 pub(crate) fn is_token(token: &Token, uid: CiKey<36>, token_type: TokenType) -> bool
     ensures yes { IsTrue result → IsToken uid token_type token.now }
     ensures no { result ≡ false → IsToken uid token_type token.now → ⊥ }
 {
-    token.uid.key().cmp(&uid).is_eq() && type_number(token.token_type) == type_number(token_type)
+    token.uid.key().cmp(&uid).is_eq() && type_place(token.token_type) == type_place(token_type)
 }
 
 fn place_key(key: &ReservationKey, reservation: &Reservation) -> PlaceKey
@@ -54,7 +42,7 @@ fn place_key(key: &ReservationKey, reservation: &Reservation) -> PlaceKey
     (
         (key.0, reservation.location_id.key(), token.uid.key()),
         (
-            type_number(token.token_type),
+            type_place(token.token_type),
             reservation.evse_uid.key(),
             key.1,
         ),
@@ -122,11 +110,10 @@ impl Listings {
         self.places.clear(place_key(key, reservation));
     }
 
-    /// Gives the room of a reservation that is not listed back.
+    /// Gives the room by the expiry and by the place of a reservation back, where nothing is listed by them.
     fn release(&mut self, key: &ReservationKey, reservation: &Reservation)
         ensures shown { ShowSame self.old self.new }
-        ensures expiring_room { (q : Expiry) → (q ≡ expiry_key key.now reservation.now → ⊥) → IsTrue (map.contains_key (rooms_of expiry_cmp self.old.expiring) q) → IsTrue (map.contains_key (rooms_of expiry_cmp self.new.expiring) q) }
-        ensures places_room { (q : Place) → (q ≡ place_key key.now reservation.now → ⊥) → IsTrue (map.contains_key (rooms_of place_cmp self.old.places) q) → IsTrue (map.contains_key (rooms_of place_cmp self.new.places) q) }
+        ensures room { Releases self.old key.now reservation.now self.new }
     {
         self.expiring
             .release((reservation.expiry_date, key.0, key.1));
@@ -143,6 +130,8 @@ impl Listings {
         requires { HaveRoom self.old key.now reservation.now }
         ensures listed { (m : Reservations) → map.get m key.now ≡ replaced.now → AreListed m self.old → AreListed (map.insert m key.now reservation.now) self.new }
         ensures keeps { (k : Key) (r : Reservation) → (k ≡ key.now → ⊥) → HaveRoom self.old k r → HaveRoom self.new k r }
+        ensures room { HaveRoom self.new key.now reservation.now }
+        ensures gives_back { (w : Reservation) → replaced.now ≡ Some w → GivesUpListed self.new key.now w reservation.now }
     {
         match replaced {
             None => self.add(key, reservation),
@@ -167,13 +156,6 @@ impl Listings {
     }
 }
 
-/// The empty text, which is before all others.
-fn first_text() -> CiKey<36>
-    ensures { result ≡ [] }
-{
-    CiText::new("").unwrap().key()
-}
-
 /// The place that a reservation for the token has, on that EVSE and with that id.
 fn place_for(token: &TokenAt, evse_uid: CiKey<36>, id: CiKey<36>) -> PlaceKey
     ensures token { IsPlaceFor token.now result }
@@ -182,7 +164,7 @@ fn place_for(token: &TokenAt, evse_uid: CiKey<36>, id: CiKey<36>) -> PlaceKey
 {
     (
         (token.provider, token.location_id, token.uid),
-        (type_number(token.token_type), evse_uid, id),
+        (type_place(token.token_type), evse_uid, id),
     )
 }
 
@@ -192,7 +174,7 @@ fn is_for(place: &PlaceKey, token: &TokenAt) -> bool
     ensures no { result ≡ false → IsPlaceFor token.now place.now → ⊥ }
 {
     let group = (token.provider, token.location_id, token.uid);
-    place.0.cmp(&group).is_eq() && place.1.0 == type_number(token.token_type)
+    place.0.cmp(&group).is_eq() && place.1.0 == type_place(token.token_type)
 }
 
 /// Whether it is the place of a reservation for the token on the EVSE.
@@ -220,7 +202,7 @@ impl Listings {
         ensures some { IfSome result (λ q. IsLeast place_cmp (shown_of place_cmp self.now.places) (IsPlaceFor token.now) (q, tt)) }
         ensures none { IfNone result (HasNone place_cmp (shown_of place_cmp self.now.places) (IsPlaceFor token.now)) }
     {
-        let from = place_for(token, first_text(), first_text());
+        let from = place_for(token, least_text(), least_text());
         let Some((place, _)) = self.places.first_from(from) else {
             return None;
         };
@@ -236,7 +218,7 @@ impl Listings {
         ensures some { IfSome result (λ q. IsLeast place_cmp (shown_of place_cmp self.now.places) (IsPlaceOn token.now evse_uid) (q, tt)) }
         ensures none { IfNone result (HasNone place_cmp (shown_of place_cmp self.now.places) (IsPlaceOn token.now evse_uid)) }
     {
-        let from = place_for(token, evse_uid, first_text());
+        let from = place_for(token, evse_uid, least_text());
         let Some((place, _)) = self.places.first_from(from) else {
             return None;
         };

@@ -1,5 +1,6 @@
 -- The versions of a session (OCPI 2.2.1, Sessions: Session object and SessionStatus).
-use Rattle.std.specs.Prelude.{◌≡◌, ℕ, ◌+◌, max, ℤ, pos, ◌≤ℤ◌, Some, None}
+use Rattle.std.specs.Prelude.{◌≡◌, ℕ, max, ℤ, pos, ◌≤ℤ◌, Some, None}
+use Rattle.ocpi_types.specs.Stamps.{next_stamp}
 use Rattle.ocpi_types.specs.declared.sessions.Session.{Session}
 use Rattle.ocpi_types.specs.declared.words.SessionStatus.{SessionStatus}
 use Rattle.ocpi_types.specs.declared.words.SessionStatus.TheVariants.{Active, Completed, Invalid, Pending}
@@ -19,10 +20,6 @@ HasCost price v = v.total_cost ≡ Some (price_of v.kwh price)
 pub record IsIn (status : SessionStatus) (price : ℤ) (v : Session) : Type 0 where
   pub state : v.status ≡ status
   pub priced : HasCost price v
-
--- when a version is updated that follows one updated at `before`: at the moment, or a millisecond after that one
-abbrev pub next_stamp : ℕ → ℕ → ℕ
-next_stamp at before = max at (before + 1)
 
 -- a session's first version
 abbrev pub first_version : Opening → ℕ → Session

@@ -2,7 +2,8 @@
 
 ghost use Rattle.std.specs.Prelude.{◌≡◌, ◌↔◌, ◌<◌, max, pos, None, Some, IfSome, IsNone, IfOk, IfErr, IsErr, IsTrue};
 ghost use Rattle.ocpi_text.specs.Moment.{last_moment};
-ghost use Rattle.session_state.specs.Versions.{Priced, HasCost, IsIn, CanRead, first_version, next_stamp, activated, metered, ended, completed, voided};
+ghost use Rattle.ocpi_types.specs.Stamps.{next_stamp};
+ghost use Rattle.session_state.specs.Versions.{Priced, HasCost, IsIn, CanRead, first_version, activated, metered, ended, completed, voided};
 ghost use Rattle.session_state.specs.Pasts.{MayFollow};
 ghost use Rattle.session_state.specs.declared.fault.SessionFault.TheVariants.{StampEnd};
 
@@ -11,7 +12,7 @@ use crate::drafts::{CdrDraft, draft_of};
 use crate::fault::{Refused, stamp_end};
 use crate::states::{Active, Completed, Invalid, Pending, State};
 use ocpi_text::{E4, Moment, Quantity};
-use ocpi_types::{Opening, Price, PricePerKwh, Session as Version, SessionStatus};
+use ocpi_types::{Opening, Price, PricePerKwh, Session as Version, SessionStatus, next_stamp};
 use std::marker::Model;
 
 /// A session in the state `S`: its newest version, and what a kilowatt-hour costs. The version has the status of the
@@ -118,11 +119,7 @@ impl<S: State> Session<S> {
         ensures later { IfSome result (λ m. self.now.version.last_updated < m) }
     {
         let before = self.version.last_updated;
-        let next = before.after(1);
-        if next.millis() == before.millis() {
-            return None;
-        }
-        Some(later_of(at, next))
+        next_stamp(at, before)
     }
 }
 

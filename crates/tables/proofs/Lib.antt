@@ -8,3 +8,4 @@ pub mod Indexing
 pub mod Parts
 pub mod Ties
 pub mod DueFront
+pub mod Nothing

@@ -2,10 +2,12 @@
 #![tactic(auto)]
 
 mod key;
+mod least;
 mod queue;
 mod table;
 mod visits;
 
 pub use key::TableKey;
+pub use least::least_text;
 pub use table::Table;
 pub use visits::Visits;

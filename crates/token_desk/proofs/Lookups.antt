@@ -1,10 +1,9 @@
 -- What look-ups find: the keys of parties are texts, and the first party of a type and uid.
-use Rattle.std.proofs.Common.{◌≡◌, ℕ, Bool, List, [], true, false, cond, refl, sym, ap, ◌∙◌}
+use Rattle.std.proofs.Common.{◌≡◌, ℕ, Bool, List, true, false, cond, refl, sym, ap, ◌∙◌}
 use Rattle.std.specs.Prelude.{Ok, Err}
 use Rattle.std.specs.Ordering.{ordering_then, is_gt}
 use Rattle.std.proofs.lemmas.Cmp.{tied_itself}
-use Rattle.std.specs.Str.{chars}
-use Rattle.ocpi_text.specs.Text.{ci_text, is_ascii_text}
+use Rattle.ocpi_text.specs.Text.{ci_text}
 use Rattle.ocpi_text.specs.declared.fault.TextFault.TheVariants.{TooLong}
 use Rattle.ocpi_text.specs.Party.{party_at, is_party_shape}
 use Rattle.tables.specs.Keys.{text_cmp}
@@ -23,10 +22,6 @@ party_fits p e = go (is_party_shape p) refl
     go : (b : Bool) → is_party_shape p ≡ b → ci_text 6 p ≡ Ok p
     go true shape = sym (ap (λ c. cond c (ci_text 6 p) (Err TooLong)) shape) ∙ e
     go false shape = absurd (cc)
-
-pub empty_fits : ci_text 6 [] ≡ Ok []
-unfolding is_ascii_text chars
-empty_fits = refl
 
 -- of the tokens of one type and uid, the one with the least key is the first
 pub least_is_first : (m : Tokens) (type : TokenType) (uid p : List ℕ) (t : Token) → IsLeast token_cmp m (λ (q : TokenKey). q.0 ≡ (type, uid)) (((type, uid), p), t) → IsFirst m type uid t

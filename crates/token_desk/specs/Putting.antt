@@ -1,9 +1,10 @@
 -- Tokens that are put: by an operator, which its provider sends them, and by the provider itself (OCPI 2.2.1, Tokens:
 -- Receiver interface, PUT; Token object, last_updated).
-use Rattle.std.specs.Prelude.{◌≡◌, ◌≢◌, ℕ, ◌+◌, ◌<◌, ◌≤◌, max, List, Option, Some, None, false}
+use Rattle.std.specs.Prelude.{◌≡◌, ◌≢◌, ℕ, ◌<◌, ◌≤◌, List, Option, Some, None, false}
 use Rattle.std.specs.FinMap.{get, insert, contains_key}
 use Rattle.ocpi_text.specs.Text.{key}
 use Rattle.ocpi_text.specs.Moment.{last_moment}
+use Rattle.ocpi_types.specs.Stamps.{next_stamp}
 use Rattle.ocpi_types.specs.declared.token.Token.{Token}
 use Rattle.token_desk.specs.declared.answers.TokenPut.{TokenPut}
 use Rattle.token_desk.specs.declared.answers.TokenPut.TheVariants.{Stored, Kept}
@@ -41,10 +42,10 @@ IsPutFault h sender t WrongParty = key t.party ≢ sender
 IsPutFault h sender t NumbersUsedUp = ⊥
 IsPutFault h sender t Memory = (key t.party ≡ sender) × IsNewer h.rows.tokens t × (contains_key h.rooms (token_key t) ≡ false)
 
--- when a token is stored by its provider: at the moment of the event, or 1 ms after the held one was where that is later
+-- when a token is stored by its provider: at the moment of the event, or as the version after the one that is held
 abbrev pub stored_at : ℕ → Option Token → ℕ
 stored_at at None = at
-stored_at at (Some u) = max at (u.last_updated + 1)
+stored_at at (Some u) = next_stamp at u.last_updated
 
 -- the token as its provider stores it at a moment
 abbrev pub next_version : ℕ → Tokens → Token → Token

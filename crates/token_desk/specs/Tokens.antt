@@ -6,15 +6,8 @@ use Rattle.std.specs.FinMap.{FinMap, get}
 use Rattle.ocpi_text.specs.Text.{key}
 use Rattle.tables.specs.Keys.{pair_cmp, text_cmp}
 use Rattle.ocpi_types.specs.declared.words.TokenType.{TokenType}
-use Rattle.ocpi_types.specs.declared.words.TokenType.TheVariants.{AdHocUser, AppUser, Other, Rfid}
+use Rattle.ocpi_types.specs.TypePlaces.{type_place}
 use Rattle.ocpi_types.specs.declared.token.Token.{Token}
-
--- the place of a type's word among the words, in the order of their bytes
-abbrev pub type_place : TokenType → ℕ
-type_place AdHocUser = 0
-type_place AppUser = 1
-type_place Other = 2
-type_place Rfid = 3
 
 abbrev pub type_cmp : TokenType → TokenType → Ordering
 type_cmp s t = nat_cmp (type_place s) (type_place t)

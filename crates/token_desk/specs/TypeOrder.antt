@@ -1,14 +1,13 @@
 -- The order of token types: it is total, and only equal types tie.
-use Rattle.std.specs.Prelude.{◌≡◌, ℕ, List, Some, nat_eq, refl}
+use Rattle.std.specs.Prelude.{◌≡◌, ℕ, List, Some, nat_eq}
 use Rattle.std.specs.Ordering.{nat_cmp, eq_by_cmp}
 use Rattle.std.specs.Cmp.{IsTotalOrder, IsEquivalence, IsPartialOrder, on_po, unsigned_po, unsigned_ties, nat_cmp_total}
 use Rattle.std.specs.FinMap.{IsAntisymmetric, nat_cmp-IsAntisymmetric}
-use Rattle.std.proofs.Common.{arith}
 use Rattle.std.proofs.lemmas.Cmp.{on_total, on_equiv, nat_eq_equiv, then_total}
 use Rattle.tables.specs.Keys.{text_cmp, text_total, text_exact, pair_cmp, pair_exact}
 use Rattle.ocpi_types.specs.declared.words.TokenType.{TokenType}
-use Rattle.ocpi_types.specs.declared.words.TokenType.TheVariants.{AdHocUser, AppUser, Other, Rfid}
-use Rattle.token_desk.specs.Tokens.{type_place, type_cmp, TokenKey, token_cmp}
+use Rattle.ocpi_types.specs.TypePlaces.{type_place, one_type}
+use Rattle.token_desk.specs.Tokens.{type_cmp, TokenKey, token_cmp}
 
 pub types_equiv : IsEquivalence (λ (s : TokenType) (t : TokenType). nat_eq (type_place s) (type_place t))
 types_equiv = on_equiv type_place nat_eq_equiv
@@ -22,26 +21,8 @@ types_tie s t = unsigned_ties (type_place s) (type_place t)
 pub types_total : IsTotalOrder type_cmp
 types_total = on_total type_place nat_cmp_total
 
-place_tells : (s t : TokenType) → type_place s ≡ type_place t → s ≡ t
-place_tells AdHocUser AdHocUser e = refl
-place_tells AdHocUser AppUser e = absurd (omega arith)
-place_tells AdHocUser Other e = absurd (omega arith)
-place_tells AdHocUser Rfid e = absurd (omega arith)
-place_tells AppUser AdHocUser e = absurd (omega arith)
-place_tells AppUser AppUser e = refl
-place_tells AppUser Other e = absurd (omega arith)
-place_tells AppUser Rfid e = absurd (omega arith)
-place_tells Other AdHocUser e = absurd (omega arith)
-place_tells Other AppUser e = absurd (omega arith)
-place_tells Other Other e = refl
-place_tells Other Rfid e = absurd (omega arith)
-place_tells Rfid AdHocUser e = absurd (omega arith)
-place_tells Rfid AppUser e = absurd (omega arith)
-place_tells Rfid Other e = absurd (omega arith)
-place_tells Rfid Rfid e = refl
-
 pub types_exact : IsAntisymmetric type_cmp
-types_exact s t e = place_tells s t (nat_cmp-IsAntisymmetric (type_place s) (type_place t) e)
+types_exact s t e = one_type s t (nat_cmp-IsAntisymmetric (type_place s) (type_place t) e)
 
 pub type_uids_total : IsTotalOrder (pair_cmp type_cmp text_cmp)
 type_uids_total = then_total (on_total (λ (k : TokenType × List ℕ). k.0) types_total) (on_total (λ (k : TokenType × List ℕ). k.1) text_total)

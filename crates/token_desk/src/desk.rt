@@ -1,6 +1,6 @@
 //! The tokens that a node holds, and the counter of the references that it gives.
 
-ghost use Rattle.std.specs.Prelude.{◌≡◌, [], OnOk, OnErr, IsOk, IsTrue, IfSome, IfNone, None, ℕ, List};
+ghost use Rattle.std.specs.Prelude.{◌≡◌, OnOk, OnErr, IsOk, IsTrue, IfSome, IfNone, None, ℕ, List};
 ghost use Rattle.std.specs.FinMap as map;
 ghost use Rattle.token_desk.specs.Tokens.{token_key, AreKeyed, TokenKey as SpecKey};
 ghost use Rattle.token_desk.specs.Stored.{no_rows, with_token};
@@ -11,7 +11,7 @@ use ocpi_text::{CiKey, CiText, PartyKey, Whole};
 use ocpi_types::{Token, TokenType};
 use std::alloc::{AllocError, Global};
 use std::marker::Model;
-use tables::{Table, Visits};
+use tables::{Table, Visits, least_text};
 
 /// A token's key in the table: type and uid, and then the party, so that the tokens of one type and uid stand together.
 type TokenKey = ((TypeKey, CiKey<36>), CiKey<6>);
@@ -22,16 +22,6 @@ fn party_text(party: PartyKey) -> CiKey<6>
 {
     let party = party.text();
     match CiText::new(party.as_str()) {
-        Ok(text) => text.key(),
-        Err(_) => unreachable!(),
-    }
-}
-
-/// The text that comes before each party.
-fn least_text() -> CiKey<6>
-    ensures { result ≡ [] }
-{
-    match CiText::new("") {
         Ok(text) => text.key(),
         Err(_) => unreachable!(),
     }

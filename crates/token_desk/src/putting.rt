@@ -1,33 +1,19 @@
 //! Tokens that are put (OCPI 2.2.1, Tokens: Receiver interface, PUT).
 
-ghost use Rattle.std.specs.Prelude.{◌≡◌, ◌≢◌, ◌<◌, max, ◌+◌, OnErr, IfOk, IfErr, IfSome, IfNone, IsTrue, IsOk, SomeIff, false};
+ghost use Rattle.std.specs.Prelude.{◌≡◌, ◌≢◌, OnErr, IfOk, IfErr, IfSome, IfNone, IsTrue, IsOk, false};
 ghost use Rattle.std.specs.FinMap as map;
 ghost use Rattle.ocpi_text.specs.Text.{key};
-ghost use Rattle.ocpi_text.specs.Moment.{last_moment};
 ghost use Rattle.token_desk.specs.declared.fault.TokenFault.TheVariants.{WrongParty};
 ghost use Rattle.token_desk.specs.Tokens.{token_key};
+ghost use Rattle.token_desk.specs.Stored.{KeepsRoom};
 ghost use Rattle.token_desk.specs.Putting.{IsNewer, IsNotNewer, PutLine, after_put, rooms_after_put, IsPutFault, next_version, HasNext, IsAtEnd, StoreLine, rooms_after_store};
 
 use crate::answers::TokenPut;
 use crate::desk::TokenDesk;
 use crate::fault::TokenFault;
 use ocpi_text::{Moment, PartyKey};
-use ocpi_types::Token;
+use ocpi_types::{Token, next_stamp};
 use std::alloc::AllocError;
-
-/// The later of a moment and the millisecond after another, or none where that one is the last moment.
-fn later(at: Moment, held: Moment) -> Option<Moment>
-    ensures { SomeIff result (held < last_moment) (max at (held + 1)) }
-{
-    let next = held.after(1);
-    if next == held {
-        None
-    } else if at < next {
-        Some(next)
-    } else {
-        Some(at)
-    }
-}
 
 impl TokenDesk {
     /// Whether a token is newer than the one that is held in its place, or none is held there.
@@ -65,6 +51,7 @@ impl TokenDesk {
         ensures line { IfOk result (λ a. (key token.now.party ≡ sender) × PutLine self.old.rows.tokens token.now a) }
         ensures rows { IfOk result (λ a. self.new.rows ≡ after_put token.now a self.old.rows) }
         ensures rooms { IfOk result (λ a. self.new.rooms ≡ rooms_after_put token.now a self.old.rooms) }
+        ensures keeps { KeepsRoom self.old.rooms self.new.rooms }
         ensures fault { IfErr result (λ e. IsPutFault self.old sender token.now e) }
         ensures err { OnErr result (self.new ≡ self.old) }
     {
@@ -86,7 +73,7 @@ impl TokenDesk {
     {
         match self.held(token) {
             Some(held) => {
-                let last_updated = later(at, held.last_updated)?;
+                let last_updated = next_stamp(at, held.last_updated)?;
                 Some(Token {
                     last_updated,
                     ..*token
@@ -106,6 +93,7 @@ impl TokenDesk {
     pub fn store(&mut self, at: Moment, token: &Token) -> Result<Option<Token>, AllocError>
         ensures line { IfOk result (λ o. StoreLine self.old.rows at token.now o self.new.rows) }
         ensures rooms { IfOk result (λ o. self.new.rooms ≡ rooms_after_store o self.old.rooms) }
+        ensures keeps { KeepsRoom self.old.rooms self.new.rooms }
         ensures again { IsTrue (map.contains_key self.old.rooms (token_key token.now)) → IsOk result }
         ensures err { OnErr result (self.new ≡ self.old) }
     {

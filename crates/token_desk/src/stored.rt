@@ -1,8 +1,9 @@
 //! The rows of a token desk: those of tokens, and that of the counter of references.
 
 ghost use Rattle.std.specs.Prelude.{◌≡◌, ◌↔◌, OnOk, OnErr, IfOk, IsOk};
+ghost use Rattle.std.specs.FinMap.{empty};
 ghost use Rattle.ocpi_types.specs.declared.rows.Row.{Row};
-ghost use Rattle.token_desk.specs.Stored.{HasRow, HasRoomOf, KeepsRoom, AreRowsOf, count_rows, counted, put_row, drop_row, rooms_after_drop, rooms_with};
+ghost use Rattle.token_desk.specs.Stored.{HasRow, HasRoomOf, KeepsRoom, KeepsOtherRoom, GivesBack, AreRowsOf, no_rows, count_rows, counted, put_row, drop_row, rooms_after_drop, rooms_with};
 
 use crate::desk::TokenDesk;
 use ocpi_text::Whole;
@@ -15,8 +16,9 @@ impl TokenDesk {
         ensures rows { self.new.rows ≡ counted counter last self.old.rows }
         ensures rooms { self.new.rooms ≡ self.old.rooms }
     {
-        if let Counter::Reference = counter {
-            self.set_references(last);
+        match counter {
+            Counter::Reference => self.set_references(last),
+            Counter::Serial | Counter::Request | Counter::Session | Counter::Cdr => {}
         }
     }
 
@@ -32,7 +34,18 @@ impl TokenDesk {
     {
         match row {
             Row::Token { token } => self.reserve_token(token),
-            _ => Ok(()),
+            Row::Count { .. }
+            | Row::Reply { .. }
+            | Row::Push { .. }
+            | Row::Service { .. }
+            | Row::Spent { .. }
+            | Row::Mark { .. }
+            | Row::Reservation { .. }
+            | Row::Pending { .. }
+            | Row::Result { .. }
+            | Row::Session { .. }
+            | Row::Cdr { .. }
+            | Row::Command { .. } => Ok(()),
         }
     }
 
@@ -45,7 +58,17 @@ impl TokenDesk {
         match row {
             Row::Count { counter, last } => self.count(*counter, *last),
             Row::Token { token } => self.put_token(**token),
-            _ => {}
+            Row::Reply { .. }
+            | Row::Push { .. }
+            | Row::Service { .. }
+            | Row::Spent { .. }
+            | Row::Mark { .. }
+            | Row::Reservation { .. }
+            | Row::Pending { .. }
+            | Row::Result { .. }
+            | Row::Session { .. }
+            | Row::Cdr { .. }
+            | Row::Command { .. } => {}
         }
     }
 
@@ -55,6 +78,7 @@ impl TokenDesk {
         requires { HasRoomOf self.old.rooms row }
         ensures rows { self.new.rows ≡ put_row row self.old.rows }
         ensures rooms { self.new.rooms ≡ self.old.rooms }
+        ensures keeps { KeepsRoom self.old.rooms self.new.rooms }
     {
         self.put_known(&row);
     }
@@ -63,6 +87,8 @@ impl TokenDesk {
     pub fn drop_row(&mut self, key: RowKey)
         ensures rows { self.new.rows ≡ drop_row key self.old.rows }
         ensures rooms { self.new.rooms ≡ rooms_after_drop key self.old.rooms }
+        ensures gives_back { GivesBack key self.new.rooms }
+        ensures keeps { KeepsOtherRoom key self.old.rooms self.new.rooms }
     {
         match &key {
             RowKey::Count { counter } => self.count(*counter, Whole::new(0).unwrap()),
@@ -71,7 +97,17 @@ impl TokenDesk {
                 token_type,
                 uid,
             } => self.drop_token(*party, *uid, *token_type),
-            _ => {}
+            RowKey::Reply { .. }
+            | RowKey::Push { .. }
+            | RowKey::Service { .. }
+            | RowKey::Spent { .. }
+            | RowKey::Mark { .. }
+            | RowKey::Reservation { .. }
+            | RowKey::Pending { .. }
+            | RowKey::Result { .. }
+            | RowKey::Session { .. }
+            | RowKey::Cdr { .. }
+            | RowKey::Command { .. } => {}
         }
     }
 
@@ -79,6 +115,8 @@ impl TokenDesk {
     pub fn add_row(&mut self, row: Row) -> Result<(), AllocError>
         ensures rows { OnOk result (self.new.rows ≡ put_row row self.old.rows) }
         ensures rooms { OnOk result (self.new.rooms ≡ rooms_with row self.old.rooms) }
+        ensures room { OnOk result (HasRoomOf self.new.rooms row) }
+        ensures keeps { KeepsRoom self.old.rooms self.new.rooms }
         ensures again { HasRoomOf self.old.rooms row → IsOk result }
         ensures err { OnErr result (self.new ≡ self.old) }
     {
@@ -89,7 +127,8 @@ impl TokenDesk {
 
     /// The row of the counter, if a reference was given.
     fn count_rows(&self, alloc: Global) -> Result<Vec<Row>, AllocError>
-        ensures { IfOk result (λ rows. rows.items ≡ count_rows self.now.rows.references) }
+        ensures list { IfOk result (λ rows. rows.items ≡ count_rows self.now.rows.references) }
+        ensures none { self.now.rows.references ≡ 0 → IsOk result }
     {
         let last = self.references();
         let mut rows = Vec::new(alloc);
@@ -103,9 +142,10 @@ impl TokenDesk {
     }
 
     /// All rows of the desk, each once: the counter's, if a reference was given, and those of the tokens, by type, uid and
-    /// party.
+    /// party. An error is want of memory, and a desk without rows takes none.
     pub fn rows(&self, alloc: Global) -> Result<Vec<Row>, AllocError>
-        ensures { IfOk result (λ rows. AreRowsOf self.now.rows rows.items) }
+        ensures list { IfOk result (λ rows. AreRowsOf self.now.rows rows.items) }
+        ensures none { self.now.rows ≡ no_rows → IsOk result }
     {
         self.consistency();
         let mut rows = self.count_rows(alloc)?;
@@ -124,9 +164,10 @@ impl TokenDesk {
         other.consistency();
     }
 
-    /// A desk with the same rows.
+    /// A desk with the same rows. An error is want of memory, and a desk without tokens takes none.
     pub fn copy(&self, alloc: Global) -> Result<TokenDesk, AllocError>
-        ensures { IfOk result (λ d. d.rows ≡ self.now.rows) }
+        ensures rows { IfOk result (λ d. d.rows ≡ self.now.rows) }
+        ensures none { self.now.rows.tokens ≡ empty → IsOk result }
     {
         self.consistency();
         let mut desk = TokenDesk::new(alloc);

@@ -3,10 +3,10 @@
 ghost use Rattle.std.specs.Prelude.{◌≡◌, Some, nat_eq, refl};
 ghost use Rattle.std.specs.Ordering.{nat_cmp};
 ghost use Rattle.std.specs.Cmp.{partial_equiv_from_equiv};
-ghost use Rattle.token_desk.specs.Tokens.{type_place};
+ghost use Rattle.ocpi_types.specs.TypePlaces.{type_place};
 ghost use Rattle.token_desk.specs.TypeOrder.{types_total, types_exact, types_equiv, types_po, types_tie};
 
-use ocpi_types::TokenType;
+use ocpi_types::{TokenType, type_place};
 use std::cmp::Ordering;
 use std::marker::Model;
 use tables::TableKey;
@@ -33,18 +33,6 @@ impl TypeKey {
     {
         TypeKey { token_type }
     }
-
-    /// The place of the type's word among the words, in the order of their bytes.
-    fn place(self) -> u8
-        ensures { result ≡ type_place self }
-    {
-        match self.token_type {
-            TokenType::AdHocUser => 0,
-            TokenType::AppUser => 1,
-            TokenType::Other => 2,
-            TokenType::Rfid => 3,
-        }
-    }
 }
 
 impl PartialEq for TypeKey {
@@ -53,7 +41,7 @@ impl PartialEq for TypeKey {
     ghost laws = { partial_equiv_from_equiv types_equiv };
 
     fn eq(&self, other: &Self) -> bool {
-        self.place() == other.place()
+        type_place(self.token_type) == type_place(other.token_type)
     }
 }
 
@@ -81,7 +69,7 @@ impl Ord for TypeKey {
     ghost matches_eq = { λ s t. types_tie s t };
 
     fn cmp(&self, other: &Self) -> Ordering {
-        self.place().cmp(&other.place())
+        type_place(self.token_type).cmp(&type_place(other.token_type))
     }
 }
 

@@ -7,7 +7,7 @@ use Rattle.reservation_book.proofs.listings.is_for.Goals as goal
 pub returns-then-is_eq-clause-yes : goal.returns-then-is_eq-clause-yes
 returns-then-is_eq-clause-yes c = λ h. record {
   group_is = same_when_tied group_total group_exact _ _ _ _ c.is_eq.ensures c.cmp.ensures c.if-is_eq.true;
-  type_is = eqb-true _ _ h ∙ c.type_number.ensures;
+  type_is = eqb-true _ _ h ∙ c.type_place.ensures;
 }
 
 pub returns-else-is_eq-clause-no : goal.returns-else-is_eq-clause-no

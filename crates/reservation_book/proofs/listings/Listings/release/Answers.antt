@@ -1,9 +1,15 @@
-use Rattle.reservation_book.proofs.Orders.{expiry_total, expiry_exact, place_total, place_exact}
-use Rattle.reservation_book.proofs.Rooms.{others_kept}
+use Rattle.std.proofs.Common.{ap}
+use Rattle.tables.specs.Tables.{rooms_of}
+use Rattle.reservation_book.specs.Places.{expiry_cmp, place_cmp}
 use Rattle.reservation_book.proofs.listings.Listings.release.Goals as goal
 
-pub returns-clause-expiring_room : goal.returns-clause-expiring_room
-returns-clause-expiring_room c = others_kept expiry_total expiry_exact _ _ _ c.release.ensures.used c.release.ensures.unused
-
-pub returns-clause-places_room : goal.returns-clause-places_room
-returns-clause-places_room c = rw c.place_key.ensures at (others_kept place_total place_exact _ _ _ c.release-2.ensures.used c.release-2.ensures.unused)
+pub returns-clause-room : goal.returns-clause-room
+returns-clause-room c =
+    let used = rw c.place_key.ensures at c.release-2.ensures.used in
+    let unused = rw c.place_key.ensures at c.release-2.ensures.unused in
+    record {
+      expiry_used = λ h. ap (rooms_of expiry_cmp) (c.release.ensures.used h);
+      expiry_free = c.release.ensures.unused;
+      place_used = λ h. ap (rooms_of place_cmp) (used h);
+      place_free = unused;
+    }
