@@ -7,17 +7,21 @@ use Rattle.json_text.specs.declared.fault.JsonFault.TheVariants.{Syntax}
 use Rattle.json_text.specs.Fault.{Fails, fault_text as json_fault_text}
 use Rattle.ocpi_json.specs.Packets.{packet_in, packet_text}
 use Rattle.ocpi_json.specs.SiteLines.{site_in}
-use Rattle.operator_core.specs.declared.fault.OperatorFault.{OperatorFault}
-use Rattle.operator_core.specs.FaultText.{fault_text as operator_fault_text}
-use Rattle.operator_core.specs.Faults.{IsDue}
-use Rattle.operator_core.specs.Moves.{Out}
-use Rattle.operator_core.specs.State.{opening}
-use Rattle.operator_core.specs.Steps.{OperatorStep}
-use Rattle.ocpi_nodes.specs.declared.answer.Running.{Running}
+use Rattle.node_steps.specs.declared.fault.NodeFault.{NodeFault}
+use Rattle.node_steps.specs.FaultText.{fault_text as node_fault_text}
+use Rattle.operator_rows.specs.State.{State, opening}
+use Rattle.operator_steps.specs.Faults.{IsDue}
+use Rattle.operator_steps.specs.Moves.{Out}
+use Rattle.operator_steps.specs.Steps.{OperatorStep}
 use Rattle.line_runs.specs.declared.outcome.Ran.{Ran}
 use Rattle.line_runs.specs.declared.outcome.Ran.TheVariants.{Whole, WithRefusals}
 use Rattle.line_runs.specs.declared.run.Turn.{Turn}
 use Rattle.line_runs.specs.declared.run.Turn.TheVariants.{Taken, Refused, Ended}
+
+-- an operator, and the moment at which each packet comes
+pub record Answering : Type 0 where
+  pub at : ℕ
+  pub operator : State
 
 -- the line of a refusal: its number and its name
 abbrev pub refusal_line : List ℕ → List ℕ
@@ -28,24 +32,24 @@ abbrev pub packet_lines : List Packet → List ℕ
 packet_lines packets = flat_map (λ p. packet_text p ++ 10 ∷ []) packets
 
 -- The first line makes the operator. Where it is no site line, that is all.
-pub data SiteTurn (line : List ℕ) (turn : Turn) (out : List ℕ) (next : Option Running) : Type 0 where
+pub data SiteTurn (line : List ℕ) (turn : Turn) (out : List ℕ) (next : Option Answering) : Type 0 where
   Opened : (site : SiteLine) → site_in line ≡ Ok site → turn ≡ Taken → out ≡ [] → next ≡ Some (record { at = site.at; operator = opening site }) → SiteTurn line turn out next
   NoSite : (fault : JsonFault) → Fails fault (site_in line) → turn ≡ Ended → out ≡ refusal_line (json_fault_text fault) → next ≡ None → SiteTurn line turn out next
 
 -- Each other line is a packet that comes to the operator at the site line's moment. A refused one changes nothing.
-pub data PacketTurn (now : Running) (line : List ℕ) (turn : Turn) (out : List ℕ) (next : Option Running) : Type 0 where
+pub data PacketTurn (now : Answering) (line : List ℕ) (turn : Turn) (out : List ℕ) (next : Option Answering) : Type 0 where
   Answered : (packet : Packet) → packet_in line ≡ Ok packet → (step : Out) → OperatorStep now.operator now.at packet step
       → turn ≡ Taken → out ≡ packet_lines step.packets → next ≡ Some (record { at = now.at; operator = step.state }) → PacketTurn now line turn out next
-  Unanswered : (packet : Packet) → packet_in line ≡ Ok packet → (fault : OperatorFault) → IsDue now.operator now.at packet fault
-      → turn ≡ Refused → out ≡ refusal_line (operator_fault_text fault) → next ≡ Some now → PacketTurn now line turn out next
+  Unanswered : (packet : Packet) → packet_in line ≡ Ok packet → (fault : NodeFault) → IsDue now.operator now.at packet fault
+      → turn ≡ Refused → out ≡ refusal_line (node_fault_text fault) → next ≡ Some now → PacketTurn now line turn out next
   Unread : (fault : JsonFault) → Fails fault (packet_in line) → turn ≡ Refused → out ≡ refusal_line (json_fault_text fault) → next ≡ Some now → PacketTurn now line turn out next
 
 -- one line, with no operator before the first
-abbrev pub LineGives : Option Running → List ℕ → Turn → List ℕ → Option Running → Type 0
+abbrev pub LineGives : Option Answering → List ℕ → Turn → List ℕ → Option Answering → Type 0
 LineGives None line turn out next = SiteTurn line turn out next
 LineGives (Some now) line turn out next = PacketTurn now line turn out next
 
 -- An input with no line is refused as one with a line that is no JSON. Otherwise nothing is written at the end.
-abbrev pub EndGives : Option Running → Ran → List ℕ → Type 0
+abbrev pub EndGives : Option Answering → Ran → List ℕ → Type 0
 EndGives None ran out = (ran ≡ WithRefusals) × (out ≡ refusal_line (json_fault_text Syntax))
 EndGives (Some now) ran out = (ran ≡ Whole) × (out ≡ [])

@@ -12,10 +12,9 @@ use Rattle.json_text.specs.Quote.{quote}
 use Rattle.ocpi_json.specs.SiteLines.{site_in}
 use Rattle.ocpi_forms.specs.Sites.{site_of_line}
 use Rattle.std.specs.Str.{is_utf8}
-use Rattle.ocpi_nodes.specs.declared.answer.Running.{Running}
 use Rattle.line_runs.specs.declared.run.Turn.{Turn}
 use Rattle.line_runs.specs.declared.lines.TheConstants.{KEPT_BYTES}
-use Rattle.ocpi_nodes.specs.Answer.{LineGives, Opened, NoSite, Answered, Unanswered, Unread}
+use Rattle.ocpi_nodes.specs.Answer.{Answering, LineGives, Opened, NoSite, Answered, Unanswered, Unread}
 
 -- a text of a line that is too long
 too_long : (line : List ℕ) → max_line < length line → text_of line ≡ Err Syntax
@@ -41,7 +40,7 @@ site-cut : (line : List ℕ) → site_in (take KEPT_BYTES line) ≡ site_in line
 unfolding site_in
 site-cut line = ap (λ t. t >>= site_of_line) (tree-cut line)
 
-pub cut_alike : (s t : Option Running) (line : List ℕ) (turn : Turn) (out : List ℕ) → LineGives s (take KEPT_BYTES line) turn out t → LineGives s line turn out t
+pub cut_alike : (s t : Option Answering) (line : List ℕ) (turn : Turn) (out : List ℕ) → LineGives s (take KEPT_BYTES line) turn out t → LineGives s line turn out t
 cut_alike None t line turn out (Opened site read taken none next) = Opened site (sym (site-cut line) ∙ read) taken none next
 cut_alike None t line turn out (NoSite fault fails ended refused next) = NoSite fault (subst (Fails fault) (site-cut line) fails) ended refused next
 cut_alike (Some now) t line turn out (Answered packet read step is taken lines next) = Answered packet (sym (packet-cut line) ∙ read) step is taken lines next

@@ -5,7 +5,7 @@ ghost use Rattle.json_text.specs.Fault.{Fails};
 ghost use Rattle.ocpi_json.specs.Packets.{packet_in};
 ghost use Rattle.ocpi_json.specs.SiteLines.{site_in};
 ghost use Rattle.ocpi_types.specs.declared.site.SiteLine.{SiteLine as SiteLineOf};
-ghost use Rattle.operator_core.specs.State.{opening};
+ghost use Rattle.operator_rows.specs.State.{opening};
 ghost use Rattle.ocpi_nodes.specs.Answer.{EndGives, LineGives, PacketTurn, SiteTurn, packet_lines, refusal_line};
 ghost use Rattle.line_runs.specs.Run.{Begins, Outputs, ReadsFewLines, StopsReading};
 
@@ -26,32 +26,44 @@ pub struct Running {
     operator: Operator,
 }
 
+impl Model for Running {
+    ghost use Rattle.std.specs.Coded.{codes};
+    ghost use Rattle.std.specs.FinMap as map;
+    ghost use Rattle.ocpi_nodes.specs.Answer.{Answering};
+
+    ghost Value = { Answering };
+
+    ghost coded = { Prim.hlevel (codes, map.code) };
+
+    ghost view = { λ r. record { at = r.at; operator = r.operator.state } };
+}
+
 /// What the lines so far have made: an operator, from the first on.
 #[derive(Drop)]
-struct Answering {
+struct Program {
     alloc: Global,
     scratch: Scratch,
     running: Option<Running>,
 }
 
-impl Model for Answering {
+impl Model for Program {
     ghost use Rattle.std.specs.Coded.{codes};
     ghost use Rattle.std.specs.FinMap as map;
     ghost use Rattle.std.specs.Prelude.{Option};
-    ghost use Rattle.ocpi_nodes.specs.declared.answer.Running.{Running};
+    ghost use Rattle.ocpi_nodes.specs.Answer.{Answering};
 
-    ghost Value = { Option Running };
+    ghost Value = { Option Answering };
 
     ghost coded = { Prim.hlevel (codes, map.code) };
 
     ghost view = { λ a. a.running };
 }
 
-impl Answering {
-    fn new(alloc: Global) -> Answering
+impl Program {
+    fn new(alloc: Global) -> Program
         ensures { result ≡ None }
     {
-        Answering {
+        Program {
             alloc,
             scratch: Scratch::new(alloc),
             running: None,
@@ -59,7 +71,7 @@ impl Answering {
     }
 }
 
-impl AnswerLines for Answering {
+impl AnswerLines for Program {
     ghost use Rattle.ocpi_nodes.specs.Cut.{cut_alike};
 
     ghost line_gives = { LineGives };
@@ -201,6 +213,6 @@ pub fn run_answer<R: BufRead, W: Write>(
     ensures failed { result ≡ Err RunFault.ReadFailed → input.new.failed ≡ true }
     ensures reads { ReadsFewLines (R.Read.remaining input.old.reader) (R.Read.remaining input.new.reader) }
 {
-    let mut answering = Answering::new(alloc);
+    let mut answering = Program::new(alloc);
     run_whole(alloc, &mut answering, input, writer)
 }

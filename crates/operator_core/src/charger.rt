@@ -1,30 +1,34 @@
 //! What a charge point reports to its operator (OCPI 2.2.1, Commands: the results of commands).
 
-ghost use Rattle.std.specs.Prelude.{◌≡◌, ℕ, List, Some, IfOk, IfErr, IfSome, IfNone};
+ghost use Rattle.std.specs.Prelude.{◌≡◌, ◌∷◌, [], ℕ, List, Some, IfOk, IfErr, OnOk, IfSome, IfNone};
 ghost use Rattle.std.specs.FinMap as map;
 ghost use Rattle.ocpi_types.specs.declared.stored.OpenCommand.{OpenCommand as OpenCommandOf};
 ghost use Rattle.ocpi_types.specs.declared.words.CommandResultType.{CommandResultType as ResultOf};
-ghost use Rattle.operator_core.specs.Charger.{ChargerLine, ChargerStep, EndsBy, IsAbout, IsEnded, accepted, outcome, unlocked};
-ghost use Rattle.operator_core.specs.Faults.{IsOwnFault};
-ghost use Rattle.operator_core.specs.Requests.{planned};
-ghost use Rattle.operator_core.specs.State.{HasClaim};
-ghost use Rattle.site.specs.declared.claim.Claim.TheVariants.{OpenStart};
+ghost use Rattle.site_book.specs.declared.claim.Claim.TheVariants.{OpenStart};
+ghost use Rattle.node_steps.specs.Drafts.{StopsBy, counted, step_of};
+ghost use Rattle.operator_rows.specs.State.{HasClaim};
+ghost use Rattle.operator_steps.specs.Charger.{ChargerLine, EndsBy, EndsNone, IsAbout, IsEnded, accepted, outcome, unlocked};
+ghost use Rattle.operator_steps.specs.Ends.{IsOpen, ends_acts};
+ghost use Rattle.operator_steps.specs.Faults.{IsOwnFault};
+ghost use Rattle.operator_steps.specs.Moves.{AreInRange, PlannedBy, counters_of, step_of_acts};
 
-use crate::ending::Ending;
-use crate::fault::OperatorFault;
 use crate::operator::Operator;
-use crate::stepped::Stepped;
-use ocpi_text::{CiKey, PartyKey, Whole};
+use node_steps::{Needs, NodeFault, Plan};
+use ocpi_text::{CiKey, Moment, PartyKey, Whole};
 use ocpi_types::{ChargerEvent, Command, CommandResultType};
-use site::Claim;
+use operator_steps::Ending;
+use site_book::Claim;
 
-/// How a command ends that the charge point carries out.
+/// How a command ends that the charge point carries out. None, where its end makes a session or is told by another report.
 fn accepted(command: &Command) -> Option<CommandResultType>
     ensures { result ≡ accepted command.now }
 {
     match command {
         Command::StopSession(_) => Some(CommandResultType::Accepted),
-        _ => None,
+        Command::StartSession(_)
+        | Command::ReserveNow(_)
+        | Command::CancelReservation(_)
+        | Command::UnlockConnector(_) => None,
     }
 }
 
@@ -34,7 +38,10 @@ fn unlocked(command: &Command) -> Option<CommandResultType>
 {
     match command {
         Command::UnlockConnector(_) => Some(CommandResultType::Accepted),
-        _ => None,
+        Command::StartSession(_)
+        | Command::StopSession(_)
+        | Command::ReserveNow(_)
+        | Command::CancelReservation(_) => None,
     }
 }
 
@@ -54,21 +61,21 @@ fn outcome(report: &ChargerEvent, command: &Command) -> Option<CommandResultType
 impl Operator {
     /// The start that took an EVSE and is open.
     fn open_start_at(&self, evse_uid: CiKey<36>) -> Option<(PartyKey, Whole)>
-        ensures some { IfSome result (λ k. HasClaim self.now.rows evse_uid (OpenStart k.0 k.1)) }
-        ensures only { IfSome result (λ k. (p : List ℕ) (n : ℕ) → HasClaim self.now.rows evse_uid (OpenStart p n) → (p ≡ k.0) × (n ≡ k.1)) }
-        ensures none { IfNone result ((p : List ℕ) (n : ℕ) → HasClaim self.now.rows evse_uid (OpenStart p n) → ⊥) }
+        ensures some { IfSome result (λ k. HasClaim self.now.state.rows evse_uid (OpenStart k.0 k.1)) }
+        ensures only { IfSome result (λ k. (p : List ℕ) (n : ℕ) → HasClaim self.now.state.rows evse_uid (OpenStart p n) → (p ≡ k.0) × (n ≡ k.1)) }
+        ensures none { IfNone result ((p : List ℕ) (n : ℕ) → HasClaim self.now.state.rows evse_uid (OpenStart p n) → ⊥) }
     {
-        match self.books.places().claim_of(evse_uid)? {
+        match self.books.site_book().claim_of(evse_uid)? {
             Claim::OpenStart { provider, number } => Some((provider, number)),
-            _ => None,
+            Claim::Live { .. } | Claim::Reserved { .. } => None,
         }
     }
 
     /// The command that a report is about, by its provider and number.
     fn command_of(&self, report: &ChargerEvent) -> Option<(PartyKey, Whole)>
-        ensures some { IfSome result (λ k. IsAbout self.now.rows report.now k.0 k.1) }
-        ensures only { IfSome result (λ k. (p : List ℕ) (n : ℕ) → IsAbout self.now.rows report.now p n → (p ≡ k.0) × (n ≡ k.1)) }
-        ensures none { IfNone result ((p : List ℕ) (n : ℕ) → IsAbout self.now.rows report.now p n → ⊥) }
+        ensures some { IfSome result (λ k. IsAbout self.now.state.rows report.now k.0 k.1) }
+        ensures only { IfSome result (λ k. (p : List ℕ) (n : ℕ) → IsAbout self.now.state.rows report.now p n → (p ≡ k.0) × (n ≡ k.1)) }
+        ensures none { IfNone result ((p : List ℕ) (n : ℕ) → IsAbout self.now.state.rows report.now p n → ⊥) }
     {
         match report {
             ChargerEvent::Accepts { provider, number } => Some((provider.key(), *number)),
@@ -81,8 +88,8 @@ impl Operator {
 
     /// How a report ends a command, if it ends one.
     fn ended_by(&self, report: &ChargerEvent) -> Option<Ending>
-        ensures some { IfSome result (IsEnded self.now report.now) }
-        ensures none { IfNone result ((p : List ℕ) (n : ℕ) (o : OpenCommandOf) (x : ResultOf) → map.get self.now.rows.commands.pending (p, n) ≡ Some o → EndsBy self.now.rows report.now p n o.command x → ⊥) }
+        ensures some { IfSome result (IsEnded self.now.state report.now) }
+        ensures none { IfNone result (EndsNone self.now.state report.now) }
     {
         self.consistency();
         let (provider, number) = self.command_of(report)?;
@@ -91,18 +98,31 @@ impl Operator {
         self.ending(provider, number, outcome)
     }
 
-    /// What becomes of a report.
-    pub(crate) fn decide_report(&self, report: &ChargerEvent) -> Result<Stepped, OperatorFault>
-        ensures step { IfOk result (λ x. (at : ℕ) → ChargerStep self.now at report.now (planned self.now at x)) }
-        ensures err { IfErr result (λ f. (at : ℕ) → IsOwnFault (ChargerLine self.now at report.now) f) }
+    /// The step in which an open command ends.
+    fn plan_end(&self, at: Moment, ending: Ending) -> Result<Plan, NodeFault>
+        requires { IsOpen self.now.state.rows ending }
+        ensures ok { IfOk result (λ x. step_of x ≡ step_of_acts self.now.state (ends_acts at self.now.state.rows.commands.pending self.now.state.rows.request (ending ∷ []))) }
+        ensures in_range { OnOk result (AreInRange self.now.state (ends_acts at self.now.state.rows.commands.pending self.now.state.rows.request (ending ∷ []))) }
+        ensures err { IfErr result (StopsBy (counted (counters_of self.now.state) (ends_acts at self.now.state.rows.commands.pending self.now.state.rows.request (ending ∷ [])))) }
     {
-        self.counters_are_in_range();
+        let mut draft = self.draft(Needs {
+            packets: 1,
+            requests: 1,
+            changes: 3,
+        })?;
+        self.add_ends(&mut draft, at, &[ending])?;
+        Ok(draft.into_plan())
+    }
+
+    /// What becomes of a report at a moment. Nothing changes. Refused as `on_charger` says.
+    pub fn plan_charger(&self, at: Moment, report: &ChargerEvent) -> Result<Plan, NodeFault>
+        ensures step { IfOk result (λ x. PlannedBy (ChargerLine self.now.state at report.now) self.now.state (step_of x)) }
+        ensures fault { IfErr result (IsOwnFault (ChargerLine self.now.state at report.now) self.now.state) }
+    {
+        self.counters_in_range();
         match self.ended_by(report) {
-            Some(ending) => self.finish(&[ending], &[], &[]),
-            None => Ok(Stepped {
-                rows: Vec::new(self.alloc),
-                packets: Vec::new(self.alloc),
-            }),
+            Some(ending) => self.plan_end(at, ending),
+            None => Ok(Plan::nothing(self.alloc)),
         }
     }
 }

@@ -1,97 +1,60 @@
 //! What a packet makes an operator do. Nothing is changed here.
 
-ghost use Rattle.std.specs.Prelude.{◌≡◌, ◌↔◌, ◌∷◌, ◌++◌, [], ◌+◌, IsTrue, IfOk, IfErr, OnErr, IfSome, IfNone, List, ℕ, Some, None};
-ghost use Rattle.std.specs.FinMap as map;
+ghost use Rattle.std.specs.Prelude.{◌≡◌, ◌↔◌, ◌∷◌, [], IsTrue, IfOk, IfErr, OnOk, IfSome, IfNone, List, ℕ};
 ghost use Rattle.ocpi_text.specs.Text.{key};
-ghost use Rattle.ocpi_types.specs.Stored.{body_of_command, body_of_reply};
+ghost use Rattle.ocpi_types.specs.Stored.{body_of_command};
 ghost use Rattle.ocpi_types.specs.declared.stored.Command.{Command as CommandOf};
 ghost use Rattle.ocpi_types.specs.declared.packet.Body.TheVariants as body;
-ghost use Rattle.operator_core.specs.Providers.{IsProvider};
-ghost use Rattle.operator_core.specs.Faults.{IsDue, MayStep};
-ghost use Rattle.operator_core.specs.Numbers.{WithinRange, numbers_for};
-ghost use Rattle.operator_core.specs.Requests.{IsRequest, planned};
-ghost use Rattle.operator_core.specs.Steps.{AreInRange, Decides, IsForMe, IsTaken, OperatorStep, again, decided, decided_packets, decided_rows, reply_of, result_of, responded};
+ghost use Rattle.node_steps.specs.Acts.{repeated};
+ghost use Rattle.node_steps.specs.Drafts.{IsInRange, StopsBy, counted, later, opened, step_of};
+ghost use Rattle.node_steps.specs.Peers.{IsPeer};
+ghost use Rattle.operator_steps.specs.Acts.{decided_acts};
+ghost use Rattle.operator_steps.specs.Faults.{IsDue, MayStep};
+ghost use Rattle.operator_steps.specs.Moves.{AreInRange, PlannedBy, counters_of, step_of_acts};
+ghost use Rattle.operator_steps.specs.Steps.{Acknowledges, Comes, IsForMe, IsTaken};
+ghost use Rattle.operator_core.specs.Requests.{IsRequest, result_count};
 
-use crate::cancel::decide_cancel;
-use crate::decision::Decision;
-use crate::fault::OperatorFault;
+use crate::acts::add_decided;
+use crate::bodies::is_taken;
 use crate::operator::Operator;
-use crate::providers::find_provider;
-use crate::request::{Numbers, Request, ResultNumbers, TIMEOUT};
-use crate::reserve::decide_reserve;
-use crate::rows::{counter_rows, push_own_rows, push_result_rows, reply_row, result_told};
-use crate::start::decide_start;
-use crate::stepped::Stepped;
-use crate::stop::decide_stop;
-use crate::unlock::decide_unlock;
-use ocpi_text::{Moment, Party, Whole};
-use ocpi_types::{
-    Ack, Body, Change, CommandResponse, CommandResponseType, CommandResultType, Packet, Reply,
-    ResponseData, RowKey,
-};
+use node_steps::{Draft, Needs, NodeFault, Plan, find_peer};
+use ocpi_text::{Moment, Party};
+use ocpi_types::{Ack, Body, Change, CommandResultType, Packet, Reply, RowKey};
+use operator_tables::{Decision, Request, decide};
 use std::alloc::AllocError;
 
-/// The most packets that a step on a command sends: a reply and a result.
-const MOST_PACKETS: usize = 2;
+/// The most rows that a decision changes, beside the counters: a reply, a mark, a reservation, a push and a result; or a reply, a
+/// reservation, an open command and a reference.
+const MOST_CHANGES: usize = 5;
 
-/// The response of status 1000 with a result.
-fn done(at: Moment, result_word: CommandResponseType) -> Reply
-    ensures { result ≡ responded at result_word }
+/// How many results there are: one, or none.
+fn count(outcome: Option<CommandResultType>) -> usize
+    ensures { result ≡ result_count outcome }
 {
-    Reply::CommandResponse(CommandResponse::Done {
-        timestamp: at,
-        response: ResponseData {
-            result: result_word,
-            timeout: Whole::new(TIMEOUT).unwrap(),
-        },
-    })
-}
-
-/// The reply that a decision gives.
-fn respond(decision: &Decision, at: Moment) -> Reply
-    ensures { result ≡ reply_of at decision.now }
-{
-    match decision {
-        Decision::Refused(status) => Reply::CommandResponse(CommandResponse::Refused {
-            timestamp: at,
-            status_code: *status,
-        }),
-        Decision::Answered(word) => done(at, *word),
-        _ => done(at, CommandResponseType::Accepted),
+    match outcome {
+        None => 0,
+        Some(_result) => 1,
     }
-}
-
-/// Whether an operator takes packets with this body.
-fn is_taken(body: &Body) -> bool
-    ensures { IsTrue result ↔ IsTaken body.now }
-{
-    matches!(
-        body,
-        Body::StartSession(_)
-            | Body::StopSession(_)
-            | Body::ReserveNow(_)
-            | Body::CancelReservation(_)
-            | Body::UnlockConnector(_)
-            | Body::Ack(_)
-    )
 }
 
 impl Operator {
     /// The provider that sent a packet to this operator, as the site spells it.
     fn peer(&self, packet: &Packet) -> Option<&Party>
-        ensures found { IfSome result (λ p. (key packet.now.to ≡ key self.now.party) × IsProvider self.now.providers packet.now.from p.now) }
-        ensures none { IfNone result (key packet.now.to ≡ key self.now.party → (p : List ℕ) → IsProvider self.now.providers packet.now.from p → ⊥) }
+        ensures to { IfSome result (λ p. key packet.now.to ≡ key self.now.state.party) }
+        ensures found { IfSome result (λ p. IsPeer self.now.state.providers packet.now.from p.now) }
+        ensures none { IfNone result (key packet.now.to ≡ key self.now.state.party → (p : List ℕ) → IsPeer self.now.state.providers packet.now.from p → ⊥) }
     {
-        if !packet.to.is_same(self.parties.operator()) {
+        if !packet.to.is_same(&self.books.party()) {
             return None;
         }
-        find_provider(self.parties.providers(), &packet.from)
+        find_peer(self.books.providers(), &packet.from)
     }
 
     /// The request that a packet to this operator makes.
     fn request(&self, at: Moment, packet: &Packet) -> Option<Request>
-        ensures request { IfSome result (λ r. IsRequest self.now at packet.now r × IsTaken packet.now.body) }
-        ensures fault { IfNone result (IsForMe self.now packet.now → ⊥) }
+        ensures request { IfSome result (λ r. IsRequest self.now.state at packet.now r) }
+        ensures taken { IfSome result (λ r. IsTaken packet.now.body) }
+        ensures none { IfNone result (IsForMe self.now.state packet.now → ⊥) }
     {
         if !is_taken(&packet.body) {
             return None;
@@ -105,201 +68,115 @@ impl Operator {
         })
     }
 
-    /// That no counter passed its last number, which the types of the counters keep.
-    pub(crate) fn counters_are_in_range(&self)
-        ensures { AreInRange self.now }
+    /// No counter passed its last number, which the types of the counters keep.
+    pub(crate) fn counters_in_range(&self)
+        ensures { IsInRange (counters_of self.now.state) }
     {
-        let _serial = self.books.serial().value();
-        let _last = self.books.outbox().last_number().value();
+        self.books.counters_in_range();
     }
 
-    /// The numbers that a reply takes, and a result where one is to follow. None, where a counter has given its last.
-    fn numbers(&self, outcome: Option<CommandResultType>) -> Option<Numbers>
-        ensures numbers { IfSome result (λ n. n ≡ numbers_for self.now.rows outcome) }
-        ensures within { IfSome result (λ n. WithinRange self.now.rows outcome) }
-        ensures past { IfNone result (WithinRange self.now.rows outcome → ⊥) }
+    /// A draft of a step that takes so many numbers.
+    pub(crate) fn draft(&self, needs: Needs) -> Result<Draft, NodeFault>
+        ensures ok { IfOk result (λ d. d ≡ opened self.now.state.party (counters_of self.now.state) needs.packets needs.requests) }
+        ensures in_range { OnOk result (IsInRange (later (counters_of self.now.state) needs.packets needs.requests)) }
+        ensures err { IfErr result (StopsBy (later (counters_of self.now.state) needs.packets needs.requests)) }
     {
-        let reply = self.books.serial().next()?;
-        if outcome.is_none() {
-            return Some(Numbers {
-                reply,
-                result: None,
-            });
-        }
-        let serial = reply.next()?;
-        let request = self.books.outbox().next_number().ok()?;
-        Some(Numbers {
-            reply,
-            result: Some(ResultNumbers { serial, request }),
-        })
-    }
-
-    /// A packet to the provider that made a request.
-    fn packet(&self, request: &Request, serial: Whole, number: Whole, body: Body) -> Packet
-        ensures { result ≡ record { from = self.now.party; to = request.now.from; serial = serial; request = number; body = body } }
-    {
-        Packet {
-            from: *self.parties.operator(),
-            to: request.from,
-            serial,
-            request: number,
-            body,
-        }
-    }
-
-    /// The rows of a decision.
-    fn decided_rows(
-        &self,
-        request: &Request,
-        body: &Body,
-        decision: &Decision,
-        numbers: &Numbers,
-    ) -> Result<Vec<Change>, AllocError>
-        requires { numbers.now ≡ numbers_for self.now.rows (result_of decision.now) }
-        ensures { IfOk result (λ v. (c : CommandOf) → body.now ≡ body_of_command c → v.items ≡ decided_rows request.now.at request.now.from request.now.provider request.now.number c decision.now self.now.rows) }
-    {
-        let mut rows = counter_rows(self.alloc, numbers)?;
-        rows.push(reply_row(request, respond(decision, request.at)))?;
-        push_own_rows(self.alloc, &mut rows, request, body, decision)?;
-        if let Some(outcome) = decision.result() {
-            if let Some(numbers) = &numbers.result {
-                push_result_rows(&mut rows, request, body, outcome, numbers)?;
-            }
-        }
-        Ok(rows)
-    }
-
-    /// The packets of a decision.
-    fn decided_packets(
-        &self,
-        request: &Request,
-        body: &Body,
-        decision: &Decision,
-        numbers: &Numbers,
-    ) -> Result<Vec<Packet>, AllocError>
-        requires { numbers.now ≡ numbers_for self.now.rows (result_of decision.now) }
-        ensures { IfOk result (λ v. (c : CommandOf) → body.now ≡ body_of_command c → v.items ≡ decided_packets request.now.at request.now.from request.now.number c decision.now self.now) }
-    {
-        let reply = respond(decision, request.at).into_body();
-        let packet = self.packet(request, numbers.reply, request.number, reply);
-        let mut packets = Vec::with_capacity(self.alloc, MOST_PACKETS)?;
-        packets.push(packet)?;
-        if let Some(outcome) = decision.result() {
-            if let Some(numbers) = &numbers.result {
-                let Some(told) = result_told(body, outcome)? else {
-                    return Ok(packets);
-                };
-                packets.push(self.packet(
-                    request,
-                    numbers.serial,
-                    numbers.request,
-                    Body::CommandResult(told),
-                ))?;
-            }
-        }
-        Ok(packets)
-    }
-
-    /// The step that a decision makes.
-    fn carry(
-        &self,
-        request: &Request,
-        body: &Body,
-        decision: &Decision,
-        numbers: &Numbers,
-    ) -> Result<Stepped, AllocError>
-        requires { numbers.now ≡ numbers_for self.now.rows (result_of decision.now) }
-        ensures { IfOk result (λ x. (c : CommandOf) → body.now ≡ body_of_command c → planned self.now request.now.at x ≡ decided request.now.at request.now.from request.now.provider request.now.number c decision.now self.now) }
-    {
-        let rows = self.decided_rows(request, body, decision, numbers)?;
-        let packets = self.decided_packets(request, body, decision, numbers)?;
-        Ok(Stepped { rows, packets })
+        let (serial, request) = (self.books.serial(), self.books.last_request());
+        Draft::open(self.alloc, self.books.party(), serial, request, needs)
     }
 
     /// The step that sends a kept reply again.
-    fn again(
-        &self,
-        request: &Request,
-        reply: &Reply,
-        numbers: &Numbers,
-    ) -> Result<Stepped, AllocError>
-        requires { numbers.now ≡ numbers_for self.now.rows None }
-        ensures { IfOk result (λ x. planned self.now request.now.at x ≡ again request.now.at request.now.from request.now.number reply.now self.now) }
+    fn plan_again(&self, request: &Request, reply: &Reply) -> Result<Plan, NodeFault>
+        ensures ok { IfOk result (λ x. step_of x ≡ step_of_acts self.now.state (repeated request.now.from request.now.number reply.now ∷ [])) }
+        ensures in_range { OnOk result (AreInRange self.now.state (repeated request.now.from request.now.number reply.now ∷ [])) }
+        ensures err { IfErr result (StopsBy (counted (counters_of self.now.state) (repeated request.now.from request.now.number reply.now ∷ []))) }
     {
-        let reply = reply.copy()?;
-        let rows = counter_rows(self.alloc, numbers)?;
-        let packet = self.packet(request, numbers.reply, request.number, reply.into_body());
-        let packets = vec![in self.alloc; packet]?;
-        Ok(Stepped { rows, packets })
+        let mut draft = self.draft(Needs {
+            packets: 1,
+            requests: 0,
+            changes: 0,
+        })?;
+        draft.repeat(request.from, request.number, reply)?;
+        Ok(draft.into_plan())
     }
 
-    /// The decision on the command that a body carries, by the first line of its table that applies.
-    fn decision(&self, request: &Request, sender: &Party, body: &Body) -> Decision
-        requires { request.now.provider ≡ key sender.now }
-        ensures { (c : CommandOf) → body.now ≡ body_of_command c → Decides self.now request.now.at sender.now request.now.number c result }
+    /// The step of a decision on the command that a body carries.
+    fn plan_decided(
+        &self,
+        request: &Request,
+        body: &Body,
+        decision: &Decision,
+    ) -> Result<Plan, NodeFault>
+        requires { (c : CommandOf) × (body.now ≡ body_of_command c) }
+        ensures ok { IfOk result (λ x. (c : CommandOf) → body.now ≡ body_of_command c → step_of x ≡ step_of_acts self.now.state (decided_acts request.now.at self.now.state.rows.request request.now.from request.now.provider request.now.number c decision.now)) }
+        ensures in_range { OnOk result ((c : CommandOf) → body.now ≡ body_of_command c → AreInRange self.now.state (decided_acts request.now.at self.now.state.rows.request request.now.from request.now.provider request.now.number c decision.now)) }
+        ensures err { IfErr result (λ e. (c : CommandOf) → body.now ≡ body_of_command c → StopsBy (counted (counters_of self.now.state) (decided_acts request.now.at self.now.state.rows.request request.now.from request.now.provider request.now.number c decision.now)) e) }
     {
-        let (books, provider) = (&self.books, request.provider);
-        match body {
-            Body::StartSession(command) => decide_start(books, sender, provider, command),
-            Body::StopSession(command) => decide_stop(books, sender, command),
-            Body::ReserveNow(command) => decide_reserve(books, request, sender, command),
-            Body::CancelReservation(command) => decide_cancel(books, request, sender, command),
-            Body::UnlockConnector(command) => decide_unlock(books, sender, provider, command),
-            _ => Decision::Answered(CommandResponseType::NotSupported),
-        }
+        let results = count(decision.result());
+        let mut draft = self.draft(Needs {
+            packets: 1 + results,
+            requests: results,
+            changes: MOST_CHANGES,
+        })?;
+        add_decided(self.alloc, &mut draft, request, body, decision)?;
+        Ok(draft.into_plan())
     }
 
     /// What becomes of a command. A request that was answered before gets the same reply again.
-    fn on_command(&self, request: &Request, packet: &Packet) -> Result<Stepped, OperatorFault>
-        requires request { IsRequest self.now request.now.at packet.now request.now }
+    fn plan_command(&self, request: &Request, packet: &Packet) -> Result<Plan, NodeFault>
+        requires request { IsRequest self.now.state request.now.at packet.now request.now }
         requires command { (c : CommandOf) × (packet.now.body ≡ body_of_command c) }
-        ensures step { IfOk result (λ x. OperatorStep self.now request.now.at packet.now (planned self.now request.now.at x)) }
-        ensures fault { IfErr result (λ e. IsDue self.now request.now.at packet.now e) }
+        ensures step { IfOk result (λ x. PlannedBy (Comes self.now.state request.now.at packet.now) self.now.state (step_of x)) }
+        ensures fault { IfErr result (IsDue self.now.state request.now.at packet.now) }
     {
-        self.counters_are_in_range();
         if let Some(reply) = self.books.reply(request.provider, request.number) {
-            let Some(numbers) = self.numbers(None) else {
-                return Err(OperatorFault::NumbersUsedUp);
-            };
-            return Ok(self.again(request, reply, &numbers)?);
+            return self.plan_again(request, reply);
         }
-        let decision = self.decision(request, &packet.from, &packet.body);
-        let Some(numbers) = self.numbers(decision.result()) else {
-            return Err(OperatorFault::NumbersUsedUp);
-        };
-        Ok(self.carry(request, &packet.body, &decision, &numbers)?)
+        let decision = decide(&self.books, request, &packet.from, &packet.body);
+        self.plan_decided(request, &packet.body, &decision)
+    }
+
+    /// Whether an acknowledgement is for a push of this operator: it has status 1000, and comes from the addressee under the
+    /// push's number.
+    fn acknowledges(&self, packet: &Packet, ack: &Ack) -> bool
+        ensures { IsTrue result ↔ Acknowledges self.now.state packet.now ack.now }
+    {
+        if ack.status_code.value().value() != 1000 {
+            return false;
+        }
+        self.books.outbox().is_to(&packet.from, packet.request)
     }
 
     /// What becomes of an acknowledgement: it ends the push that it is for, or is idle. An error is want of memory.
-    fn on_ack(&self, request: &Request, packet: &Packet, ack: &Ack) -> Result<Stepped, AllocError>
-        requires request { IsRequest self.now request.now.at packet.now request.now }
+    fn plan_ack(&self, request: &Request, packet: &Packet, ack: &Ack) -> Result<Plan, AllocError>
+        requires request { IsRequest self.now.state request.now.at packet.now request.now }
         requires ack { packet.now.body ≡ body.Ack ack.now }
-        ensures step { IfOk result (λ x. OperatorStep self.now request.now.at packet.now (planned self.now request.now.at x)) }
-        ensures memory { OnErr result (MayStep self.now request.now.at packet.now) }
+        ensures step { IfOk result (λ x. PlannedBy (Comes self.now.state request.now.at packet.now) self.now.state (step_of x)) }
+        ensures memory { MayStep (Comes self.now.state request.now.at packet.now) self.now.state }
     {
-        self.counters_are_in_range();
-        let (mut rows, packets) = (Vec::new(self.alloc), Vec::new(self.alloc));
-        if ack.status_code.value().value() == 1000
-            && self.books.outbox().is_to(&packet.from, request.number)
-        {
-            rows.push(Change::Drop(RowKey::Push {
-                number: request.number,
-            }))?;
+        self.counters_in_range();
+        if !self.acknowledges(packet, ack) {
+            return Ok(Plan::nothing(self.alloc));
         }
-        Ok(Stepped { rows, packets })
+        Plan::one(
+            self.alloc,
+            Change::Drop(RowKey::Push {
+                number: request.number,
+            }),
+        )
     }
 
-    /// What becomes of a packet.
-    pub(crate) fn decide(&self, at: Moment, packet: &Packet) -> Result<Stepped, OperatorFault>
-        ensures step { IfOk result (λ x. OperatorStep self.now at packet.now (planned self.now at x)) }
-        ensures fault { IfErr result (λ e. IsDue self.now at packet.now e) }
+    /// What becomes of a packet at a moment. Nothing changes. Refused as `on_packet` says.
+    pub fn plan_packet(&self, at: Moment, packet: &Packet) -> Result<Plan, NodeFault>
+        ensures step { IfOk result (λ x. PlannedBy (Comes self.now.state at packet.now) self.now.state (step_of x)) }
+        ensures fault { IfErr result (IsDue self.now.state at packet.now) }
     {
         let Some(request) = self.request(at, packet) else {
-            return Err(OperatorFault::NotForMe);
+            return Err(NodeFault::NotForMe);
         };
         match &packet.body {
-            Body::Ack(ack) => Ok(self.on_ack(&request, packet, ack)?),
-            _ => self.on_command(&request, packet),
+            Body::Ack(ack) => Ok(self.plan_ack(&request, packet, ack)?),
+            _ => self.plan_command(&request, packet),
         }
     }
 }

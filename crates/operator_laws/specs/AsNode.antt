@@ -5,11 +5,12 @@ use Rattle.std.specs.FinMap.{get}
 use Rattle.ocpi_types.specs.Stored.{body_of_push}
 use Rattle.ocpi_types.specs.declared.packet.Packet.{Packet}
 use Rattle.ocpi_types.specs.declared.site.SiteLine.{SiteLine}
-use Rattle.handover.specs.declared.push_book.Outgoing.{Outgoing}
+use Rattle.outbox.specs.declared.push_book.Outgoing.{Outgoing}
 use Rattle.node_laws.specs.Nodes.{Node, Exchange, Request, NodeStep}
 use Rattle.node_laws.specs.Laws.{NodeRun}
-use Rattle.operator_core.specs.State.{State, opening}
-use Rattle.operator_laws.specs.Laws.{Input, Comes, Serves, Reports, Ticks, Restarts, Event, Happens, Run, sent}
+use Rattle.operator_rows.specs.State.{State, opening}
+use Rattle.operator_steps.specs.Events.{Input, Arrives, Serves, Reports, Ticks, Restarts, Event, Happens}
+use Rattle.operator_laws.specs.Laws.{Run, sent}
 
 abbrev pub pushed_request : Outgoing → Request
 pushed_request o = record { to = o.to; body = body_of_push o.push }
@@ -20,13 +21,13 @@ node s = record {
   party = s.party;
   peers = s.providers;
   serial = s.rows.serial;
-  last = s.rows.outbox.last;
+  last = s.rows.request;
   replies = s.rows.commands.replies;
-  standing = λ n. option_map pushed_request (get s.rows.outbox.pushes n);
+  standing = λ n. option_map pushed_request (get s.rows.pushes n);
 }
 
 abbrev pub came_in : Input → List Packet
-came_in (Comes at q) = q ∷ []
+came_in (Arrives at q) = q ∷ []
 came_in (Serves evse in_service) = []
 came_in (Reports at report) = []
 came_in (Ticks at) = []
@@ -50,5 +51,5 @@ PacketsAreAddressed = (line : SiteLine) (es : List Event) (t : State) → Run (o
 
 -- a push that stands was sent under its number
 abbrev pub PushesWereSent : Type 0
-PushesWereSent = (line : SiteLine) (es : List Event) (t : State) → Run (opening line) es t → (n : ℕ) (o : Outgoing) → get t.rows.outbox.pushes n ≡ Some o →
+PushesWereSent = (line : SiteLine) (es : List Event) (t : State) → Run (opening line) es t → (n : ℕ) (o : Outgoing) → get t.rows.pushes n ≡ Some o →
     (x : Packet) × Contains (sent es) x × (x.request ≡ n) × (x.to ≡ o.to) × (x.body ≡ body_of_push o.push)

@@ -1,7 +1,7 @@
 -- The laws of an operator over every list of events from its opening: packets that come, in any order and any number of
 -- times, what charge points report, time that passes, at moments that may go back, EVSEs that go out of service and come
 -- back, and new starts of the operator from what it stored; events that are refused among them.
-use Rattle.std.specs.Prelude.{◌≡◌, ◌⊎◌, ℕ, ◌+◌, ◌≤◌, ◌<◌, Bool, List, Some, Contains, slice_get}
+use Rattle.std.specs.Prelude.{◌≡◌, ◌⊎◌, ℕ, ◌+◌, ◌≤◌, ◌<◌, List, Some, Contains, slice_get}
 use Rattle.std.specs.List.{flat_map}
 use Rattle.std.specs.FinMap.{get}
 use Rattle.ocpi_text.specs.Text.{key}
@@ -17,56 +17,14 @@ use Rattle.ocpi_types.specs.declared.stored.OpenCommand.{OpenCommand}
 use Rattle.ocpi_types.specs.declared.stored.Reply.{Reply}
 use Rattle.ocpi_types.specs.declared.stored.Reservation.{Reservation}
 use Rattle.ocpi_types.specs.declared.words.CommandResultType.{CommandResultType}
-use Rattle.ocpi_types.specs.declared.events.ChargerEvent.{ChargerEvent}
-use Rattle.ocpi_types.specs.declared.rows.Change.{Change}
 use Rattle.ocpi_types.specs.declared.rows.Change.TheVariants.{Put}
 use Rattle.ocpi_types.specs.declared.rows.Row.TheVariants as row
 use Rattle.node_laws.specs.Runs as runs
-use Rattle.handover.specs.declared.push_book.Outgoing.{Outgoing}
-use Rattle.operator_core.specs.declared.fault.OperatorFault.{OperatorFault}
-use Rattle.operator_core.specs.State.{State, opening}
-use Rattle.operator_core.specs.Consistent.{IsConsistent, Uses}
-use Rattle.operator_core.specs.Moves.{Out, idle, restarted}
-use Rattle.operator_core.specs.Steps.{OperatorStep}
-use Rattle.operator_core.specs.Service.{ServiceStep}
-use Rattle.operator_core.specs.Charger.{ChargerLine, ChargerStep}
-use Rattle.operator_core.specs.Tick.{TickLine, TickStep}
-use Rattle.operator_core.specs.Faults.{IsDue, IsOwnFault}
-
--- what reaches an operator
-pub data Input : Type 0 where
-  -- a packet comes at a moment
-  Comes : (at : ℕ) (q : Packet) → Input
-  -- the EVSE of that key goes out of service, or comes back
-  Serves : (evse : List ℕ) (in_service : Bool) → Input
-  -- a charge point reports at a moment
-  Reports : (at : ℕ) (report : ChargerEvent) → Input
-  -- time passes, up to a moment
-  Ticks : (at : ℕ) → Input
-  -- the operator starts again from what it stored
-  Restarts : Input
-
--- an event: what reached the operator, what it changed and what it sent
-pub record Event : Type 0 where
-  pub input : Input
-  pub changes : List Change
-  pub packets : List Packet
-
-abbrev pub out_of : Event → State → Out
-out_of e t = record { state = t; changes = e.changes; packets = e.packets }
-
--- what an event leaves: a step, or a refusal, which changes nothing and sends nothing
-pub data Happens (s : State) (e : Event) (t : State) : Type 0 where
-  Stepped : (at : ℕ) (q : Packet) → e.input ≡ Comes at q → OperatorStep s at q (out_of e t) → Happens s e t
-  Refused : (at : ℕ) (q : Packet) → e.input ≡ Comes at q → (f : OperatorFault) → IsDue s at q f → out_of e t ≡ idle s → Happens s e t
-  Served : (evse : List ℕ) (in_service : Bool) → e.input ≡ Serves evse in_service → ServiceStep s evse in_service (out_of e t) → Happens s e t
-  -- want of memory
-  Unserved : (evse : List ℕ) (in_service : Bool) → e.input ≡ Serves evse in_service → out_of e t ≡ idle s → Happens s e t
-  Reported : (at : ℕ) (report : ChargerEvent) → e.input ≡ Reports at report → ChargerStep s at report (out_of e t) → Happens s e t
-  Unreported : (at : ℕ) (report : ChargerEvent) → e.input ≡ Reports at report → (f : OperatorFault) → IsOwnFault (ChargerLine s at report) f → out_of e t ≡ idle s → Happens s e t
-  Ticked : (at : ℕ) → e.input ≡ Ticks at → TickStep s at (out_of e t) → Happens s e t
-  Unticked : (at : ℕ) → e.input ≡ Ticks at → (f : OperatorFault) → IsOwnFault (TickLine s at) f → out_of e t ≡ idle s → Happens s e t
-  Restarted : e.input ≡ Restarts → out_of e t ≡ restarted s → Happens s e t
+use Rattle.outbox.specs.declared.push_book.Outgoing.{Outgoing}
+use Rattle.operator_rows.specs.State.{State, opening}
+use Rattle.operator_rows.specs.Sound.{IsConsistent}
+use Rattle.operator_steps.specs.Events.{Arrives, Event, Happens}
+use Rattle.operator_laws.specs.References.{AreSpent, HaveOneCarrier, Uses}
 
 -- a run from one state to another, event by event
 abbrev pub Run : State → List Event → State → Type 0
@@ -78,11 +36,25 @@ sent es = flat_map (λ e. e.packets) es
 
 -- the packet came in the run
 abbrev pub Came : List Event → Packet → Type 0
-Came es q = (e : Event) × Contains es e × ((at : ℕ) × (e.input ≡ Comes at q))
+Came es q = (e : Event) × Contains es e × ((at : ℕ) × (e.input ≡ Arrives at q))
 
--- what holds of an operator at any time; each EVSE has at most one claim among it
+-- what holds of an operator at any time: what is kept of its rows and times, each EVSE with at most one claim among it; and each
+-- reference of a provider is carried by one open start at most, and may not be used again
+pub record HoldsAlways (t : State) : Type 0 where
+  pub consistent : IsConsistent t
+  pub one_carrier : HaveOneCarrier t.rows
+  pub carried_spent : AreSpent t.rows
+
 abbrev pub AlwaysConsistent : Type 0
-AlwaysConsistent = (line : SiteLine) (es : List Event) (t : State) → Run (opening line) es t → IsConsistent t
+AlwaysConsistent = (line : SiteLine) (es : List Event) (t : State) → Run (opening line) es t → HoldsAlways t
+
+-- two open starts of a provider with one reference are one
+abbrev pub ReferencesHaveOneCarrier : Type 0
+ReferencesHaveOneCarrier = (line : SiteLine) (es : List Event) (t : State) → Run (opening line) es t → HaveOneCarrier t.rows
+
+-- the reference of an open start may not be used again
+abbrev pub CarriedReferencesAreSpent : Type 0
+CarriedReferencesAreSpent = (line : SiteLine) (es : List Event) (t : State) → Run (opening line) es t → AreSpent t.rows
 
 -- the event opens a start of a provider, both in key form, with a reference in key form
 abbrev pub Opens : Event → List ℕ → List ℕ → Type 0
@@ -100,16 +72,19 @@ SentRepliesAreKept = (line : SiteLine) (es : List Event) (t : State) → Run (op
 
 -- a reply is kept for good
 abbrev pub RepliesStay : Type 0
-RepliesStay = (s t : State) (es : List Event) → Run s es t → (k : List ℕ × ℕ) (reply : Reply) → get s.rows.commands.replies k ≡ Some reply → get t.rows.commands.replies k ≡ Some reply
+RepliesStay = (s t : State) (es : List Event) → Run s es t → (k : List ℕ × ℕ) (reply : Reply) → get s.rows.commands.replies k ≡ Some reply →
+    get t.rows.commands.replies k ≡ Some reply
 
 -- each kept reply answers a command that came, from that party under that number
 abbrev pub RepliesAnswer : Type 0
-RepliesAnswer = (line : SiteLine) (es : List Event) (t : State) → Run (opening line) es t → (p : List ℕ) (n : ℕ) (reply : Reply) → get t.rows.commands.replies (p, n) ≡ Some reply →
+RepliesAnswer = (line : SiteLine) (es : List Event) (t : State) → Run (opening line) es t → (p : List ℕ) (n : ℕ) (reply : Reply) →
+    get t.rows.commands.replies (p, n) ≡ Some reply →
     (q : Packet) × Came es q × (key q.from ≡ p) × (q.request ≡ n) × ((c : Command) × (q.body ≡ body_of_command c))
 
 -- a result is kept for good
 abbrev pub ResultsStay : Type 0
-ResultsStay = (s t : State) (es : List Event) → IsConsistent s → Run s es t → (k : List ℕ × ℕ) (x : CommandResultType) → get s.rows.commands.results k ≡ Some x → get t.rows.commands.results k ≡ Some x
+ResultsStay = (s t : State) (es : List Event) → IsConsistent s → Run s es t → (k : List ℕ × ℕ) (x : CommandResultType) → get s.rows.commands.results k ≡ Some x →
+    get t.rows.commands.results k ≡ Some x
 
 -- the packets are numbered from 1, each by the next number
 abbrev pub Numbered : Type 0
@@ -127,17 +102,20 @@ Acknowledged es to n = (q : Packet) × Came es q × ((a : Ack) × (q.body ≡ bo
 
 -- a result that was sent is pushed until its addressee acknowledges its number
 abbrev pub PushesStand : Type 0
-PushesStand = (line : SiteLine) (es : List Event) (t : State) → Run (opening line) es t → (x : Packet) (a : CommandResult) → Contains (sent es) x → x.body ≡ body.CommandResult a →
-    ((o : Outgoing) × (get t.rows.outbox.pushes x.request ≡ Some o) × (o.to ≡ x.to) × (body_of_push o.push ≡ x.body)) ⊎ Acknowledged es x.to x.request
+PushesStand = (line : SiteLine) (es : List Event) (t : State) → Run (opening line) es t → (x : Packet) (a : CommandResult) → Contains (sent es) x →
+    x.body ≡ body.CommandResult a →
+    ((o : Outgoing) × (get t.rows.pushes x.request ≡ Some o) × (o.to ≡ x.to) × (body_of_push o.push ≡ x.body)) ⊎ Acknowledged es x.to x.request
 
 -- a result that was sent is the one that is kept for a command of its addressee, to be posted where it says
 abbrev pub SentResultsAreKept : Type 0
-SentResultsAreKept = (line : SiteLine) (es : List Event) (t : State) → Run (opening line) es t → (x : Packet) (a : CommandResult) → Contains (sent es) x → x.body ≡ body.CommandResult a →
+SentResultsAreKept = (line : SiteLine) (es : List Event) (t : State) → Run (opening line) es t → (x : Packet) (a : CommandResult) → Contains (sent es) x →
+    x.body ≡ body.CommandResult a →
     (n : ℕ) × (get t.rows.commands.results (key x.to, n) ≡ Some a.result)
 
 -- no mark falls, and none goes
 abbrev pub MarksNeverFall : Type 0
-MarksNeverFall = (s t : State) (es : List Event) → Run s es t → (k : List ℕ × List ℕ) (m : ℕ) → get s.rows.booked.marks k ≡ Some m → (n : ℕ) × (get t.rows.booked.marks k ≡ Some n) × (m ≤ n)
+MarksNeverFall = (s t : State) (es : List Event) → Run s es t → (k : List ℕ × List ℕ) (m : ℕ) → get s.rows.booked.marks k ≡ Some m →
+    (n : ℕ) × (get t.rows.booked.marks k ≡ Some n) × (m ≤ n)
 
 -- the event makes or replaces the reservation of that id of a provider, under that number
 abbrev pub Reserves : Event → List ℕ → List ℕ → ℕ → Type 0
@@ -146,5 +124,6 @@ Reserves e p id n = ((r : Reservation) × Contains e.changes (Put (row.Reservati
 -- a reservation is made only under a number above that of every request about it that was decided before: so one that was
 -- cancelled, whether or not it was known, is not made by a request that the cancellation overtook
 abbrev pub ReservationsAreNewer : Type 0
-ReservationsAreNewer = (line : SiteLine) (es : List Event) (t : State) → Run (opening line) es t → (i j : ℕ) (e f : Event) → slice_get es i ≡ Some e → slice_get es j ≡ Some f → i < j →
+ReservationsAreNewer = (line : SiteLine) (es : List Event) (t : State) → Run (opening line) es t → (i j : ℕ) (e f : Event) → slice_get es i ≡ Some e →
+    slice_get es j ≡ Some f → i < j →
     (p id : List ℕ) (m n : ℕ) → Contains e.changes (Put (row.Mark p id m)) → Reserves f p id n → m < n

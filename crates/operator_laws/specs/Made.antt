@@ -11,8 +11,9 @@ use Rattle.ocpi_types.specs.declared.stored.Command.{Command}
 use Rattle.ocpi_types.specs.declared.stored.OpenCommand.{OpenCommand}
 use Rattle.ocpi_types.specs.declared.stored.Reply.{Reply}
 use Rattle.ocpi_types.specs.declared.stored.Reservation.{Reservation}
-use Rattle.operator_core.specs.State.{State}
-use Rattle.operator_laws.specs.Laws.{Event, Happens, Run}
+use Rattle.operator_rows.specs.State.{State}
+use Rattle.operator_steps.specs.Events.{Event, Happens}
+use Rattle.operator_laws.specs.Laws.{Run}
 use Rattle.operator_laws.specs.Replied.{AnswersIt}
 
 -- an event of the run answered the request of that packet
@@ -38,12 +39,14 @@ pub record IsReserved (r : State) (es : List Event) (s : State) (fs : List Event
   pub carries : packet.body ≡ body.ReserveNow asked
   pub by : key packet.from ≡ p
   pub id_is : key asked.reservation_id ≡ id
-  pub newer : (x : Packet) (c : CancelReservation) (w : Reply) → IsAnsweredIn r es s x w → x.body ≡ body.CancelReservation c → key x.from ≡ p → key c.reservation_id ≡ id → x.request < packet.request
+  pub newer : (x : Packet) (c : CancelReservation) (w : Reply) → IsAnsweredIn r es s x w → x.body ≡ body.CancelReservation c → key x.from ≡ p → key c.reservation_id ≡ id →
+      x.request < packet.request
 
 -- a reservation that stands, and did not at an earlier state, was made in between by a RESERVE_NOW that came, and not by one
 -- that a cancellation overtook
 abbrev pub ReservationsAreMade : Type 0
-ReservationsAreMade = (r s t : State) (es fs : List Event) → Run r es s → Run s fs t → (p id : List ℕ) → get s.rows.booked.reservations (p, id) ≡ None → (x : Reservation) → get t.rows.booked.reservations (p, id) ≡ Some x →
+ReservationsAreMade = (r s t : State) (es fs : List Event) → Run r es s → Run s fs t → (p id : List ℕ) → get s.rows.booked.reservations (p, id) ≡ None → (x : Reservation) →
+    get t.rows.booked.reservations (p, id) ≡ Some x →
     IsReserved r es s fs t p id
 
 -- the command of number n of the party of key p came, and was answered, in the run
@@ -56,7 +59,7 @@ pub record IsCommandOf (s : State) (es : List Event) (t : State) (p : List ℕ) 
   pub number : packet.request ≡ n
 
 -- an open command was open before, or is the command that came under its number. So is an open start with its authorization
--- reference, which is spent and is carried by no other open start (`IsConsistent`)
+-- reference, which is spent and is carried by no other open start (`HoldsAlways`)
 abbrev pub OpenCommandsCame : Type 0
 OpenCommandsCame = (s t : State) (es : List Event) → Run s es t → (p : List ℕ) (n : ℕ) (o : OpenCommand) → get t.rows.commands.pending (p, n) ≡ Some o →
     (get s.rows.commands.pending (p, n) ≡ Some o) ⊎ IsCommandOf s es t p n o.command

@@ -15,14 +15,15 @@ use Rattle.ocpi_types.specs.declared.stored.Reply.{Reply}
 use Rattle.ocpi_types.specs.declared.stored.Reservation.{Reservation}
 use Rattle.ocpi_types.specs.declared.words.CommandResponseType.TheVariants.{Accepted}
 use Rattle.ocpi_types.specs.declared.words.CommandResultType.{CommandResultType}
-use Rattle.operator_core.specs.State.{State, opening}
-use Rattle.operator_core.specs.Steps.{responded, url_of}
-use Rattle.operator_laws.specs.Laws.{Came, Comes, Event, Happens, Run, sent}
+use Rattle.operator_rows.specs.State.{State, opening}
+use Rattle.operator_steps.specs.Acts.{responded, url_of}
+use Rattle.operator_steps.specs.Events.{Arrives, Event, Happens}
+use Rattle.operator_laws.specs.Laws.{Came, Run, sent}
 
 -- the event answers the request of that packet: no reply was kept for it before, and this one is after
 pub record AnswersIt (s : State) (e : Event) (t : State) (q : Packet) (r : Reply) : Type 0 where
   pub at : ℕ
-  pub comes : e.input ≡ Comes at q
+  pub comes : e.input ≡ Arrives at q
   pub new : get s.rows.commands.replies (key q.from, q.request) ≡ None
   pub kept : get t.rows.commands.replies (key q.from, q.request) ≡ Some r
 
@@ -73,5 +74,6 @@ Asked Came p n c = (q : Packet) × Came q × (key q.from ≡ p) × (q.request �
 -- a result that was sent answers a command that came from its addressee: it is posted where that command says, and is the result
 -- that is kept for it
 abbrev pub ResultsArePosted : Type 0
-ResultsArePosted = (line : SiteLine) (es : List Event) (t : State) → Run (opening line) es t → (x : Packet) (a : CommandResult) → Contains (sent es) x → x.body ≡ body.CommandResult a →
+ResultsArePosted = (line : SiteLine) (es : List Event) (t : State) → Run (opening line) es t → (x : Packet) (a : CommandResult) → Contains (sent es) x →
+    x.body ≡ body.CommandResult a →
     (n : ℕ) × (c : Command) × Asked (Came es) (key x.to) n c × (a.response_url ≡ url_of c) × (get t.rows.commands.results (key x.to, n) ≡ Some a.result)

@@ -1,15 +1,27 @@
-//! The laws of an operator, over every list of events from its opening. The steps in them are those of
-//! `Operator::on_packet`, `on_charger`, `on_tick`, `on_service` and `restart`.
+//! The laws of an operator, over every list of events from its opening. An event is what `operator_steps` says of it (`Happens`),
+//! which is what `Operator::on_packet`, `on_charger`, `on_tick`, `on_service` and `restart` do.
 
 ghost use Rattle.operator_laws.specs.AsNode.{StepsAreNodeSteps, RunsAreNodeRuns, PacketsAreAddressed, PushesWereSent};
 ghost use Rattle.operator_laws.specs.Made.{ReservationsAreMade, OpenCommandsCame};
 ghost use Rattle.operator_laws.specs.Replied.{AcceptedIsOpenOrSettled, CancellationsAreMarked, ReservationsAreAskedFor, ReservationsAreMarked, ResultsArePosted, SpentStays};
-ghost use Rattle.operator_laws.specs.Laws.{AlwaysConsistent, OneStart, SentRepliesAreKept, RepliesStay, RepliesAnswer, ResultsStay, Numbered, RequestsAgree, PushesStand, SentResultsAreKept, MarksNeverFall, ReservationsAreNewer};
+ghost use Rattle.operator_laws.specs.Laws.{AlwaysConsistent, OneStart, SentRepliesAreKept, RepliesStay, RepliesAnswer, ResultsStay, Numbered, RequestsAgree, PushesStand, SentResultsAreKept, MarksNeverFall, ReservationsAreNewer, ReferencesHaveOneCarrier, CarriedReferencesAreSpent};
 
-/// Each EVSE has at most one claim, among open starts and reservations; each reference is carried by at most one open start;
-/// each open command is of a provider of the site, and has a reply and no result; only a push that stands has a resend time.
+/// Each EVSE has at most one claim, among open starts and reservations; each open command is of a provider of the site, and has a
+/// reply and no result; each command that has a result has a reply; what claims an EVSE names one of the site; each push is to a
+/// provider of the site and has a number that was given, and only a push that stands has a resend time; each reference is carried
+/// by at most one open start, and may not be used again.
 pub fn always_consistent()
     ensures { AlwaysConsistent }
+{}
+
+/// Each authorization reference of a provider is carried by at most one of its open starts.
+pub fn references_have_one_carrier()
+    ensures { ReferencesHaveOneCarrier }
+{}
+
+/// The authorization reference of an open start may not be used again.
+pub fn carried_references_are_spent()
+    ensures { CarriedReferencesAreSpent }
 {}
 
 /// Each authorization reference of a provider opens at most one start.

@@ -36,15 +36,15 @@ part (keys.Pending p n) = 0
 part (keys.Result p n) = 0
 part (keys.Mark p id) = 1
 part (keys.Reservation p id) = 1
-part (keys.Count counter.Request) = 2
-part (keys.Push n) = 2
-part (keys.Command n) = 2
-part (keys.Count counter.Serial) = 3
+part (keys.Count counter.Serial) = 2
 part (keys.Count counter.Session) = 6
 part (keys.Count counter.Cdr) = 6
 part (keys.Count counter.Reference) = 6
-part (keys.Spent p reference) = 4
-part (keys.Service evse) = 5
+part (keys.Spent p reference) = 3
+part (keys.Service evse) = 4
+part (keys.Count counter.Request) = 5
+part (keys.Push n) = 5
+part (keys.Command n) = 5
 part (keys.Token p t u) = 6
 part (keys.Session p id) = 6
 part (keys.Cdr p id) = 6
@@ -124,13 +124,13 @@ IsServiceRow s (row.Session x) = ⊥
 IsServiceRow s (row.Cdr x) = ⊥
 IsServiceRow s (row.Command q x) = ⊥
 
-of_serial : (last : ℕ) → AreExactly 4 (IsSerial last) (serial_rows last)
+of_serial : (last : ℕ) → AreExactly 3 (IsSerial last) (serial_rows last)
 of_serial last = go (nat_eq last 0) refl
   where
-    parts : (r : Row) → IsSerial last r → part (key_of r) < 4
-    parts r (n, is, same, some) = subst (λ x. part (key_of x) < 4) (sym is) (omega arith)
+    parts : (r : Row) → IsSerial last r → part (key_of r) < 3
+    parts r (n, is, same, some) = subst (λ x. part (key_of x) < 3) (sym is) (omega arith)
 
-    go : (b : Bool) → nat_eq last 0 ≡ b → AreExactly 4 (IsSerial last) (cond b [] (row.Count counter.Serial last ∷ []))
+    go : (b : Bool) → nat_eq last 0 ≡ b → AreExactly 3 (IsSerial last) (cond b [] (row.Count counter.Serial last ∷ []))
     go true e =
         let zero : last ≡ 0 = eqb-true last 0 e in
         record { exact = λ r. (λ h. absurd (in_none r h), λ h. absurd (h.3 (sym h.2 ∙ zero))); apart = no_pairs Apart; parts = parts }
@@ -180,7 +180,7 @@ module _ (s : Rows) where
   of_booked : (list : List Row) → booked.AreRowsOf list s.booked → AreExactly 2 (booked.HasRow s.booked) list
   of_booked list h = record { exact = h.exact; apart = h.apart; parts = λ r has. let is = booked_part r has in omega arith }
 
-  pushed_part : (r : Row) → outbox.HasRow (as_outbox s) r → part (key_of r) ≡ 2
+  pushed_part : (r : Row) → outbox.HasRow (as_outbox s) r → part (key_of r) ≡ 5
   pushed_part (row.Count counter.Request n) has = refl
   pushed_part (row.Count counter.Serial n) has = absurd has
   pushed_part (row.Count counter.Session n) has = absurd has
@@ -199,13 +199,13 @@ module _ (s : Rows) where
   pushed_part (row.Session x) has = absurd has
   pushed_part (row.Cdr x) has = absurd has
 
-  of_pushed : (list : List Row) → outbox_lists.AreRowsOf list (as_outbox s) → AreExactly 3 (outbox.HasRow (as_outbox s)) list
+  of_pushed : (list : List Row) → outbox_lists.AreRowsOf list (as_outbox s) → AreExactly 6 (outbox.HasRow (as_outbox s)) list
   of_pushed list h = record { exact = h.exact; apart = h.apart; parts = λ r has. let is = pushed_part r has in omega arith }
 
-  serial_part : (r : Row) → IsSerial s.serial r → part (key_of r) ≡ 3
+  serial_part : (r : Row) → IsSerial s.serial r → part (key_of r) ≡ 2
   serial_part r h = ap (λ z. part (key_of z)) h.1
 
-  spent_part : (r : Row) → IsSpentRow s r → part (key_of r) ≡ 4
+  spent_part : (r : Row) → IsSpentRow s r → part (key_of r) ≡ 3
   spent_part (row.Spent p reference) has = refl
   spent_part (row.Count c q) has = absurd has
   spent_part (row.Reply p q x) has = absurd has
@@ -220,9 +220,9 @@ module _ (s : Rows) where
   spent_part (row.Cdr x) has = absurd has
   spent_part (row.Command q x) has = absurd has
 
-  of_spent : AreExactly 5 (IsSpentRow s) (map spent_row (entries s.spent))
+  of_spent : AreExactly 4 (IsSpentRow s) (map spent_row (entries s.spent))
   of_spent =
-      of_entries text_pair_total text_pair_exact s.spent spent_row (IsSpentRow s) 5 (λ q x e. e) made
+      of_entries text_pair_total text_pair_exact s.spent spent_row (IsSpentRow s) 4 (λ q x e. e) made
       (λ a b apart e. apart (let p : a.0.0 ≡ b.0.0 = cc in let n : a.0.1 ≡ b.0.1 = cc in λ i. (p i, n i))) (λ r has. let is = spent_part r has in omega arith)
     where
       made : (r : Row) → IsSpentRow s r → (q : List ℕ × List ℕ) × (x : Unit {0}) × (get s.spent q ≡ Some x) × (spent_row (q, x) ≡ r)
@@ -240,7 +240,7 @@ module _ (s : Rows) where
       made (row.Cdr x) h = absurd h
       made (row.Command q x) h = absurd h
 
-  service_part : (r : Row) → IsServiceRow s r → part (key_of r) ≡ 5
+  service_part : (r : Row) → IsServiceRow s r → part (key_of r) ≡ 4
   service_part (row.Service evse) has = refl
   service_part (row.Count c q) has = absurd has
   service_part (row.Reply p q x) has = absurd has
@@ -255,9 +255,9 @@ module _ (s : Rows) where
   service_part (row.Cdr x) has = absurd has
   service_part (row.Command q x) has = absurd has
 
-  of_service : AreExactly 6 (IsServiceRow s) (map service_row (entries s.out_of_service))
+  of_service : AreExactly 5 (IsServiceRow s) (map service_row (entries s.out_of_service))
   of_service =
-      of_entries text_total text_exact s.out_of_service service_row (IsServiceRow s) 6 (λ q x e. e) made
+      of_entries text_total text_exact s.out_of_service service_row (IsServiceRow s) 5 (λ q x e. e) made
       (λ a b apart e. apart (let p : a.0 ≡ b.0 = cc in p)) (λ r has. let is = service_part r has in omega arith)
     where
       made : (r : Row) → IsServiceRow s r → (q : List ℕ) × (x : Unit {0}) × (get s.out_of_service q ≡ Some x) × (service_row (q, x) ≡ r)
@@ -279,17 +279,17 @@ module _ (s : Rows) where
   abbrev OfBooks : Row → Type 0
   OfBooks r = commands.HasRow s.commands r ⊎ booked.HasRow s.booked r
 
-  abbrev WithPushed : Row → Type 0
-  WithPushed r = OfBooks r ⊎ outbox.HasRow (as_outbox s) r
-
   abbrev WithSerial : Row → Type 0
-  WithSerial r = WithPushed r ⊎ IsSerial s.serial r
+  WithSerial r = OfBooks r ⊎ IsSerial s.serial r
 
   abbrev WithSpent : Row → Type 0
   WithSpent r = WithSerial r ⊎ IsSpentRow s r
 
+  abbrev WithService : Row → Type 0
+  WithService r = WithSpent r ⊎ IsServiceRow s r
+
   abbrev OfAny : Row → Type 0
-  OfAny r = WithSpent r ⊎ IsServiceRow s r
+  OfAny r = WithService r ⊎ outbox.HasRow (as_outbox s) r
 
   -- the rows of each part stand
   command : (r : Row) → commands.HasRow s.commands r → HasRow s r
@@ -372,25 +372,25 @@ module _ (s : Rows) where
   service (row.Command q x) h = absurd h
 
   stands : (r : Row) → OfAny r → HasRow s r
-  stands r (inr h) = service r h
-  stands r (inl (inr h)) = spent r h
-  stands r (inl (inl (inr (n, is, same, some)))) = subst (HasRow s) (sym is) (same, some)
-  stands r (inl (inl (inl (inr h)))) = pushed r h
+  stands r (inr h) = pushed r h
+  stands r (inl (inr h)) = service r h
+  stands r (inl (inl (inr h))) = spent r h
+  stands r (inl (inl (inl (inr (n, is, same, some))))) = subst (HasRow s) (sym is) (same, some)
   stands r (inl (inl (inl (inl (inr h))))) = of_book r h
   stands r (inl (inl (inl (inl (inl h))))) = command r h
 
   -- and each row that stands is of a part
   of_part : (r : Row) → HasRow s r → OfAny r
-  of_part (row.Count counter.Serial n) h = inl (inl (inr (n, refl, h.0, h.1)))
-  of_part (row.Count counter.Request n) h = inl (inl (inl (inr h)))
+  of_part (row.Count counter.Serial n) h = inl (inl (inl (inr (n, refl, h.0, h.1))))
+  of_part (row.Count counter.Request n) h = inr h
   of_part (row.Count counter.Session n) h = absurd h
   of_part (row.Count counter.Cdr n) h = absurd h
   of_part (row.Count counter.Reference n) h = absurd h
   of_part (row.Reply p n x) h = inl (inl (inl (inl (inl h))))
   of_part (row.Token x) h = absurd h
-  of_part (row.Push n to x) h = inl (inl (inl (inr h)))
-  of_part (row.Service evse) h = inr h
-  of_part (row.Spent p reference) h = inl (inr h)
+  of_part (row.Push n to x) h = inr h
+  of_part (row.Service evse) h = inl (inr h)
+  of_part (row.Spent p reference) h = inl (inl (inr h))
   of_part (row.Mark p id n) h = inl (inl (inl (inl (inr h))))
   of_part (row.Reservation p id x) h = inl (inl (inl (inl (inr h))))
   of_part (row.Pending p n x) h = inl (inl (inl (inl (inl h))))
@@ -401,33 +401,33 @@ module _ (s : Rows) where
 
   module _ (xs ys zs : List Row) where
     -- the rows of the books, and of the parts after them
-    abbrev of_books : List Row
-    of_books = (xs ++ ys) ++ zs
-
     abbrev with_serial : List Row
-    with_serial = of_books ++ serial_rows s.serial
+    with_serial = (xs ++ ys) ++ serial_rows s.serial
 
     abbrev with_spent : List Row
     with_spent = with_serial ++ map spent_row (entries s.spent)
 
+    abbrev with_service : List Row
+    with_service = with_spent ++ map service_row (entries s.out_of_service)
+
     -- the rows of all parts, one after the other
-    pub all_rows : command_lists.AreRowsOf xs s.commands → booked.AreRowsOf ys s.booked → outbox_lists.AreRowsOf zs (as_outbox s) → AreRowsOf (((xs ++ ys) ++ zs) ++ other_rows s) s
-    all_rows a b c = subst (λ l. AreRowsOf l s) regrouped (record { exact = λ r. (λ h. stands r ((all.exact r).0 h), λ h. (all.exact r).1 (of_part r h)); apart = all.apart })
+    pub all_rows : command_lists.AreRowsOf xs s.commands → booked.AreRowsOf ys s.booked → outbox_lists.AreRowsOf zs (as_outbox s) → AreRowsOf (((xs ++ ys) ++ other_rows s) ++ zs) s
+    all_rows a b c = subst (λ l. AreRowsOf (l ++ zs) s) regrouped (record { exact = λ r. (λ h. stands r ((all.exact r).0 h), λ h. (all.exact r).1 (of_part r h)); apart = all.apart })
       where
         two : AreExactly 2 OfBooks (xs ++ ys)
         two = and_part 1 (commands.HasRow s.commands) (booked.HasRow s.booked) xs ys (of_commands xs a) (of_booked ys b) booked_part
 
-        three : AreExactly 3 WithPushed of_books
-        three = and_part 2 OfBooks (outbox.HasRow (as_outbox s)) (xs ++ ys) zs two (of_pushed zs c) pushed_part
+        three : AreExactly 3 WithSerial with_serial
+        three = and_part 2 OfBooks (IsSerial s.serial) (xs ++ ys) (serial_rows s.serial) two (of_serial s.serial) serial_part
 
-        four : AreExactly 4 WithSerial with_serial
-        four = and_part 3 WithPushed (IsSerial s.serial) of_books (serial_rows s.serial) three (of_serial s.serial) serial_part
+        four : AreExactly 4 WithSpent with_spent
+        four = and_part 3 WithSerial (IsSpentRow s) with_serial (map spent_row (entries s.spent)) three of_spent spent_part
 
-        five : AreExactly 5 WithSpent with_spent
-        five = and_part 4 WithSerial (IsSpentRow s) with_serial (map spent_row (entries s.spent)) four of_spent spent_part
+        five : AreExactly 5 WithService with_service
+        five = and_part 4 WithSpent (IsServiceRow s) with_spent (map service_row (entries s.out_of_service)) four of_service service_part
 
-        all : AreExactly 6 OfAny (with_spent ++ map service_row (entries s.out_of_service))
-        all = and_part 5 WithSpent (IsServiceRow s) with_spent (map service_row (entries s.out_of_service)) five of_service service_part
+        all : AreExactly 6 OfAny (with_service ++ zs)
+        all = and_part 5 WithService (outbox.HasRow (as_outbox s)) with_service zs five (of_pushed zs c) pushed_part
 
-        regrouped : with_spent ++ map service_row (entries s.out_of_service) ≡ ((xs ++ ys) ++ zs) ++ other_rows s
+        regrouped : with_service ≡ (xs ++ ys) ++ other_rows s
         regrouped = simp append_assoc

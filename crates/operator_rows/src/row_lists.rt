@@ -68,9 +68,9 @@ impl Books {
         let mut rows = self.commands.rows(alloc)?;
         let mut booked = self.booked.rows(alloc)?;
         rows.append(&mut booked)?;
+        self.push_others(&mut rows)?;
         let mut pushed = self.outbox.rows(alloc)?;
         rows.append(&mut pushed)?;
-        self.push_others(&mut rows)?;
         Ok(rows)
     }
 }

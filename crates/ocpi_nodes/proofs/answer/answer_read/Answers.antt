@@ -1,5 +1,5 @@
 use Rattle.std.proofs.Common.{◌++◌, ◌∙◌, Some, refl, ap, string_bytes}
-use Rattle.operator_core.specs.FaultText.{fault_text}
+use Rattle.node_steps.specs.FaultText.{fault_text}
 use Rattle.operator_core.specs.Requests.{out_of}
 use Rattle.ocpi_nodes.specs.Answer.{Answered, Unanswered, packet_lines, refusal_line}
 use Rattle.ocpi_nodes.proofs.answer.answer_read.Goals as goal

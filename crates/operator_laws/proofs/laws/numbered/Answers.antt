@@ -1,5 +1,5 @@
-use Rattle.operator_laws.proofs.Runs as runs
+use Rattle.operator_laws.proofs.nodes.NodeLaws as topic
 use Rattle.operator_laws.proofs.laws.numbered.Goals as goal
 
 pub returns : goal.returns
-returns c = runs.numbered
+returns c = topic.numbered

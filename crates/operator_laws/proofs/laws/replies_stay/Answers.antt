@@ -1,5 +1,5 @@
-use Rattle.operator_laws.proofs.Runs as runs
+use Rattle.operator_laws.proofs.standing.AtAllTimes as topic
 use Rattle.operator_laws.proofs.laws.replies_stay.Goals as goal
 
 pub returns : goal.returns
-returns c = runs.replies_stay_law
+returns c = topic.replies_stay

@@ -1,5 +1,5 @@
-use Rattle.operator_laws.proofs.Making as runs
+use Rattle.operator_laws.proofs.reservations.Making as topic
 use Rattle.operator_laws.proofs.laws.reservations_are_made.Goals as goal
 
 pub returns : goal.returns
-returns c = runs.reservations_are_made
+returns c = topic.reservations_are_made

@@ -1,5 +1,5 @@
-use Rattle.operator_laws.proofs.Runs as runs
+use Rattle.operator_laws.proofs.reservations.Marks as topic
 use Rattle.operator_laws.proofs.laws.reservations_are_newer.Goals as goal
 
 pub returns : goal.returns
-returns c = runs.reservations_are_newer
+returns c = topic.reservations_are_newer

@@ -1,5 +1,5 @@
-use Rattle.operator_laws.proofs.NodeLaws as runs
+use Rattle.operator_laws.proofs.nodes.NodeLaws as topic
 use Rattle.operator_laws.proofs.laws.runs_are_node_runs.Goals as goal
 
 pub returns : goal.returns
-returns c = runs.runs_are_node_runs
+returns c = topic.runs_are_node_runs

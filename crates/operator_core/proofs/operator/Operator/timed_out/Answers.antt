@@ -1,12 +1,12 @@
 use Rattle.std.proofs.Common.{◌≡◌, ◌++◌, ◌∷◌, [], sym}
 use Rattle.command_book.specs.Due.{AreDue}
-use Rattle.operator_core.proofs.TimingOut.{one_more_request, one_more_timeout, due_of_provider}
+use Rattle.operator_steps.proofs.TimingOut.{one_more_request, one_more_timeout, due_have_providers}
 use Rattle.operator_core.proofs.operator.Operator.timed_out.Goals as goal
 use Rattle.operator_core.proofs.operator.Operator.timed_out.Goals.{in-Some+in_ok-push, in_default}
 
 pub loop-provider-preserved : goal.loop-provider-preserved
 loop-provider-preserved c =
-    let s = c.args.self.now in
+    let s = c.args.self.now.state in
     let at = c.loop-provider in
     let request = c.loop-provider-item.result in
     elim c.match-ending.branch [
@@ -20,6 +20,6 @@ loop-provider-preserved c =
           })
       | in_default w ↦
           let due : AreDue s.rows.commands.pending c.args.at c.as_slice-provider-items.result.now = rw (c.as_slice-provider-items.ensures.value, ← c.self.view_is, ← c.commands.ensures) c.in_ok-due.ensures.list in
-          absurd (due_of_provider s c.consistency.ensures c.args.at c.as_slice-provider-items.result.now due request.0 request.1
-          (at.provider-index, c.loop-provider-test.true, sym c.loop-provider-item.is) w.in_default.ensures.none)
+          let peer = due_have_providers s c.args.at c.as_slice-provider-items.result.now c.consistency.ensures due request.0 request.1 (at.provider-index, c.loop-provider-test.true, sym c.loop-provider-item.is) in
+          absurd (w.in_default.ensures.none peer.0 peer.1 peer.2)
     ]

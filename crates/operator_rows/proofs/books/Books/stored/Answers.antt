@@ -9,5 +9,5 @@ pub returns : goal.returns
 returns c =
     let i = c.self.inside in
     let pushed = subst (λ r. outbox_lists.AreRowsOf c.in_ok-pushed.pushed.items r) (all_of_outbox i.outbox.rows c.self.invariant.none_sent) c.in_ok-pushed.ensures in
-    rw (c.in_ok-push_others.ensures, c.in_ok-append-2.ensures.items, c.in_ok-append.ensures.items, ← c.self.view_is)
-    (all_rows (the_view i).state.rows c.in_ok-rows.rows.items c.in_ok-booked.booked.items c.in_ok-pushed.pushed.items c.in_ok-rows.ensures.list c.in_ok-booked.ensures pushed)
+    rw (c.in_ok-append-2.ensures.items, c.in_ok-push_others.ensures, c.in_ok-append.ensures.items, ← c.self.view_is)
+    (all_rows (the_view i).state.rows c.in_ok-rows.rows.items c.in_ok-booked.booked.items c.in_ok-pushed.pushed.items c.in_ok-rows.ensures.list c.in_ok-booked.ensures.list pushed)

@@ -1,7 +1,0 @@
-pub mod events
-pub mod nodes
-pub mod references
-pub mod replies
-pub mod reservations
-pub mod results
-pub mod standing

@@ -1,5 +1,0 @@
-use Rattle.operator_by_acts_laws.proofs.standing.AtAllTimes as topic
-use Rattle.operator_by_acts_laws.proofs.laws.always_consistent.Goals as goal
-
-pub returns : goal.returns
-returns c = topic.always_consistent

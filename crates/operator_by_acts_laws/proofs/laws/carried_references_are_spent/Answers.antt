@@ -1,5 +1,0 @@
-use Rattle.operator_by_acts_laws.proofs.standing.AtAllTimes as topic
-use Rattle.operator_by_acts_laws.proofs.laws.carried_references_are_spent.Goals as goal
-
-pub returns : goal.returns
-returns c = topic.carried_references_are_spent

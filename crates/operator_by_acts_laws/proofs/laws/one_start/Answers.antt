@@ -1,5 +1,0 @@
-use Rattle.operator_by_acts_laws.proofs.references.OneStart as topic
-use Rattle.operator_by_acts_laws.proofs.laws.one_start.Goals as goal
-
-pub returns : goal.returns
-returns c = topic.one_start

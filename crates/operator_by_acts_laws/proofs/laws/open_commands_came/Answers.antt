@@ -1,5 +1,0 @@
-use Rattle.operator_by_acts_laws.proofs.reservations.Making as topic
-use Rattle.operator_by_acts_laws.proofs.laws.open_commands_came.Goals as goal
-
-pub returns : goal.returns
-returns c = topic.open_commands_came

@@ -1,5 +1,0 @@
-use Rattle.operator_by_acts_laws.proofs.nodes.NodeLaws as topic
-use Rattle.operator_by_acts_laws.proofs.laws.requests_agree.Goals as goal
-
-pub returns : goal.returns
-returns c = topic.requests_agree

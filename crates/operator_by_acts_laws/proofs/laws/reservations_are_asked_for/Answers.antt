@@ -1,5 +1,0 @@
-use Rattle.operator_by_acts_laws.proofs.reservations.Making as topic
-use Rattle.operator_by_acts_laws.proofs.laws.reservations_are_asked_for.Goals as goal
-
-pub returns : goal.returns
-returns c = topic.reservations_are_asked_for

@@ -1,5 +1,0 @@
-use Rattle.operator_by_acts_laws.proofs.reservations.Marks as topic
-use Rattle.operator_by_acts_laws.proofs.laws.reservations_are_marked.Goals as goal
-
-pub returns : goal.returns
-returns c = topic.reservations_are_marked

@@ -1,5 +1,0 @@
-use Rattle.operator_by_acts_laws.proofs.results.Posting as topic
-use Rattle.operator_by_acts_laws.proofs.laws.results_are_posted.Goals as goal
-
-pub returns : goal.returns
-returns c = topic.results_are_posted

@@ -1,5 +1,0 @@
-use Rattle.operator_by_acts_laws.proofs.nodes.NodeLaws as topic
-use Rattle.operator_by_acts_laws.proofs.laws.runs_are_node_runs.Goals as goal
-
-pub returns : goal.returns
-returns c = topic.runs_are_node_runs

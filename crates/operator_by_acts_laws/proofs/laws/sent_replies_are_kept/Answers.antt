@@ -1,5 +1,0 @@
-use Rattle.operator_by_acts_laws.proofs.nodes.NodeLaws as topic
-use Rattle.operator_by_acts_laws.proofs.laws.sent_replies_are_kept.Goals as goal
-
-pub returns : goal.returns
-returns c = topic.sent_replies_are_kept

@@ -1,5 +1,0 @@
-use Rattle.operator_by_acts_laws.proofs.results.Posting as topic
-use Rattle.operator_by_acts_laws.proofs.laws.sent_results_are_kept.Goals as goal
-
-pub returns : goal.returns
-returns c = topic.sent_results_are_kept

@@ -1,5 +1,0 @@
-use Rattle.operator_by_acts_laws.proofs.nodes.NodeSteps as topic
-use Rattle.operator_by_acts_laws.proofs.laws.steps_are_node_steps.Goals as goal
-
-pub returns : goal.returns
-returns c = topic.steps_are_node_steps

@@ -1,0 +1,57 @@
+-- What becomes of a packet, once it is known who sent it.
+use Rattle.std.proofs.Common.{◌≡◌, ℕ, List, [], ◌∷◌, sym, subst, ◌∙◌}
+use Rattle.std.specs.Prelude.{Some, None, Result, Ok, Err, IfErr}
+use Rattle.std.specs.FinMap.{get}
+use Rattle.ocpi_text.specs.Text.{key}
+use Rattle.ocpi_types.specs.Stored.{body_of_command}
+use Rattle.ocpi_types.specs.declared.packet.Packet.{Packet}
+use Rattle.ocpi_types.specs.declared.packet.Body.TheVariants as body
+use Rattle.ocpi_types.specs.declared.replies.Ack.{Ack}
+use Rattle.ocpi_types.specs.declared.stored.Command.{Command}
+use Rattle.ocpi_types.specs.declared.stored.Reply.{Reply}
+use Rattle.node_steps.specs.Acts.{Act, acknowledged, repeated}
+use Rattle.node_steps.specs.Drafts.{StopsBy, counted}
+use Rattle.node_steps.specs.declared.fault.NodeFault.{NodeFault}
+use Rattle.node_steps.specs.declared.fault.NodeFault.TheVariants.{NotForMe, NumbersUsedUp, Memory}
+use Rattle.operator_rows.specs.State.{State}
+use Rattle.operator_tables.specs.Decides.{Decides}
+use Rattle.operator_tables.specs.declared.decision.Decision.{Decision}
+use Rattle.operator_tables.specs.declared.request.Request.{Request}
+use Rattle.operator_steps.specs.Acts.{decided_acts}
+use Rattle.operator_steps.specs.Faults.{IsDue}
+use Rattle.operator_steps.specs.Moves.{counters_of}
+use Rattle.operator_steps.specs.Steps.{Acknowledged, Acknowledges, Again, Comes, Decided, Idle, PacketLine}
+use Rattle.operator_core.specs.Requests.{IsRequest}
+
+module _ (s : State) (q : Packet) (r : Request) (is : IsRequest s r.at q r) where
+  comes : (acts : List Act) → PacketLine s r.at q r.from acts → Comes s r.at q acts
+  comes acts line = record { to = is.to; provider = r.from; from = is.from; line = line }
+
+  replies_at : get s.rows.commands.replies (r.provider, r.number) ≡ get s.rows.commands.replies (key q.from, q.request)
+  replies_at i = get s.rows.commands.replies (is.provider i, is.number i)
+
+  pub again_comes : (c : Command) → q.body ≡ body_of_command c → (reply : Reply) → get s.rows.commands.replies (r.provider, r.number) ≡ Some reply →
+      Comes s r.at q (repeated r.from r.number reply ∷ [])
+  again_comes c carries reply kept =
+      subst (λ (n : ℕ). Comes s r.at q (repeated r.from n reply ∷ [])) (sym is.number) (comes _ (Again c carries reply (sym replies_at ∙ kept) (λ i. repeated r.from q.request reply ∷ [])))
+
+  pub decided_comes : (c : Command) → q.body ≡ body_of_command c → get s.rows.commands.replies (r.provider, r.number) ≡ None → (d : Decision) → Decides s.site s.rows r.at q.from r.number c d →
+      Comes s r.at q (decided_acts r.at s.rows.request r.from r.provider r.number c d)
+  decided_comes c carries none d decides =
+      let at_number : Decides s.site s.rows r.at q.from q.request c d = subst (λ (n : ℕ). Decides s.site s.rows r.at q.from n c d) is.number decides in
+      comes _ (Decided c d (record { carries = carries; new = sym replies_at ∙ none; decides = at_number }) (λ i. decided_acts r.at s.rows.request r.from (is.provider i) (is.number i) c d))
+
+  pub acknowledged_comes : (a : Ack) → q.body ≡ body.Ack a → Acknowledges s q a → Comes s r.at q (acknowledged r.number ∷ [])
+  acknowledged_comes a carries done = comes _ (Acknowledged a carries done (λ i. acknowledged (is.number i) ∷ []))
+
+  pub idle_comes : (a : Ack) → q.body ≡ body.Ack a → ¬ Acknowledges s q a → Comes s r.at q []
+  idle_comes a carries not_done = comes _ (Idle a carries not_done (λ i. []))
+
+  pub due_fault : (acts : List Act) → Comes s r.at q acts → (f : NodeFault) → StopsBy (counted (counters_of s) acts) f → IsDue s r.at q f
+  due_fault acts line NotForMe h = absurd h
+  due_fault acts line NumbersUsedUp h = record { acts = acts; line = line; past = h }
+  due_fault acts line Memory h = record { acts = acts; line = line; in_range = h }
+
+  pub due_faults : {T : Type 0} → (x : Result T NodeFault) (acts : List Act) → Comes s r.at q acts → IfErr x (StopsBy (counted (counters_of s) acts)) → IfErr x (IsDue s r.at q)
+  due_faults (Ok x) acts line h = tt
+  due_faults (Err f) acts line h = due_fault acts line f h

@@ -1,0 +1,10 @@
+use Rattle.std.proofs.Common.{◌≡◌, sym, subst, ap, ◌∙◌}
+use Rattle.operator_rows.specs.Rows.{AreChanges}
+use Rattle.operator_rows.proofs.RowChanges.{row_changes}
+use Rattle.operator_core.proofs.operator.Operator.carry_out.Goals as goal
+
+pub returns-clause-rows : goal.returns-clause-rows
+returns-clause-rows c =
+    let s = c.args.self.now.state in
+    let changes : AreChanges s.rows c.args.plan.changes.items c.apply-packets.new.self.state.rows = rw (c.apply-packets.ensures.state, c.in_ok-make_room.ensures.state) (row_changes c.args.plan.changes.items s c.requires.apart c.requires.may) in
+    rw (c.in_ok-rows.ensures, c.as_slice.ensures.value) changes

@@ -1,9 +1,0 @@
--- How a refusal is written: its number and its name.
-use Rattle.std.specs.Prelude.{ℕ, List, codes}
-use Rattle.operator_core.specs.declared.fault.OperatorFault.{OperatorFault}
-use Rattle.operator_core.specs.declared.fault.OperatorFault.TheVariants.{NotForMe, NumbersUsedUp, Memory}
-
-abbrev pub fault_text : OperatorFault → List ℕ
-fault_text NotForMe = codes "1 NotForMe"
-fault_text NumbersUsedUp = codes "2 NumbersUsedUp"
-fault_text Memory = codes "4 Memory"

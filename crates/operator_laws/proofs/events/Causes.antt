@@ -1,0 +1,117 @@
+-- Why an event changes a row, kind by kind of row. Each act of each line has such a cause for each row that it changes; a law asks
+-- for the cause of a row, and need not know which acts there are.
+use Rattle.std.specs.Prelude.{◌≡◌, ◌≢◌, ◌⊎◌, ℕ, List, Some, None, Contains, ⊤}
+use Rattle.std.specs.FinMap.{get}
+use Rattle.ocpi_text.specs.Text.{key}
+use Rattle.ocpi_types.specs.declared.commands.ReserveNow.{ReserveNow}
+use Rattle.ocpi_types.specs.declared.packet.Packet.{Packet}
+use Rattle.ocpi_types.specs.declared.rows.Row.TheVariants as row
+use Rattle.ocpi_types.specs.declared.rows.RowKey.TheVariants as keys
+use Rattle.ocpi_types.specs.declared.rows.Change.{Change}
+use Rattle.ocpi_types.specs.declared.rows.Change.TheVariants.{Put, Drop}
+use Rattle.ocpi_types.specs.declared.stored.Command.{Command}
+use Rattle.ocpi_types.specs.declared.stored.Command.TheVariants as command
+use Rattle.ocpi_types.specs.declared.stored.OpenCommand.{OpenCommand}
+use Rattle.ocpi_types.specs.declared.stored.Push.{Push}
+use Rattle.ocpi_types.specs.declared.stored.Push.TheVariants as push
+use Rattle.ocpi_types.specs.declared.stored.Reply.{Reply}
+use Rattle.ocpi_types.specs.declared.words.CommandResultType.{CommandResultType}
+use Rattle.reservation_book.specs.Refusals.{IsInTime}
+use Rattle.node_steps.specs.Acts.{Act, all_changes}
+use Rattle.node_steps.specs.Peers.{IsPeer}
+use Rattle.operator_rows.specs.State.{State}
+use Rattle.operator_rows.specs.Sound.{IsSound}
+use Rattle.operator_tables.specs.declared.decision.Decision.{Decision}
+use Rattle.operator_steps.specs.Acts.{decided_acts, reply_of, told, url_of}
+use Rattle.operator_steps.specs.Events.{Input, Arrives}
+use Rattle.operator_steps.specs.Steps.{IsDecided}
+use Rattle.operator_laws.specs.References.{Uses}
+
+-- the acts of an event are those of a decision on a command that came
+pub record DecidesIt (s : State) (i : Input) (acts : List Act) : Type 0 where
+  pub at : ℕ
+  pub packet : Packet
+  pub arrives : i ≡ Arrives at packet
+  pub to : List ℕ
+  pub from : IsPeer s.providers packet.from to
+  pub command : Command
+  pub decision : Decision
+  pub it : IsDecided s at packet command decision
+  pub acts_are : acts ≡ decided_acts at s.rows.request to (key packet.from) packet.request command decision
+
+-- a reply is kept: the decision's, to the packet that came
+pub record Answering (s : State) (i : Input) (acts : List Act) (p : List ℕ) (n : ℕ) (r : Reply) : Type 0 where
+  pub decides : DecidesIt s i acts
+  pub by : key decides.packet.from ≡ p
+  pub number : decides.packet.request ≡ n
+  pub reply_is : reply_of decides.at decides.decision ≡ r
+
+-- a command is open: the one that came. The reference of a start was not used before, and is used now
+pub record Opening (s : State) (i : Input) (acts : List Act) (p : List ℕ) (n : ℕ) (o : OpenCommand) : Type 0 where
+  pub decides : DecidesIt s i acts
+  pub by : key decides.packet.from ≡ p
+  pub number : decides.packet.request ≡ n
+  pub command_is : o.command ≡ decides.command
+  pub unspent : (reference : List ℕ) → Uses o reference → get s.rows.spent (p, reference) ≢ Some tt
+  pub spends : (reference : List ℕ) → Uses o reference → Contains (all_changes acts) (Put (row.Spent p reference))
+
+-- a mark is set: under the number of the packet that came, and above no mark before it
+pub record Marking (s : State) (i : Input) (acts : List Act) (p id : List ℕ) (n : ℕ) : Type 0 where
+  pub decides : DecidesIt s i acts
+  pub by : key decides.packet.from ≡ p
+  pub number : decides.packet.request ≡ n
+  pub timely : IsInTime s.rows.booked.marks (p, id) n
+
+-- a reservation is made: a RESERVE_NOW came, not below its mark
+pub record Reserving (s : State) (i : Input) (acts : List Act) (p id : List ℕ) : Type 0 where
+  pub decides : DecidesIt s i acts
+  pub by : key decides.packet.from ≡ p
+  pub asked : ReserveNow
+  pub command_is : decides.command ≡ command.ReserveNow asked
+  pub id_is : key asked.reservation_id ≡ id
+  pub timely : IsInTime s.rows.booked.marks (p, id) decides.packet.request
+
+-- the command of that number of a party was open, or comes now
+abbrev pub Stems : State → Input → List Act → List ℕ → ℕ → Command → Type 0
+Stems s i acts p m c = ((o : OpenCommand) × (get s.rows.commands.pending (p, m) ≡ Some o) × (o.command ≡ c)) ⊎
+    ((h : DecidesIt s i acts) × (key h.packet.from ≡ p) × (h.packet.request ≡ m) × (h.command ≡ c))
+
+-- a push tells of the result of a command of its addressee, which is kept, and goes to where that command says
+pub record Posting (s : State) (i : Input) (acts : List Act) (to : List ℕ) (p : Push) : Type 0 where
+  pub number : ℕ
+  pub command : Command
+  pub result : CommandResultType
+  pub stems : Stems s i acts (key to) number command
+  pub push_is : p ≡ push.CommandResult (told (url_of command) result)
+  pub puts : Contains (all_changes acts) (Put (row.Result (key to) number result))
+
+-- the cause of each change; no event has another
+abbrev pub Cause : State → Input → List Act → Change → Type 0
+Cause s i acts (Put (row.Count c n)) = ⊥
+Cause s i acts (Put (row.Reply p n r)) = Answering s i acts p n r
+Cause s i acts (Put (row.Token t)) = ⊥
+Cause s i acts (Put (row.Push n to p)) = Posting s i acts to p
+Cause s i acts (Put (row.Service evse)) = ⊤
+Cause s i acts (Put (row.Spent p reference)) = get s.rows.spent (p, reference) ≢ Some tt
+Cause s i acts (Put (row.Mark p id n)) = Marking s i acts p id n
+Cause s i acts (Put (row.Reservation p id r)) = Reserving s i acts p id
+Cause s i acts (Put (row.Pending p n o)) = Opening s i acts p n o
+-- a command has one result
+Cause s i acts (Put (row.Result p n x)) = IsSound s → get s.rows.commands.results (p, n) ≡ None
+Cause s i acts (Put (row.Session x)) = ⊥
+Cause s i acts (Put (row.Cdr x)) = ⊥
+Cause s i acts (Put (row.Command n x)) = ⊥
+Cause s i acts (Drop (keys.Count c)) = ⊥
+Cause s i acts (Drop (keys.Reply p n)) = ⊥
+Cause s i acts (Drop (keys.Token party token_type uid)) = ⊥
+Cause s i acts (Drop (keys.Push n)) = ⊤
+Cause s i acts (Drop (keys.Service evse)) = ⊤
+Cause s i acts (Drop (keys.Spent p reference)) = ⊥
+Cause s i acts (Drop (keys.Mark p id)) = ⊥
+Cause s i acts (Drop (keys.Reservation p id)) = ⊤
+-- a command that is open no more has its result
+Cause s i acts (Drop (keys.Pending p n)) = (x : CommandResultType) × Contains (all_changes acts) (Put (row.Result p n x))
+Cause s i acts (Drop (keys.Result p n)) = ⊥
+Cause s i acts (Drop (keys.Session p id)) = ⊥
+Cause s i acts (Drop (keys.Cdr p id)) = ⊥
+Cause s i acts (Drop (keys.Command n)) = ⊥

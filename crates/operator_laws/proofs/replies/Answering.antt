@@ -1,0 +1,103 @@
+-- An event that answers a request decides it: its packet, its command and its reply are those of the decision.
+use Rattle.std.proofs.Common.{◌≡◌, ◌⊎◌, ℕ, List, inl, inr, sym, ap, subst, ◌∙◌}
+use Rattle.std.specs.Prelude.{Option, Some, None, Contains}
+use Rattle.std.specs.FinMap.{get, get-empty}
+use Rattle.tables.specs.Keys.{text_number_cmp}
+use Rattle.tables.proofs.Elements.{in_front}
+use Rattle.tables.proofs.Options.{not_both}
+use Rattle.ocpi_text.specs.Text.{key}
+use Rattle.ocpi_types.specs.Stored.{body_of_command}
+use Rattle.ocpi_types.specs.declared.packet.Packet.{Packet}
+use Rattle.ocpi_types.specs.declared.rows.Row.TheVariants as row
+use Rattle.ocpi_types.specs.declared.rows.Change.TheVariants.{Put}
+use Rattle.ocpi_types.specs.declared.stored.Command.{Command}
+use Rattle.ocpi_types.specs.declared.stored.Reply.{Reply}
+use Rattle.ocpi_types.specs.declared.stored.Reply.TheVariants as reply
+use Rattle.ocpi_types.specs.declared.replies.CommandResponse.TheVariants as response
+use Rattle.ocpi_types.specs.declared.words.CommandResponseType.{CommandResponseType}
+use Rattle.node_steps.specs.Acts.{Act, all_changes}
+use Rattle.node_laws.proofs.Runs.{made_runs}
+use Rattle.operator_rows.specs.State.{State, opening}
+use Rattle.operator_tables.proofs.Bodies.{same_command}
+use Rattle.operator_tables.proofs.Lines.{all_tell}
+use Rattle.operator_tables.specs.Outcomes.{Tells}
+use Rattle.operator_steps.specs.Acts.{refusal, reply_of, responded}
+use Rattle.operator_steps.specs.Events.{Arrives, Event, Happens, Input}
+use Rattle.operator_laws.specs.Laws.{RepliesAnswer}
+use Rattle.operator_laws.specs.Replied.{AnswersIt}
+use Rattle.operator_laws.proofs.events.Causes.{Answering, DecidesIt}
+use Rattle.operator_laws.proofs.events.Doing.{Does, does, put_stands, stood_or_put}
+
+-- a decision puts its reply
+pub answer_put : (s : State) (i : Input) (acts : List Act) (h : DecidesIt s i acts) → Contains (all_changes acts) (Put (row.Reply (key h.packet.from) h.packet.request (reply_of h.at h.decision)))
+answer_put s i acts h = subst (λ l. Contains (all_changes l) (Put (row.Reply (key h.packet.from) h.packet.request (reply_of h.at h.decision)))) (sym h.acts_are) (in_front _ _)
+
+-- what a decision tells of its command
+pub told_of : (s : State) (i : Input) (acts : List Act) (h : DecidesIt s i acts) → Tells s h.at h.packet.from h.packet.request h.command h.decision
+told_of s i acts h = all_tell s h.at h.packet.from h.packet.request h.command h.decision h.it.decides
+
+module _ (s t : State) (e : Event) (d : Does s e t) where
+  -- the reply of a decision is kept from now on
+  pub replied_now : (h : DecidesIt s e.input d.acts) → get t.rows.commands.replies (key h.packet.from, h.packet.request) ≡ Some (reply_of h.at h.decision)
+  replied_now h = put_stands s t e d (row.Reply (key h.packet.from) h.packet.request (reply_of h.at h.decision)) tt (inl h) (answer_put s e.input d.acts h)
+
+  -- a decision answers its packet
+  pub answers_now : (h : DecidesIt s e.input d.acts) → AnswersIt s e t h.packet (reply_of h.at h.decision)
+  answers_now h = record { at = h.at; comes = h.arrives; new = h.it.new; kept = replied_now h }
+
+  -- a reply that is kept was kept before, or answers the packet that came
+  pub kept_or_answered : (p : List ℕ) (n : ℕ) (r : Reply) → get t.rows.commands.replies (p, n) ≡ Some r → (get s.rows.commands.replies (p, n) ≡ Some r) ⊎ Answering s e.input d.acts p n r
+  kept_or_answered p n r has = elim (stood_or_put s t e d (row.Reply p n r) tt has) [ inl put ↦ inr (d.caused (Put (row.Reply p n r)) put) | inr old ↦ inl old ]
+
+  -- an answer was decided
+  pub record WasDecided (q : Packet) (r : Reply) : Type 0 where
+    pub it : DecidesIt s e.input d.acts
+    pub packet_is : it.packet ≡ q
+    pub reply_is : reply_of it.at it.decision ≡ r
+
+  pub was_decided : (q : Packet) (r : Reply) → AnswersIt s e t q r → WasDecided q r
+  was_decided q r a = elim (kept_or_answered (key q.from) q.request r a.kept) [
+    | inl old ↦ absurd (not_both r _ a.new old)
+    | inr h ↦ record { it = h.decides; packet_is = (let both : Arrives h.decides.at h.decides.packet ≡ Arrives a.at q = sym h.decides.arrives ∙ a.comes in cc); reply_is = h.reply_is }
+  ]
+
+  -- the command of the decision is the one that the packet carries
+  pub command_is : (q : Packet) (r : Reply) (w : WasDecided q r) (c : Command) → q.body ≡ body_of_command c → w.it.command ≡ c
+  command_is q r w c is = same_command w.it.command c (sym w.it.it.carries ∙ ap (λ (z : Packet). z.body) w.packet_is ∙ is)
+
+-- the event brings the command of that party and number
+record Brings (e : Event) (p : List ℕ) (n : ℕ) : Type 0 where
+  at : ℕ
+  packet : Packet
+  arrives : e.input ≡ Arrives at packet
+  by : key packet.from ≡ p
+  number : packet.request ≡ n
+  command : Command
+  carries : packet.body ≡ body_of_command command
+
+brought : (p : List ℕ) (n : ℕ) (r : Reply) (s t : State) (e : Event) → Happens s e t → get t.rows.commands.replies (p, n) ≡ Some r → (get s.rows.commands.replies (p, n) ≡ Some r) ⊎ Brings e p n
+brought p n r s t e happens has = elim (kept_or_answered s t e (does s t e happens) p n r has) [
+  | inl old ↦ inl old
+  | inr h ↦ inr (record { at = h.decides.at; packet = h.decides.packet; arrives = h.decides.arrives; by = h.by; number = h.number; command = h.decides.command; carries = h.decides.it.carries })
+]
+
+pub replies_answer : RepliesAnswer
+replies_answer line es t run p n r has = elim (made_runs Happens (λ z. get z.rows.commands.replies (p, n) ≡ Some r) (λ e. Brings e p n) (brought p n r) (opening line) t es run has) [
+  | inl old ↦ absurd (not_both r _ (get-empty text_number_cmp (p, n)) old)
+  | inr (e, i, b) ↦ (b.packet, (e, i, (b.at, b.arrives)), b.by, b.number, (b.command, b.carries))
+]
+
+-- the word of a response of status 1000
+abbrev word_of : Reply → Option CommandResponseType
+word_of (reply.CommandResponse (response.Done at x)) = Some x.result
+word_of (reply.CommandResponse (response.Refused at x)) = None
+word_of (reply.Authorization x) = None
+word_of (reply.Ack x) = None
+
+-- two such responses that are equal have one word
+pub same_word : (at when : ℕ) (v w : CommandResponseType) → responded at v ≡ responded when w → v ≡ w
+same_word at when v w e = let both : Some v ≡ Some w = ap word_of e in cc
+
+-- a response without data is none of them
+pub no_word : (at status when : ℕ) (w : CommandResponseType) → refusal at status ≡ responded when w → ⊥
+no_word at status when w e = let both : None ≡ Some w = ap word_of e in cc

@@ -1,7 +1,0 @@
-pub mod Apart
-pub mod Indexing
-pub mod Finding
-pub mod Filling
-pub mod Marking
-pub mod Remarking
-pub mod Trees

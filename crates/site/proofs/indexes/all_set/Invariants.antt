@@ -1,5 +1,0 @@
-use Rattle.site.specs.Indexes.{AreAllSet}
-use Rattle.site.proofs.indexes.all_set.Given as goal
-
-abbrev pub invariant-loop-location : goal.invariant-loop-location
-invariant-loop-location l = AreAllSet l.locations l.location-index l.flags.items

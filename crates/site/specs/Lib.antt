@@ -1,5 +1,0 @@
-pub mod FaultText
-pub mod Flags
-pub mod Indexes
-pub mod Places
-pub mod Positions
