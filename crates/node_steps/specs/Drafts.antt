@@ -10,7 +10,7 @@ use Rattle.ocpi_types.specs.declared.rows.Row.TheVariants as row
 use Rattle.node_steps.specs.Messages.{numbered}
 use Rattle.node_steps.specs.Acts.{Act, all_changes, all_messages, all_volatile, all_requests}
 use Rattle.node_steps.specs.declared.fault.NodeFault.{NodeFault}
-use Rattle.node_steps.specs.declared.fault.NodeFault.TheVariants.{NotForMe, NumbersUsedUp, Memory}
+use Rattle.node_steps.specs.declared.fault.NodeFault.TheVariants.{NotForMe, UnknownOperator, UnknownToken, StampEnd, NumbersUsedUp, Memory}
 use Rattle.node_steps.specs.declared.plan.Volatile.{Volatile}
 use Rattle.node_steps.specs.declared.plan.Plan.{Plan}
 
@@ -37,6 +37,9 @@ later c packets requests = record { serial = c.serial + packets; request = c.req
 -- why a step that takes the counters to these is refused: one would pass its last number, or else memory ran out
 abbrev pub StopsBy : Counters → NodeFault → Type 0
 StopsBy c NotForMe = ⊥
+StopsBy c UnknownOperator = ⊥
+StopsBy c UnknownToken = ⊥
+StopsBy c StampEnd = ⊥
 StopsBy c NumbersUsedUp = ¬ IsInRange c
 StopsBy c Memory = IsInRange c
 

@@ -3,3 +3,5 @@ pub mod FaultText
 pub mod Messages
 pub mod Acts
 pub mod Drafts
+pub mod Changes
+pub mod Timing

@@ -9,11 +9,18 @@ use std::fmt;
 /// Why a node refused an event: the first of these that applies, in this order.
 #[derive(Clone, Copy, Debug, PartialEq, Eq)]
 pub enum NodeFault {
-    /// The packet is to another party, from a party that is no peer of the node, or of a kind that the node does not take.
+    /// The packet is to another party, from a party that is no peer of the node, or of a kind that the node does not take; or
+    /// the token is another party's.
     NotForMe,
+    /// An order to a party that is no operator of the provider.
+    UnknownOperator,
+    /// An order with a token that the provider does not hold.
+    UnknownToken,
+    /// A version whose predecessor is of the last moment: none can be later.
+    StampEnd,
     /// A counter has given its last number.
     NumbersUsedUp,
-    /// Memory ran out, for an event that has neither of these faults.
+    /// Memory ran out, for an event that has none of these faults.
     Memory,
 }
 
@@ -25,6 +32,9 @@ impl fmt::Display for NodeFault {
     fn fmt<W: fmt::Write>(&self, f: &mut fmt::Formatter<W>) -> fmt::Result {
         match self {
             NodeFault::NotForMe => f.write_str("1 NotForMe"),
+            NodeFault::UnknownOperator => f.write_str("5 UnknownOperator"),
+            NodeFault::UnknownToken => f.write_str("6 UnknownToken"),
+            NodeFault::StampEnd => f.write_str("3 StampEnd"),
             NodeFault::NumbersUsedUp => f.write_str("2 NumbersUsedUp"),
             NodeFault::Memory => f.write_str("4 Memory"),
         }

@@ -12,7 +12,7 @@ use Rattle.ocpi_types.specs.declared.stored.Reply.{Reply}
 use Rattle.node_steps.specs.Acts.{Act, acknowledged, repeated}
 use Rattle.node_steps.specs.Drafts.{StopsBy, counted}
 use Rattle.node_steps.specs.declared.fault.NodeFault.{NodeFault}
-use Rattle.node_steps.specs.declared.fault.NodeFault.TheVariants.{NotForMe, NumbersUsedUp, Memory}
+use Rattle.node_steps.specs.declared.fault.NodeFault.TheVariants.{NotForMe, UnknownOperator, UnknownToken, StampEnd, NumbersUsedUp, Memory}
 use Rattle.operator_rows.specs.State.{State}
 use Rattle.operator_tables.specs.Decides.{Decides}
 use Rattle.operator_tables.specs.declared.decision.Decision.{Decision}
@@ -49,6 +49,9 @@ module _ (s : State) (q : Packet) (r : Request) (is : IsRequest s r.at q r) wher
 
   pub due_fault : (acts : List Act) → Comes s r.at q acts → (f : NodeFault) → StopsBy (counted (counters_of s) acts) f → IsDue s r.at q f
   due_fault acts line NotForMe h = absurd h
+  due_fault acts line UnknownOperator h = h
+  due_fault acts line UnknownToken h = h
+  due_fault acts line StampEnd h = h
   due_fault acts line NumbersUsedUp h = record { acts = acts; line = line; past = h }
   due_fault acts line Memory h = record { acts = acts; line = line; in_range = h }
 

@@ -5,7 +5,7 @@ use Rattle.ocpi_types.specs.declared.rows.Change.{Change}
 use Rattle.node_steps.specs.Acts.{Act, changed}
 use Rattle.node_steps.specs.Drafts.{IsInRange, Step, StopsBy, counted}
 use Rattle.node_steps.specs.declared.fault.NodeFault.{NodeFault}
-use Rattle.node_steps.specs.declared.fault.NodeFault.TheVariants.{NotForMe, NumbersUsedUp, Memory}
+use Rattle.node_steps.specs.declared.fault.NodeFault.TheVariants.{NotForMe, UnknownOperator, UnknownToken, StampEnd, NumbersUsedUp, Memory}
 use Rattle.node_steps.proofs.Gathering.{step_of_none, step_of_change}
 use Rattle.operator_rows.specs.State.{State}
 use Rattle.operator_steps.specs.Faults.{IsOwnFault, MayStep, PassesLast}
@@ -32,6 +32,9 @@ module _ (Line : List Act → Type 0) (s : State) where
   -- why acts that the line asks for are refused
   pub own_fault : (acts : List Act) → Line acts → (f : NodeFault) → StopsBy (counted (counters_of s) acts) f → IsOwnFault Line s f
   own_fault acts line NotForMe h = h
+  own_fault acts line UnknownOperator h = h
+  own_fault acts line UnknownToken h = h
+  own_fault acts line StampEnd h = h
   own_fault acts line NumbersUsedUp h = record { acts = acts; line = line; past = h }
   own_fault acts line Memory h = tt
 

@@ -1,35 +1,18 @@
 -- What a step leaves: its changes of rows are carried out, and what stands in no row follows.
 use Rattle.std.specs.Prelude.{◌≡◌, ◌≢◌, ◌⊎◌, ℕ, List, [], ◌∷◌, None, Contains, IsTrue}
 use Rattle.std.specs.List.{AllPairs}
-use Rattle.std.specs.FinMap.{get, insert, empty, contains_key}
+use Rattle.std.specs.FinMap.{get, empty, contains_key}
 use Rattle.ocpi_types.specs.declared.rows.Change.{Change}
 use Rattle.ocpi_types.specs.declared.rows.Change.TheVariants.{Drop}
 use Rattle.ocpi_types.specs.declared.rows.RowKey.TheVariants as keys
-use Rattle.outbox.specs.Outbox.{request_of, without}
 use Rattle.outbox.specs.Pushes.{Pushes}
-use Rattle.outbox.specs.Resend.{Resend, SendRooms, HasRoomUntil, HasRoomToSend, due_again, moved_to}
+use Rattle.outbox.specs.Resend.{Resend, SendRooms, HasRoomUntil}
 use Rattle.node_steps.specs.Drafts.{Step}
 use Rattle.node_steps.specs.declared.plan.Volatile.{Volatile}
-use Rattle.node_steps.specs.declared.plan.Volatile.TheVariants.{Sent}
+pub use Rattle.node_steps.specs.Timing.{HasTimeRoom, HaveTimeRoom, number_of, time_taken, timed, timed_all, untimed, untimed_all}
 use Rattle.operator_rows.specs.State.{State}
 use Rattle.operator_rows.specs.Stored.{AreApart, Each, HasRoom, Rooms, changed, changed_all, change_key}
 use Rattle.operator_rows.specs.Sound.{MayChangeAll}
-
--- a push that is put or dropped has no resend time
-abbrev pub untimed : Change → Resend → Resend
-untimed c m = without (request_of (change_key c)) m
-
-abbrev pub untimed_all : List Change → Resend → Resend
-untimed_all [] m = m
-untimed_all (c ∷ cs) m = untimed_all cs (untimed c m)
-
--- a request that is sent at a moment is due again ten seconds later
-abbrev pub timed : Volatile → Resend → Resend
-timed (Sent n at) m = insert m n (due_again at)
-
-abbrev pub timed_all : List Volatile → Resend → Resend
-timed_all [] m = m
-timed_all (v ∷ vs) m = timed_all vs (timed v m)
 
 -- the state once a change is carried out
 abbrev pub after_change : Change → State → State
@@ -46,9 +29,6 @@ after x s = record s { rows = changed_all x.changes s.rows; resend = timed_all x
 -- the operator starts again from what it stored: each push is due at once
 abbrev pub restarted : State → State
 restarted s = record s { resend = empty }
-
-abbrev pub number_of : Volatile → ℕ
-number_of (Sent n at) = n
 
 -- a push that has no resend time, or that no change is of
 abbrev pub KeepsTime : Resend → List Change → ℕ → Type 0
@@ -81,16 +61,6 @@ pub record Node : Type 0 where
   pub state : State
   pub rooms : Rooms
   pub sending : SendRooms
-
-abbrev pub HasTimeRoom : SendRooms → Volatile → Type 0
-HasTimeRoom rooms (Sent n at) = HasRoomToSend rooms n at
-
--- the room by the old resend time of a request is given back, and that by the new one stays
-abbrev pub time_taken : Volatile → Resend → SendRooms → SendRooms
-time_taken (Sent n at) resend rooms = moved_to (due_again at) (get resend n) n rooms
-
-abbrev pub HaveTimeRoom : SendRooms → List Volatile → Type 0
-HaveTimeRoom rooms sent = (v : Volatile) → Contains sent v → HasTimeRoom rooms v
 
 -- each request that is sent is a push that stands, and no two are the same
 pub record AreSendable (pushes : Pushes) (sent : List Volatile) : Type 0 where

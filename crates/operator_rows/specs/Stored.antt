@@ -1,5 +1,5 @@
 -- What changes of rows make of what an operator stores, and the room that they need.
-use Rattle.std.specs.Prelude.{◌≡◌, ◌≢◌, ℕ, List, [], ◌∷◌, Some, slice_get, IsTrue, ⊤}
+use Rattle.std.specs.Prelude.{◌≡◌, ◌≢◌, ℕ, List, [], ◌∷◌, IsTrue, ⊤}
 use Rattle.std.specs.FinMap.{FinMap, insert, remove, contains_key}
 use Rattle.tables.specs.Keys.{text_pair_cmp}
 use Rattle.ocpi_types.specs.Rows.{key_of}
@@ -16,6 +16,7 @@ use Rattle.command_book.specs.Room as command_room
 use Rattle.reservation_book.specs.Rows as booked
 use Rattle.outbox.specs.Outbox as outbox
 use Rattle.outbox.specs.Outbox.{OutboxRooms}
+pub use Rattle.node_steps.specs.Changes.{AreApart, Each, change_key}
 use Rattle.operator_rows.specs.State.{Rows}
 
 -- the counter gave that number last; an operator has no others yet
@@ -67,10 +68,6 @@ abbrev pub changed_all : List Change → Rows → Rows
 changed_all [] s = s
 changed_all (c ∷ cs) s = changed_all cs (changed c s)
 
-abbrev pub change_key : Change → RowKey
-change_key (Put r) = key_of r
-change_key (Drop k) = k
-
 -- the keys that have a row, or room for one; EVSEs have room for their service from the start
 pub record Rooms : Type 0 where
   pub commands : command_room.Rooms
@@ -99,10 +96,6 @@ abbrev pub HasRoom : Rooms → Change → Type 0
 HasRoom s (Put r) = HasRoomOf s r
 HasRoom s (Drop k) = ⊤
 
--- each change of a list passes
-abbrev pub Each : (Change → Type 0) → List Change → Type 0
-Each P cs = (k : ℕ) (c : Change) → slice_get cs k ≡ Some c → P c
-
 -- what has room keeps it
 abbrev pub KeepsRoom : Rooms → Rooms → Type 0
 KeepsRoom s t = (c : Change) → HasRoom s c → HasRoom t c
@@ -110,8 +103,3 @@ KeepsRoom s t = (c : Change) → HasRoom s c → HasRoom t c
 -- what has room and another key keeps it
 abbrev pub KeepsOtherRoom : RowKey → Rooms → Rooms → Type 0
 KeepsOtherRoom k s t = (c : Change) → change_key c ≢ k → HasRoom s c → HasRoom t c
-
--- no two changes are of one row
-abbrev pub AreApart : List Change → Type 0
-AreApart [] = ⊤
-AreApart (c ∷ cs) = Each (λ d. change_key d ≢ change_key c) cs × AreApart cs
