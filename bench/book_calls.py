@@ -65,6 +65,7 @@ def fill_inbox(entries):
 
 
 def fill_outbox(entries):
+    yield row("outbox row", "count", "request", {"last": entries})
     for n in range(entries):
         yield row("outbox row", "push", str(n), push("BE/BEC", "put_token", token(uid=f"T{n}")))
 
@@ -126,8 +127,8 @@ BOOKS = {
     "reservation_book": (fill_reservations, reservation_calls),
     "token_desk": (fill_tokens, token_calls),
     "command_book": (fill_commands, command_calls),
-    "handover, inbox": (fill_inbox, inbox_calls),
-    "handover, outbox": (fill_outbox, outbox_calls),
+    "handover": (fill_inbox, inbox_calls),
+    "outbox": (fill_outbox, outbox_calls),
 }
 
 

@@ -154,13 +154,13 @@ def add_reservation_rows():
 
 
 def has_rows(book, *listed):
-    """The book has these rows, and so has its copy, and a new book to which they are added."""
+    """The book has these rows, and so has its copy, and a new book to which they are added, the counters first."""
     wanted = "\n".join([str(len(listed))] + [f"{kind} {key} {text(tree)}" for kind, key, tree in listed])
     case(f"{book} rows", wanted)
     case(f"{book} copy", wanted)
     fresh()
     case(f"{book} rows", "0")
-    for kind, key, tree in reversed(listed):
+    for kind, key, tree in sorted(reversed(listed), key=lambda row: row[0] != "count"):
         with_row(f"{book} row", kind, key, tree, "done")
     case(f"{book} rows", wanted)
 
@@ -510,8 +510,12 @@ def add_settlements():
     case("bills settle", "AT/AAA EUR 0.0005 BE/BEC EUR 6.1734 BE/BEC USD -0.0001 .")
 
 
-def push_row(counted, tree):
-    with_row("outbox row", "push", str(counted), tree, "done")
+def push_row(counted, tree, wanted="done"):
+    with_row("outbox row", "push", str(counted), tree, wanted)
+
+
+def counter(last, wanted="done"):
+    with_row("outbox row", "count", "request", {"last": whole(last)}, wanted)
 
 
 def replaces(tree, wanted):
@@ -519,7 +523,8 @@ def replaces(tree, wanted):
 
 
 def add_outbox():
-    """Pushes stand until their addressee acknowledges their number."""
+    """Pushes stand until their addressee acknowledges their number. Each has a number that was given, and no two are about
+    the same."""
     fresh()
     case("outbox last_number", "0")
     case("outbox take_number", "1")
@@ -529,9 +534,14 @@ def add_outbox():
     session_push = push("NL/TNM", "put_session", session())
     token_push = push("BE/BEC", "put_token", token())
     result_push, cdr_push = push("NL/TNM", "command_result", result()), push("NL/TNM", "post_cdr", cdr())
+    push_row(4, session_push, "may not")
+    counter(12)
     for counted, one in ((4, session_push), (3, token_push), (5, result_push), (12, cdr_push)):
         push_row(counted, one)
-    case("outbox last_number", "2")
+    case("outbox last_number", "12")
+    counter(11, "may not")
+    push_row(6, push("DE/EMP", "put_session", session("s1", status="ACTIVE")), "may not")
+    push_row(13, result_push, "may not")
     case("outbox unacked", "3 BE/BEC 4 NL/TNM 5 NL/TNM 12 NL/TNM .")
     case("outbox get number=4", text(session_push))
     case("outbox get number=12", text(cdr_push))
@@ -562,7 +572,7 @@ def add_outbox():
     case("outbox get number=3", text(session_push))
     replaces(token_push, "none")
     replaces(session_push, "3")
-    with_row("outbox row", "count", "request", {"last": whole(LAST_NUMBER - 1)}, "done")
+    counter(LAST_NUMBER - 1)
     with_row("outbox row", "count", "serial", {"last": whole(5)}, "done")
     case("outbox take_number", str(LAST_NUMBER))
     case("outbox take_number", "2 NumbersUsedUp")
@@ -614,7 +624,7 @@ def add_pushes():
     case("outbox due at=9999-12-31T23:59:59.998Z", "2 4 5")
     has_rows("outbox", ("count", "request", {"last": whole(5)}), ("push", "2", token_push), ("push", "4", newer), ("push", "5", result_push))
     fresh()
-    with_row("outbox row", "count", "request", {"last": whole(LAST_NUMBER - 1)}, "done")
+    counter(LAST_NUMBER - 1)
     with_row("outbox push", "push", "9", session_push, str(LAST_NUMBER))
     with_row("outbox push", "push", "9", token_push, "2 NumbersUsedUp")
     case("outbox unacked", f"{LAST_NUMBER} NL/TNM .")

@@ -380,11 +380,14 @@ class Outboxes:
         else:
             tree = push(to, "put_session", session(f"S{draw.randrange(4)}", last_updated=moment(draw.randrange(9))))
         line = with_row(f"outbox {call}", "push", str(counted), tree)
-        if call == "row":
-            self.pushes[counted] = tree
-            return line, "done"
         about = self.subject(tree)
-        return line, str(min((key for key, other in self.pushes.items() if self.subject(other) == about), default="none"))
+        alike = next((key for key, other in self.pushes.items() if self.subject(other) == about), None)
+        if call == "replaced":
+            return line, "none" if alike is None else str(alike)
+        if counted > self.last or alike not in (None, counted):
+            return line, "may not"
+        self.pushes[counted] = tree
+        return line, "done"
 
     def is_to(self, to, counted):
         return counted in self.pushes and self.pushes[counted]["to"] == to

@@ -4,8 +4,3 @@ pub mod FaultText
 pub mod Cdrs
 pub mod Inbox
 pub mod InboxListing
-pub mod Pushes
-pub mod Outbox
-pub mod Resend
-pub mod Due
-pub mod OutboxListing

@@ -6,13 +6,12 @@ use std::alloc::AllocError;
 use std::error::Error;
 use std::fmt;
 
-/// Why what is handed over was refused: the first of these that applies, in this order.
+/// Why what is handed over was refused: the first of these that applies, in this order. Its numbers and those of an outbox
+/// (`OutboxFault` of `outbox`) are of one list.
 #[derive(Clone, Copy, Debug, PartialEq, Eq)]
 pub enum HandoverFault {
     /// It is not about a token of this node's party, or it is another operator's than the one that sent it.
     WrongParty,
-    /// The counter of requests has given its last number.
-    NumbersUsedUp,
     /// Memory ran out.
     Memory,
 }
@@ -25,7 +24,6 @@ impl fmt::Display for HandoverFault {
     fn fmt<W: fmt::Write>(&self, f: &mut fmt::Formatter<W>) -> fmt::Result {
         match self {
             HandoverFault::WrongParty => f.write_str("1 WrongParty"),
-            HandoverFault::NumbersUsedUp => f.write_str("2 NumbersUsedUp"),
             HandoverFault::Memory => f.write_str("3 Memory"),
         }
     }

@@ -4,5 +4,5 @@ use Rattle.outbox.specs.declared.fault.OutboxFault.{OutboxFault}
 use Rattle.outbox.specs.declared.fault.OutboxFault.TheVariants.{NumbersUsedUp, Memory}
 
 abbrev pub fault_text : OutboxFault → List ℕ
-fault_text NumbersUsedUp = codes "1 NumbersUsedUp"
-fault_text Memory = codes "2 Memory"
+fault_text NumbersUsedUp = codes "2 NumbersUsedUp"
+fault_text Memory = codes "3 Memory"

@@ -6,7 +6,8 @@ use std::alloc::AllocError;
 use std::error::Error;
 use std::fmt;
 
-/// Why no request was made: the first of these that applies, in this order.
+/// Why no request was made: the first of these that applies, in this order. Its numbers and those of what is refused when it
+/// is handed over (`HandoverFault` of `handover`) are of one list.
 #[derive(Clone, Copy, Debug, PartialEq, Eq)]
 pub enum OutboxFault {
     /// The counter of requests has given its last number.
@@ -22,8 +23,8 @@ impl fmt::Display for OutboxFault {
 
     fn fmt<W: fmt::Write>(&self, f: &mut fmt::Formatter<W>) -> fmt::Result {
         match self {
-            OutboxFault::NumbersUsedUp => f.write_str("1 NumbersUsedUp"),
-            OutboxFault::Memory => f.write_str("2 Memory"),
+            OutboxFault::NumbersUsedUp => f.write_str("2 NumbersUsedUp"),
+            OutboxFault::Memory => f.write_str("3 Memory"),
         }
     }
 }

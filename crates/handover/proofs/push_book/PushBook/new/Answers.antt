@@ -1,5 +1,0 @@
-use Rattle.handover.proofs.Indexing.{indexed_none}
-use Rattle.handover.proofs.push_book.PushBook.new.Goals as goal
-
-pub invariant_of-result : goal.invariant_of-result
-invariant_of-result c = rw (c.new.ensures.shown, c.new-2.ensures.shown) indexed_none
