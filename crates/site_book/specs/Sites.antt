@@ -123,6 +123,7 @@ with_service false uid out = insert out uid tt
 
 -- why an EVSE may not be claimed: the first that applies
 abbrev pub IsRefused : SiteState → List ℕ → SiteFault → Type 0
+IsRefused s evse fault.UnknownLocation = ⊥
 IsRefused s evse fault.UnknownEvse = ¬ IsEvse s.site.locations evse
 IsRefused s evse fault.Claimed = IsEvse s.site.locations evse × IsTrue (is_claimed s.claims evse)
 IsRefused s evse fault.OutOfService = IsEvse s.site.locations evse × (is_claimed s.claims evse ≡ false) × (works s.out_of_service evse ≡ false)

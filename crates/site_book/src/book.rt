@@ -82,6 +82,18 @@ impl SiteBook {
         self.location_at(position)
     }
 
+    /// The location of an id itself. It is refused (`UnknownLocation`) where the site has no such location.
+    pub fn location(&self, id: &CiText<36>) -> Result<&Location, SiteFault>
+        ensures found { IfOk result (λ l. IsLocation self.now.site.locations id.now l.now) }
+        ensures sole { IfOk result (λ l. (m : Location) → IsLocation self.now.site.locations id.now m → m ≡ l.now) }
+        ensures refusal { IfErr result (λ e. (e ≡ SiteFault.UnknownLocation) × ((l : Location) → IsLocation self.now.site.locations id.now l → ⊥)) }
+    {
+        let Some(found) = self.find_location(id) else {
+            return Err(SiteFault::UnknownLocation);
+        };
+        Ok(found.location())
+    }
+
     /// The EVSE of a uid, where it is one of the location.
     fn named_evse(&self, at: &FoundLocation<'_>, uid: &CiText<36>) -> Option<&Evse>
         requires { IsFoundIn self.now.site at.now }
@@ -152,8 +164,8 @@ impl SiteBook {
         }
     }
 
-    /// One of the EVSEs of the location that are in service and not claimed.
-    fn first_free_evse(&self, at: &FoundLocation<'_>) -> Option<&Evse>
+    /// One of the EVSEs of the location that are in service and not claimed. None, where there is none.
+    pub fn free_at(&self, at: &FoundLocation<'_>) -> Option<&Evse>
         requires { IsFoundIn self.now.site at.now }
         ensures found { IfSome result (λ e. IsEvseFor (location_of at.now) None e.now) }
         ensures free { IfSome result (λ e. IsFreeEvse self.now e.now) }
@@ -173,7 +185,7 @@ impl SiteBook {
         ensures none { IfNone result ((e : Evse) → IsEvseFor (location_of at.now) uid.now e → IsFreeEvse self.now e → ⊥) }
     {
         match uid {
-            None => self.first_free_evse(at),
+            None => self.free_at(at),
             Some(uid) => {
                 let evse = self.named_evse(at, uid)?;
                 if !self.indexes.is_free(evse.uid.key()) {

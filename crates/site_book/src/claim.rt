@@ -30,6 +30,8 @@ pub enum Claim {
 /// Why a call about a site was refused: the first of these that applies, in this order.
 #[derive(Clone, Copy, Debug, PartialEq, Eq)]
 pub enum SiteFault {
+    /// The site has no location of that id.
+    UnknownLocation,
     /// The site has no EVSE of that uid.
     UnknownEvse,
     /// The EVSE is claimed.
@@ -45,9 +47,10 @@ impl fmt::Display for SiteFault {
 
     fn fmt<W: fmt::Write>(&self, f: &mut fmt::Formatter<W>) -> fmt::Result {
         match self {
-            SiteFault::UnknownEvse => f.write_str("1 UnknownEvse"),
-            SiteFault::Claimed => f.write_str("2 Claimed"),
-            SiteFault::OutOfService => f.write_str("3 OutOfService"),
+            SiteFault::UnknownLocation => f.write_str("1 UnknownLocation"),
+            SiteFault::UnknownEvse => f.write_str("2 UnknownEvse"),
+            SiteFault::Claimed => f.write_str("3 Claimed"),
+            SiteFault::OutOfService => f.write_str("4 OutOfService"),
         }
     }
 }

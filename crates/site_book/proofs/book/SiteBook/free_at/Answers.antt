@@ -1,6 +1,6 @@
 use Rattle.std.proofs.lemmas.Option.{IfSome_then}
 use Rattle.site_book.proofs.Finding.{none_from, none_then, any_there, marked_there, marked_stands, none_marked}
-use Rattle.site_book.proofs.book.SiteBook.first_free_evse.Goals as goal
+use Rattle.site_book.proofs.book.SiteBook.free_at.Goals as goal
 
 pub returns-in_err-place-clause-none : goal.returns-in_err-place-clause-none
 returns-in_err-place-clause-none c = none_from c.from_residual.result
