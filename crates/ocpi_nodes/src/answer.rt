@@ -97,13 +97,12 @@ impl AnswerLines for Program {
 
     fn answer_line(&mut self, line: &[u8], output: &mut String) -> Result<Turn, AllocError> {
         match &mut self.running {
-            None => {
-                let (turn, running) = answer_site(self.alloc, &mut self.scratch, line, output)?;
-                self.running = running;
-                Ok(turn)
+            None => {}
+            Some(running) => {
+                return answer_packet(self.alloc, &mut self.scratch, running, line, output);
             }
-            Some(running) => answer_packet(self.alloc, &mut self.scratch, running, line, output),
         }
+        answer_site(self.alloc, &mut self.scratch, &mut self.running, line, output)
     }
 
     fn answer_end(&mut self, output: &mut String) -> Result<Ran, AllocError> {
@@ -130,21 +129,26 @@ fn open(alloc: Global, scratch: &mut Scratch, line: &[u8]) -> Result<Running, Js
     Ok(Running { at, operator })
 }
 
-/// Makes the operator of a site line.
+/// Makes the operator of a site line, where there is none.
 fn answer_site(
     alloc: Global,
     scratch: &mut Scratch,
+    running: &mut Option<Running>,
     line: &[u8],
     output: &mut String,
-) -> Result<(Turn, Option<Running>), AllocError>
-    ensures { IfOk result (λ r. (out : List ℕ) × (string_bytes output.new ≡ string_bytes output.old ++ out)
-        × SiteTurn line.now r.0 out r.1) }
+) -> Result<Turn, AllocError>
+    requires { running.old ≡ None }
+    ensures { IfOk result (λ turn. (out : List ℕ) × (string_bytes output.new ≡ string_bytes output.old ++ out)
+        × SiteTurn line.now turn out running.new) }
 {
     match open(alloc, scratch, line) {
-        Ok(running) => Ok((Turn::Taken, Some(running))),
+        Ok(opened) => {
+            *running = Some(opened);
+            Ok(Turn::Taken)
+        }
         Err(fault) => {
             refuse(output, fault)?;
-            Ok((Turn::Ended, None))
+            Ok(Turn::Ended)
         }
     }
 }
