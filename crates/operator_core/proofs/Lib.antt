@@ -1,5 +1,4 @@
 pub mod Loops
-pub mod Counts
 pub mod Taken
 pub mod Plans
 pub mod Parts

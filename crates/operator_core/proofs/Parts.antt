@@ -1,5 +1,5 @@
 -- Parts of a step that are gathered one after the other.
-use Rattle.std.proofs.Common.{◌≡◌, ℕ, ◌++◌, List, sym, ap, subst, ◌∙◌}
+use Rattle.std.proofs.Common.{◌≡◌, ◌++◌, List, sym, ap, subst, ◌∙◌}
 use Rattle.std.specs.Prelude.{Result, Ok, Err, Option, Some, None, OnOk, IfOk, IfErr, IfNone}
 use Rattle.node_steps.specs.Acts.{Act}
 use Rattle.node_steps.specs.Drafts.{Gathered, HasNumbersOf, with_acts}

@@ -1,5 +1,5 @@
 -- From what is planned to what a line of an operator asks for, and to its refusals.
-use Rattle.std.proofs.Common.{◌≡◌, List, [], ◌∷◌, sym, subst, ◌∙◌, arith}
+use Rattle.std.proofs.Common.{◌≡◌, List, [], ◌∷◌, sym, ◌∙◌, arith}
 use Rattle.std.specs.Prelude.{Result, Ok, Err, IfOk, IfErr, OnOk}
 use Rattle.ocpi_types.specs.declared.rows.Change.{Change}
 use Rattle.node_steps.specs.Acts.{Act, changed}
@@ -8,15 +8,12 @@ use Rattle.node_steps.specs.declared.fault.NodeFault.{NodeFault}
 use Rattle.node_steps.specs.declared.fault.NodeFault.TheVariants.{NotForMe, UnknownOperator, UnknownToken, StampEnd, NumbersUsedUp, Memory}
 use Rattle.node_steps.proofs.Gathering.{step_of_none, step_of_change}
 use Rattle.operator_rows.specs.State.{State}
-use Rattle.operator_steps.specs.Faults.{IsOwnFault, MayStep, PassesLast}
-use Rattle.operator_steps.specs.Moves.{AreInRange, Out, PlannedBy, StepBy, carried, counters_of, step_of_acts}
-use Rattle.operator_steps.proofs.Planning.{planned_step}
+use Rattle.operator_rows.specs.Steps.{MayFollow}
+use Rattle.operator_steps.specs.Faults.{IsOwnFault, MayStep}
+use Rattle.operator_steps.specs.Moves.{AreInRange, PlannedBy, counters_of, step_of_acts}
+use Rattle.operator_steps.proofs.Planning.{planned_may}
 
 module _ (Line : List Act → Type 0) (s : State) where
-  -- what was planned and carried out is a step
-  pub carried_step : (x : Step) (out : Out) → PlannedBy Line s x → out ≡ carried s x → StepBy Line s out
-  carried_step x out h is = subst (StepBy Line s) (sym is) (planned_step Line s x h)
-
   -- acts that the line asks for, and that stay in range, are planned
   pub planned_acts : (acts : List Act) (x : Step) → Line acts → AreInRange s acts → x ≡ step_of_acts s acts → PlannedBy Line s x
   planned_acts acts x line in_range is = record { acts = acts; line = line; in_range = in_range; step_is = is }
@@ -49,3 +46,8 @@ module _ (Line : List Act → Type 0) (s : State) where
   pub all_planned : {T : Type 0} → (r : Result T NodeFault) (step : T → Step) (acts : List Act) → Line acts → OnOk r (AreInRange s acts) → IfOk r (λ x. step x ≡ step_of_acts s acts) → IfOk r (λ x. PlannedBy Line s (step x))
   all_planned (Ok x) step acts line range is = planned_acts acts (step x) line range is
   all_planned (Err f) step acts line range is = tt
+
+  -- and it may be carried out, where all that the line asks for may
+  pub all_follow : {T E : Type 0} → (r : Result T E) (step : T → Step) → ((acts : List Act) → Line acts → MayFollow s (step_of_acts s acts)) → IfOk r (λ x. PlannedBy Line s (step x)) → IfOk r (λ x. MayFollow s (step x))
+  all_follow (Ok x) step may h = planned_may Line s (step x) may h
+  all_follow (Err e) step may h = tt

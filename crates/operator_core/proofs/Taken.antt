@@ -1,6 +1,5 @@
 -- Which bodies an operator takes.
 use Rattle.std.proofs.Common.{◌≡◌, ◌⊎◌, inl, inr}
-use Rattle.ocpi_types.specs.Stored.{body_of_command}
 use Rattle.ocpi_types.specs.declared.packet.Body.{Body}
 use Rattle.ocpi_types.specs.declared.packet.Body.TheVariants as body
 use Rattle.ocpi_types.specs.declared.replies.Ack.{Ack}
@@ -9,14 +8,8 @@ use Rattle.ocpi_types.specs.declared.commands.StopSession.{StopSession}
 use Rattle.ocpi_types.specs.declared.commands.ReserveNow.{ReserveNow}
 use Rattle.ocpi_types.specs.declared.commands.CancelReservation.{CancelReservation}
 use Rattle.ocpi_types.specs.declared.commands.UnlockConnector.{UnlockConnector}
-use Rattle.ocpi_types.specs.declared.stored.Command.{Command}
 use Rattle.ocpi_types.specs.declared.stored.Command.TheVariants as command
 use Rattle.operator_steps.specs.Steps.{IsTaken}
-
--- what is taken and is no acknowledgement carries a command
-pub carried : (b : Body) → IsTaken b → ((a : Ack) → b ≡ body.Ack a → ⊥) → (c : Command) × (b ≡ body_of_command c)
-carried b (inl h) none = h
-carried b (inr h) none = absurd (none h.0 h.1)
 
 -- the bodies that an operator takes, kind by kind
 pub taken : (b : Body) → ((x : StartSession) × (b ≡ body.StartSession x)) ⊎ (((x : StopSession) × (b ≡ body.StopSession x)) ⊎ (((x : ReserveNow) × (b ≡ body.ReserveNow x)) ⊎

@@ -1,11 +1,10 @@
 //! What an operator does in answer to a command, act by act.
 
 ghost use Rattle.std.specs.Prelude.{◌≡◌, ◌∷◌, [], OnOk};
-ghost use Rattle.ocpi_types.specs.Stored.{body_of_command};
-ghost use Rattle.ocpi_types.specs.declared.stored.Command.{Command as CommandOf};
 ghost use Rattle.command_book.specs.Stored as book;
 ghost use Rattle.node_steps.specs.Drafts.{HasNumbersOf, with_acts};
-ghost use Rattle.operator_steps.specs.Acts.{deadline, decided_acts, freed, marked, opened, own_acts, reference_of, reserved, result_of, settled_if, spent, url_of, used};
+ghost use Rattle.operator_steps.specs.Acts.{freed, marked, reserved, spent, used};
+ghost use Rattle.operator_core.specs.Requests.{IfCommand, IsCommand, decided_by, opened_by, own_by, settled_by};
 
 use crate::bodies::{command_of, reference_of, told};
 use crate::respond::respond;
@@ -38,7 +37,7 @@ fn add_opened(
     body: &Body,
     place: Option<Place>,
 ) -> Result<(), AllocError>
-    ensures { OnOk result ((c : CommandOf) → body.now ≡ body_of_command c → draft.new ≡ with_acts (opened request.now.provider request.now.number (book.open_command c place (deadline request.now.at)) ∷ []) draft.old) }
+    ensures { OnOk result (IfCommand body.now (λ c. draft.new ≡ with_acts (opened_by request.now c place ∷ []) draft.old)) }
 {
     let Some(command) = command_of(body)? else {
         return Ok(());
@@ -139,7 +138,7 @@ fn add_started(
     place: Place,
     reservation_id: Option<CiKey<36>>,
 ) -> Result<(), AllocError>
-    ensures { OnOk result ((c : CommandOf) → body.now ≡ body_of_command c → draft.new ≡ with_acts (own_acts request.now.at request.now.provider request.now.number c (Decision.Started place reservation_id)) draft.old) }
+    ensures { OnOk result (IfCommand body.now (λ c. draft.new ≡ with_acts (own_by request.now c (Decision.Started place reservation_id)) draft.old)) }
 {
     add_used(draft, request, reservation_id)?;
     add_opened(alloc, draft, request, body, Some(place))?;
@@ -154,7 +153,7 @@ fn add_own(
     body: &Body,
     decision: &Decision,
 ) -> Result<(), AllocError>
-    ensures { OnOk result ((c : CommandOf) → body.now ≡ body_of_command c → draft.new ≡ with_acts (own_acts request.now.at request.now.provider request.now.number c decision.now) draft.old) }
+    ensures { OnOk result (IfCommand body.now (λ c. draft.new ≡ with_acts (own_by request.now c decision.now) draft.old)) }
 {
     match decision {
         Decision::Refused(_) | Decision::Answered(_) | Decision::Resulted(_) => Ok(()),
@@ -185,9 +184,9 @@ fn add_settled(
     body: &Body,
     outcome: Option<CommandResultType>,
 ) -> Result<(), AllocError>
-    requires command { (c : CommandOf) × (body.now ≡ body_of_command c) }
-    requires numbers { (c : CommandOf) → body.now ≡ body_of_command c → HasNumbersOf (settled_if request.now.at draft.old.counters.request request.now.from request.now.provider request.now.number (url_of c) outcome) draft.old }
-    ensures { OnOk result ((c : CommandOf) → body.now ≡ body_of_command c → draft.new ≡ with_acts (settled_if request.now.at draft.old.counters.request request.now.from request.now.provider request.now.number (url_of c) outcome) draft.old) }
+    requires command { IsCommand body.now }
+    requires numbers { IfCommand body.now (λ c. HasNumbersOf (settled_by request.now draft.old.counters.request c outcome) draft.old) }
+    ensures { OnOk result (IfCommand body.now (λ c. draft.new ≡ with_acts (settled_by request.now draft.old.counters.request c outcome) draft.old)) }
 {
     let Some(outcome) = outcome else {
         return Ok(());
@@ -212,9 +211,9 @@ pub fn add_decided(
     body: &Body,
     decision: &Decision,
 ) -> Result<(), AllocError>
-    requires command { (c : CommandOf) × (body.now ≡ body_of_command c) }
-    requires numbers { (c : CommandOf) → body.now ≡ body_of_command c → HasNumbersOf (decided_acts request.now.at draft.old.counters.request request.now.from request.now.provider request.now.number c decision.now) draft.old }
-    ensures { OnOk result ((c : CommandOf) → body.now ≡ body_of_command c → draft.new ≡ with_acts (decided_acts request.now.at draft.old.counters.request request.now.from request.now.provider request.now.number c decision.now) draft.old) }
+    requires command { IsCommand body.now }
+    requires numbers { IfCommand body.now (λ c. HasNumbersOf (decided_by request.now draft.old.counters.request c decision.now) draft.old) }
+    ensures { OnOk result (IfCommand body.now (λ c. draft.new ≡ with_acts (decided_by request.now draft.old.counters.request c decision.now) draft.old)) }
 {
     let reply = respond(decision, request.at);
     draft.answer(request.provider, request.from, request.number, reply)?;

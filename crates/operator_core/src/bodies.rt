@@ -1,10 +1,9 @@
 //! What the body of a packet carries, as far as an operator asks.
 
 ghost use Rattle.std.specs.Prelude.{◌≡◌, ◌↔◌, IfOk, IsTrue, option_copied, Some};
-ghost use Rattle.ocpi_types.specs.Stored.{body_of_command};
-ghost use Rattle.ocpi_types.specs.declared.stored.Command.{Command as CommandOf};
 ghost use Rattle.operator_steps.specs.Acts.{reference_of, told, url_of};
 ghost use Rattle.operator_steps.specs.Steps.{IsTaken};
+ghost use Rattle.operator_core.specs.Requests.{IfCommand};
 
 use ocpi_text::{CiText, FreeText};
 use ocpi_types::{Body, Command, CommandResult, CommandResultType};
@@ -27,7 +26,7 @@ pub fn is_taken(body: &Body) -> bool
 
 /// The command that a body carries, copied. None, where it carries none. An error is want of memory.
 pub fn command_of(body: &Body) -> Result<Option<Command>, AllocError>
-    ensures { IfOk result (λ o. (c : CommandOf) → body.now ≡ body_of_command c → o ≡ Some c) }
+    ensures { IfOk result (λ o. IfCommand body.now (λ c. o ≡ Some c)) }
 {
     match body {
         Body::StartSession(command) => Ok(Some(Command::StartSession(command.copy()?))),
@@ -43,7 +42,7 @@ pub fn command_of(body: &Body) -> Result<Option<Command>, AllocError>
 
 /// To where the result of the command that a body carries is posted. None, where it carries none.
 fn response_url(body: &Body) -> Option<&FreeText<255>>
-    ensures { (c : CommandOf) → body.now ≡ body_of_command c → option_copied result ≡ Some (url_of c) }
+    ensures { IfCommand body.now (λ c. option_copied result ≡ Some (url_of c)) }
 {
     match body {
         Body::StartSession(command) => Some(&command.response_url),
@@ -57,7 +56,7 @@ fn response_url(body: &Body) -> Option<&FreeText<255>>
 
 /// The authorization reference of the start that a body carries. None, where it carries none.
 pub fn reference_of(body: &Body) -> Option<CiText<36>>
-    ensures { (c : CommandOf) → body.now ≡ body_of_command c → result ≡ reference_of c }
+    ensures { IfCommand body.now (λ c. result ≡ reference_of c) }
 {
     match body {
         Body::StartSession(command) => command.authorization_reference,
@@ -67,7 +66,7 @@ pub fn reference_of(body: &Body) -> Option<CiText<36>>
 
 /// How the command that a body carries ended, as its provider is told. None, where it carries none. An error is want of memory.
 pub fn told(body: &Body, outcome: CommandResultType) -> Result<Option<CommandResult>, AllocError>
-    ensures { IfOk result (λ o. (c : CommandOf) → body.now ≡ body_of_command c → o ≡ Some (told (url_of c) outcome)) }
+    ensures { IfOk result (λ o. IfCommand body.now (λ c. o ≡ Some (told (url_of c) outcome))) }
 {
     let Some(response_url) = response_url(body) else {
         return Ok(None);

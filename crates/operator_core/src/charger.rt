@@ -1,16 +1,15 @@
 //! What a charge point reports to its operator (OCPI 2.2.1, Commands: the results of commands).
 
-ghost use Rattle.std.specs.Prelude.{◌≡◌, ◌∷◌, [], ℕ, List, Some, IfOk, IfErr, OnOk, IfSome, IfNone};
-ghost use Rattle.std.specs.FinMap as map;
-ghost use Rattle.ocpi_types.specs.declared.stored.OpenCommand.{OpenCommand as OpenCommandOf};
-ghost use Rattle.ocpi_types.specs.declared.words.CommandResultType.{CommandResultType as ResultOf};
+ghost use Rattle.std.specs.Prelude.{◌≡◌, ℕ, List, IfOk, IfErr, OnOk, IfSome, IfNone};
 ghost use Rattle.site_book.specs.declared.claim.Claim.TheVariants.{OpenStart};
-ghost use Rattle.node_steps.specs.Drafts.{StopsBy, counted, step_of};
+ghost use Rattle.node_steps.specs.Drafts.{step_of};
 ghost use Rattle.operator_rows.specs.State.{HasClaim};
-ghost use Rattle.operator_steps.specs.Charger.{ChargerLine, EndsBy, EndsNone, IsAbout, IsEnded, accepted, outcome, unlocked};
-ghost use Rattle.operator_steps.specs.Ends.{IsOpen, ends_acts};
+ghost use Rattle.operator_rows.specs.Steps.{MayFollow};
+ghost use Rattle.operator_steps.specs.Charger.{ChargerLine, EndsNone, IsAbout, IsEnded, accepted, outcome, unlocked};
+ghost use Rattle.operator_steps.specs.Ends.{IsOpen};
 ghost use Rattle.operator_steps.specs.Faults.{IsOwnFault};
-ghost use Rattle.operator_steps.specs.Moves.{AreInRange, PlannedBy, counters_of, step_of_acts};
+ghost use Rattle.operator_steps.specs.Moves.{AreInRange, PlannedBy, step_of_acts};
+ghost use Rattle.operator_core.specs.Requests.{StopsActs, acts_of_end};
 
 use crate::operator::Operator;
 use node_steps::{Needs, NodeFault, Plan};
@@ -101,9 +100,9 @@ impl Operator {
     /// The step in which an open command ends.
     fn plan_end(&self, at: Moment, ending: Ending) -> Result<Plan, NodeFault>
         requires { IsOpen self.now.state.rows ending }
-        ensures ok { IfOk result (λ x. step_of x ≡ step_of_acts self.now.state (ends_acts at self.now.state.rows.commands.pending self.now.state.rows.request (ending ∷ []))) }
-        ensures in_range { OnOk result (AreInRange self.now.state (ends_acts at self.now.state.rows.commands.pending self.now.state.rows.request (ending ∷ []))) }
-        ensures err { IfErr result (StopsBy (counted (counters_of self.now.state) (ends_acts at self.now.state.rows.commands.pending self.now.state.rows.request (ending ∷ [])))) }
+        ensures ok { IfOk result (λ x. step_of x ≡ step_of_acts self.now.state (acts_of_end self.now.state at ending)) }
+        ensures in_range { OnOk result (AreInRange self.now.state (acts_of_end self.now.state at ending)) }
+        ensures err { IfErr result (StopsActs self.now.state (acts_of_end self.now.state at ending)) }
     {
         let mut draft = self.draft(Needs {
             packets: 1,
@@ -117,8 +116,10 @@ impl Operator {
     /// What becomes of a report at a moment. Nothing changes. Refused as `on_charger` says.
     pub fn plan_charger(&self, at: Moment, report: &ChargerEvent) -> Result<Plan, NodeFault>
         ensures step { IfOk result (λ x. PlannedBy (ChargerLine self.now.state at report.now) self.now.state (step_of x)) }
+        ensures follows { IfOk result (λ x. MayFollow self.now.state (step_of x)) }
         ensures fault { IfErr result (IsOwnFault (ChargerLine self.now.state at report.now) self.now.state) }
     {
+        self.consistency();
         self.counters_in_range();
         match self.ended_by(report) {
             Some(ending) => self.plan_end(at, ending),

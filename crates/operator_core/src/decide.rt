@@ -1,18 +1,15 @@
 //! What a packet makes an operator do. Nothing is changed here.
 
-ghost use Rattle.std.specs.Prelude.{◌≡◌, ◌↔◌, ◌∷◌, [], IsTrue, IfOk, IfErr, OnOk, IfSome, IfNone, List, ℕ};
+ghost use Rattle.std.specs.Prelude.{◌≡◌, ◌↔◌, IsTrue, IfOk, IfErr, OnOk, IfSome, IfNone, List, ℕ};
 ghost use Rattle.ocpi_text.specs.Text.{key};
-ghost use Rattle.ocpi_types.specs.Stored.{body_of_command};
-ghost use Rattle.ocpi_types.specs.declared.stored.Command.{Command as CommandOf};
 ghost use Rattle.ocpi_types.specs.declared.packet.Body.TheVariants as body;
-ghost use Rattle.node_steps.specs.Acts.{repeated};
-ghost use Rattle.node_steps.specs.Drafts.{IsInRange, StopsBy, counted, later, opened, step_of};
+ghost use Rattle.node_steps.specs.Drafts.{IsInRange, StopsBy, later, opened, step_of};
 ghost use Rattle.node_steps.specs.Peers.{IsPeer};
-ghost use Rattle.operator_steps.specs.Acts.{decided_acts};
+ghost use Rattle.operator_rows.specs.Steps.{MayFollow};
 ghost use Rattle.operator_steps.specs.Faults.{IsDue, MayStep};
 ghost use Rattle.operator_steps.specs.Moves.{AreInRange, PlannedBy, counters_of, step_of_acts};
 ghost use Rattle.operator_steps.specs.Steps.{Acknowledges, Comes, IsForMe, IsTaken};
-ghost use Rattle.operator_core.specs.Requests.{IsRequest, result_count};
+ghost use Rattle.operator_core.specs.Requests.{IfCommand, IsCommand, IsRequest, StopsActs, decided_by, repeated_by, result_count};
 
 use crate::acts::add_decided;
 use crate::bodies::is_taken;
@@ -87,9 +84,9 @@ impl Operator {
 
     /// The step that sends a kept reply again.
     fn plan_again(&self, request: &Request, reply: &Reply) -> Result<Plan, NodeFault>
-        ensures ok { IfOk result (λ x. step_of x ≡ step_of_acts self.now.state (repeated request.now.from request.now.number reply.now ∷ [])) }
-        ensures in_range { OnOk result (AreInRange self.now.state (repeated request.now.from request.now.number reply.now ∷ [])) }
-        ensures err { IfErr result (StopsBy (counted (counters_of self.now.state) (repeated request.now.from request.now.number reply.now ∷ []))) }
+        ensures ok { IfOk result (λ x. step_of x ≡ step_of_acts self.now.state (repeated_by request.now reply.now)) }
+        ensures in_range { OnOk result (AreInRange self.now.state (repeated_by request.now reply.now)) }
+        ensures err { IfErr result (StopsActs self.now.state (repeated_by request.now reply.now)) }
     {
         let mut draft = self.draft(Needs {
             packets: 1,
@@ -107,10 +104,10 @@ impl Operator {
         body: &Body,
         decision: &Decision,
     ) -> Result<Plan, NodeFault>
-        requires { (c : CommandOf) × (body.now ≡ body_of_command c) }
-        ensures ok { IfOk result (λ x. (c : CommandOf) → body.now ≡ body_of_command c → step_of x ≡ step_of_acts self.now.state (decided_acts request.now.at self.now.state.rows.request request.now.from request.now.provider request.now.number c decision.now)) }
-        ensures in_range { OnOk result ((c : CommandOf) → body.now ≡ body_of_command c → AreInRange self.now.state (decided_acts request.now.at self.now.state.rows.request request.now.from request.now.provider request.now.number c decision.now)) }
-        ensures err { IfErr result (λ e. (c : CommandOf) → body.now ≡ body_of_command c → StopsBy (counted (counters_of self.now.state) (decided_acts request.now.at self.now.state.rows.request request.now.from request.now.provider request.now.number c decision.now)) e) }
+        requires { IsCommand body.now }
+        ensures ok { IfOk result (λ x. IfCommand body.now (λ c. step_of x ≡ step_of_acts self.now.state (decided_by request.now self.now.state.rows.request c decision.now))) }
+        ensures in_range { OnOk result (IfCommand body.now (λ c. AreInRange self.now.state (decided_by request.now self.now.state.rows.request c decision.now))) }
+        ensures err { IfErr result (λ e. IfCommand body.now (λ c. StopsActs self.now.state (decided_by request.now self.now.state.rows.request c decision.now) e)) }
     {
         let results = count(decision.result());
         let mut draft = self.draft(Needs {
@@ -125,7 +122,7 @@ impl Operator {
     /// What becomes of a command. A request that was answered before gets the same reply again.
     fn plan_command(&self, request: &Request, packet: &Packet) -> Result<Plan, NodeFault>
         requires request { IsRequest self.now.state request.now.at packet.now request.now }
-        requires command { (c : CommandOf) × (packet.now.body ≡ body_of_command c) }
+        requires command { IsCommand packet.now.body }
         ensures step { IfOk result (λ x. PlannedBy (Comes self.now.state request.now.at packet.now) self.now.state (step_of x)) }
         ensures fault { IfErr result (IsDue self.now.state request.now.at packet.now) }
     {
@@ -169,8 +166,10 @@ impl Operator {
     /// What becomes of a packet at a moment. Nothing changes. Refused as `on_packet` says.
     pub fn plan_packet(&self, at: Moment, packet: &Packet) -> Result<Plan, NodeFault>
         ensures step { IfOk result (λ x. PlannedBy (Comes self.now.state at packet.now) self.now.state (step_of x)) }
+        ensures follows { IfOk result (λ x. MayFollow self.now.state (step_of x)) }
         ensures fault { IfErr result (IsDue self.now.state at packet.now) }
     {
+        self.consistency();
         let Some(request) = self.request(at, packet) else {
             return Err(NodeFault::NotForMe);
         };

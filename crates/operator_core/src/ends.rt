@@ -1,12 +1,13 @@
 //! How open commands end, reservations expire, and pushes are sent again (OCPI 2.2.1, Commands: CommandResult).
 
-ghost use Rattle.std.specs.Prelude.{◌≡◌, ◌∷◌, [], ℕ, List, Some, Contains, OnOk, IfOk, IfSome, IfNone};
+ghost use Rattle.std.specs.Prelude.{◌≡◌, ℕ, List, Some, Contains, OnOk, IfOk, IfSome, IfNone};
 ghost use Rattle.std.specs.FinMap as map;
 ghost use Rattle.ocpi_text.specs.Text.{key};
 ghost use Rattle.node_steps.specs.Drafts.{HasNumbers, HasNumbersOf, with_acts};
 ghost use Rattle.operator_steps.specs.declared.ending.Ending.{Ending as EndingOf};
-ghost use Rattle.operator_steps.specs.Acts.{told, url_of};
-ghost use Rattle.operator_steps.specs.Ends.{IsOpen, IsOfSite, all_resent, end_acts, ends_acts, expired_acts, resent_acts, url_in};
+ghost use Rattle.operator_steps.specs.Acts.{url_of};
+ghost use Rattle.operator_steps.specs.Ends.{IsOpen, IsOfSite, all_resent, end_acts, ends_acts, expired_acts, resent_acts};
+ghost use Rattle.operator_core.specs.Requests.{told_of_end};
 
 use crate::operator::Operator;
 use node_steps::{Draft, peer_of};
@@ -65,7 +66,7 @@ impl Operator {
 
     /// What the provider of an open command is told of how it ended. None, where it is not open.
     fn told(&self, ending: &Ending) -> Result<Option<CommandResult>, AllocError>
-        ensures { IfOk result (λ o. IsOpen self.now.state.rows ending.now → o ≡ Some (told (url_in (map.get self.now.state.rows.commands.pending (ending.now.provider, ending.now.number))) ending.now.result)) }
+        ensures { IfOk result (λ o. IsOpen self.now.state.rows ending.now → o ≡ Some (told_of_end self.now.state.rows ending.now)) }
     {
         let Some(open) = self.books.commands().opened(ending.provider, ending.number) else {
             return Ok(None);

@@ -13,8 +13,9 @@ use std::marker::Model;
 /// An operator: it owns the charge points of a site, and answers the site's providers.
 ///
 /// What happens to it is first planned (`plan_packet` and its kin, which change nothing), then the memory for it is taken
-/// (`make_room`), and then it is carried out (`apply`, which cannot fail). A keeper that stores the rows does so between the last
-/// two. `on_packet` and its kin are all three.
+/// (`make_room`), and then it is carried out (`apply`, which cannot fail). What a plan ensures is what `apply` requires, as long
+/// as nothing is carried out in between. A keeper that stores the rows does so between the last two. `on_packet` and its kin are
+/// all three.
 #[derive(Drop)]
 pub struct Operator {
     pub(crate) alloc: Global,
@@ -116,7 +117,6 @@ impl Operator {
         ensures err { OnErr result (self.new.state ≡ self.old.state) }
         ensures rows { IfOk result (λ x. AreChanges self.old.state.rows x.rows.items self.new.state.rows) }
     {
-        self.consistency();
         let plan = self.plan_packet(at, packet)?;
         Ok(self.carry_out(plan)?)
     }
@@ -133,7 +133,6 @@ impl Operator {
         ensures err { OnErr result (self.new.state ≡ self.old.state) }
         ensures rows { IfOk result (λ x. AreChanges self.old.state.rows x.rows.items self.new.state.rows) }
     {
-        self.consistency();
         let plan = self.plan_charger(at, &report)?;
         Ok(self.carry_out(plan)?)
     }
@@ -149,7 +148,6 @@ impl Operator {
         ensures err { OnErr result (self.new.state ≡ self.old.state) }
         ensures rows { IfOk result (λ x. AreChanges self.old.state.rows x.rows.items self.new.state.rows) }
     {
-        self.consistency();
         let plan = self.plan_tick(at)?;
         Ok(self.carry_out(plan)?)
     }
@@ -165,7 +163,6 @@ impl Operator {
         ensures err { OnErr result (self.new.state ≡ self.old.state) }
         ensures rows { IfOk result (λ x. AreChanges self.old.state.rows x.rows.items self.new.state.rows) }
     {
-        self.consistency();
         let plan = self.plan_service(evse_uid, in_service)?;
         Ok(self.carry_out(plan)?)
     }

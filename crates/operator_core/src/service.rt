@@ -1,8 +1,9 @@
 //! An EVSE goes out of service, or comes back.
 
-ghost use Rattle.std.specs.Prelude.{◌≡◌, ◌∷◌, [], IfOk, IfSome, IfNone};
+ghost use Rattle.std.specs.Prelude.{◌∷◌, [], IfOk, IfSome, IfNone};
 ghost use Rattle.node_steps.specs.Acts.{changed};
 ghost use Rattle.node_steps.specs.Drafts.{step_of};
+ghost use Rattle.operator_rows.specs.Steps.{MayFollow};
 ghost use Rattle.operator_steps.specs.Moves.{PlannedBy};
 ghost use Rattle.operator_steps.specs.Service.{ServiceLine};
 
@@ -31,8 +32,10 @@ impl Operator {
 
     /// What becomes of an EVSE that goes out of service, or comes back. Nothing changes. An error is want of memory.
     pub fn plan_service(&self, evse_uid: CiKey<36>, in_service: bool) -> Result<Plan, AllocError>
-        ensures { IfOk result (λ x. PlannedBy (ServiceLine self.now.state evse_uid in_service) self.now.state (step_of x)) }
+        ensures step { IfOk result (λ x. PlannedBy (ServiceLine self.now.state evse_uid in_service) self.now.state (step_of x)) }
+        ensures follows { IfOk result (λ x. MayFollow self.now.state (step_of x)) }
     {
+        self.consistency();
         self.counters_in_range();
         match self.service_change(evse_uid, in_service) {
             Some(change) => Plan::one(self.alloc, change),

@@ -1,14 +1,15 @@
 //! What the time does at an operator.
 
-ghost use Rattle.std.specs.Prelude.{◌≡◌, List, Contains, IfOk, IfErr, OnOk};
-ghost use Rattle.node_steps.specs.Drafts.{HasNumbersOf, StopsBy, counted, step_of, with_acts};
+ghost use Rattle.std.specs.Prelude.{◌≡◌, Contains, IfOk, IfErr, OnOk};
+ghost use Rattle.node_steps.specs.Drafts.{HasNumbersOf, step_of, with_acts};
+ghost use Rattle.operator_rows.specs.Steps.{MayFollow};
 ghost use Rattle.operator_steps.specs.declared.ending.Ending.{Ending as EndingOf};
 ghost use Rattle.operator_steps.specs.Ends.{IsOpen};
 ghost use Rattle.operator_steps.specs.Faults.{IsOwnFault};
-ghost use Rattle.operator_steps.specs.Moves.{AreInRange, PlannedBy, counters_of, step_of_acts};
+ghost use Rattle.operator_steps.specs.Moves.{AreInRange, PlannedBy, step_of_acts};
 ghost use Rattle.operator_steps.specs.Tick.{TickLine, TimeOut};
 ghost use Rattle.operator_steps.specs.TickFacts.{tick_acts};
-ghost use Rattle.operator_core.specs.Requests.{AllStand};
+ghost use Rattle.operator_core.specs.Requests.{AllStand, StopsActs};
 
 use crate::ends::add_expired;
 use crate::operator::Operator;
@@ -69,7 +70,7 @@ impl Operator {
         requires stand { AllStand self.now.state.rows.pushes due.now }
         ensures ok { IfOk result (λ x. step_of x ≡ step_of_acts self.now.state (tick_acts at self.now.state ends.now expired.now due.now)) }
         ensures in_range { OnOk result (AreInRange self.now.state (tick_acts at self.now.state ends.now expired.now due.now)) }
-        ensures err { IfErr result (StopsBy (counted (counters_of self.now.state) (tick_acts at self.now.state ends.now expired.now due.now))) }
+        ensures err { IfErr result (StopsActs self.now.state (tick_acts at self.now.state ends.now expired.now due.now)) }
     {
         let mut draft = self.draft(Needs {
             packets: ends.len() + due.len(),
@@ -83,6 +84,7 @@ impl Operator {
     /// What becomes of a moment. Nothing changes. Refused as `on_tick` says.
     pub fn plan_tick(&self, at: Moment) -> Result<Plan, NodeFault>
         ensures step { IfOk result (λ x. PlannedBy (TickLine self.now.state at) self.now.state (step_of x)) }
+        ensures follows { IfOk result (λ x. MayFollow self.now.state (step_of x)) }
         ensures fault { IfErr result (IsOwnFault (TickLine self.now.state at) self.now.state) }
     {
         self.consistency();

@@ -1,4 +1,3 @@
-use Rattle.std.proofs.Common.{◌≡◌, sym, subst, ap, ◌∙◌}
 use Rattle.operator_rows.specs.Rows.{AreChanges}
 use Rattle.operator_rows.proofs.RowChanges.{row_changes}
 use Rattle.operator_core.proofs.operator.Operator.carry_out.Goals as goal

@@ -1,9 +1,6 @@
-use Rattle.std.proofs.Common.{◌≡◌, [], ◌∷◌, refl, arith}
-use Rattle.std.specs.Prelude.{Result, Ok, Err, IfOk}
+use Rattle.std.proofs.Common.{[], ◌∷◌, refl, arith}
 use Rattle.std.proofs.lemmas.Result.{IfOk-weaker}
 use Rattle.node_steps.specs.Acts.{acknowledged}
-use Rattle.node_steps.specs.Drafts.{IsInRange, Step, step_of}
-use Rattle.operator_steps.specs.Moves.{counters_of}
 use Rattle.operator_steps.specs.Steps.{Acknowledges, Comes}
 use Rattle.ocpi_types.specs.declared.rows.Change.TheVariants.{Drop}
 use Rattle.ocpi_types.specs.declared.rows.RowKey.TheVariants as keys

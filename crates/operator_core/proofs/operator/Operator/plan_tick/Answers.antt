@@ -1,6 +1,3 @@
-use Rattle.std.proofs.Common.{◌≡◌, ℕ, List, inl, inr, refl}
-use Rattle.std.specs.Prelude.{Contains, IsTrue}
-use Rattle.std.specs.FinMap.{contains_key, empty}
 use Rattle.outbox.specs.Due.{AreExactly, IsDue}
 use Rattle.reservation_book.specs.Calls.{AreExpired}
 use Rattle.node_steps.specs.Drafts.{step_of}
@@ -8,8 +5,8 @@ use Rattle.operator_rows.specs.State.{as_outbox}
 use Rattle.operator_steps.specs.Tick.{TickLine, TimeOut}
 use Rattle.operator_steps.specs.TickFacts.{tick_acts}
 use Rattle.operator_steps.proofs.TickStages.{due_stands, tick_is}
-use Rattle.operator_steps.proofs.TickSteps.{timed_open}
-use Rattle.operator_core.proofs.Plans.{all_planned, own_faults}
+use Rattle.operator_steps.proofs.TickSteps.{ticks_may_follow, timed_open}
+use Rattle.operator_core.proofs.Plans.{all_follow, all_planned, own_faults}
 use Rattle.operator_core.proofs.operator.Operator.plan_tick.Goals as goal
 
 pub plan_all-requires-clause-open : goal.plan_all-requires-clause-open
@@ -40,3 +37,8 @@ returns-clause-fault c =
     let due : AreExactly (IsDue (as_outbox s.rows) s.resend c.args.at) c.as_slice-3.result.now = rw (c.as_slice-3.ensures.value, ← c.self.view_is, ← c.outbox.ensures.rows, ← c.outbox.ensures.resend) c.in_ok-due.ensures.ok in
     let line = tick_is s c.args.at c.as_slice.result.now c.as_slice-2.result.now c.as_slice-3.result.now c.consistency.ensures timed expired due in
     own_faults (TickLine s c.args.at) s c.plan_all.result (tick_acts c.args.at s c.as_slice.result.now c.as_slice-2.result.now c.as_slice-3.result.now) line c.plan_all.ensures.err
+
+pub returns-clause-follows : goal.returns-clause-follows
+returns-clause-follows c =
+    let s = c.args.self.now.state in
+    all_follow (TickLine s c.args.at) s c.plan_all.result step_of (λ acts line. ticks_may_follow c.args.at s acts c.consistency.ensures line) (returns-clause-step c)
