@@ -5,8 +5,11 @@ OPERATOR = "BE/BEC"
 # As the site spells them.
 PROVIDERS = ["NL/TNM", "DE/EMP", "Lu/Lum"]
 LINES, WANTED = [], []
-# Of each case, its name, and the places of its first line and of the first line that it wants.
+# Of each case, its name, and the places of its first line and of the first line that it wants. A case without a name stands
+# where a further part of the input begins.
 CASES = []
+# The places behind the site lines, which give nothing.
+OPENED = []
 
 
 def text(value):
@@ -50,6 +53,20 @@ def url(number, party="NL/TNM"):
 BODIES = {}
 
 
+def open_site(line):
+    """The site line of the operator of the lines that follow."""
+    LINES.append(line)
+    OPENED.append(len(LINES))
+
+
+def open_part(line):
+    """Begins a further part of the input, with that site line."""
+    end()
+    CASES.append(("", len(LINES), len(WANTED)))
+    LINES.append("\foperator")
+    open_site(line)
+
+
 def enter(line):
     """The next line. What is told from here on is what it gives; an empty line ends that, also where nothing is told."""
     end()
@@ -57,9 +74,9 @@ def enter(line):
 
 
 def end():
-    """Ends what the last line gives. The first is the site line, which gives nothing. The rows of a step are told in any order,
-    and wanted sorted, behind its packets; those of `stored` have the order in which they are told."""
-    if len(LINES) <= 1:
+    """Ends what the last line gives, which of a site line is nothing. The rows of a step are told in any order, and wanted
+    sorted, behind its packets; those of `stored` have the order in which they are told."""
+    if len(LINES) in OPENED:
         return
     if LINES[-1] != "stored":
         first = len(WANTED)
@@ -139,6 +156,12 @@ class Case:
 
     def restart(self):
         self.event(event="restart", node=OPERATOR)
+
+    def given(self, counter, last):
+        """The row of a counter stands from here on, though no step put it."""
+        row = text({"last": last})
+        enter("row count\t%s\t%s" % (counter, row))
+        self.rows[("count", counter)] = row
 
     # What the operator sends, and the rows that it puts.
 

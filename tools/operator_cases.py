@@ -1,10 +1,28 @@
 """The part `operator` of the cases of the program `case_lines`: events at an operator, and what each must give.
 
-Each case is told in short words here and spelled out by `operator_case`, which knows the rules apart from the code: what is sent
-and which rows are put or dropped are written behind each event by hand, and an event behind which nothing stands gives nothing.
-The cases of what charge points report, of time and of new starts are in `operator_time_cases`.
+Each case is told in short words here and spelled out by `operator_case`, which knows the rules apart from the code: what is
+sent and which rows are put or dropped are written behind each event by hand, and an event behind which nothing stands gives
+nothing.
+The cases of what charge points report, of time and of new starts are in `operator_time_cases`, those of the last numbers and of
+a tick that does much in `operator_limit_cases`.
 """
-from operator_case import CASES, LINES, OPERATOR, PROVIDERS, WANTED, Case, end, enter, location, moment, refused, text, token, url
+from operator_case import (
+    CASES,
+    LINES,
+    OPERATOR,
+    PROVIDERS,
+    WANTED,
+    Case,
+    end,
+    location,
+    moment,
+    open_site,
+    refused,
+    text,
+    token,
+    url,
+)
+from operator_limit_cases import add_limit_cases
 from operator_time_cases import add_time_cases
 
 # The cases in which each allocation fails once: bench/fail_allocations.sh.
@@ -14,6 +32,7 @@ WITHOUT_MEMORY = [
     "a reservation moves to another EVSE, and not to another location",
     "a connector that was unlocked",
     "commands that time out by provider and number, reservations that expire, and then pushes that are due",
+    "a tick for which serials are wanting ends nothing, and one that sends nothing needs none",
 ]
 
 
@@ -232,10 +251,11 @@ def cases_without_memory():
 def cases():
     """The lines, and what they must give."""
     site = {"currency": "EUR", "locations": [location("LOC1", ["E1", "E2"]), location("LOC2", ["E3"])], "price": 0.25}
-    enter(text({"at": moment("10:00:00"), "party": OPERATOR, "providers": PROVIDERS, "site": site}))
+    open_site(text({"at": moment("10:00:00"), "party": OPERATOR, "providers": PROVIDERS, "site": site}))
     starts()
     reservations()
     others()
     add_time_cases()
+    add_limit_cases()
     end()
     return LINES, WANTED

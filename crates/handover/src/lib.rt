@@ -1,4 +1,18 @@
 //! What operators hand over to a provider: the sessions and charge detail records that it takes and settles by.
+//!
+//! ```
+//! let mut inbox = Inbox::new(alloc);
+//! let taking = inbox.take_session(&own, &sender, &session)?;
+//! let held = inbox.held(&session.party, &session.id);
+//! match inbox.take_cdr(&own, &sender, cdr)? {
+//!     CdrTaking::Taken | CdrTaking::Kept => acknowledge(),
+//!     CdrTaking::Conflict => refuse(),
+//! }
+//! let owed = inbox.settlement(&sender, currency);
+//! ```
+//!
+//! What is `owed` is the sum of the costs of the records that are held, each once, in ten-thousandths, however often each
+//! came.
 #![tactic(auto)]
 
 mod cdr_book;

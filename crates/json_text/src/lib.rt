@@ -1,5 +1,17 @@
 //! Lines of JSON as trees in which a number stands as it was written, the members of such trees, and records written as
 //! JSON.
+//!
+//! ```
+//! let mut scratch = Scratch::new(alloc);
+//! let tree = line_tree(alloc, &mut scratch, line)?;
+//! let uid = fields::ci_in::<36>(&tree, Field::Uid)?;
+//!
+//! let mut out = RecordWriter::new(alloc)?;
+//! out.begin()?;
+//! out.ci(Field::Uid, uid)?;
+//! out.end()?;
+//! let text = out.into_text();
+//! ```
 #![tactic(auto)]
 
 mod fault;

@@ -1,14 +1,16 @@
 -- What steps of a node are made of. A step is a list of acts, each with the rows that it changes, the messages that it sends, and
 -- what it does to what stands in no row. A later kind of event is a further act, and changes none of these.
-use Rattle.std.specs.Prelude.{ℕ, ◌+◌, List, [], ◌∷◌, ◌++◌}
+use Rattle.std.specs.Prelude.{ℕ, ◌+◌, List, [], ◌∷◌, ◌++◌, None}
 use Rattle.std.specs.List.{flat_map}
-use Rattle.ocpi_types.specs.Stored.{body_of_reply, body_of_push}
+use Rattle.ocpi_types.specs.Stored.{body_of_command, body_of_reply, body_of_push}
 use Rattle.ocpi_types.specs.declared.rows.Change.{Change}
 use Rattle.ocpi_types.specs.declared.rows.Change.TheVariants.{Put, Drop}
 use Rattle.ocpi_types.specs.declared.rows.Row.TheVariants as row
 use Rattle.ocpi_types.specs.declared.rows.RowKey.TheVariants as keys
+use Rattle.ocpi_types.specs.declared.stored.Command.{Command}
 use Rattle.ocpi_types.specs.declared.stored.Push.{Push}
 use Rattle.ocpi_types.specs.declared.stored.Reply.{Reply}
+use Rattle.ocpi_types.specs.declared.stored.SentCommand.{SentCommand}
 use Rattle.node_steps.specs.Messages.{Message}
 use Rattle.node_steps.specs.declared.plan.Volatile.{Volatile}
 use Rattle.node_steps.specs.declared.plan.Volatile.TheVariants.{Sent}
@@ -48,6 +50,22 @@ resent at n to p = record { changes = []; messages = push_message n to p ∷ [];
 -- the push of number n is acknowledged
 abbrev pub acknowledged : ℕ → Act
 acknowledged n = changed (Drop (keys.Push n))
+
+-- a command that was sent to a party, and has neither an answer nor a result yet
+abbrev pub unanswered : List ℕ → Command → SentCommand
+unanswered to c = record { to = to; command = c; answer = None; result = None }
+
+-- the message that carries a command
+abbrev pub command_message : ℕ → List ℕ → Command → Message
+command_message n to c = record { to = to; request = n; body = body_of_command c }
+
+-- the next request, of number n, is a command, which is sent at a moment
+abbrev pub commanded : ℕ → ℕ → List ℕ → Command → Act
+commanded at n to c = record { changes = Put (row.Command n (unanswered to c)) ∷ []; messages = command_message n to c ∷ []; volatile = Sent n at ∷ []; requests = 1 }
+
+-- the command of number n is sent again at a moment
+abbrev pub command_resent : ℕ → ℕ → List ℕ → Command → Act
+command_resent at n to c = record { changes = []; messages = command_message n to c ∷ []; volatile = Sent n at ∷ []; requests = 0 }
 
 -- the parts of acts: a message is sent; the request of number n is noted as sent at a moment; the next number of a request is taken
 abbrev pub said : Message → Act

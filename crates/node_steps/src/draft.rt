@@ -2,13 +2,15 @@
 
 ghost use Rattle.std.specs.Prelude.{◌≡◌, ◌≤◌, ◌<◌, ◌++◌, ◌∷◌, ◌+◌, [], OnOk, IfOk, IfErr, SomeIff};
 ghost use Rattle.ocpi_text.specs.Whole.{max_whole};
-ghost use Rattle.node_steps.specs.Acts.{acknowledged, answered, changed, noted, pushed, repeated, resent, said, taken};
+ghost use Rattle.node_steps.specs.Acts.{acknowledged, answered, changed, command_resent, commanded, noted, pushed, repeated, resent, said, taken};
 ghost use Rattle.node_steps.specs.Drafts.{HasNumbers, IsInRange, StopsBy, count_change, later, opened, step_of, with_acts};
 
 use crate::fault::NodeFault;
 use crate::plan::{Plan, Volatile};
 use ocpi_text::{Moment, Party, PartyKey, Whole};
-use ocpi_types::{Body, Change, Counter, Packet, Push, Reply, Row, RowKey};
+use ocpi_types::{
+    Body, Boxed, Change, Command, Counter, Packet, Push, Reply, Row, RowKey, SentCommand,
+};
 use outbox::Outgoing;
 use std::alloc::{AllocError, Global};
 use std::marker::Model;
@@ -124,7 +126,7 @@ impl Draft {
         push_count(&mut changes, Counter::Serial, serial, most_serial)?;
         push_count(&mut changes, Counter::Request, request, most_request)?;
         let packets = Vec::with_capacity(alloc, needs.packets)?;
-        let volatile = Vec::with_capacity(alloc, needs.requests)?;
+        let volatile = Vec::with_capacity(alloc, needs.packets)?;
         Ok(Draft {
             party,
             plan: Plan {
@@ -262,6 +264,46 @@ impl Draft {
     {
         let body = outgoing.push.copy()?.into_body();
         self.send(outgoing.to, number, body)?;
+        self.note(at, number)
+    }
+
+    /// Adds a command, under the number of the next request: it is kept, and sent at a moment.
+    pub fn command(
+        &mut self,
+        alloc: Global,
+        at: Moment,
+        to: Party,
+        command: Command,
+    ) -> Result<(), AllocError>
+        requires { HasNumbers 1 1 self.old }
+        ensures { OnOk result (self.new ≡ with_acts (commanded at (self.old.counters.request + 1) to command ∷ []) self.old) }
+    {
+        let body = command.copy()?.into_body();
+        let sent = SentCommand {
+            to,
+            command,
+            answer: None,
+            result: None,
+        };
+        let command = Boxed::new(alloc, sent)?;
+        let number = self.take_request();
+        self.send(to, number, body)?;
+        self.change(Change::Put(Row::Command { number, command }))?;
+        self.note(at, number)
+    }
+
+    /// Adds that the command of a number is sent again at a moment.
+    pub fn resend_command(
+        &mut self,
+        at: Moment,
+        number: Whole,
+        command: &SentCommand,
+    ) -> Result<(), AllocError>
+        requires { HasNumbers 1 0 self.old }
+        ensures { OnOk result (self.new ≡ with_acts (command_resent at number command.now.to command.now.command ∷ []) self.old) }
+    {
+        let body = command.command.copy()?.into_body();
+        self.send(command.to, number, body)?;
         self.note(at, number)
     }
 

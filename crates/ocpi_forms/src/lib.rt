@@ -1,4 +1,12 @@
 //! The records of OCPI 2.2.1, each read from a JSON tree with the first fault told, and written as JSON.
+//!
+//! ```
+//! let tree = line_tree(alloc, &mut scratch, line)?;
+//! let token = token_of(&tree)?;
+//! let mut out = RecordWriter::new(alloc)?;
+//! token.write(&mut out)?;
+//! let text = out.into_text();
+//! ```
 #![tactic(auto)]
 
 mod authorizations;

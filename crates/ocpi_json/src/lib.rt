@@ -1,5 +1,17 @@
 //! OCPI 2.2.1 as lines of JSON: packets, site lines, setups and events, read with the first fault told, and packets
 //! written; and the rows of a node, whose texts are JSON, read and written.
+//!
+//! ```
+//! let mut scratch = Scratch::new(alloc);
+//! let site_line = read_site(alloc, &mut scratch, first_line)?;
+//! let packet = read_packet(alloc, &mut scratch, line)?;
+//! let text = write_packet(alloc, &packet)?;
+//!
+//! let kind = RowKind::of_key(&row.key()).word();
+//! let key = write_key(alloc, &row.key())?;
+//! let text = write_row(alloc, &row)?;
+//! let row = read_row(alloc, &mut scratch, kind, key.as_str(), text.as_bytes())?;
+//! ```
 #![tactic(auto)]
 
 mod events;

@@ -1,6 +1,6 @@
 //! The program `answer`: one operator, which the first line makes and each other line sends a packet.
 
-ghost use Rattle.std.specs.Prelude.{◌≡◌, ◌≢◌, ◌++◌, ◌∷◌, ℕ, List, [], Option, None, Some, Ok, Err, true, IfOk, IfErr, IfSome, OnOk, codes, string_bytes};
+ghost use Rattle.std.specs.Prelude.{◌≡◌, ◌≢◌, ◌++◌, ◌∷◌, ℕ, List, [], Option, None, Some, Ok, Err, true, IfOk, IfErr, IfSome, OnErr, OnOk, codes, string_bytes};
 ghost use Rattle.json_text.specs.Fault.{Fails};
 ghost use Rattle.ocpi_json.specs.Packets.{packet_in};
 ghost use Rattle.ocpi_json.specs.SiteLines.{site_in};
@@ -10,6 +10,7 @@ ghost use Rattle.ocpi_nodes.specs.Answer.{EndGives, LineGives, PacketTurn, SiteT
 ghost use Rattle.line_runs.specs.Run.{Begins, Outputs, ReadsFewLines, StopsReading};
 
 use line_runs::{AnswerLines, LineReader, Ran, RunFault, Turn, run_whole};
+use node_steps::{NodeFault, Stepped};
 use ocpi_json::{JsonFault, Scratch, read_packet, read_site, write_packet};
 use ocpi_text::Moment;
 use ocpi_types::Packet;
@@ -36,6 +37,22 @@ impl Model for Running {
     ghost coded = { Prim.hlevel (codes, map.code) };
 
     ghost view = { λ r. record { at = r.at; operator = r.operator.state } };
+}
+
+impl Running {
+    ghost use Rattle.operator_core.specs.Requests.{out_of};
+    ghost use Rattle.operator_steps.specs.Faults.{IsDue};
+    ghost use Rattle.operator_steps.specs.Steps.{OperatorStep};
+
+    /// A packet comes to the operator. A refusal changes nothing and sends nothing.
+    fn on_packet(&mut self, packet: &Packet) -> Result<Stepped, NodeFault>
+        ensures step { IfOk result (λ x. OperatorStep self.old.operator self.old.at packet.now (out_of self.new.operator x)) }
+        ensures fault { IfErr result (IsDue self.old.operator self.old.at packet.now) }
+        ensures err { OnErr result (self.new ≡ self.old) }
+        ensures at { self.new.at ≡ self.old.at }
+    {
+        self.operator.on_packet(self.at, packet)
+    }
 }
 
 /// What the lines so far have made: an operator, from the first on.
@@ -142,7 +159,7 @@ fn answer_read(
     ensures { IfOk result (λ turn. (out : List ℕ) × (string_bytes output.new ≡ string_bytes output.old ++ out)
         × ((line : List ℕ) → packet_in line ≡ Ok packet.now → PacketTurn running.old line turn out (Some running.new))) }
 {
-    match running.operator.on_packet(running.at, packet) {
+    match running.on_packet(packet) {
         Ok(stepped) => {
             write_packets(alloc, stepped.packets.as_slice(), output)?;
             Ok(Turn::Taken)

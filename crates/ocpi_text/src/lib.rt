@@ -1,4 +1,17 @@
 //! Texts, parties, moments and numbers of OCPI 2.2.1.
+//!
+//! ```
+//! let uid = CiText::<36>::new("be-bec-1")?;
+//! let is_same = uid.is_same(&CiText::new("BE-BEC-1")?);
+//! let party = Party::read("BE/BEC")?;
+//! let sent = Moment::read("2025-01-01T10:00:00Z")?;
+//! let due = sent.after(10_000).write(alloc)?;
+//! let energy = Quantity::new(E4::read("12.5")?);
+//! let session_id = own_id(OwnIdKind::Session, party, number);
+//! ```
+//!
+//! Here `is_same` is true, `due` is `2025-01-01T10:00:10Z`, and there is an `energy`, since the number is not negative. A
+//! text is kept as it was spelled; `key` gives the form in which texts are compared and stored as keys.
 #![tactic(auto)]
 
 mod calendar;

@@ -1,5 +1,18 @@
 //! The records of OCPI 2.2.1: tokens, commands, sessions, charge detail records, packets, and the sites that operators
 //! configure; the setups and events of runs; and the rows that a node stores.
+//!
+//! ```
+//! let status_code = StatusCode::new(1000)?;
+//! let body = Body::Ack(Ack { status_code, timestamp: at });
+//! let packet = Packet { from, to, serial, request, body };
+//! let equal = packet.copy()?;
+//! let mark = Row::Mark { provider: from.key(), reservation_id, number };
+//! let key = mark.key();
+//! let changes = [Change::Put(mark), Change::Drop(RowKey::Push { number: request })];
+//! ```
+//!
+//! A type with a rule of its own is made by a `new`, which answers none where the rule does not hold. What owns memory has
+//! a `copy`, which may want some.
 #![tactic(auto)]
 
 mod apart;

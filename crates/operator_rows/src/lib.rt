@@ -1,6 +1,15 @@
 //! What an operator stores: its rows, the claims on the site's EVSEs that follow from them, and the resend times of its pushes;
 //! and how a step that is decided is carried out.
 //!
+//! ```
+//! let mut books = Books::new(alloc, site_line)?;
+//! let plan = Plan::one(alloc, Change::Put(Row::Service { evse_uid }))?;
+//! books.make_room(&plan)?;
+//! let packets = books.apply(plan);
+//! let rows = books.stored(alloc)?;
+//! books.restart(alloc);
+//! ```
+//!
 //! A step comes as a `Plan`. `Books::make_room` takes all the memory that it needs, and changes nothing that is stored;
 //! `Books::apply` then carries it out, takes no memory and cannot fail.
 #![tactic(auto)]

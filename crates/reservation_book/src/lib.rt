@@ -1,5 +1,18 @@
 //! The reservations of an operator (OCPI 2.2.1, Commands: ReserveNow and CancelReservation): which stand, and how new a
 //! request about one must be.
+//!
+//! ```
+//! let mut book = ReservationBook::new(alloc);
+//! book.reserve(provider, id, number, reservation)?;
+//! let mark = book.mark(provider, id);
+//! let token = TokenAt { provider, location_id, uid, token_type };
+//! let held = book.first_for(&token, None);
+//! let outcome = book.cancel(provider, id, later_number)?;
+//! let expired = book.expire(alloc, at)?;
+//! ```
+//!
+//! A request whose number is below the mark of its reservation is refused (`Stale`). A cancellation sets the mark also
+//! where the reservation does not stand, so it holds where it comes first.
 #![tactic(auto)]
 
 mod all_rows;

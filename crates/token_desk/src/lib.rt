@@ -1,5 +1,17 @@
 //! The tokens that a node holds, and what it decides by them: whether an operator starts a session for a token that a
 //! driver shows, and whether a provider allows a token (OCPI 2.2.1, Tokens).
+//!
+//! ```
+//! let mut desk = TokenDesk::new(alloc);
+//! let put = desk.put(sender, &token)?;
+//! let held = desk.find(sender, uid, token_type);
+//! match desk.decide(None, uid, token_type) {
+//!     Swipe::Begin(token) => begin(token),
+//!     Swipe::Ask(token) => ask(token),
+//!     Swipe::Nothing => {}
+//! }
+//! let answer = desk.authorize(&party, uid, Some(token_type))?;
+//! ```
 #![tactic(auto)]
 
 mod answers;

@@ -7,17 +7,17 @@ use Rattle.ocpi_nodes.proofs.answer.answer_read.Goals as goal
 pub returns-in_ok-write_packets-in-Ok : goal.returns-in_ok-write_packets-in-Ok
 returns-in_ok-write_packets-in-Ok c =
     let sent = c.in-Ok.stepped in
+    let next = c.on_packet.new.self in
     let before = string_bytes c.args.output.now in (
       packet_lines sent.packets.items,
       c.in_ok-write_packets-in-Ok.ensures ∙ ap (λ packets. before ++ packet_lines packets) c.as_slice.ensures.value,
-      λ line is. Answered c.args.packet.now is (out_of c.on_packet.new.self sent) c.in-Ok.ensures.step refl refl refl,
+      λ line is. Answered c.args.packet.now is (out_of next.operator sent) c.in-Ok.ensures.step refl refl (ap (λ at. Some (record { at = at; operator = next.operator })) c.on_packet.ensures.at),
     )
 
 pub returns-in_ok-refuse-in-Err : goal.returns-in_ok-refuse-in-Err
 returns-in_ok-refuse-in-Err c =
-    let fault = c.in-Err.fault in
-    let at = c.args.running.now.at in (
+    let fault = c.in-Err.fault in (
       refusal_line (fault_text fault),
       c.in_ok-refuse-in-Err.ensures,
-      λ line is. Unanswered c.args.packet.now is fault c.in-Err.ensures.fault refl refl (ap (λ o. Some (record { at = at; operator = o })) c.in-Err.ensures.err),
+      λ line is. Unanswered c.args.packet.now is fault c.in-Err.ensures.fault refl refl (ap Some c.in-Err.ensures.err),
     )
