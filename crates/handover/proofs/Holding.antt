@@ -14,7 +14,7 @@ use Rattle.handover.specs.Inbox.{Sessions, AreOwnSessions, KeepsRoom, KeepsOther
 use Rattle.handover.specs.declared.takings.CdrTaking.{CdrTaking}
 use Rattle.handover.specs.declared.takings.CdrTaking.TheVariants.{Taken, Kept, Conflict}
 use Rattle.handover.proofs.Keeping.{Texts}
-use Rattle.handover.proofs.Rooms.{other_room}
+use Rattle.tables.proofs.Rooms.{other_room}
 use Rattle.tables.proofs.Options.{not_both}
 
 pub own_none : AreOwnSessions empty

@@ -16,7 +16,7 @@ use Rattle.handover.proofs.Neighbours.{HasElse, HasLater}
 use Rattle.handover.proofs.Totals.{term_at, total_insert, total_remove, bounded_sum}
 use Rattle.std.proofs.lemmas.Option.{same_Some}
 use Rattle.tables.proofs.Options.{not_both, none_else}
-use Rattle.handover.proofs.Rooms.{other_room, room_gone}
+use Rattle.tables.proofs.Rooms.{other_room, room_gone}
 use Rattle.tables.proofs.Indexing.{listed, unlisted, nothing_listed}
 use Rattle.std.proofs.lemmas.List.{nil_from_length}
 
@@ -72,17 +72,17 @@ module _ (m : Cdrs) (sessions : FinMap session_cmp (Unit {0})) (sums : FinMap te
     }
 
   -- the account of a record has room for its sum
-  pub account_room : (k : Texts) (x : Cdr) (currency : List ℕ) → get m k ≡ Some x → currency ≡ x.currency → IsTrue (contains_key rooms (k.0, currency))
-  account_room k x currency had is =
+  pub account_room : (k : Texts) (x : Cdr) → get m k ≡ Some x → IsTrue (contains_key rooms (k.0, x.currency))
+  account_room k x had =
       let own = kept.own k x had in
-      subst (λ a. IsTrue (contains_key rooms a)) (λ i. ((sym own i).0, sym is i)) (kept.roomed k x had)
+      subst (λ a. IsTrue (contains_key rooms a)) (λ i. ((sym own i).0, x.currency)) (kept.roomed k x had)
 
-  pub cleared : (k : Texts) (x : Cdr) (session : Texts) (currency : List ℕ) (amount : ℤ) (n : Cdrs) (index : FinMap session_cmp (Unit {0})) (after : FinMap text_pair_cmp ℤ) (left : FinMap text_pair_cmp (Unit {0})) →
-      get m k ≡ Some x → session ≡ (key x.party, key x.session_id) → currency ≡ x.currency → amount ≡ neg_ℤ x.total_cost.excl_vat →
-      n ≡ remove m k → index ≡ remove sessions (session, k.1) → ((a : Account) → sum_at after a ≡ sum_at sums a +ℤ seen_by a (k.0, currency) amount) → left ≡ rooms → IsKept n index after left
-  cleared k x session currency amount n index after left had of is neg ns ls less rs =
+  pub cleared : (k : Texts) (x : Cdr) (session : Texts) (amount : ℤ) (n : Cdrs) (index : FinMap session_cmp (Unit {0})) (after : FinMap text_pair_cmp ℤ) (left : FinMap text_pair_cmp (Unit {0})) →
+      get m k ≡ Some x → session ≡ (key x.party, key x.session_id) → amount ≡ neg_ℤ x.total_cost.excl_vat →
+      n ≡ remove m k → index ≡ remove sessions (session, k.1) → ((a : Account) → sum_at after a ≡ sum_at sums a +ℤ seen_by a (k.0, x.currency) amount) → left ≡ rooms → IsKept n index after left
+  cleared k x session amount n index after left had of neg ns ls less rs =
       let own = kept.own k x had in
-      let account : (k.0, currency) ≡ account_of x = λ i. ((own i).0, is i) in
+      let account : (k.0, x.currency) ≡ account_of x = λ i. ((own i).0, x.currency) in
       let gone : (session, k.1) ≡ ((k.0, key x.session_id), k.1) = ap (λ (s : Texts). (s, k.1)) (of ∙ (λ i. ((sym own i).0, key x.session_id))) in
       let done = kept_clear k x had after (λ a. less a ∙ ap (λ b. sum_at sums a +ℤ seen_by a b amount) account ∙ ap (λ z. sum_at sums a +ℤ seen_by a (account_of x) z) neg) in
       rw (ns, rs) (subst (λ l. IsKept (remove m k) l after rooms) (sym (ls ∙ ap (remove sessions) gone)) done)
@@ -116,21 +116,32 @@ module _ (m : Cdrs) (sessions : FinMap session_cmp (Unit {0})) (sums : FinMap te
       roomed = λ q y h. elim (put_or_stood q y h) [ inl is ↦ subst (λ (z : Cdr). IsTrue (contains_key rooms (account_of z))) is.1 room | inr was ↦ kept.roomed q y was.1 ];
     }
 
-  pub filled : (x : Cdr) (k session : Texts) (currency : List ℕ) (amount : ℤ) (n : Cdrs) (index : FinMap session_cmp (Unit {0})) (after : FinMap text_pair_cmp ℤ) (left : FinMap text_pair_cmp (Unit {0})) →
+  pub filled : (x : Cdr) (k session : Texts) (amount : ℤ) (n : Cdrs) (index : FinMap session_cmp (Unit {0})) (after : FinMap text_pair_cmp ℤ) (left : FinMap text_pair_cmp (Unit {0})) →
       get m (cdr_key x) ≡ None → unsigned_abs x.total_cost.excl_vat < e4_limit → IsTrue (contains_key rooms (account_of x)) →
-      k ≡ cdr_key x → session ≡ (key x.party, key x.session_id) → currency ≡ x.currency → amount ≡ x.total_cost.excl_vat →
-      n ≡ insert m k x → index ≡ insert sessions (session, k.1) tt → ((a : Account) → sum_at after a ≡ sum_at sums a +ℤ seen_by a (k.0, currency) amount) → left ≡ rooms → IsKept n index after left
-  filled x k session currency amount n index after left none bound room at of is cost ns ls more rs =
-      let account : (k.0, currency) ≡ account_of x = λ i. ((at i).0, is i) in
+      k ≡ cdr_key x → session ≡ (key x.party, key x.session_id) → amount ≡ x.total_cost.excl_vat →
+      n ≡ insert m k x → index ≡ insert sessions (session, k.1) tt → ((a : Account) → sum_at after a ≡ sum_at sums a +ℤ seen_by a (k.0, x.currency) amount) → left ≡ rooms → IsKept n index after left
+  filled x k session amount n index after left none bound room at of cost ns ls more rs =
+      let account : (k.0, x.currency) ≡ account_of x = λ i. ((at i).0, x.currency) in
       let place : (session, k.1) ≡ ((key x.party, key x.session_id), key x.id) = λ i. (of i, (at i).1) in
       let done = kept_fill x none bound room after (λ a. more a ∙ ap (λ b. sum_at sums a +ℤ seen_by a b amount) account ∙ ap (λ z. sum_at sums a +ℤ seen_by a (account_of x) z) cost) in
       subst (λ n. IsKept n index after left) (sym (ns ∙ ap (λ q. insert m q x) at))
       (subst (λ l. IsKept (insert m (cdr_key x) x) l after left) (sym (ls ∙ ap (λ q. insert sessions q tt) place))
       (subst (λ r. IsKept (insert m (cdr_key x) x) (insert sessions ((key x.party, key x.session_id), key x.id) tt) after r) (sym rs) done))
 
+-- and by room for more sums
+pub kept_room : (m n : Cdrs) (sessions index : FinMap session_cmp (Unit {0})) (sums after : FinMap text_pair_cmp ℤ) (rooms left : FinMap text_pair_cmp (Unit {0})) → IsKept m sessions sums rooms →
+    n ≡ m → index ≡ sessions → after ≡ sums → ((a : Account) → IsTrue (contains_key rooms a) → IsTrue (contains_key left a)) → IsKept n index after left
+kept_room m n sessions index sums after rooms left kept ns ls ss more = rw (ns, ls, ss) (record {
+  own = kept.own;
+  bounded = kept.bounded;
+  listed = kept.listed;
+  summed = kept.summed;
+  roomed = λ k x had. more (account_of x) (kept.roomed k x had);
+})
+
 -- no record is held
-pub kept_none : IsKept empty empty empty empty
-kept_none = record {
+pub kept_none : (rooms : FinMap text_pair_cmp (Unit {0})) → IsKept empty empty empty rooms
+kept_none rooms = record {
   own = λ k x h. not_both x _ (get-empty text_pair_cmp k) h;
   bounded = λ k x h. not_both x _ (get-empty text_pair_cmp k) h;
   listed = nothing_listed text_pair_total text_pair_exact session_total session_exact session_entry record_key (λ k x. refl);
@@ -168,20 +179,20 @@ module _ (m : Cdrs) (sessions : FinMap session_cmp (Unit {0})) (sums : FinMap te
       not_both of.0 _ (ap (λ (p : List ℕ). get m (p, k.1)) is ∙ none) of.1))
 
 -- the room of a record, by its parts
-pub has_cdr_room : (s : CdrRooms) (x : Cdr) (o i e c : List ℕ) → o ≡ key x.party → i ≡ key x.id → e ≡ key x.session_id → c ≡ x.currency →
-    IsTrue (contains_key s.cdrs (o, i)) → IsTrue (contains_key s.sessions ((o, e), i)) → IsTrue (contains_key s.sums (o, c)) → HasRoomOfCdr s x
-has_cdr_room s x o i e c eo ei ee ec h k l = record {
+pub has_cdr_room : (s : CdrRooms) (x : Cdr) (o i e : List ℕ) → o ≡ key x.party → i ≡ key x.id → e ≡ key x.session_id →
+    IsTrue (contains_key s.cdrs (o, i)) → IsTrue (contains_key s.sessions ((o, e), i)) → IsTrue (contains_key s.sums (o, x.currency)) → HasRoomOfCdr s x
+has_cdr_room s x o i e eo ei ee h k l = record {
   of_record = subst (λ q. IsTrue (contains_key s.cdrs q)) (λ j. (eo j, ei j)) h;
   of_session = subst (λ q. IsTrue (contains_key s.sessions q)) (λ j. ((eo j, ee j), ei j)) k;
-  of_sum = subst (λ q. IsTrue (contains_key s.sums q)) (λ j. (eo j, ec j)) l;
+  of_sum = subst (λ q. IsTrue (contains_key s.sums q)) (λ j. (eo j, x.currency)) l;
 }
 
-pub cdr_room_parts : (s : CdrRooms) (x : Cdr) (o i e c : List ℕ) → o ≡ key x.party → i ≡ key x.id → e ≡ key x.session_id → c ≡ x.currency → HasRoomOfCdr s x →
-    IsTrue (contains_key s.cdrs (o, i)) × IsTrue (contains_key s.sessions ((o, e), i)) × IsTrue (contains_key s.sums (o, c))
-cdr_room_parts s x o i e c eo ei ee ec h = (
+pub cdr_room_parts : (s : CdrRooms) (x : Cdr) (o i e : List ℕ) → o ≡ key x.party → i ≡ key x.id → e ≡ key x.session_id → HasRoomOfCdr s x →
+    IsTrue (contains_key s.cdrs (o, i)) × IsTrue (contains_key s.sessions ((o, e), i)) × IsTrue (contains_key s.sums (o, x.currency))
+cdr_room_parts s x o i e eo ei ee h = (
   subst (λ q. IsTrue (contains_key s.cdrs q)) (λ j. (sym eo j, sym ei j)) h.of_record,
   subst (λ q. IsTrue (contains_key s.sessions q)) (λ j. ((sym eo j, sym ee j), sym ei j)) h.of_session,
-  subst (λ q. IsTrue (contains_key s.sums q)) (λ j. (sym eo j, sym ec j)) h.of_sum,
+  subst (λ q. IsTrue (contains_key s.sums q)) (λ j. (sym eo j, x.currency)) h.of_sum,
 )
 
 pub keeps_cdr_room : (s t : CdrRooms) → ((q : Texts) → IsTrue (contains_key s.cdrs q) → IsTrue (contains_key t.cdrs q)) → ((q : SessionKey) → IsTrue (contains_key s.sessions q) → IsTrue (contains_key t.sessions q)) →

@@ -1,5 +1,4 @@
 pub mod Owed
-pub mod Equality
 pub mod FaultText
 pub mod Cdrs
 pub mod Inbox

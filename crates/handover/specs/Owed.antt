@@ -38,11 +38,6 @@ owed a cdrs = total (map (cost_in a) cdrs)
 abbrev pub sum_at : FinMap text_pair_cmp ℤ → Account → ℤ
 sum_at sums a = unwrap_or (get sums a) (pos 0)
 
--- the sums of accounts, and the accounts that have room for one
-pub record HeldSums : Type 0 where
-  pub sums : FinMap text_pair_cmp ℤ
-  pub rooms : FinMap text_pair_cmp (Unit {0})
-
 -- an operator and a currency that a record is of
 abbrev pub is_among : Account → List Cdr → Bool
 is_among a cdrs = list_any (λ (x : Cdr). is_account a (account_of x)) cdrs

@@ -1,6 +1,6 @@
 //! The charge detail records that are held, with what finds them by their sessions, and what is owed by them.
 
-ghost use Rattle.std.specs.Prelude.{◌≡◌, ◌≢◌, ◌↔◌, ◌++◌, ◌<◌, unsigned_abs, [], Some, None, IsOk, IsTrue, OnOk, false, option_copied};
+ghost use Rattle.std.specs.Prelude.{◌≡◌, ◌≢◌, ◌↔◌, ◌++◌, ◌<◌, unsigned_abs, None, IsOk, IsTrue, OnOk, false, option_copied};
 ghost use Rattle.std.specs.FinMap as map;
 ghost use Rattle.ocpi_text.specs.Text.{key};
 ghost use Rattle.ocpi_text.specs.Decimal.{e4_limit};
@@ -8,13 +8,12 @@ ghost use Rattle.ocpi_types.specs.declared.cdrs.Cdr.{Cdr};
 ghost use Rattle.handover.specs.Owed.{owed};
 ghost use Rattle.handover.specs.Cdrs.{AreOwnCdrs, HasRoomOfCdr, KeepsCdrRoom, GivesCdrBack, HasOther, HasLaterId, cdr_key, cdr_rows};
 
-use crate::currency::Currency;
-use crate::sums::Sums;
-use ocpi_text::{CiKey, CiText, PartyKey};
+use crate::sums::{Currency, Sums, add_to, sum_in};
+use ocpi_text::{CiKey, PartyKey};
 use ocpi_types::{Boxed, Cdr, Row};
 use std::alloc::{AllocError, Global};
 use std::marker::Model;
-use tables::Table;
+use tables::{Table, least_text};
 
 /// Charge detail records by operator and id, those of a session, and the sums of their costs.
 #[derive(Drop)]
@@ -41,21 +40,11 @@ impl Model for CdrBook {
       rooms = record {
         cdrs = rooms_of text_pair_cmp b.cdrs;
         sessions = rooms_of session_cmp b.sessions;
-        sums = b.sums.rooms;
+        sums = rooms_of text_pair_cmp b.sums;
       };
     } };
 
-    ghost invariant = { λ b. IsKept (shown_of text_pair_cmp b.cdrs) (shown_of session_cmp b.sessions) b.sums.sums b.sums.rooms };
-}
-
-/// The least key.
-fn least_id() -> CiKey<39>
-    ensures { result ≡ [] }
-{
-    match CiText::<39>::new("") {
-        Ok(text) => text.key(),
-        Err(_) => unreachable!(),
-    }
+    ghost invariant = { λ b. IsKept (shown_of text_pair_cmp b.cdrs) (shown_of session_cmp b.sessions) (shown_of text_pair_cmp b.sums) (rooms_of text_pair_cmp b.sums) };
 }
 
 /// The operator and the session of a record.
@@ -73,12 +62,6 @@ pub(crate) fn cost_of(cdr: &Cdr) -> i64
     cdr.total_cost.excl_vat.units()
 }
 
-pub(crate) fn currency_of(cdr: &Cdr) -> Currency
-    ensures { result ≡ cdr.now.currency }
-{
-    Currency::new(cdr.currency)
-}
-
 impl CdrBook {
     /// No record is held. It takes no memory.
     pub(crate) fn new(alloc: Global) -> CdrBook
@@ -87,7 +70,7 @@ impl CdrBook {
         CdrBook {
             cdrs: Table::new(alloc),
             sessions: Table::new(alloc),
-            sums: Sums::new(alloc),
+            sums: Table::new(alloc),
         }
     }
 
@@ -142,7 +125,7 @@ impl CdrBook {
         ensures others { IsTrue result ↔ HasOther self.now.cdrs session.now id.now }
         ensures own { AreOwnCdrs self.now.cdrs }
     {
-        let Some(first) = self.sessions.first_with(*session, least_id()) else {
+        let Some(first) = self.sessions.first_with(*session, least_text()) else {
             return false;
         };
         let is_itself = first.0.cmp(id).is_eq();
@@ -157,7 +140,7 @@ impl CdrBook {
     pub(crate) fn owed(&self, operator: PartyKey, currency: Currency) -> i128
         ensures { result ≡ owed (operator, currency) (map.values self.now.cdrs) }
     {
-        self.sums.sum(operator, currency)
+        sum_in(&self.sums, operator, currency)
     }
 
     /// Takes the room that a record needs. An error is want of memory, for a record that has none.
@@ -172,7 +155,7 @@ impl CdrBook {
         let session = (operator, cdr.session_id.key());
         self.cdrs.reserve((operator, id))?;
         self.sessions.reserve((session, id))?;
-        self.sums.reserve(operator, Currency::new(cdr.currency))?;
+        self.sums.reserve((operator, cdr.currency))?;
         Ok(())
     }
 
@@ -185,12 +168,12 @@ impl CdrBook {
             return;
         };
         let session = session_of(cdr);
-        let currency = currency_of(cdr);
+        let currency = cdr.currency;
         let cost = cost_of(cdr);
         let _most = self.cdrs.room_count();
         self.cdrs.clear((operator, id));
         self.sessions.clear((session, id));
-        self.sums.add(operator, currency, -cost);
+        add_to(&mut self.sums, operator, currency, -cost);
     }
 
     /// Puts a record where none of its operator and id is held. It takes no memory.
@@ -203,12 +186,12 @@ impl CdrBook {
         let operator = cdr.party.key();
         let id = cdr.id.key();
         let session = session_of(&cdr);
-        let currency = currency_of(&cdr);
+        let currency = cdr.currency;
         let cost = cost_of(&cdr);
         let _most = self.cdrs.room_count();
         self.cdrs.put((operator, id), cdr);
         self.sessions.put((session, id), ());
-        self.sums.add(operator, currency, cost);
+        add_to(&mut self.sums, operator, currency, cost);
     }
 
     /// Puts a record, in place of the one of its operator and id if there is one. It takes no memory.
@@ -232,9 +215,9 @@ impl CdrBook {
             return;
         };
         let session = session_of(&cdr);
-        let currency = currency_of(&cdr);
+        let currency = cdr.currency;
         let cost = cost_of(&cdr);
         self.sessions.remove((session, id));
-        self.sums.add(operator, currency, 0 - cost);
+        add_to(&mut self.sums, operator, currency, 0 - cost);
     }
 }

@@ -11,11 +11,11 @@ ghost use Rattle.handover.specs.declared.takings.SessionTaking.TheVariants as se
 ghost use Rattle.handover.specs.declared.takings.CdrTaking.TheVariants as cdr_taking;
 
 use crate::cdr_book::CdrBook;
-use crate::currency::Currency;
 use crate::equality::is_equal;
 use crate::fault::HandoverFault;
+use crate::sums::Currency;
 use crate::takings::{CdrTaking, SessionTaking};
-use ocpi_text::{CiKey, CiText, Party, PartyKey, ShortText};
+use ocpi_text::{CiKey, CiText, Party, PartyKey};
 use ocpi_types::{Cdr, Row, RowKey, Session, SessionStatus};
 use std::alloc::{AllocError, Global};
 use std::marker::Model;
@@ -267,10 +267,10 @@ impl Inbox {
     /// What is owed to an operator in a currency, in ten-thousandths: the sum of the costs of its charge detail records in that
     /// currency that are held, and 0 where none is. The operator is compared without case, the currency as spelled. It takes no
     /// memory.
-    pub fn settlement(&self, operator: &Party, currency: ShortText<3, 12>) -> i128
+    pub fn settlement(&self, operator: &Party, currency: Currency) -> i128
         ensures { result ≡ owed (key operator.now, currency) (map.values self.now.rows.cdrs) }
     {
-        self.cdrs.owed(operator.key(), Currency::new(currency))
+        self.cdrs.owed(operator.key(), currency)
     }
 
     /// Takes the memory that a session or a charge detail record needs; rows of other kinds need none. An error is want

@@ -16,7 +16,6 @@
 #![tactic(auto)]
 
 mod cdr_book;
-mod currency;
 mod equality;
 mod fault;
 mod inbox;
@@ -25,9 +24,9 @@ mod settle;
 mod sums;
 mod takings;
 
-pub use currency::Currency;
 pub use equality::is_equal;
 pub use fault::HandoverFault;
 pub use inbox::Inbox;
 pub use settle::settle_all;
+pub use sums::{Currency, Sums};
 pub use takings::{CdrTaking, SessionTaking};

@@ -7,7 +7,7 @@ use crate::decimal::E4;
 use std::marker::Model;
 
 /// A number in ten-thousandths that is not negative, and is below 10^15.
-#[derive(Clone, Copy)]
+#[derive(Clone, Copy, PartialEq)]
 pub struct Quantity {
     number: E4,
 }

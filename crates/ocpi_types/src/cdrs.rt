@@ -11,7 +11,7 @@ use ocpi_text::{CiText, E4, FreeText, Moment, Party, Quantity, ShortText};
 use std::alloc::AllocError;
 
 /// Where a place is on the earth, in decimal degrees (OCPI 2.2.1, Locations: GeoLocation class).
-#[derive(Drop)]
+#[derive(PartialEq, Drop)]
 pub struct GeoLocation {
     pub latitude: FreeText<10>,
     pub longitude: FreeText<11>,
@@ -30,7 +30,7 @@ impl GeoLocation {
 }
 
 /// The location, EVSE and connector of a session, as they were then (OCPI 2.2.1, CDRs: CdrLocation class).
-#[derive(Drop)]
+#[derive(PartialEq, Drop)]
 pub struct CdrLocation {
     pub id: CiText<36>,
     pub address: FreeText<45>,
@@ -89,7 +89,7 @@ impl CdrLocation {
 }
 
 /// What was used in a charging period (OCPI 2.2.1, CDRs: CdrDimension class).
-#[derive(Clone, Copy)]
+#[derive(Clone, Copy, PartialEq)]
 pub struct CdrDimension {
     /// The member `type`: of an energy in kilowatt-hours it is `ENERGY`.
     pub dimension_type: ShortText<64, 256>,
@@ -104,7 +104,7 @@ impl ListItem for CdrDimension {
 }
 
 /// A part of a session, from its moment to that of the next part or to the end (OCPI 2.2.1, CDRs: ChargingPeriod class).
-#[derive(Drop)]
+#[derive(PartialEq, Drop)]
 pub struct ChargingPeriod {
     pub start_date_time: Moment,
     pub dimensions: NonEmpty<CdrDimension>,
@@ -129,7 +129,7 @@ impl ChargingPeriod {
 }
 
 /// A charge detail record.
-#[derive(Drop)]
+#[derive(PartialEq, Drop)]
 pub struct Cdr {
     /// The operator: `country_code` and `party_id`.
     pub party: Party,

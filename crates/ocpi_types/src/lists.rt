@@ -1,6 +1,7 @@
 //! Lists of records.
 
 ghost use Rattle.std.specs.Prelude.{◌≡◌, ◌≤◌, IfOk, SomeIff, length};
+ghost use Rattle.std.specs.Cmp.Lexicographic.{lists_per, pointwise};
 
 use crate::copies::{ListItem, copy_all};
 use ocpi_text::CiText;
@@ -49,6 +50,17 @@ impl<T: ListItem> NonEmpty<T> {
     {
         let items = copy_all(*self.items.allocator(), self.items.as_slice())?;
         Ok(NonEmpty { items })
+    }
+}
+
+/// Item by item, in order.
+impl<T: PartialEq> PartialEq for NonEmpty<T> {
+    ghost eq = { λ s t. pointwise T.eq s t };
+
+    ghost laws = { lists_per T.laws };
+
+    fn eq(&self, other: &Self) -> bool {
+        self.items == other.items
     }
 }
 

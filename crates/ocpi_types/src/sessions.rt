@@ -8,7 +8,7 @@ use ocpi_text::{CiText, E4, Moment, Party, Quantity, ShortText};
 use std::alloc::AllocError;
 
 /// An amount of money in the currency of what it stands in (OCPI 2.2.1, Types: Price class). It may be negative.
-#[derive(Clone, Copy)]
+#[derive(Clone, Copy, PartialEq)]
 pub struct Price {
     /// Without tax.
     pub excl_vat: E4,

@@ -21,7 +21,7 @@ pub struct Token {
 }
 
 /// A token as sessions and charge detail records name it (OCPI 2.2.1, CDRs: CdrToken class).
-#[derive(Clone, Copy)]
+#[derive(Clone, Copy, PartialEq)]
 pub struct CdrToken {
     /// The provider of the contract: `country_code` and `party_id`.
     pub party: Party,

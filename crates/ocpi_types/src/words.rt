@@ -21,7 +21,7 @@ pub trait Word: Drop {
 }
 
 /// The type of a token (OCPI 2.2.1, Tokens: TokenType).
-#[derive(Clone, Copy)]
+#[derive(Clone, Copy, PartialEq)]
 pub enum TokenType {
     AdHocUser,
     AppUser,
@@ -246,7 +246,7 @@ impl Word for SessionStatus {
 }
 
 /// How a session was authorized (OCPI 2.2.1, CDRs: AuthMethod).
-#[derive(Clone, Copy)]
+#[derive(Clone, Copy, PartialEq)]
 pub enum AuthMethod {
     AuthRequest,
     Command,

@@ -1,6 +1,6 @@
 -- The numbers of requests that are due, and their order.
 use Rattle.std.proofs.Common.{◌≡◌, ◌≢◌, ◌⊎◌, ◌<◌, ◌≤◌, ℕ, List, [], ◌∷◌, ◌++◌, map, inl, inr, true, false, cond, T, refl, sym, ap, subst, ◌∙◌, arith, get_or}
-use Rattle.std.specs.Prelude.{Option, Some, None, IsTrue, is_some, Contains, nat_le, take_while, not, Bool}
+use Rattle.std.specs.Prelude.{Option, Some, IsTrue, is_some, Contains, nat_le, take_while, not, Bool}
 use Rattle.std.specs.Ordering.{is_le}
 use Rattle.std.specs.List.{AllPairs, filter}
 use Rattle.std.specs.List.Sorted.{IsSorted, IsPermutation}
@@ -17,15 +17,15 @@ use Rattle.std.proofs.lemmas.List.Sums.{take_while-cons}
 use Rattle.std.proofs.lemmas.Map.Keys.{le_from_not_gt, IsDistinct-from_apart, IsDistinct-IsPermutation, apart_from_distinct}
 use Rattle.std.proofs.lemmas.Bool.Decides.{nat_tests}
 use Rattle.tables.proofs.Maps.{equal_of_is_eq}
-use Rattle.tables.proofs.Options.{known, is_none, none_contained, none_of}
+use Rattle.tables.proofs.Options.{known}
 use Rattle.outbox.specs.Commands.{Numbers, AreWaiting}
 use Rattle.outbox.specs.Outbox.{OutboxRows, Waits, AreHeld}
 use Rattle.outbox.specs.Resend.{Resend, Moments, moment_number_cmp, IsQueue}
 use Rattle.outbox.specs.Due.{AreExactly, IsDue, due_front, untimed}
 use Rattle.outbox.proofs.Timing.{queue_total, queue_exact, queued_by, has_some, has_unit, not_above}
 use Rattle.tables.proofs.Ordered.{former, latter, le_of_not_gt}
-use Rattle.tables.proofs.Elements.{in_none, in_single, in_front, in_map, of_map, all_of, no_pairs, joined}
-use Rattle.tables.proofs.Entries.{apart_of_less, below_each, listed, listed_only, all_apart}
+use Rattle.tables.proofs.Elements.{in_none, in_single, in_front, all_of, no_pairs, joined}
+use Rattle.tables.proofs.Entries.{apart_of_less, below_each, listed, listed_only}
 use Rattle.std.proofs.lemmas.Option.{same_Some}
 use Rattle.tables.proofs.Parts.{first_part_le}
 

@@ -1,5 +1,5 @@
 -- What always holds of an outbox is kept by each change.
-use Rattle.std.proofs.Common.{◌≡◌, ◌≢◌, ◌⊎◌, ◌≤◌, ◌<◌, inl, inr, ℕ, true, false, refl, sym, ap, subst, ◌∙◌, arith}
+use Rattle.std.proofs.Common.{◌≡◌, ◌≢◌, ◌⊎◌, ◌≤◌, ◌<◌, inl, inr, ℕ, refl, sym, ap, subst, ◌∙◌, arith}
 use Rattle.std.specs.Prelude.{Option, Some, None, IsTrue, is_some}
 use Rattle.std.specs.Ordering.{nat_cmp}
 use Rattle.std.specs.Cmp.{nat_cmp_total}
@@ -11,10 +11,10 @@ use Rattle.std.proofs.lemmas.Option.{same_Some}
 use Rattle.outbox.specs.declared.push_book.Outgoing.{Outgoing}
 use Rattle.outbox.specs.declared.push_book.Subject.{Subject}
 use Rattle.outbox.specs.Commands.{Commands, IsOpen}
-use Rattle.outbox.specs.Pushes.{Pushes, IsAbout, IsReplaced, OneEach, subject_of}
-use Rattle.outbox.specs.Outbox.{OutboxRows, Waits, AreConsistent, AreResent, AreHeld, AreUpTo, MayPutPush, MayPutCommand, no_rows, without}
+use Rattle.outbox.specs.Pushes.{Pushes, IsAbout, subject_of}
+use Rattle.outbox.specs.Outbox.{OutboxRows, Waits, AreHeld, AreUpTo, MayPutPush, MayPutCommand, no_rows}
 use Rattle.outbox.specs.Resend.{Resend}
-use Rattle.outbox.proofs.Timing.{put_has, put_keeps, put_or, stood, has_none}
+use Rattle.outbox.proofs.Timing.{put_keeps, put_or, stood, has_none}
 
 gone : {A X : Type 0} (m : FinMap nat_cmp X) (n : ℕ) → get m n ≡ None → IsTrue (contains_key m n) → A
 gone m n none has = none_contained (get m n) has none

@@ -1,4 +1,3 @@
-pub mod Rooms
 pub mod Failing
 pub mod Indexing
 pub mod PushRoom

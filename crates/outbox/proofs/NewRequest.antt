@@ -1,21 +1,18 @@
 -- A request that is made under the next number.
-use Rattle.std.proofs.Common.{◌≡◌, ◌≢◌, ◌≤◌, ◌<◌, ◌+◌, inl, inr, ℕ, List, refl, sym, ap, subst, ◌∙◌, arith, T, true, false}
+use Rattle.std.proofs.Common.{◌≡◌, ◌≤◌, ◌<◌, ◌+◌, inl, inr, ℕ, List, refl, sym, ap, subst, ◌∙◌, arith}
 use Rattle.std.specs.Prelude.{Option, Some, None, IsTrue, is_some}
 use Rattle.std.specs.Ordering.{nat_cmp}
 use Rattle.std.specs.Cmp.{nat_cmp_total}
 use Rattle.std.specs.FinMap.{FinMap, nat_cmp-IsAntisymmetric, get, insert, remove, contains_key}
 use Rattle.ocpi_types.specs.declared.stored.Push.{Push}
 use Rattle.ocpi_types.specs.declared.stored.SentCommand.{SentCommand}
-use Rattle.ocpi_types.specs.Rows.{key_of}
 use Rattle.ocpi_types.specs.declared.rows.Row.TheVariants as row
-use Rattle.ocpi_types.specs.declared.rows.RowKey.{RowKey}
 use Rattle.ocpi_types.specs.declared.rows.RowKey.TheVariants as keys
 use Rattle.std.proofs.lemmas.Option.{same_Some}
 use Rattle.tables.proofs.Maps.{get-remove_same, get-remove_other, told, remove_absent}
 use Rattle.tables.proofs.Options.{none_of, none_some, not_both}
-use Rattle.outbox.specs.declared.push_book.Outgoing.{Outgoing}
 use Rattle.outbox.specs.declared.push_book.Subject.{Subject}
-use Rattle.outbox.specs.Pushes.{Pushes, HasRoomOfPush, IsAbout, IsReplaced, OneEach, subject, subject_of}
+use Rattle.outbox.specs.Pushes.{Pushes, HasRoomOfPush, IsAbout, IsReplaced, OneEach, subject}
 use Rattle.outbox.specs.Outbox.{HeldOutbox, OutboxRows, OutboxRooms, HasRoomOf, AreConsistent, AreResent, AreUpTo, MayPutPush, MayPutCommand, KeepsRoom, KeepsRoomWithout, KeepsOtherRoom, PushesNew, CommandsNew, Changes, Waits, given_back_of, without}
 use Rattle.outbox.specs.Resend.{Resend, SendRooms, released}
 use Rattle.outbox.proofs.Timing.{stood}

@@ -1,14 +1,12 @@
 -- The rows of an outbox as a list, and the outbox of a list.
-use Rattle.std.proofs.Common.{◌≡◌, ◌≢◌, ◌↔◌, ◌⊎◌, ℕ, List, [], ◌∷◌, ◌++◌, map, inl, inr, true, false, cond, refl, sym, ap, subst, ◌∙◌, arith, nat_eq}
-use Rattle.std.specs.Prelude.{Some, IsTrue, is_some, Contains}
+use Rattle.std.proofs.Common.{◌≡◌, ◌≢◌, ℕ, List, [], ◌∷◌, ◌++◌, map, inl, inr, true, false, cond, refl, sym, subst, ◌∙◌, arith, nat_eq}
+use Rattle.std.specs.Prelude.{Contains}
 use Rattle.std.specs.List.{AllPairs}
-use Rattle.std.specs.Ordering.{nat_cmp}
 use Rattle.std.specs.Cmp.{nat_cmp_total}
-use Rattle.std.specs.FinMap.{nat_cmp-IsAntisymmetric, get, insert, empty, entries, contains_key, same_map, get-empty}
+use Rattle.std.specs.FinMap.{nat_cmp-IsAntisymmetric, entries}
 use Rattle.std.proofs.lemmas.Bool.Decides.{nat_tests}
 use Rattle.std.proofs.lemmas.List.Elements.{Contains-append_left, Contains-append_right, Contains-append_cases}
 use Rattle.std.proofs.lemmas.List.Kept.{AllPairs-cons}
-use Rattle.tables.proofs.Maps.{of_insert, get-insert_same, get-insert_other, told, remove_absent}
 use Rattle.ocpi_types.specs.Rows.{key_of}
 use Rattle.ocpi_types.specs.declared.stored.Push.{Push}
 use Rattle.ocpi_types.specs.declared.stored.SentCommand.{SentCommand}
@@ -17,10 +15,8 @@ use Rattle.ocpi_types.specs.declared.rows.Row.TheVariants as row
 use Rattle.ocpi_types.specs.declared.rows.Counter.TheVariants as counter
 use Rattle.outbox.specs.Outbox.{OutboxRows, HasRow}
 use Rattle.outbox.specs.OutboxListing.{AreRowsOf, push_row, command_row, count_rows, rows_of}
-use Rattle.tables.proofs.Options.{none_some, same_option}
-use Rattle.tables.proofs.Elements.{in_none, in_single, in_front, in_map, of_map, no_pairs, all_of, first_pairs, later_pairs, joined}
+use Rattle.tables.proofs.Elements.{in_none, in_single, in_front, in_map, of_map, no_pairs, all_of, joined}
 use Rattle.tables.proofs.Entries.{listed, listed_only, all_apart}
-use Rattle.std.proofs.lemmas.Option.{same_Some}
 
 abbrev Apart : Row → Row → Type 0
 Apart a b = key_of a ≢ key_of b

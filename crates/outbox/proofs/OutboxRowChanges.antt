@@ -11,7 +11,6 @@ use Rattle.ocpi_types.specs.declared.rows.RowKey.{RowKey}
 use Rattle.ocpi_types.specs.declared.rows.RowKey.TheVariants as keys
 use Rattle.ocpi_types.specs.declared.rows.Counter.{Counter}
 use Rattle.ocpi_types.specs.declared.rows.Counter.TheVariants as counter
-use Rattle.ocpi_types.specs.declared.stored.SentCommand.{SentCommand}
 use Rattle.outbox.specs.declared.push_book.Outgoing.{Outgoing}
 use Rattle.outbox.specs.Outbox.{OutboxRows, HasRow, no_rows, put_row}
 use Rattle.outbox.specs.OutboxListing.{IsKept, PutsStand, DropsEnd, RowsAreAll}

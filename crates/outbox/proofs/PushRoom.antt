@@ -7,7 +7,7 @@ use Rattle.std.specs.FinMap.{FinMap, nat_cmp-IsAntisymmetric, remove, contains_k
 use Rattle.outbox.specs.declared.push_book.Subject.{Subject}
 use Rattle.outbox.specs.Pushes.{PushRooms, HasRoomOfPush, HasSubjectRoom, KeepsPushRoom, subject_number_cmp}
 use Rattle.outbox.proofs.Indexing.{numbered_total, numbered_exact}
-use Rattle.outbox.proofs.Rooms.{other_room, room_gone}
+use Rattle.tables.proofs.Rooms.{other_room, room_gone}
 
 keeps_subject : (a b : FinMap subject_number_cmp (Unit {0})) → ((q : Subject × ℕ) → IsTrue (contains_key a q) → IsTrue (contains_key b q)) → (u : Option Subject) (n : ℕ) → HasSubjectRoom a u n → HasSubjectRoom b u n
 keeps_subject a b f None n h = h

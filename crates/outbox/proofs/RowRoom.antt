@@ -1,15 +1,13 @@
 -- The room of rows, by that of pushes and commands.
-use Rattle.std.proofs.Common.{◌≡◌, ◌≢◌, ℕ, refl, sym, ap, subst}
-use Rattle.std.specs.Prelude.{Option, Some, None}
-use Rattle.ocpi_types.specs.Rows.{key_of}
-use Rattle.ocpi_types.specs.declared.rows.Row.{Row}
+use Rattle.std.proofs.Common.{◌≡◌, ◌≢◌, ℕ, ap, subst}
+use Rattle.std.specs.Prelude.{Option}
 use Rattle.ocpi_types.specs.declared.rows.Row.TheVariants as row
 use Rattle.ocpi_types.specs.declared.rows.RowKey.TheVariants as keys
 use Rattle.ocpi_types.specs.declared.stored.SentCommand.{SentCommand}
 use Rattle.outbox.specs.declared.push_book.Subject.{Subject}
-use Rattle.outbox.specs.Commands.{CommandRooms, HasRoomOfCommand}
-use Rattle.outbox.specs.Pushes.{PushRooms, HasRoomOfPush, KeepsPushRoom, subject}
-use Rattle.outbox.specs.Outbox.{OutboxRooms, HasRoomOf, KeepsRoom, KeepsOtherRoom, GivesBack}
+use Rattle.outbox.specs.Commands.{HasRoomOfCommand}
+use Rattle.outbox.specs.Pushes.{HasRoomOfPush, KeepsPushRoom, subject}
+use Rattle.outbox.specs.Outbox.{OutboxRooms, KeepsRoom, KeepsOtherRoom, GivesBack}
 use Rattle.outbox.proofs.Waiting.{KeepsCommandRoom, KeepsOtherCommand}
 
 pub keeps_both : (s t : OutboxRooms) → KeepsPushRoom s.pushes t.pushes → KeepsCommandRoom s.commands t.commands → KeepsRoom s t

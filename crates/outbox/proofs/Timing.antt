@@ -11,9 +11,9 @@ use Rattle.std.specs.Cmp.{IsTotalOrder, nat_cmp_total}
 use Rattle.std.proofs.lemmas.Cmp.{on_total, then_total}
 use Rattle.std.specs.FinMap.{FinMap, IsAntisymmetric, nat_cmp-IsAntisymmetric, empty, get, insert, remove, contains_key, get-empty}
 use Rattle.tables.specs.Keys.{pair_exact}
-use Rattle.tables.proofs.Maps.{get-insert_same, get-insert_other, get-remove_same, get-remove_other, told, others_keep, insert_present, insert_removed, remove_absent}
-use Rattle.outbox.specs.Resend.{Resend, Moments, moment_number_cmp, unqueued, IsQueue, queue_entry, queue_number, SendRooms, HasRoomUntil, KeepsSendRoom}
-use Rattle.tables.proofs.Options.{none_contained, known, none_of}
+use Rattle.tables.proofs.Maps.{get-insert_same, get-insert_other, get-remove_same, get-remove_other, told, others_keep, insert_present, insert_removed}
+use Rattle.outbox.specs.Resend.{Resend, Moments, moment_number_cmp, unqueued, IsQueue, queue_entry, queue_number, SendRooms, KeepsSendRoom}
+use Rattle.tables.proofs.Options.{none_contained, known}
 use Rattle.tables.proofs.Indexing.{listed, unlisted, none_unlisted, relisted, nothing_listed}
 
 pub queue_total : IsTotalOrder moment_number_cmp

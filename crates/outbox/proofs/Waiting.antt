@@ -1,16 +1,16 @@
 -- The commands that wait for their answers, as commands are put and dropped; and the room of commands.
-use Rattle.std.proofs.Common.{Bool, ◌≡◌, ◌≢◌, ◌↔◌, inl, inr, ℕ, true, false, refl, sym, ap, subst, ◌∙◌}
-use Rattle.std.specs.Prelude.{Option, Some, None, IsTrue, is_some}
+use Rattle.std.proofs.Common.{Bool, ◌≡◌, ◌≢◌, ◌↔◌, inl, inr, ℕ, true, false, sym, ap, subst, ◌∙◌}
+use Rattle.std.specs.Prelude.{IsTrue, is_some}
 use Rattle.std.specs.Ordering.{nat_cmp}
 use Rattle.std.specs.Cmp.{nat_cmp_total}
-use Rattle.std.specs.FinMap.{FinMap, nat_cmp-IsAntisymmetric, get, insert, remove, empty, contains_key, get-empty}
+use Rattle.std.specs.FinMap.{nat_cmp-IsAntisymmetric, get, insert, remove, empty, contains_key, get-empty}
 use Rattle.ocpi_types.specs.declared.stored.SentCommand.{SentCommand}
-use Rattle.tables.proofs.Maps.{get-insert_same, get-insert_other, get-remove_same, get-remove_other, told, others_keep}
+use Rattle.tables.proofs.Maps.{get-insert_same, get-insert_other, get-remove_same, get-remove_other, told}
 use Rattle.tables.proofs.Options.{not_both}
 use Rattle.std.proofs.lemmas.Option.{same_Some}
 use Rattle.outbox.specs.Commands.{Numbers, Commands, IsUnanswered, IsOpen, AreWaiting, CommandRooms, HasRoomOfCommand}
-use Rattle.outbox.proofs.Rooms.{other_room, room_gone}
-use Rattle.outbox.proofs.Timing.{has_unit, put_keeps, put_has}
+use Rattle.tables.proofs.Rooms.{other_room, room_gone}
+use Rattle.outbox.proofs.Timing.{has_unit}
 
 pub none_waiting : AreWaiting empty empty
 none_waiting n = (

@@ -1,5 +1,5 @@
 -- The requests that are due at a moment.
-use Rattle.std.specs.Prelude.{◌≡◌, ◌↔◌, ℕ, Bool, not, nat_le, ◌≤◌, ◌<◌, List, Some, Contains, map, take_while}
+use Rattle.std.specs.Prelude.{◌≡◌, ◌↔◌, ℕ, not, nat_le, ◌≤◌, ◌<◌, List, Some, Contains, map, take_while}
 use Rattle.std.specs.List.{AllPairs, filter}
 use Rattle.std.specs.FinMap.{get, contains_key}
 use Rattle.outbox.specs.Outbox.{OutboxRows, Waits}

@@ -1,13 +1,13 @@
 -- The front of a queue: what is due at a moment, in order, and each key once.
-use Rattle.std.proofs.Common.{◌≡◌, ◌≢◌, ◌<◌, ◌≤◌, ℕ, List, [], ◌∷◌, ◌++◌, map, inl, inr, true, false, cond, T, refl, sym, ap, subst, ◌∙◌, arith, get_or}
-use Rattle.std.specs.Prelude.{Some, Contains, nat_le, take_while}
+use Rattle.std.proofs.Common.{◌≡◌, ◌≢◌, ◌<◌, ◌≤◌, ℕ, List, [], ◌∷◌, map, inl, inr, true, false, cond, T, refl, sym, ap, subst, ◌∙◌, arith, get_or}
+use Rattle.std.specs.Prelude.{Contains, nat_le, take_while}
 use Rattle.std.specs.List.{AllPairs}
-use Rattle.std.specs.List.Sorted.{IsSorted, IsPermutation, IsStrictlySortedBy}
+use Rattle.std.specs.List.Sorted.{IsSorted, IsPermutation}
 use Rattle.std.specs.Ordering.{eq_by_cmp, is_eq, is_lt, is_gt, nat_cmp, ordering_reverse}
 use Rattle.std.specs.declared.cmp.Ordering.{Ordering}
 use Rattle.std.specs.declared.cmp.Ordering.TheVariants.{Less, Equal, Greater}
 use Rattle.std.specs.Cmp.{IsTotalOrder, eq_by_cmp_equiv, nat_cmp_total}
-use Rattle.std.specs.FinMap.{FinMap, IsAntisymmetric, nat_cmp-IsAntisymmetric, is_sorted, get, entries, entries_sorted}
+use Rattle.std.specs.FinMap.{FinMap, IsAntisymmetric, nat_cmp-IsAntisymmetric, is_sorted, entries}
 use Rattle.std.proofs.lemmas.Cmp.{on_total, then_total}
 use Rattle.std.proofs.lemmas.List.Elements.{Contains-append_right, Contains-append_cases}
 use Rattle.std.proofs.lemmas.List.Kept.{AllPairs-cons}
@@ -22,7 +22,7 @@ use Rattle.tables.proofs.Options.{not_both}
 use Rattle.tables.proofs.Maps.{equal_of_is_eq}
 use Rattle.tables.proofs.Ordered.{former, latter}
 use Rattle.tables.proofs.Elements.{in_none, in_single, in_front, all_of, no_pairs}
-use Rattle.tables.proofs.Entries.{below_each, listed, listed_only, apart_of_less}
+use Rattle.tables.proofs.Entries.{below_each, listed_only, apart_of_less}
 use Rattle.tables.proofs.Parts.{first_part_le}
 
 early : (a b : ℕ) → nat_le a b ≡ true → a ≤ b

@@ -9,3 +9,4 @@ pub mod Parts
 pub mod Ties
 pub mod DueFront
 pub mod Nothing
+pub mod Rooms

@@ -3,7 +3,7 @@
 ghost use Rattle.std.specs.FinMap.{IsAntisymmetric, nat_cmp-IsAntisymmetric};
 ghost use Rattle.tables.specs.Keys.{pair_exact, triple_exact, text_exact};
 
-use ocpi_text::{CiKey, CiText, Moment, Party, PartyKey, Whole};
+use ocpi_text::{CiKey, CiText, Moment, Party, PartyKey, ShortText, Whole};
 
 /// A key: a value that is copied, in a total order in which only equal keys tie.
 pub trait TableKey: Copy + Ord {
@@ -53,5 +53,10 @@ impl TableKey for Party {
 
 /// By its bytes, as spelled.
 impl<const MAX: usize> TableKey for CiText<MAX> {
+    ghost exact = { text_exact };
+}
+
+/// By its bytes, as spelled.
+impl<const MAX: usize, const BYTES: usize> TableKey for ShortText<MAX, BYTES> {
     ghost exact = { text_exact };
 }

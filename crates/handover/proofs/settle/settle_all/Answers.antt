@@ -15,7 +15,7 @@ loop-cdr-preserved c =
     let counted = c.number_of-count.ensures in
     let few = c.number_of-count.type_inv in
     let count : c.loop-cdr.cdr-index < 2 ^ 64 = omega arith in
-    settled_more c.args.cdrs.now c.loop-cdr.cdr-index c.cdr-item.result _ _ (c.key-operator.result, c.currency_of-currency.result) _
+    settled_more c.args.cdrs.now c.loop-cdr.cdr-index c.cdr-item.result _ _ (c.key-operator.result, c.cdr-item.result.currency) _
     (slice_get_read _ _ c.loop-cdr.cdr-index c.cdr-item.result refl c.loop-cdr-test.true c.cdr-item.is)
-    (λ i. (c.key-operator.ensures i, c.currency_of-currency.ensures i))
-    (cost_sum _ c.sum_in.result _ c.from.result c.cost_of.result c.loop-cdr.cdr-index c.sum_in.ensures c.from.ensures c.cost_of.ensures.value small (c.loop-cdr.invariant.1 (c.key-operator.result, c.currency_of-currency.result)) count) small c.in_ok-insert.ensures.shown c.loop-cdr.invariant.0 c.loop-cdr.invariant.1
+    (λ i. (c.key-operator.ensures i, c.cdr-item.result.currency))
+    (cost_sum _ c.sum_in.result _ c.from.result c.cost_of.result c.loop-cdr.cdr-index c.sum_in.ensures c.from.ensures c.cost_of.ensures.value small (c.loop-cdr.invariant.1 (c.key-operator.result, c.cdr-item.result.currency)) count) small c.in_ok-insert.ensures.shown c.loop-cdr.invariant.0 c.loop-cdr.invariant.1

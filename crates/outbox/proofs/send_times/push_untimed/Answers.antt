@@ -1,6 +1,5 @@
-use Rattle.std.proofs.Common.{◌++◌, false, true, sym, ap, subst, ◌∙◌}
-use Rattle.std.specs.Prelude.{Contains, not}
-use Rattle.std.specs.FinMap.{contains_key}
+use Rattle.std.proofs.Common.{ap, subst, ◌∙◌}
+use Rattle.std.specs.Prelude.{Contains}
 use Rattle.outbox.specs.Due.{untimed}
 use Rattle.outbox.proofs.DueNumbers.{untimed_takes, front_kept, front_first, no_time}
 use Rattle.outbox.proofs.Failing.{on_err}

@@ -10,17 +10,17 @@ use Rattle.handover.proofs.cdr_book.CdrBook.clear.Goals as goal
 pub returns-in_default-clause-cdrs : goal.returns-in_default-clause-cdrs
 returns-in_default-clause-cdrs c = rw (← c.self.view_is) (sym (remove_absent text_pair_total text_pair_exact _ _ (sym c.get.ensures ∙ ap (λ (r : Option (Bor Cdr)). option_copied r) c.in_default.is)))
 
-pub add-requires-clause-room : goal.add-requires-clause-room
-add-requires-clause-room c =
-    account_room _ _ _ _ c.self.invariant (c.args.operator, c.args.id) c.in-Some.cdr.now _ (sym c.get.ensures ∙ ap (λ (r : Option (Bor Cdr)). option_copied r) c.in-Some.is) c.currency_of-currency.ensures
+pub add_to-requires-clause-room : goal.add_to-requires-clause-room
+add_to-requires-clause-room c =
+    account_room _ _ _ _ c.self.invariant (c.args.operator, c.args.id) c.in-Some.cdr.now (sym c.get.ensures ∙ ap (λ (r : Option (Bor Cdr)). option_copied r) c.in-Some.is)
 
-pub add-requires-clause-bound : goal.add-requires-clause-bound
-add-requires-clause-bound c = sum_bound _ _ _ _ c.self.invariant _ c.room_count-most.result c.room_count-most.ensures.most c.room_count-most.ensures.small
+pub add_to-requires-clause-bound : goal.add_to-requires-clause-bound
+add_to-requires-clause-bound c = sum_bound _ _ _ _ c.self.invariant _ c.room_count-most.result c.room_count-most.ensures.most c.room_count-most.ensures.small
 
 pub invariant_of-self : goal.invariant_of-self
 invariant_of-self c =
     let value = c.cost_of-cost.ensures.value in
     let bound = c.cost_of-cost.ensures.bound in
-    cleared _ _ _ _ c.self.invariant (c.args.operator, c.args.id) c.in-Some.cdr.now _ _ _ _ _ _ _
-    (sym c.get.ensures ∙ ap (λ (r : Option (Bor Cdr)). option_copied r) c.in-Some.is) c.session_of-session.ensures c.currency_of-currency.ensures (omega (arith, ints))
-    c.clear.ensures.shown c.clear-2.ensures.shown c.add.ensures.sums c.add.ensures.rooms
+    cleared _ _ _ _ c.self.invariant (c.args.operator, c.args.id) c.in-Some.cdr.now _ _ _ _ _ _
+    (sym c.get.ensures ∙ ap (λ (r : Option (Bor Cdr)). option_copied r) c.in-Some.is) c.session_of-session.ensures (omega (arith, ints))
+    c.clear.ensures.shown c.clear-2.ensures.shown c.add_to.ensures.sums c.add_to.ensures.rooms

@@ -1,4 +1,4 @@
-use Rattle.std.proofs.Common.{sym, ap, subst, ◌∙◌, arith}
+use Rattle.std.proofs.Common.{sym, ap, ◌∙◌, arith}
 use Rattle.std.proofs.lemmas.Int.{ints}
 use Rattle.ocpi_text.specs.Text.{key}
 use Rattle.tables.specs.Keys.{text_pair_total, text_pair_exact}
@@ -6,12 +6,12 @@ use Rattle.tables.proofs.Maps.{remove_absent}
 use Rattle.handover.proofs.Keeping.{Texts, sum_bound, account_room, cleared, lost_record, lost_both, gave_one, gave_both}
 use Rattle.handover.proofs.cdr_book.CdrBook.remove.Goals as goal
 
-pub add-requires-clause-room : goal.add-requires-clause-room
-add-requires-clause-room c =
-    account_room _ _ _ _ c.self.invariant (c.args.operator, c.args.id) c.in-Some.cdr _ (sym c.remove.ensures.value ∙ c.in-Some.is) c.currency_of-currency.ensures
+pub add_to-requires-clause-room : goal.add_to-requires-clause-room
+add_to-requires-clause-room c =
+    account_room _ _ _ _ c.self.invariant (c.args.operator, c.args.id) c.in-Some.cdr (sym c.remove.ensures.value ∙ c.in-Some.is)
 
-pub add-requires-clause-bound : goal.add-requires-clause-bound
-add-requires-clause-bound c = sum_bound _ _ _ _ c.self.invariant _ c.room_count-most.result c.room_count-most.ensures.most c.room_count-most.ensures.small
+pub add_to-requires-clause-bound : goal.add_to-requires-clause-bound
+add_to-requires-clause-bound c = sum_bound _ _ _ _ c.self.invariant _ c.room_count-most.result c.room_count-most.ensures.most c.room_count-most.ensures.small
 
 pub invariant_of-self : goal.invariant_of-self
 invariant_of-self c =
@@ -31,15 +31,15 @@ pub invariant_of-self-2 : goal.invariant_of-self-2
 invariant_of-self-2 c =
     let value = c.cost_of-cost.ensures.value in
     let bound = c.cost_of-cost.ensures.bound in
-    cleared _ _ _ _ c.self.invariant (c.args.operator, c.args.id) c.in-Some.cdr _ _ _ _ _ _ _
-    (sym c.remove.ensures.value ∙ c.in-Some.is) c.session_of-session.ensures c.currency_of-currency.ensures (omega (arith, ints))
-    c.remove.ensures.shown c.remove-2.ensures.shown c.add.ensures.sums c.add.ensures.rooms
+    cleared _ _ _ _ c.self.invariant (c.args.operator, c.args.id) c.in-Some.cdr _ _ _ _ _ _
+    (sym c.remove.ensures.value ∙ c.in-Some.is) c.session_of-session.ensures (omega (arith, ints))
+    c.remove.ensures.shown c.remove-2.ensures.shown c.add_to.ensures.sums c.add_to.ensures.rooms
 
 pub returns-clause-rooms : goal.returns-clause-rooms
 returns-clause-rooms c =
     let had = sym c.remove.ensures.value ∙ c.in-Some.is in
     let operator = ap (λ (k : Texts). k.0) (c.self.invariant.own (c.args.operator, c.args.id) c.in-Some.cdr had) in
-    rw (← c.self.view_is, c.add.ensures.rooms) (λ x room apart. lost_both _ _ _ (c.args.operator, c.args.id) c.session_of-session.result (ap (λ (k : Texts). k.0) c.session_of-session.ensures ∙ sym operator)
+    rw (← c.self.view_is, c.add_to.ensures.rooms) (λ x room apart. lost_both _ _ _ (c.args.operator, c.args.id) c.session_of-session.result (ap (λ (k : Texts). k.0) c.session_of-session.ensures ∙ sym operator)
     c.remove.ensures.room c.remove-2.ensures.room x room apart)
 
 pub returns-clause-back : goal.returns-clause-back

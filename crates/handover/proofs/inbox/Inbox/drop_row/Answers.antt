@@ -1,6 +1,6 @@
 use Rattle.tables.specs.Keys.{text_pair_total, text_pair_exact}
 use Rattle.handover.proofs.Holding.{own_remove, keeps_other_sessions}
-use Rattle.handover.proofs.Rooms.{room_gone}
+use Rattle.tables.proofs.Rooms.{room_gone}
 use Rattle.handover.proofs.inbox.Inbox.drop_row.Goals as goal
 
 pub invariant_of-self : goal.invariant_of-self

@@ -1,4 +1,4 @@
-use Rattle.std.proofs.Common.{ap, ◌∙◌, sym}
+use Rattle.std.proofs.Common.{ap}
 use Rattle.handover.specs.Inbox.{InboxRows}
 use Rattle.handover.proofs.InboxListed.{not_empty}
 use Rattle.handover.proofs.inbox.Inbox.is_empty.Goals as goal

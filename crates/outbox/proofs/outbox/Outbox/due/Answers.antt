@@ -1,4 +1,3 @@
-use Rattle.std.proofs.Common.{◌∙◌, sym, ap}
 use Rattle.outbox.proofs.DueNumbers.{due_sorted, front_is_due, push_is_due, command_is_due}
 use Rattle.outbox.proofs.outbox.Outbox.due.Goals as goal
 

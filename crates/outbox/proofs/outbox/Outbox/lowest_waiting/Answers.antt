@@ -1,4 +1,4 @@
-use Rattle.std.proofs.Common.{◌≤◌, inl, inr, arith}
+use Rattle.std.proofs.Common.{inl, inr, arith}
 use Rattle.outbox.proofs.outbox.Outbox.lowest_waiting.Goals as goal
 
 pub returns : goal.returns

@@ -1,4 +1,4 @@
-use Rattle.std.proofs.Common.{◌≡◌, ◌≤◌, true, false, sym, ◌∙◌, arith}
+use Rattle.std.proofs.Common.{sym, ◌∙◌}
 use Rattle.std.proofs.lemmas.Map.Keys.{le_from_not_gt}
 use Rattle.tables.proofs.Options.{is_none}
 use Rattle.outbox.proofs.MayPuts.{may_some, found_same, may_none, same_numbers, told_same}

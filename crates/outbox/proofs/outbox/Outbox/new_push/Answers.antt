@@ -1,6 +1,3 @@
-use Rattle.std.proofs.Common.{◌∙◌, sym, ap, subst}
-use Rattle.outbox.specs.Pushes.{IsReplaced, subject}
-use Rattle.outbox.specs.Outbox.{OutboxRows}
 use Rattle.outbox.proofs.NewRequest.{older_free, may_count, may_put, room_to_put, made}
 use Rattle.outbox.proofs.outbox.Outbox.new_push.Goals as goal
 

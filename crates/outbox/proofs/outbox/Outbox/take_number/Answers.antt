@@ -1,5 +1,4 @@
-use Rattle.std.proofs.Common.{◌≤◌, ℕ, subst, sym, arith}
-use Rattle.outbox.specs.Outbox.{AreUpTo}
+use Rattle.std.proofs.Common.{arith}
 use Rattle.outbox.proofs.Held.{are_below}
 use Rattle.outbox.proofs.outbox.Outbox.take_number.Goals as goal
 

@@ -1,10 +1,10 @@
 use Rattle.std.proofs.Common.{◌∙◌, sym}
 use Rattle.outbox.proofs.PushRoom.{keeps_push_room, subject_room}
-use Rattle.outbox.proofs.Rooms.{failed}
+use Rattle.tables.proofs.Nothing.{ok_not_err}
 use Rattle.outbox.proofs.push_book.PushBook.reserve.Goals as goal
 
 pub returns-in_err-reserve-clause-again : goal.returns-in_err-reserve-clause-again
-returns-in_err-reserve-clause-again c = rw (← c.self.view_is) (λ had. failed _ _ c.in_err-reserve.was (c.reserve.ensures.again had.of_push))
+returns-in_err-reserve-clause-again c = rw (← c.self.view_is) (λ had. ok_not_err _ _ c.in_err-reserve.was (c.reserve.ensures.again had.of_push))
 
 pub returns-in-Some-clause-keeps : goal.returns-in-Some-clause-keeps
 returns-in-Some-clause-keeps c = rw (← c.self.view_is) (keeps_push_room _ _ c.reserve.ensures.keeps c.reserve-in-Some.ensures.keeps)

@@ -1,9 +1,9 @@
-use Rattle.outbox.proofs.Rooms.{failed}
+use Rattle.tables.proofs.Nothing.{ok_not_err}
 use Rattle.outbox.proofs.Timing.{keeps_until}
 use Rattle.outbox.proofs.send_times.SendTimes.reserve.Goals as goal
 
 pub returns-in_err-reserve-clause-again : goal.returns-in_err-reserve-clause-again
-returns-in_err-reserve-clause-again c = rw (← c.self.view_is) (λ had. failed _ _ c.in_err-reserve.was (c.reserve.ensures.again had.of_number))
+returns-in_err-reserve-clause-again c = rw (← c.self.view_is) (λ had. ok_not_err _ _ c.in_err-reserve.was (c.reserve.ensures.again had.of_number))
 
 pub returns-clause-keeps : goal.returns-clause-keeps
 returns-clause-keeps c = rw (← c.self.view_is) (keeps_until _ _ c.reserve.ensures.keeps c.reserve-2.ensures.keeps)

@@ -1,8 +1,7 @@
-use Rattle.std.proofs.Common.{◌∙◌, sym, ap, subst}
+use Rattle.std.proofs.Common.{◌∙◌, sym, subst}
 use Rattle.std.specs.Prelude.{IsTrue}
 use Rattle.std.specs.FinMap.{contains_key}
-use Rattle.outbox.specs.Commands.{Numbers}
-use Rattle.outbox.specs.Resend.{Moments, SendRooms}
+use Rattle.outbox.specs.Resend.{Moments}
 use Rattle.outbox.proofs.Timing.{queue_set, room_set, both_rooms}
 use Rattle.outbox.proofs.send_times.SendTimes.set.Goals as goal
 

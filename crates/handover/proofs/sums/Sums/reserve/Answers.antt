@@ -1,7 +1,0 @@
-use Rattle.handover.proofs.sums.Sums.reserve.Goals as goal
-
-pub returns-clause-keeps : goal.returns-clause-keeps
-returns-clause-keeps c = rw (← c.self.view_is) c.reserve.ensures.keeps
-
-pub returns-clause-again : goal.returns-clause-again
-returns-clause-again c = rw (← c.self.view_is) c.reserve.ensures.again
