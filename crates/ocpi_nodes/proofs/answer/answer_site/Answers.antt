@@ -12,4 +12,4 @@ returns-in-Ok c =
 pub returns-in_ok-refuse-in-Err : goal.returns-in_ok-refuse-in-Err
 returns-in_ok-refuse-in-Err c =
     let fault = c.in-Err.fault in
-    (refusal_line (fault_text fault), c.in_ok-refuse-in-Err.ensures, NoSite fault c.in-Err.ensures.err refl refl refl)
+    (refusal_line (fault_text fault), c.in_ok-refuse-in-Err.ensures, NoSite fault c.in-Err.ensures.err refl refl c.requires)
