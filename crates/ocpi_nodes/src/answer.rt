@@ -102,7 +102,13 @@ impl AnswerLines for Program {
                 return answer_packet(self.alloc, &mut self.scratch, running, line, output);
             }
         }
-        answer_site(self.alloc, &mut self.scratch, &mut self.running, line, output)
+        answer_site(
+            self.alloc,
+            &mut self.scratch,
+            &mut self.running,
+            line,
+            output,
+        )
     }
 
     fn answer_end(&mut self, output: &mut String) -> Result<Ran, AllocError> {
