@@ -57,6 +57,29 @@ no_command (reply.Ack x) (command.ReserveNow a) e = cc
 no_command (reply.Ack x) (command.CancelReservation a) e = cc
 no_command (reply.Ack x) (command.UnlockConnector a) e = cc
 
+-- a command is no push
+pub command_or_push : (c : Command) (p : Push) → body_of_command c ≡ body_of_push p → ⊥
+command_or_push (command.StartSession x) (push.CommandResult a) e = cc
+command_or_push (command.StartSession x) (push.PutToken a) e = cc
+command_or_push (command.StartSession x) (push.PutSession a) e = cc
+command_or_push (command.StartSession x) (push.PostCdr a) e = cc
+command_or_push (command.StopSession x) (push.CommandResult a) e = cc
+command_or_push (command.StopSession x) (push.PutToken a) e = cc
+command_or_push (command.StopSession x) (push.PutSession a) e = cc
+command_or_push (command.StopSession x) (push.PostCdr a) e = cc
+command_or_push (command.ReserveNow x) (push.CommandResult a) e = cc
+command_or_push (command.ReserveNow x) (push.PutToken a) e = cc
+command_or_push (command.ReserveNow x) (push.PutSession a) e = cc
+command_or_push (command.ReserveNow x) (push.PostCdr a) e = cc
+command_or_push (command.CancelReservation x) (push.CommandResult a) e = cc
+command_or_push (command.CancelReservation x) (push.PutToken a) e = cc
+command_or_push (command.CancelReservation x) (push.PutSession a) e = cc
+command_or_push (command.CancelReservation x) (push.PostCdr a) e = cc
+command_or_push (command.UnlockConnector x) (push.CommandResult a) e = cc
+command_or_push (command.UnlockConnector x) (push.PutToken a) e = cc
+command_or_push (command.UnlockConnector x) (push.PutSession a) e = cc
+command_or_push (command.UnlockConnector x) (push.PostCdr a) e = cc
+
 -- what is repeated until it is settled is no reply
 pub reply_or_repeated : (b : Body) → IsReply b → IsRepeated b → ⊥
 reply_or_repeated b (r, is) (inl (c, same)) = no_command r c (sym is ∙ same)

@@ -6,7 +6,7 @@ use Rattle.ocpi_text.specs.Text.{key}
 use Rattle.ocpi_types.specs.declared.packet.Packet.{Packet}
 use Rattle.ocpi_types.specs.declared.stored.Reply.{Reply}
 use Rattle.tables.proofs.Elements.{in_none}
-use Rattle.node_laws.specs.Nodes.{Node, Exchange, Request, both, request_of, IsReply, IsRepeated, CountsPackets, IsAnswer, KeepsReplies, IsSettled, Acknowledged, Replaced, IsMade, IsOwn, KeepsRequests, AreGiven, NodeStep}
+use Rattle.node_laws.specs.Nodes.{Node, Exchange, Request, both, request_of, IsReply, IsRepeated, CountsPackets, IsAnswer, KeepsReplies, IsSettled, Acknowledged, Replaced, Responded, Resulted, IsMade, IsOwn, KeepsRequests, AreGiven, NodeStep}
 use Rattle.node_laws.proofs.Lists.{in_joined}
 
 -- all of the first exchange is in the second
@@ -21,6 +21,8 @@ module _ (e f : Exchange) (part : IsPart e f) where
   pub settled_of_part : (n : ℕ) (r : Request) → IsSettled e n r → IsSettled f n r
   settled_of_part n r (Acknowledged q came a is done from number) = Acknowledged q (part.came q came) a is done from number
   settled_of_part n r (Replaced x sent above same) = Replaced x (part.packets x sent) above same
+  settled_of_part n r (Responded c carried q came w is from number) = Responded c carried q (part.came q came) w is from number
+  settled_of_part n r (Resulted c carried q came w is from url) = Resulted c carried q (part.came q came) w is from url
 
 -- the numbers of what stands after a step were given
 pub given_after : (s t : Node) (e : Exchange) → NodeStep s e t → AreGiven s → AreGiven t

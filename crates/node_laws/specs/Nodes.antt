@@ -10,8 +10,11 @@ use Rattle.ocpi_types.specs.declared.packet.Packet.{Packet}
 use Rattle.ocpi_types.specs.declared.packet.Body.{Body}
 use Rattle.ocpi_types.specs.declared.packet.Body.TheVariants as body
 use Rattle.ocpi_types.specs.declared.replies.Ack.{Ack}
+use Rattle.ocpi_types.specs.declared.replies.CommandResponse.{CommandResponse}
+use Rattle.ocpi_types.specs.declared.replies.CommandResult.{CommandResult}
 use Rattle.ocpi_types.specs.declared.sessions.Session.{Session}
 use Rattle.ocpi_types.specs.declared.stored.Command.{Command}
+use Rattle.ocpi_types.specs.declared.stored.Command.TheVariants as command
 use Rattle.ocpi_types.specs.declared.stored.Push.{Push}
 use Rattle.ocpi_types.specs.declared.stored.Reply.{Reply}
 use Rattle.ocpi_types.specs.declared.stored.Reply.TheVariants as reply
@@ -103,10 +106,23 @@ pub data AreAboutSame (a b : Request) : Type 0 where
   Tokens : (x y : Token) → a.body ≡ body.PutToken x → b.body ≡ body.PutToken y → key a.to ≡ key b.to → key x.party ≡ key y.party → x.token_type ≡ y.token_type → key x.uid ≡ key y.uid →
       AreAboutSame a b
 
--- the request of that number is settled: its addressee acknowledged it, or a newer one about the same went out
+-- to where the result of a command is posted (OCPI 2.2.1, Commands: response_url)
+abbrev pub posted_to : Command → List ℕ
+posted_to (command.StartSession c) = c.response_url
+posted_to (command.StopSession c) = c.response_url
+posted_to (command.ReserveNow c) = c.response_url
+posted_to (command.CancelReservation c) = c.response_url
+posted_to (command.UnlockConnector c) = c.response_url
+
+-- the request of that number is settled: its addressee acknowledged it, or a newer one about the same went out; or it is a command,
+-- and its addressee answered it, or posted its result to where it says
 pub data IsSettled (e : Exchange) (n : ℕ) (r : Request) : Type 0 where
   Acknowledged : (q : Packet) → Contains e.came q → (a : Ack) → q.body ≡ body.Ack a → a.status_code ≡ 1000 → key q.from ≡ key r.to → q.request ≡ n → IsSettled e n r
   Replaced : (x : Packet) → Contains e.packets x → n < x.request → AreAboutSame r (request_of x) → IsSettled e n r
+  Responded : (c : Command) → r.body ≡ body_of_command c → (q : Packet) → Contains e.came q → (w : CommandResponse) → q.body ≡ body.CommandResponse w → key q.from ≡ key r.to → q.request ≡ n →
+      IsSettled e n r
+  Resulted : (c : Command) → r.body ≡ body_of_command c → (q : Packet) → Contains e.came q → (w : CommandResult) → q.body ≡ body.CommandResult w → key q.from ≡ key r.to →
+      w.response_url ≡ posted_to c → IsSettled e n r
 
 -- the request was made under that number, and sent
 pub record IsMade (s : Node) (e : Exchange) (t : Node) (n : ℕ) (r : Request) : Type 0 where

@@ -7,18 +7,19 @@ use Rattle.std.specs.Ordering.{nat_cmp}
 use Rattle.std.proofs.lemmas.List.Elements.{Contains-append_cases}
 use Rattle.tables.proofs.Elements.{in_none, in_front, in_single}
 use Rattle.tables.proofs.Options.{not_both}
-use Rattle.ocpi_types.specs.Stored.{body_of_push}
+use Rattle.ocpi_types.specs.Stored.{body_of_command, body_of_push}
 use Rattle.ocpi_types.specs.declared.packet.Packet.{Packet}
 use Rattle.ocpi_types.specs.declared.packet.Body.{Body}
 use Rattle.ocpi_types.specs.declared.packet.Body.TheVariants as body
 use Rattle.ocpi_types.specs.declared.replies.CommandResult.{CommandResult}
 use Rattle.ocpi_types.specs.declared.site.SiteLine.{SiteLine}
+use Rattle.ocpi_types.specs.declared.stored.Command.{Command}
 use Rattle.ocpi_types.specs.declared.stored.Push.TheVariants as push
 use Rattle.ocpi_types.specs.declared.stored.Reply.TheVariants as reply
 use Rattle.outbox.specs.declared.push_book.Outgoing.{Outgoing}
-use Rattle.node_laws.specs.Nodes.{Request, NodeStep, AreAboutSame, AreGiven, IsReply, IsSettled, Acknowledged, Replaced, Sessions, Tokens, exchanged, request_of}
+use Rattle.node_laws.specs.Nodes.{Request, NodeStep, AreAboutSame, AreGiven, IsReply, IsSettled, Acknowledged, Replaced, Responded, Resulted, Sessions, Tokens, exchanged, request_of}
 use Rattle.node_laws.specs.Laws as nodes
-use Rattle.node_laws.proofs.BodyKinds.{no_push}
+use Rattle.node_laws.proofs.BodyKinds.{command_or_push, no_push}
 use Rattle.node_laws.proofs.NodeRuns as laws
 use Rattle.node_laws.proofs.Runs.{run_of_part}
 use Rattle.operator_rows.specs.State.{State, opening}
@@ -80,6 +81,10 @@ pub result_unreplaced : (r q : Request) (a : CommandResult) → r.body ≡ body.
 result_unreplaced r q a is (Sessions x y e f g h) = let bad : body.CommandResult a ≡ body.PutSession x = sym is ∙ e in cc
 result_unreplaced r q a is (Tokens x y e f g h i j) = let bad : body.CommandResult a ≡ body.PutToken x = sym is ∙ e in cc
 
+-- nor is it a command
+pub result_uncommanded : (b : Body) (a : CommandResult) (c : Command) → b ≡ body.CommandResult a → b ≡ body_of_command c → ⊥
+result_uncommanded b a c is carried = command_or_push c (push.CommandResult a) (sym carried ∙ is)
+
 module _ (line : SiteLine) (es : List Event) (t : State) (run : Run (opening line) es t) where
   abbrev as_run : nodes.NodeRun (node (opening line)) (map exchange es) (node t)
   as_run = runs_are_node_runs (opening line) t es run
@@ -100,6 +105,8 @@ module _ (line : SiteLine) (es : List Event) (t : State) (run : Run (opening lin
       by : IsSettled (exchanged (map exchange es)) x.request (request_of x) → WasAcknowledged es x.to x.request
       by (Acknowledged q came ack is_ack done from number) = (q, came_of es q came, (ack, is_ack, done), from, number)
       by (Replaced y was_sent above same) = absurd (result_unreplaced (request_of x) (request_of y) a is same)
+      by (Responded c carried q came w is_response from number) = absurd (result_uncommanded x.body a c is carried)
+      by (Resulted c carried q came w is_result from url) = absurd (result_uncommanded x.body a c is carried)
 
 pub packets_are_addressed : PacketsAreAddressed
 packets_are_addressed line es t run x h = addressed line es t run x h

@@ -23,7 +23,7 @@ use Rattle.ocpi_types.specs.declared.stored.Push.TheVariants as push
 use Rattle.outbox.specs.declared.push_book.Outgoing.{Outgoing}
 use Rattle.node_steps.specs.Acts.{Act, all_messages}
 use Rattle.node_steps.specs.Messages.{numbered}
-use Rattle.node_laws.specs.Nodes.{AreGiven, IsSettled, Acknowledged, Replaced, Request, request_of}
+use Rattle.node_laws.specs.Nodes.{AreGiven, IsSettled, Acknowledged, Replaced, Responded, Resulted, Request, request_of}
 use Rattle.node_laws.proofs.Joining.{given_after}
 use Rattle.operator_rows.specs.State.{State, opening}
 use Rattle.operator_rows.specs.Sound.{IsConsistent}
@@ -39,7 +39,7 @@ use Rattle.operator_laws.proofs.events.Causes.{Posting, Stems}
 use Rattle.operator_laws.proofs.events.Doing.{Does, does, put_stands, stood_or_put}
 use Rattle.operator_laws.proofs.events.Keeping.{result_stays}
 use Rattle.operator_laws.proofs.events.Standing.{consistent_stays}
-use Rattle.operator_laws.proofs.nodes.NodeLaws.{all_given, of_input, result_unreplaced, shown}
+use Rattle.operator_laws.proofs.nodes.NodeLaws.{all_given, of_input, result_uncommanded, result_unreplaced, shown}
 use Rattle.operator_laws.proofs.nodes.NodeSteps.{steps_are_node_steps}
 use Rattle.operator_laws.proofs.reservations.Making.{opened_now}
 use Rattle.operator_laws.proofs.standing.AtAllTimes.{always_consistent, kept}
@@ -84,6 +84,8 @@ result_stands s t e happens given x a i is = elim (((steps_are_node_steps s t e 
         let arrives = of_input e.input q came in
         in_none x (subst (λ l. Contains l x) (silent s t e arrives.0 q ack arrives.1 is_ack happens) i)
     never (Replaced y was_sent above same) = result_unreplaced (request_of x) (request_of y) a is same
+    never (Responded c carried q came w is_response from number) = result_uncommanded x.body a c is carried
+    never (Resulted c carried q came w is_result from url) = result_uncommanded x.body a c is carried
 
 result_push : (p : Push) (a : CommandResult) → body_of_push p ≡ body.CommandResult a → p ≡ push.CommandResult a
 result_push (push.CommandResult x) a e = let same : x ≡ a = cc in ap (λ z. push.CommandResult z) same

@@ -1,0 +1,7 @@
+pub mod events
+pub mod replies
+pub mod held
+pub mod commands
+pub mod references
+pub mod nodes
+pub mod standing

@@ -1,0 +1,3 @@
+pub mod Through
+pub mod Parts
+pub mod Doing

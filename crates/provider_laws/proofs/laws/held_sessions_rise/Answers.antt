@@ -1,0 +1,5 @@
+use Rattle.provider_laws.proofs.held.Sessions as laws
+use Rattle.provider_laws.proofs.laws.held_sessions_rise.Goals as goal
+
+pub returns : goal.returns
+returns c = laws.held_sessions_rise

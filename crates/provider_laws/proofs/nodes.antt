@@ -1,0 +1,5 @@
+pub mod ActSteps
+pub mod LineSteps
+pub mod NodeSteps
+pub mod NodeLaws
+pub mod Acknowledging

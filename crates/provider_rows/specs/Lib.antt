@@ -1,0 +1,9 @@
+pub mod State
+pub mod Urls
+pub mod Stored
+pub mod Rows
+pub mod Sound
+pub mod Steps
+pub mod Listing
+pub mod Kept
+pub mod RowLaws

@@ -1,0 +1,12 @@
+pub mod Orderly
+pub mod Fitting
+pub mod Counts
+pub mod Sending
+pub mod Planning
+pub mod OwnReferences
+pub mod CommandRows
+pub mod PacketSteps
+pub mod OrderSteps
+pub mod TokenTurns
+pub mod TokenSteps
+pub mod TickSteps

@@ -1,0 +1,9 @@
+pub mod Acts
+pub mod Moves
+pub mod Orders
+pub mod Tokens
+pub mod Packets
+pub mod Tick
+pub mod Faults
+pub mod Events
+pub mod Facts
