@@ -4,7 +4,8 @@ a choice of them into bench/.
 
     tools/case_lines.py
 
-What each part holds is told in `packet_cases`, `book_cases` and `operator_cases`. To see where the program differs:
+What each part holds is told in `packet_cases`, `book_cases`, `operator_cases` and `provider_cases`. To see where the program
+differs:
 
     tools/try_cases
 """
@@ -14,8 +15,10 @@ import pathlib
 import book_cases
 import operator_cases
 import packet_cases
+import provider_cases
 
 TOP = pathlib.Path(__file__).resolve().parent.parent
+PARTS = {"packets": packet_cases, "books": book_cases, "operator": operator_cases, "provider": provider_cases}
 
 
 def part(name, lines):
@@ -29,13 +32,14 @@ def write(file, lines):
 
 def main():
     lines = TOP / "cases" / "lines"
-    for name, cases in (("packets", packet_cases.cases), ("books", book_cases.cases), ("operator", operator_cases.cases)):
-        given, gives = cases()
+    for name, told in PARTS.items():
+        given, gives = told.cases()
         write(lines / name, part(name, given))
         write(lines / f"{name}.stdout", gives)
         print(f"{name}: {len(given)} lines")
-    for at, (given, gives) in enumerate(operator_cases.cases_without_memory(), 1):
-        write(TOP / "bench" / "fail_allocations" / f"{at}", part("operator", given))
+    without_memory = [(name, *case) for name in ("operator", "provider") for case in PARTS[name].cases_without_memory()]
+    for at, (name, given, gives) in enumerate(without_memory, 1):
+        write(TOP / "bench" / "fail_allocations" / f"{at}", part(name, given))
         write(TOP / "bench" / "fail_allocations" / f"{at}.stdout", gives)
 
 

@@ -1,0 +1,12 @@
+pub mod Within
+pub mod Plans
+pub mod Loops
+pub mod Taken
+pub mod Deciding
+pub mod Lines
+pub mod Ordering
+pub mod Finding
+pub mod Pushing
+pub mod Versions
+pub mod Resending
+pub mod OwnUrls

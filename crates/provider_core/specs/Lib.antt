@@ -1,0 +1,4 @@
+pub mod Planned
+pub mod Answering
+pub mod Making
+pub mod Versions
