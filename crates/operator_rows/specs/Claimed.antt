@@ -4,7 +4,7 @@ use Rattle.std.specs.FinMap.{get, insert, remove}
 use Rattle.ocpi_types.specs.declared.rows.RowKey.{RowKey}
 use Rattle.ocpi_types.specs.declared.rows.RowKey.TheVariants as keys
 use Rattle.site_book.specs.declared.claim.Claim.{Claim}
-use Rattle.site_book.specs.declared.claim.Claim.TheVariants.{OpenStart, Reserved}
+use Rattle.site_book.specs.declared.claim.Claim.TheVariants.{OpenStart, Live, Reserved}
 use Rattle.site_book.specs.Sites.{Claims}
 use Rattle.operator_rows.specs.State.{Rows, HasClaim}
 
@@ -24,7 +24,7 @@ Holds s (keys.Service uid) evse = ⊥
 Holds s (keys.Spent provider reference) evse = ⊥
 Holds s (keys.Mark provider id) evse = ⊥
 Holds s (keys.Result provider number) evse = ⊥
-Holds s (keys.Session operator id) evse = ⊥
+Holds s (keys.Session operator id) evse = (p : List ℕ) × HasClaim s evse (Live p id)
 Holds s (keys.Cdr operator id) evse = ⊥
 Holds s (keys.Command n) evse = ⊥
 
