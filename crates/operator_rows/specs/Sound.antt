@@ -33,6 +33,7 @@ use Rattle.session_book.specs.Numbers.{AreNumbered}
 use Rattle.token_desk.specs.Tokens.{TokenKey}
 use Rattle.token_desk.specs.Tokens as desk
 use Rattle.authorization_book.specs.Waits.{OneEach}
+use Rattle.authorization_book.specs.declared.awaited.Awaited.{Awaited}
 use Rattle.outbox.specs.Outbox as outbox
 use Rattle.outbox.specs.Pushes.{subject}
 use Rattle.outbox.specs.declared.push_book.Outgoing.{Outgoing}
@@ -76,6 +77,11 @@ pub record MayStand (s : State) (v : Session) : Type 0 where
   pub own : key v.party ≡ key s.party
   pub going : IsLive v.status → MayGoOn s v
 
+-- the authorization of a token may be awaited: its provider is one of the site, and the driver is at a connector of the site
+pub record MayAwait (s : State) (w : Awaited) : Type 0 where
+  pub provider : HasPeer s.providers (key w.token.party)
+  pub place : IsConnectorOf s.site.locations (key w.place.evse_uid) (key w.place.connector_id)
+
 pub record IsSound (s : State) : Type 0 where
   -- each EVSE has at most one claim
   pub one_claim : OneClaimEach s.rows
@@ -107,8 +113,9 @@ pub record IsConsistent (s : State) : Type 0 where
   pub sound : IsSound s
   -- only a push that stands has a resend time
   pub resend : outbox.AreResent (as_outbox s.rows) s.resend
-  -- at each EVSE at most one authorization is awaited
+  -- at each EVSE at most one authorization is awaited, of a provider of the site, and at a connector of the site
   pub waits : OneEach s.waits
+  pub awaited : (n : ℕ) (w : Awaited) → get s.waits n ≡ Some w → MayAwait s w
 
 -- nothing claims the EVSE but, perhaps, what makes that claim
 abbrev pub MayClaim : Rows → List ℕ → Claim → Type 0

@@ -14,7 +14,9 @@ use Rattle.session_state.specs.Pasts as pasts
 use Rattle.session_state.specs.Versions.{HasCost}
 use Rattle.authorization_book.specs.Waits as waits
 use Rattle.authorization_book.specs.Waits.{HaveRoomForAll, MayWait, waited_all}
+use Rattle.authorization_book.specs.declared.awaited.Awaited.{Awaited}
 use Rattle.authorization_book.specs.declared.waiting.Waiting.{Waiting}
+use Rattle.authorization_book.specs.declared.waiting.Waiting.TheVariants.{Begins}
 use Rattle.outbox.specs.Pushes.{Pushes}
 use Rattle.outbox.specs.Resend.{Resend, SendRooms, HasRoomUntil}
 use Rattle.node_steps.specs.Drafts.{Step}
@@ -22,7 +24,7 @@ use Rattle.node_steps.specs.declared.plan.Volatile.{Volatile}
 pub use Rattle.node_steps.specs.Timing.{HasTimeRoom, HaveTimeRoom, number_of, time_taken, timed, timed_all, untimed, untimed_all}
 use Rattle.operator_rows.specs.State.{State}
 use Rattle.operator_rows.specs.Stored.{AreApart, Each, HasRoom, Rooms, changed, changed_all, change_key}
-use Rattle.operator_rows.specs.Sound.{MayChangeAll}
+use Rattle.operator_rows.specs.Sound.{MayAwait, MayChangeAll}
 
 -- the state once a change is carried out
 abbrev pub after_change : Change → State → State
@@ -90,6 +92,7 @@ pub record MayFollow (s : State) (x : Step) : Type 0 where
 pub record MayFollowFull (s : State) (x : FullStep) : Type 0 where
   pub step : MayFollow s x.step
   pub waits : MayWait s.waits x.waits
+  pub awaited : (n : ℕ) (w : Awaited) → Contains x.waits (Begins n w) → MayAwait s w
 
 -- the state of an operator, and the room that is taken beside it
 pub record Node : Type 0 where
