@@ -34,10 +34,10 @@ pub record Allows (a : Authorization) (w : Awaited) (info : AuthorizationInfo) :
   pub same : IsSameToken info.token w.token
 
 -- the session begins for the token that was shown, as it was stored then, at the connector where it was shown, if the token may still
--- take the EVSE
-pub record BeginsThere (site : Site) (s : Rows) (w : Awaited) (method : AuthMethod) (reference : Option (List ℕ)) (b : Beginning) : Type 0 where
+-- take the EVSE, and use up a reservation of it
+pub record BeginsThere (site : Site) (May : Option (List ℕ) → Type 0) (w : Awaited) (method : AuthMethod) (reference : Option (List ℕ)) (b : Beginning) : Type 0 where
   pub used : Option (List ℕ)
-  pub may : MayTake s w.token (key w.place.evse_uid) used
+  pub may : May used
   pub location : Location
   pub of_evse : Evse
   pub of_connector : Connector
@@ -49,13 +49,13 @@ pub record BeginsByAnswer (site : Site) (s : Rows) (w : Awaited) (a : Authorizat
   pub info : AuthorizationInfo
   pub allows : Allows a w info
   pub unspent : ¬ IsSpent s.spent (key w.token.party) info.authorization_reference
-  pub there : BeginsThere site s w how.AuthRequest info.authorization_reference b
+  pub there : BeginsThere site (MayTake s w.token (key w.place.evse_uid)) w how.AuthRequest info.authorization_reference b
 
 -- a deadline without an answer begins a session: the token may be used without its provider's answer
-pub record BeginsWithoutAnswer (site : Site) (s : Rows) (w : Awaited) (b : Beginning) : Type 0 where
+pub record BeginsWithoutAnswer (site : Site) (May : Option (List ℕ) → Type 0) (w : Awaited) (b : Beginning) : Type 0 where
   pub offline : w.token.whitelist ≡ AllowedOffline
   pub valid : w.token.valid ≡ true
-  pub there : BeginsThere site s w how.Whitelist None b
+  pub there : BeginsThere site May w how.Whitelist None b
 
 -- what begins, exactly where something does
 abbrev pub Decided : (Beginning → Type 0) → Option Beginning → Type 0

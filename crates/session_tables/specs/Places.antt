@@ -1,6 +1,6 @@
 -- Where a session is charged: an EVSE and a connector of the site, and when a token may take the EVSE (OCPI 2.2.1, Locations: EVSE
 -- and Connector object; CDRs: CdrLocation).
-use Rattle.std.specs.Prelude.{◌≡◌, ℕ, List, Option, Some, None, Contains, IsTrue}
+use Rattle.std.specs.Prelude.{◌≡◌, ◌≤◌, ℕ, List, Option, Some, None, Contains, IsTrue}
 use Rattle.std.specs.FinMap.{get}
 use Rattle.ocpi_text.specs.Text.{key}
 use Rattle.ocpi_types.specs.declared.cdrs.CdrLocation.{CdrLocation}
@@ -8,12 +8,15 @@ use Rattle.ocpi_types.specs.declared.rows.Place.{Place}
 use Rattle.ocpi_types.specs.declared.site.Location.{Location}
 use Rattle.ocpi_types.specs.declared.site.Evse.{Evse}
 use Rattle.ocpi_types.specs.declared.site.Connector.{Connector}
+use Rattle.ocpi_types.specs.declared.stored.OpenCommand.{OpenCommand}
 use Rattle.ocpi_types.specs.declared.stored.Reservation.{Reservation}
 use Rattle.ocpi_types.specs.declared.token.Token.{Token}
 use Rattle.ocpi_types.specs.declared.words.TokenType.{TokenType}
 use Rattle.reservation_book.specs.Tokens.{IsToken}
 use Rattle.site_book.specs.Sites.{IsEvseOf, works}
-use Rattle.operator_rows.specs.State.{Rows, IsFree}
+use Rattle.site_book.specs.declared.claim.Claim.{Claim}
+use Rattle.site_book.specs.declared.claim.Claim.TheVariants.{OpenStart, Live, Reserved}
+use Rattle.operator_rows.specs.State.{Rows, HasClaim, IsFree}
 
 -- the connector of those keys, with its EVSE and its location, as the site has them
 pub record IsConnectorAt (locations : List Location) (evse connector : List ℕ) (l : Location) (e : Evse) (k : Connector) : Type 0 where
@@ -58,3 +61,15 @@ pub data MayTake (s : Rows) (t : Token) (evse : List ℕ) (used : Option (List �
 
 abbrev pub CannotTake : Rows → Token → List ℕ → Type 0
 CannotTake s t evse = (used : Option (List ℕ)) → MayTake s t evse used → ⊥
+
+-- the claim ends by that moment: the deadline of the open start, or the expiry of the reservation, is at or before it
+abbrev pub EndsBy : Rows → ℕ → Claim → Type 0
+EndsBy s at (OpenStart p n) = (o : OpenCommand) × (get s.commands.pending (p, n) ≡ Some o) × (o.deadline ≤ at)
+EndsBy s at (Live p id) = ⊥
+EndsBy s at (Reserved p id) = (r : Reservation) × (get s.booked.reservations (p, id) ≡ Some r) × (r.expiry_date ≤ at)
+
+-- the token may take the EVSE of that key once the claims have ended that end by that moment
+pub data MayTakeAt (s : Rows) (at : ℕ) (t : Token) (evse : List ℕ) (used : Option (List ℕ)) : Type 0 where
+  Free : IsTrue (works s.out_of_service evse) → ((c : Claim) → HasClaim s evse c → EndsBy s at c) → used ≡ None → MayTakeAt s at t evse used
+  Held : IsTrue (works s.out_of_service evse) → (id : List ℕ) → HoldsFor s evse (key t.uid) t.token_type (key t.party) id →
+      ¬ EndsBy s at (Reserved (key t.party) id) → used ≡ Some id → MayTakeAt s at t evse used
