@@ -3,6 +3,7 @@
 use Rattle.std.specs.Prelude.{ℕ, ◌+◌, List, [], ◌∷◌, ◌++◌, None}
 use Rattle.std.specs.List.{flat_map}
 use Rattle.ocpi_types.specs.Stored.{body_of_command, body_of_reply, body_of_push}
+use Rattle.ocpi_types.specs.declared.packet.Body.{Body}
 use Rattle.ocpi_types.specs.declared.rows.Change.{Change}
 use Rattle.ocpi_types.specs.declared.rows.Change.TheVariants.{Put, Drop}
 use Rattle.ocpi_types.specs.declared.rows.Row.TheVariants as row
@@ -66,6 +67,10 @@ commanded at n to c = record { changes = Put (row.Command n (unanswered to c)) �
 -- the command of number n is sent again at a moment
 abbrev pub command_resent : ℕ → ℕ → List ℕ → Command → Act
 command_resent at n to c = record { changes = []; messages = command_message n to c ∷ []; volatile = Sent n at ∷ []; requests = 0 }
+
+-- the next request, of number n, is sent once, and kept in no row
+abbrev pub asked : ℕ → List ℕ → Body → Act
+asked n to body = record { changes = []; messages = record { to = to; request = n; body = body } ∷ []; volatile = []; requests = 1 }
 
 -- the parts of acts: a message is sent; the request of number n is noted as sent at a moment; the next number of a request is taken
 abbrev pub said : Message → Act

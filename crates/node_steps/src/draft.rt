@@ -2,7 +2,7 @@
 
 ghost use Rattle.std.specs.Prelude.{◌≡◌, ◌≤◌, ◌<◌, ◌++◌, ◌∷◌, ◌+◌, [], OnOk, IfOk, IfErr, SomeIff};
 ghost use Rattle.ocpi_text.specs.Whole.{max_whole};
-ghost use Rattle.node_steps.specs.Acts.{acknowledged, answered, changed, command_resent, commanded, noted, pushed, repeated, resent, said, taken};
+ghost use Rattle.node_steps.specs.Acts.{acknowledged, answered, asked, changed, command_resent, commanded, noted, pushed, repeated, resent, said, taken};
 ghost use Rattle.node_steps.specs.Drafts.{HasNumbers, IsInRange, StopsBy, count_change, later, opened, step_of, with_acts};
 
 use crate::fault::NodeFault;
@@ -305,6 +305,16 @@ impl Draft {
         let body = command.command.copy()?.into_body();
         self.send(command.to, number, body)?;
         self.note(at, number)
+    }
+
+    /// Adds a request of the node's own, under the next number, which is sent once and kept in no row. It answers the number.
+    pub fn ask(&mut self, to: Party, body: Body) -> Result<Whole, AllocError>
+        requires { HasNumbers 1 1 self.old }
+        ensures { IfOk result (λ n. (n ≡ self.old.counters.request + 1) × (self.new ≡ with_acts (asked n to body ∷ []) self.old)) }
+    {
+        let number = self.take_request();
+        self.send(to, number, body)?;
+        Ok(number)
     }
 
     /// Adds that the push of a number is acknowledged, and sent no more.
