@@ -11,17 +11,38 @@ ghost use Rattle.operator_steps.specs.Tick.{TickLine, TimeOut};
 ghost use Rattle.operator_steps.specs.TickFacts.{tick_acts};
 ghost use Rattle.operator_core.specs.Requests.{AllStand, StopsActs};
 
+use crate::deadlines::{ended, replaced_by};
 use crate::ends::add_expired;
 use crate::operator::Operator;
+use crate::sessions::{Begun, add_all_begun, add_number};
 use node_steps::{Draft, Needs, NodeFault, Plan};
 use ocpi_text::{Moment, Whole};
-use ocpi_types::CommandResultType;
+use ocpi_types::{CommandResultType, Counter};
+use operator_rows::FullPlan;
 use operator_steps::Ending;
 use reservation_book::Standing;
 use std::alloc::AllocError;
 
 /// The rows that the end of a command changes: the open command, its push and its result.
 const CHANGES_OF_AN_END: usize = 3;
+
+/// The most rows that the beginning of a session changes: a reservation, the push of an older version, the push of the first one,
+/// and this version.
+const CHANGES_OF_A_BEGINNING: usize = 4;
+
+/// What happens at a moment.
+struct Happening<'a> {
+    /// The commands that end by a timeout.
+    ends: &'a [Ending],
+    /// The reservations that end.
+    expired: &'a [Standing],
+    /// The number of the last session, with those that begin.
+    last: Whole,
+    /// The sessions that begin.
+    begun: &'a [Begun],
+    /// The pushes that are sent again.
+    due: &'a [Whole],
+}
 
 impl Operator {
     /// The timeouts of the open commands whose deadline is at or before a moment, by provider and then by number.
@@ -39,58 +60,82 @@ impl Operator {
         Ok(ends)
     }
 
-    /// Adds that these commands end, these reservations expire, and these pushes are sent again.
-    fn add_all(
-        &self,
-        draft: &mut Draft,
-        at: Moment,
-        ends: &[Ending],
-        expired: &[Standing],
-        due: &[Whole],
-    ) -> Result<(), AllocError>
-        requires open { (e : EndingOf) → Contains ends.now e → IsOpen self.now.state.rows e }
-        requires numbered { draft.old.counters.request ≡ self.now.state.rows.request }
-        requires numbers { HasNumbersOf (tick_acts at self.now.state ends.now expired.now due.now) draft.old }
-        ensures { OnOk result (draft.new ≡ with_acts (tick_acts at self.now.state ends.now expired.now due.now) draft.old) }
+    /// The numbers of the pushes that are due at a moment, without those that sessions which begin replace. An error is want of
+    /// memory.
+    fn still_due(&self, at: Moment, begun: &[Begun]) -> Result<Vec<Whole>, AllocError>
+        ensures { IfOk result (λ due. AreExactly (IsStillDueAfter self.now.state at begun.now) due.items) }
     {
-        self.add_ends(draft, at, ends)?;
-        add_expired(draft, expired)?;
-        self.add_all_resent(draft, at, due)
+        let replaced = replaced_by(self.alloc, begun)?;
+        let mut due = self.books.outbox().due(self.alloc, at)?;
+        due.retain(|number| !replaced.as_slice().contains(number));
+        Ok(due)
     }
 
-    /// The step in which these commands end, these reservations expire, and these pushes are sent again.
-    fn plan_all(
-        &self,
-        at: Moment,
-        ends: &[Ending],
-        expired: &[Standing],
-        due: &[Whole],
-    ) -> Result<Plan, NodeFault>
-        requires open { (e : EndingOf) → Contains ends.now e → IsOpen self.now.state.rows e }
-        requires stand { AllStand self.now.state.rows.pushes due.now }
-        ensures ok { IfOk result (λ x. step_of x ≡ step_of_acts self.now.state (tick_acts at self.now.state ends.now expired.now due.now)) }
-        ensures in_range { OnOk result (AreInRange self.now.state (tick_acts at self.now.state ends.now expired.now due.now)) }
-        ensures err { IfErr result (StopsActs self.now.state (tick_acts at self.now.state ends.now expired.now due.now)) }
+    /// Adds the counter of sessions, where it gave a number.
+    fn add_last_session(&self, draft: &mut Draft, last: Whole) -> Result<(), AllocError>
+        ensures { OnOk result (draft.new ≡ with_acts (map changed (count_change counter.Session self.now.state.rows.charged.last_session last)) draft.old) }
+    {
+        if last == self.books.charged().last_session() {
+            return Ok(());
+        }
+        add_number(draft, Counter::Session, last)
+    }
+
+    /// Adds what happens at a moment.
+    fn add_all(&self, draft: &mut Draft, at: Moment, all: &Happening<'_>) -> Result<(), AllocError>
+    {
+        self.add_ends(draft, at, all.ends)?;
+        add_expired(draft, all.expired)?;
+        self.add_last_session(draft, all.last)?;
+        add_all_begun(self.alloc, draft, at, all.begun)?;
+        self.add_all_resent(draft, at, all.due)
+    }
+
+    /// The step of what happens at a moment.
+    fn plan_all(&self, at: Moment, all: &Happening<'_>) -> Result<Plan, NodeFault>
     {
         let mut draft = self.draft(Needs {
-            packets: ends.len() + due.len(),
-            requests: ends.len(),
-            changes: CHANGES_OF_AN_END * ends.len() + expired.len(),
+            packets: all.ends.len() + all.begun.len() + all.due.len(),
+            requests: all.ends.len() + all.begun.len(),
+            changes: CHANGES_OF_AN_END * all.ends.len()
+                + all.expired.len()
+                + CHANGES_OF_A_BEGINNING * all.begun.len()
+                + 1,
         })?;
-        self.add_all(&mut draft, at, ends, expired, due)?;
+        self.add_all(&mut draft, at, all)?;
         Ok(draft.into_plan())
     }
 
+    /// The step of a moment, at which these authorizations are late, without the end of their waiting.
+    fn plan_late(&self, at: Moment, late: &[Whole]) -> Result<Plan, NodeFault>
+    {
+        let ends = self.timed_out(at)?;
+        let expired = self.books.booked().expired(self.alloc, at)?;
+        let beginnings = self.beginnings(at, late)?;
+        let (begun, last) = self.all_begun(at, beginnings.as_slice())?;
+        let due = self.still_due(at, begun.as_slice())?;
+        self.plan_all(
+            at,
+            &Happening {
+                ends: ends.as_slice(),
+                expired: expired.as_slice(),
+                last,
+                begun: begun.as_slice(),
+                due: due.as_slice(),
+            },
+        )
+    }
+
     /// What becomes of a moment. Nothing changes. Refused as `on_tick` says.
-    pub fn plan_tick(&self, at: Moment) -> Result<Plan, NodeFault>
-        ensures step { IfOk result (λ x. PlannedBy (TickLine self.now.state at) self.now.state (step_of x)) }
-        ensures follows { IfOk result (λ x. MayFollow self.now.state (step_of x)) }
+    pub fn plan_tick(&self, at: Moment) -> Result<FullPlan, NodeFault>
+        ensures step { IfOk result (λ x. PlannedBy (TickLine self.now.state at) self.now.state (full_step_of x)) }
+        ensures follows { IfOk result (λ x. MayFollowFull self.now.state (full_step_of x)) }
         ensures fault { IfErr result (IsOwnFault (TickLine self.now.state at) self.now.state) }
     {
         self.consistency();
-        let ends = self.timed_out(at)?;
-        let expired = self.books.booked().expired(self.alloc, at)?;
-        let due = self.books.outbox().due(self.alloc, at)?;
-        self.plan_all(at, ends.as_slice(), expired.as_slice(), due.as_slice())
+        let late = self.books.waits().due(self.alloc, at)?;
+        let plan = self.plan_late(at, late.as_slice())?;
+        let waits = ended(self.alloc, late.as_slice())?;
+        Ok(FullPlan { plan, waits })
     }
 }

@@ -14,9 +14,11 @@ ghost use Rattle.operator_core.specs.Requests.{IfCommand, IsCommand, IsRequest, 
 use crate::acts::add_decided;
 use crate::bodies::is_taken;
 use crate::operator::Operator;
-use node_steps::{Draft, Needs, NodeFault, Plan, find_peer};
+use crate::plans::quiet;
+use node_steps::{Needs, NodeFault, Plan, find_peer};
 use ocpi_text::{Moment, Party};
 use ocpi_types::{Ack, Body, Change, CommandResultType, Packet, Reply, RowKey};
+use operator_rows::FullPlan;
 use operator_tables::{Decision, Request, decide};
 use std::alloc::AllocError;
 
@@ -65,23 +67,6 @@ impl Operator {
         })
     }
 
-    /// No counter passed its last number, which the types of the counters keep.
-    pub(crate) fn counters_in_range(&self)
-        ensures { IsInRange (counters_of self.now.state) }
-    {
-        self.books.counters_in_range();
-    }
-
-    /// A draft of a step that takes so many numbers.
-    pub(crate) fn draft(&self, needs: Needs) -> Result<Draft, NodeFault>
-        ensures ok { IfOk result (λ d. d ≡ opened self.now.state.party (counters_of self.now.state) needs.packets needs.requests) }
-        ensures in_range { OnOk result (IsInRange (later (counters_of self.now.state) needs.packets needs.requests)) }
-        ensures err { IfErr result (StopsBy (later (counters_of self.now.state) needs.packets needs.requests)) }
-    {
-        let (serial, request) = (self.books.serial(), self.books.last_request());
-        Draft::open(self.alloc, self.books.party(), serial, request, needs)
-    }
-
     /// The step that sends a kept reply again.
     fn plan_again(&self, request: &Request, reply: &Reply) -> Result<Plan, NodeFault>
         ensures ok { IfOk result (λ x. step_of x ≡ step_of_acts self.now.state (repeated_by request.now reply.now)) }
@@ -119,18 +104,32 @@ impl Operator {
         Ok(draft.into_plan())
     }
 
-    /// What becomes of a command. A request that was answered before gets the same reply again.
+    /// What becomes of a command that was not answered before.
     fn plan_command(&self, request: &Request, packet: &Packet) -> Result<Plan, NodeFault>
         requires request { IsRequest self.now.state request.now.at packet.now request.now }
         requires command { IsCommand packet.now.body }
-        ensures step { IfOk result (λ x. PlannedBy (Comes self.now.state request.now.at packet.now) self.now.state (step_of x)) }
+        requires new { map.get self.now.state.rows.commands.replies (request.now.provider, request.now.number) ≡ None }
+        ensures step { IfOk result (λ x. PlannedBy (Comes self.now.state request.now.at packet.now) self.now.state (quiet_step (step_of x))) }
+        ensures fault { IfErr result (IsDue self.now.state request.now.at packet.now) }
+    {
+        let decision = decide(&self.books, request, &packet.from, &packet.body);
+        self.plan_decided(request, &packet.body, &decision)
+    }
+
+    /// What becomes of a command or a token. A request that was answered before gets the same reply again.
+    fn plan_request(&self, request: &Request, packet: &Packet) -> Result<Plan, NodeFault>
+        requires request { IsRequest self.now.state request.now.at packet.now request.now }
+        requires body { IsRequestBody packet.now.body }
+        ensures step { IfOk result (λ x. PlannedBy (Comes self.now.state request.now.at packet.now) self.now.state (quiet_step (step_of x))) }
         ensures fault { IfErr result (IsDue self.now.state request.now.at packet.now) }
     {
         if let Some(reply) = self.books.reply(request.provider, request.number) {
             return self.plan_again(request, reply);
         }
-        let decision = decide(&self.books, request, &packet.from, &packet.body);
-        self.plan_decided(request, &packet.body, &decision)
+        match &packet.body {
+            Body::PutToken(token) => self.plan_put(request, token),
+            _ => self.plan_command(request, packet),
+        }
     }
 
     /// Whether an acknowledgement is for a push of this operator: it has status 1000, and comes from the addressee under the
@@ -148,7 +147,7 @@ impl Operator {
     fn plan_ack(&self, request: &Request, packet: &Packet, ack: &Ack) -> Result<Plan, AllocError>
         requires request { IsRequest self.now.state request.now.at packet.now request.now }
         requires ack { packet.now.body ≡ body.Ack ack.now }
-        ensures step { IfOk result (λ x. PlannedBy (Comes self.now.state request.now.at packet.now) self.now.state (step_of x)) }
+        ensures step { IfOk result (λ x. PlannedBy (Comes self.now.state request.now.at packet.now) self.now.state (quiet_step (step_of x))) }
         ensures memory { MayStep (Comes self.now.state request.now.at packet.now) self.now.state }
     {
         self.counters_in_range();
@@ -164,9 +163,9 @@ impl Operator {
     }
 
     /// What becomes of a packet at a moment. Nothing changes. Refused as `on_packet` says.
-    pub fn plan_packet(&self, at: Moment, packet: &Packet) -> Result<Plan, NodeFault>
-        ensures step { IfOk result (λ x. PlannedBy (Comes self.now.state at packet.now) self.now.state (step_of x)) }
-        ensures follows { IfOk result (λ x. MayFollow self.now.state (step_of x)) }
+    pub fn plan_packet(&self, at: Moment, packet: &Packet) -> Result<FullPlan, NodeFault>
+        ensures step { IfOk result (λ x. PlannedBy (Comes self.now.state at packet.now) self.now.state (full_step_of x)) }
+        ensures follows { IfOk result (λ x. MayFollowFull self.now.state (full_step_of x)) }
         ensures fault { IfErr result (IsDue self.now.state at packet.now) }
     {
         self.consistency();
@@ -174,8 +173,9 @@ impl Operator {
             return Err(NodeFault::NotForMe);
         };
         match &packet.body {
-            Body::Ack(ack) => Ok(self.plan_ack(&request, packet, ack)?),
-            _ => self.plan_command(&request, packet),
+            Body::Ack(ack) => Ok(quiet(self.alloc, self.plan_ack(&request, packet, ack)?)),
+            Body::Authorization(answer) => self.plan_answer(&request, packet, answer),
+            _ => Ok(quiet(self.alloc, self.plan_request(&request, packet)?)),
         }
     }
 }

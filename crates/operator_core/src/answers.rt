@@ -1,0 +1,58 @@
+//! What providers answer about their tokens (OCPI 2.2.1, Tokens: Real-time authorization).
+
+ghost use Rattle.std.specs.Prelude.{◌≡◌, IfOk, IfErr, IfSome, IfNone};
+
+use crate::operator::Operator;
+use crate::plans::quiet;
+use authorization_book::{Awaited, Waiting};
+use node_steps::{NodeFault, Plan};
+use ocpi_types::{Authorization, Packet};
+use operator_rows::FullPlan;
+use operator_tables::Request;
+use session_tables::begins_by_answer;
+
+impl Operator {
+    /// What an answer is for: the authorization that is awaited of its sender under its number.
+    fn awaited(&self, packet: &Packet) -> Option<&Awaited>
+        ensures some { IfSome result (λ w. IsAwaited self.now.state packet.now w.now) }
+        ensures none { IfNone result ((w : AwaitedOf) → IsAwaited self.now.state packet.now w → ⊥) }
+    {
+        let awaited = self.books.waits().get(packet.request)?;
+        if !awaited.token.party.is_same(&packet.from) {
+            return None;
+        }
+        Some(awaited)
+    }
+
+    /// The step of an answer to what is awaited, without the end of the waiting: a session begins by it where it allows one.
+    fn plan_by_answer(
+        &self,
+        request: &Request,
+        awaited: &Awaited,
+        answer: &Authorization,
+    ) -> Result<Plan, NodeFault> {
+        match begins_by_answer(&self.books, awaited, answer) {
+            None => Ok(Plan::nothing(self.alloc)),
+            Some(beginning) => {
+                let reference = beginning.authorization_reference;
+                self.plan_begun(request.at, &[], reference, &beginning)
+            }
+        }
+    }
+
+    /// What becomes of an answer: it ends the waiting that it is for, and a session begins by it where it allows one; or it is idle.
+    pub(crate) fn plan_answer(
+        &self,
+        request: &Request,
+        packet: &Packet,
+        answer: &Authorization,
+    ) -> Result<FullPlan, NodeFault> {
+        let Some(awaited) = self.awaited(packet) else {
+            return Ok(quiet(self.alloc, Plan::nothing(self.alloc)));
+        };
+        let plan = self.plan_by_answer(request, awaited, answer)?;
+        let number = request.number;
+        let waits = vec![in self.alloc; Waiting::Ends { number }]?;
+        Ok(FullPlan { plan, waits })
+    }
+}

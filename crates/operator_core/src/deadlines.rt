@@ -1,0 +1,91 @@
+//! Authorizations that get no answer in time (OCPI 2.2.1, Tokens: WhitelistType).
+
+ghost use Rattle.std.specs.Prelude.{◌≡◌, ◌+◌, ℕ, Contains, length, map, IfOk, IfErr, OnOk};
+ghost use Rattle.ocpi_text.specs.Text.{key};
+ghost use Rattle.node_steps.specs.Peers.{HasPeer};
+ghost use Rattle.authorization_book.specs.Waits as waits;
+ghost use Rattle.authorization_book.specs.declared.waiting.Waiting.TheVariants.{Ends};
+ghost use Rattle.outbox.specs.Due.{AreExactly};
+ghost use Rattle.operator_core.specs.Planned.{AreBeginnings, AreNewSessions};
+
+use crate::operator::Operator;
+use crate::sessions::Begun;
+use authorization_book::Waiting;
+use node_steps::NodeFault;
+use ocpi_text::{Moment, Whole};
+use session_tables::{Beginning, begins_without_answer};
+use std::alloc::{AllocError, Global};
+
+/// The authorizations of those numbers are awaited no more. An error is want of memory.
+pub(crate) fn ended(alloc: Global, late: &[Whole]) -> Result<Vec<Waiting>, AllocError>
+    ensures { IfOk result (λ waits. waits.items ≡ map Ends late.now) }
+{
+    let mut waits = Vec::with_capacity(alloc, late.len())?;
+    for number in late {
+        waits.push(Waiting::Ends { number: *number })?;
+    }
+    Ok(waits)
+}
+
+/// The numbers of the pushes that the first versions of sessions replace. An error is want of memory.
+pub(crate) fn replaced_by(alloc: Global, sessions: &[Begun]) -> Result<Vec<Whole>, AllocError>
+    ensures { IfOk result (λ numbers. (n : ℕ) → Contains numbers.items n ↔ IsReplacedBy sessions.now n) }
+{
+    let mut numbers = Vec::new(alloc);
+    for begun in sessions {
+        if let Some(number) = begun.first.older {
+            numbers.push(number)?;
+        }
+    }
+    Ok(numbers)
+}
+
+impl Operator {
+    /// What begins where the authorization of a number gets no answer by a moment.
+    fn beginning(&self, at: Moment, number: Whole) -> Option<Beginning>
+        requires { IsTrue (map.contains_key self.now.state.waits number) }
+        ensures { IsLeftUnanswered self.now.state at number result }
+    {
+        let Some(awaited) = self.books.waits().get(number) else {
+            unreachable!()
+        };
+        begins_without_answer(&self.books, at, awaited)
+    }
+
+    /// The sessions that begin where these authorizations get no answer by a moment, in this order. An error is want of memory.
+    pub(crate) fn beginnings(
+        &self,
+        at: Moment,
+        late: &[Whole],
+    ) -> Result<Vec<Beginning>, AllocError>
+        requires { (n : ℕ) → Contains late.now n → IsTrue (map.contains_key self.now.state.waits n) }
+        ensures { IfOk result (λ bs. AreBeginnings self.now.state at late.now bs.items) }
+    {
+        let mut beginnings = Vec::new(self.alloc);
+        for number in late {
+            if let Some(beginning) = self.beginning(at, *number) {
+                beginnings.push(beginning)?;
+            }
+        }
+        Ok(beginnings)
+    }
+
+    /// The sessions that begin so, numbered one after the other, and the number of the last session then. Refused
+    /// (`NumbersUsedUp`) where that would pass the last number, and else for want of memory (`Memory`).
+    pub(crate) fn all_begun(
+        &self,
+        at: Moment,
+        beginnings: &[Beginning],
+    ) -> Result<(Vec<Begun>, Whole), NodeFault> {
+        let mut last = self.books.charged().last_session();
+        let mut sessions = Vec::with_capacity(self.alloc, beginnings.len())?;
+        for beginning in beginnings {
+            let Some(number) = last.next() else {
+                return Err(NodeFault::NumbersUsedUp);
+            };
+            sessions.push(self.begun(at, number, beginning)?)?;
+            last = number;
+        }
+        Ok((sessions, last))
+    }
+}

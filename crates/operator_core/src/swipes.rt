@@ -1,0 +1,92 @@
+//! The tokens that drivers show (OCPI 2.2.1, Tokens: Real-time authorization).
+
+ghost use Rattle.std.specs.Prelude.{◌≡◌, ◌∷◌, [], IfOk, IfErr};
+ghost use Rattle.ocpi_text.specs.Text.{key};
+ghost use Rattle.node_steps.specs.Peers.{HasPeer};
+ghost use Rattle.operator_steps.specs.Asking.{IsAsked, answer_deadline, question};
+ghost use Rattle.operator_steps.specs.Charger.{Shows};
+ghost use Rattle.operator_core.specs.Planned.{};
+
+use crate::operator::Operator;
+use node_steps::{Needs, NodeFault, Plan, find_peer};
+use ocpi_text::{CiText, Moment};
+use ocpi_types::{Authorize, Body, ChargerEvent, EvseUids, LocationReferences, Place, Token};
+use authorization_book::{Awaited, Waiting};
+use operator_rows::FullPlan;
+use session_tables::{Shown, shown};
+use std::alloc::{AllocError, Global};
+
+/// An authorization is awaited for ten seconds.
+const WAIT_MILLIS: u64 = 10_000;
+
+/// What the provider of a token is asked: whether it may be used at that EVSE. An error is want of memory.
+fn question(
+    alloc: Global,
+    token: &Token,
+    location_id: CiText<36>,
+    place: &Place,
+) -> Result<Authorize, AllocError>
+    ensures { IfOk result (λ q. q ≡ question token.now location_id place.now) }
+{
+    let evse_uids = EvseUids::new(vec![in alloc; place.evse_uid]?);
+    Ok(Authorize {
+        token_uid: token.uid,
+        token_type: Some(token.token_type),
+        location: Some(LocationReferences {
+            location_id,
+            evse_uids: Some(evse_uids),
+        }),
+    })
+}
+
+impl Operator {
+    /// The step in which the provider of a token is asked, once, and its answer is awaited. Refused (`NumbersUsedUp`) where a
+    /// counter would pass its last number, and else for want of memory (`Memory`).
+    pub(crate) fn plan_asked(
+        &self,
+        at: Moment,
+        token: &Token,
+        location_id: CiText<36>,
+        place: &Place,
+    ) -> Result<FullPlan, NodeFault>
+        requires { HasPeer self.now.state.providers (key token.now.party) }
+        ensures ok { IfOk result (λ x. PlannedBy (IsAsked self.now.state at token.now location_id place.now) self.now.state (full_step_of x)) }
+        ensures err { IfErr result (StopsWork (IsAsked self.now.state at token.now location_id place.now) self.now.state) }
+    {
+        let Some(to) = find_peer(self.books.providers(), &token.party) else {
+            unreachable!()
+        };
+        let mut draft = self.draft(Needs {
+            packets: 1,
+            requests: 1,
+            changes: 0,
+        })?;
+        let question = question(self.alloc, token, location_id, place)?;
+        let number = draft.ask(*to, Body::Authorize(question))?;
+        let awaited = Awaited {
+            token: *token,
+            place: *place,
+            deadline: at.after(WAIT_MILLIS),
+        };
+        let waits = vec![in self.alloc; Waiting::Begins { number, awaited }]?;
+        Ok(FullPlan {
+            plan: draft.into_plan(),
+            waits,
+        })
+    }
+
+    /// What a token comes to that a driver shows, where the report is that one was shown.
+    pub(crate) fn shown_by(&self, report: &ChargerEvent) -> Shown
+        ensures shows { (result ≡ Nothing) ⊎ Shows self.now.state report.now result }
+    {
+        match report {
+            ChargerEvent::Swipe {
+                evse_uid,
+                connector_id,
+                token_uid,
+                token_type,
+            } => shown(&self.books, evse_uid, connector_id, token_uid, *token_type),
+            _ => Shown::Nothing,
+        }
+    }
+}
