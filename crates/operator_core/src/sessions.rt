@@ -125,8 +125,7 @@ impl Operator {
     fn first_version(&self, at: Moment, number: Whole, beginning: &Beginning) -> Session
         ensures { result ≡ first_of self.now.state at number beginning.now }
     {
-        let site = self.books.site_book().site();
-        let session = start(opening(self.books.party(), site, number, beginning), at);
+        let session = start(opening(&self.books, number, beginning), at);
         *session.version()
     }
 

@@ -30,18 +30,19 @@ const CHANGES_OF_AN_END: usize = 3;
 /// and this version.
 const CHANGES_OF_A_BEGINNING: usize = 4;
 
-/// What happens at a moment.
-struct Happening<'a> {
+/// What happens at a moment, as all is read before it.
+#[derive(Drop)]
+struct Happening {
     /// The commands that end by a timeout.
-    ends: &'a [Ending],
+    ends: Vec<Ending>,
     /// The reservations that end.
-    expired: &'a [Standing],
-    /// The number of the last session, with those that begin.
-    last: Whole,
+    expired: Vec<Standing>,
     /// The sessions that begin.
-    begun: &'a [Begun],
+    begun: Vec<Begun>,
+    /// The number of the last session, with these.
+    last: Whole,
     /// The pushes that are sent again.
-    due: &'a [Whole],
+    due: Vec<Whole>,
 }
 
 impl Operator {
@@ -63,7 +64,7 @@ impl Operator {
     /// The numbers of the pushes that are due at a moment, without those that sessions which begin replace. An error is want of
     /// memory.
     fn still_due(&self, at: Moment, begun: &[Begun]) -> Result<Vec<Whole>, AllocError>
-        ensures { IfOk result (λ due. AreExactly (IsStillDueAfter self.now.state at begun.now) due.items) }
+        ensures { IfOk result (λ due. AreExactly (IsDueStill self.now.state at begun.now) due.items) }
     {
         let replaced = replaced_by(self.alloc, begun)?;
         let mut due = self.books.outbox().due(self.alloc, at)?;
@@ -82,48 +83,58 @@ impl Operator {
     }
 
     /// Adds what happens at a moment.
-    fn add_all(&self, draft: &mut Draft, at: Moment, all: &Happening<'_>) -> Result<(), AllocError>
+    fn add_all(&self, draft: &mut Draft, at: Moment, all: &Happening) -> Result<(), AllocError>
+        requires open { (e : EndingOf) → Contains all.now.ends.items e → IsOpen self.now.state.rows e }
+        requires numbered { draft.old.counters.request ≡ self.now.state.rows.request }
+        requires numbers { HasNumbersOf (happening_acts at self.now.state all.now) draft.old }
+        ensures { OnOk result (draft.new ≡ with_acts (happening_acts at self.now.state all.now) draft.old) }
     {
-        self.add_ends(draft, at, all.ends)?;
-        add_expired(draft, all.expired)?;
+        self.add_ends(draft, at, all.ends.as_slice())?;
+        add_expired(draft, all.expired.as_slice())?;
         self.add_last_session(draft, all.last)?;
-        add_all_begun(self.alloc, draft, at, all.begun)?;
-        self.add_all_resent(draft, at, all.due)
+        add_all_begun(self.alloc, draft, at, all.begun.as_slice())?;
+        self.add_all_resent(draft, at, all.due.as_slice())
     }
 
     /// The step of what happens at a moment.
-    fn plan_all(&self, at: Moment, all: &Happening<'_>) -> Result<Plan, NodeFault>
+    fn plan_all(&self, at: Moment, all: &Happening) -> Result<Plan, NodeFault>
+        requires open { (e : EndingOf) → Contains all.now.ends.items e → IsOpen self.now.state.rows e }
+        requires stand { AllStand self.now.state.rows.pushes all.now.due.items }
+        requires number { all.now.last ≤ max_whole }
+        ensures ok { IfOk result (λ x. step_of x ≡ step_of_acts self.now.state (happening_acts at self.now.state all.now)) }
+        ensures in_range { OnOk result (AreInRange self.now.state (happening_acts at self.now.state all.now)) }
+        ensures err { IfErr result (StopsActs self.now.state (happening_acts at self.now.state all.now)) }
     {
+        let (ends, begun) = (all.ends.len(), all.begun.len());
+        let changes = CHANGES_OF_AN_END * ends + CHANGES_OF_A_BEGINNING * begun;
         let mut draft = self.draft(Needs {
-            packets: all.ends.len() + all.begun.len() + all.due.len(),
-            requests: all.ends.len() + all.begun.len(),
-            changes: CHANGES_OF_AN_END * all.ends.len()
-                + all.expired.len()
-                + CHANGES_OF_A_BEGINNING * all.begun.len()
-                + 1,
+            packets: ends + begun + all.due.len(),
+            requests: ends + begun,
+            changes: changes + all.expired.len(),
         })?;
         self.add_all(&mut draft, at, all)?;
         Ok(draft.into_plan())
     }
 
-    /// The step of a moment, at which these authorizations are late, without the end of their waiting.
-    fn plan_late(&self, at: Moment, late: &[Whole]) -> Result<Plan, NodeFault>
+    /// What happens at a moment, at which these authorizations are late. Refused (`NumbersUsedUp`) where the sessions that begin
+    /// would pass the last number, and else for want of memory (`Memory`).
+    fn happening(&self, at: Moment, late: &[Whole]) -> Result<Happening, NodeFault>
+        requires { AreExactly (waits.IsDue self.now.state.waits at) late.now }
+        ensures ok { IfOk result (λ all. IsHappening self.now.state at late.now all) }
+        ensures err { IfErr result (IsOwnFault (TickLine self.now.state at) self.now.state) }
     {
         let ends = self.timed_out(at)?;
         let expired = self.books.booked().expired(self.alloc, at)?;
         let beginnings = self.beginnings(at, late)?;
         let (begun, last) = self.all_begun(at, beginnings.as_slice())?;
         let due = self.still_due(at, begun.as_slice())?;
-        self.plan_all(
-            at,
-            &Happening {
-                ends: ends.as_slice(),
-                expired: expired.as_slice(),
-                last,
-                begun: begun.as_slice(),
-                due: due.as_slice(),
-            },
-        )
+        Ok(Happening {
+            ends,
+            expired,
+            begun,
+            last,
+            due,
+        })
     }
 
     /// What becomes of a moment. Nothing changes. Refused as `on_tick` says.
@@ -134,7 +145,8 @@ impl Operator {
     {
         self.consistency();
         let late = self.books.waits().due(self.alloc, at)?;
-        let plan = self.plan_late(at, late.as_slice())?;
+        let all = self.happening(at, late.as_slice())?;
+        let plan = self.plan_all(at, &all)?;
         let waits = ended(self.alloc, late.as_slice())?;
         Ok(FullPlan { plan, waits })
     }
