@@ -1,1 +1,4 @@
 pub mod Requests
+pub mod Planned
+pub mod Bills
+pub mod Happenings

@@ -1,8 +1,7 @@
 -- What is planned of the acts that a line asks for, and why it is not.
-use Rattle.std.specs.Prelude.{◌≡◌, ◌≤◌, ℕ, ◌+◌, length, map, List, [], ◌∷◌, ◌++◌, Option, Some, None, ⊤, Contains}
-use Rattle.std.specs.FinMap.{get}
+use Rattle.std.specs.Prelude.{◌≡◌, ◌<◌, ℕ, ◌+◌, length, List, [], ◌∷◌, ◌++◌, Option, Some, None, ⊤}
 use Rattle.ocpi_text.specs.Text.{key}
-use Rattle.ocpi_types.specs.declared.rows.Counter.TheVariants as counter
+use Rattle.ocpi_text.specs.Whole.{max_whole}
 use Rattle.ocpi_types.specs.declared.sessions.Session.{Session}
 use Rattle.ocpi_types.specs.declared.stored.Push.TheVariants as push
 use Rattle.node_steps.specs.Acts.{Act, in_turn}
@@ -16,7 +15,7 @@ use Rattle.operator_rows.specs.Steps.{FullStep}
 use Rattle.operator_steps.specs.declared.ending.Ending.{Ending}
 use Rattle.operator_steps.specs.Acts.{spent, used}
 use Rattle.operator_steps.specs.Ends.{ends_acts}
-use Rattle.operator_steps.specs.Moves.{AreInRange, step_of_acts}
+use Rattle.operator_steps.specs.Moves.{AreInRange, Work, step_of_acts}
 use Rattle.operator_steps.specs.Sessions.{IsBegun, first_of, numbered_sessions, versioned}
 use Rattle.operator_steps.specs.TickFacts.{IsLeftUnanswered}
 use Rattle.operator_core.specs.declared.sessions.Begun.{Begun}
@@ -88,3 +87,18 @@ pub data AreNewSessions (s : State) (at : ℕ) : ℕ → List Beginning → List
   No_session : (n : ℕ) → AreNewSessions s at n [] []
   Next_session : (n : ℕ) (b : Beginning) (bs : List Beginning) (x : Begun) (xs : List Begun) → IsNewSession s at (n + 1) b x → AreNewSessions s at (n + 1) bs xs →
       AreNewSessions s at n (b ∷ bs) (x ∷ xs)
+
+-- so many sessions more would pass the last number, or memory ran out
+abbrev pub CannotNumber : State → ℕ → NodeFault → Type 0
+CannotNumber s more NotForMe = ⊥
+CannotNumber s more UnknownOperator = ⊥
+CannotNumber s more UnknownToken = ⊥
+CannotNumber s more StampEnd = ⊥
+CannotNumber s more NumbersUsedUp = max_whole < s.rows.charged.last_session + more
+CannotNumber s more Memory = ⊤
+
+-- why what a line asks for is not done: acts, and changes of what is awaited
+pub record StopsWork (Line : Work → Type 0) (s : State) (f : NodeFault) : Type 0 where
+  pub work : Work
+  pub line : Line work
+  pub stops : StopsActs s work.acts f

@@ -1,9 +1,12 @@
 //! Charge detail records (OCPI 2.2.1, CDRs: Sender interface).
 
-ghost use Rattle.std.specs.Prelude.{◌≡◌, ◌+◌, IfOk, IfErr, OnOk};
+ghost use Rattle.std.specs.Prelude.{◌≡◌, IfOk, IfErr, OnOk};
+ghost use Rattle.ocpi_text.specs.OwnIds.{own_id_text};
 ghost use Rattle.ocpi_text.specs.Text.{key};
+ghost use Rattle.ocpi_text.specs.declared.own_ids.OwnIdKind.TheVariants as own;
 ghost use Rattle.node_steps.specs.Drafts.{HasNumbers, with_acts};
 ghost use Rattle.site_book.specs.Sites.{IsConnectorOf};
+ghost use Rattle.session_state.specs.Records.{cdr_of};
 ghost use Rattle.operator_core.specs.Bills.{CannotBill, IsBillOf, IsLocationOf, bill_acts};
 
 use crate::operator::Operator;

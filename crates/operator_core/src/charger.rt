@@ -9,7 +9,8 @@ ghost use Rattle.operator_steps.specs.Charger.{ChargerLine, EndsNone, IsAbout, I
 ghost use Rattle.operator_steps.specs.Ends.{IsOpen};
 ghost use Rattle.operator_steps.specs.Faults.{IsOwnFault};
 ghost use Rattle.operator_steps.specs.Moves.{AreInRange, PlannedBy, step_of_acts};
-ghost use Rattle.operator_core.specs.Requests.{StopsActs, acts_of_end};
+ghost use Rattle.operator_core.specs.Planned.{StopsActs};
+ghost use Rattle.operator_core.specs.Requests.{acts_of_end};
 
 use crate::operator::Operator;
 use crate::plans::quiet;

@@ -1,13 +1,15 @@
 //! What a charge point's report makes of a session (OCPI 2.2.1, Sessions: Session object, SessionStatus).
 
-ghost use Rattle.std.specs.Prelude.{◌≡◌, ◌+◌, ◌++◌, IfOk, IfErr, OnOk};
+ghost use Rattle.std.specs.Prelude.{◌≡◌, ◌≢◌, ◌≤◌, IfOk, IfErr, OnOk};
 ghost use Rattle.ocpi_text.specs.Text.{key};
+ghost use Rattle.ocpi_text.specs.Whole.{max_whole};
 ghost use Rattle.ocpi_types.specs.declared.words.SessionStatus.TheVariants.{Completed};
-ghost use Rattle.node_steps.specs.Drafts.{HasNumbers, step_of, with_acts};
+ghost use Rattle.node_steps.specs.Drafts.{step_of};
 ghost use Rattle.node_steps.specs.Peers.{HasPeer};
 ghost use Rattle.site_book.specs.Sites.{IsConnectorOf};
-ghost use Rattle.operator_core.specs.Bills.{AreMoveActs, IsBillOf, bill_acts};
-ghost use Rattle.operator_core.specs.Planned.{PlansActs, StopsActs, StopsLine, version_acts};
+ghost use Rattle.operator_steps.specs.Moves.{AreInRange, step_of_acts};
+ghost use Rattle.operator_core.specs.Bills.{IsRecorded, StopsEarly, completed_acts};
+ghost use Rattle.operator_core.specs.Planned.{PlansActs, StopsActs, version_acts};
 
 use crate::bills::{Bill, add_bill};
 use crate::operator::Operator;
@@ -41,9 +43,10 @@ impl Operator {
 
     /// The step of a completed version, with its charge detail record.
     fn plan_bill(&self, at: Moment, versioned: &Versioned, bill: Bill) -> Result<Plan, NodeFault>
-        ensures ok { IfOk result (λ x. step_of x ≡ step_of_acts self.now.state (billed_acts at self.now.state.rows.request versioned.now bill)) }
-        ensures in_range { OnOk result (AreInRange self.now.state (billed_acts at self.now.state.rows.request versioned.now bill)) }
-        ensures err { IfErr result (StopsActs self.now.state (billed_acts at self.now.state.rows.request versioned.now bill)) }
+        requires { bill.number ≤ max_whole }
+        ensures ok { IfOk result (λ x. step_of x ≡ step_of_acts self.now.state (completed_acts at self.now.state.rows.request versioned.now bill)) }
+        ensures in_range { OnOk result (AreInRange self.now.state (completed_acts at self.now.state.rows.request versioned.now bill)) }
+        ensures err { IfErr result (StopsActs self.now.state (completed_acts at self.now.state.rows.request versioned.now bill)) }
     {
         let mut draft = self.draft(Needs {
             packets: 2,
@@ -57,7 +60,12 @@ impl Operator {
 
     /// The step in which a session goes on, or ends before it is charged: its new version is pushed and stored. Refused
     /// (`NumbersUsedUp`) where a counter would pass its last number, and else for want of memory (`Memory`).
-    pub(crate) fn plan_going(&self, at: Moment, version: &Session) -> Result<Plan, NodeFault> {
+    pub(crate) fn plan_going(&self, at: Moment, version: &Session) -> Result<Plan, NodeFault>
+        requires provider { HasPeer self.now.state.providers (key version.now.cdr_token.party) }
+        requires going { version.now.status ≢ Completed }
+        ensures ok { IfOk result (λ x. PlansActs (IsRecorded self.now.state at version.now) self.now.state (step_of x)) }
+        ensures err { IfErr result (StopsEarly (IsRecorded self.now.state at version.now) self.now.state) }
+    {
         let versioned = self.versioned(version)?;
         self.plan_version(at, &versioned)
     }
@@ -69,7 +77,14 @@ impl Operator {
         at: Moment,
         version: &Session,
         draft: CdrDraft,
-    ) -> Result<Plan, NodeFault> {
+    ) -> Result<Plan, NodeFault>
+        requires provider { HasPeer self.now.state.providers (key version.now.cdr_token.party) }
+        requires place { IsConnectorOf self.now.state.site.locations (key version.now.evse_uid) (key version.now.connector_id) }
+        requires completed { version.now.status ≡ Completed }
+        requires drafted { draft ≡ version.now }
+        ensures ok { IfOk result (λ x. PlansActs (IsRecorded self.now.state at version.now) self.now.state (step_of x)) }
+        ensures err { IfErr result (StopsEarly (IsRecorded self.now.state at version.now) self.now.state) }
+    {
         let bill = self.bill(version, draft)?;
         let versioned = self.versioned(version)?;
         self.plan_bill(at, &versioned, bill)

@@ -1,12 +1,15 @@
 //! Authorizations that get no answer in time (OCPI 2.2.1, Tokens: WhitelistType).
 
-ghost use Rattle.std.specs.Prelude.{◌≡◌, ◌+◌, ℕ, Contains, length, map, IfOk, IfErr, OnOk};
+ghost use Rattle.std.specs.Prelude.{◌≡◌, ◌≤◌, ◌+◌, ◌↔◌, ℕ, Contains, IsTrue, length, map as list_map, IfOk, IfErr};
+ghost use Rattle.std.specs.FinMap as map;
 ghost use Rattle.ocpi_text.specs.Text.{key};
-ghost use Rattle.node_steps.specs.Peers.{HasPeer};
-ghost use Rattle.authorization_book.specs.Waits as waits;
+ghost use Rattle.ocpi_text.specs.Whole.{max_whole};
 ghost use Rattle.authorization_book.specs.declared.waiting.Waiting.TheVariants.{Ends};
-ghost use Rattle.outbox.specs.Due.{AreExactly};
-ghost use Rattle.operator_core.specs.Planned.{AreBeginnings, AreNewSessions};
+ghost use Rattle.node_steps.specs.Peers.{HasPeer};
+ghost use Rattle.operator_steps.specs.TickFacts.{IsLeftUnanswered};
+ghost use Rattle.operator_core.specs.Happenings.{IsReplacedBy};
+ghost use Rattle.operator_core.specs.Planned.{AreBeginnings, AreNewSessions, CannotNumber};
+ghost use Rattle.session_tables.specs.declared.beginning.Beginning.{Beginning as BeginningOf};
 
 use crate::operator::Operator;
 use crate::sessions::Begun;
@@ -18,7 +21,7 @@ use std::alloc::{AllocError, Global};
 
 /// The authorizations of those numbers are awaited no more. An error is want of memory.
 pub(crate) fn ended(alloc: Global, late: &[Whole]) -> Result<Vec<Waiting>, AllocError>
-    ensures { IfOk result (λ waits. waits.items ≡ map Ends late.now) }
+    ensures { IfOk result (λ waits. waits.items ≡ list_map Ends late.now) }
 {
     let mut waits = Vec::with_capacity(alloc, late.len())?;
     for number in late {
@@ -76,7 +79,13 @@ impl Operator {
         &self,
         at: Moment,
         beginnings: &[Beginning],
-    ) -> Result<(Vec<Begun>, Whole), NodeFault> {
+    ) -> Result<(Vec<Begun>, Whole), NodeFault>
+        requires { (b : BeginningOf) → Contains beginnings.now b → HasPeer self.now.state.providers (key b.token.party) }
+        ensures sessions { IfOk result (λ x. AreNewSessions self.now.state at self.now.state.rows.charged.last_session beginnings.now x.0.items) }
+        ensures last { IfOk result (λ x. x.1 ≡ self.now.state.rows.charged.last_session + length beginnings.now) }
+        ensures in_range { IfOk result (λ x. x.1 ≤ max_whole) }
+        ensures err { IfErr result (CannotNumber self.now.state (length beginnings.now)) }
+    {
         let mut last = self.books.charged().last_session();
         let mut sessions = Vec::with_capacity(self.alloc, beginnings.len())?;
         for beginning in beginnings {

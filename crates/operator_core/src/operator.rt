@@ -37,7 +37,8 @@ impl Model for Operator {
 impl Operator {
     ghost use Rattle.operator_rows.specs.Rows.{AreChanges, AreRowsOf};
     ghost use Rattle.operator_rows.specs.Sound.{IsConsistent};
-    ghost use Rattle.operator_rows.specs.Steps.{HasFullRoomFor, MayFollowFull, after_full, full_step_of, restarted};
+    ghost use Rattle.operator_rows.specs.Steps.{HasFullRoomFor, MayFollowFull, after_full, restarted};
+    ghost use Rattle.operator_rows.specs.FullSteps.{full_step_of};
     ghost use Rattle.operator_steps.specs.Charger.{ChargerStep};
     ghost use Rattle.operator_steps.specs.Faults.{IsDue, IsOwnFault, IsReportFault};
     ghost use Rattle.operator_steps.specs.Moves.{carried};

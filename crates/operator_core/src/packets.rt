@@ -9,7 +9,7 @@ ghost use Rattle.operator_rows.specs.Steps.{MayFollow};
 ghost use Rattle.operator_steps.specs.Faults.{IsDue, MayStep};
 ghost use Rattle.operator_steps.specs.Moves.{AreInRange, PlannedBy, counters_of, step_of_acts};
 ghost use Rattle.operator_steps.specs.Steps.{Acknowledges, Comes, IsForMe, IsTaken};
-ghost use Rattle.operator_core.specs.Requests.{IfCommand, IsCommand, IsRequest, StopsActs, decided_by, repeated_by, result_count};
+ghost use Rattle.operator_core.specs.Requests.{IfCommand, IsCommand, IsRequest, decided_by, repeated_by, result_count};
 
 use crate::acts::add_decided;
 use crate::bodies::is_taken;

@@ -2,7 +2,7 @@
 
 ghost use Rattle.std.specs.Prelude.{◌≡◌, IfOk, IfErr, OnOk};
 ghost use Rattle.node_steps.specs.Drafts.{IsInRange, StopsBy, later, opened, step_of};
-ghost use Rattle.operator_rows.specs.Plans.{full_step_of};
+ghost use Rattle.operator_rows.specs.FullSteps.{full_step_of};
 ghost use Rattle.operator_steps.specs.Moves.{counters_of};
 ghost use Rattle.operator_core.specs.Planned.{quiet_step};
 

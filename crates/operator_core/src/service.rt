@@ -2,7 +2,8 @@
 
 ghost use Rattle.std.specs.Prelude.{◌∷◌, [], IfOk, IfSome, IfNone};
 ghost use Rattle.node_steps.specs.Acts.{changed};
-ghost use Rattle.operator_rows.specs.Steps.{MayFollowFull, full_step_of};
+ghost use Rattle.operator_rows.specs.Steps.{MayFollowFull};
+ghost use Rattle.operator_rows.specs.FullSteps.{full_step_of};
 ghost use Rattle.operator_steps.specs.Moves.{PlannedBy, Quietly};
 ghost use Rattle.operator_steps.specs.Service.{ServiceLine};
 

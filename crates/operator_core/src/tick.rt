@@ -1,15 +1,22 @@
 //! What the time does at an operator.
 
-ghost use Rattle.std.specs.Prelude.{◌≡◌, Contains, IfOk, IfErr, OnOk};
-ghost use Rattle.node_steps.specs.Drafts.{HasNumbersOf, step_of, with_acts};
-ghost use Rattle.operator_rows.specs.Steps.{MayFollow};
+ghost use Rattle.std.specs.Prelude.{◌≡◌, ◌≤◌, Contains, map, IfOk, IfErr, OnOk};
+ghost use Rattle.ocpi_text.specs.Whole.{max_whole};
+ghost use Rattle.ocpi_types.specs.declared.rows.Counter.TheVariants as counter;
+ghost use Rattle.authorization_book.specs.Waits as waits;
+ghost use Rattle.outbox.specs.Due.{AreExactly};
+ghost use Rattle.node_steps.specs.Acts.{changed};
+ghost use Rattle.node_steps.specs.Drafts.{HasNumbersOf, count_change, step_of, with_acts};
+ghost use Rattle.operator_rows.specs.FullSteps.{full_step_of};
+ghost use Rattle.operator_rows.specs.Steps.{MayFollowFull};
 ghost use Rattle.operator_steps.specs.declared.ending.Ending.{Ending as EndingOf};
 ghost use Rattle.operator_steps.specs.Ends.{IsOpen};
 ghost use Rattle.operator_steps.specs.Faults.{IsOwnFault};
 ghost use Rattle.operator_steps.specs.Moves.{AreInRange, PlannedBy, step_of_acts};
 ghost use Rattle.operator_steps.specs.Tick.{TickLine, TimeOut};
-ghost use Rattle.operator_steps.specs.TickFacts.{tick_acts};
-ghost use Rattle.operator_core.specs.Requests.{AllStand, StopsActs};
+ghost use Rattle.operator_core.specs.Happenings.{IsDueStill, IsHappening, happening_acts};
+ghost use Rattle.operator_core.specs.Planned.{StopsActs};
+ghost use Rattle.operator_core.specs.Requests.{AllStand};
 
 use crate::deadlines::{ended, replaced_by};
 use crate::ends::add_expired;
