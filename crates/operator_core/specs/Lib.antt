@@ -2,3 +2,4 @@ pub mod Requests
 pub mod Planned
 pub mod Bills
 pub mod Happenings
+pub mod Answering

@@ -1,16 +1,19 @@
 //! What a charge point reports to its operator (OCPI 2.2.1, Commands: the results of commands).
 
-ghost use Rattle.std.specs.Prelude.{◌≡◌, ℕ, List, IfOk, IfErr, OnOk, IfSome, IfNone};
+ghost use Rattle.std.specs.Prelude.{◌≡◌, ◌≢◌, ℕ, List, IfOk, IfErr, OnOk, IfSome, IfNone};
+ghost use Rattle.ocpi_types.specs.declared.events.ChargerEvent.TheVariants as event;
 ghost use Rattle.site_book.specs.declared.claim.Claim.TheVariants.{OpenStart};
 ghost use Rattle.node_steps.specs.Drafts.{step_of};
+ghost use Rattle.operator_rows.specs.FullSteps.{full_step_of};
 ghost use Rattle.operator_rows.specs.State.{HasClaim};
-ghost use Rattle.operator_rows.specs.Steps.{MayFollow};
-ghost use Rattle.operator_steps.specs.Charger.{ChargerLine, EndsNone, IsAbout, IsEnded, accepted, outcome, unlocked};
+ghost use Rattle.operator_rows.specs.Steps.{MayFollowFull};
+ghost use Rattle.operator_steps.specs.Charger.{ChargerLine, EndsNone, IsAbout, IsEnded, IsStarted, StartsNone, accepted, outcome, unlocked};
 ghost use Rattle.operator_steps.specs.Ends.{IsOpen};
-ghost use Rattle.operator_steps.specs.Faults.{IsOwnFault};
+ghost use Rattle.operator_steps.specs.Faults.{IsReportFault};
 ghost use Rattle.operator_steps.specs.Moves.{AreInRange, PlannedBy, step_of_acts};
 ghost use Rattle.operator_core.specs.Planned.{StopsActs};
 ghost use Rattle.operator_core.specs.Requests.{acts_of_end};
+ghost use Rattle.session_tables.specs.Moves.{MovesNone};
 
 use crate::operator::Operator;
 use crate::plans::quiet;
@@ -150,7 +153,12 @@ impl Operator {
 
     /// What becomes of a report that ends no command.
     fn plan_moved(&self, at: Moment, report: &ChargerEvent) -> Result<FullPlan, NodeFault>
+        requires ends { EndsNone self.now.state report.now }
+        requires starts { StartsNone self.now.state report.now }
+        ensures step { IfOk result (λ x. PlannedBy (ChargerLine self.now.state at report.now) self.now.state (full_step_of x)) }
+        ensures fault { IfErr result (IsReportFault self.now.state at report.now) }
     {
+        self.consistency();
         match moved(&self.books, at, report) {
             Moved::Nothing => self.plan_shown(at, report),
             Moved::Refused => Err(NodeFault::StampEnd),
@@ -163,7 +171,14 @@ impl Operator {
 
     /// What becomes of a report that ends no command, and is of no session.
     fn plan_shown(&self, at: Moment, report: &ChargerEvent) -> Result<FullPlan, NodeFault>
+        requires ends { EndsNone self.now.state report.now }
+        requires starts { StartsNone self.now.state report.now }
+        requires moves { MovesNone self.now.state.site self.now.state.rows at report.now }
+        ensures step { IfOk result (λ x. PlannedBy (ChargerLine self.now.state at report.now) self.now.state (full_step_of x)) }
+        ensures fault { IfErr result (IsReportFault self.now.state at report.now) }
     {
+        self.consistency();
+        self.counters_in_range();
         match self.shown_by(report) {
             Shown::Nothing => Ok(quiet(self.alloc, Plan::nothing(self.alloc))),
             Shown::Begins(beginning) => {

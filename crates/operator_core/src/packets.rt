@@ -1,14 +1,17 @@
 //! What a packet makes an operator do. Nothing is changed here.
 
-ghost use Rattle.std.specs.Prelude.{◌≡◌, ◌↔◌, IsTrue, IfOk, IfErr, OnOk, IfSome, IfNone, List, ℕ};
+ghost use Rattle.std.specs.Prelude.{◌≡◌, ◌↔◌, None, IsTrue, IfOk, IfErr, OnOk, IfSome, IfNone, List, ℕ};
+ghost use Rattle.std.specs.FinMap as map;
 ghost use Rattle.ocpi_text.specs.Text.{key};
 ghost use Rattle.ocpi_types.specs.declared.packet.Body.TheVariants as body;
-ghost use Rattle.node_steps.specs.Drafts.{IsInRange, StopsBy, later, opened, step_of};
+ghost use Rattle.node_steps.specs.Drafts.{step_of};
 ghost use Rattle.node_steps.specs.Peers.{IsPeer};
-ghost use Rattle.operator_rows.specs.Steps.{MayFollow};
+ghost use Rattle.operator_rows.specs.FullSteps.{full_step_of};
+ghost use Rattle.operator_rows.specs.Steps.{MayFollowFull};
 ghost use Rattle.operator_steps.specs.Faults.{IsDue, MayStep};
-ghost use Rattle.operator_steps.specs.Moves.{AreInRange, PlannedBy, counters_of, step_of_acts};
-ghost use Rattle.operator_steps.specs.Steps.{Acknowledges, Comes, IsForMe, IsTaken};
+ghost use Rattle.operator_steps.specs.Moves.{AreInRange, PlannedBy, step_of_acts};
+ghost use Rattle.operator_steps.specs.Steps.{Acknowledges, Comes, IsForMe, IsRequestBody, IsTaken};
+ghost use Rattle.operator_core.specs.Planned.{StopsActs, quiet_step};
 ghost use Rattle.operator_core.specs.Requests.{IfCommand, IsCommand, IsRequest, decided_by, repeated_by, result_count};
 
 use crate::acts::add_decided;

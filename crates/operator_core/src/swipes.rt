@@ -1,17 +1,20 @@
 //! The tokens that drivers show (OCPI 2.2.1, Tokens: Real-time authorization).
 
-ghost use Rattle.std.specs.Prelude.{◌≡◌, ◌∷◌, [], IfOk, IfErr};
+ghost use Rattle.std.specs.Prelude.{◌≡◌, ◌⊎◌, IfOk, IfErr};
 ghost use Rattle.ocpi_text.specs.Text.{key};
 ghost use Rattle.node_steps.specs.Peers.{HasPeer};
-ghost use Rattle.operator_steps.specs.Asking.{IsAsked, answer_deadline, question};
-ghost use Rattle.operator_steps.specs.Charger.{Shows};
-ghost use Rattle.operator_core.specs.Planned.{};
+ghost use Rattle.operator_rows.specs.FullSteps.{full_step_of};
+ghost use Rattle.operator_steps.specs.Asking.{IsAsked, question};
+ghost use Rattle.operator_steps.specs.Charger.{Shows, ShowsNone};
+ghost use Rattle.operator_steps.specs.Moves.{PlannedBy};
+ghost use Rattle.operator_core.specs.Planned.{StopsWork};
+ghost use Rattle.session_tables.specs.declared.shown.Shown.TheVariants.{Nothing};
 
 use crate::operator::Operator;
-use node_steps::{Needs, NodeFault, Plan, find_peer};
+use authorization_book::{Awaited, Waiting};
+use node_steps::{Needs, NodeFault, find_peer};
 use ocpi_text::{CiText, Moment};
 use ocpi_types::{Authorize, Body, ChargerEvent, EvseUids, LocationReferences, Place, Token};
-use authorization_book::{Awaited, Waiting};
 use operator_rows::FullPlan;
 use session_tables::{Shown, shown};
 use std::alloc::{AllocError, Global};
@@ -78,6 +81,7 @@ impl Operator {
     /// What a token comes to that a driver shows, where the report is that one was shown.
     pub(crate) fn shown_by(&self, report: &ChargerEvent) -> Shown
         ensures shows { (result ≡ Nothing) ⊎ Shows self.now.state report.now result }
+        ensures none { result ≡ Nothing → ShowsNone self.now.state report.now }
     {
         match report {
             ChargerEvent::Swipe {
