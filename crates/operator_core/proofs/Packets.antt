@@ -1,5 +1,5 @@
 -- What becomes of a packet, once it is known who sent it.
-use Rattle.std.proofs.Common.{◌≡◌, ℕ, List, [], ◌∷◌, sym, subst, ◌∙◌}
+use Rattle.std.proofs.Common.{◌≡◌, ℕ, List, [], ◌∷◌, refl, sym, subst, ◌∙◌}
 use Rattle.std.specs.Prelude.{Some, None, Result, Ok, Err, IfErr}
 use Rattle.std.specs.FinMap.{get}
 use Rattle.ocpi_text.specs.Text.{key}
@@ -9,8 +9,8 @@ use Rattle.ocpi_types.specs.declared.packet.Body.TheVariants as body
 use Rattle.ocpi_types.specs.declared.replies.Ack.{Ack}
 use Rattle.ocpi_types.specs.declared.stored.Command.{Command}
 use Rattle.ocpi_types.specs.declared.stored.Reply.{Reply}
+use Rattle.ocpi_types.specs.declared.token.Token.{Token}
 use Rattle.node_steps.specs.Acts.{Act, acknowledged, repeated}
-use Rattle.node_steps.specs.Drafts.{StopsBy, counted}
 use Rattle.node_steps.specs.declared.fault.NodeFault.{NodeFault}
 use Rattle.node_steps.specs.declared.fault.NodeFault.TheVariants.{NotForMe, UnknownOperator, UnknownToken, StampEnd, NumbersUsedUp, Memory}
 use Rattle.operator_rows.specs.State.{State}
@@ -19,42 +19,50 @@ use Rattle.operator_tables.specs.declared.decision.Decision.{Decision}
 use Rattle.operator_tables.specs.declared.request.Request.{Request}
 use Rattle.operator_steps.specs.Acts.{decided_acts}
 use Rattle.operator_steps.specs.Faults.{IsDue}
-use Rattle.operator_steps.specs.Moves.{counters_of}
-use Rattle.operator_steps.specs.Steps.{Acknowledged, Acknowledges, Again, Comes, Decided, Idle, PacketLine}
+use Rattle.operator_steps.specs.Moves.{Work, quiet}
+use Rattle.operator_steps.specs.Steps.{Acknowledged, Acknowledges, Again, Comes, Decided, Idle, IsRequestBody, PacketLine, Sent, TokenLine}
+use Rattle.operator_core.specs.Planned.{StopsActs}
 use Rattle.operator_core.specs.Requests.{IsRequest}
 
 module _ (s : State) (q : Packet) (r : Request) (is : IsRequest s r.at q r) where
-  comes : (acts : List Act) → PacketLine s r.at q r.from acts → Comes s r.at q acts
-  comes acts line = record { to = is.to; provider = r.from; from = is.from; line = line }
+  comes : (work : Work) → PacketLine s r.at q r.from work → Comes s r.at q work
+  comes work line = record { to = is.to; provider = r.from; from = is.from; line = line }
 
   replies_at : get s.rows.commands.replies (r.provider, r.number) ≡ get s.rows.commands.replies (key q.from, q.request)
   replies_at i = get s.rows.commands.replies (is.provider i, is.number i)
 
-  pub again_comes : (c : Command) → q.body ≡ body_of_command c → (reply : Reply) → get s.rows.commands.replies (r.provider, r.number) ≡ Some reply →
-      Comes s r.at q (repeated r.from r.number reply ∷ [])
-  again_comes c carries reply kept =
-      subst (λ (n : ℕ). Comes s r.at q (repeated r.from n reply ∷ [])) (sym is.number) (comes _ (Again c carries reply (sym replies_at ∙ kept) (λ i. repeated r.from q.request reply ∷ [])))
+  pub again_comes : IsRequestBody q.body → (reply : Reply) → get s.rows.commands.replies (r.provider, r.number) ≡ Some reply →
+      Comes s r.at q (quiet (repeated r.from r.number reply ∷ []))
+  again_comes body reply kept =
+      subst (λ (n : ℕ). Comes s r.at q (quiet (repeated r.from n reply ∷ []))) (sym is.number) (comes _ (Again body reply (sym replies_at ∙ kept) refl))
 
   pub decided_comes : (c : Command) → q.body ≡ body_of_command c → get s.rows.commands.replies (r.provider, r.number) ≡ None → (d : Decision) → Decides s.site s.rows r.at q.from r.number c d →
-      Comes s r.at q (decided_acts r.at s.rows.request r.from r.provider r.number c d)
+      Comes s r.at q (quiet (decided_acts r.at s.rows.request r.from r.provider r.number c d))
   decided_comes c carries none d decides =
       let at_number : Decides s.site s.rows r.at q.from q.request c d = subst (λ (n : ℕ). Decides s.site s.rows r.at q.from n c d) is.number decides in
-      comes _ (Decided c d (record { carries = carries; new = sym replies_at ∙ none; decides = at_number }) (λ i. decided_acts r.at s.rows.request r.from (is.provider i) (is.number i) c d))
+      comes _ (Decided c d (record { carries = carries; new = sym replies_at ∙ none; decides = at_number }) (λ i. quiet (decided_acts r.at s.rows.request r.from (is.provider i) (is.number i) c d)))
 
-  pub acknowledged_comes : (a : Ack) → q.body ≡ body.Ack a → Acknowledges s q a → Comes s r.at q (acknowledged r.number ∷ [])
-  acknowledged_comes a carries done = comes _ (Acknowledged a carries done (λ i. acknowledged (is.number i) ∷ []))
+  pub acknowledged_comes : (a : Ack) → q.body ≡ body.Ack a → Acknowledges s q a → Comes s r.at q (quiet (acknowledged r.number ∷ []))
+  acknowledged_comes a carries done = comes _ (Acknowledged a carries done (λ i. quiet (acknowledged (is.number i) ∷ [])))
 
-  pub idle_comes : (a : Ack) → q.body ≡ body.Ack a → ¬ Acknowledges s q a → Comes s r.at q []
-  idle_comes a carries not_done = comes _ (Idle a carries not_done (λ i. []))
+  pub idle_comes : (a : Ack) → q.body ≡ body.Ack a → ¬ Acknowledges s q a → Comes s r.at q (quiet [])
+  idle_comes a carries not_done = comes _ (Idle a carries not_done refl)
 
-  pub due_fault : (acts : List Act) → Comes s r.at q acts → (f : NodeFault) → StopsBy (counted (counters_of s) acts) f → IsDue s r.at q f
-  due_fault acts line NotForMe h = absurd h
-  due_fault acts line UnknownOperator h = h
-  due_fault acts line UnknownToken h = h
-  due_fault acts line StampEnd h = h
-  due_fault acts line NumbersUsedUp h = record { acts = acts; line = line; past = h }
-  due_fault acts line Memory h = record { acts = acts; line = line; in_range = h }
+  pub token_comes : (t : Token) → q.body ≡ body.PutToken t → get s.rows.commands.replies (r.provider, r.number) ≡ None → (acts : List Act) →
+      TokenLine s r.at r.from r.provider r.number t acts → Comes s r.at q (quiet acts)
+  token_comes t carries none acts line =
+      let at_number : TokenLine s r.at r.from r.provider q.request t acts = subst (λ (n : ℕ). TokenLine s r.at r.from r.provider n t acts) is.number line in
+      let of_sender : TokenLine s r.at r.from (key q.from) q.request t acts = subst (λ (p : List ℕ). TokenLine s r.at r.from p q.request t acts) is.provider at_number in
+      comes _ (Sent t acts carries (sym replies_at ∙ none) of_sender refl)
 
-  pub due_faults : {T : Type 0} → (x : Result T NodeFault) (acts : List Act) → Comes s r.at q acts → IfErr x (StopsBy (counted (counters_of s) acts)) → IfErr x (IsDue s r.at q)
-  due_faults (Ok x) acts line h = tt
-  due_faults (Err f) acts line h = due_fault acts line f h
+  pub due_fault : (work : Work) → Comes s r.at q work → (f : NodeFault) → StopsActs s work.acts f → IsDue s r.at q f
+  due_fault work line NotForMe h = absurd h
+  due_fault work line UnknownOperator h = h
+  due_fault work line UnknownToken h = h
+  due_fault work line StampEnd h = h
+  due_fault work line NumbersUsedUp h = record { work = work; line = line; past = h }
+  due_fault work line Memory h = record { work = work; line = line; in_range = h }
+
+  pub due_faults : {T : Type 0} → (x : Result T NodeFault) (work : Work) → Comes s r.at q work → IfErr x (StopsActs s work.acts) → IfErr x (IsDue s r.at q)
+  due_faults (Ok x) work line h = tt
+  due_faults (Err f) work line h = due_fault work line f h
