@@ -17,8 +17,8 @@ pub no_changes : (waits : Waits) → MayWait waits []
 no_changes waits = tt
 
 pub one_begins : (waits : Waits) (n : ℕ) (a : Awaited) → MayBegin waits n a → MayWait waits (Begins n a ∷ [])
-one_begins waits n a may = (may, (tt, tt))
+one_begins waits n a may = (may, tt, tt)
 
 pub any_end : (waits : Waits) (ns : List ℕ) → MayWait waits (map Ends ns)
 any_end waits [] = tt
-any_end waits (n ∷ ns) = (tt, (λ a. ends_only n a ns, any_end (waited (Ends n) waits) ns))
+any_end waits (n ∷ ns) = (tt, λ a. ends_only n a ns, any_end (waited (Ends n) waits) ns)

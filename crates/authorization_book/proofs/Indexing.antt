@@ -1,9 +1,10 @@
 -- What finds authorizations by their EVSEs and by their deadlines, as they begin and end to be awaited.
-use Rattle.std.proofs.Common.{◌≡◌, ℕ, List, inl, inr, refl, sym, ap, ◌∙◌}
+use Rattle.std.proofs.Common.{◌≡◌, ℕ, List, false, inl, inr, refl, sym, ap, ◌∙◌, arith}
 use Rattle.std.specs.Prelude.{Some}
-use Rattle.std.specs.Ordering.{nat_cmp}
+use Rattle.std.specs.Ordering.{is_gt, nat_cmp}
 use Rattle.std.specs.Cmp.{IsTotalOrder, nat_cmp_total}
 use Rattle.std.specs.FinMap.{FinMap, IsAntisymmetric, nat_cmp-IsAntisymmetric, get, insert, remove, empty, get-empty}
+use Rattle.std.proofs.lemmas.Bool.Decides.{nat_tests}
 use Rattle.tables.specs.Keys.{text_number_total, text_number_exact}
 use Rattle.tables.specs.Tables.{HasNone}
 use Rattle.tables.proofs.DueFront.{queue_total, queue_exact}
@@ -19,6 +20,10 @@ deadline_total = queue_total nat_cmp_total nat_cmp-IsAntisymmetric
 
 pub deadline_exact : IsAntisymmetric deadline_cmp
 deadline_exact = queue_exact nat_cmp_total nat_cmp-IsAntisymmetric
+
+-- no number is below 0
+pub above_zero : (b : ℕ) → is_gt (nat_cmp 0 b) ≡ false
+above_zero b = grind (arith, nat_tests)
 
 pub none_indexed : AreIndexed empty empty empty
 none_indexed = record {

@@ -1,7 +1,7 @@
 -- The room of changes, as it is taken and as changes are made.
 use Rattle.std.proofs.Common.{◌≡◌, ◌≢◌, ◌+◌, ◌<◌, ℕ, List, [], ◌∷◌, ◌++◌, inl, inr, take, length, get_or, sym, ap, subst, ◌∙◌, add-one}
 use Rattle.std.proofs.Math.Seq.{take-suc}
-use Rattle.std.specs.Prelude.{Option, Some, None, IsTrue, Contains}
+use Rattle.std.specs.Prelude.{Option, Some, None, Result, Ok, Err, OnOk, IsTrue, Contains}
 use Rattle.std.specs.Cmp.{nat_cmp_total}
 use Rattle.std.specs.FinMap.{nat_cmp-IsAntisymmetric, contains_key, get}
 use Rattle.std.proofs.lemmas.List.Elements.{Contains-append_right, Contains-push_cases}
@@ -23,6 +23,12 @@ module _ (s t : Rooms) (numbers : (q : ℕ) → IsTrue (contains_key s.numbers q
 
   pub keeps_room : KeepsRoom s t
   keeps_room w had = kept w had
+
+-- with the room by its number it has all
+pub all_room : {X E : Type 0} (r : Result X E) (rooms : Rooms) (n : ℕ) (a : Awaited) → IsTrue (contains_key rooms.evses (evse_of a, n)) → IsTrue (contains_key rooms.deadlines (a.deadline, n)) →
+    OnOk r (IsTrue (contains_key rooms.numbers n)) → OnOk r (HasRoomToBegin rooms n a)
+all_room (Err e) rooms n a evse deadline number = tt
+all_room (Ok u) rooms n a evse deadline number = record { of_number = number; of_evse = evse; of_deadline = deadline }
 
 -- room is made for one more
 pub more_room : (s t : Rooms) (ws : List Waiting) (i : ℕ) (w : Waiting) → i < length ws → w ≡ get_or ws i w → HaveRoomForAll s (take i ws) → KeepsRoom s t → HasRoomFor t w → HaveRoomForAll t (take (i + 1) ws)

@@ -78,8 +78,10 @@ impl AuthorizationBook {
         ensures none { IfNone result ((number : ℕ) → IsAwaitedAt self.now.waits evse number → ⊥) }
     {
         let lowest = Whole::new(0).unwrap();
-        let (number, _) = self.evses.first_with(evse, lowest)?;
-        Some(number)
+        let Some(found) = self.evses.first_with(evse, lowest) else {
+            return None;
+        };
+        Some(found.0)
     }
 
     /// A new start: nothing is awaited, and all room is given back. It takes no memory.
