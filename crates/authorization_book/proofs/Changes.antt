@@ -1,9 +1,8 @@
 -- Which lists of changes may be made.
-use Rattle.std.proofs.Common.{◌≡◌, ◌≢◌, ℕ, List, [], ◌∷◌, map}
+use Rattle.std.proofs.Common.{◌≡◌, ℕ, List, [], ◌∷◌, map}
 use Rattle.std.specs.Prelude.{Contains}
-use Rattle.tables.proofs.Elements.{in_none, of_map}
+use Rattle.tables.proofs.Elements.{of_map}
 use Rattle.authorization_book.specs.declared.awaited.Awaited.{Awaited}
-use Rattle.authorization_book.specs.declared.waiting.Waiting.{Waiting}
 use Rattle.authorization_book.specs.declared.waiting.Waiting.TheVariants.{Begins, Ends}
 use Rattle.authorization_book.specs.Waits.{MayBegin, MayWait, Waits, waited}
 

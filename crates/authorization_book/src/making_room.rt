@@ -17,8 +17,7 @@ impl AuthorizationBook {
         ensures room { OnOk result (HasRoomToBegin self.new.rooms number awaited.now) }
         ensures again { HasRoomToBegin self.old.rooms number awaited.now → IsOk result }
     {
-        self.evses
-            .reserve((awaited.place.evse_uid.key(), number))?;
+        self.evses.reserve((awaited.place.evse_uid.key(), number))?;
         self.deadlines.reserve((awaited.deadline, number))?;
         self.waits.reserve(number)
     }

@@ -1,6 +1,6 @@
 use Rattle.std.proofs.Common.{◌≡◌, ◌+◌, ◌∷◌, drop, suc, ◌∙◌, ap, sym, subst, arith, add-one}
 use Rattle.std.proofs.Math.Seq.{drop-cons}
-use Rattle.authorization_book.specs.Waits.{HaveRoomForAll, MayWait, Rooms, Waits, room_left, room_left_all, waited, waited_all}
+use Rattle.authorization_book.specs.Waits.{HaveRoomForAll, MayWait, room_left, room_left_all, waited, waited_all}
 use Rattle.authorization_book.proofs.Roomed.{first_room, later_room}
 use Rattle.authorization_book.proofs.book.AuthorizationBook.change_all.Goals as goal
 
