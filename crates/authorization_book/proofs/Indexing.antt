@@ -33,11 +33,11 @@ none_indexed = record {
 }
 
 -- what is awaited once another ended was awaited before
-still : (waits : Waits) (k : ℕ) (evse : List ℕ) (n : ℕ) → IsAwaitedAt (remove waits k) evse n → IsAwaitedAt waits evse n
+pub still : (waits : Waits) (k : ℕ) (evse : List ℕ) (n : ℕ) → IsAwaitedAt (remove waits k) evse n → IsAwaitedAt waits evse n
 still waits k evse n x = record { awaited = x.awaited; stands = (of_remove nat_cmp_total nat_cmp-IsAntisymmetric waits k n x.awaited x.stands).1; there = x.there }
 
 -- one begins at an EVSE at which none is awaited
-one_more : (waits : Waits) → OneEach waits → (k : ℕ) (a : Awaited) → MayBegin waits k a → OneEach (insert waits k a)
+pub one_more : (waits : Waits) → OneEach waits → (k : ℕ) (a : Awaited) → MayBegin waits k a → OneEach (insert waits k a)
 one_more waits each k a may evse n q x y = elim (of_insert nat_cmp_total nat_cmp-IsAntisymmetric waits k a n x.awaited x.stands) [
   | inl i ↦ elim (of_insert nat_cmp_total nat_cmp-IsAntisymmetric waits k a q y.awaited y.stands) [
     | inl j ↦ i.0 ∙ sym j.0

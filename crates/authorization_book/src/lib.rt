@@ -21,9 +21,11 @@ mod awaited;
 mod book;
 mod changing;
 mod due;
+mod laws;
 mod making_room;
 mod waiting;
 
 pub use awaited::Awaited;
 pub use book::AuthorizationBook;
+pub use laws::{one_each_stays, waits_change};
 pub use waiting::Waiting;
