@@ -1,5 +1,5 @@
 -- Which lists of changes may be made, and what they leave.
-use Rattle.std.proofs.Common.{◌≡◌, ◌≢◌, ◌⊎◌, ◌↔◌, ℕ, List, [], ◌∷◌, map, inl, inr, sym, ap, subst, ◌∙◌}
+use Rattle.std.proofs.Common.{◌≡◌, ◌⊎◌, ℕ, List, [], ◌∷◌, map, inl, inr, sym, ap, subst, ◌∙◌}
 use Rattle.std.specs.Prelude.{Some, Contains}
 use Rattle.std.specs.Cmp.{nat_cmp_total}
 use Rattle.std.specs.FinMap.{nat_cmp-IsAntisymmetric, get, insert, remove}
@@ -10,7 +10,7 @@ use Rattle.tables.proofs.Options.{not_both}
 use Rattle.authorization_book.specs.declared.awaited.Awaited.{Awaited}
 use Rattle.authorization_book.specs.declared.waiting.Waiting.{Waiting}
 use Rattle.authorization_book.specs.declared.waiting.Waiting.TheVariants.{Begins, Ends}
-use Rattle.authorization_book.specs.Waits.{MayBegin, MayWait, OneEach, Waits, waited, waited_all}
+use Rattle.authorization_book.specs.Waits.{MayBegin, MayWait, Waits, waited}
 use Rattle.authorization_book.specs.Laws.{OneEachStays, WaitsChange}
 use Rattle.authorization_book.proofs.Indexing.{one_more, still}
 
