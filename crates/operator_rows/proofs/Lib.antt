@@ -1,4 +1,6 @@
 pub mod ClaimIndex
+pub mod LiveClaims
+pub mod KeepingCharged
 pub mod KeepingSound
 pub mod KeepingTimes
 pub mod KeepingRows
