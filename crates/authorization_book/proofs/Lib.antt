@@ -1,0 +1,4 @@
+pub mod Indexing
+pub mod Roomed
+pub mod DueNumbers
+pub mod Changes

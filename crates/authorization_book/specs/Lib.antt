@@ -1,0 +1,4 @@
+pub mod Waits
+pub mod Indexed
+pub mod Due
+pub mod Laws
