@@ -14,6 +14,7 @@ use Rattle.ocpi_types.specs.declared.sessions.Session.{Session}
 use Rattle.ocpi_types.specs.declared.site.SiteLine.{SiteLine}
 use Rattle.ocpi_types.specs.declared.token.Token.{Token}
 use Rattle.authorization_book.specs.Waits.{Waits}
+use Rattle.authorization_book.specs.declared.awaited.Awaited.{Awaited}
 use Rattle.outbox.specs.Resend.{Resend}
 use Rattle.outbox.proofs.Timing.{put_or, has_none}
 use Rattle.node_steps.specs.Peers.{HasPeer}
@@ -24,7 +25,7 @@ use Rattle.token_desk.specs.Tokens.{TokenKey, token_cmp, token_key}
 use Rattle.token_desk.specs.TypeOrder.{tokens_total, tokens_exact}
 use Rattle.operator_rows.specs.State.{State, Rows, opening}
 use Rattle.operator_rows.specs.Stored.{put_row}
-use Rattle.operator_rows.specs.Sound.{IsSound, MayStand, MayPutToken, MayPutSession, MayPutCdr, MayPutNumber, with_rows}
+use Rattle.operator_rows.specs.Sound.{IsSound, MayAwait, MayStand, MayPutToken, MayPutSession, MayPutCdr, MayPutNumber, with_rows}
 
 -- what of it is of the tokens, the sessions and the charge detail records
 pub record AreCharged (s : State) : Type 0 where
@@ -52,6 +53,10 @@ opening_charged line = record {
 -- whether a session may stand is a matter of the parties and the site
 pub stands_still : (s : State) (rows : Rows) (m : Resend) (w : Waits) (v : Session) → MayStand s v → MayStand (record s { rows = rows; resend = m; waits = w }) v
 stands_still s rows m w v h = record { own = h.own; going = λ live. let g = h.going live in record { provider = g.provider; place = g.place; priced = g.priced } }
+
+-- and so is whether an authorization may be awaited
+pub awaits_still : (s : State) (rows : Rows) (m : Resend) (w : Waits) (a : Awaited) → MayAwait s a → MayAwait (record s { rows = rows; resend = m; waits = w }) a
+awaits_still s rows m w a h = record { provider = h.provider; place = h.place }
 
 module _ (s : State) (h : AreCharged s) where
   -- with the same tokens, sessions and charge detail records
