@@ -13,16 +13,18 @@ use Rattle.session_book.specs.Stored.{Rows}
 abbrev pub id_key : OwnIdKind → List ℕ → ℕ → List ℕ
 id_key kind party n = key (own_id_text kind party n)
 
--- each session and each charge detail record whose id is that of a number of this party has a number that was given
+-- each session and each charge detail record whose id is that of a number of this party has a number that was given; beyond the last
+-- number ids would repeat
 pub record AreNumbered (party : List ℕ) (s : Rows) : Type 0 where
-  pub sessions : (n : ℕ) → IsTrue (contains_key s.sessions (id_key Session party n)) → n ≤ s.last_session
-  pub cdrs : (n : ℕ) → IsTrue (contains_key s.cdrs (id_key Cdr party n)) → n ≤ s.last_cdr
+  pub sessions : (n : ℕ) → n ≤ max_whole → IsTrue (contains_key s.sessions (id_key Session party n)) → n ≤ s.last_session
+  pub cdrs : (n : ℕ) → n ≤ max_whole → IsTrue (contains_key s.cdrs (id_key Cdr party n)) → n ≤ s.last_cdr
 
 -- so the id of the next number is new
 abbrev pub NextIsNew : Type 0
 NextIsNew =
     (party : List ℕ) (s : Rows) → AreNumbered party s →
-    (get s.sessions (id_key Session party (s.last_session + 1)) ≡ None) × (get s.cdrs (id_key Cdr party (s.last_cdr + 1)) ≡ None)
+    (s.last_session + 1 ≤ max_whole → get s.sessions (id_key Session party (s.last_session + 1)) ≡ None) ×
+    (s.last_cdr + 1 ≤ max_whole → get s.cdrs (id_key Cdr party (s.last_cdr + 1)) ≡ None)
 
 -- different numbers of a party have different ids, also without case
 abbrev pub IdsDiffer : Type 0

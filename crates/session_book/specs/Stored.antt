@@ -1,6 +1,6 @@
 -- What an operator stores of its sessions, its rows, and what changes of rows make of it (OCPI 2.2.1, Sessions: Session object; CDRs:
 -- CDR object).
-use Rattle.std.specs.Prelude.{◌≡◌, ◌≢◌, ◌↔◌, ℕ, zero, suc, List, [], ◌∷◌, ◌++◌, map, Some, AllPairs, Contains, IsTrue, false, ⊤}
+use Rattle.std.specs.Prelude.{◌≡◌, ◌≢◌, ◌↔◌, ℕ, zero, suc, List, [], ◌∷◌, ◌++◌, map, Some, AllPairs, Contains, IsTrue, ⊤}
 use Rattle.std.specs.FinMap.{FinMap, get, insert, remove, contains_key, empty, entries}
 use Rattle.ocpi_text.specs.Text.{key}
 use Rattle.tables.specs.Keys.{text_cmp}
@@ -146,9 +146,15 @@ rooms_with (row.Command number command) rooms = rooms
 abbrev pub KeepsRoom : Rooms → Rooms → Type 0
 KeepsRoom old new = (r : Row) → HasRoomOf old r → HasRoomOf new r
 
+-- the row is of that key; sessions, and charge detail records, are told apart by their ids alone
+abbrev pub IsOf : RowKey → Row → Type 0
+IsOf (keys.Session operator id) (row.Session v) = key v.id ≡ id
+IsOf (keys.Cdr operator id) (row.Cdr x) = key x.id ≡ id
+IsOf k r = key_of r ≡ k
+
 -- what has room keeps it, but for rows of that key
 abbrev pub KeepsOtherRoom : RowKey → Rooms → Rooms → Type 0
-KeepsOtherRoom k old new = (r : Row) → key_of r ≢ k → HasRoomOf old r → HasRoomOf new r
+KeepsOtherRoom k old new = (r : Row) → ¬ IsOf k r → HasRoomOf old r → HasRoomOf new r
 
 -- what a counter of the book has given last: one that has given no number has no row
 abbrev pub HasCount : Rows → Counter → ℕ → Type 0

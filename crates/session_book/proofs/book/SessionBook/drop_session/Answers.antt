@@ -1,0 +1,5 @@
+use Rattle.session_book.proofs.Keyed.{keyed_without_session}
+use Rattle.session_book.proofs.book.SessionBook.drop_session.Goals as goal
+
+pub invariant_of-self : goal.invariant_of-self
+invariant_of-self c = rw c.remove.ensures.shown (keyed_without_session _ _ c.self.invariant)

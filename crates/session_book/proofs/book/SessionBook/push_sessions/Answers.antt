@@ -1,0 +1,14 @@
+use Rattle.std.proofs.Common.{ap, ◌∙◌}
+use Rattle.tables.specs.Keys.{text_total, text_exact}
+use Rattle.tables.proofs.Nothing.{no_entries}
+use Rattle.tables.proofs.Elements.{not_none}
+use Rattle.session_book.specs.Stored.{Held}
+use Rattle.session_book.proofs.book.SessionBook.push_sessions.Goals as goal
+
+pub returns-in_err-session-clause-none : goal.returns-in_err-session-clause-none
+returns-in_err-session-clause-none c = λ none. not_none _ _ _ c.in-Some.ensures.steps
+    (c.loop-session.invariant.1 (c.into_iter-session-iterator.ensures.into_iter_gives ∙ c.iter-session-items.ensures ∙ no_entries text_total text_exact _ (ap (λ (h : Held). h.rows.sessions) c.self.view_is ∙ none)))
+
+pub returns-in_err-push-clause-none : goal.returns-in_err-push-clause-none
+returns-in_err-push-clause-none c = λ none. not_none _ _ _ c.in-Some.ensures.steps
+    (c.loop-session.invariant.1 (c.into_iter-session-iterator.ensures.into_iter_gives ∙ c.iter-session-items.ensures ∙ no_entries text_total text_exact _ (ap (λ (h : Held). h.rows.sessions) c.self.view_is ∙ none)))
