@@ -6,7 +6,7 @@ use Rattle.std.specs.Cmp.{nat_cmp_total}
 use Rattle.std.specs.FinMap.{nat_cmp-IsAntisymmetric, get, contains_key, empty, get-empty}
 use Rattle.tables.proofs.Elements.{in_none, in_front}
 use Rattle.tables.proofs.Options.{none_some, not_both}
-use Rattle.authorization_book.specs.Waits.{OneEach}
+use Rattle.authorization_book.specs.Waits.{OneEach, Waits}
 use Rattle.authorization_book.proofs.Changes.{one_each_stays, waits_change}
 use Rattle.ocpi_types.specs.declared.rows.Change.{Change}
 use Rattle.ocpi_types.specs.declared.rows.Row.TheVariants as row
@@ -23,7 +23,7 @@ use Rattle.operator_rows.specs.State.{State, as_outbox, opening}
 use Rattle.operator_rows.specs.Stored.{change_key, changed_all}
 use Rattle.operator_rows.specs.Sound.{IsConsistent, IsSound}
 use Rattle.operator_rows.specs.Steps.{FullStep, MayFollow, MayFollowFull, after, after_full, restarted, number_of, untimed, untimed_all, timed, timed_all}
-use Rattle.operator_rows.proofs.KeepingSound.{follow_sound, opening_sound, sound_beside}
+use Rattle.operator_rows.proofs.KeepingSound.{follow_sound, may_beside, opening_sound, sound_beside}
 use Rattle.operator_rows.proofs.KeepingCharged.{awaits_still}
 use Rattle.operator_rows.proofs.RowChanges.{row_changes, of_cons, in_later}
 
@@ -76,6 +76,16 @@ follow_consistent s x may h = record {
   ];
   waits = h.waits;
   awaited = λ n a has. awaits_still s (after x s).rows (after x s).resend s.waits a (h.awaited n a has);
+}
+
+-- what is awaited is none of what a step wants
+pub follow_beside : (s : State) (w : Waits) (x : Step) → MayFollow s x → MayFollow (record s { waits = w }) x
+follow_beside s w x may = record {
+  apart = may.apart;
+  may = may_beside x.changes s s.resend w may.may;
+  sends = record { stands = may.sends.stands; apart = may.sends.apart; kept = may.sends.kept };
+  sessions = may.sessions;
+  cdrs = may.cdrs;
 }
 
 -- a step with what it awaits

@@ -5,6 +5,7 @@ pub mod KeepingSound
 pub mod KeepingTimes
 pub mod KeepingRows
 pub mod Listings
+pub mod ChargedListings
 pub mod RowChanges
 pub mod RowRooms
 pub mod TimeRooms

@@ -15,6 +15,7 @@ use Rattle.ocpi_types.specs.declared.rows.RowKey.TheVariants as keys
 use Rattle.ocpi_types.specs.declared.rows.Change.{Change}
 use Rattle.ocpi_types.specs.declared.rows.Change.TheVariants.{Put, Drop}
 use Rattle.authorization_book.specs.Waits as waits
+use Rattle.authorization_book.specs.Waits.{HaveRoomForAll}
 use Rattle.outbox.specs.Outbox.{HeldOutbox, request_of, without, released_of, given_back_of}
 use Rattle.outbox.specs.Pushes.{Pushes}
 use Rattle.outbox.specs.Resend.{Resend, Moments, SendRooms, HasRoomUntil, KeepsSendRoom, due_again, unqueued, released, given_back}
@@ -26,7 +27,7 @@ use Rattle.node_steps.specs.declared.plan.Volatile.TheVariants.{Sent}
 use Rattle.operator_rows.specs.State.{State}
 use Rattle.operator_rows.specs.Stored.{AreApart, Each, HasRoom, changed_all, change_key}
 use Rattle.operator_rows.specs.Sound.{IsSound, MayPut, MayDrop}
-use Rattle.operator_rows.specs.Steps.{Node, HasRoomFor, KeepsTime, KeepsTimeRoom, Outlasts, MayFollow, HasTimeRoom, HaveTimeRoom, AreSendable, number_of, time_taken, untimed}
+use Rattle.operator_rows.specs.Steps.{FullStep, Node, HasFullRoomFor, HasRoomFor, KeepsTime, KeepsTimeRoom, Outlasts, MayFollow, HasTimeRoom, HaveTimeRoom, AreSendable, number_of, time_taken, untimed}
 use Rattle.operator_rows.proofs.RowChanges.{row_changes, of_cons, each_of}
 
 -- the room of another number stays where a number is taken out
@@ -203,3 +204,12 @@ room_for b o x (Ok u) rooms made sent state w = record {
   changes = subst (λ m. Each (HasRoom (record b.rooms { outbox = m })) x.changes) (sym rooms) made;
   volatile = sent;
 }
+
+-- a step has room where the same room is taken
+pub same_room : (a b : Node) (x : Step) → b.rooms ≡ a.rooms → b.sending ≡ a.sending → HasRoomFor a x → HasRoomFor b x
+same_room a b x rooms sending h = record { changes = subst (λ m. Each (HasRoom m) x.changes) (sym rooms) h.changes; volatile = subst (λ m. HaveTimeRoom m x.volatile) (sym sending) h.volatile }
+
+-- room for what is awaited, and then for the step
+pub full_room : {E : Type 0} (r : Result (Unit {0}) E) (b : Node) (x : FullStep) → OnOk r (HasRoomFor b x.step) → HaveRoomForAll b.waiting x.waits → OnOk r (HasFullRoomFor b x)
+full_room (Err e) b x step waits = tt
+full_room (Ok u) b x step waits = record { step = step; waits = waits }
