@@ -10,7 +10,7 @@ use Rattle.ocpi_types.specs.declared.rows.RowKey.TheVariants as keys
 use Rattle.ocpi_types.specs.declared.rows.Change.{Change}
 use Rattle.ocpi_types.specs.declared.rows.Change.TheVariants.{Put, Drop}
 use Rattle.ocpi_types.specs.declared.rows.Counter.{Counter}
-use Rattle.ocpi_types.specs.declared.rows.Counter.TheVariants.{Serial, Request, Session, Cdr, Reference}
+use Rattle.ocpi_types.specs.declared.rows.Counter.TheVariants as counter
 use Rattle.ocpi_types.specs.declared.site.Site.{Site}
 use Rattle.ocpi_types.specs.declared.cdrs.Cdr.{Cdr}
 use Rattle.ocpi_types.specs.declared.sessions.Session.{Session}
@@ -163,11 +163,11 @@ pub record MayPutCdr (s : State) (x : Cdr) : Type 0 where
 
 -- a counter that gave no number has no row. A provider alone has the counter of references
 abbrev pub MayPutCount : State → Counter → ℕ → Type 0
-MayPutCount s Serial last = last ≢ 0
-MayPutCount s Request last = MayPutRequest s last
-MayPutCount s Session last = MayPutNumber s Session last
-MayPutCount s Cdr last = MayPutNumber s Cdr last
-MayPutCount s Reference last = ⊥
+MayPutCount s counter.Serial last = last ≢ 0
+MayPutCount s counter.Request last = MayPutRequest s last
+MayPutCount s counter.Session last = MayPutNumber s counter.Session last
+MayPutCount s counter.Cdr last = MayPutNumber s counter.Cdr last
+MayPutCount s counter.Reference last = ⊥
 
 -- what holds at all times holds after the row is put. Of some kinds an operator stores no rows
 abbrev pub MayPut : State → Row → Type 0

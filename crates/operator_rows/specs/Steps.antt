@@ -88,11 +88,15 @@ pub record MayFollow (s : State) (x : Step) : Type 0 where
   pub sessions : (v : Session) → Contains x.changes (Put (row.Session v)) → IsNext s v
   pub cdrs : (c : Cdr) → Contains x.changes (Put (row.Cdr c)) → get s.rows.charged.cdrs (key c.id) ≡ None
 
+-- each authorization that is to be awaited may be
+abbrev pub AreAwaitable : State → List Waiting → Type 0
+AreAwaitable s waits = (n : ℕ) (w : Awaited) → Contains waits (Begins n w) → MayAwait s w
+
 -- the step may be carried out with what it awaits
 pub record MayFollowFull (s : State) (x : FullStep) : Type 0 where
   pub step : MayFollow s x.step
   pub waits : MayWait s.waits x.waits
-  pub awaited : (n : ℕ) (w : Awaited) → Contains x.waits (Begins n w) → MayAwait s w
+  pub awaited : AreAwaitable s x.waits
 
 -- the state of an operator, and the room that is taken beside it
 pub record Node : Type 0 where

@@ -11,9 +11,11 @@ ghost use Rattle.operator_rows.specs.Steps.{after_change};
 ghost use Rattle.operator_rows.specs.Stored.{HasRoomOf, KeepsOtherRoom};
 
 use crate::books::Books;
-use crate::claims::{claim, evse_taken, release};
+use crate::claims::{claim, evse_occupied, evse_taken, release};
 use ocpi_text::{CiKey, Party, PartyKey, Whole};
-use ocpi_types::{Boxed, CommandResultType, Counter, OpenCommand, Push, Reply, Reservation, Row};
+use ocpi_types::{
+    Boxed, Cdr, CommandResultType, Counter, OpenCommand, Push, Reply, Reservation, Row, Session, Token,
+};
 use site_book::Claim;
 
 impl Books {
@@ -27,7 +29,8 @@ impl Books {
         match counter {
             Counter::Serial => self.serial = last,
             Counter::Request => self.outbox.put_row(Row::Count { counter, last }),
-            Counter::Session | Counter::Cdr | Counter::Reference => unreachable!(),
+            Counter::Session | Counter::Cdr => self.charged.put_row(Row::Count { counter, last }),
+            Counter::Reference => unreachable!(),
         }
     }
 
@@ -155,6 +158,53 @@ impl Books {
         });
     }
 
+    /// Puts a token, in place of the one of its party, type and uid.
+    fn put_token(&mut self, token: Boxed<Token>)
+        requires room { HasRoomOf self.old.rooms (row.Token token) }
+        requires may { MayPut self.old.state (row.Token token) }
+        ensures state { self.new.state ≡ after_change (change.Put (row.Token token)) self.old.state }
+        ensures keeps { KeepsOtherRoom (key_of (row.Token token)) self.old.rooms self.new.rooms }
+        ensures sending { self.new.sending ≡ self.old.sending }
+    {
+        self.desk.put_row(Row::Token { token });
+    }
+
+    /// Puts a version of a session, which claims its EVSE if it is pending or active, in place of the one of its id, whose claim
+    /// ends.
+    fn put_session(&mut self, session: Boxed<Session>)
+        requires room { HasRoomOf self.old.rooms (row.Session session) }
+        requires may { MayPut self.old.state (row.Session session) }
+        ensures state { self.new.state ≡ after_change (change.Put (row.Session session)) self.old.state }
+        ensures keeps { KeepsOtherRoom (key_of (row.Session session)) self.old.rooms self.new.rooms }
+        ensures sending { self.new.sending ≡ self.old.sending }
+    {
+        let provider = session.cdr_token.party.key();
+        let id = session.id.key();
+        let before = self.held_by_session(id);
+        let evse = evse_occupied(&session);
+        release(&mut self.site, before);
+        claim(
+            &mut self.site,
+            evse,
+            Claim::Live {
+                provider,
+                session: id,
+            },
+        );
+        self.charged.put_row(Row::Session { session });
+    }
+
+    /// Puts a charge detail record, in place of the one of its id.
+    fn put_cdr(&mut self, cdr: Boxed<Cdr>)
+        requires room { HasRoomOf self.old.rooms (row.Cdr cdr) }
+        requires may { MayPut self.old.state (row.Cdr cdr) }
+        ensures state { self.new.state ≡ after_change (change.Put (row.Cdr cdr)) self.old.state }
+        ensures keeps { KeepsOtherRoom (key_of (row.Cdr cdr)) self.old.rooms self.new.rooms }
+        ensures sending { self.new.sending ≡ self.old.sending }
+    {
+        self.charged.put_row(Row::Cdr { cdr });
+    }
+
     /// Puts a row, with the claim that follows from it, in place of the one of its key if there is one. It takes no memory.
     pub(crate) fn put_row(&mut self, row: Row)
         requires room { HasRoomOf self.old.rooms row }
@@ -196,9 +246,10 @@ impl Books {
                 number,
                 result: outcome,
             } => self.put_result(provider, number, outcome),
-            Row::Token { .. } | Row::Session { .. } | Row::Cdr { .. } | Row::Command { .. } => {
-                unreachable!()
-            }
+            Row::Token { token } => self.put_token(token),
+            Row::Session { session } => self.put_session(session),
+            Row::Cdr { cdr } => self.put_cdr(cdr),
+            Row::Command { .. } => unreachable!(),
         }
     }
 }

@@ -7,9 +7,9 @@ use Rattle.operator_rows.proofs.KeepingRows.{kept_put, kept_put_request}
 use Rattle.operator_rows.proofs.books.Books.put_count.Goals as goal
 
 pub invariant_of-self : goal.invariant_of-self
-invariant_of-self c = kept_put _ _ _ c.self.invariant (row.Count counter.Serial c.args.last) (rw c.in-Serial.is at c.requires.may) refl refl
+invariant_of-self c = kept_put _ _ _ _ c.self.invariant (row.Count counter.Serial c.args.last) (rw c.in-Serial.is at c.requires.may) refl refl refl
 
 pub invariant_of-self-in-Request : goal.invariant_of-self-in-Request
 invariant_of-self-in-Request c =
     let i = c.self.inside in
-    kept_put_request i.site.claims i.parties i.serial i.commands.rows (shown_of text_pair_cmp i.spent) i.booked.rows i.site i.outbox c.put_row.new.self c.self.invariant c.args.last (rw (c.in-Request.is, ← c.self.view_is) at c.requires.may) (rw c.in-Request.is at c.put_row.ensures.rows)
+    kept_put_request i.site.claims i.parties i.serial i.commands.rows (shown_of text_pair_cmp i.spent) i.booked.rows i.site i.desk.rows.tokens i.charged.rows i.waits.waits i.desk.rows.references i.outbox c.put_row.new.self c.self.invariant c.args.last (rw (c.in-Request.is, ← c.self.view_is) at c.requires.may) (rw c.in-Request.is at c.put_row.ensures.rows)

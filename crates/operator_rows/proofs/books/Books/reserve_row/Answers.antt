@@ -1,5 +1,5 @@
 use Rattle.operator_rows.specs.contracts.books.Books.{the_view}
-use Rattle.operator_rows.proofs.RowRooms.{keeps_commands, keeps_spent, keeps_booked, keeps_outbox}
+use Rattle.operator_rows.proofs.RowRooms.{keeps_commands, keeps_spent, keeps_booked, keeps_outbox, keeps_tokens, keeps_charged}
 use Rattle.operator_rows.proofs.books.Books.reserve_row.Goals as goal
 
 pub returns-in-Spent-clause-keeps : goal.returns-in-Spent-clause-keeps
