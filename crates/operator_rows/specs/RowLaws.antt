@@ -1,5 +1,6 @@
 -- The laws of an operator's rows.
-use Rattle.std.specs.Prelude.{List}
+use Rattle.std.specs.Prelude.{◌≡◌, List, Ok}
+use Rattle.ocpi_text.specs.Party.{party_at}
 use Rattle.ocpi_types.specs.declared.rows.Change.{Change}
 use Rattle.ocpi_types.specs.declared.site.SiteLine.{SiteLine}
 use Rattle.node_steps.specs.Drafts.{Step}
@@ -17,6 +18,6 @@ StepsStaySound = (s : State) (x : Step) → MayFollow s x → IsSound s → IsSo
 
 -- from the opening on, over steps and new starts
 pub record StaysConsistent : Type 0 where
-  pub at_first : (line : SiteLine) → IsConsistent (opening line)
+  pub at_first : (line : SiteLine) → party_at line.parties.operator ≡ Ok line.parties.operator → IsConsistent (opening line)
   pub by_steps : (s : State) (x : FullStep) → MayFollowFull s x → IsConsistent s → IsConsistent (after_full x s)
   pub by_restarts : (s : State) → IsConsistent s → IsConsistent (restarted s)

@@ -1,8 +1,10 @@
 -- What holds of an operator at all times, which is exactly what stored rows are to be tested for when an operator is made of
 -- them; and which changes of rows keep it.
-use Rattle.std.specs.Prelude.{◌≡◌, ◌≢◌, ◌≤◌, ℕ, List, [], ◌∷◌, Some, None, IsTrue, ⊤}
+use Rattle.std.specs.Prelude.{◌≡◌, ◌≢◌, ◌≤◌, ℕ, List, [], ◌∷◌, Some, None, Ok, IsTrue, ⊤}
 use Rattle.std.specs.FinMap.{get, contains_key}
+use Rattle.ocpi_text.specs.Party.{party_at}
 use Rattle.ocpi_text.specs.Text.{key}
+use Rattle.ocpi_text.specs.Whole.{max_whole}
 use Rattle.ocpi_types.specs.declared.rows.Row.{Row}
 use Rattle.ocpi_types.specs.declared.rows.Row.TheVariants as row
 use Rattle.ocpi_types.specs.declared.rows.RowKey.{RowKey}
@@ -116,6 +118,10 @@ pub record IsConsistent (s : State) : Type 0 where
   -- at each EVSE at most one authorization is awaited, of a provider of the site, and at a connector of the site
   pub waits : OneEach s.waits
   pub awaited : (n : ℕ) (w : Awaited) → get s.waits n ≡ Some w → MayAwait s w
+  -- each was asked for by a request whose number was given
+  pub asked : (n : ℕ) → IsTrue (contains_key s.waits n) → n ≤ s.rows.request
+  -- the operator is a party by its form, so that its ids differ
+  pub own : party_at s.party ≡ Ok s.party
 
 -- nothing claims the EVSE but, perhaps, what makes that claim
 abbrev pub MayClaim : Rows → List ℕ → Claim → Type 0
@@ -155,11 +161,11 @@ MayPutToken s t = HasPeer s.providers (key t.party)
 pub record MayPutSession (s : State) (v : Session) : Type 0 where
   pub stands : MayStand s v
   pub alone : IsLive v.status → MayClaim s.rows (key v.evse_uid) (Live (key v.cdr_token.party) (key v.id))
-  pub number : (n : ℕ) → key (own_id_text own.Session s.party n) ≡ key v.id → n ≤ s.rows.charged.last_session
+  pub number : (n : ℕ) → n ≤ max_whole → key (own_id_text own.Session s.party n) ≡ key v.id → n ≤ s.rows.charged.last_session
 
 pub record MayPutCdr (s : State) (x : Cdr) : Type 0 where
   pub own : key x.party ≡ key s.party
-  pub number : (n : ℕ) → key (own_id_text own.Cdr s.party n) ≡ key x.id → n ≤ s.rows.charged.last_cdr
+  pub number : (n : ℕ) → n ≤ max_whole → key (own_id_text own.Cdr s.party n) ≡ key x.id → n ≤ s.rows.charged.last_cdr
 
 -- a counter that gave no number has no row. A provider alone has the counter of references
 abbrev pub MayPutCount : State → Counter → ℕ → Type 0

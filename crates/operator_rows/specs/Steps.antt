@@ -97,6 +97,8 @@ pub record MayFollowFull (s : State) (x : FullStep) : Type 0 where
   pub step : MayFollow s x.step
   pub waits : MayWait s.waits x.waits
   pub awaited : AreAwaitable s x.waits
+  -- what is awaited then was asked for by a request whose number was given
+  pub asked : (n : ℕ) → IsTrue (contains_key (after_full x s).waits n) → n ≤ (after_full x s).rows.request
 
 -- the state of an operator, and the room that is taken beside it
 pub record Node : Type 0 where

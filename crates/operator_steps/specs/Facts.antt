@@ -5,15 +5,15 @@ use Rattle.ocpi_types.specs.declared.packet.Packet.{Packet}
 use Rattle.operator_rows.specs.State.{State}
 use Rattle.operator_rows.specs.Sound.{IsConsistent}
 use Rattle.operator_rows.specs.Steps.{MayFollowFull}
-use Rattle.operator_steps.specs.Moves.{Quietly, Stage, Work, step_of_work}
+use Rattle.operator_steps.specs.Moves.{AreInRange, Quietly, Stage, Work, step_of_work}
 use Rattle.operator_steps.specs.Steps.{Comes}
 use Rattle.operator_steps.specs.Charger.{ChargerLine}
 use Rattle.operator_steps.specs.Service.{ServiceLine}
 use Rattle.operator_steps.specs.Tick.{TickLine}
 
--- where what holds at all times holds, what the line asks for may be carried out
+-- where what holds at all times holds, what the line asks for may be carried out, if it takes no counter past its last number
 abbrev pub MayBeCarriedOut : Stage → Type 0
-MayBeCarriedOut Line = (s : State) (work : Work) → IsConsistent s → Line s work → MayFollowFull s (step_of_work s work)
+MayBeCarriedOut Line = (s : State) (work : Work) → IsConsistent s → Line s work → AreInRange s work.acts → MayFollowFull s (step_of_work s work)
 
 abbrev pub PacketsMayFollow : Type 0
 PacketsMayFollow = (at : ℕ) (q : Packet) → MayBeCarriedOut (λ s. Comes s at q)

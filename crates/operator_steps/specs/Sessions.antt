@@ -78,16 +78,19 @@ pub data IsBilled (s : State) (at last : ℕ) (w : Session) (acts : List Act) : 
 -- the session at an EVSE goes on or ends as a report tells: its new version is pushed, and, where it is complete, its charge detail
 -- record. The version before was not updated at the last moment, since then there is no later one
 pub record IsMoved (s : State) (at : ℕ) (report : ChargerEvent) (acts : List Act) : Type 0 where
-  pub before after : Session
+  pub before : Session
+  pub after : Session
   pub moves : Moves s.site s.rows at report before after
   pub later : before.last_updated < last_moment
-  pub version_acts bill_acts : List Act
+  pub version_acts : List Act
+  pub bill_acts : List Act
   pub versioned : IsVersioned s at s.rows.request after version_acts
   pub billed : IsBilled s at (s.rows.request + 1) after bill_acts
   pub acts_are : acts ≡ version_acts ++ bill_acts
 
 -- a report is about a session whose newest version was updated at the last moment
 pub record HasNoStamp (s : State) (at : ℕ) (report : ChargerEvent) : Type 0 where
-  pub before after : Session
+  pub before : Session
+  pub after : Session
   pub moves : Moves s.site s.rows at report before after
   pub last : before.last_updated ≡ last_moment
