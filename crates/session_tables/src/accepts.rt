@@ -10,12 +10,12 @@ use operator_rows::Books;
 
 /// What begins where an open command is carried out, if it is a start: a session for its token, with its reference, at the EVSE and
 /// connector that it took.
-pub fn accepted(books: &Books, open: &OpenCommand) -> Option<Beginning>
-    ensures { Decided (Accepts books.now.state.site open.now) result }
+pub fn accepted(books: &Books, opened: &OpenCommand) -> Option<Beginning>
+    ensures { Decided (Accepts books.now.state.site opened.now) result }
 {
-    match &open.command {
+    match &opened.command {
         Command::StartSession(start) => {
-            let at = connector_at(books, open.evse_uid?.key(), &open.connector_id?)?;
+            let at = connector_at(books, opened.evse_uid?.key(), &opened.connector_id?)?;
             let (method, reference) = (AuthMethod::Command, start.authorization_reference);
             Some(beginning(&start.token, method, reference, &at, None))
         }

@@ -6,7 +6,7 @@ ghost use Rattle.ocpi_types.specs.declared.sessions.Session.{Session as SessionO
 ghost use Rattle.session_state.specs.Versions.{CanRead, activated, metered, completed, voided};
 ghost use Rattle.session_tables.specs.Moved.{Comes, IsMoved};
 ghost use Rattle.session_tables.specs.Moves.{IsSessionAt};
-ghost use Rattle.session_tables.specs.Going.{IsGoing};
+ghost use Rattle.session_tables.specs.Going.{IsGoingAt};
 
 use ocpi_text::{CiKey, CiText, Moment, Quantity};
 use ocpi_types::{ChargerEvent, Session as Version};
@@ -43,7 +43,7 @@ pub fn session_at(books: &Books, evse: CiKey<36>) -> Option<&Version>
 
 /// The session at the EVSE of a key, which goes on at the site's price.
 fn going_at(books: &Books, evse: CiKey<36>) -> Option<Resumed>
-    ensures found { IfSome result (λ x. (v : SessionOf) × IsSessionAt books.now.state.rows evse v × IsGoing books.now.state.site.price v x) }
+    ensures found { IfSome result (λ x. IsGoingAt books.now.state.rows books.now.state.site.price evse x) }
     ensures none { IfNone result ((v : SessionOf) → IsSessionAt books.now.state.rows evse v → ⊥) }
 {
     books.consistency();
