@@ -72,14 +72,14 @@ pub may_follow : MovesMayFollow
 may_follow site s at report v w moves cost later = makes_follow site.price at report v w moves.makes cost
 
 one_end : (at : ℕ) (v w x : Session) → Ends at v w → Ends at v x → w ≡ x
-one_end at v w x (inl (s, is)) (inl (_, as)) = is ∙ sym as
-one_end at v w x (inr (s, is)) (inr (_, as)) = is ∙ sym as
-one_end at v w x (inl (s, is)) (inr (t, as)) = let never : Active ≡ Pending = sym s ∙ t in absurd (cc)
-one_end at v w x (inr (s, is)) (inl (t, as)) = let never : Active ≡ Pending = sym t ∙ s in absurd (cc)
+one_end at v w x (inl (s, is)) (inl (_, other)) = is ∙ sym other
+one_end at v w x (inr (s, is)) (inr (_, other)) = is ∙ sym other
+one_end at v w x (inl (s, is)) (inr (t, other)) = let never : Active ≡ Pending = sym s ∙ t in absurd (cc)
+one_end at v w x (inr (s, is)) (inl (t, other)) = let never : Active ≡ Pending = sym t ∙ s in absurd (cc)
 
 one_made : (price : ℤ) (at : ℕ) (report : ChargerEvent) (v w x : Session) → Makes price at report v w → Makes price at report v x → w ≡ x
-one_made price at (event.Starts e) v w x (_, is) (_, as) = is ∙ sym as
-one_made price at (event.Meter e kwh) v w x (_, _, is) (_, _, as) = is ∙ sym as
+one_made price at (event.Starts e) v w x (_, is) (_, other) = is ∙ sym other
+one_made price at (event.Meter e kwh) v w x (_, _, is) (_, _, other) = is ∙ sym other
 one_made price at (event.Stops e) v w x a b = one_end at v w x a b
 one_made price at (event.Fault e) v w x a b = one_end at v w x a b
 one_made price at (event.Accepts p n) v w x a b = absurd a

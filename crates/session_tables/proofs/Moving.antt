@@ -14,8 +14,8 @@ use Rattle.session_state.specs.declared.resuming.Resumed.{Resumed}
 use Rattle.session_state.specs.declared.resuming.Resumed.TheVariants as resumed
 use Rattle.operator_rows.specs.Sound.{IsSound}
 use Rattle.operator_rows.specs.State.{Rows, State, IsLive}
-use Rattle.session_tables.specs.declared.moves.Moved.{Moved}
-use Rattle.session_tables.specs.declared.moves.Moved.TheVariants.{Nothing}
+use Rattle.session_tables.specs.declared.outcome.Moved.{Moved}
+use Rattle.session_tables.specs.declared.outcome.Moved.TheVariants.{Nothing}
 use Rattle.session_tables.specs.Going.{IsGoing}
 use Rattle.session_tables.specs.Moved as lines
 use Rattle.session_tables.specs.Moved.{Comes, IsMoved}

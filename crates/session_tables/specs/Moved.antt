@@ -6,8 +6,8 @@ use Rattle.ocpi_types.specs.declared.sessions.Session.{Session}
 use Rattle.ocpi_types.specs.declared.site.Site.{Site}
 use Rattle.ocpi_types.specs.declared.words.SessionStatus.TheVariants.{Completed}
 use Rattle.operator_rows.specs.State.{Rows}
-use Rattle.session_tables.specs.declared.moves.Moved.{Moved}
-use Rattle.session_tables.specs.declared.moves.Moved.TheVariants as moved
+use Rattle.session_tables.specs.declared.outcome.Moved.{Moved}
+use Rattle.session_tables.specs.declared.outcome.Moved.TheVariants as moved
 use Rattle.session_tables.specs.Moves.{Moves, MovesNone}
 
 -- what comes of a move that makes w of v: no version is later than one of the last moment, and the draft is that of the version

@@ -3,7 +3,7 @@
 ghost use Rattle.session_tables.specs.Answers.{Decided};
 ghost use Rattle.session_tables.specs.Accepts.{Accepts};
 
-use crate::beginning::{Beginning, beginning};
+use crate::beginning::{Beginning, begins_at};
 use crate::places::connector_at;
 use ocpi_types::{AuthMethod, Command, OpenCommand};
 use operator_rows::Books;
@@ -17,7 +17,7 @@ pub fn accepted(books: &Books, opened: &OpenCommand) -> Option<Beginning>
         Command::StartSession(start) => {
             let at = connector_at(books, opened.evse_uid?.key(), &opened.connector_id?)?;
             let (method, reference) = (AuthMethod::Command, start.authorization_reference);
-            Some(beginning(&start.token, method, reference, &at, None))
+            Some(begins_at(&start.token, method, reference, &at, None))
         }
         Command::StopSession(_)
         | Command::ReserveNow(_)

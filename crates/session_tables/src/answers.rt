@@ -9,7 +9,7 @@ ghost use Rattle.session_tables.specs.Answers.{Allows, BeginsByAnswer, BeginsThe
 ghost use Rattle.session_tables.specs.Places.{MayTakeAt};
 ghost use Rattle.session_tables.specs.Answered.{IsUsed, MayGoWithout};
 
-use crate::beginning::{Beginning, beginning};
+use crate::beginning::{Beginning, begins_at};
 use crate::places::connector_at;
 use crate::taking::{Taking, may_take, may_take_at};
 use authorization_book::Awaited;
@@ -76,7 +76,7 @@ fn beginning_there(
     };
     let place = &awaited.place;
     let at = connector_at(books, place.evse_uid.key(), &place.connector_id)?;
-    Some(beginning(&awaited.token, method, reference, &at, used))
+    Some(begins_at(&awaited.token, method, reference, &at, used))
 }
 
 /// What begins by the answer to what was awaited, if something does: the answer allows the token that was asked about, its reference,

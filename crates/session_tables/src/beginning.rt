@@ -35,7 +35,7 @@ fn cdr_token(token: &Token) -> CdrToken
 }
 
 /// What begins for a token at a connector of the site.
-pub(crate) fn beginning(
+pub(crate) fn begins_at(
     token: &Token,
     auth_method: AuthMethod,
     authorization_reference: Option<CiText<36>>,

@@ -2,7 +2,7 @@
 //! here.
 //!
 //! ```
-//! match shown(&books, &evse_uid, &connector_id, &token_uid, token_type) {
+//! match swiped(&books, &evse_uid, &connector_id, &token_uid, token_type) {
 //!     Shown::Nothing => {}
 //!     Shown::Begins(beginning) => {
 //!         let number = books.charged().last_session().next()?;
@@ -19,6 +19,7 @@ mod answers;
 mod beginning;
 mod laws;
 mod moves;
+mod outcome;
 mod places;
 mod shown;
 mod swipes;
@@ -28,8 +29,9 @@ pub use accepts::accepted;
 pub use answers::{begins_by_answer, begins_without_answer};
 pub use beginning::{Beginning, opening};
 pub use laws::{beginnings_are_of_site, moves_are_one, moves_may_follow};
-pub use moves::{Moved, moved, session_at};
+pub use moves::{moved, session_at};
+pub use outcome::Moved;
 pub use places::{FoundConnector, cdr_location, connector_at};
 pub use shown::Shown;
-pub use swipes::shown;
+pub use swipes::swiped;
 pub use taking::{Taking, may_take, may_take_at};

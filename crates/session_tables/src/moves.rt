@@ -8,24 +8,12 @@ ghost use Rattle.session_tables.specs.Moved.{Comes, IsMoved};
 ghost use Rattle.session_tables.specs.Moves.{IsSessionAt};
 ghost use Rattle.session_tables.specs.Going.{IsGoingAt};
 
+use crate::outcome::Moved;
 use ocpi_text::{CiKey, CiText, Moment, Quantity};
 use ocpi_types::{ChargerEvent, Session as Version};
 use operator_rows::Books;
-use session_state::{Active, CdrDraft, Pending, Resumed, Session, resume};
+use session_state::{Active, Pending, Resumed, Session, resume};
 use site_book::Claim;
-
-/// What a report makes of a session. The draft of a charge detail record cannot be dropped: the receiver issues it
-/// (`CdrDraft::issue`), or gives it up (`CdrDraft::give_up`).
-pub enum Moved {
-    /// The report makes nothing of any session.
-    Nothing,
-    /// It would make a version of a session whose newest version was updated at the last moment, so that none can be later.
-    Refused,
-    /// The session's next version, which is ACTIVE or INVALID.
-    To { version: Version },
-    /// The session's last version, which is COMPLETED, and the draft of its charge detail record.
-    Completed { version: Version, draft: CdrDraft },
-}
 
 /// The session at the EVSE of a key that has not ended, in its newest version. At an EVSE there is at most one. It costs the
 /// logarithm of what is stored.

@@ -6,7 +6,7 @@ ghost use Rattle.session_tables.specs.Found.{location_of, evse_of, connector_of}
 ghost use Rattle.session_tables.specs.Opened.{IsOpened};
 ghost use Rattle.session_tables.specs.Swipes.{IsReady, SwipeLine, told_by};
 
-use crate::beginning::beginning;
+use crate::beginning::begins_at;
 use crate::places::{FoundConnector, connector_at};
 use crate::shown::Shown;
 use ocpi_text::{CiKey, CiText, PartyKey};
@@ -36,7 +36,7 @@ fn is_ready(books: &Books, evse: CiKey<36>) -> bool
 
 /// Whether the EVSE of a key takes a token of that uid and type: it is in service, no authorization is awaited at it, and it is
 /// unclaimed, or a reservation for such a token holds it.
-fn openness(books: &Books, evse: CiKey<36>, uid: CiKey<36>, token_type: TokenType) -> Openness
+fn opened_to(books: &Books, evse: CiKey<36>, uid: CiKey<36>, token_type: TokenType) -> Openness
     ensures { IsOpened books.now.state evse uid token_type result }
 {
     if !is_ready(books, evse) {
@@ -44,11 +44,16 @@ fn openness(books: &Books, evse: CiKey<36>, uid: CiKey<36>, token_type: TokenTyp
     }
     match books.site_book().claim_of(evse) {
         None => Openness::Free,
-        Some(Claim::Reserved {
-            provider,
-            reservation,
-        }) => {
-            if books.booked().serves(provider, reservation, uid, token_type) {
+        Some(
+            Claim::Reserved {
+                provider,
+                reservation,
+            },
+        ) => {
+            if books
+                .booked()
+                .serves(provider, reservation, uid, token_type)
+            {
                 Openness::Held {
                     provider,
                     reservation,
@@ -69,7 +74,7 @@ fn told(swipe: &Swipe, at: &FoundConnector<'_>, reservation_id: Option<CiKey<36>
     match swipe {
         Swipe::Begin(token) => {
             let method = AuthMethod::Whitelist;
-            Shown::Begins(beginning(token, method, None, at, reservation_id))
+            Shown::Begins(begins_at(token, method, None, at, reservation_id))
         }
         Swipe::Ask(token) => Shown::Asks {
             token: *token,
@@ -85,7 +90,7 @@ fn told(swipe: &Swipe, at: &FoundConnector<'_>, reservation_id: Option<CiKey<36>
 
 /// What follows where a driver shows a token of that uid and type at a connector, by the first line of the table that applies. It
 /// costs the logarithm of what is stored, and takes no memory.
-pub fn shown(
+pub fn swiped(
     books: &Books,
     evse_uid: &CiText<36>,
     connector_id: &CiText<36>,
@@ -98,7 +103,7 @@ pub fn shown(
     let Some(at) = connector_at(books, evse, connector_id) else {
         return Shown::Nothing;
     };
-    match openness(books, evse, uid, token_type) {
+    match opened_to(books, evse, uid, token_type) {
         Openness::Closed => Shown::Nothing,
         Openness::Free => told(&books.desk().decide(None, uid, token_type), &at, None),
         Openness::Held {

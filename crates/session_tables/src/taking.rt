@@ -31,7 +31,11 @@ fn reserved_for(books: &Books, token: &Token, claim: &Claim) -> Taking
         } => {
             let (uid, token_type) = (token.uid.key(), token.token_type);
             let own = *provider == token.party.key();
-            if own && books.booked().serves(*provider, *reservation, uid, token_type) {
+            if own
+                && books
+                    .booked()
+                    .serves(*provider, *reservation, uid, token_type)
+            {
                 Taking::Reserved(*reservation)
             } else {
                 Taking::No
