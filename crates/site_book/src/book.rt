@@ -60,6 +60,13 @@ impl SiteBook {
         Ok(SiteBook { site, indexes })
     }
 
+    /// The site itself.
+    pub fn site(&self) -> &Site
+        ensures { result.now ≡ self.now.site }
+    {
+        &self.site
+    }
+
     /// The location that stands at a position.
     fn location_at(&self, position: usize) -> Option<FoundLocation<'_>>
         ensures found { IfSome result (λ f. IsFoundIn self.now.site f) }

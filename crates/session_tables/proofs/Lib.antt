@@ -1,0 +1,6 @@
+pub mod Finding
+pub mod Takings
+pub mod Sessions
+pub mod Answering
+pub mod Moving
+pub mod Following
