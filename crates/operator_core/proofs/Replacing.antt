@@ -37,12 +37,12 @@ search u [] = inr (λ e i. absurd (in_none e i))
 search u (x ∷ xs) = elim (is_about (subject_of x.1) u) [
   | inl h ↦ inl (x, in_front x xs, h)
   | inr no ↦ elim (search u xs) [
-      | inl f ↦ inl (f.0, Contains-append_right (x ∷ []) xs f.0 f.1, f.2)
-      | inr none ↦ inr (λ e i h. elim (Contains-append_cases (x ∷ []) xs e i) [
-          | inl j ↦ no (subst (λ z. subject_of z.1 ≡ Some u) (sym (in_single x e j)) h)
-          | inr j ↦ none e j h
-        ])
-    ]
+    | inl f ↦ inl (f.0, Contains-append_right (x ∷ []) xs f.0 f.1, f.2)
+    | inr none ↦ inr (λ e i h. elim (Contains-append_cases (x ∷ []) xs e i) [
+      | inl j ↦ no (subst (λ z. subject_of z.1 ≡ Some u) (sym (in_single x e j)) h)
+      | inr j ↦ none e j h
+    ])
+  ]
 ]
 
 pub replaced_is : (m : Pushes) (u : Option Subject) → (r : Option ℕ) × IsReplaced m u r

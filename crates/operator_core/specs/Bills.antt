@@ -59,7 +59,8 @@ CannotBill s Memory = ⊤
 
 -- the new version of a session is pushed and stored, and, where it is complete, its charge detail record
 pub record IsRecorded (s : State) (at : ℕ) (v : Session) (acts : List Act) : Type 0 where
-  pub version_part bill_part : List Act
+  pub version_part : List Act
+  pub bill_part : List Act
   pub versioned : IsVersioned s at s.rows.request v version_part
   pub billed : IsBilled s at (s.rows.request + 1) v bill_part
   pub acts_are : acts ≡ version_part ++ bill_part

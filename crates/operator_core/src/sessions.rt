@@ -41,11 +41,7 @@ pub(crate) struct Begun {
 }
 
 /// Adds that a counter gave a number last.
-pub(crate) fn add_number(
-    draft: &mut Draft,
-    counter: Counter,
-    last: Whole,
-) -> Result<(), AllocError>
+pub(crate) fn add_number(draft: &mut Draft, counter: Counter, last: Whole) -> Result<(), AllocError>
     ensures { OnOk result (draft.new ≡ with_acts (changed (change.Put (row.Count counter last)) ∷ []) draft.old) }
 {
     draft.change(Change::Put(Row::Count { counter, last }))
@@ -125,7 +121,8 @@ impl Operator {
     fn first_version(&self, at: Moment, number: Whole, beginning: &Beginning) -> Session
         ensures { result ≡ first_of self.now.state at number beginning.now }
     {
-        let session = start(opening(&self.books, number, beginning), at);
+        let site = self.books.site_book().site();
+        let session = start(opening(self.books.party(), site, number, beginning), at);
         *session.version()
     }
 

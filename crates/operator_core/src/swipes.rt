@@ -16,7 +16,7 @@ use node_steps::{Needs, NodeFault, find_peer};
 use ocpi_text::{CiText, Moment};
 use ocpi_types::{Authorize, Body, ChargerEvent, EvseUids, LocationReferences, Place, Token};
 use operator_rows::FullPlan;
-use session_tables::{Shown, shown};
+use session_tables::{Shown, swiped};
 use std::alloc::{AllocError, Global};
 
 /// An authorization is awaited for ten seconds.
@@ -89,7 +89,7 @@ impl Operator {
                 connector_id,
                 token_uid,
                 token_type,
-            } => shown(&self.books, evse_uid, connector_id, token_uid, *token_type),
+            } => swiped(&self.books, evse_uid, connector_id, token_uid, *token_type),
             _ => Shown::Nothing,
         }
     }
