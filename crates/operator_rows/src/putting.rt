@@ -14,7 +14,8 @@ use crate::books::Books;
 use crate::claims::{claim, evse_occupied, evse_taken, release};
 use ocpi_text::{CiKey, Party, PartyKey, Whole};
 use ocpi_types::{
-    Boxed, Cdr, CommandResultType, Counter, OpenCommand, Push, Reply, Reservation, Row, Session, Token,
+    Boxed, Cdr, CommandResultType, Counter, OpenCommand, Push, Reply, Reservation, Row, Session,
+    Token,
 };
 use site_book::Claim;
 
@@ -29,7 +30,8 @@ impl Books {
         match counter {
             Counter::Serial => self.serial = last,
             Counter::Request => self.outbox.put_row(Row::Count { counter, last }),
-            Counter::Session | Counter::Cdr => self.charged.put_row(Row::Count { counter, last }),
+            Counter::Session => self.charged.put_row(Row::Count { counter, last }),
+            Counter::Cdr => self.charged.put_row(Row::Count { counter, last }),
             Counter::Reference => unreachable!(),
         }
     }
