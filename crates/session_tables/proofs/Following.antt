@@ -12,10 +12,13 @@ use Rattle.ocpi_types.specs.declared.words.SessionStatus.{SessionStatus}
 use Rattle.ocpi_types.specs.declared.words.SessionStatus.TheVariants.{Active, Completed, Invalid, Pending}
 use Rattle.session_state.specs.Versions.{HasCost, ended, activated, metered}
 use Rattle.session_state.specs.Pasts.{IsSame, IsTurn, MayFollow}
-use Rattle.session_tables.specs.Laws.{BeginningsAreOfSite, MovesAreOne, MovesMayFollow}
+use Rattle.session_tables.specs.Laws.{BeginningsAreOfSite, IsOfSite, MovesAreOne, MovesMayFollow}
 use Rattle.session_tables.specs.Moves.{Ends, Makes, Moves}
 use Rattle.session_tables.specs.declared.beginning.Beginning.{Beginning}
-use Rattle.site_book.specs.Sites.{IsConnectorOf}
+use Rattle.session_tables.specs.Answers.{BeginsThere}
+use Rattle.authorization_book.specs.declared.awaited.Awaited.{Awaited}
+use Rattle.ocpi_types.specs.declared.site.Site.{Site}
+use Rattle.ocpi_types.specs.declared.words.AuthMethod.{AuthMethod}
 use Rattle.session_tables.proofs.Finding.{of_site}
 
 same_kept : (v : Session) (start : ℕ) (end : Option ℕ) (kwh : ℤ) (total : Option Price) (status : SessionStatus) (stamp : ℕ)
@@ -90,12 +93,13 @@ one_made price at (event.Swipe e k u t) v w x a b = absurd a
 pub are_one : MovesAreOne
 are_one site s at report v w x a b = one_made site.price at report v w x a.makes b.makes
 
+there_of_site : (site : Site) (May : Option (List ℕ) → Type 0) (w : Awaited) (method : AuthMethod) (reference : Option (List ℕ)) (b : Beginning) → BeginsThere site May w method reference b → IsOfSite site b
+there_of_site site May w method reference b there =
+    subst (IsOfSite site) (sym there.begins_is) (of_site site.locations _ _ there.location there.of_evse there.of_connector there.place)
+
 pub are_of_site : BeginningsAreOfSite
 are_of_site = record {
-  shown = λ site May w method reference b there.
-      subst (λ (x : Beginning). IsConnectorOf site.locations (key x.place.evse_uid) (key x.place.connector_id)) (sym there.begins_is)
-      (of_site site.locations _ _ there.location there.of_evse there.of_connector there.place);
-  accepted = λ site o b is.
-      subst (λ (x : Beginning). IsConnectorOf site.locations (key x.place.evse_uid) (key x.place.connector_id)) (sym is.begins_is)
-      (of_site site.locations _ _ is.location is.of_evse is.of_connector is.place);
+  answered = λ site s w a b by. there_of_site site _ w _ _ b by.there;
+  unanswered = λ site s at w b by. there_of_site site _ w _ _ b by.there;
+  accepted = λ site o b is. subst (IsOfSite site) (sym is.begins_is) (of_site site.locations _ _ is.location is.of_evse is.of_connector is.place);
 }

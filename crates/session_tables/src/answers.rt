@@ -4,7 +4,7 @@
 ghost use Rattle.std.specs.Prelude.{◌≡◌, ◌↔◌, IfNone, IfSome, IsTrue, ℕ, List, Option};
 ghost use Rattle.ocpi_types.specs.declared.authorizations.AuthorizationInfo.{AuthorizationInfo as InfoOf};
 ghost use Rattle.ocpi_text.specs.Text.{key};
-ghost use Rattle.ocpi_types.specs.declared.words.AllowedType.TheVariants as allowed;
+ghost use Rattle.ocpi_types.specs.declared.words.AllowedType.TheVariants as answers;
 ghost use Rattle.session_tables.specs.Answers.{Allows, BeginsByAnswer, BeginsThere, BeginsWithoutAnswer, Decided, IsSameToken};
 ghost use Rattle.session_tables.specs.Places.{MayTakeAt};
 ghost use Rattle.session_tables.specs.Answered.{IsUsed, MayGoWithout};
@@ -30,7 +30,7 @@ fn is_same_token(token: &Token, other: &Token) -> bool
 
 /// Whether a token may be used.
 fn is_allowed(allowed: AllowedType) -> bool
-    ensures { IsTrue result ↔ (allowed ≡ allowed.Allowed) }
+    ensures { IsTrue result ↔ (allowed ≡ answers.Allowed) }
 {
     match allowed {
         AllowedType::Allowed => true,

@@ -31,7 +31,13 @@ pub(crate) enum Openness {
 fn is_ready(books: &Books, evse: CiKey<36>) -> bool
     ensures { IsTrue result ↔ IsReady books.now.state evse }
 {
-    books.site_book().works(evse) && books.waits().at(evse).is_none()
+    if !books.site_book().works(evse) {
+        return false;
+    }
+    match books.waits().at(evse) {
+        None => true,
+        Some(_number) => false,
+    }
 }
 
 /// Whether the EVSE of a key takes a token of that uid and type: it is in service, no authorization is awaited at it, and it is
