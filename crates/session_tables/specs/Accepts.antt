@@ -17,7 +17,8 @@ use Rattle.session_tables.specs.Places.{IsConnectorAt}
 pub record Accepts (site : Site) (o : OpenCommand) (b : Beginning) : Type 0 where
   pub start : StartSession
   pub command_is : o.command ≡ command.StartSession start
-  pub evse connector : List ℕ
+  pub evse : List ℕ
+  pub connector : List ℕ
   pub evse_is : o.evse_uid ≡ Some evse
   pub connector_is : o.connector_id ≡ Some connector
   pub location : Location

@@ -70,6 +70,6 @@ EndsBy s at (Reserved p id) = (r : Reservation) × (get s.booked.reservations (p
 
 -- the token may take the EVSE of that key once the claims have ended that end by that moment
 pub data MayTakeAt (s : Rows) (at : ℕ) (t : Token) (evse : List ℕ) (used : Option (List ℕ)) : Type 0 where
-  Free : IsTrue (works s.out_of_service evse) → ((c : Claim) → HasClaim s evse c → EndsBy s at c) → used ≡ None → MayTakeAt s at t evse used
-  Held : IsTrue (works s.out_of_service evse) → (id : List ℕ) → HoldsFor s evse (key t.uid) t.token_type (key t.party) id →
+  FreeAt : IsTrue (works s.out_of_service evse) → ((c : Claim) → HasClaim s evse c → EndsBy s at c) → used ≡ None → MayTakeAt s at t evse used
+  HeldAt : IsTrue (works s.out_of_service evse) → (id : List ℕ) → HoldsFor s evse (key t.uid) t.token_type (key t.party) id →
       ¬ EndsBy s at (Reserved (key t.party) id) → used ≡ Some id → MayTakeAt s at t evse used
