@@ -17,4 +17,6 @@ pub mod AnswerSteps
 pub mod PacketSteps
 pub mod ShownSteps
 pub mod MovedSteps
+pub mod AskedSteps
+pub mod StartedSteps
 pub mod TimingOut
