@@ -1,5 +1,5 @@
 -- A provider answers whether a token may be used: what the answer asks for may be done.
-use Rattle.std.proofs.Common.{◌≡◌, ◌≢◌, ◌≤◌, ◌<◌, ◌+◌, ℕ, List, [], ◌∷◌, ◌++◌, inl, inr, refl, sym, ap, subst, ◌∙◌, arith}
+use Rattle.std.proofs.Common.{◌≡◌, ◌≢◌, ◌≤◌, ◌+◌, ℕ, List, [], ◌∷◌, ◌++◌, inl, inr, refl, sym, ap, subst, arith}
 use Rattle.std.specs.Prelude.{Option, Some, None, Contains, IsTrue, is_some}
 use Rattle.std.specs.FinMap.{contains_key, get, remove, nat_cmp-IsAntisymmetric}
 use Rattle.std.specs.Cmp.{nat_cmp_total}

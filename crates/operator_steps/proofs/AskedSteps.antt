@@ -1,7 +1,7 @@
 -- A token is shown whose provider is asked: what that asks for may be done.
-use Rattle.std.proofs.Common.{◌≡◌, ◌≤◌, ◌<◌, ◌+◌, ℕ, List, [], ◌∷◌, inl, inr, refl, sym, ap, subst, ◌∙◌, arith}
-use Rattle.std.specs.Prelude.{Option, Some, None, Contains, IsTrue, is_some}
-use Rattle.std.specs.FinMap.{contains_key, get, insert, nat_cmp-IsAntisymmetric}
+use Rattle.std.proofs.Common.{◌≡◌, ◌+◌, ℕ, List, [], ◌∷◌, inl, inr, refl, sym, ap, subst, ◌∙◌, arith}
+use Rattle.std.specs.Prelude.{Option, None, is_some}
+use Rattle.std.specs.FinMap.{get, insert, nat_cmp-IsAntisymmetric}
 use Rattle.std.specs.Cmp.{nat_cmp_total}
 use Rattle.tables.proofs.Elements.{in_single}
 use Rattle.tables.proofs.Maps.{of_insert}

@@ -1,6 +1,6 @@
 -- A version of a session is pushed and stored: the rows allow it, and it may come next.
-use Rattle.std.proofs.Common.{◌≡◌, ◌≢◌, ◌≤◌, ◌<◌, ◌+◌, ℕ, Bool, true, false, nat_eq, List, [], ◌∷◌, ◌++◌, inl, inr, refl, sym, ap, subst, ◌∙◌, arith}
-use Rattle.std.specs.Prelude.{Option, Some, None, Contains, IsTrue, Ok, is_some}
+use Rattle.std.proofs.Common.{◌≡◌, ◌≤◌, ◌<◌, ◌+◌, ℕ, Bool, true, false, nat_eq, List, inl, inr, refl, sym, ap, subst, arith}
+use Rattle.std.specs.Prelude.{Option, Some, None, Ok, is_some}
 use Rattle.std.proofs.lemmas.Bool.{eqb-true, eqb-false}
 use Rattle.std.specs.Cmp.{nat_cmp_total}
 use Rattle.std.specs.Ordering.{nat_cmp}
@@ -16,10 +16,8 @@ use Rattle.ocpi_types.specs.declared.sessions.Session.{Session}
 use Rattle.ocpi_types.specs.declared.stored.Push.TheVariants as push
 use Rattle.site_book.specs.Sites.{IsConnectorOf}
 use Rattle.site_book.specs.declared.claim.Claim.{Claim}
-use Rattle.site_book.specs.declared.claim.Claim.TheVariants.{OpenStart, Live, Reserved}
 use Rattle.outbox.specs.Pushes.{IsAbout, IsReplaced, OneEach, Pushes, subject}
 use Rattle.outbox.specs.declared.push_book.Subject.{Subject}
-use Rattle.node_steps.specs.Acts.{acknowledged, pushed}
 use Rattle.node_steps.specs.Peers.{HasPeer}
 use Rattle.operator_rows.specs.State.{State, Rows, HasClaim}
 use Rattle.operator_rows.specs.Steps.{IsNext, IsNextOf}
@@ -28,10 +26,10 @@ use Rattle.session_book.proofs.OwnIds.{ids_differ}
 use Rattle.session_state.proofs.PastLemmas.{first_cost}
 use Rattle.session_tables.specs.declared.beginning.Beginning.{Beginning}
 use Rattle.session_tables.specs.Beginnings.{opening_of}
-use Rattle.operator_rows.specs.Sound.{MayPutPush, MayPutSession, with_rows}
+use Rattle.operator_rows.specs.Sound.{MayPutSession, with_rows}
 use Rattle.operator_steps.specs.Sessions.{first_of, versioned}
 use Rattle.operator_steps.proofs.DecidedSteps.{claim_of_same}
-use Rattle.operator_steps.proofs.Fitting.{AreFit, left_by_act}
+use Rattle.operator_steps.proofs.Fitting.{AreFit}
 
 -- the push that a newer one replaces is the only one about the same
 pub replaced_only : (m : Pushes) (u : Subject) (old : Option ℕ) (q : ℕ) → OneEach m → IsReplaced m (Some u) old → IsAbout m u q → old ≡ Some q

@@ -1,6 +1,6 @@
 -- A session begins: its acts fit, and what they send and put may be.
-use Rattle.std.proofs.Common.{◌≡◌, ◌≢◌, ◌≤◌, ◌<◌, ◌+◌, ℕ, List, [], ◌∷◌, ◌++◌, inl, inr, refl, sym, ap, subst, ◌∙◌, arith}
-use Rattle.std.specs.Prelude.{Option, Some, None, Contains, Ok, is_some}
+use Rattle.std.proofs.Common.{◌≡◌, ◌≤◌, ◌+◌, ℕ, List, [], ◌∷◌, ◌++◌, refl, sym, ap, subst, ◌∙◌, arith}
+use Rattle.std.specs.Prelude.{Option, Some, None, Ok, is_some}
 use Rattle.std.specs.FinMap.{get}
 use Rattle.tables.proofs.Elements.{in_single}
 use Rattle.tables.proofs.Options.{none_some}

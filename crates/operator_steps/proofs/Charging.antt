@@ -1,6 +1,6 @@
 -- The versions of sessions and the charge detail records that changes put may come next.
 use Rattle.std.proofs.Common.{◌≡◌, ◌≢◌, ℕ, false, true, eqb, List, [], ◌∷◌, ◌++◌, inl, inr, refl, sym, ap, ◌∙◌}
-use Rattle.std.specs.Prelude.{IsTrue, Contains, None, not, ◌&&◌}
+use Rattle.std.specs.Prelude.{IsTrue, Contains, None, not}
 use Rattle.std.specs.FinMap.{get}
 use Rattle.std.proofs.lemmas.Bool.{eq-eqb, and_parts}
 use Rattle.std.proofs.lemmas.List.Elements.{Contains-append_cases}

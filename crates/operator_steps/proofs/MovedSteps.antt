@@ -1,6 +1,6 @@
 -- A session goes on or ends: its new version may be put, and comes next.
-use Rattle.std.proofs.Common.{◌≡◌, ◌≢◌, ◌≤◌, ◌<◌, ◌+◌, ℕ, ℤ, List, [], ◌∷◌, inl, inr, refl, sym, ap, subst, ◌∙◌, arith}
-use Rattle.std.specs.Prelude.{Option, Some, None, is_some}
+use Rattle.std.proofs.Common.{◌≡◌, ◌≤◌, ◌<◌, ℕ, ℤ, inl, inr, refl, sym, ap, subst, ◌∙◌, arith}
+use Rattle.std.specs.Prelude.{Some, is_some}
 use Rattle.std.specs.FinMap.{get}
 use Rattle.ocpi_text.specs.Moment.{last_moment}
 use Rattle.ocpi_text.specs.Text.{key}
@@ -11,9 +11,7 @@ use Rattle.site_book.specs.Sites.{IsConnectorOf}
 use Rattle.site_book.specs.declared.claim.Claim.{Claim}
 use Rattle.site_book.specs.declared.claim.Claim.TheVariants.{Live}
 use Rattle.session_state.specs.Pasts as pasts
-use Rattle.session_state.specs.Versions.{HasCost}
 use Rattle.session_state.proofs.PastLemmas as past
-use Rattle.session_book.specs.Numbers.{AreNumbered}
 use Rattle.session_tables.specs.Moves.{Makes, Moves}
 use Rattle.node_steps.specs.Peers.{HasPeer}
 use Rattle.operator_rows.specs.State.{State, Rows, HasClaim}

@@ -1,32 +1,18 @@
 -- A packet comes: what it asks for may be done.
-use Rattle.std.proofs.Common.{◌≡◌, ◌≢◌, ◌≤◌, ◌<◌, ◌+◌, ℕ, List, [], ◌∷◌, ◌++◌, inl, inr, refl, sym, ap, subst, ◌∙◌, arith}
-use Rattle.std.specs.Prelude.{Option, Some, None, Contains, IsTrue, is_some}
-use Rattle.std.specs.FinMap.{contains_key, get, remove, nat_cmp-IsAntisymmetric}
-use Rattle.std.specs.Cmp.{nat_cmp_total}
-use Rattle.tables.proofs.Elements.{in_none, in_front}
-use Rattle.tables.proofs.Maps.{of_remove}
-use Rattle.tables.proofs.Options.{known, none_contained}
+use Rattle.std.proofs.Common.{ℕ, List, [], ◌∷◌, refl, sym, subst, ◌∙◌}
 use Rattle.ocpi_text.specs.Text.{key}
-use Rattle.ocpi_text.specs.Whole.{max_whole}
 use Rattle.ocpi_types.specs.declared.packet.Packet.{Packet}
 use Rattle.ocpi_types.specs.declared.rows.Change.TheVariants.{Put}
-use Rattle.ocpi_types.specs.declared.rows.Counter.TheVariants as counter
 use Rattle.ocpi_types.specs.declared.rows.Row.TheVariants as row
 use Rattle.ocpi_types.specs.declared.stored.Reply.{Reply}
 use Rattle.ocpi_types.specs.declared.token.Token.{Token}
-use Rattle.authorization_book.specs.Waits.{Waits}
-use Rattle.authorization_book.specs.declared.awaited.Awaited.{Awaited}
-use Rattle.node_steps.specs.Acts.{Act, acknowledged, all_changes, all_requests, answered, changed, repeated}
+use Rattle.node_steps.specs.Acts.{Act, acknowledged, all_changes, answered, changed, repeated}
 use Rattle.node_steps.specs.Peers.{HasPeer, IsPeer}
 use Rattle.operator_rows.specs.State.{State}
 use Rattle.operator_rows.specs.Sound.{IsConsistent}
 use Rattle.operator_tables.proofs.Lines.{all_tell}
-use Rattle.session_tables.specs.Answers.{BeginsByAnswer}
-use Rattle.session_tables.specs.declared.beginning.Beginning.{Beginning}
-use Rattle.operator_steps.specs.Acts.{spent}
-use Rattle.operator_steps.specs.Asking.{AnswerActs, IsAnswered}
 use Rattle.operator_steps.specs.Facts.{PacketsMayFollow}
-use Rattle.operator_steps.specs.Moves.{AreInRange, Work, quiet}
+use Rattle.operator_steps.specs.Moves.{AreInRange, Work}
 use Rattle.operator_steps.specs.Steps.{Comes, PacketLine, Again, Decided, Sent, Acknowledged, Idle, Answered, Unasked, TokenLine, Foreign, Kept, Stored, acknowledgement}
 use Rattle.operator_steps.proofs.Charging.{next_kinds}
 use Rattle.operator_steps.proofs.Orderly.{orderly_kinds}
@@ -34,7 +20,6 @@ use Rattle.operator_steps.proofs.Sending.{sent_none}
 use Rattle.operator_steps.proofs.Planning.{ArePlanned, IsPlanned, may_follow_full, planned_quiet}
 use Rattle.operator_steps.proofs.ServiceSteps.{planned_none}
 use Rattle.operator_steps.proofs.DecidedSteps.{decided_planned}
-use Rattle.operator_steps.proofs.BegunSteps.{there_may}
 use Rattle.operator_steps.proofs.AnswerSteps.{answer_planned}
 
 again_planned : (s : State) (to : List ℕ) (n : ℕ) (r : Reply) → ArePlanned s (repeated to n r ∷ [])

@@ -1,11 +1,6 @@
 -- A driver shows a token: the session that begins, or the question that is asked, may be.
-use Rattle.std.proofs.Common.{◌≡◌, ◌≢◌, ◌≤◌, ◌<◌, ◌+◌, ℕ, List, [], ◌∷◌, inl, inr, refl, sym, ap, subst, ◌∙◌, arith}
-use Rattle.std.specs.Prelude.{Option, Some, None, Contains, IsTrue, is_some}
-use Rattle.std.specs.FinMap.{contains_key, get, insert, nat_cmp-IsAntisymmetric}
-use Rattle.std.specs.Cmp.{nat_cmp_total}
-use Rattle.tables.proofs.Elements.{in_none, in_single}
-use Rattle.tables.proofs.Maps.{of_insert}
-use Rattle.tables.proofs.Options.{known, none_contained}
+use Rattle.std.proofs.Common.{◌≡◌, ℕ, List, sym, ap, subst, ◌∙◌}
+use Rattle.std.specs.Prelude.{Option, Some, None}
 use Rattle.ocpi_text.specs.Text.{key}
 use Rattle.ocpi_types.specs.declared.site.Connector.{Connector}
 use Rattle.ocpi_types.specs.declared.site.Evse.{Evse}
@@ -19,9 +14,8 @@ use Rattle.token_desk.specs.Swipes as desk
 use Rattle.token_desk.specs.declared.answers.Swipe.{Swipe}
 use Rattle.token_desk.specs.declared.answers.Swipe.TheVariants as told
 use Rattle.operator_rows.specs.State.{State, HasClaim}
-use Rattle.operator_rows.specs.Sound.{IsConsistent, IsSound}
+use Rattle.operator_rows.specs.Sound.{IsSound}
 use Rattle.session_tables.specs.declared.beginning.Beginning.{Beginning}
-use Rattle.session_tables.specs.declared.shown.Shown.{Shown}
 use Rattle.session_tables.specs.declared.shown.Shown.TheVariants as shown
 use Rattle.session_tables.specs.Beginnings.{begins}
 use Rattle.session_tables.specs.Places.{IsConnectorAt}

@@ -1,10 +1,8 @@
 -- A charge point carries a start out: its provider is told, and a session begins.
-use Rattle.std.proofs.Common.{◌≡◌, ◌≢◌, ◌≤◌, ◌<◌, ◌+◌, ℕ, List, [], ◌∷◌, ◌++◌, inl, inr, refl, sym, ap, subst, ◌∙◌, arith}
-use Rattle.std.specs.Prelude.{Option, Some, None, Contains, IsTrue}
+use Rattle.std.proofs.Common.{◌≡◌, ℕ, List, ap, ◌∙◌}
 use Rattle.std.specs.FinMap.{get, remove}
 use Rattle.tables.specs.Keys.{text_number_total, text_number_exact}
 use Rattle.tables.proofs.Maps.{of_remove}
-use Rattle.ocpi_text.specs.Text.{key}
 use Rattle.site_book.specs.declared.claim.Claim.{Claim}
 use Rattle.site_book.specs.declared.claim.Claim.TheVariants.{OpenStart, Live, Reserved}
 use Rattle.operator_rows.specs.State.{Rows, HasClaim}
