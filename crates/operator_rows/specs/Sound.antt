@@ -28,7 +28,7 @@ use Rattle.site_book.specs.declared.claim.Claim.TheVariants.{OpenStart, Live, Re
 use Rattle.site_book.specs.Sites.{IsEvse, IsConnectorOf, IsSiteOf}
 use Rattle.command_book.specs.Stored as commands
 use Rattle.ocpi_text.specs.OwnIds.{own_id_text}
-use Rattle.ocpi_text.specs.declared.own_ids.OwnIdKind.TheVariants as own
+use Rattle.ocpi_text.specs.declared.own_ids.OwnIdKind.TheVariants as kind
 use Rattle.session_state.specs.Versions.{HasCost}
 use Rattle.session_book.specs.Stored as charged
 use Rattle.session_book.specs.Numbers.{AreNumbered}
@@ -161,11 +161,11 @@ MayPutToken s t = HasPeer s.providers (key t.party)
 pub record MayPutSession (s : State) (v : Session) : Type 0 where
   pub stands : MayStand s v
   pub alone : IsLive v.status → MayClaim s.rows (key v.evse_uid) (Live (key v.cdr_token.party) (key v.id))
-  pub number : (n : ℕ) → n ≤ max_whole → key (own_id_text own.Session s.party n) ≡ key v.id → n ≤ s.rows.charged.last_session
+  pub number : (n : ℕ) → n ≤ max_whole → key (own_id_text kind.Session s.party n) ≡ key v.id → n ≤ s.rows.charged.last_session
 
 pub record MayPutCdr (s : State) (x : Cdr) : Type 0 where
   pub own : key x.party ≡ key s.party
-  pub number : (n : ℕ) → n ≤ max_whole → key (own_id_text own.Cdr s.party n) ≡ key x.id → n ≤ s.rows.charged.last_cdr
+  pub number : (n : ℕ) → n ≤ max_whole → key (own_id_text kind.Cdr s.party n) ≡ key x.id → n ≤ s.rows.charged.last_cdr
 
 -- a counter that gave no number has no row. A provider alone has the counter of references
 abbrev pub MayPutCount : State → Counter → ℕ → Type 0

@@ -1,4 +1,5 @@
 pub mod Orderly
+pub mod Charging
 pub mod Fitting
 pub mod Sending
 pub mod Planning
@@ -9,9 +10,13 @@ pub mod EndsFit
 pub mod Expiring
 pub mod Resending
 pub mod ServiceSteps
-pub mod ReportSteps
 pub mod DecidedSteps
+pub mod Beginning
+pub mod BegunSteps
+pub mod AnswerSteps
 pub mod PacketSteps
-pub mod TickStages
-pub mod TickSteps
+pub mod ShownSteps
+pub mod MovedSteps
+pub mod AskedSteps
+pub mod StartedSteps
 pub mod TimingOut

@@ -1,5 +1,5 @@
 -- When an operator refuses an event.
-use Rattle.std.specs.Prelude.{ℕ, List, ⊤}
+use Rattle.std.specs.Prelude.{ℕ, ⊤}
 use Rattle.ocpi_types.specs.declared.packet.Packet.{Packet}
 use Rattle.ocpi_types.specs.declared.events.ChargerEvent.{ChargerEvent}
 use Rattle.node_steps.specs.declared.fault.NodeFault.{NodeFault}

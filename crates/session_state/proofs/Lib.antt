@@ -1,1 +1,1 @@
-mod PastLemmas
+pub mod PastLemmas
