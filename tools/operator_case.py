@@ -218,11 +218,11 @@ class Case:
         row = {"evse_uid": uid, "expiry_date": moment(expiry), "location_id": place, "token": token(user, party)}
         self.put("reservation", "%s/%s" % (party.upper(), name), row)
 
-    def opened(self, number, deadline, uid=None, party="NL/TNM"):
+    def opened(self, number, deadline, uid=None, party="NL/TNM", connector="1"):
         kind, body = BODIES[(party, number)]
         row = {"body": body, "deadline": moment(deadline), "kind": kind}
         if uid:
-            row.update(evse_uid=uid, connector_id="1")
+            row.update(evse_uid=uid, connector_id=connector)
         self.put("pending", "%s/%d" % (party.upper(), number), row)
 
     def spent(self, number, party="NL/TNM"):

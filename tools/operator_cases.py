@@ -3,8 +3,9 @@
 Each case is told in short words here and spelled out by `operator_case`, which knows the rules apart from the code: what is
 sent and which rows are put or dropped are written behind each event by hand, and an event behind which nothing stands gives
 nothing.
-The cases of what charge points report, of time and of new starts are in `operator_time_cases`, those of the last numbers and of
-a tick that does much in `operator_limit_cases`.
+The cases of what charge points report, of time and of new starts are in `operator_time_cases`, those of sessions in
+`operator_charge_cases`, those of tokens and authorizations in `operator_token_cases`, those of the last numbers and of a tick that
+does much in `operator_limit_cases` and `operator_charge_limit_cases`.
 """
 from operator_case import (
     CASES,
@@ -22,6 +23,7 @@ from operator_case import (
     token,
     url,
 )
+from operator_charge_cases import add_charge_cases, add_connectors, open_site_of_connectors
 from operator_limit_cases import add_limit_cases
 from operator_time_cases import add_time_cases
 
@@ -33,6 +35,7 @@ WITHOUT_MEMORY = [
     "a connector that was unlocked",
     "commands that time out by provider and number, reservations that expire, and then pushes that are due",
     "a tick for which serials are wanting ends nothing, and one that sends nothing needs none",
+    "a charge from its start to its bill",
 ]
 
 
@@ -256,6 +259,9 @@ def cases():
     reservations()
     others()
     add_time_cases()
+    add_charge_cases()
     add_limit_cases()
+    open_site_of_connectors()
+    add_connectors()
     end()
     return LINES, WANTED
