@@ -26,6 +26,7 @@ from operator_case import (
 from operator_charge_cases import add_charge_cases, add_connectors, open_site_of_connectors
 from operator_limit_cases import add_limit_cases
 from operator_time_cases import add_time_cases
+from operator_token_cases import add_token_cases
 
 # The cases in which each allocation fails once: bench/fail_allocations.sh.
 WITHOUT_MEMORY = [
@@ -36,6 +37,8 @@ WITHOUT_MEMORY = [
     "commands that time out by provider and number, reservations that expire, and then pushes that are due",
     "a tick for which serials are wanting ends nothing, and one that sends nothing needs none",
     "a charge from its start to its bill",
+    "a charge from a token that is shown to its bill",
+    "a token whose provider does not answer in time",
 ]
 
 
@@ -260,6 +263,7 @@ def cases():
     others()
     add_time_cases()
     add_charge_cases()
+    add_token_cases()
     add_limit_cases()
     open_site_of_connectors()
     add_connectors()
