@@ -24,6 +24,7 @@ from operator_case import (
     url,
 )
 from operator_charge_cases import add_charge_cases, add_connectors, open_site_of_connectors
+from operator_charge_limit_cases import add_charge_limit_cases
 from operator_limit_cases import add_limit_cases
 from operator_time_cases import add_time_cases
 from operator_token_cases import add_token_cases
@@ -264,6 +265,7 @@ def cases():
     add_time_cases()
     add_charge_cases()
     add_token_cases()
+    add_charge_limit_cases()
     add_limit_cases()
     open_site_of_connectors()
     add_connectors()
