@@ -1,7 +1,7 @@
 """What the cases of sessions, tokens and authorizations at an operator are told in, beside `operator_case`."""
 from decimal import Decimal
 
-from operator_case import OPERATOR, PROVIDERS, Case, moment, own_id, reference, text, token
+from operator_case import OPERATOR, PROVIDERS, Case, enter, moment, own_id, reference, text, token
 
 LAST_MOMENT = "9999-12-31T23:59:59.999"
 
@@ -72,6 +72,22 @@ class Charging(Case):
     def fault(self, at, evse="E1"):
         self.report("fault", at, evse_uid=evse)
 
+    # What stands, though no step put it.
+
+    def stands(self, kind, key, row):
+        """That row stands from here on."""
+        enter("row %s\t%s\t%s" % (kind, key, text(row)))
+        self.rows[(kind, key)] = text(row)
+
+    def has_session(self, number, request, **members):
+        """A version of a session at E1 stands, with its push as that request."""
+        version = {**self.first_version(number, token(), "E1", "09:00:00", reference(77)), **members}
+        self.sessions[number] = version
+        self.pushed_as[number] = request
+        self.pushes[request] = ("put_session", version, "NL/TNM")
+        self.stands("session", "%s/%s" % (OPERATOR, version["id"].upper()), version)
+        self.stands("push", "%d" % request, {"body": version, "kind": "put_session", "to": "NL/TNM"})
+
     # What the operator sends, and the rows that it puts.
 
     def acknowledged(self, serial, number, status=1000, at="10:00:00", party="NL/TNM"):
@@ -123,18 +139,21 @@ class Charging(Case):
         self.pushed_as[number] = request
         self.pushes_one(serial, request, "put_session", newest, party)
 
+    def first_version(self, number, given, evse, at, ref, how="COMMAND", location="LOC1", connector="1"):
+        """The session of that number as it begins, without its `last_updated`."""
+        version = {
+            **halves(OPERATOR), "auth_method": how, "cdr_token": named(given), "connector_id": connector,
+            "currency": self.currency, "evse_uid": evse, "id": session_id(number), "kwh": Decimal("0.0000"),
+            "location_id": location, "start_date_time": moment(at), "status": "PENDING",
+            "total_cost": {"excl_vat": Decimal("0.0000")},
+        }
+        return version if ref is None else {**version, "authorization_reference": ref}
+
     def began(self, serial, request, number, given=None, evse="E1", at="10:00:05", how="COMMAND", ref=None, location="LOC1",
               connector="1", used=None):
         """The session of that number begins, for that token and with that reference; `used` is the key of the reservation that it
         uses."""
-        given = given or token()
-        self.sessions[number] = {
-            **halves(OPERATOR), "auth_method": how, "cdr_token": named(given), "connector_id": connector,
-            "currency": self.currency, "evse_uid": evse, "id": session_id(number), "kwh": Decimal("0.0000"), "location_id": location,
-            "start_date_time": moment(at), "status": "PENDING", "total_cost": {"excl_vat": Decimal("0.0000")},
-        }
-        if ref is not None:
-            self.sessions[number]["authorization_reference"] = ref
+        self.sessions[number] = self.first_version(number, given or token(), evse, at, ref, how, location, connector)
         if used:
             self.drop("reservation", used)
         self.put("count", "session", {"last": number})

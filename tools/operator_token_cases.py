@@ -4,8 +4,8 @@ asked, what its answer does, and what no answer does.
 A swipe, an answer or a tick beside which nothing is told gives neither a packet nor a row. An answer ends the waiting also where
 nothing begins: then the token may be shown again.
 """
-from operator_case import Case, moment, reference, refused, token, url
-from operator_charge_case import LAST_MOMENT, Charging, halves, session_id
+from operator_case import moment, reference, refused, token, url
+from operator_charge_case import LAST_MOMENT, Charging, halves
 
 ALWAYS, ALLOWED = token(), token("AA05", whitelist="ALLOWED")
 OFFLINE, NEVER = token("AA02", whitelist="ALLOWED_OFFLINE"), token("AA03", whitelist="NEVER")
@@ -244,6 +244,30 @@ def add_answers():
     c.stored()
 
 
+def add_other_answers():
+    c = Charging("a provider is asked as the site spells it, and answers as it spells itself")
+    c.spelled["Lu/Lum"] = "lU/lUM"
+    shown = {**token("LL01", "lu/lum", whitelist="NEVER")}
+    c.new_token(1, 1, shown, party="Lu/Lum")
+    c.swipe("ll01", "e3")
+    c.asked(2, 1, "LL01", "E3", "Lu/Lum", location="LOC2")
+    c.ack(1, party="Lu/Lum")
+    c.tick("10:00:01")
+    c.authorization(1, given={**shown, **halves("LU/LUM")}, party="Lu/Lum")
+    c.began(3, 2, 1, shown, "E3", "10:00:02", "AUTH_REQUEST", location="LOC2")
+    c.stored()
+    c = Charging("of two answers with one reference the first begins a session")
+    asked_about(c)
+    c.swipe("AA03", "E2")
+    c.asked(3, 2, evse="E2")
+    c.authorization(2, ref=5)
+    c.spent(5)
+    c.began(4, 3, 1, NEVER, "E2", "10:00:02", "AUTH_REQUEST", reference(5))
+    c.authorization(1, ref=reference(5).upper())
+    c.tick("10:00:10")
+    c.stored()
+
+
 def add_late_answers():
     c = Charging("an answer is taken at its deadline and later, as long as no tick came")
     asked_about(c)
@@ -447,6 +471,7 @@ def add_token_cases():
     add_shown_tokens()
     add_reserved_places()
     add_answers()
+    add_other_answers()
     add_late_answers()
     add_taken_places()
     add_deadlines()
