@@ -630,6 +630,67 @@ def add_pushes():
     case("outbox unacked", f"{LAST_NUMBER} NL/TNM .")
 
 
+def sent(command, answer=None, outcome=None):
+    return {**command, "answer": answer, "result": outcome, "to": "BE/BEC"}
+
+
+def waits(*numbers):
+    for counted in range(1, 5):
+        case(f"outbox waits number={counted}", "yes" if counted in numbers else "no")
+
+
+def add_sent_commands():
+    """A command that was sent stays, and waits until its answer or its result comes. Its number is no push's."""
+    fresh()
+    one, two, token_push = sent(stop()), sent(stop("S2")), push("BE/BEC", "put_token", token())
+    with_row("outbox send", "command", "9", one, "1")
+    with_row("outbox send", "command", "9", two, "2")
+    with_row("outbox push", "push", "9", token_push, "3")
+    case("outbox unacked", "3 BE/BEC .")
+    case("outbox command number=2", text(two))
+    case("outbox command number=3", "none")
+    case("outbox get number=2", "none")
+    waits(1, 2, 3)
+    case("outbox due at=1970-01-01T00:00:00Z", "3 1 2 3")
+    case(f"outbox sent number=1 at={moment(0)}", "done")
+    case(f"outbox due at={moment(0, 9999)}", "2 2 3")
+    case(f"outbox due at={moment(0, 10000)}", "3 1 2 3")
+    case("outbox ack party=BE/BEC number=1", "done")
+    waits(1, 2, 3)
+    case("outbox drop number=1", "may not")
+    push_row(1, token_push, "may not")
+    with_row("outbox row", "command", "3", one, "may not")
+    with_row("outbox row", "command", "4", one, "may not")
+    counter(2, "may not")
+    case("outbox settle number=1 as=ACCEPTED", "done")
+    waits(2, 3)
+    case(f"outbox due at={moment(0, 10000)}", "2 2 3")
+    case("outbox command number=1", text(sent(stop(), outcome="ACCEPTED")))
+    case("outbox settle number=3 as=FAILED", "done")
+    case(f"outbox refuse number=4 at={moment(3)}", "done")
+    waits(2, 3)
+    with_row("outbox row", "command", "2", sent(stop("S2"), reply("command_response")["body"]), "done")
+    waits(3)
+    with_row("outbox row", "command", "2", two, "done")
+    waits(2, 3)
+    case(f"outbox sent number=2 at={moment(1)}", "done")
+    case(f"outbox refuse number=2 at={moment(3)}", "done")
+    waits(3)
+    case("outbox restart", "done")
+    case("outbox due at=9999-12-31T23:59:59.999Z", "1 3")
+    refused = {"status_code": whole(2001), "timestamp": moment(3)}
+    has_rows(
+        "outbox", ("count", "request", {"last": whole(3)}), ("push", "3", token_push),
+        ("command", "1", sent(stop(), outcome="ACCEPTED")), ("command", "2", sent(stop("S2"), refused)),
+    )
+    waits(3)
+    fresh()
+    counter(LAST_NUMBER - 1)
+    with_row("outbox send", "command", "9", one, str(LAST_NUMBER))
+    with_row("outbox send", "command", "9", two, "2 NumbersUsedUp")
+    case(f"outbox waits number={LAST_NUMBER}", "yes")
+
+
 # Lines that are no calls
 
 
@@ -658,7 +719,8 @@ def cases():
     for add in (
         add_lives_and_sites, add_reservations,
         add_expiries, add_uses, add_reservation_rows, add_tokens, add_swipes, add_authorizations, add_own_tokens, add_commands,
-        add_due, add_replies, add_versions, add_cdrs, add_settlements, add_outbox, add_inbox_rows, add_pushes, add_other_lines,
+        add_due, add_replies, add_versions, add_cdrs, add_settlements, add_outbox, add_inbox_rows, add_pushes,
+        add_sent_commands, add_other_lines,
     ):
         add()
     add_drawn(case)

@@ -3,8 +3,10 @@
 Each case is told in short words here and spelled out by `operator_case`, which knows the rules apart from the code: what is
 sent and which rows are put or dropped are written behind each event by hand, and an event behind which nothing stands gives
 nothing.
-The cases of what charge points report, of time and of new starts are in `operator_time_cases`, those of the last numbers and of
-a tick that does much in `operator_limit_cases`.
+The cases of what charge points report, of time and of new starts are in `operator_time_cases`, those of sessions in
+`operator_charge_cases` and `operator_session_cases`, those of tokens and authorizations in `operator_token_cases` and
+`operator_deadline_cases`, those of the last numbers and of a tick that does much in `operator_limit_cases` and
+`operator_charge_limit_cases`.
 """
 from operator_case import (
     CASES,
@@ -22,8 +24,13 @@ from operator_case import (
     token,
     url,
 )
+from operator_charge_cases import add_charge_cases
+from operator_charge_limit_cases import add_charge_limit_cases
+from operator_deadline_cases import add_deadline_cases
 from operator_limit_cases import add_limit_cases
+from operator_session_cases import add_connectors, add_session_cases, open_site_of_connectors
 from operator_time_cases import add_time_cases
+from operator_token_cases import add_token_cases
 
 # The cases in which each allocation fails once: bench/fail_allocations.sh.
 WITHOUT_MEMORY = [
@@ -33,6 +40,9 @@ WITHOUT_MEMORY = [
     "a connector that was unlocked",
     "commands that time out by provider and number, reservations that expire, and then pushes that are due",
     "a tick for which serials are wanting ends nothing, and one that sends nothing needs none",
+    "a charge from its start to its bill",
+    "a charge from a token that is shown to its bill",
+    "a token whose provider does not answer in time",
 ]
 
 
@@ -70,6 +80,8 @@ def starts():
     c.answered(8, 5, "REJECTED")
     c.start(6, evse="E2", valid=False)
     c.answered(9, 6, "REJECTED")
+    c.command("10:00:00", "start_session", 10, token=token(), location_id="LOC7", connector_id="1")
+    c.answered(10, 10, 2001)
     c.hear("10:00:00", "start_session", {"response_url": url(1), "token": token(), "location_id": "LOC1"}, 1, to="FR/FRC")
     refused("1 NotForMe")
     c.hear("10:00:00", "start_session", {"response_url": url(1), "token": token(), "location_id": "LOC1"}, 1, party="AT/XXX")
@@ -193,6 +205,18 @@ def reservations():
     c.answered(4, 4, "REJECTED")
     c.reserve(5, "R1", "E1", "10:00:00")
     c.answered(5, 5, "REJECTED")
+    for uid in ["E1", "E2"]:
+        c.service(uid, False)
+        c.put("service", uid, {})
+    c.reserve(6, "R1", None, "11:00:00")
+    c.resulted(6, 1, 6, "EVSE_INOPERATIVE", [lambda: c.marked("R1", 6)])
+    c.service("E2", True)
+    c.drop("service", "E2")
+    c.reservation(8, 2, 7, "R1", "E2", "11:00:00")
+    c.service("E2", False)
+    c.put("service", "E2", {})
+    c.reserve(8, "R1", None, "12:00:00")
+    c.resulted(10, 3, 8, "EVSE_INOPERATIVE", [lambda: c.marked("R1", 8)])
     c.stored()
 
 
@@ -218,6 +242,19 @@ def others():
     c.answered(6, 4, "REJECTED")
     c.unlock(5, connector="2")
     c.answered(7, 5, "REJECTED")
+    c.stored()
+    c = Case("an unlock at an EVSE that is reserved, or out of service")
+    c.reservation(1, 1, 1, "R1", "E1", "11:00:00")
+    c.service("E1", False)
+    c.put("service", "E1", {})
+    c.unlock(1, party="DE/EMP")
+    c.answered(3, 1, "REJECTED", party="DE/EMP")
+    c.unlock(2)
+    c.unlocking(4, 2)
+    c.service("E2", False)
+    c.put("service", "E2", {})
+    c.unlock(2, party="DE/EMP", evse="E2")
+    c.unlocking(5, 2, party="DE/EMP")
     c.stored()
     c = Case("a session that is not known")
     c.stop(2, "S1")
@@ -256,6 +293,13 @@ def cases():
     reservations()
     others()
     add_time_cases()
+    add_charge_cases()
+    add_session_cases()
+    add_token_cases()
+    add_deadline_cases()
+    add_charge_limit_cases()
     add_limit_cases()
+    open_site_of_connectors()
+    add_connectors()
     end()
     return LINES, WANTED
