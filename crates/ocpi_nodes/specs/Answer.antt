@@ -23,6 +23,10 @@ pub record Answering : Type 0 where
   pub at : ℕ
   pub operator : State
 
+-- what a site line makes: its operator, and its moment
+abbrev pub made_by : SiteLine → Answering
+made_by site = record { at = site.at; operator = opening site }
+
 -- the line of a refusal: its number and its name
 abbrev pub refusal_line : List ℕ → List ℕ
 refusal_line fault = codes "refused " ++ fault ++ 10 ∷ []
@@ -33,16 +37,20 @@ packet_lines packets = flat_map (λ p. packet_text p ++ 10 ∷ []) packets
 
 -- The first line makes the operator. Where it is no site line, that is all.
 pub data SiteTurn (line : List ℕ) (turn : Turn) (out : List ℕ) (next : Option Answering) : Type 0 where
-  Opened : (site : SiteLine) → site_in line ≡ Ok site → turn ≡ Taken → out ≡ [] → next ≡ Some (record { at = site.at; operator = opening site }) → SiteTurn line turn out next
-  NoSite : (fault : JsonFault) → Fails fault (site_in line) → turn ≡ Ended → out ≡ refusal_line (json_fault_text fault) → next ≡ None → SiteTurn line turn out next
+  Opened : (site : SiteLine) → site_in line ≡ Ok site → turn ≡ Taken → out ≡ [] → next ≡ Some (made_by site)
+      → SiteTurn line turn out next
+  NoSite : (fault : JsonFault) → Fails fault (site_in line) → turn ≡ Ended → out ≡ refusal_line (json_fault_text fault)
+      → next ≡ None → SiteTurn line turn out next
 
 -- Each other line is a packet that comes to the operator at the site line's moment. A refused one changes nothing.
 pub data PacketTurn (now : Answering) (line : List ℕ) (turn : Turn) (out : List ℕ) (next : Option Answering) : Type 0 where
   Answered : (packet : Packet) → packet_in line ≡ Ok packet → (step : Out) → OperatorStep now.operator now.at packet step
-      → turn ≡ Taken → out ≡ packet_lines step.packets → next ≡ Some (record { at = now.at; operator = step.state }) → PacketTurn now line turn out next
+      → turn ≡ Taken → out ≡ packet_lines step.packets → next ≡ Some (record { at = now.at; operator = step.state })
+      → PacketTurn now line turn out next
   Unanswered : (packet : Packet) → packet_in line ≡ Ok packet → (fault : NodeFault) → IsDue now.operator now.at packet fault
       → turn ≡ Refused → out ≡ refusal_line (node_fault_text fault) → next ≡ Some now → PacketTurn now line turn out next
-  Unread : (fault : JsonFault) → Fails fault (packet_in line) → turn ≡ Refused → out ≡ refusal_line (json_fault_text fault) → next ≡ Some now → PacketTurn now line turn out next
+  Unread : (fault : JsonFault) → Fails fault (packet_in line)
+      → turn ≡ Refused → out ≡ refusal_line (json_fault_text fault) → next ≡ Some now → PacketTurn now line turn out next
 
 -- one line, with no operator before the first
 abbrev pub LineGives : Option Answering → List ℕ → Turn → List ℕ → Option Answering → Type 0

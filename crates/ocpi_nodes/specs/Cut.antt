@@ -19,7 +19,8 @@ use Rattle.ocpi_nodes.specs.Answer.{Answering, LineGives, Opened, NoSite, Answer
 -- a text of a line that is too long
 too_long : (line : List ℕ) → max_line < length line → text_of line ≡ Err Syntax
 unfolding text_of
-too_long line long = ap (λ b. cond b (Err Syntax) (cond (is_utf8 line) (Ok line) (Err Syntax))) (lt-ltb max_line (length line) long)
+too_long line long =
+    ap (λ b. cond b (Err Syntax) (cond (is_utf8 line) (Ok line) (Err Syntax))) (lt-ltb max_line (length line) long)
 
 -- a front of a line is read as the line is
 tree-cut : (line : List ℕ) → tree_at (take KEPT_BYTES line) ≡ tree_at line
@@ -40,9 +41,14 @@ site-cut : (line : List ℕ) → site_in (take KEPT_BYTES line) ≡ site_in line
 unfolding site_in
 site-cut line = ap (λ t. t >>= site_of_line) (tree-cut line)
 
-pub cut_alike : (s t : Option Answering) (line : List ℕ) (turn : Turn) (out : List ℕ) → LineGives s (take KEPT_BYTES line) turn out t → LineGives s line turn out t
+pub cut_alike : (s t : Option Answering) (line : List ℕ) (turn : Turn) (out : List ℕ)
+    → LineGives s (take KEPT_BYTES line) turn out t → LineGives s line turn out t
 cut_alike None t line turn out (Opened site read taken none next) = Opened site (sym (site-cut line) ∙ read) taken none next
-cut_alike None t line turn out (NoSite fault fails ended refused next) = NoSite fault (subst (Fails fault) (site-cut line) fails) ended refused next
-cut_alike (Some now) t line turn out (Answered packet read step is taken lines next) = Answered packet (sym (packet-cut line) ∙ read) step is taken lines next
-cut_alike (Some now) t line turn out (Unanswered packet read fault due refused written next) = Unanswered packet (sym (packet-cut line) ∙ read) fault due refused written next
-cut_alike (Some now) t line turn out (Unread fault fails refused written next) = Unread fault (subst (Fails fault) (packet-cut line) fails) refused written next
+cut_alike None t line turn out (NoSite fault fails ended refused next) =
+    NoSite fault (subst (Fails fault) (site-cut line) fails) ended refused next
+cut_alike (Some now) t line turn out (Answered packet read step is taken lines next) =
+    Answered packet (sym (packet-cut line) ∙ read) step is taken lines next
+cut_alike (Some now) t line turn out (Unanswered packet read fault due refused written next) =
+    Unanswered packet (sym (packet-cut line) ∙ read) fault due refused written next
+cut_alike (Some now) t line turn out (Unread fault fails refused written next) =
+    Unread fault (subst (Fails fault) (packet-cut line) fails) refused written next

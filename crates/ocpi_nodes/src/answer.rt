@@ -1,12 +1,12 @@
 //! The program `answer`: one operator, which the first line makes and each other line sends a packet.
 
-ghost use Rattle.std.specs.Prelude.{◌≡◌, ◌≢◌, ◌++◌, ◌∷◌, ℕ, List, [], Option, None, Some, Ok, Err, true, IfOk, IfErr, IfSome, OnErr, OnOk, codes, string_bytes};
+ghost use Rattle.std.specs.Prelude.{◌≡◌, ◌≢◌, ◌++◌, ◌∷◌, ℕ, List, [], Option, None, Some, Ok, Err, true};
+ghost use Rattle.std.specs.Prelude.{IfOk, IfErr, IfSome, OnErr, OnOk, codes, string_bytes};
 ghost use Rattle.json_text.specs.Fault.{Fails};
 ghost use Rattle.ocpi_json.specs.Packets.{packet_in};
 ghost use Rattle.ocpi_json.specs.SiteLines.{site_in};
 ghost use Rattle.ocpi_types.specs.declared.site.SiteLine.{SiteLine as SiteLineOf};
-ghost use Rattle.operator_rows.specs.State.{opening};
-ghost use Rattle.ocpi_nodes.specs.Answer.{EndGives, LineGives, PacketTurn, SiteTurn, packet_lines, refusal_line};
+ghost use Rattle.ocpi_nodes.specs.Answer.{EndGives, LineGives, PacketTurn, SiteTurn, made_by, packet_lines, refusal_line};
 ghost use Rattle.line_runs.specs.Run.{Begins, Outputs, ReadsFewLines, StopsReading};
 
 use line_runs::{AnswerLines, LineReader, Ran, RunFault, Turn, run_whole};
@@ -21,10 +21,16 @@ use std::io::{BufRead, Write};
 use std::marker::Model;
 
 /// The operator, and the moment at which each packet comes.
-#[derive(Drop)]
 pub struct Running {
     at: Moment,
     operator: Operator,
+}
+
+/// What a derive would do, in a function of its own: so it is proved once, and not in each function that drops an operator.
+impl Drop for Running {
+    fn drop(self) {
+        let Running { at: _, operator: _ } = self;
+    }
 }
 
 impl Model for Running {
@@ -126,7 +132,7 @@ impl AnswerLines for Program {
 
 /// The operator of a site line, at the moment of that line.
 fn open(alloc: Global, scratch: &mut Scratch, line: &[u8]) -> Result<Running, JsonFault>
-    ensures ok { IfOk result (λ r. (site : SiteLineOf) × (site_in line.now ≡ Ok site) × (r ≡ record { at = site.at; operator = opening site })) }
+    ensures ok { IfOk result (λ r. (site : SiteLineOf) × (site_in line.now ≡ Ok site) × (r ≡ made_by site)) }
     ensures err { IfErr result (λ fault. Fails fault (site_in line.now)) }
 {
     let site = read_site(alloc, scratch, line)?;
@@ -225,17 +231,21 @@ fn refuse<F: Display + Drop>(output: &mut String, fault: F) -> Result<(), AllocE
 /// other a packet at its moment; each packet that the operator sends is one line. A line that is refused is written as
 /// `refused`, its number and its name, changes nothing, and the next follows; a refused or absent site line ends the run.
 ///
-/// Where the run was not stopped, what is written is the output of the input. Where it was stopped, what is written is a beginning of
-/// that: by a failed read or too many reads, what exactly the lines that were read whole give. At most 1,000,000,000 lines are read.
+/// Where the run was not stopped, what is written is the output of the input. Where it was stopped, what is written is a
+/// beginning of that: by a failed read or too many reads, what exactly the lines that were read whole give. At most
+/// 1,000,000,000 lines are read.
 /// What was answered is flushed before each read that may wait, and at the end.
 pub fn run_answer<R: BufRead, W: Write>(
     alloc: Global,
     input: &mut LineReader<R>,
     writer: &mut W,
 ) -> Result<Ran, RunFault>
-    ensures output { IfOk result (λ ran. Outputs LineGives EndGives None (R.Read.remaining input.old.reader) ran (W.contents writer.old) (W.contents writer.new)) }
-    ensures begun { IfErr result (λ fault. Begins LineGives EndGives None (R.Read.remaining input.old.reader) (W.contents writer.old) (W.contents writer.new)) }
-    ensures stopped { IfErr result (λ fault. fault ≢ RunFault.WriteFailed → StopsReading LineGives None fault (R.Read.remaining input.old.reader) (R.Read.remaining input.new.reader)
+    ensures output { IfOk result (λ ran. Outputs LineGives EndGives None (R.Read.remaining input.old.reader) ran
+        (W.contents writer.old) (W.contents writer.new)) }
+    ensures begun { IfErr result (λ fault. Begins LineGives EndGives None (R.Read.remaining input.old.reader)
+        (W.contents writer.old) (W.contents writer.new)) }
+    ensures stopped { IfErr result (λ fault. fault ≢ RunFault.WriteFailed → StopsReading LineGives None fault
+        (R.Read.remaining input.old.reader) (R.Read.remaining input.new.reader)
         (W.contents writer.old) (W.contents writer.new)) }
     ensures failed { result ≡ Err RunFault.ReadFailed → input.new.failed ≡ true }
     ensures reads { ReadsFewLines (R.Read.remaining input.old.reader) (R.Read.remaining input.new.reader) }

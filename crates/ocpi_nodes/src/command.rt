@@ -27,7 +27,8 @@ Exit status:
   1  a line was refused, or reading or writing failed, which standard error says
   2  the command line is wrong"#;
 
-/// Takes the command line `ocpi_nodes [answer]`, or gives clap's text: the help or the version that was asked for, or what is wrong.
+/// Takes the command line `ocpi_nodes [answer]`, or gives clap's text: the help or the version that was asked for, or what is
+/// wrong.
 pub fn take_words(alloc: Global, words: &[String]) -> Result<(), Error> {
     let answer = Command::new(alloc, "answer")
         .about("Answer the packets of standard input as one operator, as with no command")
@@ -42,12 +43,14 @@ pub fn take_words(alloc: Global, words: &[String]) -> Result<(), Error> {
     Ok(())
 }
 
-/// The exit status after clap's text: 2 where the command line is wrong, whether or not that could be printed; else 0 where the help or
-/// the version was printed, and 1 where it was not.
+/// The exit status after clap's text: 2 where the command line is wrong, whether or not that could be printed; else 0 where the
+/// help or the version was printed, and 1 where it was not.
 pub fn status_after(text: &Error, is_printed: bool) -> u8
     ensures wrong { kind_of text.now ≢ ErrorKind.DisplayHelp → kind_of text.now ≢ ErrorKind.DisplayVersion → result ≡ 2 }
-    ensures printed { (kind_of text.now ≡ ErrorKind.DisplayHelp) ⊎ (kind_of text.now ≡ ErrorKind.DisplayVersion) → is_printed ≡ true → result ≡ 0 }
-    ensures unprinted { (kind_of text.now ≡ ErrorKind.DisplayHelp) ⊎ (kind_of text.now ≡ ErrorKind.DisplayVersion) → is_printed ≡ false → result ≡ 1 }
+    ensures printed { (kind_of text.now ≡ ErrorKind.DisplayHelp) ⊎ (kind_of text.now ≡ ErrorKind.DisplayVersion)
+        → is_printed ≡ true → result ≡ 0 }
+    ensures unprinted { (kind_of text.now ≡ ErrorKind.DisplayHelp) ⊎ (kind_of text.now ≡ ErrorKind.DisplayVersion)
+        → is_printed ≡ false → result ≡ 1 }
 {
     if text.use_stderr() {
         return WRONG_WORDS;

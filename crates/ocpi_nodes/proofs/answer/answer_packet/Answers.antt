@@ -10,4 +10,5 @@ returns-in_ok-refuse-in-Err c =
     (refusal_line (fault_text fault), c.in_ok-refuse-in-Err.ensures, Unread fault c.in-Err.ensures.exact refl refl refl)
 
 pub returns-in-Ok : goal.returns-in-Ok
-returns-in-Ok c = IfOk-weaker c.answer_read.result _ _ (λ turn r. (r.0, r.1, r.2 c.args.line.now c.in-Ok.ensures.exact)) c.answer_read.ensures
+returns-in-Ok c =
+    IfOk-weaker c.answer_read.result _ _ (λ turn r. (r.0, r.1, r.2 c.args.line.now c.in-Ok.ensures.exact)) c.answer_read.ensures

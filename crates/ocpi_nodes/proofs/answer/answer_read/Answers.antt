@@ -8,10 +8,11 @@ pub returns-in_ok-write_packets-in-Ok : goal.returns-in_ok-write_packets-in-Ok
 returns-in_ok-write_packets-in-Ok c =
     let sent = c.in-Ok.stepped in
     let next = c.on_packet.new.self in
-    let before = string_bytes c.args.output.now in (
+    let before = string_bytes c.args.output.now in
+    let next_is = ap (λ at. Some (record { at = at; operator = next.operator })) c.on_packet.ensures.at in (
       packet_lines sent.packets.items,
       c.in_ok-write_packets-in-Ok.ensures ∙ ap (λ packets. before ++ packet_lines packets) c.as_slice.ensures.value,
-      λ line is. Answered c.args.packet.now is (out_of next.operator sent) c.in-Ok.ensures.step refl refl (ap (λ at. Some (record { at = at; operator = next.operator })) c.on_packet.ensures.at),
+      λ line is. Answered c.args.packet.now is (out_of next.operator sent) c.in-Ok.ensures.step refl refl next_is,
     )
 
 pub returns-in_ok-refuse-in-Err : goal.returns-in_ok-refuse-in-Err
