@@ -8,6 +8,7 @@ use Rattle.tables.proofs.Elements.{in_none, in_front}
 use Rattle.tables.proofs.Options.{none_some, not_both}
 use Rattle.authorization_book.specs.Waits.{OneEach, Waits}
 use Rattle.authorization_book.specs.declared.awaited.Awaited.{Awaited}
+use Rattle.authorization_book.specs.declared.waiting.Waiting.{Waiting}
 use Rattle.ocpi_text.specs.Party.{party_at}
 use Rattle.authorization_book.proofs.Changes.{one_each_stays, waits_change}
 use Rattle.ocpi_types.specs.declared.rows.Change.{Change}
@@ -24,8 +25,8 @@ use Rattle.node_steps.specs.declared.plan.Volatile.TheVariants.{Sent}
 use Rattle.operator_rows.specs.State.{State, as_outbox, opening}
 use Rattle.operator_rows.specs.Stored.{change_key, changed_all}
 use Rattle.operator_rows.specs.Sound.{IsConsistent, IsSound}
-use Rattle.operator_rows.specs.Steps.{FullStep, MayFollow, MayFollowFull, after, after_full, restarted, number_of, untimed, untimed_all, timed, timed_all}
-use Rattle.operator_rows.proofs.KeepingSound.{follow_sound, may_beside, opening_sound, sound_beside}
+use Rattle.operator_rows.specs.Steps.{AreAwaitable, FullStep, MayFollow, MayFollowFull, after, after_full, restarted, number_of, untimed, untimed_all, timed, timed_all}
+use Rattle.operator_rows.proofs.KeepingSound.{follow_sound, opening_sound, sound_beside}
 use Rattle.operator_rows.proofs.KeepingCharged.{awaits_still}
 use Rattle.operator_rows.proofs.RowChanges.{row_changes, of_cons, in_later}
 
@@ -76,15 +77,9 @@ follow_resent s x may h n has = elim (timed_or x.volatile (untimed_all x.changes
   | inr had ↦ (let was = untimed_has x.changes s.resend n had in inl (still_pushed s x h.sound may n (push_waits s h n was.1) was.0))
 ]
 
--- what is awaited is none of what a step wants
-pub follow_beside : (s : State) (w : Waits) (x : Step) → MayFollow s x → MayFollow (record s { waits = w }) x
-follow_beside s w x may = record {
-  apart = may.apart;
-  may = may_beside x.changes s s.resend w may.may;
-  sends = record { stands = may.sends.stands; apart = may.sends.apart; kept = may.sends.kept };
-  sessions = may.sessions;
-  cdrs = may.cdrs;
-}
+-- what may be awaited before a step may be after it
+pub awaitable_after : (s : State) (x : Step) (ws : List Waiting) → AreAwaitable s ws → AreAwaitable (after x s) ws
+awaitable_after s x ws h n a i = awaits_still s (after x s).rows (after x s).resend s.waits a (h n a i)
 
 -- a step with what it awaits
 pub follow_full_consistent : (s : State) (x : FullStep) → MayFollowFull s x → IsConsistent s → IsConsistent (after_full x s)

@@ -89,6 +89,7 @@ impl Books {
             packets,
             volatile,
         } = plan;
+        self.consistency();
         self.change_all(changes);
         send_all(&mut self.outbox, volatile.as_slice());
         packets

@@ -13,3 +13,12 @@ pub invariant_of-self-in-Request : goal.invariant_of-self-in-Request
 invariant_of-self-in-Request c =
     let i = c.self.inside in
     kept_put_request i.site.claims i.parties i.serial i.commands.rows (shown_of text_pair_cmp i.spent) i.booked.rows i.site i.desk.rows.tokens i.charged.rows i.waits.waits i.desk.rows.references i.outbox c.put_row.new.self c.self.invariant c.args.last (rw (c.in-Request.is, ← c.self.view_is) at c.requires.may) (rw c.in-Request.is at c.put_row.ensures.rows)
+
+pub invariant_of-self-in-Session : goal.invariant_of-self-in-Session
+invariant_of-self-in-Session c =
+    rw (rw c.in-Session.is at c.put_row-in-Session.ensures.rows)
+    (kept_put _ _ _ _ c.self.invariant (row.Count counter.Session c.args.last) (rw (c.in-Session.is, ← c.self.view_is) at c.requires.may) refl refl refl)
+
+pub invariant_of-self-in-Cdr : goal.invariant_of-self-in-Cdr
+invariant_of-self-in-Cdr c =
+    rw (rw c.in-Cdr.is at c.put_row-in-Cdr.ensures.rows) (kept_put _ _ _ _ c.self.invariant (row.Count counter.Cdr c.args.last) (rw (c.in-Cdr.is, ← c.self.view_is) at c.requires.may) refl refl refl)
