@@ -16,9 +16,8 @@ invariant_of-self-in-Request c =
 
 pub invariant_of-self-in-Session : goal.invariant_of-self-in-Session
 invariant_of-self-in-Session c =
-    rw (rw c.in-Session.is at c.put_row-in-Session.ensures.rows)
-    (kept_put _ _ _ _ c.self.invariant (row.Count counter.Session c.args.last) (rw (c.in-Session.is, ← c.self.view_is) at c.requires.may) refl refl refl)
+    rw c.put_row-in-Session.ensures.rows (rw c.in-Session.is (kept_put _ _ _ _ c.self.invariant (row.Count counter.Session c.args.last) (rw (c.in-Session.is, ← c.self.view_is) at c.requires.may) refl refl refl))
 
 pub invariant_of-self-in-Cdr : goal.invariant_of-self-in-Cdr
 invariant_of-self-in-Cdr c =
-    rw (rw c.in-Cdr.is at c.put_row-in-Cdr.ensures.rows) (kept_put _ _ _ _ c.self.invariant (row.Count counter.Cdr c.args.last) (rw (c.in-Cdr.is, ← c.self.view_is) at c.requires.may) refl refl refl)
+    rw c.put_row-in-Cdr.ensures.rows (rw c.in-Cdr.is (kept_put _ _ _ _ c.self.invariant (row.Count counter.Cdr c.args.last) (rw (c.in-Cdr.is, ← c.self.view_is) at c.requires.may) refl refl refl))
