@@ -1,6 +1,6 @@
 //! What follows for each step of an operator, whatever it is asked to do.
 
-ghost use Rattle.operator_steps.specs.Facts.{PacketsMayFollow, ServiceMayFollow};
+ghost use Rattle.operator_steps.specs.Facts.{PacketsMayFollow, ServiceMayFollow, TicksMayFollow};
 
 /// What a packet asks for may be carried out, where what holds at all times holds.
 pub fn packets_may_follow()
@@ -10,4 +10,9 @@ pub fn packets_may_follow()
 /// What an EVSE asks for that goes out of service or comes back may be carried out, where what holds at all times holds.
 pub fn service_may_follow()
     ensures { ServiceMayFollow }
+{}
+
+/// What a moment asks for may be carried out, where what holds at all times holds.
+pub fn ticks_may_follow()
+    ensures { TicksMayFollow }
 {}
