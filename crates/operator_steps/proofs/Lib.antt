@@ -20,3 +20,7 @@ pub mod MovedSteps
 pub mod AskedSteps
 pub mod StartedSteps
 pub mod TimingOut
+pub mod Freeing
+pub mod LeftUnanswered
+pub mod BegunChanges
+pub mod TickStages
