@@ -22,3 +22,7 @@ pub mod AskedSteps
 pub mod StartedSteps
 pub mod ReportSteps
 pub mod TimingOut
+pub mod Freeing
+pub mod LeftUnanswered
+pub mod BegunChanges
+pub mod TickStages
