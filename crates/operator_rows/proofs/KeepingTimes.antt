@@ -6,7 +6,7 @@ use Rattle.std.specs.Cmp.{nat_cmp_total}
 use Rattle.std.specs.FinMap.{nat_cmp-IsAntisymmetric, get, contains_key, empty, get-empty}
 use Rattle.tables.proofs.Elements.{in_none, in_front}
 use Rattle.tables.proofs.Options.{none_some, not_both}
-use Rattle.authorization_book.specs.Waits.{OneEach, Waits}
+use Rattle.authorization_book.specs.Waits.{OneEach}
 use Rattle.authorization_book.specs.declared.awaited.Awaited.{Awaited}
 use Rattle.authorization_book.specs.declared.waiting.Waiting.{Waiting}
 use Rattle.ocpi_text.specs.Party.{party_at}

@@ -1,9 +1,4 @@
-use Rattle.std.proofs.Common.{subst, sym, ap, ◌∙◌}
 use Rattle.node_steps.specs.Drafts.{step_of}
-use Rattle.authorization_book.specs.Waits.{HaveRoomForAll, MayWait, waited_all}
-use Rattle.operator_rows.specs.State.{State}
-use Rattle.operator_rows.specs.Kept.{AreAsked}
-use Rattle.operator_rows.specs.Steps.{AreAwaitable, after}
 use Rattle.operator_rows.proofs.KeepingTimes.{awaitable_after}
 use Rattle.operator_rows.proofs.books.Books.apply_full.Goals as goal
 
