@@ -9,5 +9,5 @@ pub returns-then-can_meter : goal.returns-then-can_meter
 returns-then-can_meter c =
     let x = c.in-Some-Active.session in
     goes_active c.args.books.now.state.site c.args.books.now.state.rows c.args.at (event.Meter c.args.evse_uid.now c.args.kwh) (key c.args.evse_uid.now) refl x
-    (rw c.key.ensures at c.in-Some-Active.ensures.found) (metered c.args.at c.args.kwh x.price x.version)
-    (λ active priced. (active, c.if-can_meter.ensures.0 c.if-can_meter.true, ap (λ (p : ℤ). metered c.args.at c.args.kwh p x.version) priced)) c.read.result c.read.ensures
+    (rw (c.key.ensures, c.in-Some-Active.field-0-is) at c.in-Some-Active.ensures.found) (metered c.args.at c.args.kwh x.price x.version)
+    (λ active priced. (active, c.can_meter.ensures.0 c.if-can_meter.true, ap (λ (p : ℤ). metered c.args.at c.args.kwh p x.version) priced)) c.read.result c.read.ensures
