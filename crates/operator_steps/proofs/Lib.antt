@@ -24,3 +24,6 @@ pub mod Freeing
 pub mod LeftUnanswered
 pub mod BegunChanges
 pub mod TickStages
+pub mod LateSteps
+pub mod LateFit
+pub mod TickSteps
