@@ -170,7 +170,7 @@ module _ (s : State) (fine : IsConsistent s) where
         (first_next s (n + 1) b at (omega (arith, within, range)) fine.own fine.sound.numbered (omega (arith, given))))
 
   -- sessions that begin touch no push of a number that was given by then but not before the moment
-  late_leaves : (at last n : ℕ) (ks : List ℕ) (now : ℕ) (c : Change) (q : ℕ) → IsOfLate s at last n ks now c → s.rows.request < q → q ≤ last → change_key c ≢ keys.Push q
+  pub late_leaves : (at last n : ℕ) (ks : List ℕ) (now : ℕ) (c : Change) (q : ℕ) → IsOfLate s at last n ks now c → s.rows.request < q → q ≤ last → change_key c ≢ keys.Push q
   late_leaves at last n ks now c q (UsesAny j i w stands p id x has here lasts change) new given same = let never : keys.Reservation p id ≡ keys.Push q = sym (ap change_key change) ∙ same in absurd (cc)
   late_leaves at last n ks now c q (ReplacesAny m above within l about change) new given same =
       let equal : keys.Push l ≡ keys.Push q = sym (ap change_key change) ∙ same in

@@ -26,4 +26,5 @@ pub mod BegunChanges
 pub mod TickStages
 pub mod LateSteps
 pub mod LateFit
+pub mod TickParts
 pub mod TickSteps
