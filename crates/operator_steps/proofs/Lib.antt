@@ -17,8 +17,10 @@ pub mod AnswerSteps
 pub mod PacketSteps
 pub mod ShownSteps
 pub mod MovedSteps
+pub mod BilledSteps
 pub mod AskedSteps
 pub mod StartedSteps
+pub mod ReportSteps
 pub mod TimingOut
 pub mod Freeing
 pub mod LeftUnanswered
