@@ -109,23 +109,31 @@ late_asks s at last n ks acts now (Begins_session l m k more b begun rest end on
     let first = ap all_requests (begun_is s at l (m + 1) b begun is) ∙ begun_ask at l is.versioned.to (key b.token.party) b.reservation_id is.versioned.old (first_of s at (m + 1) b) in
     omega (arith, below, all, first)
 
--- the reservation that a session uses is on the EVSE where the driver waits
+-- the reservation that a session uses is on the EVSE where the driver waits, and does not end by the moment
+pub record IsUsedThere (s : State) (at : ℕ) (w : Awaited) (p id : List ℕ) : Type 0 where
+  pub reservation : Reservation
+  pub stands : get s.rows.booked.reservations (p, id) ≡ Some reservation
+  pub here : key reservation.evse_uid ≡ evse_of w
+  pub lasts : ¬ EndsBy s.rows at (Reserved p id)
+
+taken_there : (s : State) (at : ℕ) (w : Awaited) (p id : List ℕ) (u : Option (List ℕ)) → MayTakeAt s.rows at w.token (evse_of w) u → u ≡ Some id → p ≡ key w.token.party → IsUsedThere s at w p id
+taken_there s at w p id u (FreeAt working ends none) same party = none_some id (sym none ∙ same)
+taken_there s at w p id u (HeldAt working other holds lasts some) same party =
+    let both : Some other ≡ Some id = sym some ∙ same in
+    let one : other ≡ id = cc in
+    let there : IsUsedThere s at w (key w.token.party) other = record { reservation = holds.reservation; stands = holds.stands; here = holds.here; lasts = lasts } in
+    subst (λ q. IsUsedThere s at w q id) (sym party) (subst (IsUsedThere s at w (key w.token.party)) one there)
+
+pub used_there : (s : State) (at k : ℕ) (b : Beginning) (one : IsLeftUnanswered s at k (Some b)) (id : List ℕ) → b.reservation_id ≡ Some id → IsUsedThere s at one.awaited (key b.token.party) id
+used_there s at k b one id is =
+    let there = one.decided.there in
+    taken_there s at one.awaited (key b.token.party) id there.used there.may (sym (ap (λ (x : Beginning). x.reservation_id) there.begins_is) ∙ is) (ap (λ (x : Beginning). key x.token.party) there.begins_is)
+
 used_one : (s : State) (at last n : ℕ) (k : ℕ) (ks : List ℕ) (now : ℕ) (b : Beginning) (c : Change) → IsLeftUnanswered s at k (Some b) → (id : List ℕ) → b.reservation_id ≡ Some id →
     c ≡ Drop (keys.Reservation (key b.token.party) id) → IsOfLate s at last n (k ∷ ks) now c
 used_one s at last n k ks now b c one id is change =
-    let w = one.awaited in
-    let there = one.decided.there in
-    let reserved : there.used ≡ Some id = sym (ap (λ (x : Beginning). x.reservation_id) there.begins_is) ∙ is in
-    let party : key b.token.party ≡ key w.token.party = ap (λ (x : Beginning). key x.token.party) there.begins_is in
-    by there.used there.may reserved party
-  where
-    by : (u : Option (List ℕ)) → MayTakeAt s.rows at one.awaited.token (evse_of one.awaited) u → u ≡ Some id → key b.token.party ≡ key one.awaited.token.party → IsOfLate s at last n (k ∷ ks) now c
-    by u (FreeAt working ends none) same party = none_some id (sym none ∙ same)
-    by u (HeldAt working other holds lasts some) same party =
-        let both : Some other ≡ Some id = sym some ∙ same in
-        let one_id : other ≡ id = cc in
-        UsesAny k (in_front k ks) one.awaited one.stands (key one.awaited.token.party) other holds.reservation holds.stands holds.here lasts
-        (change ∙ (λ i. Drop (keys.Reservation (party i) (sym one_id i))))
+    let there = used_there s at k b one id is in
+    UsesAny k (in_front k ks) one.awaited one.stands (key b.token.party) id there.reservation there.stands there.here there.lasts change
 
 begun_one : (s : State) (at last n k : ℕ) (ks : List ℕ) (now : ℕ) (b : Beginning) (begun : List Act) (c : Change) → n + 1 ≤ now → IsLeftUnanswered s at k (Some b) → (is : IsBegun s at last (n + 1) b begun) →
     IsOfBegun last (key b.token.party) b.reservation_id is.versioned.to is.versioned.old (first_of s at (n + 1) b) c → IsOfLate s at last n (k ∷ ks) now c

@@ -26,3 +26,7 @@ pub mod Freeing
 pub mod LeftUnanswered
 pub mod BegunChanges
 pub mod TickStages
+pub mod LateSteps
+pub mod LateFit
+pub mod TickParts
+pub mod TickSteps

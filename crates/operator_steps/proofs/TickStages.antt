@@ -108,20 +108,20 @@ expired_leave_request expired n = record {
 }
 
 -- the counter of sessions is of no request
-counter_changes : (last now : ℕ) → all_changes (map changed (count_change counter.Session last now)) ≡ count_change counter.Session last now
+pub counter_changes : (last now : ℕ) → all_changes (map changed (count_change counter.Session last now)) ≡ count_change counter.Session last now
 counter_changes last now = elim (nat_eq last now) as (λ b. all_changes (map changed (cond b [] (Put (row.Count counter.Session now) ∷ []))) ≡ cond b [] (Put (row.Count counter.Session now) ∷ [])) [
   | true ↦ refl
   | false ↦ refl
 ]
 
-counter_untold : (last now : ℕ) → all_volatile (map changed (count_change counter.Session last now)) ≡ []
+pub counter_untold : (last now : ℕ) → all_volatile (map changed (count_change counter.Session last now)) ≡ []
 counter_untold last now = elim (nat_eq last now) as (λ b. all_volatile (map changed (cond b [] (Put (row.Count counter.Session now) ∷ []))) ≡ []) [
   | true ↦ refl
   | false ↦ refl
 ]
 
 -- the push of a result is about no session and no token
-result_about : (at : ℕ) (m : book.OpenCommands) (last : ℕ) (ends : List Ending) (r : Rows) (u : Subject) (n : ℕ) →
+pub result_about : (at : ℕ) (m : book.OpenCommands) (last : ℕ) (ends : List Ending) (r : Rows) (u : Subject) (n : ℕ) →
     IsAbout (changed_all (all_changes (ends_acts at m last ends)) r).pushes u n → IsAbout r.pushes u n
 result_about at m last [] r u n h = h
 result_about at m last (e ∷ es) r u n h =
