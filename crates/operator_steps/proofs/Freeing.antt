@@ -1,5 +1,5 @@
 -- What of the claims on EVSEs is left once commands have timed out and reservations have expired.
-use Rattle.std.proofs.Common.{◌≡◌, ◌≢◌, ◌≤◌, ◌<◌, ◌+◌, ◌↔◌, ℕ, List, [], ◌∷◌, map, inl, inr, refl, sym, ap, subst, ◌∙◌, arith}
+use Rattle.std.proofs.Common.{◌≡◌, ◌≢◌, ◌<◌, ◌+◌, ◌↔◌, ℕ, List, [], ◌∷◌, map, inl, inr, refl, sym, ap, subst, ◌∙◌, arith}
 use Rattle.std.specs.Prelude.{Option, Some, Contains}
 use Rattle.std.specs.FinMap.{get}
 use Rattle.std.proofs.lemmas.Bool.{cases_lt}
@@ -16,7 +16,7 @@ use Rattle.reservation_book.specs.Rows as booked
 use Rattle.reservation_book.specs.declared.standing.Standing.{Standing}
 use Rattle.site_book.specs.declared.claim.Claim.{Claim}
 use Rattle.site_book.specs.declared.claim.Claim.TheVariants.{OpenStart, Live, Reserved}
-use Rattle.site_book.specs.Sites.{OutOfService, works}
+use Rattle.site_book.specs.Sites.{works}
 use Rattle.std.specs.Prelude.{IsTrue}
 use Rattle.session_tables.specs.Places.{EndsBy, Free, FreeAt, Held, HeldAt, MayTake, MayTakeAt}
 use Rattle.node_steps.specs.Acts.{all_changes}

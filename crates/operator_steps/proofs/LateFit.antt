@@ -1,9 +1,8 @@
 -- Sessions that begin where no answer came in time: the rows allow each, once those before it have begun.
-use Rattle.std.proofs.Common.{◌≡◌, ◌≢◌, ◌≤◌, ◌<◌, ◌+◌, ◌++◌, ℕ, List, [], ◌∷◌, inl, inr, refl, sym, ap, subst, ◌∙◌, arith}
+use Rattle.std.proofs.Common.{◌≡◌, ◌≢◌, ◌≤◌, ◌<◌, ◌+◌, ℕ, List, ◌∷◌, inl, inr, refl, sym, ap, subst, ◌∙◌, arith}
 use Rattle.std.specs.Prelude.{Option, Some, None, Contains}
-use Rattle.std.specs.Ordering.{nat_cmp}
 use Rattle.std.specs.Cmp.{nat_cmp_total}
-use Rattle.std.specs.FinMap.{FinMap, get, insert, nat_cmp-IsAntisymmetric}
+use Rattle.std.specs.FinMap.{get, insert, nat_cmp-IsAntisymmetric}
 use Rattle.std.specs.List.{AllPairs}
 use Rattle.tables.specs.Keys.{text_total, text_exact, text_pair_total, text_pair_exact}
 use Rattle.tables.proofs.Elements.{in_front, later_pairs}
@@ -34,7 +33,7 @@ use Rattle.operator_steps.specs.Sessions.{IsBegun, first_of}
 use Rattle.operator_steps.specs.TickFacts.{AreLeftUnanswered, IsLeftUnanswered, None_left, Nothing_begins, Begins_session}
 use Rattle.operator_steps.proofs.BegunSteps.{IsUsed, begun_acts, begun_is, connector_of, used_fits}
 use Rattle.operator_steps.proofs.BegunChanges.{begun_pushes, late_counts, session_subject}
-use Rattle.operator_steps.proofs.Fitting.{AreFit, fit_append, left_by, left_is}
+use Rattle.operator_steps.proofs.Fitting.{AreFit, fit_append, left_is}
 use Rattle.operator_steps.proofs.LateSteps.{named_once, numbers_same}
 use Rattle.operator_steps.proofs.Orderly.{in_later}
 

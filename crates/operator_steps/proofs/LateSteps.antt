@@ -1,5 +1,5 @@
 -- Sessions that begin where no answer came in time: they change different rows, and what they send and put may be.
-use Rattle.std.proofs.Common.{◌≡◌, ◌≢◌, ◌≤◌, ◌<◌, ◌+◌, ◌++◌, ℕ, List, [], ◌∷◌, inl, inr, refl, sym, ap, subst, ◌∙◌, arith}
+use Rattle.std.proofs.Common.{◌≡◌, ◌≢◌, ◌≤◌, ◌<◌, ◌+◌, ℕ, List, [], ◌∷◌, refl, sym, ap, subst, ◌∙◌, arith}
 use Rattle.std.specs.Prelude.{Option, Some, None, Contains, is_some}
 use Rattle.std.specs.FinMap.{get}
 use Rattle.std.specs.List.{AllPairs}
@@ -15,7 +15,6 @@ use Rattle.ocpi_types.specs.declared.sessions.Session.{Session}
 use Rattle.ocpi_types.specs.declared.stored.Reservation.{Reservation}
 use Rattle.authorization_book.specs.Waits.{evse_of}
 use Rattle.outbox.specs.Pushes.{IsAbout, IsReplaced, subject_of}
-use Rattle.outbox.specs.declared.push_book.Outgoing.{Outgoing}
 use Rattle.outbox.specs.declared.push_book.Subject.{Subject}
 use Rattle.node_steps.specs.declared.plan.Volatile.{Volatile}
 use Rattle.node_steps.specs.declared.plan.Volatile.TheVariants.{Sent}
@@ -30,11 +29,11 @@ use Rattle.operator_rows.specs.Steps.{number_of}
 use Rattle.operator_steps.specs.Sessions.{IsBegun, first_of}
 use Rattle.operator_steps.specs.TickFacts.{AreLeftUnanswered, IsLeftUnanswered, None_left, Nothing_begins, Begins_session}
 use Rattle.operator_steps.proofs.Beginning.{first_next}
-use Rattle.operator_steps.proofs.BegunSteps.{begun_acts, begun_is, begun_next, begun_sent, old_given}
+use Rattle.operator_steps.proofs.BegunSteps.{begun_acts, begun_is, begun_next, begun_sent}
 use Rattle.operator_steps.proofs.BegunChanges.{IsOfBegun, Uses, Replaces, Pushes, Stores, IsOfLate, UsesAny, ReplacesAny, PushesAny, StoresAny, begun_told, late_above, late_counts, of_begun, of_late, session_subject, used_there}
 use Rattle.operator_steps.proofs.Charging.{AreNext, next_append, next_kinds}
 use Rattle.operator_steps.proofs.EndsFit.{above_untimed}
-use Rattle.operator_steps.proofs.Orderly.{AreOrderly, AreOther, orderly_append, orderly_none, orderly_owed, push_apart}
+use Rattle.operator_steps.proofs.Orderly.{AreOrderly, orderly_append, orderly_none, orderly_owed, push_apart}
 use Rattle.operator_steps.proofs.Sending.{ActsAreSent, LeavesPush, sent_append, sent_none}
 
 -- one session that begins changes different rows

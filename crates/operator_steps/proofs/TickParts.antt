@@ -1,11 +1,10 @@
 -- The parts of what a moment comes to: the counter of sessions, the sessions that begin, and the rest beside them.
-use Rattle.std.proofs.Common.{◌≡◌, ◌≢◌, ◌<◌, ◌≤◌, ◌+◌, ◌++◌, ◌||◌, ℕ, Bool, true, false, cond, eqb, nat_eq, List, [], ◌∷◌, map, length, inl, inr, refl, sym, ap, subst, ◌∙◌, arith}
+use Rattle.std.proofs.Common.{◌≡◌, ◌≢◌, ◌<◌, ◌≤◌, ◌+◌, ◌||◌, ℕ, Bool, true, false, cond, eqb, nat_eq, List, [], ◌∷◌, map, length, inl, inr, refl, sym, ap, subst, ◌∙◌, arith}
 use Rattle.std.specs.Prelude.{Contains, IsTrue, is_some}
 use Rattle.std.specs.Cmp.{nat_cmp_total}
 use Rattle.std.specs.FinMap.{get, remove, contains_key, nat_cmp-IsAntisymmetric}
 use Rattle.std.specs.List.{AllPairs}
 use Rattle.std.proofs.lemmas.Bool.{cases_lt, eqb-true, eqb-false}
-use Rattle.std.proofs.lemmas.List.Elements.{Contains-append_cases}
 use Rattle.tables.proofs.Elements.{in_none, of_map}
 use Rattle.tables.proofs.Maps.{of_remove}
 use Rattle.tables.proofs.Options.{known, none_contained}
@@ -21,23 +20,20 @@ use Rattle.authorization_book.specs.Waits as waits
 use Rattle.authorization_book.specs.declared.awaited.Awaited.{Awaited}
 use Rattle.authorization_book.specs.declared.waiting.Waiting.TheVariants.{Begins, Ends}
 use Rattle.command_book.specs.Stored as book
-use Rattle.outbox.specs.Pushes.{IsAbout}
-use Rattle.outbox.specs.declared.push_book.Subject.{Subject}
 use Rattle.reservation_book.specs.Calls.{AreExpired}
 use Rattle.reservation_book.specs.declared.standing.Standing.{Standing}
 use Rattle.session_book.specs.Numbers.{AreNumbered}
 use Rattle.session_book.specs.Stored as charged
-use Rattle.site_book.specs.declared.claim.Claim.{Claim}
 use Rattle.node_steps.specs.declared.plan.Volatile.{Volatile}
 use Rattle.node_steps.specs.declared.plan.Volatile.TheVariants.{Sent}
 use Rattle.node_steps.specs.Acts.{Act, all_changes, all_messages, all_requests, all_volatile, changed}
 use Rattle.node_steps.specs.Drafts.{count_change}
-use Rattle.operator_rows.specs.State.{State, Rows, HasClaim}
+use Rattle.operator_rows.specs.State.{State, Rows}
 use Rattle.operator_rows.specs.Sound.{IsConsistent, MayPutNumber, with_rows}
 use Rattle.operator_rows.specs.Stored.{change_key, changed_all}
 use Rattle.operator_rows.specs.Steps.{number_of}
 use Rattle.operator_steps.specs.declared.ending.Ending.{Ending}
-use Rattle.operator_steps.specs.Ends.{end_acts, ends_acts, expired_acts}
+use Rattle.operator_steps.specs.Ends.{ends_acts, expired_acts}
 use Rattle.operator_steps.specs.TickFacts.{AreLeftUnanswered, None_left, Nothing_begins, Begins_session}
 use Rattle.operator_steps.proofs.BegunChanges.{IsOfLate, UsesAny, ReplacesAny, PushesAny, StoresAny, late_counts}
 use Rattle.operator_steps.proofs.Charging.{AreNext, next_kinds}

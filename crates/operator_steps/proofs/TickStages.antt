@@ -16,14 +16,12 @@ use Rattle.ocpi_types.specs.declared.rows.Row.TheVariants as row
 use Rattle.ocpi_types.specs.declared.rows.RowKey.{RowKey}
 use Rattle.ocpi_types.specs.declared.rows.RowKey.TheVariants as keys
 use Rattle.authorization_book.specs.Waits as waits
-use Rattle.authorization_book.specs.declared.waiting.Waiting.{Waiting}
 use Rattle.authorization_book.specs.declared.waiting.Waiting.TheVariants.{Ends}
 use Rattle.command_book.specs.Stored as book
 use Rattle.outbox.specs.Outbox as outbox
 use Rattle.outbox.specs.Pushes.{IsAbout, Pushes, subject_of}
 use Rattle.outbox.specs.Due.{AreExactly, IsDue}
 use Rattle.outbox.specs.Resend.{Resend, due_again}
-use Rattle.outbox.specs.declared.push_book.Outgoing.{Outgoing}
 use Rattle.outbox.specs.declared.push_book.Subject.{Subject}
 use Rattle.reservation_book.specs.Calls.{AreExpired}
 use Rattle.reservation_book.specs.Rows as booked
@@ -31,7 +29,7 @@ use Rattle.reservation_book.specs.declared.standing.Standing.{Standing}
 use Rattle.session_book.specs.Stored as charged
 use Rattle.node_steps.specs.declared.plan.Volatile.{Volatile}
 use Rattle.node_steps.specs.declared.plan.Volatile.TheVariants.{Sent}
-use Rattle.node_steps.specs.Acts.{Act, all_changes, all_requests, all_volatile, changed}
+use Rattle.node_steps.specs.Acts.{Act, all_changes, all_volatile, changed}
 use Rattle.node_steps.specs.Drafts.{count_change, count_changes, counted}
 use Rattle.node_steps.proofs.Gathering.{changes_append, volatile_append}
 use Rattle.operator_rows.specs.State.{State, Rows, as_outbox}

@@ -1,7 +1,7 @@
 -- The step of a moment may be carried out.
-use Rattle.std.proofs.Common.{◌≡◌, ◌≢◌, ◌<◌, ◌≤◌, ◌+◌, ◌++◌, ◌↔◌, ◌⊎◌, ℕ, true, false, cond, nat_eq, List, [], ◌∷◌, map, length, inl, inr, refl, sym, ap, subst, ◌∙◌, arith}
-use Rattle.std.specs.Prelude.{Some, Contains, IsTrue}
-use Rattle.std.specs.FinMap.{get, contains_key}
+use Rattle.std.proofs.Common.{◌≡◌, ◌≢◌, ◌<◌, ◌≤◌, ◌+◌, ◌++◌, ◌⊎◌, ℕ, true, false, cond, nat_eq, List, [], ◌∷◌, map, length, inl, inr, refl, sym, ap, subst, ◌∙◌, arith}
+use Rattle.std.specs.Prelude.{Contains, IsTrue}
+use Rattle.std.specs.FinMap.{contains_key}
 use Rattle.std.specs.List.{AllPairs}
 use Rattle.std.specs.declared.cmp.Ordering.TheVariants.{Less}
 use Rattle.std.proofs.lemmas.Bool.{eqb-true}
@@ -13,16 +13,13 @@ use Rattle.tables.proofs.Elements.{in_none, in_front, in_map, all_of, no_pairs, 
 use Rattle.tables.proofs.Entries.{apart_of_less}
 use Rattle.ocpi_text.specs.Whole.{max_whole}
 use Rattle.ocpi_types.specs.declared.rows.Change.{Change}
-use Rattle.ocpi_types.specs.declared.rows.Change.TheVariants.{Put, Drop}
+use Rattle.ocpi_types.specs.declared.rows.Change.TheVariants.{Put}
 use Rattle.ocpi_types.specs.declared.rows.Counter.TheVariants as counter
 use Rattle.ocpi_types.specs.declared.rows.Row.TheVariants as row
 use Rattle.ocpi_types.specs.declared.rows.RowKey.TheVariants as keys
 use Rattle.authorization_book.specs.Waits.{evse_of}
-use Rattle.authorization_book.specs.declared.waiting.Waiting.TheVariants.{Ends}
 use Rattle.outbox.specs.Outbox as outbox
 use Rattle.outbox.specs.Pushes.{IsAbout}
-use Rattle.outbox.specs.declared.push_book.Subject.{Subject}
-use Rattle.reservation_book.specs.Calls.{AreExpired}
 use Rattle.reservation_book.specs.declared.standing.Standing.{Standing}
 use Rattle.session_book.specs.Stored as charged
 use Rattle.node_steps.specs.declared.plan.Volatile.{Volatile}
@@ -49,7 +46,7 @@ use Rattle.operator_steps.proofs.Freeing.{AreLeft, are_left, claim_before, claim
 use Rattle.operator_steps.proofs.LateFit.{AreReady}
 use Rattle.operator_steps.proofs.LateSteps.{late_leaves}
 use Rattle.operator_steps.proofs.Sending.{ActsAreSent, LeavesPush, sent_append}
-use Rattle.operator_steps.proofs.Planning.{ArePlanned, IsPlanned, may_follow_full}
+use Rattle.operator_steps.proofs.Planning.{IsPlanned, may_follow_full}
 use Rattle.operator_steps.proofs.Ends.{AreOfDifferent, end_no_reservation, end_push, ends_ask, ends_orderly, ends_send, of_ends}
 use Rattle.operator_steps.proofs.EndsFit.{MayAllEnd, may_numbered, ends_above, ends_fit, ends_leave, ends_next, ends_sent, may_end}
 use Rattle.operator_steps.proofs.Expiring.{expired_ask, expired_differ, expired_fit, expired_orderly, expired_send, expired_sent, expired_untold, of_expired}
