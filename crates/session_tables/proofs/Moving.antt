@@ -1,6 +1,6 @@
 -- What a report makes of the session at an EVSE.
 use Rattle.std.proofs.Common.{◌≡◌, ℕ, ℤ, List, refl, sym, ap, subst, ◌∙◌, inl, inr}
-use Rattle.std.specs.Prelude.{Option, Some, None}
+use Rattle.std.specs.Prelude.{Some}
 use Rattle.std.proofs.lemmas.Option.{same_Some}
 use Rattle.ocpi_text.specs.Text.{key}
 use Rattle.ocpi_types.specs.declared.events.ChargerEvent.{ChargerEvent}
@@ -19,7 +19,7 @@ use Rattle.session_tables.specs.declared.outcome.Moved.TheVariants.{Nothing}
 use Rattle.session_tables.specs.Going.{IsGoing, IsGoingAt}
 use Rattle.session_tables.specs.Moved as lines
 use Rattle.session_tables.specs.Moved.{Comes, IsMoved}
-use Rattle.session_tables.specs.Moves.{IsSessionAt, Makes, Moves, MovesNone, charging_at}
+use Rattle.session_tables.specs.Moves.{IsSessionAt, Makes, Moves, charging_at}
 
 -- a session that has not ended has its cost
 pub cost_at : (s : State) → IsSound s → (evse : List ℕ) (v : Session) → IsSessionAt s.rows evse v → HasCost s.site.price v

@@ -1,5 +1,5 @@
 -- The session at an EVSE is the one that its claim names.
-use Rattle.std.proofs.Common.{◌≡◌, ◌⊎◌, ℕ, List, refl, sym, ap, subst, ◌∙◌, inl, inr, Bor, option_copied}
+use Rattle.std.proofs.Common.{◌≡◌, ◌⊎◌, ℕ, List, refl, sym, subst, ◌∙◌, inl, inr, Bor, option_copied}
 use Rattle.std.specs.Prelude.{Option, Some, None, IfSome, IfNone}
 use Rattle.std.specs.FinMap.{get}
 use Rattle.ocpi_text.specs.Text.{key}
@@ -9,7 +9,7 @@ use Rattle.site_book.specs.declared.claim.Claim.TheVariants.{Live, OpenStart, Re
 use Rattle.site_book.specs.Sites.{Claims}
 use Rattle.session_book.specs.Stored.{AreKeyed}
 use Rattle.operator_rows.specs.Claimed.{IsIndexed}
-use Rattle.operator_rows.specs.State.{Rows, HasClaim, Occupies}
+use Rattle.operator_rows.specs.State.{Rows, Occupies}
 use Rattle.session_tables.specs.Moves.{IsSessionAt}
 
 -- an open start and a reservation are no session

@@ -1,5 +1,5 @@
 -- What a token may take of an EVSE, by the one claim on it.
-use Rattle.std.proofs.Common.{◌≡◌, ℕ, false, List, refl, sym, ap, subst, ◌∙◌}
+use Rattle.std.proofs.Common.{◌≡◌, ℕ, false, List, refl, sym, subst, ◌∙◌}
 use Rattle.std.proofs.lemmas.Bool.{false≢true}
 use Rattle.std.specs.Prelude.{Option, Some, None, IsTrue}
 use Rattle.std.specs.FinMap.{get}
@@ -7,7 +7,6 @@ use Rattle.ocpi_text.specs.Text.{key}
 use Rattle.ocpi_types.specs.declared.stored.Reservation.{Reservation}
 use Rattle.ocpi_types.specs.declared.token.Token.{Token}
 use Rattle.ocpi_types.specs.declared.words.TokenType.{TokenType}
-use Rattle.reservation_book.specs.Tokens.{IsToken}
 use Rattle.site_book.specs.declared.claim.Claim.{Claim}
 use Rattle.site_book.specs.declared.claim.Claim.TheVariants as claim
 use Rattle.site_book.specs.Sites.{Claims, works}
@@ -22,7 +21,7 @@ use Rattle.session_tables.specs.declared.swipes.Openness.TheVariants as openness
 use Rattle.session_tables.specs.declared.swipes.Openness.TheVariants.{Closed}
 use Rattle.session_tables.specs.declared.taking.Taking.{Taking}
 use Rattle.session_tables.specs.declared.taking.Taking.TheVariants.{No, Free, Reserved}
-use Rattle.session_tables.specs.Opened.{IsFor, IsHeldFor, IsOpened}
+use Rattle.session_tables.specs.Opened.{IsHeldFor, IsOpened}
 use Rattle.session_tables.specs.Taken.{IsReserved, IsReservedFor, IsTaken}
 
 module _ (claims : Claims) (s : Rows) (h : IsIndexed claims s) (evse : List ℕ) where

@@ -1,4 +1,3 @@
-use Rattle.ocpi_text.specs.Text.{key}
 use Rattle.session_tables.proofs.Answering.{not_accepted, nothing}
 use Rattle.session_tables.proofs.accepts.accepted.Goals as goal
 

@@ -1,4 +1,3 @@
-use Rattle.std.proofs.Common.{refl}
 use Rattle.session_tables.specs.Found.{connector_of, evse_of, location_of}
 use Rattle.session_tables.proofs.Swiping.{free_to, held_to, shut, unplaced}
 use Rattle.session_tables.proofs.swipes.swiped.Goals as goal

@@ -1,6 +1,5 @@
-use Rattle.std.proofs.Common.{◌≡◌, sym, ap, subst, ◌∙◌}
+use Rattle.std.proofs.Common.{sym, subst, ◌∙◌}
 use Rattle.std.proofs.lemmas.Map.Keys.{le_from_is_le}
-use Rattle.command_book.specs.Stored.{Rows}
 use Rattle.session_tables.specs.Places.{EndsBy}
 use Rattle.session_tables.proofs.taking.ends_by.Goals as goal
 
