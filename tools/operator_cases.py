@@ -394,10 +394,10 @@ def others():
 
 
 def cases_without_memory():
-    """The cases in which each allocation fails once: of each the lines, behind the site line, and what they must give."""
+    """The cases in which each allocation fails once: of each its name, the lines, behind the site line, and what they must give."""
     ends = CASES[1:] + [("", len(LINES), len(WANTED))]
     return [
-        (LINES[:1] + LINES[line:next_line], WANTED[want:next_want])
+        (name, LINES[:1] + LINES[line:next_line], WANTED[want:next_want])
         for (name, line, want), (_, next_line, next_want) in zip(CASES, ends)
         if name in WITHOUT_MEMORY
     ]
