@@ -7,6 +7,10 @@ from operator_case import WANTED, moment, refused, token
 from operator_charge_case import LAST_MOMENT, Charging, session_id
 
 # The packets of a start that is carried out, and the charge detail record of its charge, byte for byte.
+RESPONSE_LINE = (
+    '{"body":{"data":{"result":"ACCEPTED","timeout":30},"status_code":1000,"timestamp":"2025-01-01T10:00:00Z"},"from":"BE/BEC",'
+    '"kind":"command_response","request":1,"serial":1,"to":"NL/TNM"}'
+)
 RESULT_LINE = (
     '{"body":{"response_url":"https://node.invalid/NL/TNM/1","result":"ACCEPTED"},"from":"BE/BEC","kind":"command_result",'
     '"request":1,"serial":2,"to":"NL/TNM"}'
@@ -34,7 +38,7 @@ BILL = (
 def add_whole_charge():
     c = Charging("a charge from its start to its bill")
     c.charging()
-    assert RESULT_LINE in WANTED[-20:] and SESSION_LINE in WANTED[-20:]
+    assert all(line in WANTED[-20:] for line in [RESPONSE_LINE, RESULT_LINE, SESSION_LINE])
     c.starts()
     c.became_active(4, 3)
     c.meter("12.3456", "10:30:00")
@@ -49,6 +53,18 @@ def add_whole_charge():
     c.finished(8, again=[5])
     c.acked(5, at="10:30:21")
     c.tick("11:00:00")
+    c.stored()
+    c = Charging("a charge of the first reference and the third request, from its start to its bill")
+    c.start(3, ref=1)
+    c.started(1, 3, "E1", ref=1)
+    c.about("accepts", 3)
+    c.carried_out(2, 1, 1, 3, ref=1)
+    c.starts()
+    c.became_active(4, 3)
+    c.meter("12.3456", "10:30:00")
+    c.metered(5, 4, "12.3456", "3.0864", "10:30:00")
+    c.stops("10:30:10")
+    assert c.completed(6, 5, "10:30:10", "0.5000") == BILL
     c.stored()
     c = Charging("what a charge point reports of a session in another state")
     c.starts()

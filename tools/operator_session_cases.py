@@ -3,8 +3,8 @@ their provider is told again, rows that were stored, spellings, and places with 
 
 A report beside which nothing is told gives neither a packet nor a row.
 """
-from operator_case import OPERATOR, location, moment, open_part, text, token
-from operator_charge_case import Charging, cdr_id, place, session_id
+from operator_case import OPERATOR, location, moment, open_part, refused, text, token
+from operator_charge_case import LAST_MOMENT, Charging, cdr_id, place, session_id
 
 
 def add_service():
@@ -129,9 +129,27 @@ def add_stops():
     c.stored()
 
 
+    c = Charging("a session that began where a token was shown is stopped by the token's provider alone")
+    c.new_token(1, 1, token())
+    c.swipe()
+    c.began(2, 1, 1, at="10:00:00", how="WHITELIST")
+    c.stop(1, session_id(1), party="DE/EMP")
+    c.answered(3, 1, "UNKNOWN_SESSION", party="DE/EMP")
+    c.stop(2, session_id(1))
+    c.answered(4, 2, "ACCEPTED")
+    c.opened(2, "10:00:30")
+    c.about("accepts", 2)
+    c.finished(5, [(2, 2, "ACCEPTED", "NL/TNM")])
+    c.stops("10:00:20")
+    c.voided(6, 3, "10:00:20")
+    c.stored()
+
+
 def add_pushes():
     c = Charging("a session is told again until its provider acknowledges it")
     c.charging()
+    c.ack(1, at="10:00:06", party="DE/EMP")
+    c.ack(2, at="10:00:06", party="DE/EMP")
     c.tick("10:00:14.999")
     c.tick("10:00:15")
     c.finished(4, again=[1, 2])
@@ -242,6 +260,24 @@ def add_stored_rows():
     c.carried_out(12, 8, 5, 2)
     c.tick("10:00:06")
     c.finished(14, again=[7])
+    c.stored()
+
+
+    c = Charging("a session that was stored with the last moment does not go on, and is told again")
+    c.stands("count", "session", {"last": 1})
+    c.stands("count", "request", {"last": 7})
+    c.stands("count", "serial", {"last": 9})
+    c.has_session(1, 7, status="ACTIVE", start_date_time=moment("09:00:00"), last_updated=moment(LAST_MOMENT))
+    c.restart()
+    c.meter("1.0000", "10:00:00")
+    refused("3 StampEnd")
+    c.stops("10:00:00")
+    refused("3 StampEnd")
+    c.fault("10:00:00")
+    refused("3 StampEnd")
+    c.starts("10:00:00")
+    c.tick("10:00:00")
+    c.finished(10, again=[7])
     c.stored()
 
 

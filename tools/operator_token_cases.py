@@ -4,8 +4,12 @@ asked, and what its answer does. What no answer does is in `operator_deadline_ca
 A swipe, an answer or a tick beside which nothing is told gives neither a packet nor a row. An answer ends the waiting also where
 nothing begins: then the token may be shown again.
 """
-from operator_case import moment, reference, refused, token, url
+import json
+from decimal import Decimal
+
+from operator_case import OPERATOR, moment, reference, refused, token, url
 from operator_charge_case import Charging, halves
+from operator_charge_cases import BILL
 
 ALWAYS, ALLOWED = token(), token("AA05", whitelist="ALLOWED")
 OFFLINE, NEVER = token("AA02", whitelist="ALLOWED_OFFLINE"), token("AA03", whitelist="NEVER")
@@ -64,9 +68,12 @@ def add_stored_tokens():
     c.carried_out(2, 1, 1, 1)
     response = {"data": {"result": "ACCEPTED", "timeout": 30}, "status_code": 1000, "timestamp": moment("10:00:00")}
     for kind, body in [("command_response", response), ("command_result", {"response_url": url(1), "result": "ACCEPTED"}),
-                       ("authorize", {"token_uid": "AA01"}), ("put_session", c.sessions[1])]:
+                       ("authorize", {"token_uid": "AA01"}), ("put_session", c.sessions[1]),
+                       ("post_cdr", json.loads(BILL, parse_float=Decimal))]:
         c.hear("10:00:06", kind, body, 2)
         refused("1 NotForMe")
+    c.put_token(2, ALWAYS, party=OPERATOR)
+    refused("1 NotForMe")
     c.stored()
 
 
@@ -182,6 +189,44 @@ def asked_about(c, given=NEVER, evse="E1", at="10:00:00"):
     c.new_token(1, 1, given)
     c.swipe(given["uid"], evse, at)
     c.asked(2, 1, given["uid"], evse)
+
+
+def add_reserved_times():
+    c = Charging("a reservation serves its token past its expiry, until a tick, and not where the EVSE is out of service")
+    c.new_token(1, 1, ALWAYS)
+    c.reservation(2, 1, 2, "R1", "E1", "11:00:00")
+    c.service("E1", False)
+    c.put("service", "E1", {})
+    c.swipe(at="10:00:01")
+    c.service("E1", True)
+    c.drop("service", "E1")
+    c.swipe(at="11:30:00")
+    c.began(4, 2, 1, ALWAYS, at="11:30:00", how="WHITELIST", used="NL/TNM/R1")
+    c.stored()
+
+
+def add_questions():
+    c = Charging("an answer that nobody asked for is nothing, and its reference stays unused")
+    c.authorization(9, ref=1)
+    c.authorization(1, ref=1)
+    asked_about(c)
+    c.authorization(9, ref=1)
+    c.authorization(1, ref=1)
+    c.spent(1)
+    c.began(3, 2, 1, NEVER, at="10:00:02", how="AUTH_REQUEST", ref=reference(1))
+    c.stored()
+    c = Charging("a token that is never used without an answer is asked about where it is not valid, and no other meanwhile")
+    shown = token("AA03", valid=False, whitelist="NEVER")
+    asked_about(c, shown)
+    c.new_token(3, 2, ALWAYS)
+    c.swipe(at="10:00:01")
+    c.fault("10:00:01")
+    c.stops("10:00:01")
+    c.authorization(1)
+    c.began(4, 2, 1, shown, at="10:00:02", how="AUTH_REQUEST")
+    c.swipe(evse="E2", at="10:00:03")
+    c.began(5, 3, 2, ALWAYS, "E2", "10:00:03", "WHITELIST")
+    c.stored()
 
 
 def add_answers():
@@ -379,10 +424,30 @@ def add_taken_places():
     c.stored()
 
 
+    c = Charging("an answer begins nothing where its provider reserved the EVSE for another token meanwhile")
+    asked_about(c)
+    c.reservation(3, 2, 2, "R1", "E1", "11:00:00")
+    c.authorization(1, ref=1)
+    c.swipe("AA03", at="10:00:03")
+    c.swipe("AA03", "E2", "10:00:03")
+    c.asked(5, 3, evse="E2")
+    app = token("AA03", kind="APP_USER")
+    there = {"location_id": "LOC1", "evse_uid": "E2", "expiry_date": moment("11:00:00")}
+    c.command("10:00:04", "reserve_now", 3, token=app, reservation_id="R2", **there)
+    held = [lambda: c.marked("R2", 3), lambda: c.put("reservation", "NL/TNM/R2", {**there, "token": app})]
+    c.resulted(6, 4, 3, "ACCEPTED", held, at="10:00:04")
+    c.authorization(3, ref=1, at="10:00:05")
+    c.start(4, at="10:00:06", place="LOC2", evse="E3", ref=1)
+    c.started(8, 4, "E3", deadline="10:00:36", at="10:00:06", ref=1)
+    c.stored()
+
+
 def add_token_cases():
     add_stored_tokens()
     add_shown_tokens()
     add_reserved_places()
+    add_reserved_times()
+    add_questions()
     add_answers()
     add_other_answers()
     add_late_answers()
