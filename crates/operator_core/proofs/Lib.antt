@@ -1,8 +1,8 @@
 pub mod Loops
 pub mod Taken
-pub mod Plans
+pub mod PlannedActs
 pub mod Parts
-pub mod Packets
+pub mod PacketLines
 pub mod Counting
 pub mod Replacing
 pub mod Versions

@@ -4,8 +4,8 @@ use Rattle.node_steps.specs.Acts.{acknowledged}
 use Rattle.operator_steps.specs.Steps.{Acknowledges, Comes}
 use Rattle.ocpi_types.specs.declared.rows.Change.TheVariants.{Drop}
 use Rattle.ocpi_types.specs.declared.rows.RowKey.TheVariants as keys
-use Rattle.operator_core.proofs.Packets.{acknowledged_comes, idle_comes}
-use Rattle.operator_core.proofs.Plans.{may_step, planned_change, planned_none}
+use Rattle.operator_core.proofs.PacketLines.{acknowledged_comes, idle_comes}
+use Rattle.operator_core.proofs.PlannedActs.{may_step, planned_change, planned_none}
 use Rattle.operator_core.proofs.operator.Operator.plan_ack.Goals as goal
 
 pub returns-then-not-acknowledges-clause-step : goal.returns-then-not-acknowledges-clause-step

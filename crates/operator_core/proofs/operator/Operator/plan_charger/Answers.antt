@@ -4,7 +4,7 @@ use Rattle.operator_steps.specs.Charger.{ChargerLine, Ended, Idle}
 use Rattle.operator_steps.specs.Ends.{ends_acts}
 use Rattle.operator_steps.proofs.Planning.{planned_may}
 use Rattle.operator_steps.proofs.ReportSteps.{reports}
-use Rattle.operator_core.proofs.Plans.{all_follow, all_planned, own_faults, planned_none}
+use Rattle.operator_core.proofs.PlannedActs.{all_follow, all_planned, own_faults, planned_none}
 use Rattle.operator_core.proofs.operator.Operator.plan_charger.Goals as goal
 
 pub returns-in-Some-clause-step : goal.returns-in-Some-clause-step

@@ -5,8 +5,8 @@ use Rattle.node_steps.specs.Acts.{repeated}
 use Rattle.node_steps.specs.Drafts.{step_of}
 use Rattle.operator_steps.specs.Acts.{decided_acts}
 use Rattle.operator_steps.specs.Steps.{Comes}
-use Rattle.operator_core.proofs.Packets.{again_comes, decided_comes, due_faults}
-use Rattle.operator_core.proofs.Plans.{all_planned}
+use Rattle.operator_core.proofs.PacketLines.{again_comes, decided_comes, due_faults}
+use Rattle.operator_core.proofs.PlannedActs.{all_planned}
 use Rattle.operator_core.proofs.Parts.{err_at, ok_at, on_at}
 use Rattle.operator_core.proofs.operator.Operator.plan_command.Goals as goal
 

@@ -2,7 +2,7 @@ use Rattle.node_steps.specs.Drafts.{step_of}
 use Rattle.operator_steps.specs.Steps.{Comes}
 use Rattle.operator_steps.proofs.Planning.{planned_may}
 use Rattle.operator_steps.proofs.PacketSteps.{packets}
-use Rattle.operator_core.proofs.Plans.{all_follow}
+use Rattle.operator_core.proofs.PlannedActs.{all_follow}
 use Rattle.operator_core.proofs.operator.Operator.plan_packet.Goals as goal
 
 pub returns-in_ok-plan_ack-in-Ack-clause-follows : goal.returns-in_ok-plan_ack-in-Ack-clause-follows

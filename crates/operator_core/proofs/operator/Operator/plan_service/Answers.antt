@@ -3,7 +3,7 @@ use Rattle.node_steps.specs.Drafts.{step_of}
 use Rattle.operator_steps.specs.Service.{ServiceLine}
 use Rattle.operator_steps.proofs.Planning.{planned_may}
 use Rattle.operator_steps.proofs.ServiceSteps.{services}
-use Rattle.operator_core.proofs.Plans.{all_follow, planned_change, planned_none}
+use Rattle.operator_core.proofs.PlannedActs.{all_follow, planned_change, planned_none}
 use Rattle.operator_core.proofs.operator.Operator.plan_service.Goals as goal
 
 pub returns-in-Some-clause-step : goal.returns-in-Some-clause-step

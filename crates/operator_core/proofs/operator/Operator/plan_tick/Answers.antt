@@ -6,7 +6,7 @@ use Rattle.operator_steps.specs.Tick.{TickLine, TimeOut}
 use Rattle.operator_steps.specs.TickFacts.{tick_acts}
 use Rattle.operator_steps.proofs.TickStages.{due_stands, tick_is}
 use Rattle.operator_steps.proofs.TickSteps.{ticks_may_follow, timed_open}
-use Rattle.operator_core.proofs.Plans.{all_follow, all_planned, own_faults}
+use Rattle.operator_core.proofs.PlannedActs.{all_follow, all_planned, own_faults}
 use Rattle.operator_core.proofs.operator.Operator.plan_tick.Goals as goal
 
 pub plan_all-requires-clause-open : goal.plan_all-requires-clause-open
