@@ -6,3 +6,8 @@ pub mod PacketLines
 pub mod Counting
 pub mod Replacing
 pub mod Versions
+pub mod QuietDrafts
+pub mod Decisions
+pub mod TokenLines
+pub mod ServiceChanges
+pub mod AnswerActs
