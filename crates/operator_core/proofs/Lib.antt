@@ -6,3 +6,7 @@ pub mod PacketLines
 pub mod Counting
 pub mod Replacing
 pub mod Versions
+pub mod Billing
+pub mod CountedDrafts
+pub mod VersionCounts
+pub mod NewVersions
