@@ -11,3 +11,7 @@ pub mod Decisions
 pub mod TokenLines
 pub mod ServiceChanges
 pub mod AnswerActs
+pub mod Billing
+pub mod CountedDrafts
+pub mod VersionCounts
+pub mod NewVersions
