@@ -1,17 +1,16 @@
--- How many numbers the acts of a decision take, and that they store no counter.
+-- How many numbers the acts of a decision take, and that they store no counter past its last number.
 use Rattle.std.proofs.Common.{◌≡◌, ◌+◌, ◌++◌, ℕ, List, [], ◌∷◌, length, refl}
 use Rattle.std.specs.Prelude.{Option, Some, None}
 use Rattle.ocpi_types.specs.declared.rows.Place.{Place}
 use Rattle.ocpi_types.specs.declared.stored.Command.{Command}
 use Rattle.ocpi_types.specs.declared.words.CommandResponseType.TheVariants as word
 use Rattle.command_book.specs.Stored as book
-use Rattle.node_steps.specs.Acts.{Act, all_changes, all_messages, all_requests, answered}
+use Rattle.node_steps.specs.Acts.{Act, all_messages, all_requests, answered}
 use Rattle.operator_tables.specs.declared.decision.Decision.{Decision}
 use Rattle.operator_tables.specs.declared.decision.Decision.TheVariants.{Refused, Answered, Opened, Started, Resulted, Noted, Reserved, Cancelled}
 use Rattle.operator_steps.specs.Acts.{deadline, decided_acts, opened, reference_of, responded, result_of, spent, used}
 use Rattle.operator_core.specs.Requests.{result_count}
-use Rattle.operator_core.proofs.Counting.{StoreNoCount}
-use Rattle.operator_core.proofs.QuietDrafts.{AllUncounted, no_count}
+use Rattle.operator_core.proofs.CountedDrafts.{CountWithin}
 
 module _ (at last : ℕ) (to p : List ℕ) (n : ℕ) (c : Command) where
   abbrev started_acts : Place → Option (List ℕ) → Option (List ℕ) → List Act
@@ -30,11 +29,11 @@ module _ (at last : ℕ) (to p : List ℕ) (n : ℕ) (c : Command) where
   started_asks place (Some x) None = refl
   started_asks place (Some x) (Some y) = refl
 
-  started_uncounted : (place : Place) (a b : Option (List ℕ)) → AllUncounted (all_changes (started_acts place a b))
-  started_uncounted place None None = (tt, (tt, tt))
-  started_uncounted place None (Some y) = (tt, (tt, (tt, tt)))
-  started_uncounted place (Some x) None = (tt, (tt, (tt, tt)))
-  started_uncounted place (Some x) (Some y) = (tt, (tt, (tt, (tt, tt))))
+  started_within : (place : Place) (a b : Option (List ℕ)) → CountWithin (started_acts place a b)
+  started_within place None None = (tt, (tt, tt))
+  started_within place None (Some y) = (tt, (tt, (tt, tt)))
+  started_within place (Some x) None = (tt, (tt, (tt, tt)))
+  started_within place (Some x) (Some y) = (tt, (tt, (tt, (tt, tt))))
 
   pub decided_sends : (d : Decision) → 1 + result_count (result_of d) ≡ length (all_messages (decided_acts at last to p n c d))
   decided_sends (Refused status) = refl
@@ -56,15 +55,12 @@ module _ (at last : ℕ) (to p : List ℕ) (n : ℕ) (c : Command) where
   decided_asks (Reserved id r) = refl
   decided_asks (Cancelled id) = refl
 
-  uncounted : (d : Decision) → AllUncounted (all_changes (decided_acts at last to p n c d))
-  uncounted (Refused status) = (tt, tt)
-  uncounted (Answered w) = (tt, tt)
-  uncounted Opened = (tt, (tt, tt))
-  uncounted (Started place used) = started_uncounted place used (reference_of c)
-  uncounted (Resulted x) = (tt, (tt, (tt, tt)))
-  uncounted (Noted id x) = (tt, (tt, (tt, (tt, tt))))
-  uncounted (Reserved id r) = (tt, (tt, (tt, (tt, (tt, tt)))))
-  uncounted (Cancelled id) = (tt, (tt, (tt, (tt, (tt, tt)))))
-
-  pub decided_no_count : (d : Decision) → StoreNoCount (decided_acts at last to p n c d)
-  decided_no_count d = no_count (decided_acts at last to p n c d) (uncounted d)
+  pub decided_within : (d : Decision) → CountWithin (decided_acts at last to p n c d)
+  decided_within (Refused status) = (tt, tt)
+  decided_within (Answered w) = (tt, tt)
+  decided_within Opened = (tt, (tt, tt))
+  decided_within (Started place used) = started_within place used (reference_of c)
+  decided_within (Resulted x) = (tt, (tt, (tt, tt)))
+  decided_within (Noted id x) = (tt, (tt, (tt, (tt, tt))))
+  decided_within (Reserved id r) = (tt, (tt, (tt, (tt, (tt, tt)))))
+  decided_within (Cancelled id) = (tt, (tt, (tt, (tt, (tt, tt)))))

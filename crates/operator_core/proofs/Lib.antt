@@ -3,10 +3,8 @@ pub mod Taken
 pub mod PlannedActs
 pub mod Parts
 pub mod PacketLines
-pub mod Counting
 pub mod Replacing
 pub mod Versions
-pub mod QuietDrafts
 pub mod Decisions
 pub mod TokenLines
 pub mod ServiceChanges
@@ -15,3 +13,4 @@ pub mod Billing
 pub mod CountedDrafts
 pub mod VersionCounts
 pub mod NewVersions
+pub mod ReportLines

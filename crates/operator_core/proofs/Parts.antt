@@ -59,4 +59,4 @@ pub err_one : {T E : Type 0} (P : E → Type 0) (r : Result T E) (f : E) → IsE
 err_one P r f is h = let p = err_from_is_err_and r is in rw (p.1, p.2) h
 
 pub err_none : {T E : Type 0} (P : T → Type 0) (r : Result T E) (f : E) → IsErrAnd r (λ e. e ≡ f) → IfOk r P
-err_none P r f is = let p = err_from_is_err_and r is in rw (p.1, p.2) tt
+err_none P r f is = let p = err_from_is_err_and r is in rw (p.1) tt

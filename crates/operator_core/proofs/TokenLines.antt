@@ -1,4 +1,4 @@
--- What becomes of a token is a line of the definition, takes one packet, and stores no counter.
+-- What becomes of a token is a line of the definition, takes one packet, and stores no counter past its last number.
 use Rattle.std.proofs.Common.{◌≡◌, ◌≢◌, ℕ, List, [], ◌∷◌, length, refl}
 use Rattle.std.specs.Prelude.{Result, Ok, Err, IfOk, IfErr}
 use Rattle.ocpi_text.specs.Text.{key}
@@ -13,8 +13,7 @@ use Rattle.operator_rows.specs.State.{State}
 use Rattle.operator_tables.specs.declared.request.Request.{Request}
 use Rattle.operator_steps.specs.Steps.{TokenLine, Foreign, Kept, Stored}
 use Rattle.operator_core.specs.Requests.{put_acts}
-use Rattle.operator_core.proofs.Counting.{StoreNoCount}
-use Rattle.operator_core.proofs.QuietDrafts.{no_count}
+use Rattle.operator_core.proofs.CountedDrafts.{CountWithin}
 
 module _ (r : Request) (t : Token) where
   pub put_sends : (put : Result TokenPut TokenFault) → 1 ≡ length (all_messages (put_acts r t put))
@@ -27,10 +26,10 @@ module _ (r : Request) (t : Token) where
   put_asks (Ok answer.Kept) = refl
   put_asks (Err e) = refl
 
-  pub put_no_count : (put : Result TokenPut TokenFault) → StoreNoCount (put_acts r t put)
-  put_no_count (Ok answer.Stored) = no_count (put_acts r t (Ok answer.Stored)) (tt, (tt, tt))
-  put_no_count (Ok answer.Kept) = no_count (put_acts r t (Ok answer.Kept)) (tt, tt)
-  put_no_count (Err e) = no_count (put_acts r t (Err e)) (tt, tt)
+  pub put_within : (put : Result TokenPut TokenFault) → CountWithin (put_acts r t put)
+  put_within (Ok answer.Stored) = (tt, (tt, tt))
+  put_within (Ok answer.Kept) = (tt, tt)
+  put_within (Err e) = (tt, tt)
 
   pub token_line : (s : State) (put : Result TokenPut TokenFault) → IfOk put (λ a. (key t.party ≡ r.provider) × PutLine s.rows.tokens t a) → IfErr put (λ e. (e ≡ WrongParty) × (key t.party ≢ r.provider)) →
       TokenLine s r.at r.from r.provider r.number t (put_acts r t put)

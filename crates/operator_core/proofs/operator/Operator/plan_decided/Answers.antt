@@ -11,9 +11,9 @@ use Rattle.operator_steps.specs.Acts.{result_of}
 use Rattle.operator_steps.specs.Moves.{counters_of, step_of_acts}
 use Rattle.operator_core.specs.Planned.{StopsActs}
 use Rattle.operator_core.specs.Requests.{decided_by, result_count}
-use Rattle.operator_core.proofs.Decisions.{decided_asks, decided_no_count, decided_sends}
+use Rattle.operator_core.proofs.Decisions.{decided_asks, decided_within, decided_sends}
 use Rattle.operator_core.proofs.Parts.{err_each, on_each}
-use Rattle.operator_core.proofs.QuietDrafts.{acts_in_range, acts_refused, acts_starved}
+use Rattle.operator_core.proofs.CountedDrafts.{counted_in_range, counted_refused, counted_starved}
 use Rattle.operator_core.proofs.operator.Operator.plan_decided.Goals as goal
 
 module _ (last : ℕ) (r : Request) (k : Command) (d : Decision) (results : ℕ) (is : results ≡ result_count (result_of d)) where
@@ -31,7 +31,7 @@ returns-in_err-draft-clause-err c =
     let d = c.args.decision.now in
     let is : c.count-results.result ≡ result_count (result_of d) = c.count-results.ensures ∙ ap result_count c.result.ensures in
     err_each (λ (k : Command). c.args.body.now ≡ body_of_command k) (λ k. StopsActs s (decided_by r s.rows.request k d)) c.from_residual.result (λ k carries.
-    acts_refused s (λ last. decided_by r last k d) _ _ (sends s.rows.request r k d _ is) (asks s.rows.request r k d _ is) (decided_no_count r.at s.rows.request r.from r.provider r.number k d)
+    counted_refused s (λ last. decided_by r last k d) _ _ (sends s.rows.request r k d _ is) (asks s.rows.request r k d _ is) (decided_within r.at s.rows.request r.from r.provider r.number k d)
     c.from_residual.result _ c.from_residual.ensures.1 c.in_err-draft.ensures.err)
 
 -- the draft has the numbers of all acts
@@ -51,7 +51,7 @@ returns-in_err-add_decided-clause-err c =
     let d = c.args.decision.now in
     let is : c.count-results.result ≡ result_count (result_of d) = c.count-results.ensures ∙ ap result_count c.result.ensures in
     err_each (λ (k : Command). c.args.body.now ≡ body_of_command k) (λ k. StopsActs s (decided_by r s.rows.request k d)) c.from_residual-in_err-add_decided.result (λ k carries.
-    acts_starved s (λ last. decided_by r last k d) _ _ (sends s.rows.request r k d _ is) (asks s.rows.request r k d _ is) (decided_no_count r.at s.rows.request r.from r.provider r.number k d)
+    counted_starved s (λ last. decided_by r last k d) _ _ (sends s.rows.request r k d _ is) (asks s.rows.request r k d _ is) (decided_within r.at s.rows.request r.from r.provider r.number k d)
     c.from_residual-in_err-add_decided.result c.from_residual-in_err-add_decided.ensures.1 c.in_ok-draft.ensures.in_range)
 
 -- what was gathered is the step
@@ -70,5 +70,5 @@ returns-clause-in_range c =
     let r = c.args.request.now in
     let d = c.args.decision.now in
     let is : c.count-results.result ≡ result_count (result_of d) = c.count-results.ensures ∙ ap result_count c.result.ensures in
-    λ k carries. acts_in_range s (λ last. decided_by r last k d) _ _ (sends s.rows.request r k d _ is) (asks s.rows.request r k d _ is)
-    (decided_no_count r.at s.rows.request r.from r.provider r.number k d) c.in_ok-draft.ensures.in_range
+    λ k carries. counted_in_range s (λ last. decided_by r last k d) _ _ (sends s.rows.request r k d _ is) (asks s.rows.request r k d _ is)
+    (decided_within r.at s.rows.request r.from r.provider r.number k d) c.in_ok-draft.ensures.in_range

@@ -1,4 +1,5 @@
-use Rattle.std.proofs.Common.{◌≡◌, [], ◌∷◌, sym}
+use Rattle.std.proofs.Common.{◌≡◌, [], ◌∷◌, ◌∙◌, ap, sym}
+use Rattle.ocpi_types.specs.declared.packet.Body.TheVariants as body
 use Rattle.std.specs.Prelude.{Some, None}
 use Rattle.std.specs.FinMap.{get}
 use Rattle.node_steps.specs.Acts.{repeated}
@@ -29,15 +30,17 @@ pub returns-in-PutToken-clause-step : goal.returns-in-PutToken-clause-step
 returns-in-PutToken-clause-step c =
     let s = c.args.self.now.state in
     let r = c.args.request.now in
-    let t = c.in-PutToken.token in
+    let t = c.deref.result.now in
+    let carries : c.args.packet.now.body ≡ body.PutToken t = c.in-PutToken.is ∙ ap body.PutToken (sym c.deref.ensures) in
     let none : get s.rows.commands.replies (r.provider, r.number) ≡ None = rw (← c.self.view_is) (sym c.in_default.ensures) in
-    all_quiet (Comes s r.at c.args.packet.now) s (TokenLine s r.at r.from r.provider r.number t) (λ acts line. token_comes s c.args.packet.now r c.requires.request t c.in-PutToken.is none acts line)
+    all_quiet (Comes s r.at c.args.packet.now) s (TokenLine s r.at r.from r.provider r.number t) (λ acts line. token_comes s c.args.packet.now r c.requires.request t carries none acts line)
     c.plan_put.result step_of c.plan_put.ensures.ok
 
 pub returns-in-PutToken-clause-fault : goal.returns-in-PutToken-clause-fault
 returns-in-PutToken-clause-fault c =
     let s = c.args.self.now.state in
     let r = c.args.request.now in
-    let t = c.in-PutToken.token in
+    let t = c.deref.result.now in
+    let carries : c.args.packet.now.body ≡ body.PutToken t = c.in-PutToken.is ∙ ap body.PutToken (sym c.deref.ensures) in
     let none : get s.rows.commands.replies (r.provider, r.number) ≡ None = rw (← c.self.view_is) (sym c.in_default.ensures) in
-    token_faults s c.args.packet.now r c.requires.request c.plan_put.result t c.in-PutToken.is none c.plan_put.ensures.err
+    token_faults s c.args.packet.now r c.requires.request c.plan_put.result t carries none c.plan_put.ensures.err
