@@ -10,3 +10,7 @@ pub mod Billing
 pub mod CountedDrafts
 pub mod VersionCounts
 pub mod NewVersions
+pub mod BeginningCounts
+pub mod BeginningStops
+pub mod Showing
+pub mod AskedDrafts
