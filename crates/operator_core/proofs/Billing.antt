@@ -78,7 +78,8 @@ module _ (s : State) (at : ℕ) (v : Session) (peer : HasPeer s.providers (key v
       let b : Bill = record { number = n; cdr = cdr } in
       let first : List Act = version_acts at s.rows.request x.0 in
       let rest : List Act = bill_acts at (s.rows.request + 1) x.0.to b in
-      let there : Contains (all_changes rest) (Put (row.Count counter.Cdr n)) = in_front (Put (row.Count counter.Cdr n)) _ in
+      let others : List Act = pushed at ((s.rows.request + 1) + 1) x.0.to (push.PostCdr cdr) ∷ (changed (Put (row.Cdr cdr)) ∷ []) in
+      let there : Contains (all_changes rest) (Put (row.Count counter.Cdr n)) = in_front (Put (row.Count counter.Cdr n)) (all_changes others) in
       let stored : Contains (all_changes (first ++ rest)) (Put (row.Count counter.Cdr n)) =
       subst (λ l. Contains l (Put (row.Count counter.Cdr n))) (sym (changes_append first rest)) (Contains-append_right (all_changes first) (all_changes rest) (Put (row.Count counter.Cdr n)) there) in
       record {

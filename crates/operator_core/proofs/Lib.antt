@@ -14,3 +14,7 @@ pub mod CountedDrafts
 pub mod VersionCounts
 pub mod NewVersions
 pub mod ReportLines
+pub mod BeginningCounts
+pub mod BeginningStops
+pub mod Showing
+pub mod AskedDrafts
