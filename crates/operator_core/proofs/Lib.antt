@@ -18,3 +18,4 @@ pub mod BeginningCounts
 pub mod BeginningStops
 pub mod Showing
 pub mod AskedDrafts
+pub mod StartedLines
