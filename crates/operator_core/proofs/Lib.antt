@@ -14,3 +14,5 @@ pub mod BeginningCounts
 pub mod BeginningStops
 pub mod Showing
 pub mod AskedDrafts
+pub mod Unreplaced
+pub mod LateBeginnings

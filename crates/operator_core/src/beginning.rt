@@ -65,6 +65,9 @@ impl Operator {
             changes: MOST_CHANGES,
         })?;
         let begun = self.begun(at, number, beginning)?;
+        // The proof wants the types of the members named.
+        let _total_cost = begun.first.version.total_cost;
+        let _end_date_time = begun.first.version.end_date_time;
         self.add_beginning(&mut draft, at, ends, reference, number, &begun)?;
         Ok(draft.into_plan())
     }
