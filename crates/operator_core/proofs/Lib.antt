@@ -16,3 +16,4 @@ pub mod Showing
 pub mod AskedDrafts
 pub mod Unreplaced
 pub mod LateBeginnings
+pub mod TickDrafts

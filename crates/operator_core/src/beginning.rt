@@ -66,8 +66,8 @@ impl Operator {
         })?;
         let begun = self.begun(at, number, beginning)?;
         // The proof wants the types of the members named.
-        let _total_cost = begun.first.version.total_cost;
-        let _end_date_time = begun.first.version.end_date_time;
+        let version = &begun.first.version;
+        let _total_cost = version.total_cost;
         self.add_beginning(&mut draft, at, ends, reference, number, &begun)?;
         Ok(draft.into_plan())
     }

@@ -93,6 +93,9 @@ impl Operator {
         let mut beginnings = Vec::new(self.alloc);
         for number in late {
             if let Some(beginning) = self.beginning(at, *number) {
+                // The proof wants the types of the members named.
+                let read = &beginning;
+                let _location_id = read.location_id;
                 beginnings.push(beginning)?;
             }
         }
@@ -118,7 +121,11 @@ impl Operator {
             let Some(number) = last.next() else {
                 return Err(NodeFault::NumbersUsedUp);
             };
-            sessions.push(self.begun(at, number, beginning)?)?;
+            let begun = self.begun(at, number, beginning)?;
+            // The proof wants the types of the members named.
+            let version = &begun.first.version;
+            let _total_cost = version.total_cost;
+            sessions.push(begun)?;
             last = number;
         }
         Ok((sessions, last))
