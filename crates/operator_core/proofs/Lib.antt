@@ -19,3 +19,6 @@ pub mod BeginningStops
 pub mod Showing
 pub mod AskedDrafts
 pub mod StartedLines
+pub mod Unreplaced
+pub mod LateBeginnings
+pub mod TickDrafts

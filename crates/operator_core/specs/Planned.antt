@@ -100,7 +100,7 @@ CannotNumber s more NotForMe = ⊥
 CannotNumber s more UnknownOperator = ⊥
 CannotNumber s more UnknownToken = ⊥
 CannotNumber s more StampEnd = ⊥
-CannotNumber s more NumbersUsedUp = max_whole < s.rows.charged.last_session + more
+CannotNumber s more NumbersUsedUp = (0 < more) × (max_whole < s.rows.charged.last_session + more)
 CannotNumber s more Memory = ⊤
 
 -- why what a line asks for is not done: acts, and changes of what is awaited

@@ -65,6 +65,9 @@ impl Operator {
             changes: MOST_CHANGES,
         })?;
         let begun = self.begun(at, number, beginning)?;
+        // The proof wants the types of the members named.
+        let version = &begun.first.version;
+        let _total_cost = version.total_cost;
         self.add_beginning(&mut draft, at, ends, reference, number, &begun)?;
         Ok(draft.into_plan())
     }

@@ -1,0 +1,9 @@
+use Rattle.std.proofs.Common.{◌≡◌, ◌+◌}
+use Rattle.operator_core.proofs.LateBeginnings.{NumberedSoFar}
+use Rattle.operator_core.proofs.operator.Operator.all_begun.Given as goal
+
+abbrev pub invariant-loop-beginning : goal.invariant-loop-beginning
+invariant-loop-beginning l = record {
+  numbered : l.last ≡ l.self.state.rows.charged.last_session + l.beginning-index;
+  sessions : NumberedSoFar l.self.state l.at l.self.state.rows.charged.last_session l.beginnings l.beginning-index l.last l.sessions.items;
+}
