@@ -135,7 +135,7 @@ module _ (s : State) (sound : IsSound s) (at : ℕ) (report : ChargerEvent) wher
   swiped_provider : (evse connector uid : List ℕ) (type : TokenType) (d : Shown) → SwipeLine s evse connector uid type d → IsOfProvider d
   swiped_provider evse connector uid type d (Unplaced none is) = subst IsOfProvider (sym is) tt
   swiped_provider evse connector uid type d (Closed none is) = subst IsOfProvider (sym is) tt
-  swiped_provider evse connector uid type d (Open l e k place held open x line is) = subst IsOfProvider (sym is) (told_provider l e k (id_of held) (provider_of held) type (key uid) x line)
+  swiped_provider evse connector uid type d (Open l e k place held is_open x line is) = subst IsOfProvider (sym is) (told_provider l e k (id_of held) (provider_of held) type (key uid) x line)
 
 -- what a report shows is of a provider of the site
 module _ (s : State) (sound : IsSound s) where
@@ -175,12 +175,12 @@ module _ (s : State) (at : ℕ) (report : ChargerEvent) where
 
   pub to_moves : (version : Session) → IsMoved s.site s.rows at report (moved.To version) → GoesTo version × (version.status ≢ Completed)
   to_moves version (Still none is) = absurd (cc)
-  to_moves version (Goes v w moves (is, later, going)) = (goes_to v w version moves is later, subst (λ (x : Session). x.status ≢ Completed) (sym is) going)
+  to_moves version (Goes v w moves comes) = (goes_to v w version moves comes.0 comes.1, subst (λ (x : Session). x.status ≢ Completed) (sym comes.0) comes.2)
 
   pub completed_moves : (version draft : Session) → IsMoved s.site s.rows at report (moved.Completed version draft) → GoesTo version × ((version.status ≡ Completed) × (draft ≡ version))
   completed_moves version draft (Still none is) = absurd (cc)
-  completed_moves version draft (Goes v w moves (is, later, done, drafted)) =
-      (goes_to v w version moves is later, (subst (λ (x : Session). x.status ≡ Completed) (sym is) done, drafted ∙ sym is))
+  completed_moves version draft (Goes v w moves comes) =
+      (goes_to v w version moves comes.0 comes.1, (subst (λ (x : Session). x.status ≡ Completed) (sym comes.0) comes.2, comes.3 ∙ sym comes.0))
 
   -- the lines of the definition
   pub ended_line : (e : Ending) → IsEnded s report e → ChargerLine s at report (quiet (acts_of_end s at e))
