@@ -1,5 +1,5 @@
 -- What happens at a moment: its acts are what the moment comes to, they take so many numbers, and they are gathered in turn.
-use Rattle.std.proofs.Common.{◌≡◌, ◌≢◌, ◌<◌, ◌≤◌, ◌+◌, ◌++◌, ℕ, Bool, true, false, cond, nat_eq, List, [], ◌∷◌, length, map, refl, sym, ap, subst, ◌∙◌, arith}
+use Rattle.std.proofs.Common.{◌≡◌, ◌≢◌, ◌<◌, ◌≤◌, ◌+◌, ◌++◌, ℕ, Bool, true, false, cond, nat_eq, List, [], ◌∷◌, length, map, inl, inr, refl, sym, ap, subst, ◌∙◌, arith}
 use Rattle.std.specs.Prelude.{Contains, Result, Ok, Err, Some, IfOk, IfErr, OnOk, IsTrue, is_some}
 use Rattle.std.specs.Result.{IsErrAnd}
 use Rattle.std.specs.FinMap.{contains_key}
@@ -12,11 +12,12 @@ use Rattle.ocpi_types.specs.declared.rows.Change.{Change}
 use Rattle.ocpi_types.specs.declared.rows.Change.TheVariants.{Put}
 use Rattle.ocpi_types.specs.declared.rows.Counter.TheVariants as counter
 use Rattle.ocpi_types.specs.declared.rows.Row.TheVariants as row
+use Rattle.authorization_book.specs.Due.{AreDue}
 use Rattle.authorization_book.specs.Waits as waits
 use Rattle.authorization_book.specs.declared.waiting.Waiting.TheVariants.{Ends}
 use Rattle.outbox.specs.Due.{AreExactly, IsDue}
 use Rattle.reservation_book.specs.declared.standing.Standing.{Standing}
-use Rattle.tables.proofs.Elements.{in_front}
+use Rattle.tables.proofs.Elements.{in_front, in_none}
 use Rattle.node_steps.specs.Acts.{Act, all_changes, all_messages, all_requests, changed}
 use Rattle.node_steps.specs.Drafts.{Gathered, HasNumbersOf, count_change, with_acts}
 use Rattle.node_steps.specs.Peers.{HasPeer}
@@ -57,10 +58,7 @@ starved_own Line s r is =
 
 -- each session that begins is of a provider of the site
 pub peers_begin : (s : State) (at : ℕ) (late : List ℕ) (bs : List Beginning) → IsConsistent s → AreBeginnings s at late bs → (b : Beginning) → Contains bs b → HasPeer s.providers (key b.token.party)
-peers_begin s at late bs fine None_late b i = absurd (in_none_of b i)
-  where
-    in_none_of : (b : Beginning) → Contains {X = Beginning} [] b → ⊥
-    in_none_of b i = omega (arith, i.1)
+peers_begin s at late bs fine None_late b i = absurd (in_none b i)
 peers_begin s at late bs fine (Late k ks cs one rest) b i = peers_begin s at ks cs fine rest b i
 peers_begin s at late bs fine (Late_begins k ks c cs one rest) b i = elim (of_cons c cs b i) [
   | inl same ↦ subst (λ (x : Beginning). HasPeer s.providers (key x.token.party)) same
@@ -247,3 +245,7 @@ resent_stand s at bs x h n i =
 pub all_happen : {E : Type 0} → (s : State) (at : ℕ) (late : List ℕ) (bs : List Beginning) (r : Result Happening E) → AreBeginnings s at late bs → IfOk r (HappenWith s at bs) → IfOk r (IsHappening s at late)
 all_happen s at late bs (Ok x) begin h = record { beginnings = bs; begin = begin; happen = h }
 all_happen s at late bs (Err e) begin h = tt
+
+-- the authorizations that are due, as a list of just these
+pub exactly_due : (w : waits.Waits) (at : ℕ) (numbers : List ℕ) → AreDue w at numbers → AreExactly (waits.IsDue w at) numbers
+exactly_due w at numbers h = record { exact = h.exact; in_order = h.in_order }

@@ -70,7 +70,7 @@ module _ (at last n : ℕ) (p to : List ℕ) (v : Session) where
   in_version None h = absurd (let never : false ≡ true = h in cc)
   in_version (Some k) h =
       let same : k ≡ n = eqb-true k n h in
-      subst (λ j. Contains (all_changes (versioned at last to (Some k) v)) (Drop (keys.Push j))) same (in_front (Drop (keys.Push k)) _)
+      subst (λ j. Contains (all_changes (versioned at last to (Some k) v)) (Drop (keys.Push j))) same (in_front (Drop (keys.Push k)) (Put (row.Push (last + 1) to (push.PutSession v)) ∷ (Put (row.Session v) ∷ [])))
 
   of_begun_with : (used_id : Option (List ℕ)) (old : Option ℕ) → Contains (all_changes (used p used_id ++ versioned at last to old v)) Mark → is_number old n ≡ true
   of_begun_with None old i = of_version old i

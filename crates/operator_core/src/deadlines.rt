@@ -116,6 +116,7 @@ impl Operator {
         ensures err { IfErr result (CannotNumber self.now.state (length beginnings.now)) }
     {
         let mut last = self.books.charged().last_session();
+        let _in_range = last.value();
         let mut sessions = Vec::with_capacity(self.alloc, beginnings.len())?;
         for beginning in beginnings {
             let Some(number) = last.next() else {

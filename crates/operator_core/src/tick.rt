@@ -1,6 +1,6 @@
 //! What the time does at an operator.
 
-ghost use Rattle.std.specs.Prelude.{◌≡◌, ◌≤◌, Contains, map, IfOk, IfErr, OnOk};
+ghost use Rattle.std.specs.Prelude.{◌≡◌, ◌≤◌, ◌+◌, Contains, length, map, IfOk, IfErr, OnOk};
 ghost use Rattle.ocpi_text.specs.Whole.{max_whole};
 ghost use Rattle.ocpi_types.specs.declared.rows.Counter.TheVariants as counter;
 ghost use Rattle.authorization_book.specs.Waits as waits;
@@ -61,6 +61,19 @@ struct Happening {
     resent: Vec<Whole>,
 }
 
+/// What the acts of a moment take: the ends of commands and reservations, sessions that begin, and pushes that are sent again.
+fn needs(ends: &[Ending], expired: &[Standing], begun: &[Begun], resent: &[Whole]) -> Needs
+    ensures packets { result.packets ≡ (length ends.now + length begun.now) + length resent.now }
+    ensures requests { result.requests ≡ length ends.now + length begun.now }
+{
+    let changes = CHANGES_OF_AN_END * ends.len() + CHANGES_OF_A_BEGINNING * begun.len();
+    Needs {
+        packets: ends.len() + begun.len() + resent.len(),
+        requests: ends.len() + begun.len(),
+        changes: changes + expired.len(),
+    }
+}
+
 impl Operator {
     /// The timeouts of the open commands whose deadline is at or before a moment, by provider and then by number.
     fn timed_out(&self, at: Moment) -> Result<Vec<Ending>, AllocError>
@@ -110,13 +123,12 @@ impl Operator {
         ensures in_range { OnOk result (AreInRange self.now.state (happening_acts at self.now.state all.now)) }
         ensures err { IfErr result (StopsActs self.now.state (happening_acts at self.now.state all.now)) }
     {
-        let (ends, begun) = (all.due.ends.len(), all.begun.len());
-        let changes = CHANGES_OF_AN_END * ends + CHANGES_OF_A_BEGINNING * begun;
-        let mut draft = self.draft(Needs {
-            packets: ends + begun + all.resent.len(),
-            requests: ends + begun,
-            changes: changes + all.due.expired.len(),
-        })?;
+        let mut draft = self.draft(needs(
+            all.due.ends.as_slice(),
+            all.due.expired.as_slice(),
+            all.begun.as_slice(),
+            all.resent.as_slice(),
+        ))?;
         self.add_all(&mut draft, at, all)?;
         Ok(draft.into_plan())
     }

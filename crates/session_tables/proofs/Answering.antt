@@ -1,5 +1,5 @@
 -- What begins by an answer, or without one.
-use Rattle.std.proofs.Common.{◌≡◌, ℕ, List, refl, sym, ap, subst, ◌∙◌}
+use Rattle.std.proofs.Common.{◌≡◌, ℕ, List, refl, sym, subst}
 use Rattle.std.specs.Prelude.{Option, Some, None}
 use Rattle.ocpi_text.specs.Text.{key}
 use Rattle.ocpi_types.specs.declared.authorizations.Authorization.{Authorization}
@@ -10,16 +10,32 @@ use Rattle.ocpi_types.specs.declared.site.Location.{Location}
 use Rattle.ocpi_types.specs.declared.site.Site.{Site}
 use Rattle.ocpi_types.specs.declared.words.AuthMethod.{AuthMethod}
 use Rattle.ocpi_types.specs.declared.words.AuthMethod.TheVariants as how
+use Rattle.ocpi_types.specs.declared.stored.OpenCommand.{OpenCommand}
 use Rattle.authorization_book.specs.declared.awaited.Awaited.{Awaited}
 use Rattle.operator_rows.specs.State.{Rows, IsSpent}
 use Rattle.session_tables.specs.declared.beginning.Beginning.{Beginning}
 use Rattle.session_tables.specs.declared.taking.Taking.{Taking}
 use Rattle.session_tables.specs.declared.taking.Taking.TheVariants.{No, Free, Reserved}
+use Rattle.session_tables.specs.Accepts.{Accepts}
 use Rattle.session_tables.specs.Answered.{IsUsed, MayGoWithout}
 use Rattle.session_tables.specs.Answers.{Allows, BeginsByAnswer, BeginsThere, BeginsWithoutAnswer, Decided}
 use Rattle.session_tables.specs.Beginnings.{begins}
 use Rattle.session_tables.specs.Places.{HasNoConnector, IsConnectorAt, MayTake}
 use Rattle.session_tables.specs.Taken.{IsTaken}
+
+-- where nothing begins, nothing is told
+pub nothing : (Begins : Beginning → Type 0) (r : Option Beginning) → r ≡ None → ((b : Beginning) → Begins b → ⊥) → Decided Begins r
+nothing Begins r is none = subst (Decided Begins) (sym is) none
+
+-- no start begins where the site has no such connector
+pub not_accepted : (site : Site) (o : OpenCommand) (evse connector : List ℕ) → o.evse_uid ≡ Some evse → o.connector_id ≡ Some connector →
+    HasNoConnector site.locations (key evse) (key connector) → (b : Beginning) → Accepts site o b → ⊥
+not_accepted site o evse connector evse_is connector_is none b x =
+    let same : x.evse ≡ evse = let e = x.evse_is in cc in
+    let alike : x.connector ≡ connector = let e = x.connector_is in cc in
+    none x.location x.of_evse x.of_connector
+    (subst (λ v. IsConnectorAt site.locations (key v) (key connector) x.location x.of_evse x.of_connector) same
+    (subst (λ v. IsConnectorAt site.locations (key x.evse) (key v) x.location x.of_evse x.of_connector) alike x.place))
 
 may_of : (May : Option (List ℕ) → Type 0) (taking : Taking) (used : Option (List ℕ)) → IsTaken May taking → IsUsed taking used → May used
 may_of May No used t u = absurd u
@@ -83,7 +99,7 @@ module _ (site : Site) (s : Rows) (w : Awaited) (a : Authorization) (info : Auth
 module _ (site : Site) (May : Option (List ℕ) → Type 0) (w : Awaited) where
   -- a token that may not be used without its provider begins nothing so
   pub none_without : ¬ MayGoWithout w.token → (b : Beginning) → BeginsWithoutAnswer site May w b → ⊥
-  none_without no b x = no (record { offline = x.offline; valid = x.valid })
+  none_without barred b x = barred (record { offline = x.offline; valid = x.valid })
 
   pub without_answer : MayGoWithout w.token → (taking : Taking) → IsTaken May taking → (r : Option Beginning) → Decided (BeginsThere site (IsUsed taking) w how.Whitelist None) r →
       Decided (BeginsWithoutAnswer site May w) r

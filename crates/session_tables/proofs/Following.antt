@@ -1,19 +1,17 @@
 -- What a report makes of a version may follow it, and is one.
-use Rattle.std.proofs.Common.{◌≡◌, ℕ, ◌<◌, ℤ, List, refl, sym, ap, subst, ◌∙◌, inl, inr, arith}
+use Rattle.std.proofs.Common.{◌≡◌, ℕ, ℤ, List, refl, sym, subst, ◌∙◌, inl, inr, arith}
 use Rattle.std.proofs.lemmas.Int.{ints}
-use Rattle.std.specs.Prelude.{Option, Some, None}
-use Rattle.ocpi_text.specs.Moment.{last_moment}
-use Rattle.ocpi_text.specs.Text.{key}
+use Rattle.std.specs.Prelude.{Option}
 use Rattle.ocpi_types.specs.declared.events.ChargerEvent.{ChargerEvent}
 use Rattle.ocpi_types.specs.declared.events.ChargerEvent.TheVariants as event
 use Rattle.ocpi_types.specs.declared.sessions.Price.{Price}
 use Rattle.ocpi_types.specs.declared.sessions.Session.{Session}
 use Rattle.ocpi_types.specs.declared.words.SessionStatus.{SessionStatus}
 use Rattle.ocpi_types.specs.declared.words.SessionStatus.TheVariants.{Active, Completed, Invalid, Pending}
-use Rattle.session_state.specs.Versions.{HasCost, ended, activated, metered}
+use Rattle.session_state.specs.Versions.{HasCost, ended}
 use Rattle.session_state.specs.Pasts.{IsSame, IsTurn, MayFollow}
 use Rattle.session_tables.specs.Laws.{BeginningsAreOfSite, IsOfSite, MovesAreOne, MovesMayFollow}
-use Rattle.session_tables.specs.Moves.{Ends, Makes, Moves}
+use Rattle.session_tables.specs.Moves.{Ends, Makes}
 use Rattle.session_tables.specs.declared.beginning.Beginning.{Beginning}
 use Rattle.session_tables.specs.Answers.{BeginsThere}
 use Rattle.authorization_book.specs.declared.awaited.Awaited.{Awaited}

@@ -4,3 +4,4 @@ pub mod Sessions
 pub mod Answering
 pub mod Moving
 pub mod Following
+pub mod Swiping

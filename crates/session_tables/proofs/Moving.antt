@@ -1,6 +1,6 @@
 -- What a report makes of the session at an EVSE.
 use Rattle.std.proofs.Common.{◌≡◌, ℕ, ℤ, List, refl, sym, ap, subst, ◌∙◌, inl, inr}
-use Rattle.std.specs.Prelude.{Option, Some, None}
+use Rattle.std.specs.Prelude.{Some}
 use Rattle.std.proofs.lemmas.Option.{same_Some}
 use Rattle.ocpi_text.specs.Text.{key}
 use Rattle.ocpi_types.specs.declared.events.ChargerEvent.{ChargerEvent}
@@ -16,10 +16,10 @@ use Rattle.operator_rows.specs.Sound.{IsSound}
 use Rattle.operator_rows.specs.State.{Rows, State, IsLive}
 use Rattle.session_tables.specs.declared.outcome.Moved.{Moved}
 use Rattle.session_tables.specs.declared.outcome.Moved.TheVariants.{Nothing}
-use Rattle.session_tables.specs.Going.{IsGoing}
+use Rattle.session_tables.specs.Going.{IsGoing, IsGoingAt}
 use Rattle.session_tables.specs.Moved as lines
 use Rattle.session_tables.specs.Moved.{Comes, IsMoved}
-use Rattle.session_tables.specs.Moves.{IsSessionAt, Makes, Moves, MovesNone, charging_at}
+use Rattle.session_tables.specs.Moves.{IsSessionAt, Makes, Moves, charging_at}
 
 -- a session that has not ended has its cost
 pub cost_at : (s : State) → IsSound s → (evse : List ℕ) (v : Session) → IsSessionAt s.rows evse v → HasCost s.site.price v
@@ -28,7 +28,7 @@ cost_at s sound evse v at = ((sound.sessions (key v.id) v at.stands).going at.li
 -- so it can go on
 pub can_resume : (price : ℤ) (v : Session) → IsLive v.status → HasCost price v → CannotResume price v → ⊥
 can_resume price v live cost (inl is) = subst IsLive is live
-can_resume price v live cost (inr no) = no cost
+can_resume price v live cost (inr unpriced) = unpriced cost
 
 -- as what it is
 pub goes_on : (price : ℤ) (v : Session) (x : Resumed) → IsLive v.status → IsResumed price v x → IsGoing price v x
@@ -59,3 +59,18 @@ module _ (site : Site) (s : Rows) (at : ℕ) (report : ChargerEvent) (evse : Lis
   -- and else it moves
   pub goes : (v w : Session) → IsSessionAt s evse v → Makes site.price at report v w → (m : Moved) → Comes v w m → IsMoved site s at report m
   goes v w here makes m comes = lines.Goes v w (record { evse = evse; about = about; here = here; makes = makes }) comes
+
+  -- it moves, where it is PENDING
+  pub goes_pending : (x : Priced) → IsGoingAt s site.price evse (resumed.Pending x) → (w : Session) → (x.version.status ≡ status.Pending → Makes site.price at report x.version w) →
+      (m : Moved) → Comes x.version w m → IsMoved site s at report m
+  goes_pending x g w makes m comes =
+      let same : x.version ≡ g.session = ap (λ (p : Priced). p.version) g.going.1 in
+      goes x.version w (subst (IsSessionAt s evse) (sym same) g.here) (makes (ap (λ (v : Session). v.status) same ∙ g.going.0)) m comes
+
+  -- and where it is ACTIVE
+  pub goes_active : (x : Priced) → IsGoingAt s site.price evse (resumed.Active x) → (w : Session) → (x.version.status ≡ status.Active → x.price ≡ site.price → Makes site.price at report x.version w) →
+      (m : Moved) → Comes x.version w m → IsMoved site s at report m
+  goes_active x g w makes m comes =
+      let same : x.version ≡ g.session = ap (λ (p : Priced). p.version) g.going.1 in
+      let priced : x.price ≡ site.price = ap (λ (p : Priced). p.price) g.going.1 in
+      goes x.version w (subst (IsSessionAt s evse) (sym same) g.here) (makes (ap (λ (v : Session). v.status) same ∙ g.going.0) priced) m comes

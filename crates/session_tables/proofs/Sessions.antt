@@ -1,16 +1,21 @@
 -- The session at an EVSE is the one that its claim names.
-use Rattle.std.proofs.Common.{◌≡◌, ℕ, List, refl, sym, ap, subst, ◌∙◌}
-use Rattle.std.specs.Prelude.{Option, Some, None}
+use Rattle.std.proofs.Common.{◌≡◌, ◌⊎◌, ℕ, List, refl, sym, subst, ◌∙◌, inl, inr, Bor, option_copied}
+use Rattle.std.specs.Prelude.{Option, Some, None, IfSome, IfNone}
 use Rattle.std.specs.FinMap.{get}
 use Rattle.ocpi_text.specs.Text.{key}
 use Rattle.ocpi_types.specs.declared.sessions.Session.{Session}
 use Rattle.site_book.specs.declared.claim.Claim.{Claim}
-use Rattle.site_book.specs.declared.claim.Claim.TheVariants.{Live}
+use Rattle.site_book.specs.declared.claim.Claim.TheVariants.{Live, OpenStart, Reserved}
 use Rattle.site_book.specs.Sites.{Claims}
 use Rattle.session_book.specs.Stored.{AreKeyed}
 use Rattle.operator_rows.specs.Claimed.{IsIndexed}
-use Rattle.operator_rows.specs.State.{Rows, HasClaim, Occupies}
+use Rattle.operator_rows.specs.State.{Rows, Occupies}
 use Rattle.session_tables.specs.Moves.{IsSessionAt}
+
+-- an open start and a reservation are no session
+pub not_live : (c : Claim) → ((p : List ℕ) × (n : ℕ) × (c ≡ OpenStart p n)) ⊎ ((p : List ℕ) × (id : List ℕ) × (c ≡ Reserved p id)) → (p id : List ℕ) → Some c ≡ Some (Live p id) → ⊥
+not_live c (inl x) p id e = let is = x.2 in absurd (cc)
+not_live c (inr x) p id e = let is = x.2 in absurd (cc)
 
 module _ (claims : Claims) (s : Rows) (h : IsIndexed claims s) (evse : List ℕ) where
   -- a session that is at the EVSE claims it
@@ -40,3 +45,16 @@ module _ (claims : Claims) (s : Rows) (h : IsIndexed claims s) (evse : List ℕ)
         let same : key w.id ≡ id = let b = is in cc in
         let there : get s.charged.sessions id ≡ Some w = subst (λ k. get s.charged.sessions k ≡ Some w) same at.stands in
         cc
+
+    -- what is read of it is the session there, and the only one
+    pub found_there : AreKeyed s.charged → (r : Option (Bor Session)) → option_copied r ≡ get s.charged.sessions id → IfSome r (λ v. IsSessionAt s evse v.now)
+    found_there keyed (Some v) read = is_there keyed v.now (sym read)
+    found_there keyed None read = tt
+
+    pub sole_there : (r : Option (Bor Session)) → option_copied r ≡ get s.charged.sessions id → IfSome r (λ v. (w : Session) → IsSessionAt s evse w → w ≡ v.now)
+    sole_there (Some v) read = λ w at. one_there v.now w (sym read) at
+    sole_there None read = tt
+
+    pub none_there : (r : Option (Bor Session)) → option_copied r ≡ get s.charged.sessions id → IfNone r ((w : Session) → IsSessionAt s evse w → ⊥)
+    none_there (Some v) read = tt
+    none_there None read = λ w at. let stands = named.1 in absurd (cc)

@@ -1,5 +1,5 @@
 -- What a token may take of an EVSE, by the one claim on it.
-use Rattle.std.proofs.Common.{◌≡◌, ℕ, false, List, refl, sym, ap, subst, ◌∙◌}
+use Rattle.std.proofs.Common.{◌≡◌, ℕ, false, List, refl, sym, subst, ◌∙◌}
 use Rattle.std.proofs.lemmas.Bool.{false≢true}
 use Rattle.std.specs.Prelude.{Option, Some, None, IsTrue}
 use Rattle.std.specs.FinMap.{get}
@@ -7,7 +7,6 @@ use Rattle.ocpi_text.specs.Text.{key}
 use Rattle.ocpi_types.specs.declared.stored.Reservation.{Reservation}
 use Rattle.ocpi_types.specs.declared.token.Token.{Token}
 use Rattle.ocpi_types.specs.declared.words.TokenType.{TokenType}
-use Rattle.reservation_book.specs.Tokens.{IsToken}
 use Rattle.site_book.specs.declared.claim.Claim.{Claim}
 use Rattle.site_book.specs.declared.claim.Claim.TheVariants as claim
 use Rattle.site_book.specs.Sites.{Claims, works}
@@ -17,8 +16,12 @@ use Rattle.session_tables.specs.Places as places
 use Rattle.session_tables.specs.Swipes as swipes
 use Rattle.session_tables.specs.Places.{EndsBy, HoldsFor, MayTake, MayTakeAt}
 use Rattle.session_tables.specs.Swipes.{IsOpenTo, IsReady}
+use Rattle.session_tables.specs.declared.swipes.Openness.{Openness}
+use Rattle.session_tables.specs.declared.swipes.Openness.TheVariants as openness
+use Rattle.session_tables.specs.declared.swipes.Openness.TheVariants.{Closed}
 use Rattle.session_tables.specs.declared.taking.Taking.{Taking}
 use Rattle.session_tables.specs.declared.taking.Taking.TheVariants.{No, Free, Reserved}
+use Rattle.session_tables.specs.Opened.{IsHeldFor, IsOpened}
 use Rattle.session_tables.specs.Taken.{IsReserved, IsReservedFor, IsTaken}
 
 module _ (claims : Claims) (s : Rows) (h : IsIndexed claims s) (evse : List ℕ) where
@@ -86,20 +89,22 @@ module _ (claims : Claims) (s : State) (h : IsIndexed claims s.rows) (evse uid :
   pub open_free : IsReady s evse → get claims evse ≡ None → IsOpenTo s evse uid type None
   open_free ready none = swipes.Free ready (unclaimed claims s.rows h evse none) refl
 
-  pub open_held : IsReady s evse → (p id : List ℕ) → get claims evse ≡ Some (claim.Reserved p id) → (r : Reservation) → get s.rows.booked.reservations (p, id) ≡ Some r → IsToken uid type r.token →
-      IsOpenTo s evse uid type (Some (p, id))
-  open_held ready p id is r stands token =
-      let has = (h evse (claim.Reserved p id)).0 is in
-      let same : has.0 ≡ r = let a = has.1 in cc in
-      swipes.Held ready p id (record { reservation = r; stands = stands; here = subst (λ (x : Reservation). key x.evse_uid ≡ evse) same has.2; token_is = token }) refl
-
   pub not_ready : ¬ IsReady s evse → (held : Option (List ℕ × List ℕ)) → IsOpenTo s evse uid type held → ⊥
-  not_ready no x (swipes.Free ready free e) = no ready
-  not_ready no x (swipes.Held ready p id holds e) = no ready
+  not_ready unready x (swipes.Free ready free e) = unready ready
+  not_ready unready x (swipes.Held ready p id holds e) = unready ready
 
-  pub closed : (c : Claim) → get claims evse ≡ Some c →
-      ((p id : List ℕ) (r : Reservation) → c ≡ claim.Reserved p id → get s.rows.booked.reservations (p, id) ≡ Some r → IsToken uid type r.token → ⊥) →
-      (held : Option (List ℕ × List ℕ)) → IsOpenTo s evse uid type held → ⊥
-  closed c is no x (swipes.Free ready free e) = free c ((h evse c).0 is)
-  closed c is no x (swipes.Held ready p id holds e) =
-      no p id holds.reservation (sym (only_claim claims s.rows h evse c (claim.Reserved p id) is (holds.reservation, holds.stands, holds.here))) holds.stands holds.token_is
+  -- a claim leaves it open as far as it is a reservation for the token
+  pub opens_by : IsReady s evse → (c : Claim) → get claims evse ≡ Some c → (r : Openness) → IsHeldFor s.rows c uid type r → IsOpened s evse uid type r
+  opens_by ready c is Closed none = go
+    where
+      go : (held : Option (List ℕ × List ℕ)) → IsOpenTo s evse uid type held → ⊥
+      go x (swipes.Free _ free e) = free c ((h evse c).0 is)
+      go x (swipes.Held _ p id holds e) =
+          none p id (sym (only_claim claims s.rows h evse c (claim.Reserved p id) is (holds.reservation, holds.stands, holds.here)))
+          (record { reservation = holds.reservation; stands = holds.stands; token_is = holds.token_is })
+  opens_by ready c is openness.Free none = absurd none
+  opens_by ready c is (openness.Held p id) r =
+      let has : HasClaim s.rows evse (claim.Reserved p id) = subst (HasClaim s.rows evse) r.0 ((h evse c).0 is) in
+      let same : has.0 ≡ r.1.reservation = let a = has.1 in let b = r.1.stands in cc in
+      let here = subst (λ (x : Reservation). key x.evse_uid ≡ evse) same has.2 in
+      swipes.Held ready p id (record { reservation = r.1.reservation; stands = r.1.stands; here = here; token_is = r.1.token_is }) refl

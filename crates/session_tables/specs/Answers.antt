@@ -1,6 +1,6 @@
 -- What follows where a provider answers whether its token may be used, and where no answer came in time (OCPI 2.2.1, Tokens:
 -- AuthorizationInfo, AllowedType).
-use Rattle.std.specs.Prelude.{◌≡◌, ◌⊎◌, ℕ, true, List, Option, Some, None}
+use Rattle.std.specs.Prelude.{◌≡◌, ℕ, true, List, Option, Some, None}
 use Rattle.ocpi_text.specs.Text.{key}
 use Rattle.ocpi_types.specs.declared.authorizations.Authorization.{Authorization}
 use Rattle.ocpi_types.specs.declared.authorizations.Authorization.TheVariants.{Done}

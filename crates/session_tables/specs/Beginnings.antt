@@ -1,5 +1,5 @@
 -- A session that begins (OCPI 2.2.1, Sessions: Session object; CDRs: AuthMethod, CdrToken).
-use Rattle.std.specs.Prelude.{◌≡◌, ℕ, List, Option}
+use Rattle.std.specs.Prelude.{ℕ, List, Option}
 use Rattle.ocpi_text.specs.OwnIds.{own_id_text}
 use Rattle.ocpi_text.specs.declared.own_ids.OwnIdKind.TheVariants as own
 use Rattle.ocpi_types.specs.declared.sessions.Opening.{Opening}

@@ -1,8 +1,6 @@
 -- What follows where a driver shows a token at a connector (OCPI 2.2.1, Tokens: Real-time authorization, WhitelistType).
 use Rattle.std.specs.Prelude.{◌≡◌, ℕ, List, Option, Some, None, IsTrue}
-use Rattle.std.specs.FinMap.{get}
 use Rattle.ocpi_text.specs.Text.{key}
-use Rattle.ocpi_types.specs.declared.rows.Place.{Place}
 use Rattle.ocpi_types.specs.declared.site.Connector.{Connector}
 use Rattle.ocpi_types.specs.declared.site.Evse.{Evse}
 use Rattle.ocpi_types.specs.declared.site.Location.{Location}
@@ -12,8 +10,8 @@ use Rattle.site_book.specs.Sites.{works}
 use Rattle.token_desk.specs.Swipes as desk
 use Rattle.token_desk.specs.declared.answers.Swipe.{Swipe}
 use Rattle.token_desk.specs.declared.answers.Swipe.TheVariants as shown
-use Rattle.authorization_book.specs.Waits.{Waits, IsAwaitedAt}
-use Rattle.operator_rows.specs.State.{State, Rows, IsFree}
+use Rattle.authorization_book.specs.Waits.{IsAwaitedAt}
+use Rattle.operator_rows.specs.State.{State, IsFree}
 use Rattle.session_tables.specs.declared.shown.Shown.{Shown}
 use Rattle.session_tables.specs.declared.shown.Shown.TheVariants.{Nothing, Begins, Asks}
 use Rattle.session_tables.specs.Beginnings.{begins}

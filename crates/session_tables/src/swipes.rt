@@ -3,7 +3,7 @@
 ghost use Rattle.std.specs.Prelude.{◌≡◌, ◌↔◌, IsTrue};
 ghost use Rattle.ocpi_text.specs.Text.{key};
 ghost use Rattle.session_tables.specs.Found.{location_of, evse_of, connector_of};
-ghost use Rattle.session_tables.specs.Opened.{IsOpened};
+ghost use Rattle.session_tables.specs.Opened.{IsHeldFor, IsOpened};
 ghost use Rattle.session_tables.specs.Swipes.{IsReady, SwipeLine, told_by};
 
 use crate::beginning::begins_at;
@@ -40,6 +40,32 @@ fn is_ready(books: &Books, evse: CiKey<36>) -> bool
     }
 }
 
+/// Whether an EVSE that has that claim takes a token of that uid and type: a reservation for such a token holds it.
+fn held_for(books: &Books, claim: &Claim, uid: CiKey<36>, token_type: TokenType) -> Openness
+    ensures { IsHeldFor books.now.state.rows claim.now uid token_type result }
+{
+    match claim {
+        Claim::Reserved {
+            provider,
+            reservation,
+        } => {
+            if books
+                .booked()
+                .serves(*provider, *reservation, uid, token_type)
+            {
+                Openness::Held {
+                    provider: *provider,
+                    reservation: *reservation,
+                }
+            } else {
+                Openness::Closed
+            }
+        }
+        Claim::OpenStart { .. } => Openness::Closed,
+        Claim::Live { .. } => Openness::Closed,
+    }
+}
+
 /// Whether the EVSE of a key takes a token of that uid and type: it is in service, no authorization is awaited at it, and it is
 /// unclaimed, or a reservation for such a token holds it.
 fn opened_to(books: &Books, evse: CiKey<36>, uid: CiKey<36>, token_type: TokenType) -> Openness
@@ -50,26 +76,7 @@ fn opened_to(books: &Books, evse: CiKey<36>, uid: CiKey<36>, token_type: TokenTy
     }
     match books.site_book().claim_of(evse) {
         None => Openness::Free,
-        Some(
-            Claim::Reserved {
-                provider,
-                reservation,
-            },
-        ) => {
-            if books
-                .booked()
-                .serves(provider, reservation, uid, token_type)
-            {
-                Openness::Held {
-                    provider,
-                    reservation,
-                }
-            } else {
-                Openness::Closed
-            }
-        }
-        Some(Claim::OpenStart { .. }) => Openness::Closed,
-        Some(Claim::Live { .. }) => Openness::Closed,
+        Some(claim) => held_for(books, &claim, uid, token_type),
     }
 }
 

@@ -13,4 +13,4 @@ pub returns-clause-sole : goal.returns-clause-sole
 returns-clause-sole c =
     let sole = rw c.site_book.ensures.site at c.in_ok-found.ensures.sole in
     let found = rw c.as_slice.ensures.value at c.in_ok-connector.ensures.found in
-    sole_connector c.args.books.now.state.site.locations c.args.evse (key c.args.connector.now) _ _ sole c.as_slice.ensures.are c.in_ok-connector.connector.now found.0 found.1
+    rw c.location.ensures (sole_connector c.args.books.now.state.site.locations c.args.evse (key c.args.connector.now) _ _ sole c.as_slice.ensures.are c.in_ok-connector.connector.now found.0 found.1)
