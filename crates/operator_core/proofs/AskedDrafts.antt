@@ -1,5 +1,5 @@
 -- The step in which the provider of a token is asked.
-use Rattle.std.proofs.Common.{◌≡◌, ◌+◌, ℕ, List, [], ◌∷◌, refl, sym, ap, subst, ◌∙◌}
+use Rattle.std.proofs.Common.{◌≡◌, ◌+◌, ℕ, List, [], ◌∷◌, refl, ap, ◌∙◌}
 use Rattle.std.specs.Prelude.{Result, Ok, Err, IfErr}
 use Rattle.std.specs.Result.{IsErrAnd}
 use Rattle.ocpi_types.specs.declared.packet.Body.{Body}
@@ -9,7 +9,7 @@ use Rattle.ocpi_types.specs.declared.token.Token.{Token}
 use Rattle.authorization_book.specs.declared.waiting.Waiting.{Waiting}
 use Rattle.authorization_book.specs.declared.waiting.Waiting.TheVariants.{Begins}
 use Rattle.node_steps.specs.Acts.{Act, asked}
-use Rattle.node_steps.specs.Drafts.{Gathered, IsInRange, Step, StopsBy, later, opened, with_acts}
+use Rattle.node_steps.specs.Drafts.{Gathered, IsInRange, StopsBy, later, opened, with_acts}
 use Rattle.node_steps.specs.Peers.{IsPeer}
 use Rattle.node_steps.specs.declared.fault.NodeFault.{NodeFault}
 use Rattle.node_steps.specs.declared.fault.NodeFault.TheVariants.{Memory}

@@ -1,12 +1,10 @@
 -- How many numbers the acts of a session that begins take, and that they are gathered in turn.
 use Rattle.std.proofs.Common.{◌≡◌, ◌≤◌, ◌+◌, ◌++◌, ℕ, List, [], ◌∷◌, length, refl, sym, ap, ◌∙◌, arith}
 use Rattle.std.specs.Prelude.{Option, Some, None}
-use Rattle.ocpi_text.specs.Text.{key}
 use Rattle.ocpi_text.specs.Whole.{max_whole}
 use Rattle.command_book.specs.Stored as book
 use Rattle.node_steps.specs.Acts.{Act, all_messages, all_requests}
 use Rattle.node_steps.specs.Drafts.{Gathered, HasNumbers, HasNumbersOf, with_acts}
-use Rattle.node_steps.specs.Peers.{HasPeer}
 use Rattle.node_steps.proofs.Gathering.{messages_count, one_more, requests_append}
 use Rattle.operator_rows.specs.State.{State}
 use Rattle.operator_steps.specs.declared.ending.Ending.{Ending}

@@ -1,11 +1,11 @@
 -- Drafts of acts that may store counters of sessions and of charge detail records, whose numbers are within the last.
-use Rattle.std.proofs.Common.{◌≡◌, ◌≤◌, ◌+◌, ◌++◌, ℕ, List, [], ◌∷◌, length, inl, inr, refl, sym, subst, arith}
-use Rattle.std.specs.Prelude.{Result, Ok, Err, Option, Some, None, IfOk, IfErr, OnOk, Contains, ⊤}
+use Rattle.std.proofs.Common.{◌≡◌, ◌≤◌, ◌+◌, ◌++◌, ℕ, List, [], ◌∷◌, length, inl, inr, sym, subst, arith}
+use Rattle.std.specs.Prelude.{Result, Ok, Err, IfOk, IfErr, OnOk, Contains, ⊤}
 use Rattle.std.specs.Result.{IsErrAnd}
 use Rattle.std.proofs.lemmas.Result.{err_from_is_err_and}
 use Rattle.ocpi_text.specs.Whole.{max_whole}
 use Rattle.ocpi_types.specs.declared.rows.Change.{Change}
-use Rattle.ocpi_types.specs.declared.rows.Change.TheVariants.{Put, Drop}
+use Rattle.ocpi_types.specs.declared.rows.Change.TheVariants.{Put}
 use Rattle.ocpi_types.specs.declared.rows.Counter.{Counter}
 use Rattle.ocpi_types.specs.declared.rows.Row.TheVariants as row
 use Rattle.tables.proofs.Elements.{in_none}
@@ -17,7 +17,7 @@ use Rattle.node_steps.proofs.Gathering.{changes_append, range_is, refused, starv
 use Rattle.operator_rows.specs.State.{State}
 use Rattle.operator_steps.specs.Moves.{AreInRange, counters_of, step_of_acts}
 use Rattle.operator_steps.proofs.Orderly.{of_cons}
-use Rattle.operator_core.specs.Bills.{PassesEnd, StopsEarly}
+use Rattle.operator_core.specs.Bills.{StopsEarly}
 use Rattle.operator_core.specs.Planned.{PlansActs, StopsActs, StopsLine}
 
 -- a counter that is stored is within its last number

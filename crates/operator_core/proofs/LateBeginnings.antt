@@ -1,12 +1,10 @@
 -- The sessions that begin where authorizations get no answer in time.
 use Rattle.std.proofs.Common.{◌≡◌, ◌<◌, ◌≤◌, ◌+◌, ◌++◌, ℕ, List, [], ◌∷◌, length, get_or, drop, refl, sym, ap, subst, ◌∙◌, arith}
-use Rattle.std.specs.Prelude.{Option, Some, None, Contains}
+use Rattle.std.specs.Prelude.{Some, None, Contains}
 use Rattle.std.proofs.lemmas.List.{append_assoc, append-nil, drop_all, drop_more}
-use Rattle.std.proofs.lemmas.List.Elements.{Contains-append_cases}
-use Rattle.tables.proofs.Elements.{in_front, in_none}
+use Rattle.tables.proofs.Elements.{in_front}
 use Rattle.ocpi_text.specs.Text.{key}
-use Rattle.ocpi_text.specs.Whole.{max_whole}
-use Rattle.node_steps.specs.Acts.{Act, all_messages, all_requests}
+use Rattle.node_steps.specs.Acts.{all_messages, all_requests}
 use Rattle.node_steps.specs.Peers.{HasPeer}
 use Rattle.node_steps.proofs.Gathering.{messages_count, requests_append}
 use Rattle.operator_rows.specs.State.{State}
@@ -18,7 +16,7 @@ use Rattle.operator_core.proofs.BeginningCounts.{begun_asks, begun_sends, begun_
 use Rattle.operator_core.proofs.CountedDrafts.{CountWithin, within_both}
 use Rattle.operator_core.proofs.NewVersions.{some_session}
 use Rattle.operator_core.proofs.Versions.{begun_is}
-use Rattle.operator_steps.proofs.Orderly.{in_later, of_cons}
+use Rattle.operator_steps.proofs.Orderly.{in_later}
 use Rattle.session_tables.specs.declared.beginning.Beginning.{Beginning}
 
 -- a loop over late authorizations: with those of the rest, what began so far is what begins of all

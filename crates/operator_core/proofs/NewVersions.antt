@@ -1,10 +1,9 @@
 -- Of each session there is a version to be pushed, whichever push it replaces, so that what is refused can be told.
-use Rattle.std.proofs.Common.{◌≡◌, ℕ, List, refl}
-use Rattle.std.specs.Prelude.{Option}
+use Rattle.std.proofs.Common.{ℕ, refl}
 use Rattle.ocpi_text.specs.Text.{key}
 use Rattle.ocpi_types.specs.declared.sessions.Session.{Session}
 use Rattle.ocpi_types.specs.declared.stored.Push.TheVariants as push
-use Rattle.outbox.specs.Pushes.{IsReplaced, subject}
+use Rattle.outbox.specs.Pushes.{subject}
 use Rattle.node_steps.specs.Peers.{HasPeer}
 use Rattle.operator_rows.specs.State.{State}
 use Rattle.operator_steps.specs.Sessions.{first_of}

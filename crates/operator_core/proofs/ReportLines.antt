@@ -1,5 +1,5 @@
 -- What becomes of a report, and of whom the session is that it makes or changes.
-use Rattle.std.proofs.Common.{◌≡◌, ◌≢◌, ◌⊎◌, ◌<◌, ◌+◌, ◌++◌, ℕ, ℤ, List, [], ◌∷◌, length, inl, inr, refl, sym, ap, subst, ◌∙◌, append-nil, arith}
+use Rattle.std.proofs.Common.{◌≡◌, ◌≢◌, ◌<◌, ◌+◌, ◌++◌, ℕ, ℤ, List, [], ◌∷◌, length, inl, inr, refl, sym, ap, subst, ◌∙◌, append-nil, arith}
 use Rattle.std.specs.Prelude.{Option, Some, None, Result, Ok, Err, IfOk, IfErr, ⊤}
 use Rattle.std.specs.FinMap.{get}
 use Rattle.ocpi_text.specs.Moment.{last_moment}
@@ -32,7 +32,7 @@ use Rattle.operator_steps.specs.Charger.{ChargerLine, Ended, Started, Moved, Beg
 use Rattle.operator_steps.specs.Asking.{IsAsked}
 use Rattle.operator_steps.specs.Ends.{IsOpen, ends_acts}
 use Rattle.operator_steps.specs.Faults.{IsReportFault}
-use Rattle.operator_steps.specs.Moves.{AreInRange, PlannedBy, Work, quiet}
+use Rattle.operator_steps.specs.Moves.{PlannedBy, Work, quiet}
 use Rattle.operator_steps.specs.Sessions.{HasNoStamp, IsBegun, numbered_sessions}
 use Rattle.operator_core.specs.Bills.{IsRecorded, StopsEarly}
 use Rattle.operator_core.specs.Planned.{BeginsWith, PlansActs, StopsActs, StopsLine, StopsWork, quiet_step}
@@ -40,7 +40,7 @@ use Rattle.operator_core.specs.Requests.{acts_of_end}
 use Rattle.session_tables.specs.declared.beginning.Beginning.{Beginning}
 use Rattle.session_tables.specs.declared.shown.Shown.{Shown}
 use Rattle.session_tables.specs.declared.shown.Shown.TheVariants as shown
-use Rattle.session_tables.specs.Moved.{Comes, IsMoved, Still, Goes}
+use Rattle.session_tables.specs.Moved.{IsMoved, Still, Goes}
 use Rattle.session_tables.specs.Moves.{Ends, Makes, Moves, MovesNone}
 use Rattle.session_tables.specs.declared.outcome.Moved.TheVariants as moved
 use Rattle.session_tables.specs.Swipes.{SwipeLine, Unplaced, Closed, Open, id_of, provider_of, told_by}

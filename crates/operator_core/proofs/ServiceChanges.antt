@@ -1,7 +1,7 @@
 -- That an EVSE goes out of service, or comes back, stores no counter.
-use Rattle.std.proofs.Common.{◌≡◌, ℕ, List, [], ◌∷◌, Bool, ap}
+use Rattle.std.proofs.Common.{ℕ, List, [], ◌∷◌, Bool, ap}
 use Rattle.ocpi_types.specs.declared.rows.Change.{Change}
-use Rattle.node_steps.specs.Acts.{Act, all_changes, changed}
+use Rattle.node_steps.specs.Acts.{all_changes, changed}
 use Rattle.operator_rows.specs.State.{State}
 use Rattle.operator_steps.specs.Service.{ServiceLine, Unknown, Unchanged, Withdrawn, Restored}
 use Rattle.operator_core.proofs.PlannedActs.{IsNoCount}

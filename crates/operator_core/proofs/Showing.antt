@@ -1,5 +1,5 @@
 -- What a driver's token comes to is one thing.
-use Rattle.std.proofs.Common.{◌≡◌, ℕ, Bool, true, false, List, refl, sym, ap, subst, ◌∙◌}
+use Rattle.std.proofs.Common.{◌≡◌, ℕ, true, false, List, refl, sym, ap, subst, ◌∙◌}
 use Rattle.std.specs.Prelude.{Option, Some, None, is_some}
 use Rattle.std.specs.FinMap.{get}
 use Rattle.std.specs.Ordering.{is_gt, ordering_reverse}
@@ -16,14 +16,13 @@ use Rattle.ocpi_types.specs.declared.token.Token.{Token}
 use Rattle.ocpi_types.specs.declared.words.TokenType.{TokenType}
 use Rattle.ocpi_types.specs.declared.words.WhitelistType.{WhitelistType}
 use Rattle.ocpi_types.specs.declared.words.WhitelistType.TheVariants.{Always, Allowed, AllowedOffline, Never}
-use Rattle.site_book.specs.declared.claim.Claim.{Claim}
 use Rattle.site_book.specs.declared.claim.Claim.TheVariants.{Reserved}
 use Rattle.token_desk.specs.Swipes as desk
 use Rattle.token_desk.specs.Tokens.{Tokens}
 use Rattle.token_desk.specs.declared.answers.Swipe.{Swipe}
 use Rattle.token_desk.specs.declared.answers.Swipe.TheVariants as told
 use Rattle.operator_rows.specs.State.{State, OneClaimEach}
-use Rattle.operator_steps.specs.Charger.{Shows, ShowsNone}
+use Rattle.operator_steps.specs.Charger.{ShowsNone}
 use Rattle.session_tables.specs.Swipes.{IsOpenTo, Free, Held, SwipeLine, Unplaced, Closed, Open, id_of, provider_of, told_by}
 use Rattle.session_tables.specs.declared.shown.Shown.{Shown}
 use Rattle.session_tables.specs.declared.shown.Shown.TheVariants.{Nothing}

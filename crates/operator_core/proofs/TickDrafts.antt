@@ -1,6 +1,6 @@
 -- What happens at a moment: its acts are what the moment comes to, they take so many numbers, and they are gathered in turn.
-use Rattle.std.proofs.Common.{◌≡◌, ◌≢◌, ◌<◌, ◌≤◌, ◌+◌, ◌++◌, ℕ, Bool, true, false, cond, nat_eq, List, [], ◌∷◌, length, map, inl, inr, refl, sym, ap, subst, ◌∙◌, arith}
-use Rattle.std.specs.Prelude.{Contains, Result, Ok, Err, Some, IfOk, IfErr, OnOk, IsTrue, is_some}
+use Rattle.std.proofs.Common.{◌≡◌, ◌<◌, ◌≤◌, ◌+◌, ◌++◌, ℕ, Bool, true, false, cond, nat_eq, List, [], ◌∷◌, length, map, inl, inr, refl, sym, ap, subst, ◌∙◌, arith}
+use Rattle.std.specs.Prelude.{Contains, Result, Ok, Err, IfOk, IfErr, IsTrue}
 use Rattle.std.specs.Result.{IsErrAnd}
 use Rattle.std.specs.FinMap.{contains_key}
 use Rattle.std.proofs.lemmas.List.Elements.{Contains-append_left, Contains-append_right}
@@ -15,7 +15,7 @@ use Rattle.ocpi_types.specs.declared.rows.Row.TheVariants as row
 use Rattle.authorization_book.specs.Due.{AreDue}
 use Rattle.authorization_book.specs.Waits as waits
 use Rattle.authorization_book.specs.declared.waiting.Waiting.TheVariants.{Ends}
-use Rattle.outbox.specs.Due.{AreExactly, IsDue}
+use Rattle.outbox.specs.Due.{AreExactly}
 use Rattle.reservation_book.specs.declared.standing.Standing.{Standing}
 use Rattle.tables.proofs.Elements.{in_front, in_none}
 use Rattle.node_steps.specs.Acts.{Act, all_changes, all_messages, all_requests, changed}
@@ -24,20 +24,20 @@ use Rattle.node_steps.specs.Peers.{HasPeer}
 use Rattle.node_steps.specs.declared.fault.NodeFault.{NodeFault}
 use Rattle.node_steps.specs.declared.fault.NodeFault.TheVariants.{NotForMe, UnknownOperator, UnknownToken, StampEnd, NumbersUsedUp, Memory}
 use Rattle.node_steps.proofs.Gathering.{both, changes_append, has_first, has_rest}
-use Rattle.operator_rows.specs.State.{State, as_outbox}
+use Rattle.operator_rows.specs.State.{State}
 use Rattle.operator_rows.specs.Sound.{IsConsistent}
 use Rattle.operator_steps.specs.declared.ending.Ending.{Ending}
 use Rattle.operator_steps.specs.Ends.{all_resent, ends_acts, expired_acts}
 use Rattle.operator_steps.specs.Faults.{IsOwnFault, PassesLast}
-use Rattle.operator_steps.specs.Moves.{AreInRange, Work}
+use Rattle.operator_steps.specs.Moves.{Work}
 use Rattle.operator_steps.specs.Tick.{TickLine}
-use Rattle.operator_steps.specs.TickFacts.{IsTickOf, tick_acts}
+use Rattle.operator_steps.specs.TickFacts.{tick_acts}
 use Rattle.operator_steps.proofs.Ends.{ends_ask}
 use Rattle.operator_steps.proofs.Expiring.{expired_ask}
 use Rattle.operator_steps.proofs.Resending.{resent_changes}
 use Rattle.operator_steps.proofs.TickStages.{due_stands, stages_see}
 use Rattle.operator_steps.proofs.TickSteps.{tick_ask, tick_send}
-use Rattle.operator_core.specs.Happenings.{AreDueAt, BeginAt, HappenWith, IsHappening, happening_acts, is_replaced, unreplaced}
+use Rattle.operator_core.specs.Happenings.{AreDueAt, HappenWith, IsHappening, happening_acts, unreplaced}
 use Rattle.operator_core.specs.Planned.{AreBeginnings, AreNewSessions, CannotNumber, Late, Late_begins, None_late, all_begun}
 use Rattle.operator_core.specs.declared.sessions.Begun.{Begun}
 use Rattle.operator_core.specs.declared.tick.Due.{Due}

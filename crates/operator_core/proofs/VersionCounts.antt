@@ -1,9 +1,9 @@
 -- How many numbers the versions of sessions and charge detail records take, and that they are gathered in turn.
-use Rattle.std.proofs.Common.{◌≡◌, ◌≤◌, ◌+◌, ◌++◌, ℕ, List, [], ◌∷◌, length, refl, sym, ap, ◌∙◌}
+use Rattle.std.proofs.Common.{◌≡◌, ◌≤◌, ◌+◌, ◌++◌, ℕ, List, length, refl, sym, ap, ◌∙◌}
 use Rattle.std.specs.Prelude.{Option, Some, None}
 use Rattle.ocpi_text.specs.Whole.{max_whole}
 use Rattle.ocpi_types.specs.declared.sessions.Session.{Session}
-use Rattle.node_steps.specs.Acts.{Act, all_messages, all_requests}
+use Rattle.node_steps.specs.Acts.{all_messages, all_requests}
 use Rattle.node_steps.specs.Drafts.{Gathered, with_acts}
 use Rattle.node_steps.proofs.Gathering.{both}
 use Rattle.operator_steps.specs.Sessions.{versioned}

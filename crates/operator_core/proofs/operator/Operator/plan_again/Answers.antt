@@ -1,4 +1,4 @@
-use Rattle.std.proofs.Common.{◌≡◌, ◌∙◌, ℕ, List, [], ◌∷◌, refl, arith}
+use Rattle.std.proofs.Common.{◌∙◌, ℕ, List, [], ◌∷◌, refl, arith}
 use Rattle.node_steps.specs.Acts.{Act, repeated}
 use Rattle.node_steps.proofs.Gathering.{step_is}
 use Rattle.operator_steps.specs.Moves.{counters_of}

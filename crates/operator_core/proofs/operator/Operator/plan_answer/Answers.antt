@@ -3,7 +3,6 @@ use Rattle.authorization_book.specs.declared.waiting.Waiting.{Waiting}
 use Rattle.authorization_book.specs.declared.waiting.Waiting.TheVariants.{Ends}
 use Rattle.node_steps.specs.Drafts.{step_of}
 use Rattle.node_steps.specs.declared.fault.NodeFault.TheVariants.{Memory}
-use Rattle.operator_rows.specs.Steps.{FullStep}
 use Rattle.operator_steps.specs.Asking.{IsAwaited}
 use Rattle.operator_steps.specs.Faults.{IsDue}
 use Rattle.operator_steps.specs.Moves.{PlannedBy}

@@ -1,5 +1,5 @@
-use Rattle.std.proofs.Common.{◌≡◌, ◌≤◌, ◌+◌, ℕ, List, length, sym, ◌∙◌, arith}
-use Rattle.node_steps.specs.Acts.{Act, all_messages, all_requests}
+use Rattle.std.proofs.Common.{ℕ, List, ◌∙◌, arith}
+use Rattle.node_steps.specs.Acts.{Act}
 use Rattle.node_steps.specs.Drafts.{HasNumbers}
 use Rattle.node_steps.proofs.Gathering.{step_is}
 use Rattle.operator_steps.specs.Moves.{counters_of}

@@ -1,5 +1,5 @@
-use Rattle.std.proofs.Common.{◌≡◌, [], refl, sym, subst, ◌∙◌}
-use Rattle.std.specs.Prelude.{None, Some}
+use Rattle.std.proofs.Common.{[], refl, sym, subst, ◌∙◌}
+use Rattle.std.specs.Prelude.{None}
 use Rattle.ocpi_text.specs.Text.{key}
 use Rattle.node_steps.specs.Drafts.{step_of}
 use Rattle.node_steps.specs.Peers.{HasPeer}

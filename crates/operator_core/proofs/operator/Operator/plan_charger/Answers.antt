@@ -1,14 +1,12 @@
-use Rattle.std.proofs.Common.{◌≡◌, List, [], ◌∷◌, inl, inr, refl, sym, subst}
-use Rattle.std.specs.Prelude.{None, Contains, IfOk, IfErr}
+use Rattle.std.proofs.Common.{[], ◌∷◌, sym, subst}
+use Rattle.std.specs.Prelude.{None}
 use Rattle.tables.proofs.Elements.{in_single}
-use Rattle.node_steps.specs.Drafts.{step_of}
 use Rattle.operator_rows.specs.FullSteps.{full_step_of}
-use Rattle.operator_rows.specs.Steps.{FullStep, MayFollowFull}
 use Rattle.operator_steps.specs.declared.ending.Ending.{Ending}
 use Rattle.operator_steps.specs.Charger.{ChargerLine}
 use Rattle.operator_steps.specs.Ends.{IsOpen}
 use Rattle.operator_steps.specs.Faults.{IsReportFault}
-use Rattle.operator_steps.specs.Moves.{PlannedBy, Work, quiet}
+use Rattle.operator_steps.specs.Moves.{PlannedBy, quiet}
 use Rattle.operator_steps.proofs.ReportSteps.{reports}
 use Rattle.operator_core.specs.Planned.{BeginsWith}
 use Rattle.operator_core.specs.Requests.{acts_of_end}

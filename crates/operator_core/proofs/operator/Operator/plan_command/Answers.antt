@@ -1,4 +1,3 @@
-use Rattle.std.proofs.Common.{◌≡◌}
 use Rattle.node_steps.specs.Drafts.{step_of}
 use Rattle.operator_steps.specs.Acts.{decided_acts}
 use Rattle.operator_steps.specs.Moves.{quiet}

@@ -1,18 +1,16 @@
-use Rattle.std.proofs.Common.{◌≡◌, ◌∙◌, ℕ, ◌+◌, List, length, ap, sym}
+use Rattle.std.proofs.Common.{◌≡◌, ◌∙◌, ℕ, ◌+◌, length, ap}
 use Rattle.ocpi_types.specs.Stored.{body_of_command}
 use Rattle.ocpi_types.specs.declared.stored.Command.{Command}
-use Rattle.node_steps.specs.Acts.{Act, all_messages, all_requests}
-use Rattle.node_steps.specs.Drafts.{HasNumbersOf, step_of}
+use Rattle.node_steps.specs.Acts.{all_messages, all_requests}
 use Rattle.node_steps.proofs.Gathering.{has_all, step_is}
-use Rattle.operator_rows.specs.State.{State}
 use Rattle.operator_tables.specs.declared.decision.Decision.{Decision}
 use Rattle.operator_tables.specs.declared.request.Request.{Request}
 use Rattle.operator_steps.specs.Acts.{result_of}
-use Rattle.operator_steps.specs.Moves.{counters_of, step_of_acts}
+use Rattle.operator_steps.specs.Moves.{counters_of}
 use Rattle.operator_core.specs.Planned.{StopsActs}
 use Rattle.operator_core.specs.Requests.{decided_by, result_count}
 use Rattle.operator_core.proofs.Decisions.{decided_asks, decided_within, decided_sends}
-use Rattle.operator_core.proofs.Parts.{err_each, on_each}
+use Rattle.operator_core.proofs.Parts.{err_each}
 use Rattle.operator_core.proofs.CountedDrafts.{counted_in_range, counted_refused, counted_starved}
 use Rattle.operator_core.proofs.operator.Operator.plan_decided.Goals as goal
 

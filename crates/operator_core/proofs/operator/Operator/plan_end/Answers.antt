@@ -1,4 +1,4 @@
-use Rattle.std.proofs.Common.{◌≡◌, ◌∙◌, ℕ, List, [], ◌∷◌, sym}
+use Rattle.std.proofs.Common.{◌∙◌, ℕ, List, [], ◌∷◌, sym}
 use Rattle.node_steps.specs.Acts.{Act}
 use Rattle.node_steps.proofs.Gathering.{has_all, step_is}
 use Rattle.operator_steps.specs.Ends.{ends_acts}

@@ -1,7 +1,4 @@
-use Rattle.std.proofs.Common.{◌≡◌, List, sym, subst}
-use Rattle.node_steps.specs.Acts.{Act}
-use Rattle.node_steps.specs.Drafts.{step_of}
-use Rattle.operator_rows.specs.Steps.{FullStep}
+use Rattle.std.proofs.Common.{sym, subst}
 use Rattle.operator_steps.specs.Charger.{ChargerLine}
 use Rattle.operator_steps.specs.Faults.{IsReportFault}
 use Rattle.operator_steps.specs.Moves.{PlannedBy}

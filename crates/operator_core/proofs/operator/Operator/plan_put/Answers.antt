@@ -1,9 +1,7 @@
-use Rattle.std.proofs.Common.{◌≡◌, ◌≢◌, ◌∙◌, ℕ, List, arith}
-use Rattle.std.specs.Prelude.{IfOk, IfErr}
+use Rattle.std.proofs.Common.{◌≡◌, ◌∙◌, arith}
+use Rattle.std.specs.Prelude.{IfOk}
 use Rattle.ocpi_text.specs.Text.{key}
 use Rattle.token_desk.specs.Putting.{PutLine}
-use Rattle.token_desk.specs.declared.fault.TokenFault.TheVariants.{WrongParty}
-use Rattle.node_steps.specs.Acts.{Act}
 use Rattle.node_steps.proofs.Gathering.{step_is}
 use Rattle.operator_steps.specs.Moves.{counters_of}
 use Rattle.operator_steps.specs.Steps.{TokenLine}

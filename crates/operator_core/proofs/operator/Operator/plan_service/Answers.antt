@@ -1,5 +1,4 @@
-use Rattle.std.proofs.Common.{◌≡◌, ◌∷◌, [], refl, sym, subst}
-use Rattle.operator_rows.specs.Steps.{FullStep, MayFollowFull}
+use Rattle.std.proofs.Common.{◌∷◌, [], refl, sym, subst}
 use Rattle.operator_steps.specs.Moves.{PlannedBy, Quietly, Work}
 use Rattle.operator_steps.specs.Service.{ServiceLine}
 use Rattle.operator_steps.proofs.ServiceSteps.{services}

@@ -1,11 +1,9 @@
-use Rattle.std.proofs.Common.{◌≡◌, ◌⊎◌, List, [], ◌∷◌, ℕ, inl, inr, refl, sym, subst}
+use Rattle.std.proofs.Common.{◌≡◌, ◌⊎◌, List, [], ℕ, inl, inr, refl, sym, subst}
 use Rattle.std.specs.Prelude.{None}
-use Rattle.node_steps.specs.Drafts.{step_of}
 use Rattle.ocpi_types.specs.declared.rows.Place.{Place}
 use Rattle.ocpi_types.specs.declared.token.Token.{Token}
 use Rattle.operator_rows.specs.FullSteps.{full_step_of}
 use Rattle.operator_rows.specs.State.{State}
-use Rattle.operator_rows.specs.Steps.{FullStep}
 use Rattle.ocpi_types.specs.declared.events.ChargerEvent.{ChargerEvent}
 use Rattle.operator_steps.specs.Asking.{IsAsked}
 use Rattle.operator_steps.specs.Charger.{ChargerLine, Idle, Shows}

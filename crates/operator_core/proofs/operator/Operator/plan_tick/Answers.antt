@@ -1,4 +1,4 @@
-use Rattle.std.proofs.Common.{◌≡◌, map, ap}
+use Rattle.std.proofs.Common.{◌≡◌, map}
 use Rattle.authorization_book.specs.Waits as waits
 use Rattle.authorization_book.specs.declared.waiting.Waiting.TheVariants.{Ends}
 use Rattle.outbox.specs.Due.{AreExactly}

@@ -4,7 +4,6 @@ use Rattle.operator_core.proofs.Showing.{swipe_nothing}
 use Rattle.operator_core.proofs.operator.Operator.shown_by.Goals as goal
 use Rattle.session_tables.specs.Swipes.{SwipeLine}
 use Rattle.session_tables.specs.declared.shown.Shown.{Shown}
-use Rattle.session_tables.specs.declared.shown.Shown.TheVariants.{Nothing}
 
 pub returns-in-Swipe-clause-shows : goal.returns-in-Swipe-clause-shows
 returns-in-Swipe-clause-shows c =
