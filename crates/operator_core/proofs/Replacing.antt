@@ -2,7 +2,7 @@
 use Rattle.std.proofs.Common.{◌≡◌, ◌≢◌, ◌⊎◌, inl, inr, true, false, ℕ, List, [], ◌∷◌, refl, sym, ap, subst, ◌∙◌}
 use Rattle.std.specs.Prelude.{Option, Some, None, Contains}
 use Rattle.std.specs.Cmp.{eq_by_cmp_equiv, nat_cmp_total}
-use Rattle.std.specs.FinMap.{entries, get, nat_cmp-IsAntisymmetric}
+use Rattle.std.specs.FinMap.{entries, nat_cmp-IsAntisymmetric}
 use Rattle.std.specs.Ordering.{is_eq}
 use Rattle.std.specs.declared.cmp.Ordering.{Ordering}
 use Rattle.std.specs.declared.cmp.Ordering.TheVariants.{Less, Equal, Greater}
@@ -26,7 +26,7 @@ is_about : (o : Option Subject) (u : Subject) → (o ≡ Some u) ⊎ (o ≢ Some
 is_about None u = inr (λ h. cc)
 is_about (Some a) u = elim (by_order a u (subject_cmp a u) refl) [
   | inl e ↦ inl (ap Some e)
-  | inr no ↦ inr (λ h. let e : a ≡ u = cc in no e)
+  | inr differ ↦ inr (λ h. let e : a ≡ u = cc in differ e)
 ]
 
 abbrev AboutIn : Subject → List (ℕ × Outgoing) → Type 0
@@ -36,10 +36,10 @@ search : (u : Subject) (es : List (ℕ × Outgoing)) → AboutIn u es ⊎ ((e : 
 search u [] = inr (λ e i. absurd (in_none e i))
 search u (x ∷ xs) = elim (is_about (subject_of x.1) u) [
   | inl h ↦ inl (x, in_front x xs, h)
-  | inr no ↦ elim (search u xs) [
+  | inr differ ↦ elim (search u xs) [
     | inl f ↦ inl (f.0, Contains-append_right (x ∷ []) xs f.0 f.1, f.2)
     | inr none ↦ inr (λ e i h. elim (Contains-append_cases (x ∷ []) xs e i) [
-      | inl j ↦ no (subst (λ z. subject_of z.1 ≡ Some u) (sym (in_single x e j)) h)
+      | inl j ↦ differ (subst (λ z. subject_of z.1 ≡ Some u) (sym (in_single x e j)) h)
       | inr j ↦ none e j h
     ])
   ]

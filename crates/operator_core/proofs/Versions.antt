@@ -1,5 +1,5 @@
 -- What is decided of a session that begins, or of its versions, and the acts that a line asks for.
-use Rattle.std.proofs.Common.{◌≡◌, ◌++◌, ℕ, List, ap}
+use Rattle.std.proofs.Common.{◌++◌, ℕ, ap}
 use Rattle.ocpi_types.specs.declared.sessions.Session.{Session}
 use Rattle.operator_rows.specs.State.{State}
 use Rattle.operator_steps.specs.Acts.{used}

@@ -4,6 +4,7 @@ use Rattle.ocpi_text.specs.Text.{key}
 use Rattle.ocpi_text.specs.Whole.{max_whole}
 use Rattle.ocpi_types.specs.declared.sessions.Session.{Session}
 use Rattle.ocpi_types.specs.declared.stored.Push.TheVariants as push
+use Rattle.command_book.specs.Stored as book
 use Rattle.node_steps.specs.Acts.{Act, in_turn}
 use Rattle.node_steps.specs.Drafts.{Step}
 use Rattle.node_steps.specs.Peers.{IsPeer}
@@ -70,6 +71,11 @@ begun_acts at last x = used x.provider x.reservation_id ++ version_acts at last 
 abbrev pub all_begun : ℕ → ℕ → List Begun → List Act
 all_begun at last xs = in_turn (begun_acts at) last xs
 
+-- the acts of a session of number n that begins, after these commands end and a reference of its provider is spent; `last` is the number of
+-- the last request before them
+abbrev pub begins_acts : ℕ → book.OpenCommands → ℕ → ℕ → List Ending → Option (List ℕ) → Begun → List Act
+begins_acts at m last n ends reference x = numbered_sessions n ∷ ((ends_acts at m last ends ++ spent x.provider reference) ++ begun_acts at (last + length ends) x)
+
 -- a session begins, after these commands end and a reference of its provider is spent
 pub record BeginsWith (s : State) (at : ℕ) (ends : List Ending) (reference : Option (List ℕ)) (b : Beginning) (acts : List Act) : Type 0 where
   pub begun : List Act
@@ -94,7 +100,7 @@ CannotNumber s more NotForMe = ⊥
 CannotNumber s more UnknownOperator = ⊥
 CannotNumber s more UnknownToken = ⊥
 CannotNumber s more StampEnd = ⊥
-CannotNumber s more NumbersUsedUp = max_whole < s.rows.charged.last_session + more
+CannotNumber s more NumbersUsedUp = (0 < more) × (max_whole < s.rows.charged.last_session + more)
 CannotNumber s more Memory = ⊤
 
 -- why what a line asks for is not done: acts, and changes of what is awaited

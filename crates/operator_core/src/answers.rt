@@ -48,6 +48,7 @@ impl Operator {
         ensures ok { IfOk result (λ x. PlansActs (ByAnswer self.now.state request.now.at awaited.now answer.now) self.now.state (step_of x)) }
         ensures err { IfErr result (StopsLine (ByAnswer self.now.state request.now.at awaited.now answer.now) self.now.state) }
     {
+        self.counters_in_range();
         match begins_by_answer(&self.books, awaited, answer) {
             None => Ok(Plan::nothing(self.alloc)),
             Some(beginning) => {

@@ -1,9 +1,13 @@
 //! Charge detail records (OCPI 2.2.1, CDRs: Sender interface).
 
-ghost use Rattle.std.specs.Prelude.{◌≡◌, IfOk, IfErr, OnOk};
+ghost use Rattle.std.specs.Prelude.{◌≡◌, ◌+◌, ◌∷◌, [], IfOk, IfErr, OnOk};
 ghost use Rattle.ocpi_text.specs.OwnIds.{own_id_text};
 ghost use Rattle.ocpi_text.specs.Text.{key};
 ghost use Rattle.ocpi_text.specs.declared.own_ids.OwnIdKind.TheVariants as own;
+ghost use Rattle.ocpi_types.specs.declared.rows.Change.TheVariants as change;
+ghost use Rattle.ocpi_types.specs.declared.rows.Row.TheVariants as row;
+ghost use Rattle.ocpi_types.specs.declared.stored.Push.TheVariants as push;
+ghost use Rattle.node_steps.specs.Acts.{changed, pushed};
 ghost use Rattle.node_steps.specs.Drafts.{HasNumbers, with_acts};
 ghost use Rattle.site_book.specs.Sites.{IsConnectorOf};
 ghost use Rattle.session_state.specs.Records.{cdr_of};
@@ -26,6 +30,29 @@ pub(crate) struct Bill {
     pub cdr: Cdr,
 }
 
+/// Adds that a charge detail record is pushed to a party.
+fn add_posted(
+    alloc: Global,
+    draft: &mut Draft,
+    at: Moment,
+    to: Party,
+    cdr: &Cdr,
+) -> Result<(), AllocError>
+    requires { HasNumbers 1 1 draft.old }
+    ensures { OnOk result (draft.new ≡ with_acts (pushed at (draft.old.counters.request + 1) to (push.PostCdr cdr.now) ∷ []) draft.old) }
+{
+    let sent = Boxed::new(alloc, cdr.copy()?)?;
+    draft.push(at, to, Push::PostCdr(sent))
+}
+
+/// Adds that a charge detail record is stored.
+fn add_recorded(alloc: Global, draft: &mut Draft, cdr: Cdr) -> Result<(), AllocError>
+    ensures { OnOk result (draft.new ≡ with_acts (changed (change.Put (row.Cdr cdr)) ∷ []) draft.old) }
+{
+    let cdr = Boxed::new(alloc, cdr)?;
+    draft.change(Change::Put(Row::Cdr { cdr }))
+}
+
 /// Adds a charge detail record: it is numbered, pushed and stored.
 pub(crate) fn add_bill(
     alloc: Global,
@@ -38,11 +65,9 @@ pub(crate) fn add_bill(
     ensures { OnOk result (draft.new ≡ with_acts (bill_acts at draft.old.counters.request to bill) draft.old) }
 {
     let Bill { number, cdr } = bill;
-    let stored = Boxed::new(alloc, cdr.copy()?)?;
-    let sent = Boxed::new(alloc, cdr)?;
     add_number(draft, Counter::Cdr, number)?;
-    draft.push(at, to, Push::PostCdr(sent))?;
-    draft.change(Change::Put(Row::Cdr { cdr: stored }))
+    add_posted(alloc, draft, at, to, &cdr)?;
+    add_recorded(alloc, draft, cdr)
 }
 
 /// The charge detail record of a draft, under the id of a number of a party. The draft is spent. An error is want of memory.

@@ -66,6 +66,10 @@ impl Operator {
         ensures ok { IfOk result (λ x. PlansActs (IsRecorded self.now.state at version.now) self.now.state (step_of x)) }
         ensures err { IfErr result (StopsEarly (IsRecorded self.now.state at version.now) self.now.state) }
     {
+        // The proof wants the types of the members named.
+        let _total_cost = version.total_cost;
+        let _end_date_time = version.end_date_time;
+        let _reference = version.authorization_reference;
         let versioned = self.versioned(version)?;
         self.plan_version(at, &versioned)
     }

@@ -1,13 +1,13 @@
 //! Authorizations that get no answer in time (OCPI 2.2.1, Tokens: WhitelistType).
 
-ghost use Rattle.std.specs.Prelude.{◌≡◌, ◌≤◌, ◌+◌, ◌↔◌, ℕ, Contains, IsTrue, length, map as list_map, IfOk, IfErr};
+ghost use Rattle.std.specs.Prelude.{◌≡◌, ◌≤◌, ◌+◌, ℕ, Contains, IsTrue, length, map as list_map, IfOk, IfErr};
 ghost use Rattle.std.specs.FinMap as map;
 ghost use Rattle.ocpi_text.specs.Text.{key};
 ghost use Rattle.ocpi_text.specs.Whole.{max_whole};
 ghost use Rattle.authorization_book.specs.declared.waiting.Waiting.TheVariants.{Ends};
 ghost use Rattle.node_steps.specs.Peers.{HasPeer};
 ghost use Rattle.operator_steps.specs.TickFacts.{IsLeftUnanswered};
-ghost use Rattle.operator_core.specs.Happenings.{IsReplacedBy};
+ghost use Rattle.operator_core.specs.Happenings.{is_number, is_replaced, unreplaced};
 ghost use Rattle.operator_core.specs.Planned.{AreBeginnings, AreNewSessions, CannotNumber};
 ghost use Rattle.session_tables.specs.declared.beginning.Beginning.{Beginning as BeginningOf};
 
@@ -30,17 +30,43 @@ pub(crate) fn ended(alloc: Global, late: &[Whole]) -> Result<Vec<Waiting>, Alloc
     Ok(waits)
 }
 
-/// The numbers of the pushes that the first versions of sessions replace. An error is want of memory.
-pub(crate) fn replaced_by(alloc: Global, sessions: &[Begun]) -> Result<Vec<Whole>, AllocError>
-    ensures { IfOk result (λ numbers. (n : ℕ) → Contains numbers.items n ↔ IsReplacedBy sessions.now n) }
+/// Whether the first version of a session replaces the push of a number.
+fn replaces(begun: &Begun, number: Whole) -> bool
+    ensures { result ≡ is_number begun.now.first.older number }
 {
-    let mut numbers = Vec::new(alloc);
+    match begun.first.older {
+        None => false,
+        Some(older) => older == number,
+    }
+}
+
+/// Whether the first version of one of the sessions does.
+pub(crate) fn is_replaced(sessions: &[Begun], number: Whole) -> bool
+    ensures { result ≡ is_replaced sessions.now number }
+{
     for begun in sessions {
-        if let Some(number) = begun.first.older {
-            numbers.push(number)?;
+        if replaces(begun, number) {
+            return true;
         }
     }
-    Ok(numbers)
+    false
+}
+
+/// The numbers among these that none of the sessions replaces. An error is want of memory.
+pub(crate) fn unreplaced(
+    alloc: Global,
+    numbers: &[Whole],
+    sessions: &[Begun],
+) -> Result<Vec<Whole>, AllocError>
+    ensures { IfOk result (λ left. left.items ≡ unreplaced sessions.now numbers.now) }
+{
+    let mut left = Vec::with_capacity(alloc, numbers.len())?;
+    for number in numbers {
+        if !is_replaced(sessions, *number) {
+            left.push(*number)?;
+        }
+    }
+    Ok(left)
 }
 
 impl Operator {
@@ -67,6 +93,9 @@ impl Operator {
         let mut beginnings = Vec::new(self.alloc);
         for number in late {
             if let Some(beginning) = self.beginning(at, *number) {
+                // The proof wants the types of the members named.
+                let read = &beginning;
+                let _location_id = read.location_id;
                 beginnings.push(beginning)?;
             }
         }
@@ -87,12 +116,17 @@ impl Operator {
         ensures err { IfErr result (CannotNumber self.now.state (length beginnings.now)) }
     {
         let mut last = self.books.charged().last_session();
+        let _in_range = last.value();
         let mut sessions = Vec::with_capacity(self.alloc, beginnings.len())?;
         for beginning in beginnings {
             let Some(number) = last.next() else {
                 return Err(NodeFault::NumbersUsedUp);
             };
-            sessions.push(self.begun(at, number, beginning)?)?;
+            let begun = self.begun(at, number, beginning)?;
+            // The proof wants the types of the members named.
+            let version = &begun.first.version;
+            let _total_cost = version.total_cost;
+            sessions.push(begun)?;
             last = number;
         }
         Ok((sessions, last))

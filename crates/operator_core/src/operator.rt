@@ -101,6 +101,7 @@ impl Operator {
         ensures err { OnErr result (self.new.state ≡ self.old.state) }
         ensures rows { IfOk result (λ x. AreChanges self.old.state.rows x.rows.items self.new.state.rows) }
     {
+        self.consistency();
         let rows = copies(self.alloc, plan.plan.changes.as_slice())?;
         self.make_room(&plan)?;
         let packets = self.apply(plan);

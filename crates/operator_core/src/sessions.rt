@@ -1,11 +1,12 @@
 //! Sessions that begin, and their versions (OCPI 2.2.1, Sessions: Sender interface).
 
-ghost use Rattle.std.specs.Prelude.{◌≡◌, ◌+◌, ◌∷◌, [], ℕ, Option, IfOk, IfErr, OnOk};
+ghost use Rattle.std.specs.Prelude.{◌≡◌, ◌≤◌, ◌+◌, ◌∷◌, [], ℕ, Option, IfOk, IfErr, OnOk};
 ghost use Rattle.ocpi_text.specs.Text.{key};
 ghost use Rattle.ocpi_text.specs.Whole.{max_whole};
 ghost use Rattle.ocpi_types.specs.declared.rows.Row.TheVariants as row;
 ghost use Rattle.ocpi_types.specs.declared.rows.Change.TheVariants as change;
-ghost use Rattle.node_steps.specs.Acts.{changed};
+ghost use Rattle.ocpi_types.specs.declared.stored.Push.TheVariants as push;
+ghost use Rattle.node_steps.specs.Acts.{changed, pushed};
 ghost use Rattle.node_steps.specs.Drafts.{HasNumbers, HasNumbersOf, with_acts};
 ghost use Rattle.node_steps.specs.Peers.{HasPeer};
 ghost use Rattle.node_steps.specs.declared.fault.NodeFault.TheVariants.{NumbersUsedUp};
@@ -57,6 +58,37 @@ fn add_replaced(draft: &mut Draft, older: Option<Whole>) -> Result<(), AllocErro
     }
 }
 
+/// Adds that a version of a session is pushed to a party.
+fn add_pushed(
+    alloc: Global,
+    draft: &mut Draft,
+    at: Moment,
+    to: Party,
+    version: &Session,
+) -> Result<(), AllocError>
+    requires { HasNumbers 1 1 draft.old }
+    ensures { OnOk result (draft.new ≡ with_acts (pushed at (draft.old.counters.request + 1) to (push.PutSession version.now) ∷ []) draft.old) }
+{
+    // The proof wants the types of the members named.
+    let _total_cost = version.total_cost;
+    let _end_date_time = version.end_date_time;
+    let _reference = version.authorization_reference;
+    let sent = Boxed::new(alloc, *version)?;
+    draft.push(at, to, Push::PutSession(sent))
+}
+
+/// Adds that a version of a session is stored.
+fn add_stored(alloc: Global, draft: &mut Draft, version: &Session) -> Result<(), AllocError>
+    ensures { OnOk result (draft.new ≡ with_acts (changed (change.Put (row.Session version.now)) ∷ []) draft.old) }
+{
+    // The proof wants the types of the members named.
+    let _total_cost = version.total_cost;
+    let _end_date_time = version.end_date_time;
+    let _reference = version.authorization_reference;
+    let session = Boxed::new(alloc, *version)?;
+    draft.change(Change::Put(Row::Session { session }))
+}
+
 /// Adds a version of a session: it is pushed in place of an older one, and stored.
 pub(crate) fn add_version(
     alloc: Global,
@@ -67,11 +99,9 @@ pub(crate) fn add_version(
     requires { HasNumbers 1 1 draft.old }
     ensures { OnOk result (draft.new ≡ with_acts (version_acts at draft.old.counters.request versioned.now) draft.old) }
 {
-    let stored = Boxed::new(alloc, versioned.version)?;
-    let sent = Boxed::new(alloc, versioned.version)?;
     add_replaced(draft, versioned.older)?;
-    draft.push(at, versioned.to, Push::PutSession(sent))?;
-    draft.change(Change::Put(Row::Session { session: stored }))
+    add_pushed(alloc, draft, at, versioned.to, &versioned.version)?;
+    add_stored(alloc, draft, &versioned.version)
 }
 
 /// Adds that a session begins: the reservation that it uses, where it uses one, ends, and its first version is pushed and stored.

@@ -1,7 +1,11 @@
 //! The tokens that drivers show (OCPI 2.2.1, Tokens: Real-time authorization).
 
-ghost use Rattle.std.specs.Prelude.{◌≡◌, ◌⊎◌, IfOk, IfErr};
+ghost use Rattle.std.specs.Prelude.{◌≡◌, ◌⊎◌, ◌+◌, ◌∷◌, [], IfOk, IfErr};
 ghost use Rattle.ocpi_text.specs.Text.{key};
+ghost use Rattle.ocpi_types.specs.declared.packet.Body.TheVariants as body;
+ghost use Rattle.authorization_book.specs.declared.waiting.Waiting.TheVariants.{Begins};
+ghost use Rattle.node_steps.specs.Acts.{asked};
+ghost use Rattle.node_steps.specs.Drafts.{HasNumbers, with_acts};
 ghost use Rattle.node_steps.specs.Peers.{HasPeer};
 ghost use Rattle.operator_rows.specs.FullSteps.{full_step_of};
 ghost use Rattle.operator_steps.specs.Asking.{IsAsked, question};
@@ -12,8 +16,8 @@ ghost use Rattle.session_tables.specs.declared.shown.Shown.TheVariants.{Nothing}
 
 use crate::operator::Operator;
 use authorization_book::{Awaited, Waiting};
-use node_steps::{Needs, NodeFault, find_peer};
-use ocpi_text::{CiText, Moment};
+use node_steps::{Draft, Needs, NodeFault, find_peer};
+use ocpi_text::{CiText, Moment, Party, Whole};
 use ocpi_types::{Authorize, Body, ChargerEvent, EvseUids, LocationReferences, Place, Token};
 use operator_rows::FullPlan;
 use session_tables::{Shown, swiped};
@@ -42,7 +46,30 @@ fn question(
     })
 }
 
+/// That an authorization is awaited under a number. An error is want of memory.
+fn begins(alloc: Global, number: Whole, awaited: Awaited) -> Result<Vec<Waiting>, AllocError>
+    ensures { IfOk result (λ waits. waits.items ≡ Begins number awaited ∷ []) }
+{
+    Ok(vec![in alloc; Waiting::Begins { number, awaited }]?)
+}
+
 impl Operator {
+    /// Adds that a party is asked, once, whether a token may be used at an EVSE. It answers the number of the request.
+    fn add_asked(
+        &self,
+        draft: &mut Draft,
+        to: Party,
+        token: &Token,
+        location_id: CiText<36>,
+        place: &Place,
+    ) -> Result<Whole, AllocError>
+        requires { HasNumbers 1 1 draft.old }
+        ensures { IfOk result (λ n. (n ≡ draft.old.counters.request + 1) × (draft.new ≡ with_acts (asked n to (body.Authorize (question token.now location_id place.now)) ∷ []) draft.old)) }
+    {
+        let question = question(self.alloc, token, location_id, place)?;
+        draft.ask(to, Body::Authorize(question))
+    }
+
     /// The step in which the provider of a token is asked, once, and its answer is awaited. Refused (`NumbersUsedUp`) where a
     /// counter would pass its last number, and else for want of memory (`Memory`).
     pub(crate) fn plan_asked(
@@ -64,14 +91,13 @@ impl Operator {
             requests: 1,
             changes: 0,
         })?;
-        let question = question(self.alloc, token, location_id, place)?;
-        let number = draft.ask(*to, Body::Authorize(question))?;
+        let number = self.add_asked(&mut draft, *to, token, location_id, place)?;
         let awaited = Awaited {
             token: *token,
             place: *place,
             deadline: at.after(WAIT_MILLIS),
         };
-        let waits = vec![in self.alloc; Waiting::Begins { number, awaited }]?;
+        let waits = begins(self.alloc, number, awaited)?;
         Ok(FullPlan {
             plan: draft.into_plan(),
             waits,
@@ -83,6 +109,7 @@ impl Operator {
         ensures shows { (result ≡ Nothing) ⊎ Shows self.now.state report.now result }
         ensures none { result ≡ Nothing → ShowsNone self.now.state report.now }
     {
+        self.consistency();
         match report {
             ChargerEvent::Swipe {
                 evse_uid,

@@ -1,6 +1,6 @@
 //! What the time does at an operator.
 
-ghost use Rattle.std.specs.Prelude.{◌≡◌, ◌≤◌, Contains, map, IfOk, IfErr, OnOk};
+ghost use Rattle.std.specs.Prelude.{◌≡◌, ◌≤◌, ◌+◌, Contains, length, map, IfOk, IfErr, OnOk};
 ghost use Rattle.ocpi_text.specs.Whole.{max_whole};
 ghost use Rattle.ocpi_types.specs.declared.rows.Counter.TheVariants as counter;
 ghost use Rattle.authorization_book.specs.Waits as waits;
@@ -14,11 +14,11 @@ ghost use Rattle.operator_steps.specs.Ends.{IsOpen};
 ghost use Rattle.operator_steps.specs.Faults.{IsOwnFault};
 ghost use Rattle.operator_steps.specs.Moves.{AreInRange, PlannedBy, step_of_acts};
 ghost use Rattle.operator_steps.specs.Tick.{TickLine, TimeOut};
-ghost use Rattle.operator_core.specs.Happenings.{IsDueStill, IsHappening, happening_acts};
+ghost use Rattle.operator_core.specs.Happenings.{AreDueAt, BeginAt, HappenWith, IsHappening, happening_acts};
 ghost use Rattle.operator_core.specs.Planned.{StopsActs};
 ghost use Rattle.operator_core.specs.Requests.{AllStand};
 
-use crate::deadlines::{ended, replaced_by};
+use crate::deadlines::{ended, unreplaced};
 use crate::ends::add_expired;
 use crate::operator::Operator;
 use crate::sessions::{Begun, add_all_begun, add_number};
@@ -28,6 +28,7 @@ use ocpi_types::{CommandResultType, Counter};
 use operator_rows::FullPlan;
 use operator_steps::Ending;
 use reservation_book::Standing;
+use session_tables::Beginning;
 use std::alloc::AllocError;
 
 /// The rows that the end of a command changes: the open command, its push and its result.
@@ -37,19 +38,40 @@ const CHANGES_OF_AN_END: usize = 3;
 /// and this version.
 const CHANGES_OF_A_BEGINNING: usize = 4;
 
-/// What happens at a moment, as all is read before it.
+/// What is due at a moment, as it stands before it.
 #[derive(Drop)]
-struct Happening {
+struct Due {
     /// The commands that end by a timeout.
     ends: Vec<Ending>,
     /// The reservations that end.
     expired: Vec<Standing>,
+    /// The pushes that are sent again, those included that sessions which begin replace.
+    pushes: Vec<Whole>,
+}
+
+/// What happens at a moment, as all is read before it.
+#[derive(Drop)]
+struct Happening {
+    due: Due,
     /// The sessions that begin.
     begun: Vec<Begun>,
     /// The number of the last session, with these.
     last: Whole,
     /// The pushes that are sent again.
-    due: Vec<Whole>,
+    resent: Vec<Whole>,
+}
+
+/// What the acts of a moment take: the ends of commands and reservations, sessions that begin, and pushes that are sent again.
+fn needs(ends: &[Ending], expired: &[Standing], begun: &[Begun], resent: &[Whole]) -> Needs
+    ensures packets { result.packets ≡ (length ends.now + length begun.now) + length resent.now }
+    ensures requests { result.requests ≡ length ends.now + length begun.now }
+{
+    let changes = CHANGES_OF_AN_END * ends.len() + CHANGES_OF_A_BEGINNING * begun.len();
+    Needs {
+        packets: ends.len() + begun.len() + resent.len(),
+        requests: ends.len() + begun.len(),
+        changes: changes + expired.len(),
+    }
 }
 
 impl Operator {
@@ -68,17 +90,6 @@ impl Operator {
         Ok(ends)
     }
 
-    /// The numbers of the pushes that are due at a moment, without those that sessions which begin replace. An error is want of
-    /// memory.
-    fn still_due(&self, at: Moment, begun: &[Begun]) -> Result<Vec<Whole>, AllocError>
-        ensures { IfOk result (λ due. AreExactly (IsDueStill self.now.state at begun.now) due.items) }
-    {
-        let replaced = replaced_by(self.alloc, begun)?;
-        let mut due = self.books.outbox().due(self.alloc, at)?;
-        due.retain(|number| !replaced.as_slice().contains(number));
-        Ok(due)
-    }
-
     /// Adds the counter of sessions, where it gave a number.
     fn add_last_session(&self, draft: &mut Draft, last: Whole) -> Result<(), AllocError>
         ensures { OnOk result (draft.new ≡ with_acts (map changed (count_change counter.Session self.now.state.rows.charged.last_session last)) draft.old) }
@@ -91,57 +102,78 @@ impl Operator {
 
     /// Adds what happens at a moment.
     fn add_all(&self, draft: &mut Draft, at: Moment, all: &Happening) -> Result<(), AllocError>
-        requires open { (e : EndingOf) → Contains all.now.ends.items e → IsOpen self.now.state.rows e }
+        requires open { (e : EndingOf) → Contains all.now.due.ends.items e → IsOpen self.now.state.rows e }
         requires numbered { draft.old.counters.request ≡ self.now.state.rows.request }
         requires numbers { HasNumbersOf (happening_acts at self.now.state all.now) draft.old }
         ensures { OnOk result (draft.new ≡ with_acts (happening_acts at self.now.state all.now) draft.old) }
     {
-        self.add_ends(draft, at, all.ends.as_slice())?;
-        add_expired(draft, all.expired.as_slice())?;
+        self.add_ends(draft, at, all.due.ends.as_slice())?;
+        add_expired(draft, all.due.expired.as_slice())?;
         self.add_last_session(draft, all.last)?;
         add_all_begun(self.alloc, draft, at, all.begun.as_slice())?;
-        self.add_all_resent(draft, at, all.due.as_slice())
+        self.add_all_resent(draft, at, all.resent.as_slice())
     }
 
     /// The step of what happens at a moment.
     fn plan_all(&self, at: Moment, all: &Happening) -> Result<Plan, NodeFault>
-        requires open { (e : EndingOf) → Contains all.now.ends.items e → IsOpen self.now.state.rows e }
-        requires stand { AllStand self.now.state.rows.pushes all.now.due.items }
+        requires open { (e : EndingOf) → Contains all.now.due.ends.items e → IsOpen self.now.state.rows e }
+        requires stand { AllStand self.now.state.rows.pushes all.now.resent.items }
         requires number { all.now.last ≤ max_whole }
         ensures ok { IfOk result (λ x. step_of x ≡ step_of_acts self.now.state (happening_acts at self.now.state all.now)) }
         ensures in_range { OnOk result (AreInRange self.now.state (happening_acts at self.now.state all.now)) }
         ensures err { IfErr result (StopsActs self.now.state (happening_acts at self.now.state all.now)) }
     {
-        let (ends, begun) = (all.ends.len(), all.begun.len());
-        let changes = CHANGES_OF_AN_END * ends + CHANGES_OF_A_BEGINNING * begun;
-        let mut draft = self.draft(Needs {
-            packets: ends + begun + all.due.len(),
-            requests: ends + begun,
-            changes: changes + all.expired.len(),
-        })?;
+        let mut draft = self.draft(needs(
+            all.due.ends.as_slice(),
+            all.due.expired.as_slice(),
+            all.begun.as_slice(),
+            all.resent.as_slice(),
+        ))?;
         self.add_all(&mut draft, at, all)?;
         Ok(draft.into_plan())
     }
 
-    /// What happens at a moment, at which these authorizations are late. Refused (`NumbersUsedUp`) where the sessions that begin
-    /// would pass the last number, and else for want of memory (`Memory`).
+    /// What is due at a moment. An error is want of memory.
+    fn due_at(&self, at: Moment) -> Result<Due, AllocError>
+        ensures { IfOk result (λ x. AreDueAt self.now.state at x) }
+    {
+        let ends = self.timed_out(at)?;
+        let expired = self.books.booked().expired(self.alloc, at)?;
+        let pushes = self.books.outbox().due(self.alloc, at)?;
+        Ok(Due {
+            ends,
+            expired,
+            pushes,
+        })
+    }
+
+    /// What happens at a moment, at which these sessions begin where late authorizations got no answer. Refused
+    /// (`NumbersUsedUp`) where they would pass the last number, and else for want of memory (`Memory`).
+    fn happens(&self, at: Moment, beginnings: &[Beginning]) -> Result<Happening, NodeFault>
+        requires { BeginAt self.now.state at beginnings.now }
+        ensures ok { IfOk result (λ all. HappenWith self.now.state at beginnings.now all) }
+        ensures err { IfErr result (IsOwnFault (TickLine self.now.state at) self.now.state) }
+    {
+        self.consistency();
+        let due = self.due_at(at)?;
+        let (begun, last) = self.all_begun(at, beginnings)?;
+        let resent = unreplaced(self.alloc, due.pushes.as_slice(), begun.as_slice())?;
+        Ok(Happening {
+            due,
+            begun,
+            last,
+            resent,
+        })
+    }
+
+    /// What happens at a moment, at which these authorizations are late. Refused as `happens` says.
     fn happening(&self, at: Moment, late: &[Whole]) -> Result<Happening, NodeFault>
         requires { AreExactly (waits.IsDue self.now.state.waits at) late.now }
         ensures ok { IfOk result (λ all. IsHappening self.now.state at late.now all) }
         ensures err { IfErr result (IsOwnFault (TickLine self.now.state at) self.now.state) }
     {
-        let ends = self.timed_out(at)?;
-        let expired = self.books.booked().expired(self.alloc, at)?;
         let beginnings = self.beginnings(at, late)?;
-        let (begun, last) = self.all_begun(at, beginnings.as_slice())?;
-        let due = self.still_due(at, begun.as_slice())?;
-        Ok(Happening {
-            ends,
-            expired,
-            begun,
-            last,
-            due,
-        })
+        self.happens(at, beginnings.as_slice())
     }
 
     /// What becomes of a moment. Nothing changes. Refused as `on_tick` says.

@@ -1,6 +1,6 @@
 -- From what is planned to what a line of an operator asks for, and to its refusals.
 use Rattle.std.proofs.Common.{◌≡◌, ◌≢◌, ℕ, List, [], ◌∷◌, sym, ap, subst, ◌∙◌, arith}
-use Rattle.std.specs.Prelude.{Result, Ok, Err, IfOk, IfErr, OnOk, Contains}
+use Rattle.std.specs.Prelude.{Result, Ok, Err, IfOk, IfErr, OnOk}
 use Rattle.ocpi_types.specs.declared.rows.Change.{Change}
 use Rattle.ocpi_types.specs.declared.rows.Change.TheVariants.{Put}
 use Rattle.ocpi_types.specs.declared.rows.Counter.{Counter}
@@ -15,7 +15,7 @@ use Rattle.operator_rows.specs.State.{State}
 use Rattle.operator_rows.specs.Steps.{FullStep, MayFollowFull}
 use Rattle.operator_steps.specs.Faults.{IsOwnFault, MayStep}
 use Rattle.operator_steps.specs.Moves.{AreInRange, PlannedBy, Work, counters_of, quiet, step_of_acts, step_of_work}
-use Rattle.operator_core.specs.Planned.{StopsActs, quiet_step}
+use Rattle.operator_core.specs.Planned.{PlansActs, StopsActs, quiet_step}
 
 -- the change stores no counter
 abbrev pub IsNoCount : Change → Type 0
@@ -66,6 +66,12 @@ module _ (Line : Work → Type 0) (s : State) where
       IfOk r (λ x. PlannedBy Line s (quiet_step (step x)))
   all_planned (Ok x) step acts line range is = planned_acts acts (step x) line range is
   all_planned (Err f) step acts line range is = tt
+
+  -- and of acts that a line of acts alone asks for
+  pub all_quiet : {T : Type 0} → (Quiet : List Act → Type 0) → ((acts : List Act) → Quiet acts → Line (quiet acts)) → (r : Result T NodeFault) (step : T → Step) → IfOk r (λ x. PlansActs Quiet s (step x)) →
+      IfOk r (λ x. PlannedBy Line s (quiet_step (step x)))
+  all_quiet Quiet also (Ok x) step h = planned_acts h.acts (step x) (also h.acts h.line) h.in_range h.step_is
+  all_quiet Quiet also (Err f) step h = tt
 
   -- what is planned may be carried out, where all that the line asks for may
   pub planned_may : (x : FullStep) → ((work : Work) → Line work → AreInRange s work.acts → MayFollowFull s (step_of_work s work)) → PlannedBy Line s x → MayFollowFull s x
