@@ -1,13 +1,15 @@
 -- The laws of an operator over every list of events from its opening: packets that come, in any order and any number of
 -- times, what charge points report, time that passes, at moments that may go back, EVSEs that go out of service and come
 -- back, and new starts of the operator from what it stored; events that are refused among them.
-use Rattle.std.specs.Prelude.{◌≡◌, ◌⊎◌, ℕ, ◌+◌, ◌≤◌, ◌<◌, List, Some, Contains, slice_get}
+use Rattle.std.specs.Prelude.{◌≡◌, ◌⊎◌, ℕ, ◌+◌, ◌≤◌, ◌<◌, List, Some, Ok, Contains, slice_get}
 use Rattle.std.specs.List.{flat_map}
 use Rattle.std.specs.FinMap.{get}
+use Rattle.ocpi_text.specs.Party.{party_at}
 use Rattle.ocpi_text.specs.Text.{key}
 use Rattle.ocpi_types.specs.Stored.{body_of_command, body_of_reply, body_of_push}
 use Rattle.ocpi_types.specs.declared.site.SiteLine.{SiteLine}
 use Rattle.ocpi_types.specs.declared.packet.Packet.{Packet}
+use Rattle.ocpi_types.specs.declared.packet.Body.{Body}
 use Rattle.ocpi_types.specs.declared.packet.Body.TheVariants as body
 use Rattle.ocpi_types.specs.declared.replies.Ack.{Ack}
 use Rattle.ocpi_types.specs.declared.replies.CommandResponse.{CommandResponse}
@@ -15,6 +17,8 @@ use Rattle.ocpi_types.specs.declared.replies.CommandResult.{CommandResult}
 use Rattle.ocpi_types.specs.declared.stored.Command.{Command}
 use Rattle.ocpi_types.specs.declared.stored.OpenCommand.{OpenCommand}
 use Rattle.ocpi_types.specs.declared.stored.Reply.{Reply}
+use Rattle.ocpi_types.specs.declared.stored.Reply.TheVariants as reply
+use Rattle.ocpi_types.specs.declared.token.Token.{Token}
 use Rattle.ocpi_types.specs.declared.stored.Reservation.{Reservation}
 use Rattle.ocpi_types.specs.declared.words.CommandResultType.{CommandResultType}
 use Rattle.ocpi_types.specs.declared.rows.Change.TheVariants.{Put}
@@ -38,6 +42,10 @@ sent es = flat_map (λ e. e.packets) es
 abbrev pub Came : List Event → Packet → Type 0
 Came es q = (e : Event) × Contains es e × ((at : ℕ) × (e.input ≡ Arrives at q))
 
+-- the operator is a party by its form, so that the ids that it makes of numbers differ
+abbrev pub IsOfParty : SiteLine → Type 0
+IsOfParty line = party_at line.parties.operator ≡ Ok line.parties.operator
+
 -- what holds of an operator at any time: what is kept of its rows and times, each EVSE with at most one claim among it; and each
 -- reference of a provider is carried by one open start at most, and may not be used again
 pub record HoldsAlways (t : State) : Type 0 where
@@ -46,7 +54,7 @@ pub record HoldsAlways (t : State) : Type 0 where
   pub carried_spent : AreSpent t.rows
 
 abbrev pub AlwaysConsistent : Type 0
-AlwaysConsistent = (line : SiteLine) (es : List Event) (t : State) → Run (opening line) es t → HoldsAlways t
+AlwaysConsistent = (line : SiteLine) (es : List Event) (t : State) → IsOfParty line → Run (opening line) es t → HoldsAlways t
 
 -- two open starts of a provider with one reference are one
 abbrev pub ReferencesHaveOneCarrier : Type 0
@@ -68,18 +76,24 @@ OneStart = (line : SiteLine) (es : List Event) (t : State) → Run (opening line
 -- each response that was sent is the reply that is kept for its request
 abbrev pub SentRepliesAreKept : Type 0
 SentRepliesAreKept = (line : SiteLine) (es : List Event) (t : State) → Run (opening line) es t → (x : Packet) (r : CommandResponse) → Contains (sent es) x →
-    x.body ≡ body.CommandResponse r → (reply : Reply) × (get t.rows.commands.replies (key x.to, x.request) ≡ Some reply) × (x.body ≡ body_of_reply reply)
+    x.body ≡ body.CommandResponse r → (w : Reply) × (get t.rows.commands.replies (key x.to, x.request) ≡ Some w) × (x.body ≡ body_of_reply w)
 
 -- a reply is kept for good
 abbrev pub RepliesStay : Type 0
-RepliesStay = (s t : State) (es : List Event) → Run s es t → (k : List ℕ × ℕ) (reply : Reply) → get s.rows.commands.replies k ≡ Some reply →
-    get t.rows.commands.replies k ≡ Some reply
+RepliesStay = (s t : State) (es : List Event) → Run s es t → (k : List ℕ × ℕ) (r : Reply) → get s.rows.commands.replies k ≡ Some r →
+    get t.rows.commands.replies k ≡ Some r
 
--- each kept reply answers a command that came, from that party under that number
+-- which request a reply of an operator answers: a response answers a command, and an acknowledgement a token
+abbrev pub IsReplyTo : Reply → Body → Type 0
+IsReplyTo (reply.CommandResponse r) b = (c : Command) × (b ≡ body_of_command c)
+IsReplyTo (reply.Ack r) b = (t : Token) × (b ≡ body.PutToken t)
+IsReplyTo (reply.Authorization r) b = ⊥
+
+-- each kept reply answers a request that came, from that party under that number: a command, or a token
 abbrev pub RepliesAnswer : Type 0
-RepliesAnswer = (line : SiteLine) (es : List Event) (t : State) → Run (opening line) es t → (p : List ℕ) (n : ℕ) (reply : Reply) →
-    get t.rows.commands.replies (p, n) ≡ Some reply →
-    (q : Packet) × Came es q × (key q.from ≡ p) × (q.request ≡ n) × ((c : Command) × (q.body ≡ body_of_command c))
+RepliesAnswer = (line : SiteLine) (es : List Event) (t : State) → Run (opening line) es t → (p : List ℕ) (n : ℕ) (r : Reply) →
+    get t.rows.commands.replies (p, n) ≡ Some r →
+    (q : Packet) × Came es q × (key q.from ≡ p) × (q.request ≡ n) × IsReplyTo r q.body
 
 -- a result is kept for good
 abbrev pub ResultsStay : Type 0

@@ -39,7 +39,7 @@ pub fn replies_stay()
     ensures { RepliesStay }
 {}
 
-/// Each kept reply answers a command that came.
+/// Each kept reply answers a request that came: a response a command, and an acknowledgement a token.
 pub fn replies_answer()
     ensures { RepliesAnswer }
 {}
