@@ -1,10 +1,11 @@
 -- What an event does: the acts that it comes to, the causes of what they change, and what its changes make of the rows.
-use Rattle.std.proofs.Common.{◌≡◌, ◌≢◌, ◌⊎◌, ◌+◌, ℕ, List, [], length, refl, inl, inr, sym, ap, subst, ◌∙◌, arith}
+use Rattle.std.proofs.Common.{◌≡◌, ◌≢◌, ◌⊎◌, ◌+◌, ◌≤◌, ℕ, List, [], length, refl, inl, inr, sym, ap, subst, ◌∙◌, arith}
 use Rattle.std.specs.Prelude.{None, Contains}
 use Rattle.std.specs.FinMap.{get}
 use Rattle.std.proofs.lemmas.List.Elements.{Contains-append_cases, Contains-append_right}
 use Rattle.tables.proofs.Elements.{in_none}
 use Rattle.ocpi_text.specs.Text.{key}
+use Rattle.ocpi_text.specs.Whole.{max_whole}
 use Rattle.ocpi_types.specs.Rows.{key_of}
 use Rattle.ocpi_types.specs.declared.cdrs.Cdr.{Cdr}
 use Rattle.ocpi_types.specs.declared.rows.Row.{Row}
@@ -62,6 +63,8 @@ pub record Does (s : State) (e : Event) (t : State) : Type 0 where
   pub packets : e.packets ≡ numbered s.party s.rows.serial (all_messages acts)
   pub serial : t.rows.serial ≡ s.rows.serial + length (all_messages acts)
   pub request : t.rows.request ≡ s.rows.request + all_requests acts
+  -- no counter passes its last number
+  pub range : (c : Counter) (n : ℕ) → Contains (all_changes acts) (Put (row.Count c n)) → n ≤ max_whole
   -- the counters are stored, and what the acts change
   pub of_acts : (c : Change) → Contains e.changes c → IsCount c ⊎ Contains (all_changes acts) c
   pub to_acts : (c : Change) → Contains (all_changes acts) c → Contains e.changes c
@@ -117,6 +120,7 @@ does_step s e t by =
       caused = asked_caused s e.input by.work by.line;
       reasons = λ fine. asked_reason s e.input by.work fine by.line;
       sayings = λ fine. asked_said s e.input by.work fine by.line;
+      range = by.in_range.numbers;
       packets = ap (λ (o : Out). o.packets) by.out_is;
       serial = ap (λ (o : Out). o.state.rows.serial) by.out_is ∙ ap (λ (c : Counters). c.serial) counters;
       request = ap (λ (o : Out). o.state.rows.request) by.out_is ∙ ap (λ (c : Counters). c.request) counters;
@@ -142,6 +146,7 @@ does_nothing s e t u same site party providers out =
       caused = λ c i. absurd (in_none c i);
       reasons = λ fine c i. absurd (in_none c i);
       sayings = λ fine m i. absurd (in_none m i);
+      range = λ c n i. absurd (in_none (Put (row.Count c n)) i);
       packets = ap (λ (o : Out). o.packets) out;
       serial = let is = ap (λ (r : Rows). r.serial) rows in omega (arith, is);
       request = let is = ap (λ (r : Rows). r.request) rows in omega (arith, is);

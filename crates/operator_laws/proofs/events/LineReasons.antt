@@ -219,7 +219,7 @@ module _ (s : State) (i : Input) (acts : List Act) where
             (reasons.Answer at q decided.allows.timestamp decided.info arrives (carries ∙ ap (λ z. body.Authorization z) decided.allows.done) (sym of_provider ∙ sym party)
             (ap (λ (z : Beginning). z.authorization_reference) decided.there.begins_is)
             (subst (λ (z : Beginning). ¬ IsSpent s.rows.spent (key z.token.party) z.authorization_reference) (sym decided.there.begins_is) decided.unspent)
-            (λ r named. (first_part s i acts spending begun later).changes (Put (row.Spent p (key r))) (spends p b.authorization_reference r named)))
+            (λ r named. (first_part s i acts spending begun later).changes (Put (row.Spent p (key r))) (spends p b.authorization_reference r named)) refl)
             (second_part s i acts spending begun later)),
       ))
 
@@ -266,7 +266,7 @@ module _ (s : State) (i : Input) (acts : List Act) where
     started_for puts a is =
         let both : command.StartSession h.begins.start ≡ command.StartSession a = sym h.begins.command_is ∙ is in
         let same : h.begins.start ≡ a = cc in
-        record { session = first; puts = puts; of_provider = started_provider; reference_is = started_reference ∙ ap (λ (z : StartSession). z.authorization_reference) same }
+        record { session = first; puts = puts; of_provider = started_provider; reference_is = started_reference ∙ ap (λ (z : StartSession). z.authorization_reference) same; first = refl }
 
     started_reason : (begun : List Act) → IsBegun s at (s.rows.request + 1) number b begun → acts ≡ numbered_sessions number ∷ (ends_acts at s.rows.commands.pending s.rows.request (e ∷ []) ++ begun) → AreReasoned
     started_reason begun is_begun is =
@@ -282,7 +282,7 @@ module _ (s : State) (i : Input) (acts : List Act) where
               (one_end e (record { end = record { command = h.command; stands = h.stands; of_site = h.of_site }; session = λ accepted a named. started_for puts a named })) (omega arith) in_ends)
               (begun_reason s i acts at (s.rows.request + 1) number b begun is_begun (omega arith) (omega arith) number (omega arith) (part.changes (Put (row.Count counter.Session number)) (0, omega arith, refl))
               (reasons.Start e.provider e.number h.command h.stands started_provider (started_reference ∙ sym (ap reference_of h.begins.command_is))
-              (in_ends.changes (Drop (keys.Pending e.provider e.number)) (0, omega arith, refl)))
+              (in_ends.changes (Drop (keys.Pending e.provider e.number)) (0, omega arith, refl)) refl)
               in_begun),
         ))
 

@@ -87,7 +87,7 @@ module _ (s : State) (i : Input) (acts : List Act) where
     }
 
     two_reason : IsPart two → AllOf Why (all_changes two)
-    two_reason part = (version_pushing part, (why, tt))
+    two_reason part = (version_pushing part, (record { how = why; pushed = record { number = last + 1; to = to; of_provider = same; makes = part.changes (Put (row.Push (last + 1) to (push.PutSession v))) (0, omega arith, refl) } }, tt))
 
     versioned_reason : (old : Option ℕ) → IsReplaced s.rows.pushes (subject to (push.PutSession v)) old → IsPart (versioned at last to old v) → AllOf Why (all_changes (versioned at last to old v))
     versioned_reason None h part = two_reason part
@@ -147,6 +147,7 @@ module _ (s : State) (i : Input) (acts : List Act) where
           },
           (
             record {
+              pushed = record { number = last + 1; to = to; of_provider = peer.same; makes = here.changes (Put (row.Push (last + 1) to (push.PostCdr x))) (1, omega arith, refl) };
               version = w;
               puts = stored;
               completed = done;

@@ -47,13 +47,17 @@ module _ (s : State) (i : Input) (acts : List Act) where
   abbrev pub Makes : Change → Type 0
   Makes c = Contains (all_changes acts) c
 
+  -- the id is that of the next number of a session
+  abbrev pub IsNextId : Session → Type 0
+  IsNextId v = v.id ≡ own_id_text own.Session s.party (s.rows.charged.last_session + 1)
+
   -- by what a session begins, and whose reference it has
   pub data BegunBy (v : Session) : Type 0 where
     Start : (p : List ℕ) (n : ℕ) (o : OpenCommand) → get s.rows.commands.pending (p, n) ≡ Some o → key v.cdr_token.party ≡ p → v.authorization_reference ≡ reference_of o.command →
-        Makes (Drop (keys.Pending p n)) → BegunBy v
+        Makes (Drop (keys.Pending p n)) → IsNextId v → BegunBy v
     Answer : (at : ℕ) (q : Packet) (timestamp : ℕ) (info : AuthorizationInfo) → i ≡ Arrives at q → q.body ≡ body.Authorization (Done timestamp info) → key q.from ≡ key v.cdr_token.party →
         v.authorization_reference ≡ info.authorization_reference → ¬ IsSpent s.rows.spent (key v.cdr_token.party) v.authorization_reference →
-        ((r : List ℕ) → v.authorization_reference ≡ Some r → Makes (Put (row.Spent (key v.cdr_token.party) (key r)))) → BegunBy v
+        ((r : List ℕ) → v.authorization_reference ≡ Some r → Makes (Put (row.Spent (key v.cdr_token.party) (key r)))) → IsNextId v → BegunBy v
     Other : v.authorization_reference ≡ None → BegunBy v
 
   -- a session begins: under a number above those that were given, which is counted
@@ -79,7 +83,21 @@ module _ (s : State) (i : Input) (acts : List Act) where
     Begins : Begun v → Versioning v
     Goes : (w : Session) → get s.rows.charged.sessions (key v.id) ≡ Some w → (v.status ≡ Completed → (x : Cdr) × Makes (Put (row.Cdr x)) × IsBillOf v x) → Versioning v
 
+  -- a push is made to the provider of that key
+  pub record IsPushedNow (provider : List ℕ) (p : Push) : Type 0 where
+    pub number : ℕ
+    pub to : List ℕ
+    pub of_provider : key to ≡ provider
+    pub makes : Makes (Put (row.Push number to p))
+
+  -- a version is stored, and pushed
+  pub record Storing (v : Session) : Type 0 where
+    pub how : Versioning v
+    pub pushed : IsPushedNow (key v.cdr_token.party) (push.PutSession v)
+
+  -- a charge detail record is stored, and pushed
   pub record Billing (x : Cdr) : Type 0 where
+    pub pushed : IsPushedNow (key x.cdr_token.party) (push.PostCdr x)
     pub version : Session
     pub puts : Makes (Put (row.Session version))
     pub completed : version.status ≡ Completed
@@ -95,6 +113,7 @@ module _ (s : State) (i : Input) (acts : List Act) where
     pub puts : Makes (Put (row.Session session))
     pub of_provider : key session.cdr_token.party ≡ p
     pub reference_is : session.authorization_reference ≡ c.authorization_reference
+    pub first : session.status ≡ Pending
 
   -- a result is that of a command that was open, or comes now. ACCEPTED, as that of a start, comes with its session
   pub record Resulting (p : List ℕ) (n : ℕ) (x : CommandResultType) : Type 0 where
@@ -146,7 +165,7 @@ module _ (s : State) (i : Input) (acts : List Act) where
   Reason (Put (row.Reservation p id r)) = ⊤
   Reason (Put (row.Pending p n o)) = ⊤
   Reason (Put (row.Result p n x)) = Resulting p n x
-  Reason (Put (row.Session v)) = Versioning v
+  Reason (Put (row.Session v)) = Storing v
   Reason (Put (row.Cdr x)) = Billing x
   Reason (Put (row.Command n x)) = ⊤
   Reason (Drop (keys.Push n)) = Ending n
