@@ -27,14 +27,12 @@ use Rattle.operator_rows.specs.Steps.{IsNext, MayFollow, MayFollowFull, restarte
 use Rattle.operator_rows.proofs.RowChanges.{row_changes}
 use Rattle.operator_steps.specs.Events.{Event, Happens, Done, Restarted, Refused, Input, Arrives, Serves, Reports, Ticks, Restarts, Asks, event_out}
 use Rattle.operator_steps.specs.Moves.{AreInRange, Out, StepBy, Work, counters_of, idle, step_of_acts, step_of_work}
-use Rattle.operator_steps.proofs.PacketSteps.{packets}
-use Rattle.operator_steps.proofs.ServiceSteps.{services}
 use Rattle.operator_steps.proofs.Counts.{counters_in, counters_stay}
 use Rattle.operator_steps.proofs.Fitting.{numbered_for, rows_after}
 use Rattle.operator_steps.proofs.Orderly.{AreOrderly, AreUncounted, IsOfStep, of_counters, orderly_apart}
 use Rattle.operator_laws.proofs.events.Causes.{Cause}
 use Rattle.operator_laws.proofs.events.Caused.{asked_caused}
-use Rattle.operator_laws.proofs.events.Facts.{reports, ticks}
+use Rattle.operator_laws.proofs.events.Facts.{packets, reports, services, ticks}
 use Rattle.operator_laws.proofs.events.LineReasons.{asked_reason}
 use Rattle.operator_laws.proofs.events.Reasons.{Reason, Saying}
 use Rattle.operator_laws.proofs.events.Sayings.{asked_said}

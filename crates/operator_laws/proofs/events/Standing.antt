@@ -36,7 +36,7 @@ module _ (s t : State) (e : Event) (d : Does s e t) (p : List ℕ) (n : ℕ) (re
   abbrev OpensWith : Type 0
   OpensWith = (o : OpenCommand) × Opening s e.input d.acts p n o × Uses o reference
 
-  carried_by : Carries t.rows p n reference → OpensWith ⊎ Carries s.rows p n reference
+  pub carried_by : Carries t.rows p n reference → OpensWith ⊎ Carries s.rows p n reference
   carried_by (o, has, uses) = elim (stood_or_put s t e d (row.Pending p n o) tt has) [
     | inl put ↦ inl (o, d.caused (Put (row.Pending p n o)) put, uses)
     | inr old ↦ inr (o, old, uses)

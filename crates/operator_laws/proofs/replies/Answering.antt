@@ -61,7 +61,7 @@ module _ (s t : State) (e : Event) (d : Does s e t) where
     | inl old ↦ absurd (not_both r _ a.new old)
     | inr h ↦
         let came : h.replies.packet ≡ q = (let both : Arrives h.replies.at h.replies.packet ≡ Arrives a.at q = sym h.replies.arrives ∙ a.comes in cc) in
-        let (it, same, reply) = h.replies.decided c (ap (λ (z : Packet). z.body) came ∙ is) in
+        let (it, same, reply) = h.replies.decided c (subst (λ (z : Packet). z.body ≡ body_of_command c) (sym came) is) in
         record { it = it; packet_is = same ∙ came; reply_is = reply ∙ h.reply_is }
   ]
 

@@ -19,11 +19,12 @@ use Rattle.ocpi_types.specs.declared.rows.Change.TheVariants.{Put, Drop}
 use Rattle.ocpi_types.specs.declared.rows.Row.TheVariants as row
 use Rattle.ocpi_types.specs.declared.rows.RowKey.TheVariants as keys
 use Rattle.ocpi_types.specs.declared.sessions.Session.{Session}
+use Rattle.ocpi_types.specs.declared.site.SiteLine.{SiteLine}
 use Rattle.ocpi_types.specs.declared.stored.Command.{Command}
 use Rattle.ocpi_types.specs.declared.stored.Command.TheVariants as command
 use Rattle.ocpi_types.specs.declared.stored.OpenCommand.{OpenCommand}
 use Rattle.node_steps.specs.Acts.{all_changes}
-use Rattle.operator_rows.specs.State.{State, IsSpent, opening}
+use Rattle.operator_rows.specs.State.{State, IsSpent, Spent, opening}
 use Rattle.operator_rows.specs.Stored.{change_key}
 use Rattle.operator_rows.specs.Sound.{IsConsistent}
 use Rattle.operator_rows.proofs.KeepingTimes.{opening_consistent}
@@ -59,7 +60,7 @@ answer_no_command (command.CancelReservation a) at info e = cc
 answer_no_command (command.UnlockConnector a) at info e = cc
 
 -- there is a reference, which was not used before
-not_spent : (spent : _) (p reference spelled : List ℕ) (o : Option (List ℕ)) → o ≡ Some spelled → key spelled ≡ reference → ¬ IsSpent spent p o → get spent (p, reference) ≢ Some tt
+not_spent : (spent : Spent) (p reference spelled : List ℕ) (o : Option (List ℕ)) → o ≡ Some spelled → key spelled ≡ reference → ¬ IsSpent spent p o → get spent (p, reference) ≢ Some tt
 not_spent spent p reference spelled o named same unspent has = unspent (subst (IsSpent spent p) (sym named) (ap (λ z. get spent (p, z)) same ∙ has))
 
 module _ (W : Packet → Type 0) where
@@ -215,7 +216,7 @@ module _ (W : Packet → Type 0) where
   run_keeps [] s t run brings before = subst Keeps (sym run) before
   run_keeps (e ∷ es) s t (u, first, rest) brings before = run_keeps es u t rest (λ f j. brings f (in_later e es f j)) (keeps s u e (brings e (in_front e es)) first before)
 
-none_first : (line : _) (p : List ℕ) (a : Carrier) (reference : List ℕ) → IsCarriedBy (opening line).rows p a reference → ⊥
+none_first : (line : SiteLine) (p : List ℕ) (a : Carrier) (reference : List ℕ) → IsCarriedBy (opening line).rows p a reference → ⊥
 none_first line p (InStart n) reference (o, has, uses) = not_both o _ (get-empty text_number_cmp (p, n)) has
 none_first line p (InSession id) reference (v, has, h) = not_both v _ (get-empty text_cmp id) has
 
