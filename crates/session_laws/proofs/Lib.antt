@@ -1,0 +1,7 @@
+pub mod Facts
+pub mod Doing
+pub mod Versions
+pub mod Growing
+pub mod Covering
+pub mod Causes
+pub mod Caused

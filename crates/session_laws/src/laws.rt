@@ -1,0 +1,24 @@
+//! The laws of an operator's sessions and charge detail records, over every list of events from its opening, and from any state to any
+//! later one where they speak of two. An event is what `operator_steps` says of it (`Happens`), which is what the calls of an operator
+//! do.
+
+ghost use Rattle.session_laws.specs.Pasts.{FinalVersionsAreLast, PastsAreOrderly, PastsGoOn};
+
+/// The past of each session is orderly: it begins PENDING, its statuses follow one another, each version is later than the one before
+/// it, its energy never falls, its cost is that of its energy at the site's price, and what it is of stays. What is stored of a session
+/// is its last version. A first version that is ACTIVE, two versions of one moment, or a reading below the last would break this.
+pub fn pasts_are_orderly()
+    ensures { PastsAreOrderly }
+{}
+
+/// From any state to any later one, what events put of a session may follow the version that is stored, and the last of them is stored
+/// then. A version that is sent but not stored, or one that is lost by a new start, would break this.
+pub fn pasts_go_on()
+    ensures { PastsGoOn }
+{}
+
+/// A version that is COMPLETED or INVALID is the last of its session, and is stored for good. A meter value that reopens a session which
+/// ended would break this.
+pub fn final_versions_are_last()
+    ensures { FinalVersionsAreLast }
+{}
