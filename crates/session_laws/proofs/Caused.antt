@@ -1,12 +1,14 @@
 -- Each version and each charge detail record that an event puts has a cause.
-use Rattle.std.proofs.Common.{◌≡◌, ◌≢◌, ◌<◌, ◌≤◌, ◌+◌, ◌++◌, ◌⊎◌, ℕ, Bool, true, false, cond, nat_eq, List, [], ◌∷◌, length, map, inl, inr, refl, sym, ap, subst, ◌∙◌, arith}
+use Rattle.std.proofs.Common.{◌≡◌, ◌≢◌, ◌<◌, ◌≤◌, ◌+◌, ◌++◌, ◌⊎◌, ℕ, Bool, true, false, cond, nat_eq, eqb-true, List, [], ◌∷◌, length, map, inl, inr, refl, sym, ap, subst, ◌∙◌, arith}
 use Rattle.std.specs.Prelude.{Option, Some, None, Contains}
 use Rattle.std.proofs.lemmas.List.Elements.{Contains-append_cases, Contains-append_right, Contains-append_left}
 use Rattle.tables.proofs.Elements.{in_none, in_front, in_single}
 use Rattle.ocpi_text.specs.Text.{key}
 use Rattle.ocpi_text.specs.Whole.{max_whole}
+use Rattle.ocpi_types.specs.declared.authorizations.Authorization.{Authorization}
 use Rattle.ocpi_types.specs.declared.cdrs.Cdr.{Cdr}
 use Rattle.ocpi_types.specs.declared.events.ChargerEvent.{ChargerEvent}
+use Rattle.ocpi_types.specs.declared.packet.Body.TheVariants as body
 use Rattle.ocpi_types.specs.declared.packet.Packet.{Packet}
 use Rattle.ocpi_types.specs.declared.rows.Change.{Change}
 use Rattle.ocpi_types.specs.declared.rows.Change.TheVariants.{Put, Drop}
@@ -40,7 +42,7 @@ use Rattle.operator_steps.specs.Asking.{AnswerActs, IsAnswered}
 use Rattle.operator_steps.specs.Ends.{all_resent, ends_acts, expired_acts}
 use Rattle.operator_steps.specs.Charger as charger
 use Rattle.operator_steps.specs.Charger.{ChargerLine}
-use Rattle.operator_steps.specs.Events.{Input, Arrives, Serves, Reports, Ticks, Restarts, Asks}
+use Rattle.operator_steps.specs.Events.{Event, Input, Arrives, Serves, Reports, Ticks, Restarts, Asks}
 use Rattle.operator_steps.specs.Moves.{AreInRange, Quietly, Work, quiet}
 use Rattle.operator_steps.specs.Service as service
 use Rattle.operator_steps.specs.Service.{ServiceLine}
@@ -57,6 +59,9 @@ use Rattle.operator_steps.proofs.BegunChanges.{late_counts}
 use Rattle.operator_steps.proofs.BegunSteps.{begun_acts, begun_is}
 use Rattle.operator_steps.proofs.Orderly.{in_later, of_counter}
 use Rattle.session_tables.specs.declared.beginning.Beginning.{Beginning}
+use Rattle.session_tables.specs.declared.shown.Shown.TheVariants as shown
+use Rattle.session_tables.specs.Answers.{BeginsByAnswer, Decided}
+use Rattle.session_laws.proofs.Doing.{Does, IsAsked, Nothing, Asked}
 use Rattle.session_laws.proofs.Covering.{Covers, covers_acts, covers_append, covers_kinds, covers_record, covers_version}
 use Rattle.session_laws.proofs.Causes.{CdrCause, Billed, HowBegun, Started, Shown, Answered, Unanswered, SessionCause, Begun, Moved}
 
@@ -140,6 +145,26 @@ module _ (P : Session → Type 0) (Q : Cdr → Type 0) where
   covers_service s evse in_service acts (service.Withdrawn one off was is) = subst (λ l. Covers P Q (all_changes l)) (sym is) (covers_kinds P Q _ refl refl)
   covers_service s evse in_service acts (service.Restored one on was is) = subst (λ l. Covers P Q (all_changes l)) (sym is) (covers_kinds P Q _ refl refl)
 
+in_left : (xs ys : List Act) (c : Change) → Contains (all_changes xs) c → Contains (all_changes (xs ++ ys)) c
+in_left xs ys c i = subst (λ l. Contains l c) (sym (changes_append xs ys)) (Contains-append_left (all_changes xs) (all_changes ys) c i)
+
+in_right : (xs ys : List Act) (c : Change) → Contains (all_changes ys) c → Contains (all_changes (xs ++ ys)) c
+in_right xs ys c i = subst (λ l. Contains l c) (sym (changes_append xs ys)) (Contains-append_right (all_changes xs) (all_changes ys) c i)
+
+-- a counter that gave a number since is stored
+counted_in : (last now : ℕ) → last < now → Contains (all_changes (map changed (count_change counter.Session last now))) (Put (row.Count counter.Session now))
+counted_in last now below =
+    elim (nat_eq last now) as (λ b. nat_eq last now ≡ b → Contains (all_changes (map changed (cond b [] (Put (row.Count counter.Session now) ∷ [])))) (Put (row.Count counter.Session now))) [
+      | true ↦ λ e. absurd (let same = eqb-true last now e in omega (arith, same, below))
+      | false ↦ λ e. in_front (Put (row.Count counter.Session now)) []
+    ] refl
+
+covers_count : (P : Session → Type 0) (Q : Cdr → Type 0) (last now : ℕ) → Covers P Q (all_changes (map changed (count_change counter.Session last now)))
+covers_count P Q last now = elim (nat_eq last now) as (λ b. Covers P Q (all_changes (map changed (cond b [] (Put (row.Count counter.Session now) ∷ []))))) [
+  | true ↦ covers_kinds P Q [] refl refl
+  | false ↦ covers_kinds P Q _ refl refl
+]
+
 module _ (s : State) (i : Input) where
   -- each version and each record that these changes put has a cause in these acts
   abbrev AreCaused : List Act → List Change → Type 0
@@ -159,25 +184,25 @@ module _ (s : State) (i : Input) where
   numbered_in : (rest : List Act) (n : ℕ) → AreInRange s (numbered_sessions n ∷ rest) → n ≤ max_whole
   numbered_in rest n range = range.numbers counter.Session n (in_front _ _)
 
-  answer_caused : (at : ℕ) (q : Packet) → i ≡ Arrives at q → (a : _) (work : Work) → q.body ≡ body.Authorization a → (h : IsAnswered s at q a work) → AreInRange s work.acts → IsCaused work.acts
+  answer_caused : (at : ℕ) (q : Packet) → i ≡ Arrives at q → (a : Authorization) (work : Work) → q.body ≡ body.Authorization a → (h : IsAnswered s at q a work) → AreInRange s work.acts → IsCaused work.acts
   answer_caused at q arrives a work carries h range =
       let is : work.acts ≡ h.acts = ap (λ (w : Work). w.acts) h.work_is in
       subst IsCaused (sym is) (by h.begins h.decided h.acts_are (subst (AreInRange s) is range))
     where
       by : (o : Option Beginning) → Decided (BeginsByAnswer s.site s.rows h.awaited a) o → AnswerActs s at o h.acts → AreInRange s h.acts → IsCaused h.acts
-      by None decided none range = subst IsCaused (sym none) (covers_none _ _)
+      by None decided none range = subst IsCaused (sym none) (covers_none (SessionCause s i []) (CdrCause s i []))
       by (Some b) begins (begun, is_begun, acts_are) range =
           let n = s.rows.charged.last_session + 1 in
           let front = numbered_sessions n ∷ [] in
           let spends = spent (key b.token.party) b.authorization_reference in
           let acts = numbered_sessions n ∷ (spends ++ begun) in
           let spent_in : (r : List ℕ) → b.authorization_reference ≡ Some r → Contains (all_changes acts) (Put (row.Spent (key b.token.party) (key r))) =
-          (λ r is. in_later _ _ _ (subst (λ l. Contains l (Put (row.Spent (key b.token.party) (key r)))) (sym (changes_append spends begun))
-          (Contains-append_left _ _ _ (subst (λ o. Contains (all_changes (spent (key b.token.party) o)) (Put (row.Spent (key b.token.party) (key r)))) (sym is) (in_front _ _))))) in
+          (λ r is. in_later (Put (row.Count counter.Session n)) (all_changes (spends ++ begun)) (Put (row.Spent (key b.token.party) (key r))) (subst (λ l. Contains l (Put (row.Spent (key b.token.party) (key r)))) (sym (changes_append spends begun))
+          (Contains-append_left (all_changes spends) (all_changes begun) (Put (row.Spent (key b.token.party) (key r))) (subst (λ o. Contains (all_changes (spent (key b.token.party) o)) (Put (row.Spent (key b.token.party) (key r)))) (sym is) (in_front (Put (row.Spent (key b.token.party) (key r))) []))))) in
           let cause : SessionCause s i acts (first_of s at n b) =
           Begun at n b (Answered at q arrives a carries h.awaited h.stands begins spent_in) (omega arith) (numbered_in (spends ++ begun) n (subst (AreInRange s) acts_are range)) refl in
-          subst IsCaused (sym acts_are) (covers_append _ _ (all_changes front) (all_changes (spends ++ begun)) (covers_kinds _ _ _ refl refl)
-          (covers_acts _ _ spends begun (covers_spent _ _ (key b.token.party) b.authorization_reference) (covers_begun _ _ s at s.rows.request n b begun is_begun cause)))
+          subst IsCaused (sym acts_are) (covers_append (SessionCause s i acts) (CdrCause s i acts) (all_changes front) (all_changes (spends ++ begun)) (covers_kinds (SessionCause s i acts) (CdrCause s i acts) _ refl refl)
+          (covers_acts (SessionCause s i acts) (CdrCause s i acts) spends begun (covers_spent (SessionCause s i acts) (CdrCause s i acts) (key b.token.party) b.authorization_reference) (covers_begun (SessionCause s i acts) (CdrCause s i acts) s at s.rows.request n b begun is_begun cause)))
 
   packet_caused : (at : ℕ) (q : Packet) → i ≡ Arrives at q → (to : List ℕ) (work : Work) → PacketLine s at q to work → AreInRange s work.acts → IsCaused work.acts
   packet_caused at q arrives to work (steps.Again carries r kept is) range = as_quiet work _ is (covers_kinds _ _ _ refl refl)
@@ -192,7 +217,7 @@ module _ (s : State) (i : Input) where
   service_caused evse in_service work (acts, line, is) = as_quiet work acts is (covers_service _ _ s evse in_service acts line)
 
   -- a start is carried out
-  started_caused : (at : ℕ) (report : ChargerEvent) → i ≡ Reports at report → (e : Ending) (b : Beginning) (begun : List Act) → IsStarted s report e b →
+  started_caused : (at : ℕ) (report : ChargerEvent) → i ≡ Reports at report → (e : Ending) (b : Beginning) (begun : List Act) → charger.IsStarted s report e b →
       IsBegun s at (s.rows.request + 1) (s.rows.charged.last_session + 1) b begun →
       AreInRange s (numbered_sessions (s.rows.charged.last_session + 1) ∷ (ends_acts at s.rows.commands.pending s.rows.request (e ∷ []) ++ begun)) →
       IsCaused (numbered_sessions (s.rows.charged.last_session + 1) ∷ (ends_acts at s.rows.commands.pending s.rows.request (e ∷ []) ++ begun))
@@ -225,12 +250,12 @@ module _ (s : State) (i : Input) where
       by (acts_of.Billed complete to peer l e k place is) =
           let n = s.rows.charged.last_cdr + 1 in
           let x = next_cdr s m.after l e k in
-          let counts : Contains (all_changes m.bill_acts) (Put (row.Count counter.Cdr n)) = subst (λ z. Contains (all_changes z) (Put (row.Count counter.Cdr n))) (sym is) (in_front _ _) in
+          let counts : Contains (all_changes m.bill_acts) (Put (row.Count counter.Cdr n)) = subst (λ z. Contains (all_changes z) (Put (row.Count counter.Cdr n))) (sym is) (in_front (Put (row.Count counter.Cdr n)) (Put (row.Push (s.rows.request + 1 + 1) to (push.PostCdr x)) ∷ (Put (row.Cdr x) ∷ []))) in
           let all_count : Contains (all_changes acts) (Put (row.Count counter.Cdr n)) = subst (λ z. Contains (all_changes z) (Put (row.Count counter.Cdr n))) (sym m.acts_are)
-          (subst (λ z. Contains z (Put (row.Count counter.Cdr n))) (sym (changes_append m.version_acts m.bill_acts)) (Contains-append_right (all_changes m.version_acts) _ _ counts)) in
+          (subst (λ z. Contains z (Put (row.Count counter.Cdr n))) (sym (changes_append m.version_acts m.bill_acts)) (Contains-append_right (all_changes m.version_acts) (all_changes m.bill_acts) (Put (row.Count counter.Cdr n)) counts)) in
           let cause : CdrCause s i acts x = Billed at report reports m complete l e k place (range.numbers counter.Cdr n all_count) refl in
-          subst (λ z. AreCaused acts (all_changes z)) (sym is) (covers_bill _ _ at (s.rows.request + 1) n to x cause)
-      by (acts_of.Unbilled not_complete is) = subst (λ z. AreCaused acts (all_changes z)) (sym is) (covers_none _ _)
+          subst (λ z. AreCaused acts (all_changes z)) (sym is) (covers_bill (SessionCause s i acts) (CdrCause s i acts) at (s.rows.request + 1) n to x cause)
+      by (acts_of.Unbilled not_complete is) = subst (λ z. AreCaused acts (all_changes z)) (sym is) (covers_none (SessionCause s i acts) (CdrCause s i acts))
 
   report_caused : (at : ℕ) (report : ChargerEvent) → i ≡ Reports at report → (work : Work) → ChargerLine s at report work → AreInRange s work.acts → IsCaused work.acts
   report_caused at report reports work (charger.Ended e ended is) range = as_quiet work _ is (covers_ends _ _ at s.rows.commands.pending s.rows.request (e ∷ []))
@@ -244,7 +269,7 @@ module _ (s : State) (i : Input) where
   report_caused at report reports work (charger.Idle ends starts moves shows is) range = as_quiet work [] is (covers_none _ _)
 
   -- sessions that begin where no answer came
-  late_caused : (all : List Act) (at : ℕ) → i ≡ Ticks at → (due : List ℕ) → ((k : ℕ) → Contains due k → waits.IsDue s.waits at k) → (end : ℕ) → end ≤ max_whole →
+  late_caused : (all : List Act) (at : ℕ) → i ≡ Ticks at → (due : List ℕ) → ((k : ℕ) → Contains due k → waits.IsDue s.waits at k) → (end : ℕ) → (s.rows.charged.last_session < end → end ≤ max_whole) →
       (last n : ℕ) (ks : List ℕ) (acts : List Act) (now : ℕ) → AreLeftUnanswered s at last n ks acts now → now ≤ end → s.rows.charged.last_session ≤ n → ((k : ℕ) → Contains ks k → Contains due k) →
       AreCaused all (all_changes acts)
   late_caused all at ticks due are_due end most last n ks acts now (None_left l m) within from sub = covers_none _ _
@@ -253,9 +278,48 @@ module _ (s : State) (i : Input) where
   late_caused all at ticks due are_due end most last n ks acts now (Begins_session l m k more b begun rest z one is later) within from sub =
       let counts = late_counts s at (l + 1) (m + 1) more rest z later in
       let how : HowBegun s i all b = Unanswered at ticks k (are_due k (sub k (in_front k more))) one.awaited one.stands one.decided in
-      let cause : SessionCause s i all (first_of s at (m + 1) b) = Begun at (m + 1) b how (omega (arith, from)) (omega (arith, counts, within, most)) refl in
+      let cause : SessionCause s i all (first_of s at (m + 1) b) = Begun at (m + 1) b how (omega (arith, from)) (let top = most (omega (arith, counts, within, from)) in omega (arith, counts, within, top)) refl in
       covers_acts _ _ begun rest (covers_begun _ _ s at l (m + 1) b begun is cause)
       (late_caused all at ticks due are_due end most (l + 1) (m + 1) more rest z later within (omega (arith, from)) (λ j h. sub j (in_later k more j h)))
 
-  tick_caused : IsConsistent s → (at : ℕ) → i ≡ Ticks at → (work : Work) → IsTickOf s at work → AreInRange s work.acts → IsCaused work.acts
-  tick_caused fine at ticks work h range = ?
+  tick_caused : (at : ℕ) → i ≡ Ticks at → (work : Work) → IsTickOf s at work → AreInRange s work.acts → IsCaused work.acts
+  tick_caused at ticks work h range =
+      let acts = tick_acts at s h.ends h.expired h.now h.begun h.due in
+      let is : work.acts ≡ acts = ap (λ (w : Work). w.acts) h.work_is in
+      let in_range : AreInRange s acts = subst (AreInRange s) is range in
+      let last = s.rows.charged.last_session in
+      let ends = ends_acts at s.rows.commands.pending s.rows.request h.ends in
+      let expired = expired_acts h.expired in
+      let count = map changed (count_change counter.Session last h.now) in
+      let resent = all_resent at s.rows.pushes h.due in
+      let most : last < h.now → h.now ≤ max_whole = (λ below. in_range.numbers counter.Session h.now
+      (in_right (ends ++ expired) ((count ++ h.begun) ++ resent) _ (in_left (count ++ h.begun) resent _ (in_left count h.begun _ (counted_in last h.now below))))) in
+      subst IsCaused (sym is) (covers_acts _ _ (ends ++ expired) ((count ++ h.begun) ++ resent)
+      (covers_acts _ _ ends expired (covers_ends _ _ at s.rows.commands.pending s.rows.request h.ends) (covers_expired _ _ h.expired))
+      (covers_acts _ _ (count ++ h.begun) resent
+      (covers_acts _ _ count h.begun (covers_count _ _ last h.now)
+      (late_caused acts at ticks h.late (λ k j. (h.are_late.exact k).0 j) h.now most (s.rows.request + length h.ends) last h.late h.begun h.now h.unanswered (omega arith) (omega arith) (λ k j. j)))
+      (subst (λ l. AreCaused acts l) (sym (resent_changes at s.rows.pushes h.due)) (covers_none _ _))))
+
+-- where what holds at all times holds, each version and each record that an input asks for has a cause
+pub asked_caused : (s : State) (i : Input) (work : Work) → IsConsistent s → Asks s i work → AreInRange s work.acts → IsCaused s i work.acts
+asked_caused s (Arrives at q) work fine comes range = packet_caused s (Arrives at q) at q refl comes.provider work comes.line range
+asked_caused s (Serves evse in_service) work fine line range = service_caused s (Serves evse in_service) evse in_service work line
+asked_caused s (Reports at report) work fine line range = report_caused s (Reports at report) at report refl work line range
+asked_caused s (Ticks at) work fine line range = tick_caused s (Ticks at) at refl work ((stages_see s at work fine).0 line) range
+asked_caused s Restarts work fine line range = absurd line
+
+-- an event puts versions and records for a cause
+module _ (s t : State) (e : Event) (fine : IsConsistent s) (d : Does s e t) where
+  all_caused : IsCaused s e.input d.acts
+  all_caused = by d.asked
+    where
+      by : IsAsked s e.input d.acts → IsCaused s e.input d.acts
+      by (Nothing is) = subst (IsCaused s e.input) (sym is) (covers_none _ _)
+      by (Asked work line range is) = subst (IsCaused s e.input) (sym is) (asked_caused s e.input work fine line range)
+
+  pub session_cause : (v : Session) → Contains e.changes (Put (row.Session v)) → SessionCause s e.input d.acts v
+  session_cause v i = elim (d.of_acts (Put (row.Session v)) i) [ inl count ↦ (let bad = count.2 in absurd (cc)) | inr j ↦ all_caused.sessions v j ]
+
+  pub cdr_cause : (x : Cdr) → Contains e.changes (Put (row.Cdr x)) → CdrCause s e.input d.acts x
+  cdr_cause x i = elim (d.of_acts (Put (row.Cdr x)) i) [ inl count ↦ (let bad = count.2 in absurd (cc)) | inr j ↦ all_caused.cdrs x j ]

@@ -63,7 +63,7 @@ pasts_are_orderly line es t own run id =
     (grows (opening line) t es (opening_consistent line own) run id)
 
 -- nothing may follow a version that is final
-no_turn : (a b : SessionStatus) → IsFinal a → IsTurn a b → ⊥
+pub no_turn : (a b : SessionStatus) → IsFinal a → IsTurn a b → ⊥
 no_turn Completed b final turn = turn
 no_turn Invalid b final turn = turn
 no_turn Pending b final turn = final

@@ -5,3 +5,4 @@ pub mod Growing
 pub mod Covering
 pub mod Causes
 pub mod Caused
+pub mod Billing

@@ -2,6 +2,7 @@
 //! later one where they speak of two. An event is what `operator_steps` says of it (`Happens`), which is what the calls of an operator
 //! do.
 
+ghost use Rattle.session_laws.specs.Bills.{RecordsAreOfCompletedSessions};
 ghost use Rattle.session_laws.specs.Pasts.{FinalVersionsAreLast, PastsAreOrderly, PastsGoOn};
 
 /// The past of each session is orderly: it begins PENDING, its statuses follow one another, each version is later than the one before
@@ -21,4 +22,11 @@ pub fn pasts_go_on()
 /// ended would break this.
 pub fn final_versions_are_last()
     ensures { FinalVersionsAreLast }
+{}
+
+/// An event puts a charge detail record exactly where it puts a COMPLETED version of a session, and it is the record of that version:
+/// its energy and its cost are the version's, and its id is that of the next number. A bill for a session that goes on, or a completed
+/// session without one, would break this.
+pub fn records_are_of_completed_sessions()
+    ensures { RecordsAreOfCompletedSessions }
 {}
