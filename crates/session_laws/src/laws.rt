@@ -2,7 +2,7 @@
 //! later one where they speak of two. An event is what `operator_steps` says of it (`Happens`), which is what the calls of an operator
 //! do.
 
-ghost use Rattle.session_laws.specs.Bills.{RecordsAreOfCompletedSessions};
+ghost use Rattle.session_laws.specs.Bills.{RecordsAreOfCompletedSessions, RecordsStay, SessionsAreBilledOnce};
 ghost use Rattle.session_laws.specs.Pasts.{FinalVersionsAreLast, PastsAreOrderly, PastsGoOn};
 
 /// The past of each session is orderly: it begins PENDING, its statuses follow one another, each version is later than the one before
@@ -29,4 +29,15 @@ pub fn final_versions_are_last()
 /// session without one, would break this.
 pub fn records_are_of_completed_sessions()
     ensures { RecordsAreOfCompletedSessions }
+{}
+
+/// From the opening on, each session that is COMPLETED has one charge detail record, with the energy and the cost of that version, and
+/// there is no other record. A second bill where a report is repeated, or one for a session that was INVALID, would break this.
+pub fn sessions_are_billed_once()
+    ensures { SessionsAreBilledOnce }
+{}
+
+/// A charge detail record stays for good, unchanged. A record that a later one replaces would break this.
+pub fn records_stay()
+    ensures { RecordsStay }
 {}
