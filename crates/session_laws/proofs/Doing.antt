@@ -27,7 +27,7 @@ use Rattle.operator_steps.proofs.PacketSteps.{packets}
 use Rattle.operator_steps.proofs.ServiceSteps.{services}
 use Rattle.operator_steps.proofs.ReportSteps.{reports}
 use Rattle.operator_steps.proofs.Orderly.{IsOfStep, of_counters}
-use Rattle.session_laws.proofs.Facts.{ticks}
+use Rattle.operator_steps.proofs.TickSteps.{ticks}
 
 -- the change is of a counter that a step stores by itself
 abbrev pub IsCount : Change → Type 0

@@ -1,4 +1,3 @@
-pub mod Facts
 pub mod Doing
 pub mod Versions
 pub mod Growing
@@ -6,3 +5,5 @@ pub mod Covering
 pub mod Causes
 pub mod Caused
 pub mod Billing
+pub mod Numbering
+pub mod Beginning

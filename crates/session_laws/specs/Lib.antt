@@ -1,3 +1,5 @@
 pub mod Runs
 pub mod Pasts
 pub mod Bills
+pub mod Ids
+pub mod Begun

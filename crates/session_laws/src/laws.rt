@@ -2,7 +2,9 @@
 //! later one where they speak of two. An event is what `operator_steps` says of it (`Happens`), which is what the calls of an operator
 //! do.
 
+ghost use Rattle.session_laws.specs.Begun.{SessionsBegan, SessionsBeginAsAsked};
 ghost use Rattle.session_laws.specs.Bills.{RecordsAreOfCompletedSessions, RecordsStay, SessionsAreBilledOnce};
+ghost use Rattle.session_laws.specs.Ids.{IdsAreGiven};
 ghost use Rattle.session_laws.specs.Pasts.{FinalVersionsAreLast, PastsAreOrderly, PastsGoOn};
 
 /// The past of each session is orderly: it begins PENDING, its statuses follow one another, each version is later than the one before
@@ -40,4 +42,22 @@ pub fn sessions_are_billed_once()
 /// A charge detail record stays for good, unchanged. A record that a later one replaces would break this.
 pub fn records_stay()
     ensures { RecordsStay }
+{}
+
+/// The id of each session, and of each charge detail record, is that of a number from 1 to the last that its counter gave; different
+/// numbers have different ids. An id that is given twice, or by a counter that is not stored, would break this.
+pub fn ids_are_given()
+    ensures { IdsAreGiven }
+{}
+
+/// The first version of a session is PENDING, and is put by an event that carries out an open start, shows a token that its provider
+/// lets in, allows a token that its provider was asked about, or comes at the deadline of such a question. A session that a token begins
+/// which its provider blocked, or an answer from another provider, would break this.
+pub fn sessions_begin_as_asked()
+    ensures { SessionsBeginAsAsked }
+{}
+
+/// From the opening on, each session that is stored began by such an event. A session that is made of nothing would break this.
+pub fn sessions_began()
+    ensures { SessionsBegan }
 {}
