@@ -61,18 +61,18 @@ for_it s at n b v k method reference used evse connector l c o is place begins_i
     }
 
 -- a token that is shown, and lets its driver in
-record LetsIn (s : State) (type : TokenType) (uid evse connector : List ℕ) (b : Beginning) : Type 0 where
-  token : Token
-  party : List ℕ
-  stands : get s.rows.tokens ((type, uid), party) ≡ Some token
-  whitelisted : desk.IsWhitelisted token.whitelist
-  valid : token.valid ≡ true
-  location : Location
-  of_evse : Evse
-  of_connector : Connector
-  used : Option (List ℕ)
-  place : IsConnectorAt s.site.locations evse connector location of_evse of_connector
-  begins_is : b ≡ begins token how.Whitelist None location of_evse of_connector used
+pub record LetsIn (s : State) (type : TokenType) (uid evse connector : List ℕ) (b : Beginning) : Type 0 where
+  pub token : Token
+  pub party : List ℕ
+  pub stands : get s.rows.tokens ((type, uid), party) ≡ Some token
+  pub whitelisted : desk.IsWhitelisted token.whitelist
+  pub valid : token.valid ≡ true
+  pub location : Location
+  pub of_evse : Evse
+  pub of_connector : Connector
+  pub used : Option (List ℕ)
+  pub place : IsConnectorAt s.site.locations evse connector location of_evse of_connector
+  pub begins_is : b ≡ begins token how.Whitelist None location of_evse of_connector used
 
 module _ (s : State) (type : TokenType) (uid : List ℕ) where
   shown_in : (p : Option (List ℕ)) (k : Token) → desk.IsShown s.rows.tokens p type uid k → (q : List ℕ) × (get s.rows.tokens ((type, uid), q) ≡ Some k)
@@ -102,7 +102,7 @@ module _ (s : State) (type : TokenType) (uid : List ℕ) where
   told_begins evse connector b p l c o used (swipe.Ask t) place line is = absurd (cc)
   told_begins evse connector b p l c o used swipe.Nothing place line is = absurd (cc)
 
-lets_in : (s : State) (evse connector uid : List ℕ) (type : TokenType) (b : Beginning) (d : Shown) → swipes.SwipeLine s evse connector uid type d → d ≡ shown.Begins b →
+pub lets_in : (s : State) (evse connector uid : List ℕ) (type : TokenType) (b : Beginning) (d : Shown) → swipes.SwipeLine s evse connector uid type d → d ≡ shown.Begins b →
     LetsIn s type (key uid) (key evse) (key connector) b
 lets_in s evse connector uid type b d (swipes.Unplaced none is) same = let bad = sym is ∙ same in absurd (cc)
 lets_in s evse connector uid type b d (swipes.Closed closed is) same = let bad = sym is ∙ same in absurd (cc)
@@ -124,7 +124,7 @@ module _ (s t : State) (e : Event) (d : Does s e t) (v : Session) (at n : ℕ) (
   by_token now (event.Fault evse) reports shows = absurd shows
 
   as_asked : HowBegun s e.input d.acts b → BeginsAsAsked s e t v
-  as_asked (causes.Started now report reports f started kept) =
+  as_asked (causes.Started now report reports f started kept gone) =
       let a = started.begins in
       let stands : get t.rows.commands.results (f.provider, f.number) ≡ Some f.result = (d.rows (row.Result f.provider f.number f.result)).1 (inl (d.to_acts _ kept)) in
       ByStart now f.number started.provider (reports ∙ ap (Reports now) started.report_is) started.command (ap (λ p. get s.rows.commands.pending (p, f.number)) started.same ∙ started.stands) a.start a.command_is a.evse
@@ -151,7 +151,7 @@ module _ (s t : State) (e : Event) (d : Does s e t) (v : Session) (at n : ℕ) (
 
 module _ (s t : State) (e : Event) (fine : IsConsistent s) (d : Does s e t) (v : Session) where
   begins_by : stored s (key v.id) ≡ None → SessionCause s e.input d.acts v → (v.status ≡ Pending) × BeginsAsAsked s e t v
-  begins_by new (causes.Begun at n b how above within is) = (ap (λ (z : Session). z.status) is, as_asked s t e d v at n b is how)
+  begins_by new (causes.Begun at n b how above within is only) = (ap (λ (z : Session). z.status) is, as_asked s t e d v at n b is how)
   begins_by new (causes.Moved at report reports m is) =
       let same : key m.before.id ≡ key v.id = ap key ((follows s fine.sound at report m.before m.after m.moves m.later).same.id ∙ ap (λ (z : Session). z.id) (sym is)) in
       not_both m.before (stored s (key v.id)) new (ap (get s.rows.charged.sessions) (sym same) ∙ m.moves.here.stands)

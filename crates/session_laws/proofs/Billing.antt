@@ -101,7 +101,7 @@ module _ (s t : State) (e : Event) (fine : IsConsistent s) (d : Does s e t) wher
       by (acts_of.Unbilled other is) = absurd (other complete)
 
   each_billed : (v : Session) → v.status ≡ Completed → SessionCause s e.input d.acts v → (x : Cdr) × Contains e.changes (Put (row.Cdr x)) × IsRecordOf s v x
-  each_billed v complete (Begun at n b how above within is) = let never : Pending ≡ Completed = sym (ap (λ (z : Session). z.status) is) ∙ complete in absurd (cc)
+  each_billed v complete (Begun at n b how above within is only) = let never : Pending ≡ Completed = sym (ap (λ (z : Session). z.status) is) ∙ complete in absurd (cc)
   each_billed v complete (Moved at report reports m is) =
       subst (λ z. (x : Cdr) × Contains e.changes (Put (row.Cdr x)) × IsRecordOf s z x) (sym is) (bill_put at report m (sym (ap (λ (z : Session). z.status) is) ∙ complete))
 

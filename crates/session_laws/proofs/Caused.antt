@@ -145,10 +145,10 @@ module _ (P : Session → Type 0) (Q : Cdr → Type 0) where
   covers_service s evse in_service acts (service.Withdrawn one off was is) = subst (λ l. Covers P Q (all_changes l)) (sym is) (covers_kinds P Q _ refl refl)
   covers_service s evse in_service acts (service.Restored one on was is) = subst (λ l. Covers P Q (all_changes l)) (sym is) (covers_kinds P Q _ refl refl)
 
-in_left : (xs ys : List Act) (c : Change) → Contains (all_changes xs) c → Contains (all_changes (xs ++ ys)) c
+pub in_left : (xs ys : List Act) (c : Change) → Contains (all_changes xs) c → Contains (all_changes (xs ++ ys)) c
 in_left xs ys c i = subst (λ l. Contains l c) (sym (changes_append xs ys)) (Contains-append_left (all_changes xs) (all_changes ys) c i)
 
-in_right : (xs ys : List Act) (c : Change) → Contains (all_changes ys) c → Contains (all_changes (xs ++ ys)) c
+pub in_right : (xs ys : List Act) (c : Change) → Contains (all_changes ys) c → Contains (all_changes (xs ++ ys)) c
 in_right xs ys c i = subst (λ l. Contains l c) (sym (changes_append xs ys)) (Contains-append_right (all_changes xs) (all_changes ys) c i)
 
 -- a counter that gave a number since is stored
@@ -200,7 +200,7 @@ module _ (s : State) (i : Input) where
           (λ r is. in_later (Put (row.Count counter.Session n)) (all_changes (spends ++ begun)) (Put (row.Spent (key b.token.party) (key r))) (subst (λ l. Contains l (Put (row.Spent (key b.token.party) (key r)))) (sym (changes_append spends begun))
           (Contains-append_left (all_changes spends) (all_changes begun) (Put (row.Spent (key b.token.party) (key r))) (subst (λ o. Contains (all_changes (spent (key b.token.party) o)) (Put (row.Spent (key b.token.party) (key r)))) (sym is) (in_front (Put (row.Spent (key b.token.party) (key r))) []))))) in
           let cause : SessionCause s i acts (first_of s at n b) =
-          Begun at n b (Answered at q arrives a carries h.awaited h.stands begins spent_in) (omega arith) (numbered_in (spends ++ begun) n (subst (AreInRange s) acts_are range)) refl in
+          Begun at n b (Answered at q arrives a carries h.awaited h.stands begins spent_in) (omega arith) (numbered_in (spends ++ begun) n (subst (AreInRange s) acts_are range)) refl (inr refl) in
           subst IsCaused (sym acts_are) (covers_append (SessionCause s i acts) (CdrCause s i acts) (all_changes front) (all_changes (spends ++ begun)) (covers_kinds (SessionCause s i acts) (CdrCause s i acts) _ refl refl)
           (covers_acts (SessionCause s i acts) (CdrCause s i acts) spends begun (covers_spent (SessionCause s i acts) (CdrCause s i acts) (key b.token.party) b.authorization_reference) (covers_begun (SessionCause s i acts) (CdrCause s i acts) s at s.rows.request n b begun is_begun cause)))
 
@@ -226,7 +226,8 @@ module _ (s : State) (i : Input) where
       let ends = ends_acts at s.rows.commands.pending s.rows.request (e ∷ []) in
       let acts = numbered_sessions n ∷ (ends ++ begun) in
       let kept : Contains (all_changes acts) (Put (row.Result e.provider e.number e.result)) = (3, omega arith, refl) in
-      let cause : SessionCause s i acts (first_of s at n b) = Begun at n b (Started at report reports e started kept) (omega arith) (numbered_in (ends ++ begun) n range) refl in
+      let gone : Contains (all_changes acts) (Drop (keys.Pending e.provider e.number)) = (1, omega arith, refl) in
+      let cause : SessionCause s i acts (first_of s at n b) = Begun at n b (Started at report reports e started kept gone) (omega arith) (numbered_in (ends ++ begun) n range) refl (inr refl) in
       covers_append _ _ (all_changes (numbered_sessions n ∷ [])) (all_changes (ends ++ begun)) (covers_kinds _ _ _ refl refl)
       (covers_acts _ _ ends begun (covers_ends _ _ at s.rows.commands.pending s.rows.request (e ∷ [])) (covers_begun _ _ s at (s.rows.request + 1) n b begun is cause))
 
@@ -236,7 +237,7 @@ module _ (s : State) (i : Input) where
   begun_caused at report reports b begun shows is range =
       let n = s.rows.charged.last_session + 1 in
       let acts = numbered_sessions n ∷ begun in
-      let cause : SessionCause s i acts (first_of s at n b) = Begun at n b (Shown at report reports shows) (omega arith) (numbered_in begun n range) refl in
+      let cause : SessionCause s i acts (first_of s at n b) = Begun at n b (Shown at report reports shows) (omega arith) (numbered_in begun n range) refl (inr refl) in
       covers_append _ _ (all_changes (numbered_sessions n ∷ [])) (all_changes begun) (covers_kinds _ _ _ refl refl) (covers_begun _ _ s at s.rows.request n b begun is cause)
 
   -- a session goes on
@@ -278,7 +279,7 @@ module _ (s : State) (i : Input) where
   late_caused all at ticks due are_due end most last n ks acts now (Begins_session l m k more b begun rest z one is later) within from sub =
       let counts = late_counts s at (l + 1) (m + 1) more rest z later in
       let how : HowBegun s i all b = Unanswered at ticks k (are_due k (sub k (in_front k more))) one.awaited one.stands one.decided in
-      let cause : SessionCause s i all (first_of s at (m + 1) b) = Begun at (m + 1) b how (omega (arith, from)) (let top = most (omega (arith, counts, within, from)) in omega (arith, counts, within, top)) refl in
+      let cause : SessionCause s i all (first_of s at (m + 1) b) = Begun at (m + 1) b how (omega (arith, from)) (let top = most (omega (arith, counts, within, from)) in omega (arith, counts, within, top)) refl (inl (ap (λ (z : Beginning). z.authorization_reference) one.decided.there.begins_is)) in
       covers_acts _ _ begun rest (covers_begun _ _ s at l (m + 1) b begun is cause)
       (late_caused all at ticks due are_due end most (l + 1) (m + 1) more rest z later within (omega (arith, from)) (λ j h. sub j (in_later k more j h)))
 

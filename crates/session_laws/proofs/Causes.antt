@@ -1,5 +1,5 @@
 -- Why an event puts a version of a session, or a charge detail record.
-use Rattle.std.specs.Prelude.{◌≡◌, ◌<◌, ◌≤◌, ◌+◌, ℕ, List, Some, Contains}
+use Rattle.std.specs.Prelude.{◌≡◌, ◌<◌, ◌≤◌, ◌+◌, ◌⊎◌, ℕ, List, Some, None, Contains}
 use Rattle.std.specs.FinMap.{get}
 use Rattle.ocpi_text.specs.Text.{key}
 use Rattle.ocpi_text.specs.Whole.{max_whole}
@@ -34,7 +34,7 @@ use Rattle.session_tables.specs.Places.{IsConnectorAt, MayTakeAt}
 -- time
 pub data HowBegun (s : State) (i : Input) (acts : List Act) (b : Beginning) : Type 0 where
   Started : (at : ℕ) (report : ChargerEvent) → i ≡ Reports at report → (e : Ending) → IsStarted s report e b →
-      Contains (all_changes acts) (Put (row.Result e.provider e.number e.result)) → HowBegun s i acts b
+      Contains (all_changes acts) (Put (row.Result e.provider e.number e.result)) → Contains (all_changes acts) (Drop (keys.Pending e.provider e.number)) → HowBegun s i acts b
   Shown : (at : ℕ) (report : ChargerEvent) → i ≡ Reports at report → Shows s report (shown.Begins b) → HowBegun s i acts b
   Answered : (at : ℕ) (q : Packet) → i ≡ Arrives at q → (a : Authorization) → q.body ≡ body.Authorization a → (w : Awaited) → IsAwaited s q w → BeginsByAnswer s.site s.rows w a b →
       ((r : List ℕ) → b.authorization_reference ≡ Some r → Contains (all_changes acts) (Put (row.Spent (key b.token.party) (key r)))) → HowBegun s i acts b
@@ -43,7 +43,8 @@ pub data HowBegun (s : State) (i : Input) (acts : List Act) (b : Beginning) : Ty
 
 -- the version is the first of a session with a new number, or a report makes it of the version that is stored
 pub data SessionCause (s : State) (i : Input) (acts : List Act) (v : Session) : Type 0 where
-  Begun : (at n : ℕ) (b : Beginning) → HowBegun s i acts b → s.rows.charged.last_session < n → n ≤ max_whole → v ≡ first_of s at n b → SessionCause s i acts v
+  Begun : (at n : ℕ) (b : Beginning) → HowBegun s i acts b → s.rows.charged.last_session < n → n ≤ max_whole → v ≡ first_of s at n b →
+      ((b.authorization_reference ≡ None) ⊎ (n ≡ s.rows.charged.last_session + 1)) → SessionCause s i acts v
   Moved : (at : ℕ) (report : ChargerEvent) → i ≡ Reports at report → (m : IsMoved s at report acts) → v ≡ m.after → SessionCause s i acts v
 
 -- the record is that of the version that a report makes

@@ -7,3 +7,5 @@ pub mod Caused
 pub mod Billing
 pub mod Numbering
 pub mod Beginning
+pub mod Opens
+pub mod Using

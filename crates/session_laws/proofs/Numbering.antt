@@ -48,7 +48,7 @@ module _ (s t : State) (e : Event) (fine : IsConsistent s) (d : Does s e t) wher
   moved_id at report m = (follows s fine.sound at report m.before m.after m.moves m.later).same.id
 
   put_number : HaveNumbers s → (v : Session) → SessionCause s e.input d.acts v → HasNumber own.Session s.party v.id
-  put_number h v (Begun at n b how above within is) = record { number = n; first = omega (arith, above); within = within; id_is = ap (λ (z : Session). z.id) is }
+  put_number h v (Begun at n b how above within is only) = record { number = n; first = omega (arith, above); within = within; id_is = ap (λ (z : Session). z.id) is }
   put_number h v (Moved at report reports m is) =
       subst (HasNumber own.Session s.party) (moved_id at report m ∙ ap (λ (z : Session). z.id) (sym is)) (h.sessions (key m.before.id) m.before m.moves.here.stands)
 

@@ -3,3 +3,4 @@ pub mod Pasts
 pub mod Bills
 pub mod Ids
 pub mod Begun
+pub mod Used

@@ -5,6 +5,7 @@
 ghost use Rattle.session_laws.specs.Begun.{SessionsBegan, SessionsBeginAsAsked};
 ghost use Rattle.session_laws.specs.Bills.{RecordsAreOfCompletedSessions, RecordsStay, SessionsAreBilledOnce};
 ghost use Rattle.session_laws.specs.Ids.{IdsAreGiven};
+ghost use Rattle.session_laws.specs.Used.{AReferenceBeginsOneSession};
 ghost use Rattle.session_laws.specs.Pasts.{FinalVersionsAreLast, PastsAreOrderly, PastsGoOn};
 
 /// The past of each session is orderly: it begins PENDING, its statuses follow one another, each version is later than the one before
@@ -60,4 +61,11 @@ pub fn sessions_begin_as_asked()
 /// From the opening on, each session that is stored began by such an event. A session that is made of nothing would break this.
 pub fn sessions_began()
     ensures { SessionsBegan }
+{}
+
+/// From the opening on, an authorization reference of a provider, in key form, is carried by one session or by one open start, and may
+/// not be used again. A start that came again under another number, or an answer by the reference of a start, would break this if a
+/// session began by it.
+pub fn a_reference_begins_one_session()
+    ensures { AReferenceBeginsOneSession }
 {}
