@@ -1,0 +1,11 @@
+pub mod Doing
+pub mod Versions
+pub mod Growing
+pub mod Covering
+pub mod Causes
+pub mod Caused
+pub mod Billing
+pub mod Numbering
+pub mod Beginning
+pub mod Opens
+pub mod Using

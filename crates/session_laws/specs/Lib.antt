@@ -1,0 +1,6 @@
+pub mod Runs
+pub mod Pasts
+pub mod Bills
+pub mod Ids
+pub mod Begun
+pub mod Used
