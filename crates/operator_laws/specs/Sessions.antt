@@ -51,10 +51,14 @@ pub record IsGivenId (kind : OwnIdKind) (party : List ℕ) (last : ℕ) (id : Li
 -- each session and each charge detail record stands under its id, which is that of a number that was given; and different numbers that
 -- were given have different ids, also without case
 pub record HaveGivenIds (t : State) : Type 0 where
-  pub sessions : (id : List ℕ) (v : Session) → get t.rows.charged.sessions id ≡ Some v → (id ≡ key v.id) × IsGivenId own.Session t.party t.rows.charged.last_session v.id
-  pub cdrs : (id : List ℕ) (x : Cdr) → get t.rows.charged.cdrs id ≡ Some x → (id ≡ key x.id) × IsGivenId own.Cdr t.party t.rows.charged.last_cdr x.id
-  pub sessions_differ : (m n : ℕ) → m ≤ t.rows.charged.last_session → n ≤ t.rows.charged.last_session → id_key own.Session t.party m ≡ id_key own.Session t.party n → m ≡ n
-  pub cdrs_differ : (m n : ℕ) → m ≤ t.rows.charged.last_cdr → n ≤ t.rows.charged.last_cdr → id_key own.Cdr t.party m ≡ id_key own.Cdr t.party n → m ≡ n
+  pub sessions : (id : List ℕ) (v : Session) → get t.rows.charged.sessions id ≡ Some v →
+      (id ≡ key v.id) × IsGivenId own.Session t.party t.rows.charged.last_session v.id
+  pub cdrs : (id : List ℕ) (x : Cdr) → get t.rows.charged.cdrs id ≡ Some x →
+      (id ≡ key x.id) × IsGivenId own.Cdr t.party t.rows.charged.last_cdr x.id
+  pub sessions_differ : (m n : ℕ) → m ≤ t.rows.charged.last_session → n ≤ t.rows.charged.last_session →
+      id_key own.Session t.party m ≡ id_key own.Session t.party n → m ≡ n
+  pub cdrs_differ : (m n : ℕ) → m ≤ t.rows.charged.last_cdr → n ≤ t.rows.charged.last_cdr →
+      id_key own.Cdr t.party m ≡ id_key own.Cdr t.party n → m ≡ n
 
 abbrev pub IdsAreGiven : Type 0
 IdsAreGiven = (line : SiteLine) (es : List Event) (t : State) → IsOfParty line → Run (opening line) es t → HaveGivenIds t

@@ -1,6 +1,6 @@
 -- Each change of each line has its cause: line by line, act by act.
-use Rattle.std.proofs.Common.{◌≡◌, ◌≢◌, ◌⊎◌, ◌+◌, ℕ, List, [], ◌∷◌, ◌++◌, map, inl, inr, refl, sym, ap, subst, ◌∙◌, arith}
-use Rattle.std.specs.Prelude.{Option, Some, None, Contains, Bool, ⊤, cond, true, false, nat_eq}
+use Rattle.std.proofs.Common.{◌≡◌, ◌⊎◌, ◌+◌, ℕ, List, [], ◌∷◌, ◌++◌, map, inl, inr, refl, sym, ap, subst, ◌∙◌, arith}
+use Rattle.std.specs.Prelude.{Option, Some, None, Contains, Bool, cond, true, false, nat_eq}
 use Rattle.std.specs.FinMap.{get}
 use Rattle.std.proofs.lemmas.List.Elements.{Contains-append_cases, Contains-append_left, Contains-append_right}
 use Rattle.tables.proofs.Elements.{in_none, in_front, in_single, in_map}
@@ -20,10 +20,9 @@ use Rattle.ocpi_types.specs.declared.stored.Command.{Command}
 use Rattle.ocpi_types.specs.declared.stored.Command.TheVariants as command
 use Rattle.ocpi_types.specs.declared.stored.OpenCommand.{OpenCommand}
 use Rattle.ocpi_types.specs.declared.stored.Reply.{Reply}
-use Rattle.ocpi_types.specs.declared.token.Token.{Token}
 use Rattle.authorization_book.specs.declared.awaited.Awaited.{Awaited}
 use Rattle.reservation_book.specs.declared.standing.Standing.{Standing}
-use Rattle.node_steps.specs.Acts.{Act, acknowledged, all_changes, answered, changed, pushed, repeated}
+use Rattle.node_steps.specs.Acts.{Act, acknowledged, all_changes, answered, changed, repeated}
 use Rattle.node_steps.specs.Drafts.{count_change}
 use Rattle.node_steps.specs.Peers.{IsPeer}
 use Rattle.node_steps.proofs.Gathering.{changes_append}
@@ -39,7 +38,7 @@ use Rattle.operator_steps.specs.Charger as charger
 use Rattle.operator_steps.specs.Charger.{ChargerLine}
 use Rattle.operator_steps.specs.Ends.{IsOfSite, IsOpen, end_acts, ends_acts, expired_acts}
 use Rattle.operator_steps.specs.Events.{Input, Arrives, Serves, Reports, Ticks, Restarts, Asks}
-use Rattle.operator_steps.specs.Moves.{Work, and_then}
+use Rattle.operator_steps.specs.Moves.{Work}
 use Rattle.operator_steps.specs.Service as service
 use Rattle.operator_steps.specs.Service.{ServiceLine}
 use Rattle.operator_steps.specs.Sessions as sessions
@@ -49,8 +48,8 @@ use Rattle.operator_steps.specs.Steps.{PacketLine, TokenLine, acknowledgement}
 use Rattle.operator_steps.specs.Tick.{Expiries, Resends, TickLine, TimeOut, Timeouts, request_of}
 use Rattle.operator_steps.proofs.Orderly.{AreOrderly, orderly_kinds}
 use Rattle.operator_steps.proofs.Resending.{resent_leave}
-use Rattle.operator_laws.proofs.events.Causes.{Cause, DecidesIt, Replying, Storing, TakesToken}
-use Rattle.operator_laws.proofs.events.Decided.{AllOf, all_acts, all_in, all_joined, decided_caused}
+use Rattle.operator_laws.proofs.events.Causes.{Cause, Replying, TakesToken}
+use Rattle.operator_laws.proofs.events.Decided.{AllOf, all_acts, all_in, decided_caused}
 
 -- an open command that ends
 pub record IsEnd (s : State) (e : Ending) : Type 0 where

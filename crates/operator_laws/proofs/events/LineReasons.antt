@@ -1,9 +1,9 @@
 -- The reasons of what each line changes.
-use Rattle.std.proofs.Common.{◌≡◌, ◌≢◌, ◌⊎◌, ◌+◌, ◌≤◌, ◌<◌, ℕ, ℤ, List, [], ◌∷◌, ◌++◌, map, inl, inr, refl, sym, ap, subst, ◌∙◌, arith}
-use Rattle.std.specs.Prelude.{Option, Some, None, Contains, Bool, ⊤, cond, true, false, nat_eq, length}
+use Rattle.std.proofs.Common.{◌≡◌, ◌+◌, ◌≤◌, ◌<◌, ℕ, ℤ, List, [], ◌∷◌, ◌++◌, map, inl, inr, refl, sym, ap, subst, ◌∙◌, arith}
+use Rattle.std.specs.Prelude.{Option, Some, None, Contains, Bool, cond, true, false, nat_eq, length}
 use Rattle.std.specs.FinMap.{get}
 use Rattle.std.proofs.lemmas.Bool.{eqb-true}
-use Rattle.tables.proofs.Elements.{in_none, in_front, in_single}
+use Rattle.tables.proofs.Elements.{in_single}
 use Rattle.tables.proofs.Options.{none_some}
 use Rattle.ocpi_text.specs.Text.{key}
 use Rattle.ocpi_types.specs.declared.authorizations.Authorization.{Authorization}
@@ -12,7 +12,6 @@ use Rattle.ocpi_types.specs.declared.events.ChargerEvent.{ChargerEvent}
 use Rattle.ocpi_types.specs.declared.events.ChargerEvent.TheVariants as event
 use Rattle.ocpi_types.specs.declared.packet.Body.TheVariants as body
 use Rattle.ocpi_types.specs.declared.packet.Packet.{Packet}
-use Rattle.ocpi_types.specs.declared.rows.Place.{Place}
 use Rattle.ocpi_types.specs.declared.rows.Row.TheVariants as row
 use Rattle.ocpi_types.specs.declared.rows.RowKey.TheVariants as keys
 use Rattle.ocpi_types.specs.declared.rows.Change.{Change}
@@ -24,13 +23,10 @@ use Rattle.ocpi_types.specs.declared.site.Evse.{Evse}
 use Rattle.ocpi_types.specs.declared.site.Location.{Location}
 use Rattle.ocpi_types.specs.declared.token.Token.{Token}
 use Rattle.ocpi_types.specs.declared.words.AuthMethod.TheVariants as how
-use Rattle.ocpi_types.specs.declared.stored.Command.{Command}
 use Rattle.ocpi_types.specs.declared.stored.Command.TheVariants as command
 use Rattle.ocpi_types.specs.declared.stored.OpenCommand.{OpenCommand}
-use Rattle.ocpi_types.specs.declared.stored.Reply.{Reply}
 use Rattle.ocpi_types.specs.declared.words.CommandResultType.{CommandResultType}
 use Rattle.ocpi_types.specs.declared.words.CommandResultType.TheVariants as result
-use Rattle.ocpi_types.specs.declared.words.SessionStatus.TheVariants.{Completed}
 use Rattle.ocpi_types.specs.declared.words.TokenType.{TokenType}
 use Rattle.authorization_book.specs.declared.awaited.Awaited.{Awaited}
 use Rattle.reservation_book.specs.declared.standing.Standing.{Standing}
@@ -41,13 +37,11 @@ use Rattle.node_steps.specs.Drafts.{count_change}
 use Rattle.node_steps.specs.Peers.{IsPeer}
 use Rattle.operator_rows.specs.State.{State, IsSpent}
 use Rattle.operator_rows.specs.Sound.{IsConsistent, IsOwnStart}
-use Rattle.operator_rows.proofs.RowChanges.{in_later}
 use Rattle.operator_tables.specs.declared.decision.Decision.{Decision}
 use Rattle.operator_tables.specs.declared.decision.Decision.TheVariants as decision
 use Rattle.operator_tables.specs.Outcomes.{IsAbout, Tells}
 use Rattle.operator_tables.proofs.Lines.{all_tell}
 use Rattle.session_tables.specs.declared.beginning.Beginning.{Beginning}
-use Rattle.session_tables.specs.declared.shown.Shown.{Shown}
 use Rattle.session_tables.specs.declared.shown.Shown.TheVariants as shows
 use Rattle.session_tables.specs.Beginnings.{begins}
 use Rattle.session_tables.specs.Answers.{BeginsByAnswer, Decided}
@@ -56,7 +50,7 @@ use Rattle.session_tables.specs.Swipes as swipes
 use Rattle.session_tables.specs.Swipes.{SwipeLine, told_by}
 use Rattle.operator_steps.specs.declared.ending.Ending.{Ending}
 use Rattle.operator_steps.specs.Acts.{decided_acts, reference_of, reply_of, settled, spent, url_of, used, opened}
-use Rattle.operator_steps.specs.Asking.{AnswerActs, IsAnswered}
+use Rattle.operator_steps.specs.Asking.{AnswerActs}
 use Rattle.operator_steps.specs.Charger as charger
 use Rattle.operator_steps.specs.Charger.{ChargerLine, IsStarted, Shows, outcome}
 use Rattle.operator_steps.specs.Ends.{all_resent, ends_acts, expired_acts}
@@ -72,7 +66,7 @@ use Rattle.operator_steps.specs.TickFacts.{AreLeftUnanswered, IsLeftUnanswered, 
 use Rattle.operator_steps.proofs.Resending.{resent_leave}
 use Rattle.operator_laws.proofs.events.Causes.{DecidesIt}
 use Rattle.operator_laws.proofs.events.Decided.{AllOf, all_acts, all_in}
-use Rattle.operator_laws.proofs.events.Caused.{IsEnd, in_first, in_parts, in_second, timed_open}
+use Rattle.operator_laws.proofs.events.Caused.{in_parts, timed_open}
 use Rattle.operator_laws.proofs.events.Facts.{stages_see}
 use Rattle.operator_laws.proofs.events.Reasons as reasons
 use Rattle.operator_laws.proofs.events.Reasons.{BeginsFor, BegunBy, Reason}

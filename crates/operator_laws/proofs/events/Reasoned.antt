@@ -1,18 +1,12 @@
 -- Each change of each line has its reason, where what holds at all times holds.
-use Rattle.std.proofs.Common.{◌≡◌, ◌≢◌, ◌⊎◌, ◌+◌, ◌≤◌, ◌<◌, ℕ, List, [], ◌∷◌, ◌++◌, map, inl, inr, refl, sym, ap, subst, ◌∙◌, arith}
-use Rattle.std.specs.Prelude.{Option, Some, None, Contains, Bool, ⊤, cond, true, false, nat_eq, length}
+use Rattle.std.proofs.Common.{◌≡◌, ◌+◌, ◌≤◌, ◌<◌, ℕ, List, [], ◌∷◌, ◌++◌, inl, refl, sym, ap, subst, arith}
+use Rattle.std.specs.Prelude.{Option, Some, None, Contains}
 use Rattle.std.specs.FinMap.{get}
 use Rattle.std.proofs.lemmas.List.Elements.{Contains-append_left, Contains-append_right}
-use Rattle.tables.proofs.Elements.{in_none, in_front, in_single, in_map}
+use Rattle.tables.proofs.Elements.{in_front}
 use Rattle.ocpi_text.specs.Text.{key}
-use Rattle.ocpi_types.specs.Stored.{body_of_push}
-use Rattle.ocpi_types.specs.declared.authorizations.Authorization.{Authorization}
 use Rattle.ocpi_types.specs.declared.cdrs.Cdr.{Cdr}
 use Rattle.ocpi_types.specs.declared.commands.StartSession.{StartSession}
-use Rattle.ocpi_types.specs.declared.events.ChargerEvent.{ChargerEvent}
-use Rattle.ocpi_types.specs.declared.events.ChargerEvent.TheVariants as event
-use Rattle.ocpi_types.specs.declared.packet.Body.TheVariants as body
-use Rattle.ocpi_types.specs.declared.packet.Packet.{Packet}
 use Rattle.ocpi_types.specs.declared.rows.Row.TheVariants as row
 use Rattle.ocpi_types.specs.declared.rows.RowKey.TheVariants as keys
 use Rattle.ocpi_types.specs.declared.rows.Change.{Change}
@@ -21,29 +15,23 @@ use Rattle.ocpi_types.specs.declared.rows.Counter.TheVariants as counter
 use Rattle.ocpi_types.specs.declared.sessions.Session.{Session}
 use Rattle.ocpi_types.specs.declared.stored.Command.{Command}
 use Rattle.ocpi_types.specs.declared.stored.Command.TheVariants as command
-use Rattle.ocpi_types.specs.declared.stored.OpenCommand.{OpenCommand}
-use Rattle.ocpi_types.specs.declared.stored.Push.{Push}
 use Rattle.ocpi_types.specs.declared.stored.Push.TheVariants as push
 use Rattle.ocpi_types.specs.declared.words.CommandResultType.{CommandResultType}
 use Rattle.ocpi_types.specs.declared.words.CommandResultType.TheVariants as result
 use Rattle.ocpi_types.specs.declared.words.SessionStatus.TheVariants.{Completed}
-use Rattle.node_steps.specs.Acts.{Act, acknowledged, all_changes, all_messages, all_requests, changed, pushed, push_message}
+use Rattle.node_steps.specs.Acts.{Act, acknowledged, all_changes, all_messages, changed, pushed, push_message}
 use Rattle.outbox.specs.Pushes.{IsReplaced, subject}
-use Rattle.node_steps.specs.Drafts.{count_change}
 use Rattle.node_steps.specs.Messages.{Message}
-use Rattle.node_steps.proofs.Gathering.{changes_append, messages_append}
-use Rattle.operator_rows.specs.State.{State, IsSpent}
-use Rattle.operator_rows.specs.Sound.{IsConsistent, IsSound, IsOwnStart}
+use Rattle.node_steps.proofs.Gathering.{messages_append}
+use Rattle.operator_rows.specs.State.{State}
 use Rattle.operator_rows.proofs.RowChanges.{in_later}
 use Rattle.session_tables.specs.declared.beginning.Beginning.{Beginning}
-use Rattle.session_tables.specs.Accepts.{Accepts}
 use Rattle.operator_steps.specs.declared.ending.Ending.{Ending}
-use Rattle.operator_steps.specs.Acts.{reference_of, settled, told, url_of, used}
+use Rattle.operator_steps.specs.Acts.{settled, told, url_of, used}
 use Rattle.operator_steps.specs.Ends.{end_acts, ends_acts, url_in}
 use Rattle.operator_steps.specs.Events.{Input}
 use Rattle.operator_steps.specs.Sessions as sessions
 use Rattle.operator_steps.specs.Sessions.{IsBegun, IsBilled, IsVersioned, first_of, next_cdr, numbered_cdrs, replaced, versioned}
-use Rattle.operator_laws.proofs.events.Causes.{DecidesIt}
 use Rattle.operator_laws.proofs.events.Decided.{AllOf, all_acts}
 use Rattle.operator_laws.proofs.events.Caused.{IsEnd, in_first, in_second}
 use Rattle.operator_laws.proofs.events.Reasons as reasons

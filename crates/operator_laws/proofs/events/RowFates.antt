@@ -1,6 +1,6 @@
 -- What becomes of a row, whatever changes are made: one that stands was put or stood before, and one that no change is of stays.
 use Rattle.std.proofs.Common.{◌≡◌, ◌≢◌, ◌⊎◌, List, [], ◌∷◌, inl, inr, refl, sym, ap, subst, ◌∙◌}
-use Rattle.std.specs.Prelude.{Contains, ℕ, ⊤}
+use Rattle.std.specs.Prelude.{Contains, ℕ}
 use Rattle.std.specs.Cmp.{nat_cmp_total}
 use Rattle.std.specs.FinMap.{get, empty, nat_cmp-IsAntisymmetric}
 use Rattle.tables.specs.Keys.{text_total, text_exact, text_number_total, text_number_exact, text_pair_total, text_pair_exact}

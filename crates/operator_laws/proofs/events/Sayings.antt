@@ -1,9 +1,9 @@
 -- Why each message of each line is said.
-use Rattle.std.proofs.Common.{◌≡◌, ◌≢◌, ◌⊎◌, ◌+◌, ℕ, List, [], ◌∷◌, ◌++◌, map, inl, inr, refl, sym, ap, subst, ◌∙◌, arith}
+use Rattle.std.proofs.Common.{◌≡◌, ◌⊎◌, ◌+◌, ℕ, List, [], ◌∷◌, ◌++◌, map, inl, inr, refl, sym, ap, subst, ◌∙◌, arith}
 use Rattle.std.specs.Prelude.{Option, Some, None, Contains, Bool, ⊤, cond, true, false, nat_eq, length}
 use Rattle.std.specs.FinMap.{get}
 use Rattle.std.proofs.lemmas.List.Elements.{Contains-append_cases, Contains-append_left, Contains-append_right}
-use Rattle.tables.proofs.Elements.{in_none, in_front, in_single}
+use Rattle.tables.proofs.Elements.{in_none, in_single}
 use Rattle.ocpi_text.specs.Text.{key}
 use Rattle.ocpi_types.specs.Stored.{body_of_push, body_of_reply}
 use Rattle.ocpi_types.specs.declared.authorizations.Authorize.{Authorize}
@@ -12,9 +12,8 @@ use Rattle.ocpi_types.specs.declared.packet.Body.TheVariants as body
 use Rattle.ocpi_types.specs.declared.packet.Packet.{Packet}
 use Rattle.ocpi_types.specs.declared.rows.Row.TheVariants as row
 use Rattle.ocpi_types.specs.declared.rows.Change.{Change}
-use Rattle.ocpi_types.specs.declared.rows.Change.TheVariants.{Put, Drop}
+use Rattle.ocpi_types.specs.declared.rows.Change.TheVariants.{Put}
 use Rattle.ocpi_types.specs.declared.rows.Counter.TheVariants as counter
-use Rattle.ocpi_types.specs.declared.rows.RowKey.TheVariants as keys
 use Rattle.ocpi_types.specs.declared.sessions.Session.{Session}
 use Rattle.ocpi_types.specs.declared.stored.Command.{Command}
 use Rattle.ocpi_types.specs.declared.stored.Push.{Push}
@@ -23,22 +22,20 @@ use Rattle.ocpi_types.specs.declared.stored.Reply.{Reply}
 use Rattle.ocpi_types.specs.declared.token.Token.{Token}
 use Rattle.ocpi_types.specs.declared.words.CommandResultType.{CommandResultType}
 use Rattle.command_book.specs.Stored as book
-use Rattle.outbox.specs.Pushes.{Pushes}
 use Rattle.outbox.specs.declared.push_book.Outgoing.{Outgoing}
 use Rattle.reservation_book.specs.declared.standing.Standing.{Standing}
-use Rattle.node_steps.specs.Acts.{Act, acknowledged, all_changes, all_messages, answered, asked, changed, pushed, repeated}
+use Rattle.node_steps.specs.Acts.{Act, acknowledged, all_changes, all_messages, answered, asked, changed, pushed}
 use Rattle.node_steps.specs.Drafts.{count_change}
 use Rattle.node_steps.specs.Messages.{Message}
 use Rattle.node_steps.specs.Peers.{IsPeer}
-use Rattle.node_steps.proofs.Gathering.{changes_append, messages_append}
+use Rattle.node_steps.proofs.Gathering.{messages_append}
 use Rattle.operator_rows.specs.State.{State}
 use Rattle.operator_rows.specs.Sound.{IsConsistent}
-use Rattle.operator_rows.proofs.RowChanges.{in_later, of_cons}
 use Rattle.session_tables.specs.declared.beginning.Beginning.{Beginning}
 use Rattle.operator_tables.specs.declared.decision.Decision.{Decision}
 use Rattle.operator_tables.specs.declared.decision.Decision.TheVariants as decision
 use Rattle.operator_steps.specs.declared.ending.Ending.{Ending}
-use Rattle.operator_steps.specs.Acts.{decided_acts, opened, own_acts, reference_of, reply_of, settled, settled_if, spent, told, url_of, used}
+use Rattle.operator_steps.specs.Acts.{own_acts, reference_of, reply_of, settled, settled_if, spent, told, url_of, used}
 use Rattle.operator_steps.specs.Asking.{AnswerActs, IsAsked}
 use Rattle.operator_steps.specs.Asking as asking
 use Rattle.operator_steps.specs.Charger as charger

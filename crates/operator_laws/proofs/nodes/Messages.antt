@@ -1,5 +1,5 @@
 -- The packets of messages, and the messages of packets.
-use Rattle.std.proofs.Common.{◌≡◌, ◌⊎◌, zero, suc, ℕ, ◌+◌, List, [], ◌∷◌, length, inl, inr, refl, sym, ap, subst, ◌∙◌, arith}
+use Rattle.std.proofs.Common.{◌≡◌, zero, suc, ℕ, ◌+◌, List, [], ◌∷◌, length, inl, inr, refl, sym, ap, subst, arith}
 use Rattle.std.specs.Prelude.{Some, Contains, slice_get}
 use Rattle.tables.proofs.Elements.{in_none, in_front}
 use Rattle.ocpi_types.specs.declared.packet.Packet.{Packet}

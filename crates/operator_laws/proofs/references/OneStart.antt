@@ -1,5 +1,5 @@
 -- A reference of a provider opens one start at most.
-use Rattle.std.proofs.Common.{zero, suc, ◌≡◌, ◌≢◌, ℕ, List, [], ◌∷◌, inl, refl, sym, ap, subst}
+use Rattle.std.proofs.Common.{zero, suc, ◌≡◌, ◌≢◌, ℕ, List, [], ◌∷◌, refl, sym, ap, subst}
 use Rattle.std.specs.Prelude.{Some, slice_get}
 use Rattle.std.specs.FinMap.{get}
 use Rattle.ocpi_types.specs.declared.rows.Row.TheVariants as row

@@ -37,6 +37,9 @@ answer_put s i acts h = subst (λ l. Contains (all_changes l) (Put (row.Reply (k
 pub told_of : (s : State) (i : Input) (acts : List Act) (h : DecidesIt s i acts) → Tells s h.at h.packet.from h.packet.request h.command h.decision
 told_of s i acts h = all_tell s h.at h.packet.from h.packet.request h.command h.decision h.it.decides
 
+one_arrival : (at when : ℕ) (q r : Packet) → Arrives at q ≡ Arrives when r → q ≡ r
+one_arrival at when q r e = cc
+
 module _ (s t : State) (e : Event) (d : Does s e t) where
   -- the reply of a decision is kept from now on
   pub replied_now : (h : DecidesIt s e.input d.acts) → get t.rows.commands.replies (key h.packet.from, h.packet.request) ≡ Some (reply_of h.at h.decision)
@@ -60,7 +63,7 @@ module _ (s t : State) (e : Event) (d : Does s e t) where
   was_decided q r c is a = elim (kept_or_answered (key q.from) q.request r a.kept) [
     | inl old ↦ absurd (not_both r _ a.new old)
     | inr h ↦
-        let came : h.replies.packet ≡ q = (let both : Arrives h.replies.at h.replies.packet ≡ Arrives a.at q = sym h.replies.arrives ∙ a.comes in cc) in
+        let came : h.replies.packet ≡ q = one_arrival h.replies.at a.at h.replies.packet q (subst (λ z. z ≡ Arrives a.at q) h.replies.arrives a.comes) in
         let (it, same, reply) = h.replies.decided c (subst (λ (z : Packet). z.body ≡ body_of_command c) (sym came) is) in
         record { it = it; packet_is = same ∙ came; reply_is = reply ∙ h.reply_is }
   ]

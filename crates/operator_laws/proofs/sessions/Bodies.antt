@@ -1,5 +1,5 @@
 -- What is pushed of sessions is what was stored.
-use Rattle.std.proofs.Common.{◌≡◌, ◌⊎◌, ◌++◌, ℕ, List, [], ◌∷◌, inl, inr, refl, sym, ap, subst, ◌∙◌}
+use Rattle.std.proofs.Common.{◌≡◌, ℕ, List, [], ◌∷◌, inl, inr, sym, ap, subst, ◌∙◌}
 use Rattle.std.specs.Prelude.{Some, Contains, ⊤}
 use Rattle.std.specs.FinMap.{get, get-empty}
 use Rattle.std.specs.Ordering.{nat_cmp}
@@ -10,16 +10,12 @@ use Rattle.ocpi_text.specs.Text.{key}
 use Rattle.ocpi_types.specs.Stored.{body_of_push}
 use Rattle.ocpi_types.specs.declared.cdrs.Cdr.{Cdr}
 use Rattle.ocpi_types.specs.declared.packet.Packet.{Packet}
-use Rattle.ocpi_types.specs.declared.replies.CommandResult.{CommandResult}
 use Rattle.ocpi_types.specs.declared.rows.Change.TheVariants.{Put}
 use Rattle.ocpi_types.specs.declared.rows.Row.{Row}
 use Rattle.ocpi_types.specs.declared.rows.Row.TheVariants as row
-use Rattle.ocpi_types.specs.declared.sessions.Session.{Session}
 use Rattle.ocpi_types.specs.declared.stored.Push.{Push}
 use Rattle.ocpi_types.specs.declared.stored.Push.TheVariants as push
-use Rattle.ocpi_types.specs.declared.token.Token.{Token}
 use Rattle.outbox.specs.declared.push_book.Outgoing.{Outgoing}
-use Rattle.node_steps.specs.Acts.{all_changes}
 use Rattle.node_laws.proofs.BodyKinds.{asked_once, no_push}
 use Rattle.operator_rows.specs.State.{State, opening}
 use Rattle.operator_rows.specs.Sound.{IsConsistent}

@@ -1,9 +1,9 @@
 -- How what is stored of sessions goes on: a session stands for good, in a version that may follow the one before it, and so does each
 -- charge detail record, unchanged.
-use Rattle.std.proofs.Common.{◌≡◌, ◌≢◌, ◌⊎◌, ◌+◌, ◌≤◌, zero, suc, ℕ, ℤ, List, [], ◌∷◌, map, inl, inr, refl, sym, ap, subst, ◌∙◌, arith}
-use Rattle.std.specs.Prelude.{Option, Some, None, Contains}
+use Rattle.std.proofs.Common.{◌≡◌, ◌⊎◌, ◌≤◌, zero, suc, ℕ, List, inl, inr, refl, sym, ap, subst, ◌∙◌, arith}
+use Rattle.std.specs.Prelude.{Some, Contains}
 use Rattle.std.specs.FinMap.{get}
-use Rattle.tables.proofs.Elements.{in_map, of_map}
+use Rattle.tables.proofs.Elements.{of_map}
 use Rattle.tables.proofs.Options.{not_both}
 use Rattle.ocpi_text.specs.Text.{key}
 use Rattle.ocpi_types.specs.Rows.{key_of}
@@ -19,21 +19,19 @@ use Rattle.ocpi_types.specs.declared.rows.RowKey.TheVariants as keys
 use Rattle.ocpi_types.specs.declared.sessions.Session.{Session}
 use Rattle.session_state.specs.Pasts.{IsSame, MayFollow}
 use Rattle.node_steps.specs.Acts.{all_changes}
-use Rattle.node_laws.proofs.Joining.{one_value}
 use Rattle.operator_rows.specs.State.{State}
 use Rattle.operator_rows.specs.Rows.{HasRow}
 use Rattle.operator_rows.specs.Stored.{change_key}
 use Rattle.operator_rows.specs.Sound.{IsConsistent}
 use Rattle.operator_rows.specs.Steps.{IsNextOf}
 use Rattle.operator_steps.specs.Events.{Event, Happens}
-use Rattle.operator_steps.proofs.Orderly.{IsOfStep}
 use Rattle.operator_laws.specs.Laws.{Run}
 use Rattle.operator_laws.specs.Sessions.{NumbersNeverFall, SessionsStay}
 use Rattle.operator_laws.proofs.events.Causes.{Cause}
 use Rattle.operator_laws.proofs.events.Doing.{Does, IsCount, does, put_now}
 use Rattle.operator_laws.proofs.events.Standing.{consistent_stays}
 use Rattle.operator_laws.proofs.standing.AtAllTimes.{kept}
-use Rattle.operator_laws.proofs.sessions.RowSearch.{IsCharged, found_or_none, one_change}
+use Rattle.operator_laws.proofs.sessions.RowSearch.{IsCharged, found_or_none}
 
 -- what is put under such a key is of its kind
 put_session : (x : Row) (p id : List ℕ) → keys.Session p id ≡ key_of x → (w : Session) × (x ≡ row.Session w) × (key w.id ≡ id)

@@ -1,5 +1,5 @@
 -- The newest version of each session, and each charge detail record, is pushed until it is acknowledged.
-use Rattle.std.proofs.Common.{◌≡◌, ◌⊎◌, ◌+◌, ◌≤◌, ◌<◌, ℕ, List, [], ◌∷◌, inl, inr, refl, sym, ap, subst, ◌∙◌, arith}
+use Rattle.std.proofs.Common.{◌≡◌, ◌⊎◌, ℕ, List, [], ◌∷◌, inl, inr, sym, ap, subst, ◌∙◌, arith}
 use Rattle.std.specs.Prelude.{Some, Contains, is_some}
 use Rattle.std.specs.FinMap.{get, get-empty}
 use Rattle.std.specs.Ordering.{nat_cmp}
@@ -29,8 +29,8 @@ use Rattle.operator_rows.specs.State.{State, opening}
 use Rattle.operator_rows.specs.Sound.{IsConsistent}
 use Rattle.operator_rows.proofs.KeepingTimes.{opening_consistent}
 use Rattle.operator_rows.proofs.RowChanges.{in_later, of_cons}
-use Rattle.operator_steps.specs.Events.{Arrives, Event, Happens}
-use Rattle.operator_laws.specs.Laws.{Acknowledged, Came, Run, sent}
+use Rattle.operator_steps.specs.Events.{Arrives, Event}
+use Rattle.operator_laws.specs.Laws.{Came, Run, sent}
 use Rattle.operator_laws.specs.Sessions.{IsPushStanding, VersionsArePushed, WasTaken}
 use Rattle.operator_laws.proofs.events.Doing.{Does, does, put_now, stays_or, stood_or_put}
 use Rattle.operator_laws.proofs.events.Reasons as reasons

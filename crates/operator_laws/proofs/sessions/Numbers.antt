@@ -1,5 +1,5 @@
 -- The ids of sessions and of charge detail records are those of numbers that were given.
-use Rattle.std.proofs.Common.{◌≡◌, ◌⊎◌, ◌+◌, ◌≤◌, ◌<◌, ℕ, List, inl, inr, refl, sym, ap, subst, ◌∙◌, arith}
+use Rattle.std.proofs.Common.{◌≡◌, ◌+◌, ◌≤◌, ℕ, List, inl, inr, refl, sym, ap, ◌∙◌, arith}
 use Rattle.std.specs.Prelude.{Some, Contains}
 use Rattle.std.specs.Cmp.{nat_cmp_total}
 use Rattle.std.specs.FinMap.{get, get-empty, nat_cmp-IsAntisymmetric}
@@ -22,8 +22,8 @@ use Rattle.node_steps.specs.Acts.{all_changes}
 use Rattle.operator_rows.specs.State.{State, opening}
 use Rattle.operator_rows.specs.Sound.{IsConsistent}
 use Rattle.operator_rows.proofs.KeepingTimes.{opening_consistent}
-use Rattle.operator_steps.specs.Events.{Event, Happens}
-use Rattle.operator_laws.specs.Sessions.{HaveGivenIds, IdsAreGiven, IsGivenId}
+use Rattle.operator_steps.specs.Events.{Event}
+use Rattle.operator_laws.specs.Sessions.{IdsAreGiven, IsGivenId}
 use Rattle.operator_laws.proofs.events.Doing.{Does, does, put_now}
 use Rattle.operator_laws.proofs.events.Reasons as reasons
 use Rattle.operator_laws.proofs.events.Reasons.{Begun, Billing, Versioning}

@@ -1,6 +1,6 @@
 -- Each reference of a provider is carried by one of its open starts or of its sessions at most, is spent, and came from it.
-use Rattle.std.proofs.Common.{◌≡◌, ◌≢◌, ◌⊎◌, ◌+◌, ℕ, List, [], ◌∷◌, inl, inr, refl, sym, ap, subst, ◌∙◌}
-use Rattle.std.specs.Prelude.{Option, Some, None, Contains}
+use Rattle.std.proofs.Common.{◌≡◌, ◌≢◌, ◌+◌, ℕ, List, [], ◌∷◌, inl, inr, refl, sym, ap, subst, ◌∙◌}
+use Rattle.std.specs.Prelude.{Option, Some, Contains}
 use Rattle.std.specs.FinMap.{get, get-empty}
 use Rattle.tables.specs.Keys.{text_cmp, text_number_cmp}
 use Rattle.tables.proofs.Elements.{in_front, in_map}
@@ -12,7 +12,6 @@ use Rattle.ocpi_types.specs.Stored.{body_of_command}
 use Rattle.ocpi_types.specs.declared.authorizations.Authorization.TheVariants.{Done}
 use Rattle.ocpi_types.specs.declared.authorizations.AuthorizationInfo.{AuthorizationInfo}
 use Rattle.ocpi_types.specs.declared.commands.StartSession.{StartSession}
-use Rattle.ocpi_types.specs.declared.packet.Body.{Body}
 use Rattle.ocpi_types.specs.declared.packet.Body.TheVariants as body
 use Rattle.ocpi_types.specs.declared.packet.Packet.{Packet}
 use Rattle.ocpi_types.specs.declared.rows.Change.TheVariants.{Put, Drop}
@@ -33,7 +32,7 @@ use Rattle.operator_steps.specs.Acts.{reference_of}
 use Rattle.operator_steps.specs.Events.{Arrives, Event, Happens}
 use Rattle.operator_laws.specs.Laws.{Came, Run}
 use Rattle.operator_laws.specs.References.{Uses}
-use Rattle.operator_laws.specs.Sessions.{AreSpentOnce, Carrier, InStart, InSession, GivesReference, HasReference, IsCarriedBy, ReferencesAreSpentOnce}
+use Rattle.operator_laws.specs.Sessions.{Carrier, InStart, InSession, GivesReference, HasReference, IsCarriedBy, ReferencesAreSpentOnce}
 use Rattle.operator_laws.proofs.events.Causes.{DecidesIt, Opening}
 use Rattle.operator_laws.proofs.events.Doing.{Does, does, put_now}
 use Rattle.operator_laws.proofs.events.Keeping.{spent_stays}
