@@ -9,3 +9,5 @@ pub mod Numbering
 pub mod Beginning
 pub mod Opens
 pub mod Using
+pub mod Results
+pub mod Starting

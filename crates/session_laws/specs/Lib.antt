@@ -4,3 +4,4 @@ pub mod Bills
 pub mod Ids
 pub mod Begun
 pub mod Used
+pub mod Started

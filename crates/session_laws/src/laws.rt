@@ -5,6 +5,7 @@
 ghost use Rattle.session_laws.specs.Begun.{SessionsBegan, SessionsBeginAsAsked};
 ghost use Rattle.session_laws.specs.Bills.{RecordsAreOfCompletedSessions, RecordsStay, SessionsAreBilledOnce};
 ghost use Rattle.session_laws.specs.Ids.{IdsAreGiven};
+ghost use Rattle.session_laws.specs.Started.{AcceptedStartsHaveSessions};
 ghost use Rattle.session_laws.specs.Used.{AReferenceBeginsOneSession};
 ghost use Rattle.session_laws.specs.Pasts.{FinalVersionsAreLast, PastsAreOrderly, PastsGoOn};
 
@@ -68,4 +69,10 @@ pub fn sessions_began()
 /// session began by it.
 pub fn a_reference_begins_one_session()
     ensures { AReferenceBeginsOneSession }
+{}
+
+/// From the opening on, a start that was opened, and whose kept result is ACCEPTED, began a session of its provider, with its token and
+/// its reference. A start that is told to be carried out, and has no session, would break this.
+pub fn accepted_starts_have_sessions()
+    ensures { AcceptedStartsHaveSessions }
 {}
