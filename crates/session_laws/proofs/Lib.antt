@@ -11,3 +11,5 @@ pub mod Opens
 pub mod Using
 pub mod Results
 pub mod Starting
+pub mod Messages
+pub mod Sending

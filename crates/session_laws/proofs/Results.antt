@@ -233,7 +233,7 @@ not_accepted (event.Stops evse) (command.StartSession c) x start is = none_some 
 not_accepted (event.Swipe evse connector uid type) (command.StartSession c) x start is = none_some x is
 
 -- a session that begins is put
-first_put : (s : State) (at last n : ℕ) (b : Beginning) (begun : List Act) → IsBegun s at last n b begun → Contains (all_changes begun) (Put (row.Session (first_of s at n b)))
+pub first_put : (s : State) (at last n : ℕ) (b : Beginning) (begun : List Act) → IsBegun s at last n b begun → Contains (all_changes begun) (Put (row.Session (first_of s at n b)))
 first_put s at last n b begun is =
     let v = first_of s at n b in
     subst (λ l. Contains (all_changes l) (Put (row.Session v))) (sym (begun_is s at last n b begun is))

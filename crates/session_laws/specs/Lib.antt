@@ -5,3 +5,4 @@ pub mod Ids
 pub mod Begun
 pub mod Used
 pub mod Started
+pub mod Sent

@@ -5,6 +5,7 @@
 ghost use Rattle.session_laws.specs.Begun.{SessionsBegan, SessionsBeginAsAsked};
 ghost use Rattle.session_laws.specs.Bills.{RecordsAreOfCompletedSessions, RecordsStay, SessionsAreBilledOnce};
 ghost use Rattle.session_laws.specs.Ids.{IdsAreGiven};
+ghost use Rattle.session_laws.specs.Sent.{SentVersionsArePast};
 ghost use Rattle.session_laws.specs.Started.{AcceptedStartsHaveSessions};
 ghost use Rattle.session_laws.specs.Used.{AReferenceBeginsOneSession};
 ghost use Rattle.session_laws.specs.Pasts.{FinalVersionsAreLast, PastsAreOrderly, PastsGoOn};
@@ -75,4 +76,11 @@ pub fn a_reference_begins_one_session()
 /// its reference. A start that is told to be carried out, and has no session, would break this.
 pub fn accepted_starts_have_sessions()
     ensures { AcceptedStartsHaveSessions }
+{}
+
+/// From the opening on, each version of a session that was sent, or is to be sent again, is of the session's past, and each charge detail
+/// record is one that stands. A version that is sent and not stored, or a bill that is made anew when it is sent again, would break
+/// this.
+pub fn sent_versions_are_past()
+    ensures { SentVersionsArePast }
 {}
