@@ -12,7 +12,8 @@ use Rattle.ocpi_types.specs.declared.rows.Change.{Change}
 use Rattle.ocpi_types.specs.declared.rows.Change.TheVariants.{Put}
 use Rattle.ocpi_types.specs.declared.rows.Counter.{Counter}
 use Rattle.ocpi_types.specs.declared.sessions.Session.{Session}
-use Rattle.node_steps.specs.Acts.{Act, all_changes}
+use Rattle.node_steps.specs.Acts.{Act, all_changes, all_messages}
+use Rattle.node_steps.specs.Messages.{numbered}
 use Rattle.node_steps.specs.Drafts.{count_changes, counted}
 use Rattle.operator_rows.specs.State.{State}
 use Rattle.operator_rows.specs.Stored.{AreApart, changed_all, change_key}
@@ -45,6 +46,7 @@ pub record Does (s : State) (e : Event) (t : State) : Type 0 where
   -- the counters are stored, and what the acts change
   pub of_acts : (c : Change) → Contains e.changes c → IsCount c ⊎ Contains (all_changes acts) c
   pub to_acts : (c : Change) → Contains (all_changes acts) c → Contains e.changes c
+  pub packets : e.packets ≡ numbered s.party s.rows.serial (all_messages acts)
   pub apart : AreApart e.changes
   pub rows : AreChanges s.rows e.changes t.rows
   pub may : MayChangeAll s e.changes
@@ -77,6 +79,7 @@ does_step s e t fine by =
         | inr j ↦ inr j
       ];
       to_acts = λ c i. subst (λ l. Contains l c) (sym is) (Contains-append_right counts (all_changes acts) c i);
+      packets = ap (λ (o : Out). o.packets) by.out_is;
       apart = subst AreApart (sym is) may.step.apart;
       rows = subst (λ l. AreChanges s.rows l t.rows) (sym is) (subst (λ (z : State). AreChanges s.rows x.changes z.rows) (sym now) (row_changes x.changes s fine.sound may.step.apart may.step.may));
       may = subst (MayChangeAll s) (sym is) may.step.may;
@@ -97,6 +100,7 @@ does_nothing s e t u fine still same site party out =
       asked = Nothing refl;
       of_acts = λ c i. absurd (in_none c (subst (λ l. Contains l c) is i));
       to_acts = λ c i. absurd (in_none c i);
+      packets = ap (λ (o : Out). o.packets) out;
       apart = subst AreApart (sym is) tt;
       rows = subst (λ l. AreChanges s.rows l t.rows) (sym is) (subst (AreChanges s.rows []) (sym rows) (row_changes [] s fine.sound tt tt));
       may = subst (MayChangeAll s) (sym is) tt;

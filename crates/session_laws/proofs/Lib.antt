@@ -9,3 +9,7 @@ pub mod Numbering
 pub mod Beginning
 pub mod Opens
 pub mod Using
+pub mod Results
+pub mod Starting
+pub mod Messages
+pub mod Sending

@@ -61,7 +61,9 @@ pub record Opening (s : State) (i : Input) (acts : List Act) (p : List ℕ) (n :
   pub at : ℕ
   pub packet : Packet
   pub arrives : i ≡ Arrives at packet
+  pub by : key packet.from ≡ p
   pub number : packet.request ≡ n
+  pub new : get s.rows.commands.replies (p, n) ≡ None
   pub its_command : Command
   pub carries : packet.body ≡ body_of_command its_command
   pub unspent : (r : List ℕ) → Uses o r → get s.rows.spent (p, r) ≢ Some tt
@@ -215,7 +217,7 @@ no_reference (command.CancelReservation c) h = refl
 no_reference (command.UnlockConnector c) h = refl
 
 -- a decision opens the command that it is on
-module _ (s : State) (at : ℕ) (q : Packet) (to : List ℕ) (c : Command) (carries : q.body ≡ body_of_command c) where
+module _ (s : State) (at : ℕ) (q : Packet) (to : List ℕ) (c : Command) (carries : q.body ≡ body_of_command c) (new : get s.rows.commands.replies (key q.from, q.request) ≡ None) where
   abbrev p : List ℕ
   p = key q.from
 
@@ -232,7 +234,9 @@ module _ (s : State) (at : ℕ) (q : Packet) (to : List ℕ) (c : Command) (carr
     at = at;
     packet = q;
     arrives = refl;
+    by = refl;
     number = refl;
+    new = new;
     its_command = c;
     carries = carries;
     unspent = λ r uses. unspent r uses.0 uses.1 uses.2;
@@ -277,7 +281,7 @@ module _ (s : State) where
   packet_opens : (at : ℕ) (q : Packet) (to : List ℕ) (work : Work) → PacketLine s at q to work → Opens_by (Arrives at q) work.acts
   packet_opens at q to work (steps.Again carries r kept is) = open_quiet (Opening s (Arrives at q) work.acts) work _ is (others (Opening s (Arrives at q) work.acts) [] refl)
   packet_opens at q to work (steps.Decided c d of is) =
-      subst (λ (w : Work). Opens_by (Arrives at q) w.acts) (sym is) (decision_opens s at q to c of.carries d (all_tell s at q.from q.request c d of.decides))
+      subst (λ (w : Work). Opens_by (Arrives at q) w.acts) (sym is) (decision_opens s at q to c of.carries of.new d (all_tell s at q.from q.request c d of.decides))
   packet_opens at q to work (steps.Sent t acts carries new line is) =
       open_quiet (Opening s (Arrives at q) work.acts) work acts is (open_token (Opening s (Arrives at q) work.acts) s at to (key q.from) q.request t acts line)
   packet_opens at q to work (steps.Acknowledged a carries ends is) = open_quiet (Opening s (Arrives at q) work.acts) work _ is (others (Opening s (Arrives at q) work.acts) _ refl)

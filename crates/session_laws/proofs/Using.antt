@@ -118,7 +118,7 @@ module _ (s t : State) (e : Event) (fine : IsConsistent s) (d : Does s e t) wher
           (d.rows (row.Spent p r)).1 (inl (subst (λ z. Contains e.changes z) is listed))
 
   -- a command that is open was open before, or the event opened it
-  open_from : (p : List ℕ) (n : ℕ) (o : OpenCommand) → get t.rows.commands.pending (p, n) ≡ Some o → (get s.rows.commands.pending (p, n) ≡ Some o) ⊎ Opening s e.input d.acts p n o
+  pub open_from : (p : List ℕ) (n : ℕ) (o : OpenCommand) → get t.rows.commands.pending (p, n) ≡ Some o → (get s.rows.commands.pending (p, n) ≡ Some o) ⊎ Opening s e.input d.acts p n o
   open_from p n o has = elim ((d.rows (row.Pending p n o)).0 has) [ inl i ↦ inr (opening_cause s t e fine d p n o i) | inr was ↦ inl was.0 ]
 
   -- a command that is dropped is open no more

@@ -4,3 +4,5 @@ pub mod Bills
 pub mod Ids
 pub mod Begun
 pub mod Used
+pub mod Started
+pub mod Sent

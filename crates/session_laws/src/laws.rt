@@ -5,6 +5,8 @@
 ghost use Rattle.session_laws.specs.Begun.{SessionsBegan, SessionsBeginAsAsked};
 ghost use Rattle.session_laws.specs.Bills.{RecordsAreOfCompletedSessions, RecordsStay, SessionsAreBilledOnce};
 ghost use Rattle.session_laws.specs.Ids.{IdsAreGiven};
+ghost use Rattle.session_laws.specs.Sent.{SentVersionsArePast};
+ghost use Rattle.session_laws.specs.Started.{AcceptedStartsHaveSessions};
 ghost use Rattle.session_laws.specs.Used.{AReferenceBeginsOneSession};
 ghost use Rattle.session_laws.specs.Pasts.{FinalVersionsAreLast, PastsAreOrderly, PastsGoOn};
 
@@ -68,4 +70,17 @@ pub fn sessions_began()
 /// session began by it.
 pub fn a_reference_begins_one_session()
     ensures { AReferenceBeginsOneSession }
+{}
+
+/// From the opening on, a start that was opened, and whose kept result is ACCEPTED, began a session of its provider, with its token and
+/// its reference. A start that is told to be carried out, and has no session, would break this.
+pub fn accepted_starts_have_sessions()
+    ensures { AcceptedStartsHaveSessions }
+{}
+
+/// From the opening on, each version of a session that was sent, or is to be sent again, is of the session's past, and each charge detail
+/// record is one that stands. A version that is sent and not stored, or a bill that is made anew when it is sent again, would break
+/// this.
+pub fn sent_versions_are_past()
+    ensures { SentVersionsArePast }
 {}
