@@ -1,5 +1,5 @@
 -- What a report makes of a version may follow it, and is one.
-use Rattle.std.proofs.Common.{◌≡◌, ℕ, ℤ, List, refl, sym, subst, ◌∙◌, inl, inr, arith}
+use Rattle.std.proofs.Common.{◌≡◌, ℕ, ℤ, refl, sym, subst, ◌∙◌, inl, inr, arith}
 use Rattle.std.proofs.lemmas.Int.{ints}
 use Rattle.std.specs.Prelude.{Option}
 use Rattle.ocpi_types.specs.declared.events.ChargerEvent.{ChargerEvent}
@@ -10,13 +10,8 @@ use Rattle.ocpi_types.specs.declared.words.SessionStatus.{SessionStatus}
 use Rattle.ocpi_types.specs.declared.words.SessionStatus.TheVariants.{Active, Completed, Invalid, Pending}
 use Rattle.session_state.specs.Versions.{HasCost, ended}
 use Rattle.session_state.specs.Pasts.{IsSame, IsTurn, MayFollow}
-use Rattle.session_tables.specs.Laws.{BeginningsAreOfSite, IsOfSite, MovesAreOne, MovesMayFollow}
+use Rattle.session_tables.specs.Laws.{BeginningsAreOfSite, MovesAreOne, MovesMayFollow}
 use Rattle.session_tables.specs.Moves.{Ends, Makes}
-use Rattle.session_tables.specs.declared.beginning.Beginning.{Beginning}
-use Rattle.session_tables.specs.Answers.{BeginsThere}
-use Rattle.authorization_book.specs.declared.awaited.Awaited.{Awaited}
-use Rattle.ocpi_types.specs.declared.site.Site.{Site}
-use Rattle.ocpi_types.specs.declared.words.AuthMethod.{AuthMethod}
 use Rattle.session_tables.proofs.Inverting.{accepted_for, answered_for, unanswered_for}
 
 same_kept : (v : Session) (start : ℕ) (end : Option ℕ) (kwh : ℤ) (total : Option Price) (status : SessionStatus) (stamp : ℕ)
