@@ -1,13 +1,12 @@
 -- What holds at all times of the tokens, the sessions and the charge detail records is kept by each change of a row that may be made.
-use Rattle.std.proofs.Common.{◌≡◌, ◌≤◌, inl, inr, ℕ, List, refl, sym, ap, subst, ◌∙◌}
-use Rattle.std.specs.Prelude.{Some, IsTrue}
-use Rattle.std.specs.FinMap.{get, get-empty, contains_key}
+use Rattle.std.proofs.Common.{◌≡◌, inl, inr, ℕ, List, sym, ap, subst, ◌∙◌}
+use Rattle.std.specs.Prelude.{Some}
+use Rattle.std.specs.FinMap.{get, get-empty}
 use Rattle.ocpi_text.specs.Text.{key}
 use Rattle.tables.specs.Keys.{text_cmp, text_total, text_exact}
 use Rattle.tables.proofs.Maps.{of_insert}
 use Rattle.tables.proofs.Options.{none_some}
 use Rattle.ocpi_types.specs.declared.rows.Row.TheVariants as row
-use Rattle.ocpi_types.specs.declared.rows.Counter.{Counter}
 use Rattle.ocpi_types.specs.declared.rows.Counter.TheVariants as counter
 use Rattle.ocpi_types.specs.declared.cdrs.Cdr.{Cdr}
 use Rattle.ocpi_types.specs.declared.sessions.Session.{Session}
@@ -47,7 +46,7 @@ opening_charged line = record {
   tokens = λ k t has. none_some t (sym (get-empty token_cmp k) ∙ has);
   sessions = λ id v has. none_some v (sym (get-empty text_cmp id) ∙ has);
   cdrs = λ id x has. none_some x (sym (get-empty text_cmp id) ∙ has);
-  numbered = record { sessions = λ n has. absurd (has_none Session text_cmp _ has); cdrs = λ n has. absurd (has_none Cdr text_cmp _ has) };
+  numbered = record { sessions = λ n below has. absurd (has_none Session text_cmp _ has); cdrs = λ n below has. absurd (has_none Cdr text_cmp _ has) };
 }
 
 -- whether a session may stand is a matter of the parties and the site
@@ -100,7 +99,7 @@ module _ (s : State) (h : AreCharged s) where
     ]);
     cdrs = h.cdrs;
     numbered = record {
-      sessions = λ n has. elim (put_or text_total text_exact s.rows.charged.sessions (key v.id) v _ has) [ inl same ↦ may.number n same | inr was ↦ h.numbered.sessions n was.1 ];
+      sessions = λ n below has. elim (put_or text_total text_exact s.rows.charged.sessions (key v.id) v _ has) [ inl same ↦ may.number n below same | inr was ↦ h.numbered.sessions n below was.1 ];
       cdrs = h.numbered.cdrs;
     };
   }
@@ -123,7 +122,7 @@ module _ (s : State) (h : AreCharged s) where
     ];
     numbered = record {
       sessions = h.numbered.sessions;
-      cdrs = λ n has. elim (put_or text_total text_exact s.rows.charged.cdrs (key x.id) x _ has) [ inl same ↦ may.number n same | inr was ↦ h.numbered.cdrs n was.1 ];
+      cdrs = λ n below has. elim (put_or text_total text_exact s.rows.charged.cdrs (key x.id) x _ has) [ inl same ↦ may.number n below same | inr was ↦ h.numbered.cdrs n below was.1 ];
     };
   }
 

@@ -327,7 +327,7 @@ follow_sound s x may h = sound_beside (with_rows (changed_all x.changes s.rows) 
 -- and so they are none of what may be changed
 may_change_beside : (s : State) (m : Resend) (w : Waits) (c : Change) → MayChange s c → MayChange (record s { resend = m; waits = w }) c
 may_change_beside s m w (Put (row.Count counter.Serial n)) may = may
-may_change_beside s m w (Put (row.Count counter.Request n)) may = record { given = may.given; up_to = may.up_to }
+may_change_beside s m w (Put (row.Count counter.Request n)) may = record { given = may.given; up_to = may.up_to; grows = may.grows }
 may_change_beside s m w (Put (row.Count counter.Session n)) may = record { given = may.given; numbered = may.numbered }
 may_change_beside s m w (Put (row.Count counter.Cdr n)) may = record { given = may.given; numbered = may.numbered }
 may_change_beside s m w (Put (row.Count counter.Reference n)) may = may

@@ -23,7 +23,7 @@ use Rattle.tables.proofs.Elements.{in_none, in_single, in_front, in_map, of_map,
 use Rattle.tables.proofs.Entries.{listed, listed_only, all_apart}
 use Rattle.tables.proofs.Options.{none_some}
 use Rattle.operator_rows.specs.State.{Rows, as_outbox}
-use Rattle.operator_rows.specs.Rows.{HasRow, AreRowsOf}
+use Rattle.operator_rows.specs.Rows.{HasRow}
 use Rattle.operator_rows.specs.Listing.{serial_rows, spent_row, service_row, other_rows}
 
 abbrev pub Apart : Row → Row → Type 0

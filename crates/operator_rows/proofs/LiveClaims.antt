@@ -139,7 +139,7 @@ occupied_of_site s v (Some evse) may is =
 pub live_held : (s : Rows) (id : List ℕ) (v : Session) (taken : Option (List ℕ)) → get s.charged.sessions id ≡ Some v → IfSome taken (λ evse. Occupies v (key v.cdr_token.party) evse) →
     IfSome taken (λ evse. HoldsLive s id evse)
 live_held s id v None has is = tt
-live_held s id v (Some evse) has is = (key v.cdr_token.party, v, has, is)
+live_held s id v (Some evse) has is = (key v.cdr_token.party, (v, has, is))
 
 pub none_live_held : (s : Rows) (id : List ℕ) (v : Session) (taken : Option (List ℕ)) → get s.charged.sessions id ≡ Some v → IfNone taken (IsLive v.status → ⊥) →
     IfNone taken ((evse : List ℕ) → HoldsLive s id evse → ⊥)

@@ -1,6 +1,6 @@
 -- What a value of `Books` keeps together.
-use Rattle.std.specs.Prelude.{◌≡◌, ℕ, Some}
-use Rattle.std.specs.FinMap.{get, empty}
+use Rattle.std.specs.Prelude.{◌≡◌, ◌≤◌, ℕ, Some, IsTrue}
+use Rattle.std.specs.FinMap.{get, empty, contains_key}
 use Rattle.ocpi_types.specs.Parties.{SiteParties}
 use Rattle.site_book.specs.Sites.{Claims, SiteState}
 use Rattle.command_book.specs.Stored as commands
@@ -36,11 +36,16 @@ state_of parties serial commands spent booked outbox site tokens charged waits =
   waits = waits;
 }
 
--- the claims are those of the rows, what holds of an operator at all times holds, each authorization that is awaited may be, no
--- command is kept that it sent, and no authorization reference that it gave
+-- each authorization that is awaited was asked for by a request whose number was given, the last of which is that one
+abbrev pub AreAsked : Waits → ℕ → Type 0
+AreAsked waits last = (n : ℕ) → IsTrue (contains_key waits n) → n ≤ last
+
+-- the claims are those of the rows, what holds of an operator at all times holds, each authorization that is awaited may be and was
+-- asked for, no command is kept that it sent, and no authorization reference that it gave
 pub record AreKept (claims : Claims) (s : State) (sent : Commands) (references : ℕ) : Type 0 where
   pub indexed : IsIndexed claims s.rows
   pub sound : IsSound s
   pub awaited : (n : ℕ) (w : Awaited) → get s.waits n ≡ Some w → MayAwait s w
+  pub asked : AreAsked s.waits s.rows.request
   pub none_sent : sent ≡ empty
   pub none_given : references ≡ 0

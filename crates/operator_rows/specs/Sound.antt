@@ -143,10 +143,11 @@ pub record MayPutResult (s : State) (p : List ℕ) (n : ℕ) : Type 0 where
   pub answered : IsTrue (contains_key s.rows.commands.replies (p, n))
   pub settled : get s.rows.commands.pending (p, n) ≡ None
 
--- no request that stands has a number above that one, which was given
+-- no request that stands has a number above that one, which was given, and the counter does not go back
 pub record MayPutRequest (s : State) (last : ℕ) : Type 0 where
   pub given : last ≢ 0
   pub up_to : outbox.AreUpTo (as_outbox s.rows) last
+  pub grows : s.rows.request ≤ last
 
 -- the counter of sessions, or of charge detail records, gave that number last, and no number above it
 pub record MayPutNumber (s : State) (c : Counter) (last : ℕ) : Type 0 where

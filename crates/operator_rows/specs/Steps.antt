@@ -1,5 +1,5 @@
 -- What a step leaves: its changes of rows are carried out, and what stands in no row follows.
-use Rattle.std.specs.Prelude.{◌≡◌, ◌≢◌, ◌≤◌, ◌⊎◌, ℕ, ℤ, List, [], ◌∷◌, Option, Some, None, Contains, IsTrue}
+use Rattle.std.specs.Prelude.{◌≡◌, ◌≢◌, ◌≤◌, ◌⊎◌, ℕ, ℤ, List, Option, Some, None, Contains, IsTrue}
 use Rattle.std.specs.List.{AllPairs}
 use Rattle.std.specs.FinMap.{get, empty, contains_key}
 use Rattle.ocpi_types.specs.declared.rows.Change.{Change}

@@ -1,8 +1,7 @@
 -- What changes of rows make of what an operator stores, and the room that they need.
-use Rattle.std.specs.Prelude.{◌≡◌, ◌≢◌, ℕ, List, [], ◌∷◌, IsTrue, ⊤}
+use Rattle.std.specs.Prelude.{◌≢◌, ℕ, List, [], ◌∷◌, IsTrue, ⊤}
 use Rattle.std.specs.FinMap.{FinMap, insert, remove, contains_key}
 use Rattle.tables.specs.Keys.{text_pair_cmp}
-use Rattle.ocpi_types.specs.Rows.{key_of}
 use Rattle.ocpi_types.specs.declared.rows.Row.{Row}
 use Rattle.ocpi_types.specs.declared.rows.Row.TheVariants as row
 use Rattle.ocpi_types.specs.declared.rows.RowKey.{RowKey}

@@ -194,6 +194,7 @@ impl Books {
     pub fn consistency(&self)
         ensures { IsConsistent self.now.state }
     {
+        let _party = self.parties.operator().as_str();
         self.outbox.consistency();
         self.waits.consistency();
     }

@@ -26,6 +26,7 @@ impl Books {
         ensures state { self.new.state ≡ after_change (change.Put (row.Count counter last)) self.old.state }
         ensures keeps { KeepsOtherRoom (keys.Count counter) self.old.rooms self.new.rooms }
         ensures sending { self.new.sending ≡ self.old.sending }
+        ensures waiting { self.new.waiting ≡ self.old.waiting }
     {
         match counter {
             Counter::Serial => self.serial = last,
@@ -42,6 +43,7 @@ impl Books {
         ensures state { self.new.state ≡ after_change (change.Put (row.Reply sender number reply)) self.old.state }
         ensures keeps { KeepsOtherRoom (keys.Reply sender number) self.old.rooms self.new.rooms }
         ensures sending { self.new.sending ≡ self.old.sending }
+        ensures waiting { self.new.waiting ≡ self.old.waiting }
     {
         self.commands.put_row(Row::Reply {
             sender,
@@ -57,6 +59,7 @@ impl Books {
         ensures state { self.new.state ≡ after_change (change.Put (row.Push number to push)) self.old.state }
         ensures keeps { KeepsOtherRoom (keys.Push number) self.old.rooms self.new.rooms }
         ensures sending { self.new.sending ≡ released_of (Some number) self.old.state.resend self.old.sending }
+        ensures waiting { self.new.waiting ≡ self.old.waiting }
     {
         self.outbox.put_row(Row::Push { number, to, push });
     }
@@ -67,6 +70,7 @@ impl Books {
         ensures state { self.new.state ≡ after_change (change.Put (row.Service evse_uid)) self.old.state }
         ensures rooms { self.new.rooms ≡ self.old.rooms }
         ensures sending { self.new.sending ≡ self.old.sending }
+        ensures waiting { self.new.waiting ≡ self.old.waiting }
     {
         let _known = self.site.set_service(evse_uid, false);
     }
@@ -77,6 +81,7 @@ impl Books {
         ensures state { self.new.state ≡ after_change (change.Put (row.Spent provider reference)) self.old.state }
         ensures rooms { self.new.rooms ≡ self.old.rooms }
         ensures sending { self.new.sending ≡ self.old.sending }
+        ensures waiting { self.new.waiting ≡ self.old.waiting }
     {
         self.spent.put((provider, reference), ());
     }
@@ -87,6 +92,7 @@ impl Books {
         ensures state { self.new.state ≡ after_change (change.Put (row.Mark provider reservation_id number)) self.old.state }
         ensures keeps { KeepsOtherRoom (keys.Mark provider reservation_id) self.old.rooms self.new.rooms }
         ensures sending { self.new.sending ≡ self.old.sending }
+        ensures waiting { self.new.waiting ≡ self.old.waiting }
     {
         self.booked.put_row(Row::Mark {
             provider,
@@ -107,6 +113,7 @@ impl Books {
         ensures state { self.new.state ≡ after_change (change.Put (row.Reservation provider reservation_id reservation)) self.old.state }
         ensures keeps { KeepsOtherRoom (keys.Reservation provider reservation_id) self.old.rooms self.new.rooms }
         ensures sending { self.new.sending ≡ self.old.sending }
+        ensures waiting { self.new.waiting ≡ self.old.waiting }
     {
         let before = self.held_by_reservation(provider, reservation_id);
         let evse = Some(reservation.evse_uid.key());
@@ -133,6 +140,7 @@ impl Books {
         ensures state { self.new.state ≡ after_change (change.Put (row.Pending provider number command)) self.old.state }
         ensures keeps { KeepsOtherRoom (keys.Pending provider number) self.old.rooms self.new.rooms }
         ensures sending { self.new.sending ≡ self.old.sending }
+        ensures waiting { self.new.waiting ≡ self.old.waiting }
     {
         let before = self.held_by_command(provider, number);
         let evse = evse_taken(&command);
@@ -152,6 +160,7 @@ impl Books {
         ensures state { self.new.state ≡ after_change (change.Put (row.Result provider number outcome)) self.old.state }
         ensures keeps { KeepsOtherRoom (keys.Result provider number) self.old.rooms self.new.rooms }
         ensures sending { self.new.sending ≡ self.old.sending }
+        ensures waiting { self.new.waiting ≡ self.old.waiting }
     {
         self.commands.put_row(Row::Result {
             provider,
@@ -167,6 +176,7 @@ impl Books {
         ensures state { self.new.state ≡ after_change (change.Put (row.Token token)) self.old.state }
         ensures keeps { KeepsOtherRoom (key_of (row.Token token)) self.old.rooms self.new.rooms }
         ensures sending { self.new.sending ≡ self.old.sending }
+        ensures waiting { self.new.waiting ≡ self.old.waiting }
     {
         self.desk.put_row(Row::Token { token });
     }
@@ -179,6 +189,7 @@ impl Books {
         ensures state { self.new.state ≡ after_change (change.Put (row.Session session)) self.old.state }
         ensures keeps { KeepsOtherRoom (key_of (row.Session session)) self.old.rooms self.new.rooms }
         ensures sending { self.new.sending ≡ self.old.sending }
+        ensures waiting { self.new.waiting ≡ self.old.waiting }
     {
         let provider = session.cdr_token.party.key();
         let id = session.id.key();
@@ -203,6 +214,7 @@ impl Books {
         ensures state { self.new.state ≡ after_change (change.Put (row.Cdr cdr)) self.old.state }
         ensures keeps { KeepsOtherRoom (key_of (row.Cdr cdr)) self.old.rooms self.new.rooms }
         ensures sending { self.new.sending ≡ self.old.sending }
+        ensures waiting { self.new.waiting ≡ self.old.waiting }
     {
         self.charged.put_row(Row::Cdr { cdr });
     }
@@ -214,6 +226,7 @@ impl Books {
         ensures state { self.new.state ≡ after_change (change.Put row) self.old.state }
         ensures keeps { KeepsOtherRoom (key_of row) self.old.rooms self.new.rooms }
         ensures sending { self.new.sending ≡ released_of (request_of (key_of row)) self.old.state.resend self.old.sending }
+        ensures waiting { self.new.waiting ≡ self.old.waiting }
     {
         match row {
             Row::Count { counter, last } => self.put_count(counter, last),

@@ -11,6 +11,7 @@ use Rattle.ocpi_text.specs.Party.{party_at}
 use Rattle.ocpi_text.specs.OwnIds.{own_id_text}
 use Rattle.ocpi_text.specs.Text.{key}
 use Rattle.ocpi_text.specs.Whole.{max_whole}
+use Rattle.ocpi_text.specs.declared.own_ids.OwnIdKind.{OwnIdKind}
 use Rattle.ocpi_text.specs.declared.own_ids.OwnIdKind.TheVariants as kind
 use Rattle.ocpi_types.specs.declared.sessions.Session.{Session}
 use Rattle.ocpi_types.specs.declared.stored.Push.TheVariants as push
@@ -77,6 +78,14 @@ version_fits t at last to (Some k) v peer counted only may = (
   ),
 )
 
+-- ids of one kind that are the same are of one number
+pub same_number : (own_kind : OwnIdKind) (party : List ℕ) (m n : ℕ) → party_at party ≡ Ok party → m ≤ max_whole → n ≤ max_whole → key (own_id_text own_kind party m) ≡ key (own_id_text own_kind party n) → m ≡ n
+same_number own_kind party m n own below range same = decided (nat_eq m n) refl
+  where
+    decided : (t : Bool) → nat_eq m n ≡ t → m ≡ n
+    decided true is = eqb-true m n is
+    decided false is = absurd (ids_differ own_kind party m n own below range (eqb-false m n is) same)
+
 -- the session of the next number
 module _ (s : State) (n : ℕ) (b : Beginning) (at : ℕ) (range : n ≤ max_whole) (own : party_at s.party ≡ Ok s.party) where
   abbrev v : Session
@@ -84,11 +93,7 @@ module _ (s : State) (n : ℕ) (b : Beginning) (at : ℕ) (range : n ≤ max_who
 
   -- its id is that of no other number
   of_number : (m : ℕ) → m ≤ max_whole → key (own_id_text kind.Session s.party m) ≡ key v.id → m ≡ n
-  of_number m below same = decided (nat_eq m n) refl
-    where
-      decided : (t : Bool) → nat_eq m n ≡ t → m ≡ n
-      decided true is = eqb-true m n is
-      decided false is = absurd (ids_differ kind.Session s.party m n own below range (eqb-false m n is) same)
+  of_number m below same = same_number kind.Session s.party m n own below range same
 
   -- it may be put where its EVSE is free, and its number was given
   pub first_may : (r : Rows) → HasPeer s.providers (key b.token.party) → IsConnectorOf s.site.locations (key b.place.evse_uid) (key b.place.connector_id) →

@@ -2,7 +2,6 @@
 use Rattle.std.proofs.Common.{◌≡◌, ◌≤◌, ◌+◌, ℕ, List, [], ◌∷◌, ◌++◌, refl, sym, ap, subst, ◌∙◌, arith}
 use Rattle.std.specs.Prelude.{Option, Some, None, Ok, is_some}
 use Rattle.std.specs.FinMap.{get}
-use Rattle.tables.proofs.Elements.{in_single}
 use Rattle.tables.proofs.Options.{none_some}
 use Rattle.ocpi_text.specs.Party.{party_at}
 use Rattle.ocpi_text.specs.Text.{key}
@@ -36,7 +35,7 @@ use Rattle.session_tables.specs.declared.beginning.Beginning.{Beginning}
 use Rattle.operator_steps.specs.Acts.{freed, used}
 use Rattle.operator_steps.specs.Sessions.{IsBegun, first_of, versioned}
 use Rattle.operator_steps.proofs.Beginning.{first_may, replaced_only, version_fits}
-use Rattle.operator_steps.proofs.Charging.{AreNext, next_append, next_kinds}
+use Rattle.operator_steps.proofs.Charging.{AreNext, next_append, next_kinds, next_version}
 use Rattle.operator_steps.proofs.Sending.{ActsAreSent, New, sent_one}
 use Rattle.operator_steps.proofs.DecidedSteps.{freed_unclaimed}
 use Rattle.operator_steps.proofs.Fitting.{AreFit, left_by_act}
@@ -93,19 +92,13 @@ module _ (s : State) (at last n : ℕ) (b : Beginning) (range : n ≤ max_whole)
   abbrev pushed_to : List ℕ → Change
   pushed_to to = Put (row.Push (last + 1) to (push.PutSession v))
 
-  version_next : IsNext s v → AreNext s (Put (row.Session v) ∷ [])
-  version_next next = record {
-    sessions = λ w i. let same : row.Session v ≡ row.Session w = (let is = in_single (Put (row.Session v)) (Put (row.Session w)) i in cc) in let one : v ≡ w = cc in subst (IsNext s) one next;
-    cdrs = λ x i. let is = in_single (Put (row.Session v)) (Put (row.Cdr x)) i in absurd (cc);
-  }
-
   -- it is the only version that is put
   pub begun_next : (to : List ℕ) (reservation : Option (List ℕ)) (old : Option ℕ) → IsNext s v → AreNext s (all_changes (begun_acts at last to p reservation old v))
-  begun_next to None None next = next_append s (pushed_to to ∷ []) (Put (row.Session v) ∷ []) (next_kinds s _ refl refl) (version_next next)
-  begun_next to None (Some k) next = next_append s (Drop (keys.Push k) ∷ (pushed_to to ∷ [])) (Put (row.Session v) ∷ []) (next_kinds s _ refl refl) (version_next next)
-  begun_next to (Some id) None next = next_append s (Drop (keys.Reservation p id) ∷ (pushed_to to ∷ [])) (Put (row.Session v) ∷ []) (next_kinds s _ refl refl) (version_next next)
+  begun_next to None None next = next_append s (pushed_to to ∷ []) (Put (row.Session v) ∷ []) (next_kinds s _ refl refl) (next_version s v next)
+  begun_next to None (Some k) next = next_append s (Drop (keys.Push k) ∷ (pushed_to to ∷ [])) (Put (row.Session v) ∷ []) (next_kinds s _ refl refl) (next_version s v next)
+  begun_next to (Some id) None next = next_append s (Drop (keys.Reservation p id) ∷ (pushed_to to ∷ [])) (Put (row.Session v) ∷ []) (next_kinds s _ refl refl) (next_version s v next)
   begun_next to (Some id) (Some k) next =
-      next_append s (Drop (keys.Reservation p id) ∷ (Drop (keys.Push k) ∷ (pushed_to to ∷ []))) (Put (row.Session v) ∷ []) (next_kinds s _ refl refl) (version_next next)
+      next_append s (Drop (keys.Reservation p id) ∷ (Drop (keys.Push k) ∷ (pushed_to to ∷ []))) (Put (row.Session v) ∷ []) (next_kinds s _ refl refl) (next_version s v next)
 
   -- its push is new
   pub begun_sent : (to : List ℕ) (reservation : Option (List ℕ)) (old : Option ℕ) → get s.resend (last + 1) ≡ None → ActsAreSent s (begun_acts at last to p reservation old v)

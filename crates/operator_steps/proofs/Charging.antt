@@ -1,10 +1,10 @@
 -- The versions of sessions and the charge detail records that changes put may come next.
-use Rattle.std.proofs.Common.{◌≡◌, ◌≢◌, ℕ, false, true, eqb, List, [], ◌∷◌, ◌++◌, inl, inr, refl, sym, ap, ◌∙◌}
+use Rattle.std.proofs.Common.{◌≡◌, ◌≢◌, ℕ, false, true, eqb, List, [], ◌∷◌, ◌++◌, inl, inr, refl, sym, ap, subst, ◌∙◌}
 use Rattle.std.specs.Prelude.{IsTrue, Contains, None, not}
 use Rattle.std.specs.FinMap.{get}
 use Rattle.std.proofs.lemmas.Bool.{eq-eqb, and_parts}
 use Rattle.std.proofs.lemmas.List.Elements.{Contains-append_cases}
-use Rattle.tables.proofs.Elements.{in_none}
+use Rattle.tables.proofs.Elements.{in_none, in_single}
 use Rattle.ocpi_text.specs.Text.{key}
 use Rattle.ocpi_types.specs.declared.cdrs.Cdr.{Cdr}
 use Rattle.ocpi_types.specs.declared.rows.Change.{Change}
@@ -40,4 +40,20 @@ pub next_append : (s : State) (xs ys : List Change) → AreNext s xs → AreNext
 next_append s xs ys h g = record {
   sessions = λ v i. elim (Contains-append_cases xs ys (Put (row.Session v)) i) [ inl j ↦ h.sessions v j | inr j ↦ g.sessions v j ];
   cdrs = λ x i. elim (Contains-append_cases xs ys (Put (row.Cdr x)) i) [ inl j ↦ h.cdrs x j | inr j ↦ g.cdrs x j ];
+}
+
+-- one version that may come next, and one record that is new
+pub next_version : (s : State) (v : Session) → IsNext s v → AreNext s (Put (row.Session v) ∷ [])
+next_version s v next = record {
+  sessions = λ w i. let same : row.Session v ≡ row.Session w = (let is = in_single (Put (row.Session v)) (Put (row.Session w)) i in cc) in let one : v ≡ w = cc in subst (IsNext s) one next;
+  cdrs = λ x i. let is = in_single (Put (row.Session v)) (Put (row.Cdr x)) i in absurd (cc);
+}
+
+pub next_bill : (s : State) (x : Cdr) → get s.rows.charged.cdrs (key x.id) ≡ None → AreNext s (Put (row.Cdr x) ∷ [])
+next_bill s x new = record {
+  sessions = λ w i. let is = in_single (Put (row.Cdr x)) (Put (row.Session w)) i in absurd (cc);
+  cdrs = λ y i.
+      let same : row.Cdr x ≡ row.Cdr y = (let is = in_single (Put (row.Cdr x)) (Put (row.Cdr y)) i in cc) in
+      let one : x ≡ y = cc in
+      subst (λ (z : Cdr). get s.rows.charged.cdrs (key z.id) ≡ None) one new;
 }

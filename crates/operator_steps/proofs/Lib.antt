@@ -17,6 +17,16 @@ pub mod AnswerSteps
 pub mod PacketSteps
 pub mod ShownSteps
 pub mod MovedSteps
+pub mod BilledSteps
 pub mod AskedSteps
 pub mod StartedSteps
+pub mod ReportSteps
 pub mod TimingOut
+pub mod Freeing
+pub mod LeftUnanswered
+pub mod BegunChanges
+pub mod TickStages
+pub mod LateSteps
+pub mod LateFit
+pub mod TickParts
+pub mod TickSteps

@@ -178,7 +178,7 @@ pub orderly_kinds : (acts : List Act) → IsTrue (are_different (all_changes act
 orderly_kinds acts different uncounted = record { apart = apart_kinds (all_changes acts) different; uncounted = uncounted_kinds (all_changes acts) uncounted }
 
 -- the changes of counters
-of_counter : (counter : Counter) (last now : ℕ) (c : Change) → Contains (count_change counter last now) c → change_key c ≡ keys.Count counter
+pub of_counter : (counter : Counter) (last now : ℕ) (c : Change) → Contains (count_change counter last now) c → change_key c ≡ keys.Count counter
 of_counter counter last now c h = elim (nat_eq last now) as (λ b. Contains (cond b [] (Put (row.Count counter now) ∷ [])) c → change_key c ≡ keys.Count counter) [
   | true ↦ λ i. absurd (in_none c i)
   | false ↦ λ i. subst (λ z. change_key z ≡ keys.Count counter) (in_single _ c i) refl

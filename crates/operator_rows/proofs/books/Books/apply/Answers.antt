@@ -2,7 +2,6 @@ use Rattle.std.proofs.Common.{sym, subst}
 use Rattle.tables.specs.Keys.{text_pair_cmp}
 use Rattle.tables.specs.Tables.{shown_of}
 use Rattle.node_steps.specs.Drafts.{step_of}
-use Rattle.operator_rows.specs.Sound.{IsSound}
 use Rattle.operator_rows.specs.Steps.{Node, HaveTimeRoom}
 use Rattle.operator_rows.proofs.KeepingRows.{kept_resent}
 use Rattle.operator_rows.proofs.TimeRooms.{step_room}
@@ -11,8 +10,7 @@ use Rattle.operator_rows.proofs.books.Books.apply.Goals as goal
 pub send_all-requires-clause-room : goal.send_all-requires-clause-room
 send_all-requires-clause-room c =
     let s = c.args.self.now in
-    let sound = subst (λ (h : Node). IsSound h.state) c.self.view_is c.self.invariant.sound in
-    let room = step_room s.state (step_of c.args.plan) sound c.requires.may s.sending c.change_all.new.self.sending c.change_all.ensures.sending c.requires.room.volatile in
+    let room = step_room s.state (step_of c.args.plan) c.consistency.ensures.sound c.requires.may s.sending c.change_all.new.self.sending c.change_all.ensures.sending c.requires.room.volatile in
     rw c.as_slice.ensures.value (subst (λ (h : Node). HaveTimeRoom h.sending c.args.plan.volatile.items) (sym c.self.view_is) room)
 
 pub invariant_of-self : goal.invariant_of-self

@@ -1,18 +1,15 @@
-use Rattle.std.proofs.Common.{ap, ◌∙◌}
 use Rattle.node_steps.specs.Drafts.{step_of}
-use Rattle.authorization_book.specs.Waits.{waited_all}
-use Rattle.operator_rows.specs.Steps.{after}
-use Rattle.operator_rows.proofs.KeepingTimes.{follow_beside}
-use Rattle.operator_rows.proofs.TimeRooms.{same_room}
+use Rattle.operator_rows.proofs.KeepingTimes.{awaitable_after}
 use Rattle.operator_rows.proofs.books.Books.apply_full.Goals as goal
 
-pub apply-requires-clause-room : goal.apply-requires-clause-room
-apply-requires-clause-room c = same_room c.args.self.now c.change_waits.new.self (step_of c.args.plan.plan) c.change_waits.ensures.rooms c.change_waits.ensures.sending c.requires.room.step
+pub change_waits-requires-clause-room : goal.change_waits-requires-clause-room
+change_waits-requires-clause-room c = rw (c.apply-packets.ensures.waiting, c.as_slice.ensures.value) c.requires.room.waits
 
-pub apply-requires-clause-may : goal.apply-requires-clause-may
-apply-requires-clause-may c =
-    let s = c.args.self.now.state in
-    rw (c.change_waits.ensures.state, c.as_slice.ensures.value) (follow_beside s (waited_all c.args.plan.waits.items s.waits) (step_of c.args.plan.plan) c.requires.may.step)
+pub change_waits-requires-clause-may : goal.change_waits-requires-clause-may
+change_waits-requires-clause-may c = rw (c.apply-packets.ensures.state, c.as_slice.ensures.value) c.requires.may.waits
 
-pub returns-clause-state : goal.returns-clause-state
-returns-clause-state c = rw c.as_slice.ensures.value at (c.apply.ensures.state ∙ ap (after (step_of c.args.plan.plan)) c.change_waits.ensures.state)
+pub change_waits-requires-clause-awaitable : goal.change_waits-requires-clause-awaitable
+change_waits-requires-clause-awaitable c = rw (c.apply-packets.ensures.state, c.as_slice.ensures.value) (awaitable_after c.args.self.now.state (step_of c.args.plan.plan) c.args.plan.waits.items c.requires.may.awaited)
+
+pub change_waits-requires-clause-asked : goal.change_waits-requires-clause-asked
+change_waits-requires-clause-asked c = rw (c.apply-packets.ensures.state, c.as_slice.ensures.value) c.requires.may.asked

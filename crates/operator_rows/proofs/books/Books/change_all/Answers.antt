@@ -35,6 +35,7 @@ loop-change-preserved c =
     let may = (subst (λ l. MayChangeAll at.self.state l) steps at.invariant.may).1 in
     let is = c.change.ensures.state in
     record {
+      waiting = c.change.ensures.waiting ∙ at.invariant.waiting;
       kept = is ∙ ap (λ (s : State). record s { rows = changed one at.self.state.rows; resend = untimed one at.self.state.resend }) at.invariant.kept ∙ sym (ap (λ (s : State). record c.args.self.now.state { rows = s.rows; resend = s.resend }) is);
       rows = ap (λ (s : State). changed_all rest s.rows) is ∙ sym (ap (λ l. changed_all l at.self.state.rows) steps) ∙ at.invariant.rows;
       resend = ap (λ (s : State). untimed_all rest s.resend) is ∙ sym (ap (λ l. untimed_all l at.self.state.resend) steps) ∙ at.invariant.resend;
