@@ -1,5 +1,5 @@
 -- What a report makes of a version may follow it, and is one.
-use Rattle.std.proofs.Common.{◌≡◌, ℕ, ℤ, List, refl, sym, subst, ◌∙◌, inl, inr, arith}
+use Rattle.std.proofs.Common.{◌≡◌, ℕ, ℤ, refl, sym, subst, ◌∙◌, inl, inr, arith}
 use Rattle.std.proofs.lemmas.Int.{ints}
 use Rattle.std.specs.Prelude.{Option}
 use Rattle.ocpi_types.specs.declared.events.ChargerEvent.{ChargerEvent}
@@ -10,14 +10,9 @@ use Rattle.ocpi_types.specs.declared.words.SessionStatus.{SessionStatus}
 use Rattle.ocpi_types.specs.declared.words.SessionStatus.TheVariants.{Active, Completed, Invalid, Pending}
 use Rattle.session_state.specs.Versions.{HasCost, ended}
 use Rattle.session_state.specs.Pasts.{IsSame, IsTurn, MayFollow}
-use Rattle.session_tables.specs.Laws.{BeginningsAreOfSite, IsOfSite, MovesAreOne, MovesMayFollow}
+use Rattle.session_tables.specs.Laws.{BeginningsAreOfSite, MovesAreOne, MovesMayFollow}
 use Rattle.session_tables.specs.Moves.{Ends, Makes}
-use Rattle.session_tables.specs.declared.beginning.Beginning.{Beginning}
-use Rattle.session_tables.specs.Answers.{BeginsThere}
-use Rattle.authorization_book.specs.declared.awaited.Awaited.{Awaited}
-use Rattle.ocpi_types.specs.declared.site.Site.{Site}
-use Rattle.ocpi_types.specs.declared.words.AuthMethod.{AuthMethod}
-use Rattle.session_tables.proofs.Finding.{of_site}
+use Rattle.session_tables.proofs.Inverting.{accepted_for, answered_for, unanswered_for}
 
 same_kept : (v : Session) (start : ℕ) (end : Option ℕ) (kwh : ℤ) (total : Option Price) (status : SessionStatus) (stamp : ℕ)
     → IsSame v (record v { start_date_time = start; end_date_time = end; kwh = kwh; total_cost = total; status = status; last_updated = stamp })
@@ -91,13 +86,9 @@ one_made price at (event.Swipe e k u t) v w x a b = absurd a
 pub are_one : MovesAreOne
 are_one site s at report v w x a b = one_made site.price at report v w x a.makes b.makes
 
-there_of_site : (site : Site) (May : Option (List ℕ) → Type 0) (w : Awaited) (method : AuthMethod) (reference : Option (List ℕ)) (b : Beginning) → BeginsThere site May w method reference b → IsOfSite site b
-there_of_site site May w method reference b there =
-    subst (IsOfSite site) (sym there.begins_is) (of_site site.locations _ _ there.location there.of_evse there.of_connector there.place)
-
 pub are_of_site : BeginningsAreOfSite
 are_of_site = record {
-  answered = λ site s w a b by. there_of_site site _ w _ _ b by.there;
-  unanswered = λ site s at w b by. there_of_site site _ w _ _ b by.there;
-  accepted = λ site o b is. subst (IsOfSite site) (sym is.begins_is) (of_site site.locations _ _ is.location is.of_evse is.of_connector is.place);
+  answered = λ site s w a b by. (answered_for site s w a b by).2.of_site;
+  unanswered = λ site s at w b x. (unanswered_for site _ w b x).of_site;
+  accepted = λ site o b x. (accepted_for site o b x).of_site;
 }

@@ -5,3 +5,4 @@ pub mod Answering
 pub mod Moving
 pub mod Following
 pub mod Swiping
+pub mod Inverting
