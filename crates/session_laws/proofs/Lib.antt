@@ -13,3 +13,5 @@ pub mod Results
 pub mod Starting
 pub mod Messages
 pub mod Sending
+pub mod Pushing
+pub mod Delivering

@@ -6,3 +6,4 @@ pub mod Begun
 pub mod Used
 pub mod Started
 pub mod Sent
+pub mod Delivered

@@ -4,6 +4,7 @@
 
 ghost use Rattle.session_laws.specs.Begun.{SessionsBegan, SessionsBeginAsAsked};
 ghost use Rattle.session_laws.specs.Bills.{RecordsAreOfCompletedSessions, RecordsStay, SessionsAreBilledOnce};
+ghost use Rattle.session_laws.specs.Delivered.{NewestVersionsArePushed};
 ghost use Rattle.session_laws.specs.Ids.{IdsAreGiven};
 ghost use Rattle.session_laws.specs.Sent.{SentVersionsArePast};
 ghost use Rattle.session_laws.specs.Started.{AcceptedStartsHaveSessions};
@@ -83,4 +84,11 @@ pub fn accepted_starts_have_sessions()
 /// this.
 pub fn sent_versions_are_past()
     ensures { SentVersionsArePast }
+{}
+
+/// From the opening on, the newest version of each session, and each charge detail record, has a push that stands, and so is sent again;
+/// or it was sent to its token's provider, which acknowledged it with status 1000 under its number. A push that ends when it is sent,
+/// by another party's acknowledgement, or by one of another status, would break this.
+pub fn newest_versions_are_pushed()
+    ensures { NewestVersionsArePushed }
 {}
