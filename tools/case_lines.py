@@ -1,6 +1,6 @@
 #!/usr/bin/env python3
 """Writes the cases of the program `case_lines`, a file and what it must give for each part, in the folder cases/lines, and
-a choice of them into bench/.
+a choice of them into bench/, of which it tells the names.
 
     tools/case_lines.py
 
@@ -37,10 +37,11 @@ def main():
         write(lines / name, part(name, given))
         write(lines / f"{name}.stdout", gives)
         print(f"{name}: {len(given)} lines")
-    without_memory = [(name, *case) for name in ("operator", "provider") for case in PARTS[name].cases_without_memory()]
-    for at, (name, given, gives) in enumerate(without_memory, 1):
-        write(TOP / "bench" / "fail_allocations" / f"{at}", part(name, given))
+    without_memory = [(role, *case) for role in ("operator", "provider") for case in PARTS[role].cases_without_memory()]
+    for at, (role, name, given, gives) in enumerate(without_memory, 1):
+        write(TOP / "bench" / "fail_allocations" / f"{at}", part(role, given))
         write(TOP / "bench" / "fail_allocations" / f"{at}.stdout", gives)
+        print(f"bench/fail_allocations/{at}: {name}")
 
 
 if __name__ == "__main__":

@@ -1,5 +1,6 @@
 """What the cases of `operator_cases` are told in: events at an operator, and what each must give."""
 import json
+import re
 
 OPERATOR = "BE/BEC"
 # As the site spells them.
@@ -13,7 +14,9 @@ OPENED = []
 
 
 def text(value):
-    return json.dumps(value, separators=(",", ":"), sort_keys=True)
+    """A JSON text with the members of objects in the order of their names, and decimals as they are spelled."""
+    written = json.dumps(value, separators=(",", ":"), sort_keys=True, default=lambda number: f"decimal {number}")
+    return re.sub(r'"decimal (.*?)"', r"\1", written)
 
 
 def evse(uid):
@@ -38,11 +41,15 @@ def token(uid="AA01", party="NL/TNM", valid=True, kind="RFID", whitelist="ALWAYS
             "whitelist": whitelist}
 
 
-def reference(number, party="NL/TNM"):
-    name = party.replace("/", "")
-    data = b"A" + name.encode() + b"\0\0" + number.to_bytes(8, "big")
+def own_id(letter, number, party):
+    """The id of that letter and number of a party: of a session (S), a charge detail record (C), an authorization (A)."""
+    data = letter + party.upper().replace("/", "", 1).encode() + b"\0\0" + number.to_bytes(8, "big")
     digits = data.hex()
     return "-".join([digits[:8], digits[8:12], digits[12:16], digits[16:20], digits[20:]])
+
+
+def reference(number, party="NL/TNM"):
+    return own_id(b"A", number, party)
 
 
 def url(number, party="NL/TNM"):
@@ -74,16 +81,16 @@ def enter(line):
 
 
 def end():
-    """Ends what the last line gives, which of a site line is nothing. The rows of a step are told in any order, and wanted
-    sorted, behind its packets; those of `stored` have the order in which they are told."""
+    """Ends what the last line gives, which of a site line is nothing. The rows of a step, and those of `stored`, are told in any
+    order, and wanted sorted, behind the packets of the step; of a row that is told more than once the last counts."""
     if len(LINES) in OPENED:
         return
-    if LINES[-1] != "stored":
-        first = len(WANTED)
-        while first and WANTED[first - 1].startswith(("put ", "drop ")):
-            first -= 1
-        WANTED[first:] = sorted(WANTED[first:])
-    WANTED.append("")
+    first = len(WANTED)
+    while first and WANTED[first - 1] != "":
+        first -= 1
+    rows = {line.split(" {", 1)[0]: line for line in WANTED[first:] if line.startswith(("put ", "drop "))}
+    packets = [line for line in WANTED[first:] if not line.startswith(("put ", "drop "))]
+    WANTED[first:] = [*packets, *sorted(rows.values()), ""]
 
 
 class Case:
@@ -175,7 +182,7 @@ class Case:
 
     def result(self, serial, request, number, word, party="NL/TNM"):
         body = {"response_url": url(number, party), "result": word}
-        self.pushes[request] = (body, party)
+        self.pushes[request] = ("command_result", body, party)
         self.sent(serial, request, "command_result", body, party)
 
     def sent(self, serial, request, kind, body, party):
@@ -191,21 +198,9 @@ class Case:
         WANTED.append("drop %s %s" % (kind, key))
 
     def stored(self):
-        """All rows that stand: kind by kind, and each kind by party, and then by number or text."""
+        """All rows that stand."""
         enter("stored")
-        kinds = ["reply", "pending", "result", "mark", "reservation", "serial", "spent", "service", "request", "push"]
-
-        def place(kind_and_key):
-            kind, key = kind_and_key
-            if kind == "count":
-                return (kinds.index(key), "", 0)
-            if kind in ("reply", "pending", "result"):
-                return (kinds.index(kind), key[:6], int(key[7:]))
-            if kind == "push":
-                return (kinds.index(kind), "", int(key))
-            return (kinds.index(kind), key, 0)
-
-        for kind, key in sorted(self.rows, key=place):
+        for kind, key in self.rows:
             WANTED.append("put %s %s %s" % (kind, key, self.rows[(kind, key)]))
 
     def counted(self, serial, request=None):
@@ -223,19 +218,19 @@ class Case:
         row = {"evse_uid": uid, "expiry_date": moment(expiry), "location_id": place, "token": token(user, party)}
         self.put("reservation", "%s/%s" % (party.upper(), name), row)
 
-    def opened(self, number, deadline, uid=None, party="NL/TNM"):
+    def opened(self, number, deadline, uid=None, party="NL/TNM", connector="1"):
         kind, body = BODIES[(party, number)]
         row = {"body": body, "deadline": moment(deadline), "kind": kind}
         if uid:
-            row.update(evse_uid=uid, connector_id="1")
+            row.update(evse_uid=uid, connector_id=connector)
         self.put("pending", "%s/%d" % (party.upper(), number), row)
 
     def spent(self, number, party="NL/TNM"):
         self.put("spent", "%s/%s" % (party.upper(), reference(number, party).upper()), {})
 
     def pushed(self, request):
-        body, party = self.pushes[request]
-        self.put("push", "%d" % request, {"body": body, "kind": "command_result", "to": party})
+        kind, body, party = self.pushes[request]
+        self.put("push", "%d" % request, {"body": body, "kind": kind, "to": party})
 
     def ended(self, request, number, word, party="NL/TNM"):
         self.pushed(request)
@@ -308,8 +303,8 @@ class Case:
         for request in again:
             last += 1
             assert ("push", "%d" % request) in self.rows
-            body, party = self.pushes[request]
-            self.sent(last, request, "command_result", body, party)
+            kind, body, party = self.pushes[request]
+            self.sent(last, request, kind, body, party)
         for request, number, word, party in ends:
             self.drop("pending", "%s/%d" % (party.upper(), number))
             self.ended(request, number, word, party)

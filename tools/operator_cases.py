@@ -3,8 +3,10 @@
 Each case is told in short words here and spelled out by `operator_case`, which knows the rules apart from the code: what is
 sent and which rows are put or dropped are written behind each event by hand, and an event behind which nothing stands gives
 nothing.
-The cases of what charge points report, of time and of new starts are in `operator_time_cases`, those of the last numbers and of
-a tick that does much in `operator_limit_cases`.
+The cases of what charge points report, of time and of new starts are in `operator_time_cases`, those of sessions in
+`operator_charge_cases` and `operator_session_cases`, those of tokens and authorizations in `operator_token_cases` and
+`operator_deadline_cases`, those of the last numbers and of a tick that does much in `operator_limit_cases` and
+`operator_charge_limit_cases`.
 """
 from operator_case import (
     CASES,
@@ -17,13 +19,19 @@ from operator_case import (
     location,
     moment,
     open_site,
+    reference,
     refused,
     text,
     token,
     url,
 )
+from operator_charge_cases import add_charge_cases
+from operator_charge_limit_cases import add_charge_limit_cases
+from operator_deadline_cases import add_deadline_cases
 from operator_limit_cases import add_limit_cases
+from operator_session_cases import add_connectors, add_session_cases, open_site_of_connectors
 from operator_time_cases import add_time_cases
+from operator_token_cases import add_token_cases
 
 # The cases in which each allocation fails once: bench/fail_allocations.sh.
 WITHOUT_MEMORY = [
@@ -33,6 +41,11 @@ WITHOUT_MEMORY = [
     "a connector that was unlocked",
     "commands that time out by provider and number, reservations that expire, and then pushes that are due",
     "a tick for which serials are wanting ends nothing, and one that sends nothing needs none",
+    "a charge from its start to its bill",
+    "readings of one moment, of an earlier one, and of one below the last",
+    "a charge from a token that is shown to its bill",
+    "a token whose provider is to be asked begins a session by its answer, once",
+    "a token whose provider does not answer in time",
 ]
 
 
@@ -42,6 +55,9 @@ def starts():
     c.started(1, 1, "E1")
     c.start(1, at="10:00:20")
     c.repeated(2, 1, "ACCEPTED")
+    c.restart()
+    c.start(1, at="10:00:20")
+    c.repeated(3, 1, "ACCEPTED")
     c.stored()
     c = Case("a claimed EVSE is occupied for another provider, and for the same one")
     c.start(1)
@@ -70,6 +86,8 @@ def starts():
     c.answered(8, 5, "REJECTED")
     c.start(6, evse="E2", valid=False)
     c.answered(9, 6, "REJECTED")
+    c.command("10:00:00", "start_session", 10, token=token(), location_id="LOC7", connector_id="1")
+    c.answered(10, 10, 2001)
     c.hear("10:00:00", "start_session", {"response_url": url(1), "token": token(), "location_id": "LOC1"}, 1, to="FR/FRC")
     refused("1 NotForMe")
     c.hear("10:00:00", "start_session", {"response_url": url(1), "token": token(), "location_id": "LOC1"}, 1, party="AT/XXX")
@@ -102,6 +120,76 @@ def starts():
     c.put("service", "E2", {})
     c.start(3, evse=None)
     c.resulted(4, 2, 3, "EVSE_INOPERATIVE")
+    c.stored()
+
+
+def orders_of_starts():
+    c = Case("a reference is spent however it is spelled, and for its own provider alone")
+    c.start(1)
+    c.started(1, 1, "E1")
+    place = {"location_id": "LOC1", "evse_uid": "E2", "connector_id": "1"}
+    c.command("10:00:00", "start_session", 2, token=token(), authorization_reference=reference(1).upper(), **place)
+    c.answered(2, 2, "REJECTED")
+    theirs = token("DD01", "DE/EMP")
+    c.command("10:00:00", "start_session", 3, "DE/EMP", token=theirs, authorization_reference=reference(1), **place)
+    c.reply(3, 3, "ACCEPTED", party="DE/EMP")
+    c.counted(3)
+    c.kept(3, "DE/EMP")
+    c.opened(3, "10:00:30", "E2", "DE/EMP")
+    c.put("spent", "DE/EMP/%s" % reference(1).upper(), {})
+    c.stored()
+    c = Case("what else is wrong with a start is told before an EVSE out of service, and that before one that is occupied")
+    c.service("E1", False)
+    c.put("service", "E1", {})
+    c.start(1, valid=False)
+    c.answered(1, 1, "REJECTED")
+    c.start(2, connector="9")
+    c.answered(2, 2, "REJECTED")
+    c.start(3, evse="E2")
+    c.started(3, 3, "E2")
+    c.start(4, ref=3)
+    c.answered(4, 4, "REJECTED")
+    c.start(5, evse="E2", ref=3)
+    c.answered(5, 5, "REJECTED")
+    c.start(6, evse="E2", valid=False)
+    c.answered(6, 6, "REJECTED")
+    c.service("E2", False)
+    c.put("service", "E2", {})
+    c.start(7, evse="E2")
+    c.resulted(7, 1, 7, "EVSE_INOPERATIVE")
+    c.start(8, evse=None, valid=False)
+    c.answered(9, 8, "REJECTED")
+    c.start(9, evse=None)
+    c.resulted(10, 2, 9, "EVSE_INOPERATIVE")
+    c.stored()
+
+
+def starts_and_reservations():
+    c = Case("a reservation at another location serves no start, and stands")
+    c.reservation(1, 1, 1, "R1", "E3", "11:00:00", place="LOC2")
+    c.start(2)
+    c.started(3, 2, "E1")
+    c.start(3, evse=None)
+    c.started(4, 3, "E2")
+    c.start(4, place="LOC2", evse="E1")
+    c.answered(5, 4, "REJECTED")
+    c.start(5, evse=None)
+    c.resulted(6, 2, 5, "EVSE_OCCUPIED")
+    c.start(6, place="LOC2", evse=None)
+    c.started(8, 6, "E3", used="R1")
+    c.stored()
+    c = Case("a reservation on an EVSE out of service serves no start that names it, and stands")
+    c.reservation(1, 1, 1, "R1", "E1", "11:00:00")
+    c.service("E1", False)
+    c.put("service", "E1", {})
+    c.start(2)
+    c.resulted(3, 2, 2, "EVSE_INOPERATIVE")
+    c.start(3, party="DE/EMP", uid="DD01")
+    c.resulted(5, 3, 3, "EVSE_INOPERATIVE", party="DE/EMP")
+    c.service("E1", True)
+    c.drop("service", "E1")
+    c.start(4)
+    c.started(7, 4, "E1", used="R1")
     c.stored()
 
 
@@ -193,6 +281,60 @@ def reservations():
     c.answered(4, 4, "REJECTED")
     c.reserve(5, "R1", "E1", "10:00:00")
     c.answered(5, 5, "REJECTED")
+    for uid in ["E1", "E2"]:
+        c.service(uid, False)
+        c.put("service", uid, {})
+    c.reserve(6, "R1", None, "11:00:00")
+    c.resulted(6, 1, 6, "EVSE_INOPERATIVE", [lambda: c.marked("R1", 6)])
+    c.service("E2", True)
+    c.drop("service", "E2")
+    c.reservation(8, 2, 7, "R1", "E2", "11:00:00")
+    c.service("E2", False)
+    c.put("service", "E2", {})
+    c.reserve(8, "R1", None, "12:00:00")
+    c.resulted(10, 3, 8, "EVSE_INOPERATIVE", [lambda: c.marked("R1", 8)])
+    c.stored()
+
+
+def orders_of_reservations():
+    c = Case("marks and reservations of one provider are nothing to another")
+    c.unknown(1, 1, 5)
+    c.reservation(3, 2, 4, "R1", "E1", "11:00:00", party="DE/EMP", user="DD01")
+    c.unknown(5, 3, 6)
+    c.reservation(7, 4, 7, "R1", "E3", "11:00:00", place="LOC2")
+    c.cancel(5, "r1", party="DE/EMP")
+    ends = [lambda: c.marked("R1", 5, "DE/EMP"), lambda: c.drop("reservation", "DE/EMP/R1")]
+    c.resulted(9, 5, 5, "ACCEPTED", ends, party="DE/EMP")
+    c.reserve(8, "R1", "E1", "11:00:00")
+    c.answered(11, 8, "REJECTED")
+    c.stored()
+    c = Case("what else is wrong with a reservation is told before an EVSE out of service")
+    c.reservation(1, 1, 2, "R1", "E3", "11:00:00", place="LOC2")
+    for uid in ["E1", "E2"]:
+        c.service(uid, False)
+        c.put("service", uid, {})
+    c.reserve(3, "R1", "E1", "12:00:00")
+    c.answered(3, 3, "REJECTED")
+    c.reserve(1, "R1", "E3", "12:00:00", place="LOC2")
+    c.answered(4, 1, "REJECTED")
+    c.reserve(4, "R2", "E1", "09:59:59.999")
+    c.answered(5, 4, "REJECTED")
+    c.reserve(5, "R2", "E1", "10:00:00.001", valid=False)
+    c.answered(6, 5, "REJECTED")
+    c.reserve(6, "R2", "E1", "10:00:00.001")
+    c.resulted(7, 2, 6, "EVSE_INOPERATIVE", [lambda: c.marked("R2", 6)])
+    c.reserve(7, "R1", None, "12:00:00")
+    c.answered(9, 7, "REJECTED")
+    c.service("E3", False)
+    c.put("service", "E3", {})
+    c.reserve(8, "R1", "E3", "12:00:00", place="LOC2")
+    c.resulted(10, 3, 8, "EVSE_INOPERATIVE", [lambda: c.marked("R1", 8)])
+    c.cancel(7, "R3")
+    c.repeated(12, 7, "REJECTED")
+    c.cancel(9, "R1")
+    c.resulted(13, 4, 9, "ACCEPTED", [lambda: c.marked("R1", 9), lambda: c.drop("reservation", "NL/TNM/R1")])
+    c.reserve(10, "R1", "E1", "12:00:00")
+    c.resulted(15, 5, 10, "EVSE_INOPERATIVE", [lambda: c.marked("R1", 10)])
     c.stored()
 
 
@@ -219,6 +361,19 @@ def others():
     c.unlock(5, connector="2")
     c.answered(7, 5, "REJECTED")
     c.stored()
+    c = Case("an unlock at an EVSE that is reserved, or out of service")
+    c.reservation(1, 1, 1, "R1", "E1", "11:00:00")
+    c.service("E1", False)
+    c.put("service", "E1", {})
+    c.unlock(1, party="DE/EMP")
+    c.answered(3, 1, "REJECTED", party="DE/EMP")
+    c.unlock(2)
+    c.unlocking(4, 2)
+    c.service("E2", False)
+    c.put("service", "E2", {})
+    c.unlock(2, party="DE/EMP", evse="E2")
+    c.unlocking(5, 2, party="DE/EMP")
+    c.stored()
     c = Case("a session that is not known")
     c.stop(2, "S1")
     c.answered(1, 2, "UNKNOWN_SESSION")
@@ -239,10 +394,10 @@ def others():
 
 
 def cases_without_memory():
-    """The cases in which each allocation fails once: of each the lines, behind the site line, and what they must give."""
+    """The cases in which each allocation fails once: of each its name, the lines, behind the site line, and what they must give."""
     ends = CASES[1:] + [("", len(LINES), len(WANTED))]
     return [
-        (LINES[:1] + LINES[line:next_line], WANTED[want:next_want])
+        (name, LINES[:1] + LINES[line:next_line], WANTED[want:next_want])
         for (name, line, want), (_, next_line, next_want) in zip(CASES, ends)
         if name in WITHOUT_MEMORY
     ]
@@ -253,9 +408,19 @@ def cases():
     site = {"currency": "EUR", "locations": [location("LOC1", ["E1", "E2"]), location("LOC2", ["E3"])], "price": 0.25}
     open_site(text({"at": moment("10:00:00"), "party": OPERATOR, "providers": PROVIDERS, "site": site}))
     starts()
+    orders_of_starts()
+    starts_and_reservations()
     reservations()
+    orders_of_reservations()
     others()
     add_time_cases()
+    add_charge_cases()
+    add_session_cases()
+    add_token_cases()
+    add_deadline_cases()
+    add_charge_limit_cases()
     add_limit_cases()
+    open_site_of_connectors()
+    add_connectors()
     end()
     return LINES, WANTED

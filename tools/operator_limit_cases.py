@@ -41,6 +41,7 @@ def add_last_serials():
     c.start(1, at="10:00:20")
     refused(USED_UP)
     c.about("accepts", 1)
+    refused(USED_UP)
     c.about("refuses", 2)
     c.about("refuses", 1)
     refused(USED_UP)

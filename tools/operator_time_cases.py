@@ -1,8 +1,7 @@
 """The cases of `operator_cases` that are about what charge points report, about time, and about new starts of the operator.
 
-A report or a tick beside which nothing is told gives neither a packet nor a row. There are no sessions yet, so that a
-STOP_SESSION is never open: what ends one is not among these cases. A start is never carried out yet either, so that `accepts`
-of one does nothing.
+A report or a tick beside which nothing is told gives neither a packet nor a row. What sessions do is in `operator_charge_cases`, and
+what tokens do that are shown in `operator_token_cases`.
 """
 from operator_case import OPERATOR, Case, refused
 
@@ -95,19 +94,6 @@ def add_reports_of_commands():
     c.about("refuses", 2)
     c.unlock(1, at="10:00:06")
     c.repeated(5, 1, "ACCEPTED")
-    c.stored()
-    c = Case("what charge points report of sessions, and swipes, do nothing yet")
-    c.start(1)
-    c.started(1, 1, "E1")
-    c.about("unlocked", 1)
-    c.about("accepts", 1)
-    c.report("starts", "10:00:06", evse_uid="E1")
-    c.report("meter", "10:00:07", evse_uid="E1", kwh=1.5)
-    c.report("stops", "10:00:08", evse_uid="E1")
-    for uid in ["E1", "E2", "E9"]:
-        c.report("swipe", "10:00:09", evse_uid=uid, connector_id="1", token_uid="AA01", token_type="RFID")
-    c.tick("10:00:30")
-    c.finished(2, [(1, 1, "TIMEOUT", "NL/TNM")])
     c.stored()
     c = Case("commands that cannot be carried out")
     c.start(0)

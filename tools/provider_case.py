@@ -1,9 +1,8 @@
 """What the cases of `provider_cases` are told in: events at a provider, and what each must give."""
 import json
-import re
 from decimal import Decimal
 
-from operator_case import moment, reference, token
+from operator_case import moment, reference, text, token
 
 PROVIDER = "NL/TNM"
 OPERATORS = ["BE/BEC", "FR/FRC"]
@@ -16,12 +15,6 @@ OPENED = []
 # The last number that a counter gives.
 LAST = 10**18 - 1
 USED_UP = "2 NumbersUsedUp"
-
-
-def text(value):
-    """A JSON text with the members of objects in the order of their names, and decimals as they are spelled."""
-    written = json.dumps(value, separators=(",", ":"), sort_keys=True, default=lambda number: f"decimal {number}")
-    return re.sub(r'"decimal (.*?)"', r"\1", written)
 
 
 def url(number, provider=PROVIDER):

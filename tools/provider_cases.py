@@ -116,6 +116,12 @@ def results():
     c.acked(12, 8, party="FR/FRC")
     c.command_row(2, result="REJECTED")
     c.stored()
+    c = Case("a session of another party, and a result of nobody's url")
+    c.put_session(1, session(party="FR/FRC"))
+    c.acked(1, 1, 2001)
+    c.result(2, 0, "ACCEPTED", to_url="https://node.invalid/NO/ONE/1")
+    c.acked(2, 2, 2001)
+    c.stored()
     c = Case("a result of each word is kept")
     words = ["ACCEPTED", "CANCELED_RESERVATION", "EVSE_OCCUPIED", "EVSE_INOPERATIVE", "FAILED", "NOT_SUPPORTED", "REJECTED",
              "TIMEOUT", "UNKNOWN_RESERVATION"]
@@ -327,6 +333,15 @@ def authorizations():
     c.versioned(10, 5, version("AA01", "10:00:05", valid=False), replaced=[1, 2])
     c.authorize(5, "AA01", at="10:00:06")
     c.authorized(12, 5, "BLOCKED", version("AA01", "10:00:05", valid=False), at="10:00:06")
+    c.stored()
+
+
+    c = Case("a question without a type is about a token of the type RFID, and of no other")
+    app = c.new_token(1, 1, "AA01", kind="APP_USER")
+    c.authorize(1, "AA01")
+    c.authorized(3, 1, 2004)
+    c.authorize(2, "AA01", type="APP_USER")
+    c.authorized(4, 2, "ALLOWED", app, 1)
     c.stored()
 
 
@@ -552,10 +567,10 @@ def ticks():
 
 
 def cases_without_memory():
-    """The cases in which each allocation fails once: of each the lines, behind the parties, and what they must give."""
+    """The cases in which each allocation fails once: of each its name, the lines, behind the parties, and what they must give."""
     ends = CASES[1:] + [("", len(LINES), len(WANTED))]
     return [
-        (LINES[:1] + LINES[line:next_line], WANTED[want:next_want])
+        (name, LINES[:1] + LINES[line:next_line], WANTED[want:next_want])
         for (name, line, want), (_, next_line, next_want) in zip(CASES, ends)
         if name in WITHOUT_MEMORY
     ]

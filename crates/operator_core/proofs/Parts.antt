@@ -1,6 +1,8 @@
 -- Parts of a step that are gathered one after the other.
 use Rattle.std.proofs.Common.{◌≡◌, ◌++◌, List, sym, ap, subst, ◌∙◌}
 use Rattle.std.specs.Prelude.{Result, Ok, Err, Option, Some, None, OnOk, IfOk, IfErr, IfNone}
+use Rattle.std.specs.Result.{IsErrAnd}
+use Rattle.std.proofs.lemmas.Result.{err_from_is_err_and}
 use Rattle.node_steps.specs.Acts.{Act}
 use Rattle.node_steps.specs.Drafts.{Gathered, HasNumbersOf, with_acts}
 use Rattle.node_steps.proofs.Gathering.{both, has_first, has_rest}
@@ -38,3 +40,23 @@ on_at Q P a q (Err e) h = tt
 pub err_at : {T E A : Type 0} (Q : A → Type 0) (P : A → E → Type 0) (a : A) → Q a → (r : Result T E) → IfErr r (λ x. (b : A) → Q b → P b x) → IfErr r (P a)
 err_at Q P a q (Ok x) h = tt
 err_at Q P a q (Err e) h = h a q
+
+-- what is said of each case, said of a result
+pub ok_each : {T E A : Type 0} (Q : A → Type 0) (P : A → T → Type 0) (r : Result T E) → ((a : A) → Q a → IfOk r (P a)) → IfOk r (λ x. (a : A) → Q a → P a x)
+ok_each Q P (Ok x) h = h
+ok_each Q P (Err e) h = tt
+
+pub on_each : {T E A : Type 0} (Q : A → Type 0) (P : A → Type 0) (r : Result T E) → ((a : A) → Q a → OnOk r (P a)) → OnOk r ((a : A) → Q a → P a)
+on_each Q P (Ok x) h = h
+on_each Q P (Err e) h = tt
+
+pub err_each : {T E A : Type 0} (Q : A → Type 0) (P : A → E → Type 0) (r : Result T E) → ((a : A) → Q a → IfErr r (P a)) → IfErr r (λ e. (a : A) → Q a → P a e)
+err_each Q P (Ok x) h = tt
+err_each Q P (Err e) h = h
+
+-- what a `?` returns is the fault that it passes on
+pub err_one : {T E : Type 0} (P : E → Type 0) (r : Result T E) (f : E) → IsErrAnd r (λ e. e ≡ f) → P f → IfErr r P
+err_one P r f is h = let p = err_from_is_err_and r is in rw (p.1, p.2) h
+
+pub err_none : {T E : Type 0} (P : T → Type 0) (r : Result T E) (f : E) → IsErrAnd r (λ e. e ≡ f) → IfOk r P
+err_none P r f is = let p = err_from_is_err_and r is in rw (p.1) tt

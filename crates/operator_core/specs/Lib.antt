@@ -1,1 +1,5 @@
 pub mod Requests
+pub mod Planned
+pub mod Bills
+pub mod Happenings
+pub mod Answering

@@ -1,5 +1,5 @@
 -- A request as the operator handles it, what a step answers, and what a moment comes to where all was read before it.
-use Rattle.std.specs.Prelude.{◌≡◌, ℕ, List, [], ◌∷◌, Option, Some, None, IsTrue, Contains}
+use Rattle.std.specs.Prelude.{◌≡◌, ℕ, List, [], ◌∷◌, Option, Some, None, Result, Ok, Err, IsTrue, Contains}
 use Rattle.std.specs.FinMap.{contains_key, get}
 use Rattle.ocpi_text.specs.Text.{key}
 use Rattle.ocpi_types.specs.Stored.{body_of_command}
@@ -12,10 +12,14 @@ use Rattle.ocpi_types.specs.declared.stored.Reply.{Reply}
 use Rattle.ocpi_types.specs.declared.words.CommandResultType.{CommandResultType}
 use Rattle.command_book.specs.Stored as book
 use Rattle.outbox.specs.Pushes.{Pushes}
-use Rattle.node_steps.specs.Acts.{Act, repeated}
-use Rattle.node_steps.specs.Drafts.{StopsBy, counted}
+use Rattle.ocpi_types.specs.declared.rows.Change.TheVariants.{Put}
+use Rattle.ocpi_types.specs.declared.rows.Row.TheVariants as row
+use Rattle.ocpi_types.specs.declared.token.Token.{Token}
+use Rattle.token_desk.specs.declared.answers.TokenPut.{TokenPut}
+use Rattle.token_desk.specs.declared.answers.TokenPut.TheVariants.{Stored, Kept}
+use Rattle.token_desk.specs.declared.fault.TokenFault.{TokenFault}
+use Rattle.node_steps.specs.Acts.{Act, answered, changed, repeated}
 use Rattle.node_steps.specs.Peers.{IsPeer}
-use Rattle.node_steps.specs.declared.fault.NodeFault.{NodeFault}
 use Rattle.node_steps.specs.declared.plan.Stepped.{Stepped}
 use Rattle.operator_rows.specs.State.{Rows, State}
 use Rattle.operator_tables.specs.declared.decision.Decision.{Decision}
@@ -23,7 +27,8 @@ use Rattle.operator_tables.specs.declared.request.Request.{Request}
 use Rattle.operator_steps.specs.declared.ending.Ending.{Ending}
 use Rattle.operator_steps.specs.Acts.{deadline, decided_acts, opened, own_acts, settled_if, told, url_of}
 use Rattle.operator_steps.specs.Ends.{ends_acts, url_in}
-use Rattle.operator_steps.specs.Moves.{Out, counters_of}
+use Rattle.operator_steps.specs.Moves.{Out}
+use Rattle.operator_steps.specs.Steps.{acknowledgement}
 
 -- the request that came to this operator in a packet
 pub record IsRequest (s : State) (at : ℕ) (q : Packet) (r : Request) : Type 0 where
@@ -77,6 +82,17 @@ told_of_end s e = told (url_in (get s.commands.pending (e.provider, e.number))) 
 abbrev pub acts_of_end : State → ℕ → Ending → List Act
 acts_of_end s at e = ends_acts at s.rows.commands.pending s.rows.request (e ∷ [])
 
--- why an operator refuses to do these acts
-abbrev pub StopsActs : State → List Act → NodeFault → Type 0
-StopsActs s acts = StopsBy (counted (counters_of s) acts)
+-- the status of the reply to a token
+abbrev pub status_of : Result TokenPut TokenFault → ℕ
+status_of (Ok put) = 1000
+status_of (Err fault) = 2001
+
+-- the token is stored where it is newer
+abbrev pub stored_acts : Token → Result TokenPut TokenFault → List Act
+stored_acts t (Ok Stored) = changed (Put (row.Token t)) ∷ []
+stored_acts t (Ok Kept) = []
+stored_acts t (Err fault) = []
+
+-- all that becomes of a token in answer to a request
+abbrev pub put_acts : Request → Token → Result TokenPut TokenFault → List Act
+put_acts r t put = answered r.provider r.from r.number (acknowledgement r.at (status_of put)) ∷ stored_acts t put

@@ -9,7 +9,7 @@ ghost use Rattle.operator_core.specs.Requests.{IfCommand, IsCommand, decided_by,
 use crate::bodies::{command_of, reference_of, told};
 use crate::respond::respond;
 use node_steps::Draft;
-use ocpi_text::{CiKey, CiText, Moment};
+use ocpi_text::{CiKey, CiText, Moment, PartyKey};
 use ocpi_types::{
     Body, Boxed, Change, Command, CommandResultType, OpenCommand, Place, Push, Reservation, Row,
     RowKey,
@@ -51,46 +51,46 @@ fn add_opened(
     }))
 }
 
-/// Adds that a reservation ends.
+/// Adds that a reservation of a provider ends.
 fn add_freed(
     draft: &mut Draft,
-    request: &Request,
+    provider: PartyKey,
     reservation_id: CiKey<36>,
 ) -> Result<(), AllocError>
-    ensures { OnOk result (draft.new ≡ with_acts (freed request.now.provider reservation_id ∷ []) draft.old) }
+    ensures { OnOk result (draft.new ≡ with_acts (freed provider reservation_id ∷ []) draft.old) }
 {
     draft.change(Change::Drop(RowKey::Reservation {
-        provider: request.provider,
+        provider,
         reservation_id,
     }))
 }
 
-/// Adds that the reservation ends which a start uses, where it uses one.
-fn add_used(
+/// Adds that the reservation of a provider ends which a start or a session uses, where it uses one.
+pub(crate) fn add_used(
     draft: &mut Draft,
-    request: &Request,
+    provider: PartyKey,
     reservation_id: Option<CiKey<36>>,
 ) -> Result<(), AllocError>
-    ensures { OnOk result (draft.new ≡ with_acts (used request.now.provider reservation_id) draft.old) }
+    ensures { OnOk result (draft.new ≡ with_acts (used provider reservation_id) draft.old) }
 {
     match reservation_id {
         None => Ok(()),
-        Some(reservation_id) => add_freed(draft, request, reservation_id),
+        Some(reservation_id) => add_freed(draft, provider, reservation_id),
     }
 }
 
-/// Adds that a reference is spent, where there is one.
-fn add_spent(
+/// Adds that a reference of a provider is spent, where there is one.
+pub(crate) fn add_spent(
     draft: &mut Draft,
-    request: &Request,
+    provider: PartyKey,
     reference: Option<CiText<36>>,
 ) -> Result<(), AllocError>
-    ensures { OnOk result (draft.new ≡ with_acts (spent request.now.provider reference) draft.old) }
+    ensures { OnOk result (draft.new ≡ with_acts (spent provider reference) draft.old) }
 {
     match reference {
         None => Ok(()),
         Some(reference) => draft.change(Change::Put(Row::Spent {
-            provider: request.provider,
+            provider,
             reference: reference.key(),
         })),
     }
@@ -140,9 +140,9 @@ fn add_started(
 ) -> Result<(), AllocError>
     ensures { OnOk result (IfCommand body.now (λ c. draft.new ≡ with_acts (own_by request.now c (Decision.Started place reservation_id)) draft.old)) }
 {
-    add_used(draft, request, reservation_id)?;
+    add_used(draft, request.provider, reservation_id)?;
     add_opened(alloc, draft, request, body, Some(place))?;
-    add_spent(draft, request, reference_of(body))
+    add_spent(draft, request.provider, reference_of(body))
 }
 
 /// Adds what a decision does on the command that a body carries, beside its reply and its result.
@@ -172,7 +172,7 @@ fn add_own(
         }
         Decision::Cancelled { reservation_id } => {
             add_marked(draft, request, *reservation_id)?;
-            add_freed(draft, request, *reservation_id)
+            add_freed(draft, request.provider, *reservation_id)
         }
     }
 }

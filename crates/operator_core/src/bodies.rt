@@ -20,6 +20,8 @@ pub fn is_taken(body: &Body) -> bool
             | Body::ReserveNow(_)
             | Body::CancelReservation(_)
             | Body::UnlockConnector(_)
+            | Body::PutToken(_)
+            | Body::Authorization(_)
             | Body::Ack(_)
     )
 }

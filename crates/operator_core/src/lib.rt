@@ -1,4 +1,5 @@
-//! The operator: it owns charge points at a site, and answers the commands of the site's providers (OCPI 2.2.1, Commands).
+//! The operator: it owns charge points at a site, answers the commands of the site's providers, and lets their drivers charge (OCPI
+//! 2.2.1, Commands, Sessions, CDRs, Tokens).
 //!
 //! ```
 //! let mut operator = Operator::new(alloc, site_line)?;
@@ -16,13 +17,22 @@
 #![tactic(auto)]
 
 mod acts;
+mod answers;
+mod beginning;
+mod bills;
 mod bodies;
 mod charger;
-mod decide;
+mod charges;
+mod deadlines;
 mod ends;
 mod operator;
+mod packets;
+mod plans;
 mod respond;
 mod service;
+mod sessions;
+mod swipes;
 mod tick;
+mod tokens;
 
 pub use operator::Operator;

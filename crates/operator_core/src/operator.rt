@@ -3,10 +3,10 @@
 ghost use Rattle.std.specs.Prelude.{◌≡◌, IfOk, IfErr, OnErr, OnOk};
 ghost use Rattle.operator_rows.specs.State.{opening};
 
-use node_steps::{NodeFault, Plan, Stepped, copies};
+use node_steps::{NodeFault, Stepped, copies};
 use ocpi_text::{CiKey, Moment};
 use ocpi_types::{ChargerEvent, Packet, Row, SiteLine};
-use operator_rows::Books;
+use operator_rows::{Books, FullPlan};
 use std::alloc::{AllocError, Global};
 use std::marker::Model;
 
@@ -35,12 +35,12 @@ impl Model for Operator {
 }
 
 impl Operator {
-    ghost use Rattle.node_steps.specs.Drafts.{step_of};
     ghost use Rattle.operator_rows.specs.Rows.{AreChanges, AreRowsOf};
     ghost use Rattle.operator_rows.specs.Sound.{IsConsistent};
-    ghost use Rattle.operator_rows.specs.Steps.{HasRoomFor, MayFollow, after, restarted};
-    ghost use Rattle.operator_steps.specs.Charger.{ChargerLine, ChargerStep};
-    ghost use Rattle.operator_steps.specs.Faults.{IsDue, IsOwnFault};
+    ghost use Rattle.operator_rows.specs.Steps.{HasFullRoomFor, MayFollowFull, after_full, restarted};
+    ghost use Rattle.operator_rows.specs.FullSteps.{full_step_of};
+    ghost use Rattle.operator_steps.specs.Charger.{ChargerStep};
+    ghost use Rattle.operator_steps.specs.Faults.{IsDue, IsOwnFault, IsReportFault};
     ghost use Rattle.operator_steps.specs.Moves.{carried};
     ghost use Rattle.operator_steps.specs.Service.{ServiceStep};
     ghost use Rattle.operator_steps.specs.Steps.{OperatorStep};
@@ -56,9 +56,12 @@ impl Operator {
     }
 
     /// What holds of every operator at any time, which its type keeps: each EVSE has at most one claim; each open command was
-    /// answered, has no result, and is of a provider of the site, and an open start has an EVSE and a connector of the site; each
-    /// command that has a result was answered; each reservation is on an EVSE of the site and names its location; each push is
-    /// to a provider of the site, and has a number that was given; only a push that stands has a resend time.
+    /// answered, has no result, and is of a provider of the site, and an open start has an EVSE and a connector of the site;
+    /// each command that has a result was answered; each reservation is on an EVSE of the site and names its location; each
+    /// push is to a provider of the site, and has a number that was given; only a push that stands has a resend time; each
+    /// token is of a provider of the site; each session and each charge detail record is the operator's own, and a session
+    /// that has not ended is of a provider of the site, at a connector of the site, and costs what its energy costs; at each
+    /// EVSE at most one authorization is awaited, of a provider of the site.
     pub fn consistency(&self)
         ensures { IsConsistent self.now.state }
     {
@@ -74,43 +77,47 @@ impl Operator {
 
     /// Takes the memory that a planned step needs. Nothing that stands changes, whether there is enough or not. An error is want
     /// of memory, for a step that has no room yet.
-    pub fn make_room(&mut self, plan: &Plan) -> Result<(), AllocError>
+    pub fn make_room(&mut self, plan: &FullPlan) -> Result<(), AllocError>
         ensures state { self.new.state ≡ self.old.state }
-        ensures room { OnOk result (HasRoomFor self.new (step_of plan.now)) }
+        ensures room { OnOk result (HasFullRoomFor self.new (full_step_of plan.now)) }
     {
-        self.books.make_room(plan)
+        self.books.make_full_room(plan)
     }
 
     /// Carries a planned step out, and answers the packets that are to be sent. It takes no memory and cannot fail.
-    pub fn apply(&mut self, plan: Plan) -> Vec<Packet>
-        requires room { HasRoomFor self.old (step_of plan) }
-        requires may { MayFollow self.old.state (step_of plan) }
-        ensures state { self.new.state ≡ after (step_of plan) self.old.state }
-        ensures packets { result.items ≡ (step_of plan).packets }
+    pub fn apply(&mut self, plan: FullPlan) -> Vec<Packet>
+        requires room { HasFullRoomFor self.old (full_step_of plan) }
+        requires may { MayFollowFull self.old.state (full_step_of plan) }
+        ensures state { self.new.state ≡ after_full (full_step_of plan) self.old.state }
+        ensures packets { result.items ≡ (full_step_of plan).step.packets }
     {
-        self.books.apply(plan)
+        self.books.apply_full(plan)
     }
 
     /// Makes room for a planned step and carries it out. An error is want of memory, and changes nothing.
-    fn carry_out(&mut self, plan: Plan) -> Result<Stepped, AllocError>
-        requires { MayFollow self.old.state (step_of plan) }
-        ensures ok { IfOk result (λ x. out_of self.new.state x ≡ carried self.old.state (step_of plan)) }
+    fn carry_out(&mut self, plan: FullPlan) -> Result<Stepped, AllocError>
+        requires { MayFollowFull self.old.state (full_step_of plan) }
+        ensures ok { IfOk result (λ x. out_of self.new.state x ≡ carried self.old.state (full_step_of plan)) }
         ensures err { OnErr result (self.new.state ≡ self.old.state) }
         ensures rows { IfOk result (λ x. AreChanges self.old.state.rows x.rows.items self.new.state.rows) }
     {
-        let rows = copies(self.alloc, plan.changes.as_slice())?;
+        self.consistency();
+        let rows = copies(self.alloc, plan.plan.changes.as_slice())?;
         self.make_room(&plan)?;
         let packets = self.apply(plan);
         Ok(Stepped { rows, packets })
     }
 
     /// A packet comes at a moment. It is refused (`NotForMe`) where it is to another party, from a party that is no provider
-    /// of the site, or of a kind that an operator does not take; and else (`NumbersUsedUp`) where a counter of packets or of
-    /// requests would pass its last number. A refusal, want of memory included, changes nothing and sends nothing.
+    /// of the site, or of a kind that an operator does not take; and else (`NumbersUsedUp`) where a counter of packets, of
+    /// requests or of sessions would pass its last number. A refusal, want of memory included, changes nothing and sends
+    /// nothing.
     ///
     /// A request that was answered before gets the same reply again, under a new serial. A command that was not is decided
-    /// by its table, and its reply is kept for good (OCPI 2.2.1, Commands). An acknowledgement ends the push that it is
-    /// for.
+    /// by its table (OCPI 2.2.1, Commands), and a token is kept where it is its provider's own and newer than the one that is
+    /// held (Tokens); the reply is kept for good. An acknowledgement ends the push that it is for. An answer whether a token
+    /// may be used ends the waiting that it is for, and a session begins where it allows the token, its reference was not
+    /// used before, and the token may still take the EVSE (Tokens: Real-time authorization).
     pub fn on_packet(&mut self, at: Moment, packet: &Packet) -> Result<Stepped, NodeFault>
         ensures step { IfOk result (λ x. OperatorStep self.old.state at packet.now (out_of self.new.state x)) }
         ensures fault { IfErr result (IsDue self.old.state at packet.now) }
@@ -122,14 +129,19 @@ impl Operator {
     }
 
     /// A charge point reports at a moment. The open command that the report ends gets its result, which is kept and pushed
-    /// to its provider: that a stop or an unlock was carried out (`Accepts`, `Unlocked`), that a command cannot be
-    /// (`Refuses`), that the EVSE failed which an open start took (`Fault`). A report that ends no command does nothing;
-    /// so do swipes and what is said of sessions, which an operator does not have yet. Refused (`NumbersUsedUp`) where a
-    /// counter of packets or of requests would pass its last number. A refusal, want of memory included, changes nothing
-    /// and sends nothing.
+    /// to its provider: that a command was carried out (`Accepts`, `Unlocked`), that it cannot be (`Refuses`), that the EVSE
+    /// failed which an open start took (`Fault`). With a start that is carried out a session begins. The session at an EVSE
+    /// goes on or ends (`Starts`, `Meter`, `Stops`, `Fault`): its new version is pushed, in place of the push of an older
+    /// one, and so is the charge detail record of one that is completed (OCPI 2.2.1, Sessions, CDRs). For a token that is
+    /// shown (`Swipe`) a session begins, or its provider is asked and its answer awaited for ten seconds (Tokens: Real-time
+    /// authorization). Another report does nothing.
+    ///
+    /// Refused (`StampEnd`) where the newest version of the session was updated at the last moment, since none can be later,
+    /// and (`NumbersUsedUp`) where a counter of packets, of requests, of sessions or of charge detail records would pass its
+    /// last number. A refusal, want of memory included, changes nothing and sends nothing.
     pub fn on_charger(&mut self, at: Moment, report: ChargerEvent) -> Result<Stepped, NodeFault>
         ensures step { IfOk result (λ x. ChargerStep self.old.state at report (out_of self.new.state x)) }
-        ensures fault { IfErr result (IsOwnFault (ChargerLine self.old.state at report) self.old.state) }
+        ensures fault { IfErr result (IsReportFault self.old.state at report) }
         ensures err { OnErr result (self.new.state ≡ self.old.state) }
         ensures rows { IfOk result (λ x. AreChanges self.old.state.rows x.rows.items self.new.state.rows) }
     {
@@ -138,10 +150,11 @@ impl Operator {
     }
 
     /// Time has come to a moment: open commands whose deadline is at or before it end by a timeout; reservations whose
-    /// expiry is at or before it end, of which nobody is told; pushes that were last sent ten seconds before it, or
-    /// earlier, or not since the operator started, are sent again. Packets leave in this order. Refused (`NumbersUsedUp`)
-    /// where a counter of packets or of requests would pass its last number. A refusal, want of memory included, changes
-    /// nothing and sends nothing.
+    /// expiry is at or before it end, of which nobody is told; authorizations whose deadline is at or before it are awaited
+    /// no more, and a session begins for each token that may be used without its provider's answer, and may take its EVSE
+    /// then; pushes that were last sent ten seconds before it, or earlier, or not since the operator started, are sent again.
+    /// Packets leave in this order. Refused (`NumbersUsedUp`) where a counter of packets, of requests or of sessions would
+    /// pass its last number. A refusal, want of memory included, changes nothing and sends nothing.
     pub fn on_tick(&mut self, at: Moment) -> Result<Stepped, NodeFault>
         ensures step { IfOk result (λ x. TickStep self.old.state at (out_of self.new.state x)) }
         ensures fault { IfErr result (IsOwnFault (TickLine self.old.state at) self.old.state) }
@@ -167,8 +180,8 @@ impl Operator {
         Ok(self.carry_out(plan)?)
     }
 
-    /// The operator starts again from what it stored: each push is due at once, and nothing else changes. It takes no
-    /// memory.
+    /// The operator starts again from what it stored: each push is due at once, no authorization is awaited, and nothing else
+    /// changes. It takes no memory.
     pub fn restart(&mut self)
         ensures { self.new.state ≡ restarted self.old.state }
     {

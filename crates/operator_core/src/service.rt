@@ -2,15 +2,17 @@
 
 ghost use Rattle.std.specs.Prelude.{◌∷◌, [], IfOk, IfSome, IfNone};
 ghost use Rattle.node_steps.specs.Acts.{changed};
-ghost use Rattle.node_steps.specs.Drafts.{step_of};
-ghost use Rattle.operator_rows.specs.Steps.{MayFollow};
-ghost use Rattle.operator_steps.specs.Moves.{PlannedBy};
+ghost use Rattle.operator_rows.specs.Steps.{MayFollowFull};
+ghost use Rattle.operator_rows.specs.FullSteps.{full_step_of};
+ghost use Rattle.operator_steps.specs.Moves.{PlannedBy, Quietly};
 ghost use Rattle.operator_steps.specs.Service.{ServiceLine};
 
 use crate::operator::Operator;
+use crate::plans::quiet;
 use node_steps::Plan;
 use ocpi_text::CiKey;
 use ocpi_types::{Change, Row, RowKey};
+use operator_rows::FullPlan;
 use std::alloc::AllocError;
 
 impl Operator {
@@ -31,15 +33,19 @@ impl Operator {
     }
 
     /// What becomes of an EVSE that goes out of service, or comes back. Nothing changes. An error is want of memory.
-    pub fn plan_service(&self, evse_uid: CiKey<36>, in_service: bool) -> Result<Plan, AllocError>
-        ensures step { IfOk result (λ x. PlannedBy (ServiceLine self.now.state evse_uid in_service) self.now.state (step_of x)) }
-        ensures follows { IfOk result (λ x. MayFollow self.now.state (step_of x)) }
+    pub fn plan_service(
+        &self,
+        evse_uid: CiKey<36>,
+        in_service: bool,
+    ) -> Result<FullPlan, AllocError>
+        ensures step { IfOk result (λ x. PlannedBy (Quietly (ServiceLine self.now.state evse_uid in_service)) self.now.state (full_step_of x)) }
+        ensures follows { IfOk result (λ x. MayFollowFull self.now.state (full_step_of x)) }
     {
         self.consistency();
         self.counters_in_range();
         match self.service_change(evse_uid, in_service) {
-            Some(change) => Plan::one(self.alloc, change),
-            None => Ok(Plan::nothing(self.alloc)),
+            Some(change) => Ok(quiet(self.alloc, Plan::one(self.alloc, change)?)),
+            None => Ok(quiet(self.alloc, Plan::nothing(self.alloc))),
         }
     }
 }

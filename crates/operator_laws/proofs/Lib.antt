@@ -5,3 +5,4 @@ pub mod replies
 pub mod reservations
 pub mod results
 pub mod standing
+pub mod sessions

@@ -1,6 +1,13 @@
+pub mod OneChange
 pub mod RowFates
 pub mod Causes
+pub mod Decided
 pub mod Caused
+pub mod Facts
+pub mod Reasons
+pub mod Reasoned
+pub mod LineReasons
+pub mod Sayings
 pub mod Doing
 pub mod Keeping
 pub mod Standing

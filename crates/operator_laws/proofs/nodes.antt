@@ -1,5 +1,3 @@
-pub mod RowsThrough
-pub mod ActSteps
-pub mod LineSteps
+pub mod Messages
 pub mod NodeSteps
 pub mod NodeLaws

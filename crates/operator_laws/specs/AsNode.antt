@@ -9,8 +9,9 @@ use Rattle.outbox.specs.declared.push_book.Outgoing.{Outgoing}
 use Rattle.node_laws.specs.Nodes.{Node, Exchange, Request, NodeStep}
 use Rattle.node_laws.specs.Laws.{NodeRun}
 use Rattle.operator_rows.specs.State.{State, opening}
+use Rattle.operator_rows.specs.Sound.{IsConsistent}
 use Rattle.operator_steps.specs.Events.{Input, Arrives, Serves, Reports, Ticks, Restarts, Event, Happens}
-use Rattle.operator_laws.specs.Laws.{Run, sent}
+use Rattle.operator_laws.specs.Laws.{IsOfParty, Run, sent}
 
 abbrev pub pushed_request : Outgoing → Request
 pushed_request o = record { to = o.to; body = body_of_push o.push }
@@ -38,18 +39,18 @@ exchange e = record { came = came_in e.input; packets = e.packets }
 
 -- each event of an operator is a step of a node
 abbrev pub StepsAreNodeSteps : Type 0
-StepsAreNodeSteps = (s t : State) (e : Event) → Happens s e t → NodeStep (node s) (exchange e) (node t)
+StepsAreNodeSteps = (s t : State) (e : Event) → IsConsistent s → Happens s e t → NodeStep (node s) (exchange e) (node t)
 
 -- so each run is a run of a node, and the laws of nodes hold of it
 abbrev pub RunsAreNodeRuns : Type 0
-RunsAreNodeRuns = (s t : State) (es : List Event) → Run s es t → NodeRun (node s) (map exchange es) (node t)
+RunsAreNodeRuns = (s t : State) (es : List Event) → IsConsistent s → Run s es t → NodeRun (node s) (map exchange es) (node t)
 
 -- each packet is from this operator, to a provider of its site as the site spells it
 abbrev pub PacketsAreAddressed : Type 0
-PacketsAreAddressed = (line : SiteLine) (es : List Event) (t : State) → Run (opening line) es t → (x : Packet) → Contains (sent es) x →
+PacketsAreAddressed = (line : SiteLine) (es : List Event) (t : State) → IsOfParty line → Run (opening line) es t → (x : Packet) → Contains (sent es) x →
     (x.from ≡ line.parties.operator) × Contains line.parties.providers x.to
 
 -- a push that stands was sent under its number
 abbrev pub PushesWereSent : Type 0
-PushesWereSent = (line : SiteLine) (es : List Event) (t : State) → Run (opening line) es t → (n : ℕ) (o : Outgoing) → get t.rows.pushes n ≡ Some o →
+PushesWereSent = (line : SiteLine) (es : List Event) (t : State) → IsOfParty line → Run (opening line) es t → (n : ℕ) (o : Outgoing) → get t.rows.pushes n ≡ Some o →
     (x : Packet) × Contains (sent es) x × (x.request ≡ n) × (x.to ≡ o.to) × (x.body ≡ body_of_push o.push)

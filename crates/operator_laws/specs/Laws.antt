@@ -1,24 +1,29 @@
 -- The laws of an operator over every list of events from its opening: packets that come, in any order and any number of
 -- times, what charge points report, time that passes, at moments that may go back, EVSEs that go out of service and come
 -- back, and new starts of the operator from what it stored; events that are refused among them.
-use Rattle.std.specs.Prelude.{◌≡◌, ◌⊎◌, ℕ, ◌+◌, ◌≤◌, ◌<◌, List, Some, Contains, slice_get}
+use Rattle.std.specs.Prelude.{◌≡◌, ◌⊎◌, ℕ, ◌+◌, ◌≤◌, ◌<◌, List, Some, Ok, Contains, slice_get}
 use Rattle.std.specs.List.{flat_map}
 use Rattle.std.specs.FinMap.{get}
+use Rattle.ocpi_text.specs.Party.{party_at}
 use Rattle.ocpi_text.specs.Text.{key}
 use Rattle.ocpi_types.specs.Stored.{body_of_command, body_of_reply, body_of_push}
+use Rattle.ocpi_types.specs.declared.cdrs.Cdr.{Cdr}
 use Rattle.ocpi_types.specs.declared.site.SiteLine.{SiteLine}
 use Rattle.ocpi_types.specs.declared.packet.Packet.{Packet}
+use Rattle.ocpi_types.specs.declared.packet.Body.{Body}
 use Rattle.ocpi_types.specs.declared.packet.Body.TheVariants as body
 use Rattle.ocpi_types.specs.declared.replies.Ack.{Ack}
-use Rattle.ocpi_types.specs.declared.replies.CommandResponse.{CommandResponse}
 use Rattle.ocpi_types.specs.declared.replies.CommandResult.{CommandResult}
 use Rattle.ocpi_types.specs.declared.stored.Command.{Command}
 use Rattle.ocpi_types.specs.declared.stored.OpenCommand.{OpenCommand}
 use Rattle.ocpi_types.specs.declared.stored.Reply.{Reply}
+use Rattle.ocpi_types.specs.declared.stored.Reply.TheVariants as reply
+use Rattle.ocpi_types.specs.declared.token.Token.{Token}
 use Rattle.ocpi_types.specs.declared.stored.Reservation.{Reservation}
 use Rattle.ocpi_types.specs.declared.words.CommandResultType.{CommandResultType}
 use Rattle.ocpi_types.specs.declared.rows.Change.TheVariants.{Put}
 use Rattle.ocpi_types.specs.declared.rows.Row.TheVariants as row
+use Rattle.node_laws.specs.Nodes.{IsReply}
 use Rattle.node_laws.specs.Runs as runs
 use Rattle.outbox.specs.declared.push_book.Outgoing.{Outgoing}
 use Rattle.operator_rows.specs.State.{State, opening}
@@ -38,6 +43,10 @@ sent es = flat_map (λ e. e.packets) es
 abbrev pub Came : List Event → Packet → Type 0
 Came es q = (e : Event) × Contains es e × ((at : ℕ) × (e.input ≡ Arrives at q))
 
+-- the operator is a party by its form, so that the ids that it makes of numbers differ
+abbrev pub IsOfParty : SiteLine → Type 0
+IsOfParty line = party_at line.parties.operator ≡ Ok line.parties.operator
+
 -- what holds of an operator at any time: what is kept of its rows and times, each EVSE with at most one claim among it; and each
 -- reference of a provider is carried by one open start at most, and may not be used again
 pub record HoldsAlways (t : State) : Type 0 where
@@ -46,7 +55,7 @@ pub record HoldsAlways (t : State) : Type 0 where
   pub carried_spent : AreSpent t.rows
 
 abbrev pub AlwaysConsistent : Type 0
-AlwaysConsistent = (line : SiteLine) (es : List Event) (t : State) → Run (opening line) es t → HoldsAlways t
+AlwaysConsistent = (line : SiteLine) (es : List Event) (t : State) → IsOfParty line → Run (opening line) es t → HoldsAlways t
 
 -- two open starts of a provider with one reference are one
 abbrev pub ReferencesHaveOneCarrier : Type 0
@@ -65,21 +74,27 @@ abbrev pub OneStart : Type 0
 OneStart = (line : SiteLine) (es : List Event) (t : State) → Run (opening line) es t → (i j : ℕ) (e f : Event) → slice_get es i ≡ Some e → slice_get es j ≡ Some f →
     (p reference : List ℕ) → Opens e p reference → Opens f p reference → i ≡ j
 
--- each response that was sent is the reply that is kept for its request
+-- each reply that was sent, a response or an acknowledgement, is the one that is kept for its request
 abbrev pub SentRepliesAreKept : Type 0
-SentRepliesAreKept = (line : SiteLine) (es : List Event) (t : State) → Run (opening line) es t → (x : Packet) (r : CommandResponse) → Contains (sent es) x →
-    x.body ≡ body.CommandResponse r → (reply : Reply) × (get t.rows.commands.replies (key x.to, x.request) ≡ Some reply) × (x.body ≡ body_of_reply reply)
+SentRepliesAreKept = (line : SiteLine) (es : List Event) (t : State) → IsOfParty line → Run (opening line) es t → (x : Packet) (r : Reply) → Contains (sent es) x →
+    x.body ≡ body_of_reply r → get t.rows.commands.replies (key x.to, x.request) ≡ Some r
 
 -- a reply is kept for good
 abbrev pub RepliesStay : Type 0
-RepliesStay = (s t : State) (es : List Event) → Run s es t → (k : List ℕ × ℕ) (reply : Reply) → get s.rows.commands.replies k ≡ Some reply →
-    get t.rows.commands.replies k ≡ Some reply
+RepliesStay = (s t : State) (es : List Event) → Run s es t → (k : List ℕ × ℕ) (r : Reply) → get s.rows.commands.replies k ≡ Some r →
+    get t.rows.commands.replies k ≡ Some r
 
--- each kept reply answers a command that came, from that party under that number
+-- which request a reply of an operator answers: a response answers a command, and an acknowledgement a token
+abbrev pub IsReplyTo : Reply → Body → Type 0
+IsReplyTo (reply.CommandResponse r) b = (c : Command) × (b ≡ body_of_command c)
+IsReplyTo (reply.Ack r) b = (t : Token) × (b ≡ body.PutToken t)
+IsReplyTo (reply.Authorization r) b = ⊥
+
+-- each kept reply answers a request that came, from that party under that number: a command, or a token
 abbrev pub RepliesAnswer : Type 0
-RepliesAnswer = (line : SiteLine) (es : List Event) (t : State) → Run (opening line) es t → (p : List ℕ) (n : ℕ) (reply : Reply) →
-    get t.rows.commands.replies (p, n) ≡ Some reply →
-    (q : Packet) × Came es q × (key q.from ≡ p) × (q.request ≡ n) × ((c : Command) × (q.body ≡ body_of_command c))
+RepliesAnswer = (line : SiteLine) (es : List Event) (t : State) → Run (opening line) es t → (p : List ℕ) (n : ℕ) (r : Reply) →
+    get t.rows.commands.replies (p, n) ≡ Some r →
+    (q : Packet) × Came es q × (key q.from ≡ p) × (q.request ≡ n) × IsReplyTo r q.body
 
 -- a result is kept for good
 abbrev pub ResultsStay : Type 0
@@ -90,25 +105,32 @@ ResultsStay = (s t : State) (es : List Event) → IsConsistent s → Run s es t 
 abbrev pub Numbered : Type 0
 Numbered = (line : SiteLine) (es : List Event) (t : State) → Run (opening line) es t → (i : ℕ) (x : Packet) → slice_get (sent es) i ≡ Some x → x.serial ≡ i + 1
 
--- each of the operator's own requests, which are results so far, has one number, one body and one addressee, however often it
--- is sent
+-- each of the operator's own requests, be it a result, a session, a charge detail record or a question about a token, has one number, one
+-- body and one addressee, however often it is sent
 abbrev pub RequestsAgree : Type 0
-RequestsAgree = (line : SiteLine) (es : List Event) (t : State) → Run (opening line) es t → (x y : Packet) (a b : CommandResult) → Contains (sent es) x → Contains (sent es) y →
-    x.body ≡ body.CommandResult a → y.body ≡ body.CommandResult b → x.request ≡ y.request → (x.body ≡ y.body) × (x.to ≡ y.to)
+RequestsAgree = (line : SiteLine) (es : List Event) (t : State) → IsOfParty line → Run (opening line) es t → (x y : Packet) → Contains (sent es) x → Contains (sent es) y →
+    ¬ IsReply x.body → ¬ IsReply y.body → x.request ≡ y.request → (x.body ≡ y.body) × (x.to ≡ y.to)
 
 -- the party acknowledged the request of that number, in the run
 abbrev pub Acknowledged : List Event → List ℕ → ℕ → Type 0
 Acknowledged es to n = (q : Packet) × Came es q × ((a : Ack) × (q.body ≡ body.Ack a) × (a.status_code ≡ 1000)) × (key q.from ≡ key to) × (q.request ≡ n)
 
--- a result that was sent is pushed until its addressee acknowledges its number
+-- the push of that number stands, to that party, with that body
+abbrev pub IsPushed : State → ℕ → List ℕ → Body → Type 0
+IsPushed t n to b = (o : Outgoing) × (get t.rows.pushes n ≡ Some o) × (o.to ≡ to) × (body_of_push o.push ≡ b)
+
+-- a result, or a charge detail record
+abbrev pub IsResultOrRecord : Body → Type 0
+IsResultOrRecord b = ((a : CommandResult) × (b ≡ body.CommandResult a)) ⊎ ((c : Cdr) × (b ≡ body.PostCdr c))
+
+-- a result or a charge detail record that was sent is pushed until its addressee acknowledges its number
 abbrev pub PushesStand : Type 0
-PushesStand = (line : SiteLine) (es : List Event) (t : State) → Run (opening line) es t → (x : Packet) (a : CommandResult) → Contains (sent es) x →
-    x.body ≡ body.CommandResult a →
-    ((o : Outgoing) × (get t.rows.pushes x.request ≡ Some o) × (o.to ≡ x.to) × (body_of_push o.push ≡ x.body)) ⊎ Acknowledged es x.to x.request
+PushesStand = (line : SiteLine) (es : List Event) (t : State) → IsOfParty line → Run (opening line) es t → (x : Packet) → Contains (sent es) x → IsResultOrRecord x.body →
+    IsPushed t x.request x.to x.body ⊎ Acknowledged es x.to x.request
 
 -- a result that was sent is the one that is kept for a command of its addressee, to be posted where it says
 abbrev pub SentResultsAreKept : Type 0
-SentResultsAreKept = (line : SiteLine) (es : List Event) (t : State) → Run (opening line) es t → (x : Packet) (a : CommandResult) → Contains (sent es) x →
+SentResultsAreKept = (line : SiteLine) (es : List Event) (t : State) → IsOfParty line → Run (opening line) es t → (x : Packet) (a : CommandResult) → Contains (sent es) x →
     x.body ≡ body.CommandResult a →
     (n : ℕ) × (get t.rows.commands.results (key x.to, n) ≡ Some a.result)
 

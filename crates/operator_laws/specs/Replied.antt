@@ -18,7 +18,7 @@ use Rattle.ocpi_types.specs.declared.words.CommandResultType.{CommandResultType}
 use Rattle.operator_rows.specs.State.{State, opening}
 use Rattle.operator_steps.specs.Acts.{responded, url_of}
 use Rattle.operator_steps.specs.Events.{Arrives, Event, Happens}
-use Rattle.operator_laws.specs.Laws.{Came, Run, sent}
+use Rattle.operator_laws.specs.Laws.{Came, IsOfParty, Run, sent}
 
 -- the event answers the request of that packet: no reply was kept for it before, and this one is after
 pub record AnswersIt (s : State) (e : Event) (t : State) (q : Packet) (r : Reply) : Type 0 where
@@ -64,7 +64,7 @@ IsSettled t p n = (x : CommandResultType) × (get t.rows.commands.results (p, n)
 
 -- a command whose response was ACCEPTED is open or has its result, and never both
 abbrev pub AcceptedIsOpenOrSettled : Type 0
-AcceptedIsOpenOrSettled = (line : SiteLine) (es : List Event) (t : State) → Run (opening line) es t → (p : List ℕ) (n at : ℕ) →
+AcceptedIsOpenOrSettled = (line : SiteLine) (es : List Event) (t : State) → IsOfParty line → Run (opening line) es t → (p : List ℕ) (n at : ℕ) →
     get t.rows.commands.replies (p, n) ≡ Some (responded at Accepted) → (IsOpenNow t p n ⊎ IsSettled t p n) × (IsOpenNow t p n → IsSettled t p n → ⊥)
 
 -- a packet with that command came from that provider under that number, among these
@@ -74,6 +74,6 @@ Asked Came p n c = (q : Packet) × Came q × (key q.from ≡ p) × (q.request �
 -- a result that was sent answers a command that came from its addressee: it is posted where that command says, and is the result
 -- that is kept for it
 abbrev pub ResultsArePosted : Type 0
-ResultsArePosted = (line : SiteLine) (es : List Event) (t : State) → Run (opening line) es t → (x : Packet) (a : CommandResult) → Contains (sent es) x →
+ResultsArePosted = (line : SiteLine) (es : List Event) (t : State) → IsOfParty line → Run (opening line) es t → (x : Packet) (a : CommandResult) → Contains (sent es) x →
     x.body ≡ body.CommandResult a →
     (n : ℕ) × (c : Command) × Asked (Came es) (key x.to) n c × (a.response_url ≡ url_of c) × (get t.rows.commands.results (key x.to, n) ≡ Some a.result)

@@ -6,10 +6,11 @@ ghost use Rattle.operator_laws.specs.Made.{ReservationsAreMade, OpenCommandsCame
 ghost use Rattle.operator_laws.specs.Replied.{AcceptedIsOpenOrSettled, CancellationsAreMarked, ReservationsAreAskedFor, ReservationsAreMarked, ResultsArePosted, SpentStays};
 ghost use Rattle.operator_laws.specs.Laws.{AlwaysConsistent, OneStart, SentRepliesAreKept, RepliesStay, RepliesAnswer, ResultsStay, Numbered, RequestsAgree, PushesStand, SentResultsAreKept, MarksNeverFall, ReservationsAreNewer, ReferencesHaveOneCarrier, CarriedReferencesAreSpent};
 
-/// Each EVSE has at most one claim, among open starts and reservations; each open command is of a provider of the site, and has a
-/// reply and no result; each command that has a result has a reply; what claims an EVSE names one of the site; each push is to a
-/// provider of the site and has a number that was given, and only a push that stands has a resend time; each reference is carried
-/// by at most one open start, and may not be used again.
+/// Each EVSE has at most one claim, among open starts, sessions and reservations; each open command is of a provider of the site, and
+/// has a reply and no result; each command that has a result has a reply; what claims an EVSE names one of the site; each push is to a
+/// provider of the site and has a number that was given, and only a push that stands has a resend time; each session is of this
+/// operator, and may go on if it has not ended; at each EVSE at most one authorization is awaited; each reference is carried by at
+/// most one open start, and may not be used again. The operator is a party by its form.
 pub fn always_consistent()
     ensures { AlwaysConsistent }
 {}
@@ -29,7 +30,8 @@ pub fn one_start()
     ensures { OneStart }
 {}
 
-/// Each response that was sent is the reply that is kept for its request: all answers to one request have one body.
+/// Each reply that was sent, a response or an acknowledgement, is the one that is kept for its request: all answers to one request have
+/// one body.
 pub fn sent_replies_are_kept()
     ensures { SentRepliesAreKept }
 {}
@@ -39,7 +41,7 @@ pub fn replies_stay()
     ensures { RepliesStay }
 {}
 
-/// Each kept reply answers a command that came.
+/// Each kept reply answers a request that came: a response a command, and an acknowledgement a token.
 pub fn replies_answer()
     ensures { RepliesAnswer }
 {}
@@ -54,12 +56,13 @@ pub fn numbered()
     ensures { Numbered }
 {}
 
-/// Each request of an operator has one number, one body and one addressee, however often it is sent.
+/// Each request of an operator, be it a result, a session, a charge detail record or a question about a token, has one number, one body
+/// and one addressee, however often it is sent.
 pub fn requests_agree()
     ensures { RequestsAgree }
 {}
 
-/// A result that was sent is pushed until its addressee acknowledges it.
+/// A result, or a charge detail record, that was sent is pushed until its addressee acknowledges it.
 pub fn pushes_stand()
     ensures { PushesStand }
 {}

@@ -15,3 +15,4 @@
 #![tactic(auto)]
 
 pub mod laws;
+pub mod session_laws;

@@ -11,6 +11,7 @@ use Rattle.ocpi_types.specs.declared.rows.RowKey.{RowKey}
 use Rattle.ocpi_types.specs.declared.rows.RowKey.TheVariants as keys
 use Rattle.ocpi_types.specs.declared.stored.OpenCommand.{OpenCommand}
 use Rattle.ocpi_types.specs.declared.stored.Reservation.{Reservation}
+use Rattle.ocpi_types.specs.declared.sessions.Session.{Session}
 use Rattle.site_book.specs.declared.claim.Claim.{Claim}
 use Rattle.site_book.specs.declared.claim.Claim.TheVariants.{OpenStart, Live, Reserved}
 use Rattle.site_book.specs.Sites.{Claims, IsEvse}
@@ -22,36 +23,37 @@ use Rattle.operator_rows.specs.Sound.{MayClaim, MayPutPending}
 -- where no rows stand, nothing is claimed
 pub no_claim : (evse : List ℕ) (c : Claim) → HasClaim no_rows evse c → ⊥
 no_claim evse (OpenStart p n) (o, has, at) = none_some o (sym (get-empty text_number_cmp (p, n)) ∙ has)
-no_claim evse (Live p session) h = h
+no_claim evse (Live p id) (v, has, at) = none_some v (sym (get-empty text_cmp id) ∙ has)
 no_claim evse (Reserved p id) (r, has, at) = none_some r (sym (get-empty text_pair_cmp (p, id)) ∙ has)
 
 pub indexed_empty : IsIndexed empty no_rows
 indexed_empty evse c = (λ h. none_some c (sym (get-empty text_cmp evse) ∙ h), λ h. absurd (no_claim evse c h))
 
--- rows with the same open commands and reservations make the same claims
-pub claims_same : (s t : Rows) → s.commands.pending ≡ t.commands.pending → s.booked.reservations ≡ t.booked.reservations → (evse : List ℕ) (c : Claim) → HasClaim s evse c → HasClaim t evse c
-claims_same s t a b evse (OpenStart p n) (o, has, takes) = (o, ap (λ m. get m (p, n)) (sym a) ∙ has, takes)
-claims_same s t a b evse (Live p session) h = h
-claims_same s t a b evse (Reserved p id) (r, has, on) = (r, ap (λ m. get m (p, id)) (sym b) ∙ has, on)
+-- rows with the same open commands, reservations and sessions make the same claims
+pub claims_same : (s t : Rows) → s.commands.pending ≡ t.commands.pending → s.booked.reservations ≡ t.booked.reservations → s.charged.sessions ≡ t.charged.sessions → (evse : List ℕ) (c : Claim) →
+    HasClaim s evse c → HasClaim t evse c
+claims_same s t a b d evse (OpenStart p n) (o, has, takes) = (o, ap (λ m. get m (p, n)) (sym a) ∙ has, takes)
+claims_same s t a b d evse (Live p id) (v, has, at) = (v, ap (λ m. get m id) (sym d) ∙ has, at)
+claims_same s t a b d evse (Reserved p id) (r, has, on) = (r, ap (λ m. get m (p, id)) (sym b) ∙ has, on)
 
 -- a relation of claims, in place of rows
-abbrev IsIndex : Claims → (List ℕ → Claim → Type 0) → Type 0
+abbrev pub IsIndex : Claims → (List ℕ → Claim → Type 0) → Type 0
 IsIndex claims R = (evse : List ℕ) (c : Claim) → (get claims evse ≡ Some c) ↔ R evse c
 
 -- the claims of rows but for one that they may have
-abbrev LacksFrom : (List ℕ → Claim → Type 0) → Claim → (List ℕ → Claim → Type 0) → Type 0
+abbrev pub LacksFrom : (List ℕ → Claim → Type 0) → Claim → (List ℕ → Claim → Type 0) → Type 0
 LacksFrom R old S = (evse : List ℕ) (c : Claim) → S evse c ↔ (R evse c × (c ≢ old))
 
 -- the claims of rows, and one more
-abbrev HasMore : (List ℕ → Claim → Type 0) → List ℕ → Claim → (List ℕ → Claim → Type 0) → Type 0
+abbrev pub HasMore : (List ℕ → Claim → Type 0) → List ℕ → Claim → (List ℕ → Claim → Type 0) → Type 0
 HasMore R at new S = (evse : List ℕ) (c : Claim) → S evse c ↔ (((evse ≡ at) × (c ≡ new)) ⊎ R evse c)
 
 module _ (claims : Claims) (R S : List ℕ → Claim → Type 0) (h : IsIndex claims R) where
-  same_index : ((evse : List ℕ) (c : Claim) → S evse c ↔ R evse c) → IsIndex claims S
+  pub same_index : ((evse : List ℕ) (c : Claim) → S evse c ↔ R evse c) → IsIndex claims S
   same_index same evse c = (λ has. (same evse c).1 ((h evse c).0 has), λ x. (h evse c).1 ((same evse c).0 x))
 
   -- a claim that stood on one EVSE is given back
-  give_back : (old : Claim) (at : List ℕ) → R at old → ((evse : List ℕ) → R evse old → evse ≡ at) → LacksFrom R old S → IsIndex (remove claims at) S
+  pub give_back : (old : Claim) (at : List ℕ) → R at old → ((evse : List ℕ) → R evse old → evse ≡ at) → LacksFrom R old S → IsIndex (remove claims at) S
   give_back old at stood sole lacks evse c = (
     λ has.
         let still = of_remove text_total text_exact claims at evse c has in
@@ -64,7 +66,7 @@ module _ (claims : Claims) (R S : List ℕ → Claim → Type 0) (h : IsIndex cl
   )
 
   -- an EVSE that nothing claims is claimed
-  take : (new : Claim) (at : List ℕ) → ((c : Claim) → R at c → ⊥) → HasMore R at new S → IsIndex (insert claims at new) S
+  pub take : (new : Claim) (at : List ℕ) → ((c : Claim) → R at c → ⊥) → HasMore R at new S → IsIndex (insert claims at new) S
   take new at free more evse c = (
     λ has. elim (of_insert text_total text_exact claims at new evse c has) [
       | inl i ↦ (more evse c).1 (inl (i.0, sym i.1))
@@ -84,11 +86,13 @@ takes_one o a b x y =
     sym x.same ∙ ap key same ∙ y.same
 
 -- a claim is on one EVSE
-one_place : (s : Rows) (c : Claim) (a b : List ℕ) → HasClaim s a c → HasClaim s b c → a ≡ b
+pub one_place : (s : Rows) (c : Claim) (a b : List ℕ) → HasClaim s a c → HasClaim s b c → a ≡ b
 one_place s (OpenStart p i) a b (o, has, at) (q, had, on) =
     let same : o ≡ q = let e : Some o ≡ Some q = sym has ∙ had in cc in
     takes_one q a b (subst (λ (z : OpenCommand). Takes z a) same at) on
-one_place s (Live p session) a b h g = absurd h
+one_place s (Live p id) a b (v, has, at) (w, had, on) =
+    let same : v ≡ w = let e : Some v ≡ Some w = sym has ∙ had in cc in
+    sym at.here ∙ ap (λ (z : Session). key z.evse_uid) same ∙ on.here
 one_place s (Reserved p id) a b (r, has, at) (q, had, on) =
     let same : r ≡ q = let e : Some r ≡ Some q = sym has ∙ had in cc in
     sym at ∙ ap (λ (z : Reservation). key z.evse_uid) same ∙ on
@@ -105,7 +109,7 @@ module _ (s : Rows) (p : List ℕ) (i : ℕ) where
         ((x.0, was.1, x.2), λ same. was.0 (let a : q ≡ p = cc in let b : j ≡ i = cc in λ t. (a t, b t))),
     λ x. (x.0.0, get-remove_other text_number_total text_number_exact s.commands.pending (p, i) (q, j) (λ same. x.1 (λ t. OpenStart (same t).0 (same t).1)) ∙ x.0.1, x.0.2),
   )
-  lacks_open evse (Live q session) = (λ x. absurd x, λ x. x.0)
+  lacks_open evse (Live q session) = (λ x. (x, λ same. cc), λ x. x.0)
   lacks_open evse (Reserved q id) = (λ x. (x, λ same. cc), λ x. x.0)
 
   module _ (o : OpenCommand) where
@@ -121,7 +125,7 @@ module _ (s : Rows) (p : List ℕ) (i : ℕ) where
           inl (subst (λ (z : OpenCommand). Takes z evse) is on, λ t. OpenStart (same t).0 (same t).1)
       | inr apart ↦ inr (x, get-remove_other text_number_total text_number_exact s.commands.pending (p, i) (q, j) apart ∙ sym (get-insert_other text_number_total text_number_exact s.commands.pending (p, i) o (q, j) apart) ∙ has, on)
     ]
-    of_open evse (Live q session) h = absurd h
+    of_open evse (Live q session) h = inr h
     of_open evse (Reserved q id) h = inr h
 
     others_open : (evse : List ℕ) (c : Claim) → Left evse c → With evse c
@@ -155,7 +159,7 @@ module _ (s : Rows) (p id : List ℕ) where
   -- the claims without that of a reservation
   pub lacks_reserved : LacksFrom (HasClaim s) (Reserved p id) Unreserved
   lacks_reserved evse (OpenStart q j) = (λ x. (x, λ same. cc), λ x. x.0)
-  lacks_reserved evse (Live q session) = (λ x. absurd x, λ x. x.0)
+  lacks_reserved evse (Live q session) = (λ x. (x, λ same. cc), λ x. x.0)
   lacks_reserved evse (Reserved q j) = (
     λ x.
         let was = of_remove text_pair_total text_pair_exact s.booked.reservations (p, id) (q, j) x.0 x.1 in
@@ -170,7 +174,7 @@ module _ (s : Rows) (p id : List ℕ) where
     -- a claim once the reservation is put is its own, or one of those without it
     pub of_reserved : (evse : List ℕ) (c : Claim) → Booked evse c → ((evse ≡ key r.evse_uid) × (c ≡ Reserved p id)) ⊎ Unreserved evse c
     of_reserved evse (OpenStart q j) h = inr h
-    of_reserved evse (Live q session) h = absurd h
+    of_reserved evse (Live q session) h = inr h
     of_reserved evse (Reserved q j) (x, has, on) = elim (told text_pair_total text_pair_exact (q, j) (p, id)) [
       | inl same ↦
           let e : Some r ≡ Some x = sym (get-insert_same text_pair_total text_pair_exact s.booked.reservations (p, id) r) ∙ ap (get (insert s.booked.reservations (p, id) r)) (sym same) ∙ has in
@@ -242,13 +246,13 @@ module _ (claims : Claims) (s : Rows) (h : IsIndexed claims s) where
       take (released before claims) (HasClaim (drop_row (keys.Reservation p id) s)) (HasClaim (put_row (row.Reservation p id r) s)) (indexed_drop_reserved p id before was) (Reserved p id) (key r.evse_uid)
       (left_free (HasClaim s) (HasClaim (drop_row (keys.Reservation p id) s)) (Reserved p id) (lacks_reserved s p id) (key r.evse_uid) alone) (more_reserved s p id r)
 
-  -- rows with the same open commands and reservations
-  pub indexed_same : (t : Rows) → s.commands.pending ≡ t.commands.pending → s.booked.reservations ≡ t.booked.reservations → IsIndexed claims t
-  indexed_same t a b = same_index claims (HasClaim s) (HasClaim t) h (λ evse c. (claims_same t s (sym a) (sym b) evse c, claims_same s t a b evse c))
+  -- rows with the same open commands, reservations and sessions
+  pub indexed_same : (t : Rows) → s.commands.pending ≡ t.commands.pending → s.booked.reservations ≡ t.booked.reservations → s.charged.sessions ≡ t.charged.sessions → IsIndexed claims t
+  indexed_same t a b d = same_index claims (HasClaim s) (HasClaim t) h (λ evse c. (claims_same t s (sym a) (sym b) (sym d) evse c, claims_same s t a b d evse c))
 
 -- each EVSE has one claim at most, once a row is put that may claim it
 module _ (R S : List ℕ → Claim → Type 0) (c : Claim) where
-  one_more_claim : ((evse : List ℕ) (x y : Claim) → R evse x → R evse y → x ≡ y) → ((evse : List ℕ) (d : Claim) → S evse d → ((d ≡ c) × ((e : Claim) → R evse e → e ≡ c)) ⊎ R evse d) →
+  pub one_more_claim : ((evse : List ℕ) (x y : Claim) → R evse x → R evse y → x ≡ y) → ((evse : List ℕ) (d : Claim) → S evse d → ((d ≡ c) × ((e : Claim) → R evse e → e ≡ c)) ⊎ R evse d) →
       (evse : List ℕ) (x y : Claim) → S evse x → S evse y → x ≡ y
   one_more_claim one of evse x y a b = elim (of evse x a) [
     | inl i ↦ elim (of evse y b) [ inl j ↦ i.0 ∙ sym j.0 | inr j ↦ i.0 ∙ sym (i.1 y j) ]
@@ -274,8 +278,8 @@ module _ (s : Rows) (one : OneClaimEach s) where
   pub one_without_reserved : (p id : List ℕ) → OneClaimEach (drop_row (keys.Reservation p id) s)
   one_without_reserved p id evse x y a b = one evse x y ((lacks_reserved s p id evse x).0 a).0 ((lacks_reserved s p id evse y).0 b).0
 
-  pub one_same : (t : Rows) → s.commands.pending ≡ t.commands.pending → s.booked.reservations ≡ t.booked.reservations → OneClaimEach t
-  one_same t a b evse x y h g = one evse x y (claims_same t s (sym a) (sym b) evse x h) (claims_same t s (sym a) (sym b) evse y g)
+  pub one_same : (t : Rows) → s.commands.pending ≡ t.commands.pending → s.booked.reservations ≡ t.booked.reservations → s.charged.sessions ≡ t.charged.sessions → OneClaimEach t
+  one_same t a b d evse x y h g = one evse x y (claims_same t s (sym a) (sym b) (sym d) evse x h) (claims_same t s (sym a) (sym b) (sym d) evse y g)
 
 -- a reference that the kept ones contain is spent
 pub contained : (o : Option (Unit {0})) (b : Bool) → b ≡ is_some o → IsTrue b → o ≡ Some tt

@@ -1,8 +1,11 @@
 pub mod ClaimIndex
+pub mod LiveClaims
+pub mod KeepingCharged
 pub mod KeepingSound
 pub mod KeepingTimes
 pub mod KeepingRows
 pub mod Listings
+pub mod ChargedListings
 pub mod RowChanges
 pub mod RowRooms
 pub mod TimeRooms

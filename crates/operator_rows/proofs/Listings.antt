@@ -23,22 +23,22 @@ use Rattle.tables.proofs.Elements.{in_none, in_single, in_front, in_map, of_map,
 use Rattle.tables.proofs.Entries.{listed, listed_only, all_apart}
 use Rattle.tables.proofs.Options.{none_some}
 use Rattle.operator_rows.specs.State.{Rows, as_outbox}
-use Rattle.operator_rows.specs.Rows.{HasRow, AreRowsOf}
+use Rattle.operator_rows.specs.Rows.{HasRow}
 use Rattle.operator_rows.specs.Listing.{serial_rows, spent_row, service_row, other_rows}
 
-abbrev Apart : Row → Row → Type 0
+abbrev pub Apart : Row → Row → Type 0
 Apart a b = key_of a ≢ key_of b
 
 -- the part that a key is of
-abbrev part : RowKey → ℕ
+abbrev pub part : RowKey → ℕ
 part (keys.Reply p n) = 0
 part (keys.Pending p n) = 0
 part (keys.Result p n) = 0
 part (keys.Mark p id) = 1
 part (keys.Reservation p id) = 1
 part (keys.Count counter.Serial) = 2
-part (keys.Count counter.Session) = 6
-part (keys.Count counter.Cdr) = 6
+part (keys.Count counter.Session) = 7
+part (keys.Count counter.Cdr) = 7
 part (keys.Count counter.Reference) = 6
 part (keys.Spent p reference) = 3
 part (keys.Service evse) = 4
@@ -46,17 +46,17 @@ part (keys.Count counter.Request) = 5
 part (keys.Push n) = 5
 part (keys.Command n) = 5
 part (keys.Token p t u) = 6
-part (keys.Session p id) = 6
-part (keys.Cdr p id) = 6
+part (keys.Session p id) = 7
+part (keys.Cdr p id) = 7
 
 -- the list has exactly the rows of which P holds, each once, and they are of the first k parts
-record AreExactly (k : ℕ) (P : Row → Type 0) (list : List Row) : Type 0 where
-  exact : (r : Row) → Contains list r ↔ P r
-  apart : AllPairs Apart list
-  parts : (r : Row) → P r → part (key_of r) < k
+pub record AreExactly (k : ℕ) (P : Row → Type 0) (list : List Row) : Type 0 where
+  pub exact : (r : Row) → Contains list r ↔ P r
+  pub apart : AllPairs Apart list
+  pub parts : (r : Row) → P r → part (key_of r) < k
 
 -- one more part
-and_part : (k : ℕ) (P Q : Row → Type 0) (xs ys : List Row) → AreExactly k P xs → AreExactly (k + 1) Q ys → ((r : Row) → Q r → part (key_of r) ≡ k) → AreExactly (k + 1) (λ r. P r ⊎ Q r) (xs ++ ys)
+pub and_part : (k : ℕ) (P Q : Row → Type 0) (xs ys : List Row) → AreExactly k P xs → AreExactly (k + 1) Q ys → ((r : Row) → Q r → part (key_of r) ≡ k) → AreExactly (k + 1) (λ r. P r ⊎ Q r) (xs ++ ys)
 and_part k P Q xs ys a b last = record { exact = λ r. (there r, back r); apart = joined Apart xs ys a.apart b.apart cross; parts = parts }
   where
     there : (r : Row) → Contains (xs ++ ys) r → P r ⊎ Q r
@@ -288,7 +288,7 @@ module _ (s : Rows) where
   abbrev WithService : Row → Type 0
   WithService r = WithSpent r ⊎ IsServiceRow s r
 
-  abbrev OfAny : Row → Type 0
+  abbrev pub OfAny : Row → Type 0
   OfAny r = WithService r ⊎ outbox.HasRow (as_outbox s) r
 
   -- the rows of each part stand
@@ -371,33 +371,13 @@ module _ (s : Rows) where
   service (row.Cdr x) h = absurd h
   service (row.Command q x) h = absurd h
 
-  stands : (r : Row) → OfAny r → HasRow s r
+  pub stands : (r : Row) → OfAny r → HasRow s r
   stands r (inr h) = pushed r h
   stands r (inl (inr h)) = service r h
   stands r (inl (inl (inr h))) = spent r h
   stands r (inl (inl (inl (inr (n, is, same, some))))) = subst (HasRow s) (sym is) (same, some)
   stands r (inl (inl (inl (inl (inr h))))) = of_book r h
   stands r (inl (inl (inl (inl (inl h))))) = command r h
-
-  -- and each row that stands is of a part
-  of_part : (r : Row) → HasRow s r → OfAny r
-  of_part (row.Count counter.Serial n) h = inl (inl (inl (inr (n, refl, h.0, h.1))))
-  of_part (row.Count counter.Request n) h = inr h
-  of_part (row.Count counter.Session n) h = absurd h
-  of_part (row.Count counter.Cdr n) h = absurd h
-  of_part (row.Count counter.Reference n) h = absurd h
-  of_part (row.Reply p n x) h = inl (inl (inl (inl (inl h))))
-  of_part (row.Token x) h = absurd h
-  of_part (row.Push n to x) h = inr h
-  of_part (row.Service evse) h = inl (inr h)
-  of_part (row.Spent p reference) h = inl (inl (inr h))
-  of_part (row.Mark p id n) h = inl (inl (inl (inl (inr h))))
-  of_part (row.Reservation p id x) h = inl (inl (inl (inl (inr h))))
-  of_part (row.Pending p n x) h = inl (inl (inl (inl (inl h))))
-  of_part (row.Result p n x) h = inl (inl (inl (inl (inl h))))
-  of_part (row.Session x) h = absurd h
-  of_part (row.Cdr x) h = absurd h
-  of_part (row.Command n x) h = absurd h
 
   module _ (xs ys zs : List Row) where
     -- the rows of the books, and of the parts after them
@@ -410,9 +390,9 @@ module _ (s : Rows) where
     abbrev with_service : List Row
     with_service = with_spent ++ map service_row (entries s.out_of_service)
 
-    -- the rows of all parts, one after the other
-    pub all_rows : command_lists.AreRowsOf xs s.commands → booked.AreRowsOf ys s.booked → outbox_lists.AreRowsOf zs (as_outbox s) → AreRowsOf (((xs ++ ys) ++ other_rows s) ++ zs) s
-    all_rows a b c = subst (λ l. AreRowsOf (l ++ zs) s) regrouped (record { exact = λ r. (λ h. stands r ((all.exact r).0 h), λ h. (all.exact r).1 (of_part r h)); apart = all.apart })
+    -- the rows of these parts, one after the other
+    pub six_parts : command_lists.AreRowsOf xs s.commands → booked.AreRowsOf ys s.booked → outbox_lists.AreRowsOf zs (as_outbox s) → AreExactly 6 OfAny (((xs ++ ys) ++ other_rows s) ++ zs)
+    six_parts a b c = subst (λ l. AreExactly 6 OfAny (l ++ zs)) regrouped all
       where
         two : AreExactly 2 OfBooks (xs ++ ys)
         two = and_part 1 (commands.HasRow s.commands) (booked.HasRow s.booked) xs ys (of_commands xs a) (of_booked ys b) booked_part

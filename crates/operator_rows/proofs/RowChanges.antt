@@ -1,5 +1,5 @@
 -- Changes of different rows lead from the rows before them to those after them.
-use Rattle.std.proofs.Common.{suc, ◌≡◌, ◌≢◌, ◌↔◌, List, [], ◌∷◌, map, ◌⊎◌, inl, inr, refl, sym, ap, subst, ◌∙◌}
+use Rattle.std.proofs.Common.{suc, ◌≡◌, ◌≢◌, ◌↔◌, ℕ, List, [], ◌∷◌, map, ◌⊎◌, inl, inr, refl, sym, ap, subst, ◌∙◌}
 use Rattle.std.specs.Prelude.{Some, Contains, ⊤}
 use Rattle.std.specs.declared.cmp.Ordering.{Ordering}
 use Rattle.std.specs.Cmp.{IsTotalOrder, nat_cmp_total}
@@ -7,7 +7,12 @@ use Rattle.std.specs.FinMap.{FinMap, IsAntisymmetric, nat_cmp-IsAntisymmetric, g
 use Rattle.std.proofs.lemmas.List.Elements.{Contains-append_cases, Contains-append_right}
 use Rattle.tables.specs.Keys.{text_total, text_exact, text_number_total, text_number_exact, text_pair_total, text_pair_exact}
 use Rattle.tables.proofs.Maps.{get-insert_same, get-insert_other, of_remove, get-remove_other, told}
+use Rattle.ocpi_text.specs.Text.{key}
 use Rattle.ocpi_types.specs.Rows.{key_of}
+use Rattle.ocpi_types.specs.declared.cdrs.Cdr.{Cdr}
+use Rattle.ocpi_types.specs.declared.sessions.Session.{Session}
+use Rattle.token_desk.specs.Tokens.{token_key}
+use Rattle.token_desk.specs.TypeOrder.{tokens_total, tokens_exact}
 use Rattle.ocpi_types.specs.declared.rows.Row.{Row}
 use Rattle.ocpi_types.specs.declared.rows.Row.TheVariants as row
 use Rattle.ocpi_types.specs.declared.rows.RowKey.{RowKey}
@@ -19,37 +24,46 @@ use Rattle.tables.proofs.Elements.{in_none, in_single, in_front, of_map}
 use Rattle.operator_rows.specs.State.{Rows, State}
 use Rattle.operator_rows.specs.Stored.{put_row, drop_row, changed, changed_all, change_key, Each, AreApart}
 use Rattle.operator_rows.specs.Rows.{HasRow, AreChanges}
-use Rattle.operator_rows.specs.Sound.{MayPut, MayChangeAll, with_rows}
+use Rattle.operator_rows.specs.Sound.{IsSound, MayPut, MayDrop, MayChangeAll, with_rows}
+use Rattle.operator_rows.proofs.KeepingSound.{change_keeps_sound}
 
--- rows that an operator keeps: a counter has one once it gave a number
-abbrev pub IsStored : Row → Type 0
-IsStored (row.Count counter.Serial n) = n ≢ 0
-IsStored (row.Count counter.Request n) = n ≢ 0
-IsStored (row.Count counter.Session n) = ⊥
-IsStored (row.Count counter.Cdr n) = ⊥
-IsStored (row.Count counter.Reference n) = ⊥
-IsStored (row.Reply p n reply) = ⊤
-IsStored (row.Token t) = ⊥
-IsStored (row.Push n to push) = ⊤
-IsStored (row.Service evse) = ⊤
-IsStored (row.Spent p reference) = ⊤
-IsStored (row.Mark p id n) = ⊤
-IsStored (row.Reservation p id r) = ⊤
-IsStored (row.Pending p n o) = ⊤
-IsStored (row.Result p n x) = ⊤
-IsStored (row.Session x) = ⊥
-IsStored (row.Cdr x) = ⊥
-IsStored (row.Command n x) = ⊥
+-- rows that an operator keeps: a counter has one once it gave a number, and a session and a charge detail record are its own
+abbrev pub IsStored : List ℕ → Row → Type 0
+IsStored own (row.Count counter.Serial n) = n ≢ 0
+IsStored own (row.Count counter.Request n) = n ≢ 0
+IsStored own (row.Count counter.Session n) = n ≢ 0
+IsStored own (row.Count counter.Cdr n) = n ≢ 0
+IsStored own (row.Count counter.Reference n) = ⊥
+IsStored own (row.Reply p n reply) = ⊤
+IsStored own (row.Token t) = ⊤
+IsStored own (row.Push n to push) = ⊤
+IsStored own (row.Service evse) = ⊤
+IsStored own (row.Spent p reference) = ⊤
+IsStored own (row.Mark p id n) = ⊤
+IsStored own (row.Reservation p id r) = ⊤
+IsStored own (row.Pending p n o) = ⊤
+IsStored own (row.Result p n x) = ⊤
+IsStored own (row.Session x) = key x.party ≡ own
+IsStored own (row.Cdr x) = key x.party ≡ own
+IsStored own (row.Command n x) = ⊥
+
+-- all sessions and charge detail records are the operator's own
+pub record AreOwn (own : List ℕ) (s : Rows) : Type 0 where
+  pub sessions : (id : List ℕ) (v : Session) → get s.charged.sessions id ≡ Some v → key v.party ≡ own
+  pub cdrs : (id : List ℕ) (x : Cdr) → get s.charged.cdrs id ≡ Some x → key x.party ≡ own
+
+pub own_of : (s : State) → IsSound s → AreOwn (key s.party) s.rows
+own_of s h = record { sessions = λ id v has. (h.sessions id v has).own; cdrs = h.cdrs }
 
 -- a row that may be put is kept
-stored_of : (s : State) (r : Row) → MayPut s r → IsStored r
+pub stored_of : (s : State) (r : Row) → MayPut s r → IsStored (key s.party) r
 stored_of s (row.Count counter.Serial n) may = may
 stored_of s (row.Count counter.Request n) may = may.given
-stored_of s (row.Count counter.Session n) may = may
-stored_of s (row.Count counter.Cdr n) may = may
+stored_of s (row.Count counter.Session n) may = may.given
+stored_of s (row.Count counter.Cdr n) may = may.given
 stored_of s (row.Count counter.Reference n) may = may
 stored_of s (row.Reply p n reply) may = tt
-stored_of s (row.Token t) may = may
+stored_of s (row.Token t) may = tt
 stored_of s (row.Push n to push) may = tt
 stored_of s (row.Service evse) may = tt
 stored_of s (row.Spent p reference) may = tt
@@ -57,8 +71,8 @@ stored_of s (row.Mark p id n) may = tt
 stored_of s (row.Reservation p id r) may = tt
 stored_of s (row.Pending p n o) may = tt
 stored_of s (row.Result p n x) may = tt
-stored_of s (row.Session x) may = may
-stored_of s (row.Cdr x) may = may
+stored_of s (row.Session x) may = may.stands.own
+stored_of s (row.Cdr x) may = may.own
 stored_of s (row.Command n x) may = may
 
 -- one row is put: it stands, and all that stood under other keys
@@ -106,163 +120,172 @@ module _ (A : Type 0) where
   other_drop : (k : RowKey) (r : Row) → (key_of r ≢ k) → A ↔ (A × (key_of r ≢ k))
   other_drop k r apart = (λ h. (h, apart), λ h. h.0)
 
-puts : (x : Row) (s : Rows) → IsStored x → (r : Row) → Puts x s r
-puts (row.Count counter.Serial n) s some (row.Count counter.Serial m) = (
-  λ h. inl (ap (row.Count counter.Serial) (sym h.0)),
-  λ y. elim y [
-    | inl e ↦ let is : m ≡ n = cc in (sym is, λ zero. some (sym is ∙ zero))
-    | inr h ↦ absurd (h.1 refl)
-  ],
-)
-puts (row.Count counter.Serial n) s some (row.Count c m) = other_put (HasRow s (row.Count c m)) (row.Count counter.Serial n) (row.Count c m) (λ e. cc)
-puts (row.Count counter.Serial n) s some r = other_put (HasRow s r) (row.Count counter.Serial n) r (λ e. cc)
-puts (row.Count counter.Request n) s some (row.Count counter.Request m) = (
-  λ h. inl (ap (row.Count counter.Request) (sym h.0)),
-  λ y. elim y [
-    | inl e ↦ let is : m ≡ n = cc in (sym is, λ zero. some (sym is ∙ zero))
-    | inr h ↦ absurd (h.1 refl)
-  ],
-)
-puts (row.Count counter.Request n) s some (row.Count c m) = other_put (HasRow s (row.Count c m)) (row.Count counter.Request n) (row.Count c m) (λ e. cc)
-puts (row.Count counter.Request n) s some r = other_put (HasRow s r) (row.Count counter.Request n) r (λ e. cc)
-puts (row.Count counter.Session n) s some r = absurd some
-puts (row.Count counter.Cdr n) s some r = absurd some
-puts (row.Count counter.Reference n) s some r = absurd some
-puts (row.Reply p n v) s some (row.Reply q m b) =
-    of_put (put_one text_number_total text_number_exact s.commands.replies (p, n) v (q, m) b)
-    (λ h. λ i. row.Reply (h.0 i).0 (h.0 i).1 (h.1 i))
-    (λ e. let a : q ≡ p = cc in let d : m ≡ n = cc in let f : b ≡ v = cc in (λ i. (a i, d i), f))
-    (λ apart e. let a : q ≡ p = cc in let d : m ≡ n = cc in apart (λ i. (a i, d i)))
-    (λ apart e. apart (λ i. keys.Reply (e i).0 (e i).1))
-puts (row.Reply p n v) s some r = other_put (HasRow s r) (row.Reply p n v) r (λ e. cc)
-puts (row.Pending p n v) s some (row.Pending q m b) =
-    of_put (put_one text_number_total text_number_exact s.commands.pending (p, n) v (q, m) b)
-    (λ h. λ i. row.Pending (h.0 i).0 (h.0 i).1 (h.1 i))
-    (λ e. let a : q ≡ p = cc in let d : m ≡ n = cc in let f : b ≡ v = cc in (λ i. (a i, d i), f))
-    (λ apart e. let a : q ≡ p = cc in let d : m ≡ n = cc in apart (λ i. (a i, d i)))
-    (λ apart e. apart (λ i. keys.Pending (e i).0 (e i).1))
-puts (row.Pending p n v) s some r = other_put (HasRow s r) (row.Pending p n v) r (λ e. cc)
-puts (row.Result p n v) s some (row.Result q m b) =
-    of_put (put_one text_number_total text_number_exact s.commands.results (p, n) v (q, m) b)
-    (λ h. λ i. row.Result (h.0 i).0 (h.0 i).1 (h.1 i))
-    (λ e. let a : q ≡ p = cc in let d : m ≡ n = cc in let f : b ≡ v = cc in (λ i. (a i, d i), f))
-    (λ apart e. let a : q ≡ p = cc in let d : m ≡ n = cc in apart (λ i. (a i, d i)))
-    (λ apart e. apart (λ i. keys.Result (e i).0 (e i).1))
-puts (row.Result p n v) s some r = other_put (HasRow s r) (row.Result p n v) r (λ e. cc)
-puts (row.Mark p id v) s some (row.Mark q j b) =
-    of_put (put_one text_pair_total text_pair_exact s.booked.marks (p, id) v (q, j) b)
-    (λ h. λ i. row.Mark (h.0 i).0 (h.0 i).1 (h.1 i))
-    (λ e. let a : q ≡ p = cc in let d : j ≡ id = cc in let f : b ≡ v = cc in (λ i. (a i, d i), f))
-    (λ apart e. let a : q ≡ p = cc in let d : j ≡ id = cc in apart (λ i. (a i, d i)))
-    (λ apart e. apart (λ i. keys.Mark (e i).0 (e i).1))
-puts (row.Mark p id v) s some r = other_put (HasRow s r) (row.Mark p id v) r (λ e. cc)
-puts (row.Reservation p id v) s some (row.Reservation q j b) =
-    of_put (put_one text_pair_total text_pair_exact s.booked.reservations (p, id) v (q, j) b)
-    (λ h. λ i. row.Reservation (h.0 i).0 (h.0 i).1 (h.1 i))
-    (λ e. let a : q ≡ p = cc in let d : j ≡ id = cc in let f : b ≡ v = cc in (λ i. (a i, d i), f))
-    (λ apart e. let a : q ≡ p = cc in let d : j ≡ id = cc in apart (λ i. (a i, d i)))
-    (λ apart e. apart (λ i. keys.Reservation (e i).0 (e i).1))
-puts (row.Reservation p id v) s some r = other_put (HasRow s r) (row.Reservation p id v) r (λ e. cc)
-puts (row.Push n to v) s some (row.Push m at b) =
-    of_put (put_one nat_cmp_total nat_cmp-IsAntisymmetric s.pushes n (record { to = to; push = v }) m (record { to = at; push = b }))
-    (λ h. λ i. row.Push (h.0 i) (h.1 i).to (h.1 i).push)
-    (λ e. let a : m ≡ n = cc in let d : at ≡ to = cc in let f : b ≡ v = cc in (a, λ i. record { to = d i; push = f i }))
-    (λ apart e. let a : m ≡ n = cc in apart a)
-    (λ apart e. apart (ap keys.Push e))
-puts (row.Push n to v) s some r = other_put (HasRow s r) (row.Push n to v) r (λ e. cc)
-puts (row.Spent p id) s some (row.Spent q j) =
-    of_put (put_one text_pair_total text_pair_exact s.spent (p, id) tt (q, j) tt)
-    (λ h. λ i. row.Spent (h.0 i).0 (h.0 i).1)
-    (λ e. let a : q ≡ p = cc in let d : j ≡ id = cc in (λ i. (a i, d i), refl))
-    (λ apart e. let a : q ≡ p = cc in let d : j ≡ id = cc in apart (λ i. (a i, d i)))
-    (λ apart e. apart (λ i. keys.Spent (e i).0 (e i).1))
-puts (row.Spent p id) s some r = other_put (HasRow s r) (row.Spent p id) r (λ e. cc)
-puts (row.Service evse) s some (row.Service at) =
-    of_put (put_one text_total text_exact s.out_of_service evse tt at tt)
-    (λ h. ap row.Service h.0)
-    (λ e. let a : at ≡ evse = cc in (a, refl))
-    (λ apart e. let a : at ≡ evse = cc in apart a)
-    (λ apart e. apart (ap keys.Service e))
-puts (row.Service evse) s some r = other_put (HasRow s r) (row.Service evse) r (λ e. cc)
-puts (row.Token t) s some r = absurd some
-puts (row.Session x) s some r = absurd some
-puts (row.Cdr x) s some r = absurd some
-puts (row.Command n x) s some r = absurd some
+module _ (own : List ℕ) where
+  puts : (x : Row) (s : Rows) → IsStored own x → AreOwn own s → (r : Row) → Puts x s r
+  puts (row.Count counter.Serial n) s some all (row.Count counter.Serial m) = (
+    λ h. inl (ap (row.Count counter.Serial) (sym h.0)),
+    λ y. elim y [
+      | inl e ↦ let is : m ≡ n = cc in (sym is, λ zero. some (sym is ∙ zero))
+      | inr h ↦ absurd (h.1 refl)
+    ],
+  )
+  puts (row.Count counter.Serial n) s some all (row.Count c m) = other_put (HasRow s (row.Count c m)) (row.Count counter.Serial n) (row.Count c m) (λ e. cc)
+  puts (row.Count counter.Serial n) s some all r = other_put (HasRow s r) (row.Count counter.Serial n) r (λ e. cc)
+  puts (row.Count counter.Request n) s some all (row.Count counter.Request m) = (
+    λ h. inl (ap (row.Count counter.Request) (sym h.0)),
+    λ y. elim y [
+      | inl e ↦ let is : m ≡ n = cc in (sym is, λ zero. some (sym is ∙ zero))
+      | inr h ↦ absurd (h.1 refl)
+    ],
+  )
+  puts (row.Count counter.Request n) s some all (row.Count c m) = other_put (HasRow s (row.Count c m)) (row.Count counter.Request n) (row.Count c m) (λ e. cc)
+  puts (row.Count counter.Request n) s some all r = other_put (HasRow s r) (row.Count counter.Request n) r (λ e. cc)
+  puts (row.Count counter.Session n) s some all (row.Count counter.Session m) = (
+    λ h. inl (ap (row.Count counter.Session) (sym h.0)),
+    λ y. elim y [
+      | inl e ↦ let is : m ≡ n = cc in (sym is, λ zero. some (sym is ∙ zero))
+      | inr h ↦ absurd (h.1 refl)
+    ],
+  )
+  puts (row.Count counter.Session n) s some all (row.Count c m) = other_put (HasRow s (row.Count c m)) (row.Count counter.Session n) (row.Count c m) (λ e. cc)
+  puts (row.Count counter.Session n) s some all r = other_put (HasRow s r) (row.Count counter.Session n) r (λ e. cc)
+  puts (row.Count counter.Cdr n) s some all (row.Count counter.Cdr m) = (
+    λ h. inl (ap (row.Count counter.Cdr) (sym h.0)),
+    λ y. elim y [
+      | inl e ↦ let is : m ≡ n = cc in (sym is, λ zero. some (sym is ∙ zero))
+      | inr h ↦ absurd (h.1 refl)
+    ],
+  )
+  puts (row.Count counter.Cdr n) s some all (row.Count c m) = other_put (HasRow s (row.Count c m)) (row.Count counter.Cdr n) (row.Count c m) (λ e. cc)
+  puts (row.Count counter.Cdr n) s some all r = other_put (HasRow s r) (row.Count counter.Cdr n) r (λ e. cc)
+  puts (row.Count counter.Reference n) s some all r = absurd some
+  puts (row.Reply p n v) s some all (row.Reply q m b) =
+      of_put (put_one text_number_total text_number_exact s.commands.replies (p, n) v (q, m) b)
+      (λ h. λ i. row.Reply (h.0 i).0 (h.0 i).1 (h.1 i))
+      (λ e. let a : q ≡ p = cc in let d : m ≡ n = cc in let f : b ≡ v = cc in (λ i. (a i, d i), f))
+      (λ apart e. let a : q ≡ p = cc in let d : m ≡ n = cc in apart (λ i. (a i, d i)))
+      (λ apart e. apart (λ i. keys.Reply (e i).0 (e i).1))
+  puts (row.Reply p n v) s some all r = other_put (HasRow s r) (row.Reply p n v) r (λ e. cc)
+  puts (row.Pending p n v) s some all (row.Pending q m b) =
+      of_put (put_one text_number_total text_number_exact s.commands.pending (p, n) v (q, m) b)
+      (λ h. λ i. row.Pending (h.0 i).0 (h.0 i).1 (h.1 i))
+      (λ e. let a : q ≡ p = cc in let d : m ≡ n = cc in let f : b ≡ v = cc in (λ i. (a i, d i), f))
+      (λ apart e. let a : q ≡ p = cc in let d : m ≡ n = cc in apart (λ i. (a i, d i)))
+      (λ apart e. apart (λ i. keys.Pending (e i).0 (e i).1))
+  puts (row.Pending p n v) s some all r = other_put (HasRow s r) (row.Pending p n v) r (λ e. cc)
+  puts (row.Result p n v) s some all (row.Result q m b) =
+      of_put (put_one text_number_total text_number_exact s.commands.results (p, n) v (q, m) b)
+      (λ h. λ i. row.Result (h.0 i).0 (h.0 i).1 (h.1 i))
+      (λ e. let a : q ≡ p = cc in let d : m ≡ n = cc in let f : b ≡ v = cc in (λ i. (a i, d i), f))
+      (λ apart e. let a : q ≡ p = cc in let d : m ≡ n = cc in apart (λ i. (a i, d i)))
+      (λ apart e. apart (λ i. keys.Result (e i).0 (e i).1))
+  puts (row.Result p n v) s some all r = other_put (HasRow s r) (row.Result p n v) r (λ e. cc)
+  puts (row.Mark p id v) s some all (row.Mark q j b) =
+      of_put (put_one text_pair_total text_pair_exact s.booked.marks (p, id) v (q, j) b)
+      (λ h. λ i. row.Mark (h.0 i).0 (h.0 i).1 (h.1 i))
+      (λ e. let a : q ≡ p = cc in let d : j ≡ id = cc in let f : b ≡ v = cc in (λ i. (a i, d i), f))
+      (λ apart e. let a : q ≡ p = cc in let d : j ≡ id = cc in apart (λ i. (a i, d i)))
+      (λ apart e. apart (λ i. keys.Mark (e i).0 (e i).1))
+  puts (row.Mark p id v) s some all r = other_put (HasRow s r) (row.Mark p id v) r (λ e. cc)
+  puts (row.Reservation p id v) s some all (row.Reservation q j b) =
+      of_put (put_one text_pair_total text_pair_exact s.booked.reservations (p, id) v (q, j) b)
+      (λ h. λ i. row.Reservation (h.0 i).0 (h.0 i).1 (h.1 i))
+      (λ e. let a : q ≡ p = cc in let d : j ≡ id = cc in let f : b ≡ v = cc in (λ i. (a i, d i), f))
+      (λ apart e. let a : q ≡ p = cc in let d : j ≡ id = cc in apart (λ i. (a i, d i)))
+      (λ apart e. apart (λ i. keys.Reservation (e i).0 (e i).1))
+  puts (row.Reservation p id v) s some all r = other_put (HasRow s r) (row.Reservation p id v) r (λ e. cc)
+  puts (row.Push n to v) s some all (row.Push m at b) =
+      of_put (put_one nat_cmp_total nat_cmp-IsAntisymmetric s.pushes n (record { to = to; push = v }) m (record { to = at; push = b }))
+      (λ h. λ i. row.Push (h.0 i) (h.1 i).to (h.1 i).push)
+      (λ e. let a : m ≡ n = cc in let d : at ≡ to = cc in let f : b ≡ v = cc in (a, λ i. record { to = d i; push = f i }))
+      (λ apart e. let a : m ≡ n = cc in apart a)
+      (λ apart e. apart (ap keys.Push e))
+  puts (row.Push n to v) s some all r = other_put (HasRow s r) (row.Push n to v) r (λ e. cc)
+  puts (row.Spent p id) s some all (row.Spent q j) =
+      of_put (put_one text_pair_total text_pair_exact s.spent (p, id) tt (q, j) tt)
+      (λ h. λ i. row.Spent (h.0 i).0 (h.0 i).1)
+      (λ e. let a : q ≡ p = cc in let d : j ≡ id = cc in (λ i. (a i, d i), refl))
+      (λ apart e. let a : q ≡ p = cc in let d : j ≡ id = cc in apart (λ i. (a i, d i)))
+      (λ apart e. apart (λ i. keys.Spent (e i).0 (e i).1))
+  puts (row.Spent p id) s some all r = other_put (HasRow s r) (row.Spent p id) r (λ e. cc)
+  puts (row.Service evse) s some all (row.Service at) =
+      of_put (put_one text_total text_exact s.out_of_service evse tt at tt)
+      (λ h. ap row.Service h.0)
+      (λ e. let a : at ≡ evse = cc in (a, refl))
+      (λ apart e. let a : at ≡ evse = cc in apart a)
+      (λ apart e. apart (ap keys.Service e))
+  puts (row.Service evse) s some all r = other_put (HasRow s r) (row.Service evse) r (λ e. cc)
+  puts (row.Token t) s some all (row.Token u) =
+      of_put (put_one tokens_total tokens_exact s.tokens (token_key t) t (token_key u) u)
+      (λ h. ap row.Token h.1)
+      (λ e. let is : u ≡ t = cc in (ap token_key is, is))
+      (λ apart e. let a : key u.party ≡ key t.party = cc in let b : u.token_type ≡ t.token_type = cc in let d : key u.uid ≡ key t.uid = cc in apart (λ i. ((b i, d i), a i)))
+      (λ apart e. apart (λ i. keys.Token (e i).1 (e i).0.0 (e i).0.1))
+  puts (row.Token t) s some all r = other_put (HasRow s r) (row.Token t) r (λ e. cc)
+  puts (row.Session v) s some all (row.Session x) = (
+    λ h. elim ((put_one text_total text_exact s.charged.sessions (key v.id) v (key x.id) x).0 h) [
+      | inl new ↦ inl (ap row.Session new.1)
+      | inr was ↦ inr (was.0, λ e. let a : key x.id ≡ key v.id = cc in was.1 a)
+    ],
+    λ y. elim y [
+      | inl e ↦ (put_one text_total text_exact s.charged.sessions (key v.id) v (key x.id) x).1 (inl (let is : x ≡ v = cc in (ap (λ (z : Session). key z.id) is, is)))
+      | inr h ↦ (put_one text_total text_exact s.charged.sessions (key v.id) v (key x.id) x).1 (inr (h.0, λ same. h.1 (λ i. keys.Session ((all.sessions (key x.id) x h.0 ∙ sym some) i) (same i))))
+    ],
+  )
+  puts (row.Session v) s some all r = other_put (HasRow s r) (row.Session v) r (λ e. cc)
+  puts (row.Cdr v) s some all (row.Cdr x) = (
+    λ h. elim ((put_one text_total text_exact s.charged.cdrs (key v.id) v (key x.id) x).0 h) [
+      | inl new ↦ inl (ap row.Cdr new.1)
+      | inr was ↦ inr (was.0, λ e. let a : key x.id ≡ key v.id = cc in was.1 a)
+    ],
+    λ y. elim y [
+      | inl e ↦ (put_one text_total text_exact s.charged.cdrs (key v.id) v (key x.id) x).1 (inl (let is : x ≡ v = cc in (ap (λ (z : Cdr). key z.id) is, is)))
+      | inr h ↦ (put_one text_total text_exact s.charged.cdrs (key v.id) v (key x.id) x).1 (inr (h.0, λ same. h.1 (λ i. keys.Cdr ((all.cdrs (key x.id) x h.0 ∙ sym some) i) (same i))))
+    ],
+  )
+  puts (row.Cdr v) s some all r = other_put (HasRow s r) (row.Cdr v) r (λ e. cc)
+  puts (row.Command n x) s some all r = absurd some
 
-drops : (k : RowKey) (s : Rows) (r : Row) → Drops k s r
-drops (keys.Count counter.Serial) s (row.Count counter.Serial m) = (λ h. absurd (h.1 (sym h.0)), λ h. absurd (h.1 refl))
-drops (keys.Count counter.Serial) s (row.Count c m) = other_drop (HasRow s (row.Count c m)) (keys.Count counter.Serial) (row.Count c m) (λ e. cc)
-drops (keys.Count counter.Serial) s r = other_drop (HasRow s r) (keys.Count counter.Serial) r (λ e. cc)
-drops (keys.Count counter.Request) s (row.Count counter.Request m) = (λ h. absurd (h.1 (sym h.0)), λ h. absurd (h.1 refl))
-drops (keys.Count counter.Request) s (row.Count c m) = other_drop (HasRow s (row.Count c m)) (keys.Count counter.Request) (row.Count c m) (λ e. cc)
-drops (keys.Count counter.Request) s r = other_drop (HasRow s r) (keys.Count counter.Request) r (λ e. cc)
-drops (keys.Count counter.Session) s (row.Count counter.Session m) = (λ h. absurd h, λ h. h.0)
-drops (keys.Count counter.Session) s (row.Count c m) = other_drop (HasRow s (row.Count c m)) (keys.Count counter.Session) (row.Count c m) (λ e. cc)
-drops (keys.Count counter.Session) s r = other_drop (HasRow s r) (keys.Count counter.Session) r (λ e. cc)
-drops (keys.Count counter.Cdr) s (row.Count counter.Cdr m) = (λ h. absurd h, λ h. h.0)
-drops (keys.Count counter.Cdr) s (row.Count c m) = other_drop (HasRow s (row.Count c m)) (keys.Count counter.Cdr) (row.Count c m) (λ e. cc)
-drops (keys.Count counter.Cdr) s r = other_drop (HasRow s r) (keys.Count counter.Cdr) r (λ e. cc)
-drops (keys.Count counter.Reference) s (row.Count counter.Reference m) = (λ h. absurd h, λ h. h.0)
-drops (keys.Count counter.Reference) s (row.Count c m) = other_drop (HasRow s (row.Count c m)) (keys.Count counter.Reference) (row.Count c m) (λ e. cc)
-drops (keys.Count counter.Reference) s r = other_drop (HasRow s r) (keys.Count counter.Reference) r (λ e. cc)
-drops (keys.Reply p n) s (row.Reply q m b) =
-    of_drop (drop_one text_number_total text_number_exact s.commands.replies (p, n) (q, m) b)
-    (λ apart e. let a : q ≡ p = cc in let d : m ≡ n = cc in apart (λ i. (a i, d i)))
-    (λ apart e. apart (λ i. keys.Reply (e i).0 (e i).1))
-drops (keys.Reply p n) s r = other_drop (HasRow s r) (keys.Reply p n) r (λ e. cc)
-drops (keys.Pending p n) s (row.Pending q m b) =
+drops : (t : State) (k : RowKey) → MayDrop t k → (s : Rows) (r : Row) → Drops k s r
+drops t (keys.Pending p n) may s (row.Pending q m b) =
     of_drop (drop_one text_number_total text_number_exact s.commands.pending (p, n) (q, m) b)
     (λ apart e. let a : q ≡ p = cc in let d : m ≡ n = cc in apart (λ i. (a i, d i)))
     (λ apart e. apart (λ i. keys.Pending (e i).0 (e i).1))
-drops (keys.Pending p n) s r = other_drop (HasRow s r) (keys.Pending p n) r (λ e. cc)
-drops (keys.Result p n) s (row.Result q m b) =
-    of_drop (drop_one text_number_total text_number_exact s.commands.results (p, n) (q, m) b)
-    (λ apart e. let a : q ≡ p = cc in let d : m ≡ n = cc in apart (λ i. (a i, d i)))
-    (λ apart e. apart (λ i. keys.Result (e i).0 (e i).1))
-drops (keys.Result p n) s r = other_drop (HasRow s r) (keys.Result p n) r (λ e. cc)
-drops (keys.Mark p id) s (row.Mark q j b) =
-    of_drop (drop_one text_pair_total text_pair_exact s.booked.marks (p, id) (q, j) b)
-    (λ apart e. let a : q ≡ p = cc in let d : j ≡ id = cc in apart (λ i. (a i, d i)))
-    (λ apart e. apart (λ i. keys.Mark (e i).0 (e i).1))
-drops (keys.Mark p id) s r = other_drop (HasRow s r) (keys.Mark p id) r (λ e. cc)
-drops (keys.Reservation p id) s (row.Reservation q j b) =
+drops t (keys.Pending p n) may s r = other_drop (HasRow s r) (keys.Pending p n) r (λ e. cc)
+drops t (keys.Reservation p id) may s (row.Reservation q j b) =
     of_drop (drop_one text_pair_total text_pair_exact s.booked.reservations (p, id) (q, j) b)
     (λ apart e. let a : q ≡ p = cc in let d : j ≡ id = cc in apart (λ i. (a i, d i)))
     (λ apart e. apart (λ i. keys.Reservation (e i).0 (e i).1))
-drops (keys.Reservation p id) s r = other_drop (HasRow s r) (keys.Reservation p id) r (λ e. cc)
-drops (keys.Push n) s (row.Push m at b) =
+drops t (keys.Reservation p id) may s r = other_drop (HasRow s r) (keys.Reservation p id) r (λ e. cc)
+drops t (keys.Push n) may s (row.Push m at b) =
     of_drop (drop_one nat_cmp_total nat_cmp-IsAntisymmetric s.pushes n m (record { to = at; push = b }))
     (λ apart e. let a : m ≡ n = cc in apart a)
     (λ apart e. apart (ap keys.Push e))
-drops (keys.Push n) s r = other_drop (HasRow s r) (keys.Push n) r (λ e. cc)
-drops (keys.Spent p id) s (row.Spent q j) =
-    of_drop (drop_one text_pair_total text_pair_exact s.spent (p, id) (q, j) tt)
-    (λ apart e. let a : q ≡ p = cc in let d : j ≡ id = cc in apart (λ i. (a i, d i)))
-    (λ apart e. apart (λ i. keys.Spent (e i).0 (e i).1))
-drops (keys.Spent p id) s r = other_drop (HasRow s r) (keys.Spent p id) r (λ e. cc)
-drops (keys.Service evse) s (row.Service at) =
+drops t (keys.Push n) may s r = other_drop (HasRow s r) (keys.Push n) r (λ e. cc)
+drops t (keys.Service evse) may s (row.Service at) =
     of_drop (drop_one text_total text_exact s.out_of_service evse at tt)
     (λ apart e. let a : at ≡ evse = cc in apart a)
     (λ apart e. apart (ap keys.Service e))
-drops (keys.Service evse) s r = other_drop (HasRow s r) (keys.Service evse) r (λ e. cc)
-drops (keys.Token p t u) s (row.Token x) = (λ h. absurd h, λ h. h.0)
-drops (keys.Token p t u) s r = other_drop (HasRow s r) (keys.Token p t u) r (λ e. cc)
-drops (keys.Session p id) s (row.Session x) = (λ h. absurd h, λ h. h.0)
-drops (keys.Session p id) s r = other_drop (HasRow s r) (keys.Session p id) r (λ e. cc)
-drops (keys.Cdr p id) s (row.Cdr x) = (λ h. absurd h, λ h. h.0)
-drops (keys.Cdr p id) s r = other_drop (HasRow s r) (keys.Cdr p id) r (λ e. cc)
-drops (keys.Command n) s (row.Command m x) = (λ h. absurd h, λ h. h.0)
-drops (keys.Command n) s r = other_drop (HasRow s r) (keys.Command n) r (λ e. cc)
+drops t (keys.Service evse) may s r = other_drop (HasRow s r) (keys.Service evse) r (λ e. cc)
+drops t (keys.Count c) may s r = absurd may
+drops t (keys.Reply p n) may s r = absurd may
+drops t (keys.Token p k u) may s r = absurd may
+drops t (keys.Spent p reference) may s r = absurd may
+drops t (keys.Mark p id) may s r = absurd may
+drops t (keys.Result p n) may s r = absurd may
+drops t (keys.Session p id) may s r = absurd may
+drops t (keys.Cdr p id) may s r = absurd may
+drops t (keys.Command n) may s r = absurd may
 
 -- one change: what stands is what was put, and what stood under other keys
 abbrev pub One : Change → Rows → Type 0
 One c s = (r : Row) → HasRow (changed c s) r ↔ ((c ≡ Put r) ⊎ (HasRow s r × (key_of r ≢ change_key c)))
 
-pub one_put : (x : Row) (s : Rows) → IsStored x → One (Put x) s
-one_put x s stored r = of_put (puts x s stored r) (λ e. ap Put (sym e)) (λ e. let is : r ≡ x = cc in is) (λ a. a) (λ a. a)
+pub one_put : (x : Row) (s : State) → IsSound s → MayPut s x → One (Put x) s.rows
+one_put x s sound may r = of_put (puts (key s.party) x s.rows (stored_of s x may) (own_of s sound) r) (λ e. ap Put (sym e)) (λ e. let is : r ≡ x = cc in is) (λ a. a) (λ a. a)
 
-pub one_drop : (k : RowKey) (s : Rows) → One (Drop k) s
-one_drop k s r = (λ h. inr ((drops k s r).0 h), λ y. elim y [ inl e ↦ absurd (cc) | inr h ↦ (drops k s r).1 h ])
+pub one_drop : (k : RowKey) (s : State) → MayDrop s k → One (Drop k) s.rows
+one_drop k s may r = (λ h. inr ((drops s k may s.rows r).0 h), λ y. elim y [ inl e ↦ absurd (cc) | inr h ↦ (drops s k may s.rows r).1 h ])
 
 module _ {X : Type 0} where
   pub of_cons : (x : X) (xs : List X) (y : X) → Contains (x ∷ xs) y → (x ≡ y) ⊎ Contains xs y
@@ -305,9 +328,11 @@ then_changes c cs s t one apart rest r = (there, back)
     ))
 
 -- changes of different rows that may be made, carried out in order
-pub row_changes : (cs : List Change) (s : State) → AreApart cs → MayChangeAll s cs → AreChanges s.rows cs (changed_all cs s.rows)
-row_changes [] s apart may = no_change s.rows
-row_changes (Put x ∷ cs) s apart may =
-    then_changes (Put x) cs s.rows (changed_all cs (put_row x s.rows)) (one_put x s.rows (stored_of s x may.0)) apart.0 (row_changes cs (with_rows (put_row x s.rows) s) apart.1 may.1)
-row_changes (Drop k ∷ cs) s apart may =
-    then_changes (Drop k) cs s.rows (changed_all cs (drop_row k s.rows)) (one_drop k s.rows) apart.0 (row_changes cs (with_rows (drop_row k s.rows) s) apart.1 may.1)
+pub row_changes : (cs : List Change) (s : State) → IsSound s → AreApart cs → MayChangeAll s cs → AreChanges s.rows cs (changed_all cs s.rows)
+row_changes [] s sound apart may = no_change s.rows
+row_changes (Put x ∷ cs) s sound apart may =
+    then_changes (Put x) cs s.rows (changed_all cs (put_row x s.rows)) (one_put x s sound may.0) apart.0
+    (row_changes cs (with_rows (put_row x s.rows) s) (change_keeps_sound s sound (Put x) may.0) apart.1 may.1)
+row_changes (Drop k ∷ cs) s sound apart may =
+    then_changes (Drop k) cs s.rows (changed_all cs (drop_row k s.rows)) (one_drop k s may.0) apart.0
+    (row_changes cs (with_rows (drop_row k s.rows) s) (change_keeps_sound s sound (Drop k) may.0) apart.1 may.1)

@@ -14,6 +14,8 @@ use Rattle.ocpi_types.specs.declared.rows.RowKey.{RowKey}
 use Rattle.ocpi_types.specs.declared.rows.RowKey.TheVariants as keys
 use Rattle.ocpi_types.specs.declared.rows.Change.{Change}
 use Rattle.ocpi_types.specs.declared.rows.Change.TheVariants.{Put, Drop}
+use Rattle.authorization_book.specs.Waits as waits
+use Rattle.authorization_book.specs.Waits.{HaveRoomForAll}
 use Rattle.outbox.specs.Outbox.{HeldOutbox, request_of, without, released_of, given_back_of}
 use Rattle.outbox.specs.Pushes.{Pushes}
 use Rattle.outbox.specs.Resend.{Resend, Moments, SendRooms, HasRoomUntil, KeepsSendRoom, due_again, unqueued, released, given_back}
@@ -24,8 +26,8 @@ use Rattle.node_steps.specs.declared.plan.Volatile.{Volatile}
 use Rattle.node_steps.specs.declared.plan.Volatile.TheVariants.{Sent}
 use Rattle.operator_rows.specs.State.{State}
 use Rattle.operator_rows.specs.Stored.{AreApart, Each, HasRoom, changed_all, change_key}
-use Rattle.operator_rows.specs.Sound.{MayPut, MayDrop}
-use Rattle.operator_rows.specs.Steps.{Node, HasRoomFor, KeepsTime, KeepsTimeRoom, Outlasts, MayFollow, HasTimeRoom, HaveTimeRoom, AreSendable, number_of, time_taken, untimed}
+use Rattle.operator_rows.specs.Sound.{IsSound, MayPut, MayDrop}
+use Rattle.operator_rows.specs.Steps.{FullStep, Node, HasFullRoomFor, HasRoomFor, KeepsTime, KeepsTimeRoom, Outlasts, MayFollow, HasTimeRoom, HaveTimeRoom, AreSendable, number_of, time_taken, untimed}
 use Rattle.operator_rows.proofs.RowChanges.{row_changes, of_cons, each_of}
 
 -- the room of another number stays where a number is taken out
@@ -135,13 +137,13 @@ sole_change (x ∷ xs) apart c d i j same = elim (of_cons x xs c i) [
 ]
 
 -- what a step sends outlasts its changes
-pub step_outlasts : (s : State) (x : Step) → MayFollow s x → (v : Volatile) → Contains x.volatile v → Outlasts s.resend x.changes (number_of v)
-step_outlasts s x may v i = record { undropped = undropped; kept = may.sends.kept v i }
+pub step_outlasts : (s : State) (x : Step) → IsSound s → MayFollow s x → (v : Volatile) → Contains x.volatile v → Outlasts s.resend x.changes (number_of v)
+step_outlasts s x sound may v i = record { undropped = undropped; kept = may.sends.kept v i }
   where
     undropped : ¬ Contains x.changes (Drop (keys.Push (number_of v)))
     undropped dropped =
         let stands : (o : Outgoing) × (get (changed_all x.changes s.rows).pushes (number_of v) ≡ Some o) = has_some (get (changed_all x.changes s.rows).pushes (number_of v)) (may.sends.stands v i) in
-        elim ((row_changes x.changes s may.apart may.may (row.Push (number_of v) stands.0.to stands.0.push)).0 stands.1) [
+        elim ((row_changes x.changes s sound may.apart may.may (row.Push (number_of v) stands.0.to stands.0.push)).0 stands.1) [
           | inl put ↦
               let same : Put (row.Push (number_of v) stands.0.to stands.0.push) ≡ Drop (keys.Push (number_of v)) = sole_change x.changes may.apart (Put (row.Push (number_of v) stands.0.to stands.0.push)) (Drop (keys.Push (number_of v))) put dropped refl in
               absurd (cc)
@@ -149,8 +151,8 @@ step_outlasts s x may v i = record { undropped = undropped; kept = may.sends.kep
         ]
 
 -- so there is room to send it once they are made
-pub step_room : (s : State) (x : Step) → MayFollow s x → (m t : SendRooms) → KeepsTimeRoom s.resend x.changes m t → HaveTimeRoom m x.volatile → HaveTimeRoom t x.volatile
-step_room s x may m t keeps had v i = by_variant v (had v i) (step_outlasts s x may v i)
+pub step_room : (s : State) (x : Step) → IsSound s → MayFollow s x → (m t : SendRooms) → KeepsTimeRoom s.resend x.changes m t → HaveTimeRoom m x.volatile → HaveTimeRoom t x.volatile
+step_room s x sound may m t keeps had v i = by_variant v (had v i) (step_outlasts s x sound may v i)
   where
     by_variant : (v : Volatile) → HasTimeRoom m v → Outlasts s.resend x.changes (number_of v) → HasTimeRoom t v
     by_variant (Sent n at) room outlasts = keeps n (due_again at) outlasts room
@@ -196,9 +198,18 @@ module _ (v : Volatile) (rest : List Volatile) where
 
 -- room for the changes, and then for what is sent
 pub room_for : {E : Type 0} (b : Node) (o : HeldOutbox) (x : Step) (r : Result (Unit {0}) E) → o.rooms ≡ b.rooms.outbox → Each (HasRoom b.rooms) x.changes → OnOk r (HaveTimeRoom o.sending x.volatile) →
-    (state : State) → OnOk r (HasRoomFor (record { state = state; rooms = record b.rooms { outbox = o.rooms }; sending = o.sending }) x)
-room_for b o x (Err e) rooms made sent state = tt
-room_for b o x (Ok u) rooms made sent state = record {
+    (state : State) (w : waits.Rooms) → OnOk r (HasRoomFor (record { state = state; rooms = record b.rooms { outbox = o.rooms }; sending = o.sending; waiting = w }) x)
+room_for b o x (Err e) rooms made sent state w = tt
+room_for b o x (Ok u) rooms made sent state w = record {
   changes = subst (λ m. Each (HasRoom (record b.rooms { outbox = m })) x.changes) (sym rooms) made;
   volatile = sent;
 }
+
+-- a step has room where the same room is taken
+pub same_room : (a b : Node) (x : Step) → b.rooms ≡ a.rooms → b.sending ≡ a.sending → HasRoomFor a x → HasRoomFor b x
+same_room a b x rooms sending h = record { changes = subst (λ m. Each (HasRoom m) x.changes) (sym rooms) h.changes; volatile = subst (λ m. HaveTimeRoom m x.volatile) (sym sending) h.volatile }
+
+-- room for what is awaited, and then for the step
+pub full_room : {E : Type 0} (r : Result (Unit {0}) E) (b : Node) (x : FullStep) → OnOk r (HasRoomFor b x.step) → HaveRoomForAll b.waiting x.waits → OnOk r (HasFullRoomFor b x)
+full_room (Err e) b x step waits = tt
+full_room (Ok u) b x step waits = record { step = step; waits = waits }

@@ -4,13 +4,17 @@ use Rattle.std.specs.FinMap.{get, insert, remove}
 use Rattle.ocpi_types.specs.declared.rows.RowKey.{RowKey}
 use Rattle.ocpi_types.specs.declared.rows.RowKey.TheVariants as keys
 use Rattle.site_book.specs.declared.claim.Claim.{Claim}
-use Rattle.site_book.specs.declared.claim.Claim.TheVariants.{OpenStart, Reserved}
+use Rattle.site_book.specs.declared.claim.Claim.TheVariants.{OpenStart, Live, Reserved}
 use Rattle.site_book.specs.Sites.{Claims}
 use Rattle.operator_rows.specs.State.{Rows, HasClaim}
 
 -- the kept claims are those of the rows. So no EVSE has two
 abbrev pub IsIndexed : Claims → Rows → Type 0
 IsIndexed claims s = (evse : List ℕ) (c : Claim) → (get claims evse ≡ Some c) ↔ HasClaim s evse c
+
+-- the session of that id takes the EVSE
+abbrev pub HoldsLive : Rows → List ℕ → List ℕ → Type 0
+HoldsLive s id evse = (p : List ℕ) × HasClaim s evse (Live p id)
 
 -- the row that stands under the key takes the EVSE
 abbrev pub Holds : Rows → RowKey → List ℕ → Type 0
@@ -24,7 +28,7 @@ Holds s (keys.Service uid) evse = ⊥
 Holds s (keys.Spent provider reference) evse = ⊥
 Holds s (keys.Mark provider id) evse = ⊥
 Holds s (keys.Result provider number) evse = ⊥
-Holds s (keys.Session operator id) evse = ⊥
+Holds s (keys.Session operator id) evse = HoldsLive s id evse
 Holds s (keys.Cdr operator id) evse = ⊥
 Holds s (keys.Command n) evse = ⊥
 

@@ -4,6 +4,7 @@ pub mod Claimed
 pub mod Sound
 pub mod Rows
 pub mod Steps
+pub mod FullSteps
 pub mod Listing
 pub mod Kept
 pub mod RowLaws

@@ -1,5 +1,6 @@
 -- The laws of an operator's rows.
-use Rattle.std.specs.Prelude.{List}
+use Rattle.std.specs.Prelude.{◌≡◌, List, Ok}
+use Rattle.ocpi_text.specs.Party.{party_at}
 use Rattle.ocpi_types.specs.declared.rows.Change.{Change}
 use Rattle.ocpi_types.specs.declared.site.SiteLine.{SiteLine}
 use Rattle.node_steps.specs.Drafts.{Step}
@@ -7,16 +8,16 @@ use Rattle.operator_rows.specs.State.{State, opening}
 use Rattle.operator_rows.specs.Stored.{AreApart, changed_all}
 use Rattle.operator_rows.specs.Rows.{AreChanges}
 use Rattle.operator_rows.specs.Sound.{IsSound, IsConsistent, MayChangeAll}
-use Rattle.operator_rows.specs.Steps.{MayFollow, after, restarted}
+use Rattle.operator_rows.specs.Steps.{FullStep, MayFollow, MayFollowFull, after, after_full, restarted}
 
 abbrev pub RowsChange : Type 0
-RowsChange = (s : State) (changes : List Change) → AreApart changes → MayChangeAll s changes → AreChanges s.rows changes (changed_all changes s.rows)
+RowsChange = (s : State) (changes : List Change) → IsSound s → AreApart changes → MayChangeAll s changes → AreChanges s.rows changes (changed_all changes s.rows)
 
 abbrev pub StepsStaySound : Type 0
 StepsStaySound = (s : State) (x : Step) → MayFollow s x → IsSound s → IsSound (after x s)
 
 -- from the opening on, over steps and new starts
 pub record StaysConsistent : Type 0 where
-  pub at_first : (line : SiteLine) → IsConsistent (opening line)
-  pub by_steps : (s : State) (x : Step) → MayFollow s x → IsConsistent s → IsConsistent (after x s)
+  pub at_first : (line : SiteLine) → party_at line.parties.operator ≡ Ok line.parties.operator → IsConsistent (opening line)
+  pub by_steps : (s : State) (x : FullStep) → MayFollowFull s x → IsConsistent s → IsConsistent (after_full x s)
   pub by_restarts : (s : State) → IsConsistent s → IsConsistent (restarted s)

@@ -2,6 +2,7 @@
 use Rattle.std.specs.Prelude.{◌≡◌, ◌≢◌, ◌↔◌, ◌⊎◌, ℕ, List, map, Some, Contains}
 use Rattle.std.specs.List.{AllPairs}
 use Rattle.std.specs.FinMap.{get}
+use Rattle.ocpi_text.specs.Text.{key}
 use Rattle.ocpi_types.specs.Rows.{key_of}
 use Rattle.ocpi_types.specs.declared.rows.Row.{Row}
 use Rattle.ocpi_types.specs.declared.rows.Row.TheVariants as row
@@ -9,6 +10,7 @@ use Rattle.ocpi_types.specs.declared.rows.Change.{Change}
 use Rattle.ocpi_types.specs.declared.rows.Change.TheVariants.{Put}
 use Rattle.ocpi_types.specs.declared.rows.Counter.{Counter}
 use Rattle.ocpi_types.specs.declared.rows.Counter.TheVariants.{Serial, Request, Session, Cdr, Reference}
+use Rattle.token_desk.specs.Tokens.{token_key}
 use Rattle.operator_rows.specs.State.{Rows}
 use Rattle.operator_rows.specs.Stored.{change_key}
 
@@ -16,15 +18,15 @@ use Rattle.operator_rows.specs.Stored.{change_key}
 abbrev pub HasCount : Rows → Counter → ℕ → Type 0
 HasCount s Serial n = (s.serial ≡ n) × (n ≢ 0)
 HasCount s Request n = (s.request ≡ n) × (n ≢ 0)
-HasCount s Session n = ⊥
-HasCount s Cdr n = ⊥
+HasCount s Session n = (s.charged.last_session ≡ n) × (n ≢ 0)
+HasCount s Cdr n = (s.charged.last_cdr ≡ n) × (n ≢ 0)
 HasCount s Reference n = ⊥
 
 -- a row that stands: a counter that has given no number has none
 abbrev pub HasRow : Rows → Row → Type 0
 HasRow s (row.Count c n) = HasCount s c n
 HasRow s (row.Reply sender number reply) = get s.commands.replies (sender, number) ≡ Some reply
-HasRow s (row.Token t) = ⊥
+HasRow s (row.Token t) = get s.tokens (token_key t) ≡ Some t
 HasRow s (row.Push n to push) = get s.pushes n ≡ Some (record { to = to; push = push })
 HasRow s (row.Service evse) = get s.out_of_service evse ≡ Some tt
 HasRow s (row.Spent p reference) = get s.spent (p, reference) ≡ Some tt
@@ -32,8 +34,8 @@ HasRow s (row.Mark p id n) = get s.booked.marks (p, id) ≡ Some n
 HasRow s (row.Reservation p id r) = get s.booked.reservations (p, id) ≡ Some r
 HasRow s (row.Pending p n o) = get s.commands.pending (p, n) ≡ Some o
 HasRow s (row.Result p n x) = get s.commands.results (p, n) ≡ Some x
-HasRow s (row.Session x) = ⊥
-HasRow s (row.Cdr x) = ⊥
+HasRow s (row.Session x) = get s.charged.sessions (key x.id) ≡ Some x
+HasRow s (row.Cdr x) = get s.charged.cdrs (key x.id) ≡ Some x
 HasRow s (row.Command n x) = ⊥
 
 -- the list has exactly the rows that stand, each once

@@ -9,11 +9,17 @@ use Rattle.ocpi_types.specs.declared.stored.Command.{Command}
 use Rattle.ocpi_types.specs.declared.stored.Command.TheVariants as command
 use Rattle.ocpi_types.specs.declared.stored.OpenCommand.{OpenCommand}
 use Rattle.ocpi_types.specs.declared.stored.Reservation.{Reservation}
+use Rattle.ocpi_types.specs.declared.sessions.Session.{Session}
+use Rattle.ocpi_types.specs.declared.words.SessionStatus.{SessionStatus}
+use Rattle.ocpi_types.specs.declared.words.SessionStatus.TheVariants as status
 use Rattle.site_book.specs.declared.claim.Claim.{Claim}
 use Rattle.site_book.specs.declared.claim.Claim.TheVariants.{OpenStart, Live, Reserved}
 use Rattle.site_book.specs.Sites.{OutOfService}
 use Rattle.command_book.specs.Stored as commands
 use Rattle.reservation_book.specs.Rows as booked
+use Rattle.session_book.specs.Stored as charged
+use Rattle.token_desk.specs.Tokens.{Tokens}
+use Rattle.authorization_book.specs.Waits.{Waits}
 use Rattle.outbox.specs.Outbox.{OutboxRows}
 use Rattle.outbox.specs.Pushes.{Pushes}
 use Rattle.outbox.specs.Resend.{Resend}
@@ -36,6 +42,10 @@ pub record Rows : Type 0 where
   -- its own requests that are sent until they are acknowledged
   pub pushes : Pushes
   pub out_of_service : OutOfService
+  -- the tokens that its providers sent it
+  pub tokens : Tokens
+  -- its sessions and their charge detail records, and the counters of both
+  pub charged : charged.Rows
 
 pub record State : Type 0 where
   pub party : List ℕ
@@ -44,13 +54,15 @@ pub record State : Type 0 where
   pub rows : Rows
   -- the moment from which on each push is due again; one that has none is due at once. A restart empties it
   pub resend : Resend
+  -- the authorizations that are awaited. A restart empties them
+  pub waits : Waits
 
 abbrev pub no_rows : Rows
-no_rows = record { serial = 0; request = 0; commands = commands.no_rows; spent = empty; booked = booked.no_rows; pushes = empty; out_of_service = empty }
+no_rows = record { serial = 0; request = 0; commands = commands.no_rows; spent = empty; booked = booked.no_rows; pushes = empty; out_of_service = empty; tokens = empty; charged = charged.no_rows }
 
 -- before the first event
 abbrev pub opening : SiteLine → State
-opening line = record { party = line.parties.operator; providers = line.parties.providers; site = line.site; rows = no_rows; resend = empty }
+opening line = record { party = line.parties.operator; providers = line.parties.providers; site = line.site; rows = no_rows; resend = empty; waits = empty }
 
 -- what an outbox keeps of the rows: an operator sends no commands
 abbrev pub as_outbox : Rows → OutboxRows
@@ -76,10 +88,24 @@ pub record Takes (o : OpenCommand) (evse : List ℕ) : Type 0 where
   pub named : o.evse_uid ≡ Some uid
   pub same : key uid ≡ evse
 
--- the claims on the EVSE of a key, gathered from the open starts and the reservations; there are no sessions yet
+-- a session of that status is pending or active (OCPI 2.2.1, Sessions: SessionStatus)
+abbrev pub IsLive : SessionStatus → Type 0
+IsLive status.Pending = ⊤
+IsLive status.Active = ⊤
+IsLive status.Completed = ⊥
+IsLive status.Invalid = ⊥
+IsLive status.Reservation = ⊥
+
+-- the session, of the provider of that key, is at the EVSE of that key and has not ended
+pub record Occupies (v : Session) (provider evse : List ℕ) : Type 0 where
+  pub live : IsLive v.status
+  pub here : key v.evse_uid ≡ evse
+  pub of_provider : key v.cdr_token.party ≡ provider
+
+-- the claims on the EVSE of a key, gathered from the open starts, the sessions and the reservations
 abbrev pub HasClaim : Rows → List ℕ → Claim → Type 0
 HasClaim s evse (OpenStart p n) = (o : OpenCommand) × (get s.commands.pending (p, n) ≡ Some o) × Takes o evse
-HasClaim s evse (Live p session) = ⊥
+HasClaim s evse (Live p id) = (v : Session) × (get s.charged.sessions id ≡ Some v) × Occupies v p evse
 HasClaim s evse (Reserved p id) = (r : Reservation) × (get s.booked.reservations (p, id) ≡ Some r) × (key r.evse_uid ≡ evse)
 
 abbrev pub IsFree : Rows → List ℕ → Type 0

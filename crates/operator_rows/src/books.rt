@@ -7,21 +7,24 @@ ghost use Rattle.operator_rows.specs.Claimed.{IsIndexed};
 ghost use Rattle.operator_rows.specs.Sound.{IsConsistent};
 ghost use Rattle.operator_rows.specs.State.{IsSpent, as_outbox, opening};
 
+use authorization_book::AuthorizationBook;
 use command_book::CommandBook;
 use ocpi_text::{CiKey, CiText, Party, PartyKey, Whole};
 use ocpi_types::{Parties, Reply, SiteLine};
 use outbox::Outbox;
 use reservation_book::ReservationBook;
+use session_book::SessionBook;
 use site_book::SiteBook;
 use std::alloc::{AllocError, Global};
 use std::marker::Model;
 use tables::Table;
+use token_desk::TokenDesk;
 
 /// The references that are spent, by provider.
 pub(crate) type SpentTable = Table<(PartyKey, CiKey<36>), ()>;
 
-/// The rows of an operator, with the claims on its site's EVSEs and the resend times of its pushes. It is seen as its state and
-/// the room that is taken beside it.
+/// The rows of an operator, with the claims on its site's EVSEs, the resend times of its pushes, and the authorizations that it
+/// awaits. It is seen as its state and the room that is taken beside it.
 ///
 /// At all times what `consistency` says holds, and the claims are exactly those that follow from the rows. A lookup and a change
 /// cost the logarithm of what is stored.
@@ -34,6 +37,9 @@ pub struct Books {
     pub(crate) booked: ReservationBook,
     pub(crate) outbox: Outbox,
     pub(crate) site: SiteBook,
+    pub(crate) desk: TokenDesk,
+    pub(crate) charged: SessionBook,
+    pub(crate) waits: AuthorizationBook,
 }
 
 impl Model for Books {
@@ -49,22 +55,25 @@ impl Model for Books {
     ghost coded = { Prim.hlevel (codes, map.code) };
 
     ghost view = { λ b. record {
-      state = state_of b.parties b.serial b.commands.rows (shown_of text_pair_cmp b.spent) b.booked.rows b.outbox b.site;
+      state = state_of b.parties b.serial b.commands.rows (shown_of text_pair_cmp b.spent) b.booked.rows b.outbox b.site b.desk.rows.tokens b.charged.rows b.waits.waits;
       rooms = record {
         commands = b.commands.rooms;
         spent = rooms_of text_pair_cmp b.spent;
         booked = b.booked.rooms;
         outbox = b.outbox.rooms;
+        tokens = b.desk.rooms;
+        charged = b.charged.rooms;
       };
       sending = b.outbox.sending;
+      waiting = b.waits.rooms;
     } };
 
-    ghost invariant = { λ b. AreKept b.site.claims (state_of b.parties b.serial b.commands.rows (shown_of text_pair_cmp b.spent) b.booked.rows b.outbox b.site) b.outbox.rows.commands };
+    ghost invariant = { λ b. AreKept b.site.claims (state_of b.parties b.serial b.commands.rows (shown_of text_pair_cmp b.spent) b.booked.rows b.outbox b.site b.desk.rows.tokens b.charged.rows b.waits.waits) b.outbox.rows.commands b.desk.rows.references };
 }
 
 impl Books {
-    /// Nothing was sent, nothing is answered, open, reserved or pushed, and each EVSE of the site is in service. An error is
-    /// want of memory.
+    /// Nothing was sent, nothing is answered, open, reserved, pushed or awaited, no token is known, no session was begun, and each
+    /// EVSE of the site is in service. An error is want of memory.
     pub fn new(alloc: Global, line: SiteLine) -> Result<Books, AllocError>
         ensures { IfOk result (λ b. b.state ≡ opening line) }
     {
@@ -77,6 +86,9 @@ impl Books {
             booked: ReservationBook::new(alloc),
             outbox: Outbox::new(alloc),
             site,
+            desk: TokenDesk::new(alloc),
+            charged: SessionBook::new(alloc),
+            waits: AuthorizationBook::new(alloc),
         })
     }
 
@@ -157,19 +169,46 @@ impl Books {
         &self.outbox
     }
 
+    /// The tokens that its providers sent it.
+    pub fn desk(&self) -> &TokenDesk
+        ensures { result.now.rows.tokens ≡ self.now.state.rows.tokens }
+    {
+        &self.desk
+    }
+
+    /// The sessions and their charge detail records, and the numbers of the last of both.
+    pub fn charged(&self) -> &SessionBook
+        ensures { result.now.rows ≡ self.now.state.rows.charged }
+    {
+        &self.charged
+    }
+
+    /// The authorizations that are awaited.
+    pub fn waits(&self) -> &AuthorizationBook
+        ensures { result.now.waits ≡ self.now.state.waits }
+    {
+        &self.waits
+    }
+
     /// What holds at all times.
     pub fn consistency(&self)
         ensures { IsConsistent self.now.state }
     {
+        let _party = self.parties.operator().as_str();
         self.outbox.consistency();
+        self.waits.consistency();
     }
 
     /// No counter passes its last number.
     pub fn counters_in_range(&self)
         ensures serial { self.now.state.rows.serial ≤ max_whole }
         ensures request { self.now.state.rows.request ≤ max_whole }
+        ensures session { self.now.state.rows.charged.last_session ≤ max_whole }
+        ensures cdr { self.now.state.rows.charged.last_cdr ≤ max_whole }
     {
         let _serial = self.serial.value();
         let _request = self.outbox.last_number().value();
+        let _session = self.charged.last_session().value();
+        let _cdr = self.charged.last_cdr().value();
     }
 }

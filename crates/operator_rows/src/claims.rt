@@ -1,14 +1,15 @@
-//! The claims on the site's EVSEs, which follow from open starts and reservations.
+//! The claims on the site's EVSEs, which follow from open starts, sessions and reservations.
 
 ghost use Rattle.std.specs.Prelude.{◌≡◌, List, ℕ, IfSome, IfNone};
+ghost use Rattle.ocpi_text.specs.Text.{key};
 ghost use Rattle.ocpi_types.specs.declared.rows.RowKey.TheVariants as keys;
 ghost use Rattle.site_book.specs.Sites.{IsEvse};
-ghost use Rattle.operator_rows.specs.Claimed.{Holds, claimed, released};
-ghost use Rattle.operator_rows.specs.State.{Takes};
+ghost use Rattle.operator_rows.specs.Claimed.{Holds, HoldsLive, claimed, released};
+ghost use Rattle.operator_rows.specs.State.{IsLive, Occupies, Takes};
 
 use crate::books::Books;
 use ocpi_text::{CiKey, PartyKey, Whole};
-use ocpi_types::{Command, OpenCommand};
+use ocpi_types::{Command, OpenCommand, Session, SessionStatus};
 use site_book::{Claim, SiteBook};
 
 /// The EVSE that an open command took, in key form, where it is a start.
@@ -22,6 +23,17 @@ pub(crate) fn evse_taken(command: &OpenCommand) -> Option<CiKey<36>>
         | Command::ReserveNow(_)
         | Command::CancelReservation(_)
         | Command::UnlockConnector(_) => None,
+    }
+}
+
+/// The EVSE at which a session is, in key form, where it is pending or active.
+pub(crate) fn evse_occupied(session: &Session) -> Option<CiKey<36>>
+    ensures occupied { IfSome result (λ evse. Occupies session.now (key session.now.cdr_token.party) evse) }
+    ensures none { IfNone result (IsLive session.now.status → ⊥) }
+{
+    match session.status {
+        SessionStatus::Pending | SessionStatus::Active => Some(session.evse_uid.key()),
+        SessionStatus::Completed | SessionStatus::Invalid | SessionStatus::Reservation => None,
     }
 }
 
@@ -59,5 +71,12 @@ impl Books {
         ensures none { IfNone result ((evse : List ℕ) → Holds self.now.state.rows (keys.Reservation provider id) evse → ⊥) }
     {
         Some(self.booked.standing(provider, id)?.evse_uid.key())
+    }
+    /// The EVSE at which the session of that id is, in key form, if there is one that is pending or active.
+    pub(crate) fn held_by_session(&self, id: CiKey<36>) -> Option<CiKey<36>>
+        ensures taken { IfSome result (λ evse. HoldsLive self.now.state.rows id evse) }
+        ensures none { IfNone result ((evse : List ℕ) → HoldsLive self.now.state.rows id evse → ⊥) }
+    {
+        evse_occupied(self.charged.session(id)?)
     }
 }

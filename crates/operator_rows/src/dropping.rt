@@ -19,6 +19,7 @@ impl Books {
         ensures state { self.new.state ≡ after_change (change.Drop (keys.Push number)) self.old.state }
         ensures keeps { KeepsOtherRoom (keys.Push number) self.old.rooms self.new.rooms }
         ensures sending { self.new.sending ≡ given_back_of (Some number) self.old.state.resend self.old.sending }
+        ensures waiting { self.new.waiting ≡ self.old.waiting }
     {
         self.outbox.drop_row(RowKey::Push { number });
     }
@@ -29,6 +30,7 @@ impl Books {
         ensures state { self.new.state ≡ after_change (change.Drop (keys.Service evse_uid)) self.old.state }
         ensures rooms { self.new.rooms ≡ self.old.rooms }
         ensures sending { self.new.sending ≡ self.old.sending }
+        ensures waiting { self.new.waiting ≡ self.old.waiting }
     {
         let _known = self.site.set_service(evse_uid, true);
     }
@@ -38,6 +40,7 @@ impl Books {
         ensures state { self.new.state ≡ after_change (change.Drop (keys.Reservation provider reservation_id)) self.old.state }
         ensures keeps { KeepsOtherRoom (keys.Reservation provider reservation_id) self.old.rooms self.new.rooms }
         ensures sending { self.new.sending ≡ self.old.sending }
+        ensures waiting { self.new.waiting ≡ self.old.waiting }
     {
         let before = self.held_by_reservation(provider, reservation_id);
         release(&mut self.site, before);
@@ -52,6 +55,7 @@ impl Books {
         ensures state { self.new.state ≡ after_change (change.Drop (keys.Pending provider number)) self.old.state }
         ensures keeps { KeepsOtherRoom (keys.Pending provider number) self.old.rooms self.new.rooms }
         ensures sending { self.new.sending ≡ self.old.sending }
+        ensures waiting { self.new.waiting ≡ self.old.waiting }
     {
         let before = self.held_by_command(provider, number);
         release(&mut self.site, before);
@@ -64,6 +68,7 @@ impl Books {
         ensures state { self.new.state ≡ after_change (change.Drop key) self.old.state }
         ensures keeps { KeepsOtherRoom key self.old.rooms self.new.rooms }
         ensures sending { self.new.sending ≡ given_back_of (request_of key) self.old.state.resend self.old.sending }
+        ensures waiting { self.new.waiting ≡ self.old.waiting }
     {
         match key {
             RowKey::Push { number } => self.drop_push(number),

@@ -3,10 +3,14 @@
 ghost use Rattle.std.specs.Prelude.{◌≡◌, OnOk, IsOk};
 ghost use Rattle.node_steps.specs.Drafts.{step_of};
 ghost use Rattle.outbox.specs.Resend.{KeepsSendRoom};
-ghost use Rattle.operator_rows.specs.Steps.{HasRoomFor, HasTimeRoom, HaveTimeRoom};
+ghost use Rattle.authorization_book.specs.Waits.{HaveRoomForAll};
+ghost use Rattle.operator_rows.specs.FullSteps.{full_step_of};
+ghost use Rattle.operator_rows.specs.Steps.{HasFullRoomFor, HasRoomFor, HasTimeRoom, HaveTimeRoom};
 ghost use Rattle.operator_rows.specs.Stored.{Each, HasRoom, HasRoomOf, KeepsRoom};
 
 use crate::books::Books;
+use crate::full_plan::FullPlan;
+use authorization_book::Waiting;
 use node_steps::{Plan, Volatile};
 use ocpi_types::{Change, Row};
 use outbox::Outbox;
@@ -45,6 +49,7 @@ impl Books {
     fn reserve_row(&mut self, row: &Row) -> Result<(), AllocError>
         ensures state { self.new.state ≡ self.old.state }
         ensures sending { self.new.sending ≡ self.old.sending }
+        ensures waiting { self.new.waiting ≡ self.old.waiting }
         ensures keeps { KeepsRoom self.old.rooms self.new.rooms }
         ensures room { OnOk result (HasRoomOf self.new.rooms row.now) }
         ensures again { HasRoomOf self.old.rooms row.now → IsOk result }
@@ -59,12 +64,9 @@ impl Books {
             } => self.spent.reserve((*provider, *reference)),
             Row::Mark { .. } | Row::Reservation { .. } => self.booked.reserve_row(row),
             Row::Push { .. } => self.outbox.reserve_row(row),
-            Row::Count { .. }
-            | Row::Service { .. }
-            | Row::Token { .. }
-            | Row::Session { .. }
-            | Row::Cdr { .. }
-            | Row::Command { .. } => Ok(()),
+            Row::Token { .. } => self.desk.reserve_row(row),
+            Row::Session { .. } | Row::Cdr { .. } => self.charged.reserve_row(row),
+            Row::Count { .. } | Row::Service { .. } | Row::Command { .. } => Ok(()),
         }
     }
 
@@ -72,6 +74,7 @@ impl Books {
     fn reserve(&mut self, change: &Change) -> Result<(), AllocError>
         ensures state { self.new.state ≡ self.old.state }
         ensures sending { self.new.sending ≡ self.old.sending }
+        ensures waiting { self.new.waiting ≡ self.old.waiting }
         ensures keeps { KeepsRoom self.old.rooms self.new.rooms }
         ensures room { OnOk result (HasRoom self.new.rooms change.now) }
         ensures again { HasRoom self.old.rooms change.now → IsOk result }
@@ -86,6 +89,7 @@ impl Books {
     fn reserve_all(&mut self, changes: &[Change]) -> Result<(), AllocError>
         ensures state { self.new.state ≡ self.old.state }
         ensures sending { self.new.sending ≡ self.old.sending }
+        ensures waiting { self.new.waiting ≡ self.old.waiting }
         ensures room { OnOk result (Each (HasRoom self.new.rooms) changes.now) }
         ensures again { Each (HasRoom self.old.rooms) changes.now → IsOk result }
     {
@@ -99,10 +103,32 @@ impl Books {
     /// memory, for a step that has no room.
     pub fn make_room(&mut self, plan: &Plan) -> Result<(), AllocError>
         ensures state { self.new.state ≡ self.old.state }
+        ensures waiting { self.new.waiting ≡ self.old.waiting }
         ensures room { OnOk result (HasRoomFor self.new (step_of plan.now)) }
         ensures again { HasRoomFor self.old (step_of plan.now) → IsOk result }
     {
         self.reserve_all(plan.changes.as_slice())?;
         reserve_times(&mut self.outbox, plan.volatile.as_slice())
+    }
+    /// Takes the memory that changes of what is awaited need. An error is want of memory, for changes of which one has no room.
+    fn reserve_waits(&mut self, waits: &[Waiting]) -> Result<(), AllocError>
+        ensures state { self.new.state ≡ self.old.state }
+        ensures rooms { self.new.rooms ≡ self.old.rooms }
+        ensures sending { self.new.sending ≡ self.old.sending }
+        ensures room { OnOk result (HaveRoomForAll self.new.waiting waits.now) }
+        ensures again { HaveRoomForAll self.old.waiting waits.now → IsOk result }
+    {
+        self.waits.reserve_all(waits)
+    }
+
+    /// Takes all the memory that a step and what it awaits need. What is stored stays as it is, whether there is enough or not.
+    /// An error is want of memory, for a step that has no room.
+    pub fn make_full_room(&mut self, plan: &FullPlan) -> Result<(), AllocError>
+        ensures state { self.new.state ≡ self.old.state }
+        ensures room { OnOk result (HasFullRoomFor self.new (full_step_of plan.now)) }
+        ensures again { HasFullRoomFor self.old (full_step_of plan.now) → IsOk result }
+    {
+        self.reserve_waits(plan.waits.as_slice())?;
+        self.make_room(&plan.plan)
     }
 }

@@ -11,9 +11,12 @@ ghost use Rattle.operator_rows.specs.Steps.{after_change};
 ghost use Rattle.operator_rows.specs.Stored.{HasRoomOf, KeepsOtherRoom};
 
 use crate::books::Books;
-use crate::claims::{claim, evse_taken, release};
+use crate::claims::{claim, evse_occupied, evse_taken, release};
 use ocpi_text::{CiKey, Party, PartyKey, Whole};
-use ocpi_types::{Boxed, CommandResultType, Counter, OpenCommand, Push, Reply, Reservation, Row};
+use ocpi_types::{
+    Boxed, Cdr, CommandResultType, Counter, OpenCommand, Push, Reply, Reservation, Row, Session,
+    Token,
+};
 use site_book::Claim;
 
 impl Books {
@@ -23,11 +26,14 @@ impl Books {
         ensures state { self.new.state ≡ after_change (change.Put (row.Count counter last)) self.old.state }
         ensures keeps { KeepsOtherRoom (keys.Count counter) self.old.rooms self.new.rooms }
         ensures sending { self.new.sending ≡ self.old.sending }
+        ensures waiting { self.new.waiting ≡ self.old.waiting }
     {
         match counter {
             Counter::Serial => self.serial = last,
             Counter::Request => self.outbox.put_row(Row::Count { counter, last }),
-            Counter::Session | Counter::Cdr | Counter::Reference => unreachable!(),
+            Counter::Session => self.charged.put_row(Row::Count { counter, last }),
+            Counter::Cdr => self.charged.put_row(Row::Count { counter, last }),
+            Counter::Reference => unreachable!(),
         }
     }
 
@@ -37,6 +43,7 @@ impl Books {
         ensures state { self.new.state ≡ after_change (change.Put (row.Reply sender number reply)) self.old.state }
         ensures keeps { KeepsOtherRoom (keys.Reply sender number) self.old.rooms self.new.rooms }
         ensures sending { self.new.sending ≡ self.old.sending }
+        ensures waiting { self.new.waiting ≡ self.old.waiting }
     {
         self.commands.put_row(Row::Reply {
             sender,
@@ -52,6 +59,7 @@ impl Books {
         ensures state { self.new.state ≡ after_change (change.Put (row.Push number to push)) self.old.state }
         ensures keeps { KeepsOtherRoom (keys.Push number) self.old.rooms self.new.rooms }
         ensures sending { self.new.sending ≡ released_of (Some number) self.old.state.resend self.old.sending }
+        ensures waiting { self.new.waiting ≡ self.old.waiting }
     {
         self.outbox.put_row(Row::Push { number, to, push });
     }
@@ -62,6 +70,7 @@ impl Books {
         ensures state { self.new.state ≡ after_change (change.Put (row.Service evse_uid)) self.old.state }
         ensures rooms { self.new.rooms ≡ self.old.rooms }
         ensures sending { self.new.sending ≡ self.old.sending }
+        ensures waiting { self.new.waiting ≡ self.old.waiting }
     {
         let _known = self.site.set_service(evse_uid, false);
     }
@@ -72,6 +81,7 @@ impl Books {
         ensures state { self.new.state ≡ after_change (change.Put (row.Spent provider reference)) self.old.state }
         ensures rooms { self.new.rooms ≡ self.old.rooms }
         ensures sending { self.new.sending ≡ self.old.sending }
+        ensures waiting { self.new.waiting ≡ self.old.waiting }
     {
         self.spent.put((provider, reference), ());
     }
@@ -82,6 +92,7 @@ impl Books {
         ensures state { self.new.state ≡ after_change (change.Put (row.Mark provider reservation_id number)) self.old.state }
         ensures keeps { KeepsOtherRoom (keys.Mark provider reservation_id) self.old.rooms self.new.rooms }
         ensures sending { self.new.sending ≡ self.old.sending }
+        ensures waiting { self.new.waiting ≡ self.old.waiting }
     {
         self.booked.put_row(Row::Mark {
             provider,
@@ -102,6 +113,7 @@ impl Books {
         ensures state { self.new.state ≡ after_change (change.Put (row.Reservation provider reservation_id reservation)) self.old.state }
         ensures keeps { KeepsOtherRoom (keys.Reservation provider reservation_id) self.old.rooms self.new.rooms }
         ensures sending { self.new.sending ≡ self.old.sending }
+        ensures waiting { self.new.waiting ≡ self.old.waiting }
     {
         let before = self.held_by_reservation(provider, reservation_id);
         let evse = Some(reservation.evse_uid.key());
@@ -128,6 +140,7 @@ impl Books {
         ensures state { self.new.state ≡ after_change (change.Put (row.Pending provider number command)) self.old.state }
         ensures keeps { KeepsOtherRoom (keys.Pending provider number) self.old.rooms self.new.rooms }
         ensures sending { self.new.sending ≡ self.old.sending }
+        ensures waiting { self.new.waiting ≡ self.old.waiting }
     {
         let before = self.held_by_command(provider, number);
         let evse = evse_taken(&command);
@@ -147,12 +160,63 @@ impl Books {
         ensures state { self.new.state ≡ after_change (change.Put (row.Result provider number outcome)) self.old.state }
         ensures keeps { KeepsOtherRoom (keys.Result provider number) self.old.rooms self.new.rooms }
         ensures sending { self.new.sending ≡ self.old.sending }
+        ensures waiting { self.new.waiting ≡ self.old.waiting }
     {
         self.commands.put_row(Row::Result {
             provider,
             number,
             result: outcome,
         });
+    }
+
+    /// Puts a token, in place of the one of its party, type and uid.
+    fn put_token(&mut self, token: Boxed<Token>)
+        requires room { HasRoomOf self.old.rooms (row.Token token) }
+        requires may { MayPut self.old.state (row.Token token) }
+        ensures state { self.new.state ≡ after_change (change.Put (row.Token token)) self.old.state }
+        ensures keeps { KeepsOtherRoom (key_of (row.Token token)) self.old.rooms self.new.rooms }
+        ensures sending { self.new.sending ≡ self.old.sending }
+        ensures waiting { self.new.waiting ≡ self.old.waiting }
+    {
+        self.desk.put_row(Row::Token { token });
+    }
+
+    /// Puts a version of a session, which claims its EVSE if it is pending or active, in place of the one of its id, whose claim
+    /// ends.
+    fn put_session(&mut self, session: Boxed<Session>)
+        requires room { HasRoomOf self.old.rooms (row.Session session) }
+        requires may { MayPut self.old.state (row.Session session) }
+        ensures state { self.new.state ≡ after_change (change.Put (row.Session session)) self.old.state }
+        ensures keeps { KeepsOtherRoom (key_of (row.Session session)) self.old.rooms self.new.rooms }
+        ensures sending { self.new.sending ≡ self.old.sending }
+        ensures waiting { self.new.waiting ≡ self.old.waiting }
+    {
+        let provider = session.cdr_token.party.key();
+        let id = session.id.key();
+        let before = self.held_by_session(id);
+        let evse = evse_occupied(&session);
+        release(&mut self.site, before);
+        claim(
+            &mut self.site,
+            evse,
+            Claim::Live {
+                provider,
+                session: id,
+            },
+        );
+        self.charged.put_row(Row::Session { session });
+    }
+
+    /// Puts a charge detail record, in place of the one of its id.
+    fn put_cdr(&mut self, cdr: Boxed<Cdr>)
+        requires room { HasRoomOf self.old.rooms (row.Cdr cdr) }
+        requires may { MayPut self.old.state (row.Cdr cdr) }
+        ensures state { self.new.state ≡ after_change (change.Put (row.Cdr cdr)) self.old.state }
+        ensures keeps { KeepsOtherRoom (key_of (row.Cdr cdr)) self.old.rooms self.new.rooms }
+        ensures sending { self.new.sending ≡ self.old.sending }
+        ensures waiting { self.new.waiting ≡ self.old.waiting }
+    {
+        self.charged.put_row(Row::Cdr { cdr });
     }
 
     /// Puts a row, with the claim that follows from it, in place of the one of its key if there is one. It takes no memory.
@@ -162,6 +226,7 @@ impl Books {
         ensures state { self.new.state ≡ after_change (change.Put row) self.old.state }
         ensures keeps { KeepsOtherRoom (key_of row) self.old.rooms self.new.rooms }
         ensures sending { self.new.sending ≡ released_of (request_of (key_of row)) self.old.state.resend self.old.sending }
+        ensures waiting { self.new.waiting ≡ self.old.waiting }
     {
         match row {
             Row::Count { counter, last } => self.put_count(counter, last),
@@ -196,9 +261,10 @@ impl Books {
                 number,
                 result: outcome,
             } => self.put_result(provider, number, outcome),
-            Row::Token { .. } | Row::Session { .. } | Row::Cdr { .. } | Row::Command { .. } => {
-                unreachable!()
-            }
+            Row::Token { token } => self.put_token(token),
+            Row::Session { session } => self.put_session(session),
+            Row::Cdr { cdr } => self.put_cdr(cdr),
+            Row::Command { .. } => unreachable!(),
         }
     }
 }

@@ -71,6 +71,10 @@ impl Books {
         self.push_others(&mut rows)?;
         let mut pushed = self.outbox.rows(alloc)?;
         rows.append(&mut pushed)?;
+        let mut tokens = self.desk.rows(alloc)?;
+        rows.append(&mut tokens)?;
+        let mut charged = self.charged.rows(alloc)?;
+        rows.append(&mut charged)?;
         Ok(rows)
     }
 }

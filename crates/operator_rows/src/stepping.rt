@@ -2,12 +2,17 @@
 
 ghost use Rattle.std.specs.Prelude.{◌≡◌, ◌∷◌, [], IsTrue};
 ghost use Rattle.std.specs.FinMap as map;
+ghost use Rattle.authorization_book.specs.Waits.{HaveRoomForAll, MayWait, waited_all};
 ghost use Rattle.node_steps.specs.Drafts.{step_of};
+ghost use Rattle.operator_rows.specs.FullSteps.{full_step_of};
+ghost use Rattle.operator_rows.specs.Kept.{AreAsked};
 ghost use Rattle.operator_rows.specs.Sound.{MayChange, MayChangeAll};
-ghost use Rattle.operator_rows.specs.Steps.{AreSendable, HasRoomFor, HasTimeRoom, HaveTimeRoom, KeepsTimeRoom, MayFollow, after, after_change, after_changes, number_of, restarted, time_taken, timed, timed_all};
+ghost use Rattle.operator_rows.specs.Steps.{AreAwaitable, AreSendable, HasFullRoomFor, HasRoomFor, HasTimeRoom, HaveTimeRoom, KeepsTimeRoom, MayFollow, MayFollowFull, after, after_change, after_changes, after_full, number_of, restarted, time_taken, timed, timed_all};
 ghost use Rattle.operator_rows.specs.Stored.{AreApart, Each, HasRoom, KeepsOtherRoom, change_key};
 
 use crate::books::Books;
+use crate::full_plan::FullPlan;
+use authorization_book::Waiting;
 use node_steps::{Plan, Volatile};
 use ocpi_types::{Change, Packet};
 use outbox::Outbox;
@@ -48,6 +53,7 @@ impl Books {
         ensures state { self.new.state ≡ after_change change self.old.state }
         ensures keeps { KeepsOtherRoom (change_key change) self.old.rooms self.new.rooms }
         ensures sending { KeepsTimeRoom self.old.state.resend (change ∷ []) self.old.sending self.new.sending }
+        ensures waiting { self.new.waiting ≡ self.old.waiting }
     {
         match change {
             Change::Put(row) => self.put_row(row),
@@ -62,6 +68,7 @@ impl Books {
         requires may { MayChangeAll self.old.state changes.items }
         ensures state { self.new.state ≡ after_changes changes.items self.old.state }
         ensures sending { KeepsTimeRoom self.old.state.resend changes.items self.old.sending self.new.sending }
+        ensures waiting { self.new.waiting ≡ self.old.waiting }
     {
         for change in changes {
             self.change(change);
@@ -74,6 +81,7 @@ impl Books {
         requires room { HasRoomFor self.old (step_of plan) }
         requires may { MayFollow self.old.state (step_of plan) }
         ensures state { self.new.state ≡ after (step_of plan) self.old.state }
+        ensures waiting { self.new.waiting ≡ self.old.waiting }
         ensures packets { result.items ≡ (step_of plan).packets }
     {
         let Plan {
@@ -81,15 +89,45 @@ impl Books {
             packets,
             volatile,
         } = plan;
+        self.consistency();
         self.change_all(changes);
         send_all(&mut self.outbox, volatile.as_slice());
         packets
     }
 
-    /// The operator starts again from what it stored: each push is due at once. It takes no memory.
+    /// Carries changes of what is awaited out, in order. It takes no memory.
+    fn change_waits(&mut self, waits: &[Waiting])
+        requires room { HaveRoomForAll self.old.waiting waits.now }
+        requires may { MayWait self.old.state.waits waits.now }
+        requires awaitable { AreAwaitable self.old.state waits.now }
+        requires asked { AreAsked (waited_all waits.now self.old.state.waits) self.old.state.rows.request }
+        ensures state { self.new.state ≡ record self.old.state { waits = waited_all waits.now self.old.state.waits } }
+        ensures rooms { self.new.rooms ≡ self.old.rooms }
+        ensures sending { self.new.sending ≡ self.old.sending }
+    {
+        self.waits.change_all(waits);
+    }
+
+    /// Carries a step out as `apply` does, and what it does to the authorizations that are awaited, for both of which there is
+    /// room. It answers the packets, takes no memory and cannot fail.
+    pub fn apply_full(&mut self, plan: FullPlan) -> Vec<Packet>
+        requires room { HasFullRoomFor self.old (full_step_of plan) }
+        requires may { MayFollowFull self.old.state (full_step_of plan) }
+        ensures state { self.new.state ≡ after_full (full_step_of plan) self.old.state }
+        ensures packets { result.items ≡ (full_step_of plan).step.packets }
+    {
+        let FullPlan { plan, waits } = plan;
+        let packets = self.apply(plan);
+        self.change_waits(waits.as_slice());
+        packets
+    }
+
+    /// The operator starts again from what it stored: each push is due at once, and no authorization is awaited. It takes no
+    /// memory.
     pub fn restart(&mut self, alloc: Global)
         ensures { self.new.state ≡ restarted self.old.state }
     {
         self.outbox.restart(alloc);
+        self.waits.clear(alloc);
     }
 }

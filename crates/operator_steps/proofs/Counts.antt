@@ -4,6 +4,7 @@ use Rattle.tables.proofs.Elements.{in_front}
 use Rattle.ocpi_types.specs.declared.rows.Change.{Change}
 use Rattle.ocpi_types.specs.declared.rows.Change.TheVariants.{Put, Drop}
 use Rattle.ocpi_types.specs.declared.rows.Counter.{Counter}
+use Rattle.ocpi_types.specs.declared.rows.Counter.TheVariants as counter
 use Rattle.ocpi_types.specs.declared.rows.Row.TheVariants as row
 use Rattle.ocpi_types.specs.declared.rows.RowKey.TheVariants as keys
 use Rattle.node_steps.specs.Acts.{Act, all_changes}
@@ -11,15 +12,19 @@ use Rattle.node_steps.specs.Drafts.{Counters, counted}
 use Rattle.operator_rows.specs.State.{State, Rows}
 use Rattle.operator_rows.specs.Stored.{changed, changed_all, change_key}
 use Rattle.operator_steps.specs.Moves.{counters_of, step_of_acts}
-use Rattle.operator_steps.proofs.Orderly.{AreOrderly, AreUncounted, in_later}
+use Rattle.operator_steps.proofs.Orderly.{AreOrderly, AreUncounted, IsOfStep, in_later}
 use Rattle.operator_steps.proofs.Fitting.{numbered_for, rows_after}
 
 abbrev pub counters_in : Rows → Counters
 counters_in s = record { serial = s.serial; request = s.request }
 
 -- a change of no counter leaves them
-pub counters_left : (c : Change) (s : Rows) → ((counter : Counter) → change_key c ≢ keys.Count counter) → counters_in (changed c s) ≡ counters_in s
-counters_left (Put (row.Count counter last)) s h = absurd (h counter refl)
+pub counters_left : (c : Change) (s : Rows) → ((counter : Counter) → IsOfStep counter → change_key c ≢ keys.Count counter) → counters_in (changed c s) ≡ counters_in s
+counters_left (Put (row.Count counter.Serial last)) s h = absurd (h counter.Serial tt refl)
+counters_left (Put (row.Count counter.Request last)) s h = absurd (h counter.Request tt refl)
+counters_left (Put (row.Count counter.Session last)) s h = refl
+counters_left (Put (row.Count counter.Cdr last)) s h = refl
+counters_left (Put (row.Count counter.Reference last)) s h = refl
 counters_left (Put (row.Reply sender number reply)) s h = refl
 counters_left (Put (row.Token t)) s h = refl
 counters_left (Put (row.Push m to push)) s h = refl
@@ -32,7 +37,11 @@ counters_left (Put (row.Result provider number x)) s h = refl
 counters_left (Put (row.Session x)) s h = refl
 counters_left (Put (row.Cdr x)) s h = refl
 counters_left (Put (row.Command k x)) s h = refl
-counters_left (Drop (keys.Count counter)) s h = absurd (h counter refl)
+counters_left (Drop (keys.Count counter.Serial)) s h = absurd (h counter.Serial tt refl)
+counters_left (Drop (keys.Count counter.Request)) s h = absurd (h counter.Request tt refl)
+counters_left (Drop (keys.Count counter.Session)) s h = refl
+counters_left (Drop (keys.Count counter.Cdr)) s h = refl
+counters_left (Drop (keys.Count counter.Reference)) s h = refl
 counters_left (Drop (keys.Reply sender number)) s h = refl
 counters_left (Drop (keys.Token party token_type uid)) s h = refl
 counters_left (Drop (keys.Push m)) s h = refl

@@ -8,6 +8,7 @@ use Rattle.tables.proofs.Maps.{get-insert_same, of_remove}
 use Rattle.ocpi_text.specs.Text.{key}
 use Rattle.ocpi_types.specs.declared.rows.Place.{Place}
 use Rattle.ocpi_types.specs.declared.stored.Command.{Command}
+use Rattle.ocpi_types.specs.declared.stored.Command.TheVariants as command
 use Rattle.ocpi_types.specs.declared.stored.OpenCommand.{OpenCommand}
 use Rattle.ocpi_types.specs.declared.stored.Reply.{Reply}
 use Rattle.ocpi_types.specs.declared.stored.Reservation.{Reservation}
@@ -20,7 +21,7 @@ use Rattle.command_book.specs.Stored as book
 use Rattle.node_steps.specs.Acts.{Act, all_changes, answered}
 use Rattle.node_steps.specs.Peers.{HasPeer, IsPeer}
 use Rattle.operator_rows.specs.State.{State, Rows, HasClaim, IsStart, Takes}
-use Rattle.operator_rows.specs.Sound.{HasPlace, IsConsistent, IsSound, MayBeOpen, MayClaim, MayPutReservation}
+use Rattle.operator_rows.specs.Sound.{HasPlace, IsConsistent, IsOwnStart, IsSound, MayBeOpen, MayClaim, MayPutReservation}
 use Rattle.operator_tables.specs.declared.decision.Decision.{Decision}
 use Rattle.operator_tables.specs.declared.decision.Decision.TheVariants as decision
 use Rattle.operator_tables.specs.Outcomes.{HoldsFor, Opens, Reserves, Starts, Tells}
@@ -28,22 +29,25 @@ use Rattle.operator_steps.specs.Acts.{deadline, decided_acts, freed, marked, ope
 use Rattle.operator_steps.proofs.Orderly.{AreOrderly, orderly_kinds}
 use Rattle.operator_steps.proofs.Fitting.{AreFit, fit_none, left_by_act, numbered_for}
 use Rattle.operator_steps.proofs.Sending.{ActsAreSent, sent_none}
+use Rattle.operator_steps.proofs.Charging.{AreNext, next_kinds}
 use Rattle.operator_steps.proofs.Planning.{ArePlanned}
 use Rattle.operator_steps.proofs.Results.{result_sent, settled_fit}
 
--- the claims on an EVSE are read from two maps alone
-pub claim_of_same : (s t : Rows) (evse : List ℕ) (d : Claim) → s.commands.pending ≡ t.commands.pending → s.booked.reservations ≡ t.booked.reservations → HasClaim s evse d → HasClaim t evse d
-claim_of_same s t evse (OpenStart p n) e f (o, stands, takes) = (o, ap (λ m. get m (p, n)) (sym e) ∙ stands, takes)
-claim_of_same s t evse (Live p session) e f h = h
-claim_of_same s t evse (Reserved p id) e f (r, stands, here) = (r, ap (λ m. get m (p, id)) (sym f) ∙ stands, here)
+-- the claims on an EVSE are read from three maps alone
+pub claim_of_same : (s t : Rows) (evse : List ℕ) (d : Claim) → s.commands.pending ≡ t.commands.pending → s.charged.sessions ≡ t.charged.sessions →
+    s.booked.reservations ≡ t.booked.reservations → HasClaim s evse d → HasClaim t evse d
+claim_of_same s t evse (OpenStart p n) e g f (o, stands, takes) = (o, ap (λ m. get m (p, n)) (sym e) ∙ stands, takes)
+claim_of_same s t evse (Live p id) e g f (v, stands, here) = (v, ap (λ m. get m id) (sym g) ∙ stands, here)
+claim_of_same s t evse (Reserved p id) e g f (r, stands, here) = (r, ap (λ m. get m (p, id)) (sym f) ∙ stands, here)
 
 -- once the only claim on an EVSE, a reservation, has ended, nothing claims it
-freed_unclaimed : (s t : Rows) (p id evse : List ℕ) (d : Claim) → s.commands.pending ≡ t.commands.pending → remove s.booked.reservations (p, id) ≡ t.booked.reservations →
+pub freed_unclaimed : (s t : Rows) (p id evse : List ℕ) (d : Claim) → s.commands.pending ≡ t.commands.pending → s.charged.sessions ≡ t.charged.sessions → remove s.booked.reservations (p, id) ≡ t.booked.reservations →
     ((c : Claim) → HasClaim s evse c → c ≡ Reserved p id) → HasClaim t evse d → ⊥
-freed_unclaimed s t p id evse (OpenStart q n) e f only (o, stands, takes) =
+freed_unclaimed s t p id evse (OpenStart q n) e g f only (o, stands, takes) =
     let never : OpenStart q n ≡ Reserved p id = only (OpenStart q n) (o, ap (λ m. get m (q, n)) e ∙ stands, takes) in cc
-freed_unclaimed s t p id evse (Live q session) e f only h = h
-freed_unclaimed s t p id evse (Reserved q other) e f only (r, stands, here) =
+freed_unclaimed s t p id evse (Live q session) e g f only (v, stands, here) =
+    let never : Live q session ≡ Reserved p id = only (Live q session) (v, ap (λ m. get m session) g ∙ stands, here) in cc
+freed_unclaimed s t p id evse (Reserved q other) e g f only (r, stands, here) =
     let (apart, stood) = of_remove text_pair_total text_pair_exact s.booked.reservations (p, id) (q, other) r (ap (λ m. get m (q, other)) f ∙ stands) in
     let same : Reserved q other ≡ Reserved p id = only (Reserved q other) (r, stood, here) in
     let a : q ≡ p = cc in
@@ -112,20 +116,29 @@ module _ (s : State) (h : IsConsistent s) (at : ℕ) (to sender : List ℕ) (n :
 
   -- the command may be open then
   may_open : (t : State) (o : OpenCommand) → t.providers ≡ s.providers → t.site ≡ s.site → IsTrue (contains_key t.rows.commands.replies (p, n)) → t.rows.commands.results ≡ s.rows.commands.results →
-      (IsStart o.command → HasPlace s.site o) → MayBeOpen t p n o
-  may_open t o providers site answers results place = record {
+      IsOwnStart p o.command → (IsStart o.command → HasPlace s.site o) → MayBeOpen t p n o
+  may_open t o providers site answers results own place = record {
     provider = subst (λ l. HasPeer l p) (sym providers) of_peers;
     answered = answers;
     unsettled = ap (λ m. get m (p, n)) results ∙ unended s h.sound p n new;
+    own = own;
     place = λ start. subst (λ x. HasPlace x o) (sym site) (place start);
   }
 
-  -- an unlock opens no start
-  unlock_fits : Opens c → AreFit (first decision.Opened) (own_acts at p n c decision.Opened)
+  -- what is no start has no token of a start
+  no_own_start : (x : Command) → ¬ IsStart x → IsOwnStart p x
+  no_own_start (command.StartSession x) none = absurd (none tt)
+  no_own_start (command.StopSession x) none = tt
+  no_own_start (command.ReserveNow x) none = tt
+  no_own_start (command.CancelReservation x) none = tt
+  no_own_start (command.UnlockConnector x) none = tt
+
+  -- an unlock or a stop opens no start
+  unlock_fits : Opens s sender c → AreFit (first decision.Opened) (own_acts at p n c decision.Opened)
   unlock_fits opens = (
     (
       record {
-        may = may_open (first decision.Opened) (book.open_command c None (deadline at)) refl refl (replied s.rows.commands.replies p n (reply_of at decision.Opened)) refl (λ start. absurd (opens.no_start start));
+        may = may_open (first decision.Opened) (book.open_command c None (deadline at)) refl refl (replied s.rows.commands.replies p n (reply_of at decision.Opened)) refl (no_own_start c opens.no_start) (λ start. absurd (opens.no_start start));
         alone = λ evse takes. absurd (opens.no_start takes.start);
       },
       tt,
@@ -141,6 +154,10 @@ module _ (s : State) (h : IsConsistent s) (at : ℕ) (to sender : List ℕ) (n :
     start_place : (reservation : Option (List ℕ)) → Starts s sender c place reservation → HasPlace s.site o
     start_place reservation starts = record { uid = place.evse_uid; evse_is = refl; connector = place.connector_id; connector_is = refl; of_site = starts.of_site }
 
+    -- its token is the sender's
+    own_start : (reservation : Option (List ℕ)) → Starts s sender c place reservation → IsOwnStart p c
+    own_start reservation starts = subst (IsOwnStart p) (sym starts.command_is) starts.own
+
     -- a start that takes an EVSE which nothing claims
     start_alone : (t : Rows) → ((d : Claim) → HasClaim t (key place.evse_uid) d → ⊥) → (evse : List ℕ) → Takes o evse → MayClaim t evse (OpenStart p n)
     start_alone t unclaimed evse takes d claim = absurd (unclaimed d (subst (λ e. HasClaim t e d) (sym (taken c place (deadline at) evse takes)) claim))
@@ -151,8 +168,8 @@ module _ (s : State) (h : IsConsistent s) (at : ℕ) (to sender : List ℕ) (n :
         let t = first (decision.Started place None) in (
           (
             record {
-              may = may_open t o refl refl (replied s.rows.commands.replies p n (reply_of at (decision.Started place None))) refl (λ start. start_place None starts);
-              alone = start_alone t.rows (λ d claim. starts.available d (claim_of_same t.rows s.rows (key place.evse_uid) d refl refl claim));
+              may = may_open t o refl refl (replied s.rows.commands.replies p n (reply_of at (decision.Started place None))) refl (own_start None starts) (λ start. start_place None starts);
+              alone = start_alone t.rows (λ d claim. starts.available d (claim_of_same t.rows s.rows (key place.evse_uid) d refl refl refl claim));
             },
             tt,
           ),
@@ -165,8 +182,8 @@ module _ (s : State) (h : IsConsistent s) (at : ℕ) (to sender : List ℕ) (n :
           (
             (
               record {
-                may = may_open t o refl refl (replied s.rows.commands.replies p n (reply_of at (decision.Started place (Some id)))) refl (λ start. start_place (Some id) starts);
-                alone = start_alone t.rows (λ d claim. freed_unclaimed s.rows t.rows p id (key place.evse_uid) d refl refl
+                may = may_open t o refl refl (replied s.rows.commands.replies p n (reply_of at (decision.Started place (Some id)))) refl (own_start (Some id) starts) (λ start. start_place (Some id) starts);
+                alone = start_alone t.rows (λ d claim. freed_unclaimed s.rows t.rows p id (key place.evse_uid) d refl refl refl
                     (λ x had. h.sound.one_claim (key place.evse_uid) x (Reserved p id) had (holds.reservation, holds.stands, holds.here)) claim);
               },
               tt,
@@ -183,10 +200,10 @@ module _ (s : State) (h : IsConsistent s) (at : ℕ) (to sender : List ℕ) (n :
 
   -- nothing but a reservation of that id claims the EVSE of one that is made
   made_fits : (id : List ℕ) (r : Reservation) → Reserves s at sender n c id r → (t : State) → t.site ≡ s.site → t.rows.commands.pending ≡ s.rows.commands.pending →
-      t.rows.booked.reservations ≡ s.rows.booked.reservations → MayPutReservation t p id r
-  made_fits id r tells t site pending reservations = record {
+      t.rows.charged.sessions ≡ s.rows.charged.sessions → t.rows.booked.reservations ≡ s.rows.booked.reservations → MayPutReservation t p id r
+  made_fits id r tells t site pending sessions reservations = record {
     place = subst (λ x. IsSiteOf x.locations (key r.evse_uid) (key r.location_id)) (sym site) tells.of_site;
-    alone = λ d claim. tells.may d (claim_of_same t.rows s.rows (key r.evse_uid) d pending reservations claim);
+    alone = λ d claim. tells.may d (claim_of_same t.rows s.rows (key r.evse_uid) d pending sessions reservations claim);
   }
 
   -- each decision fits
@@ -205,7 +222,7 @@ module _ (s : State) (h : IsConsistent s) (at : ℕ) (to sender : List ℕ) (n :
     (
       (tt, tt),
       (
-        (made_fits id r tells (left_by_act (marked p id n) (first (decision.Reserved id r))) refl refl refl, tt),
+        (made_fits id r tells (left_by_act (marked p id n) (first (decision.Reserved id r))) refl refl refl refl, tt),
         result_fits _ Accepted refl (omega arith) (replied s.rows.commands.replies p n (reply_of at (decision.Reserved id r))) refl,
       ),
     ),
@@ -229,5 +246,22 @@ module _ (s : State) (h : IsConsistent s) (at : ℕ) (to sender : List ℕ) (n :
   decided_sent (decision.Reserved id r) = result_sent s h at to (url_of c) Accepted (all_changes (acts_of (decision.Reserved id r))) (3, omega arith, refl)
   decided_sent (decision.Cancelled id) = result_sent s h at to (url_of c) Accepted (all_changes (acts_of (decision.Cancelled id))) (3, omega arith, refl)
 
+  -- no session changes
+  start_next : (r : Reply) (o : OpenCommand) (reservation reference : Option (List ℕ)) → AreNext s (all_changes (answered p to n r ∷ ((used p reservation ++ (opened p n o ∷ spent p reference)) ++ [])))
+  start_next r o None None = next_kinds s _ refl refl
+  start_next r o None (Some x) = next_kinds s _ refl refl
+  start_next r o (Some id) None = next_kinds s _ refl refl
+  start_next r o (Some id) (Some x) = next_kinds s _ refl refl
+
+  decided_next : (d : Decision) → AreNext s (all_changes (acts_of d))
+  decided_next (decision.Refused status) = next_kinds s _ refl refl
+  decided_next (decision.Answered w) = next_kinds s _ refl refl
+  decided_next decision.Opened = next_kinds s _ refl refl
+  decided_next (decision.Started place reservation) = start_next (reply_of at (decision.Started place reservation)) (book.open_command c (Some place) (deadline at)) reservation (reference_of c)
+  decided_next (decision.Resulted x) = next_kinds s _ refl refl
+  decided_next (decision.Noted id x) = next_kinds s _ refl refl
+  decided_next (decision.Reserved id r) = next_kinds s _ refl refl
+  decided_next (decision.Cancelled id) = next_kinds s _ refl refl
+
   pub decided_planned : (d : Decision) → Tells s at sender n c d → ArePlanned s (acts_of d)
-  decided_planned d tells = record { orderly = decided_orderly at s.rows.request to p n c d; fit = decided_fits d tells; sent = decided_sent d }
+  decided_planned d tells = record { orderly = decided_orderly at s.rows.request to p n c d; fit = decided_fits d tells; sent = decided_sent d; next = decided_next d }

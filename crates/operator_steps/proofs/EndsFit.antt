@@ -26,6 +26,7 @@ use Rattle.operator_steps.specs.Acts.{closed, told}
 use Rattle.operator_steps.specs.Ends.{IsOfSite, IsOpen, end_acts, ends_acts, url_in}
 use Rattle.operator_steps.specs.Tick.{request_of}
 use Rattle.operator_steps.proofs.Orderly.{in_later}
+use Rattle.operator_steps.proofs.Charging.{AreNext, next_append, next_kinds}
 use Rattle.operator_steps.proofs.Planning.{ArePlanned}
 use Rattle.operator_steps.proofs.Results.{settled_fit}
 use Rattle.operator_steps.proofs.Fitting.{AreFit, fit_append, left_by, left_by_act, numbered_for}
@@ -150,6 +151,11 @@ one_may s e sound stands of_site = record {
       (all_of (λ b. request_of e ≢ request_of b) [] (λ f i. absurd (in_none f i))) (no_pairs (λ a b. request_of a ≢ request_of b));
 }
 
+-- ends put no session
+pub ends_next : (at : ℕ) (m : book.OpenCommands) (s : State) (last : ℕ) (ends : List Ending) → AreNext s (all_changes (ends_acts at m last ends))
+ends_next at m s last [] = next_kinds s [] refl refl
+ends_next at m s last (e ∷ es) = next_append s (all_changes (end_acts at m last e)) (all_changes (ends_acts at m (last + 1) es)) (next_kinds s _ refl refl) (ends_next at m s (last + 1) es)
+
 -- any number of commands that end may be carried out in one step
 pub ends_planned : (s : State) (at : ℕ) (ends : List Ending) → IsConsistent s → MayAllEnd s ends → ArePlanned s (ends_acts at s.rows.commands.pending s.rows.request ends)
 ends_planned s at ends fine may =
@@ -159,4 +165,5 @@ ends_planned s at ends fine may =
       orderly = ends_orderly at s.rows.commands.pending s.rows.request ends may.differ;
       fit = ends_fit at s.rows.commands.pending s.rows.request ends (numbered_for acts s) (may_numbered s acts ends may) (omega (arith, asked));
       sent = ends_sent at s.rows.commands.pending s fine s.rows.request ends (omega arith);
+      next = ends_next at s.rows.commands.pending s s.rows.request ends;
     }

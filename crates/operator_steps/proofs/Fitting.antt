@@ -97,17 +97,17 @@ may_serial last now s below = elim (nat_eq last now) as (λ b. nat_eq last now �
   | false ↦ λ e. (moved last now below e, tt)
 ] refl
 
-may_request : (last now : ℕ) (s : State) → last ≤ now → ((n : ℕ) → IsTrue (contains_key s.rows.pushes n) → n ≤ now) → MayChangeAll s (count_change Request last now)
-may_request last now s below h = elim (nat_eq last now) as (λ b. nat_eq last now ≡ b → MayChangeAll s (cond b [] (Put (row.Count Request now) ∷ []))) [
+may_request : (last now : ℕ) (s : State) → last ≤ now → s.rows.request ≤ now → ((n : ℕ) → IsTrue (contains_key s.rows.pushes n) → n ≤ now) → MayChangeAll s (count_change Request last now)
+may_request last now s below grows h = elim (nat_eq last now) as (λ b. nat_eq last now ≡ b → MayChangeAll s (cond b [] (Put (row.Count Request now) ∷ []))) [
   | true ↦ λ e. tt
-  | false ↦ λ e. (record { given = moved last now below e; up_to = record { pushes = h; commands = λ n has. none_contained (get empty n) has (get-empty nat_cmp n) } }, tt)
+  | false ↦ λ e. (record { given = moved last now below e; grows = grows; up_to = record { pushes = h; commands = λ n has. none_contained (get empty n) has (get-empty nat_cmp n) } }, tt)
 ] refl
 
 pub may_count : (now : Counters) (s : State) → IsSound s → s.rows.serial ≤ now.serial → s.rows.request ≤ now.request → MayChangeAll s (count_changes (counters_of s) now)
 may_count now s sound first below =
     may_append (count_change Serial s.rows.serial now.serial) (count_change Request s.rows.request now.request) s (may_serial s.rows.serial now.serial s first)
     (subst (λ r. MayChangeAll (with_rows r s) (count_change Request s.rows.request now.request)) (sym (serial_first now.serial s.rows))
-    (may_request s.rows.request now.request (with_rows (record s.rows { serial = now.serial }) s) below (λ n has. let at = sound.outbox.pushes_counted n has in omega (arith, at, below))))
+    (may_request s.rows.request now.request (with_rows (record s.rows { serial = now.serial }) s) below below (λ n has. let at = sound.outbox.pushes_counted n has in omega (arith, at, below))))
 
 -- acts that fit once the counters are stored make a step whose changes may be made
 pub fit_step : (acts : List Act) (s : State) → IsSound s → AreFit (numbered_for acts s) acts → MayChangeAll s (step_of_acts s acts).changes

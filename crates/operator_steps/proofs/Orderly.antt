@@ -1,6 +1,6 @@
--- The changes of acts are of different rows, and of no counter; then those of a step of them are of different rows.
+-- The changes of acts are of different rows, and of no counter that a step stores; then those of a step of them are of different rows.
 use Rattle.std.proofs.Common.{zero, suc, ◌≡◌, ◌≢◌, ◌⊎◌, ℕ, Bool, true, false, cond, eqb, nat_eq, List, [], ◌∷◌, ◌++◌, inl, inr, refl, sym, ap, subst, ◌∙◌}
-use Rattle.std.specs.Prelude.{IsTrue, Contains, not, ◌&&◌}
+use Rattle.std.specs.Prelude.{⊤, IsTrue, Contains, not, ◌&&◌}
 use Rattle.std.proofs.lemmas.Bool.{eq-eqb, and_parts}
 use Rattle.std.proofs.lemmas.List.Elements.{Contains-append_cases, Contains-append_right}
 use Rattle.tables.proofs.Elements.{in_none, in_front, in_single}
@@ -20,11 +20,19 @@ use Rattle.operator_rows.specs.Stored.{AreApart, Each, change_key}
 abbrev pub AreOther : List Change → List Change → Type 0
 AreOther xs ys = (c d : Change) → Contains xs c → Contains ys d → change_key d ≢ change_key c
 
--- no change is of a counter
-abbrev pub AreUncounted : List Change → Type 0
-AreUncounted cs = (c : Change) → Contains cs c → (counter : Counter) → change_key c ≢ keys.Count counter
+-- the counters of packets and of requests, which a step stores by itself
+abbrev pub IsOfStep : Counter → Type 0
+IsOfStep Serial = ⊤
+IsOfStep Request = ⊤
+IsOfStep Session = ⊥
+IsOfStep Cdr = ⊥
+IsOfStep Reference = ⊥
 
--- the acts change different rows, and no counter
+-- no change is of such a counter
+abbrev pub AreUncounted : List Change → Type 0
+AreUncounted cs = (c : Change) → Contains cs c → (counter : Counter) → IsOfStep counter → change_key c ≢ keys.Count counter
+
+-- the acts change different rows, and no counter that the step stores
 pub record AreOrderly (acts : List Act) : Type 0 where
   pub apart : AreApart (all_changes acts)
   pub uncounted : AreUncounted (all_changes acts)
@@ -95,9 +103,13 @@ kind (keys.Session p id) = 14
 kind (keys.Cdr p id) = 15
 kind (keys.Command n) = 16
 
--- the row is no counter
+-- the row is none of those counters
 abbrev pub is_uncounted : RowKey → Bool
-is_uncounted (keys.Count c) = false
+is_uncounted (keys.Count Serial) = false
+is_uncounted (keys.Count Request) = false
+is_uncounted (keys.Count Session) = true
+is_uncounted (keys.Count Cdr) = true
+is_uncounted (keys.Count Reference) = true
 is_uncounted (keys.Reply sender n) = true
 is_uncounted (keys.Token party token_type uid) = true
 is_uncounted (keys.Push n) = true
@@ -121,7 +133,7 @@ abbrev pub are_different : List Change → Bool
 are_different [] = true
 are_different (c ∷ cs) = is_without (kind (change_key c)) cs && are_different cs
 
--- none is of a counter
+-- none is of such a counter
 abbrev pub are_uncounted : List Change → Bool
 are_uncounted [] = true
 are_uncounted (c ∷ cs) = is_uncounted (change_key c) && are_uncounted cs
@@ -145,30 +157,37 @@ apart_kinds (c ∷ cs) h =
     let parts = and_parts (is_without (kind (change_key c)) cs) (are_different cs) h in
     (others c cs parts.0, apart_kinds cs parts.1)
 
+step_counted : (counter : Counter) → IsOfStep counter → is_uncounted (keys.Count counter) ≡ false
+step_counted Serial h = refl
+step_counted Request h = refl
+step_counted Session h = absurd h
+step_counted Cdr h = absurd h
+step_counted Reference h = absurd h
+
 pub uncounted_kinds : (cs : List Change) → IsTrue (are_uncounted cs) → AreUncounted cs
-uncounted_kinds [] h c i counter same = absurd (in_none c i)
-uncounted_kinds (x ∷ xs) h c i counter same =
+uncounted_kinds [] h c i counter of same = absurd (in_none c i)
+uncounted_kinds (x ∷ xs) h c i counter of same =
     let parts = and_parts (is_uncounted (change_key x)) (are_uncounted xs) h in
     elim (of_cons x xs c i) [
-      | inl is ↦ let never : false ≡ true = sym (ap is_uncounted (ap change_key is ∙ same)) ∙ parts.0 in absurd (cc)
-      | inr j ↦ uncounted_kinds xs parts.1 c j counter same
+      | inl is ↦ let never : false ≡ true = sym (ap is_uncounted (ap change_key is ∙ same) ∙ step_counted counter of) ∙ parts.0 in absurd (cc)
+      | inr j ↦ uncounted_kinds xs parts.1 c j counter of same
     ]
 
--- acts whose changes are all of different kinds, none of a counter
+-- acts whose changes are all of different kinds, none of a counter that the step stores
 pub orderly_kinds : (acts : List Act) → IsTrue (are_different (all_changes acts)) → IsTrue (are_uncounted (all_changes acts)) → AreOrderly acts
 orderly_kinds acts different uncounted = record { apart = apart_kinds (all_changes acts) different; uncounted = uncounted_kinds (all_changes acts) uncounted }
 
 -- the changes of counters
-of_counter : (counter : Counter) (last now : ℕ) (c : Change) → Contains (count_change counter last now) c → change_key c ≡ keys.Count counter
+pub of_counter : (counter : Counter) (last now : ℕ) (c : Change) → Contains (count_change counter last now) c → change_key c ≡ keys.Count counter
 of_counter counter last now c h = elim (nat_eq last now) as (λ b. Contains (cond b [] (Put (row.Count counter now) ∷ [])) c → change_key c ≡ keys.Count counter) [
   | true ↦ λ i. absurd (in_none c i)
   | false ↦ λ i. subst (λ z. change_key z ≡ keys.Count counter) (in_single _ c i) refl
 ] h
 
-pub of_counters : (before now : Counters) (c : Change) → Contains (count_changes before now) c → (counter : Counter) × (change_key c ≡ keys.Count counter)
+pub of_counters : (before now : Counters) (c : Change) → Contains (count_changes before now) c → (counter : Counter) × IsOfStep counter × (change_key c ≡ keys.Count counter)
 of_counters before now c h = elim (Contains-append_cases (count_change Serial before.serial now.serial) (count_change Request before.request now.request) c h) [
-  | inl i ↦ (Serial, of_counter Serial before.serial now.serial c i)
-  | inr i ↦ (Request, of_counter Request before.request now.request c i)
+  | inl i ↦ (Serial, tt, of_counter Serial before.serial now.serial c i)
+  | inr i ↦ (Request, tt, of_counter Request before.request now.request c i)
 ]
 
 one_counter : (counter : Counter) (last now : ℕ) → AreApart (count_change counter last now)
@@ -189,4 +208,43 @@ counters_apart before now = apart_joined (count_change Serial before.serial now.
 -- the changes of a step of orderly acts are of different rows
 pub orderly_apart : (party : List ℕ) (c : Counters) (acts : List Act) → AreOrderly acts → AreApart (step_by party c acts).changes
 orderly_apart party c acts h = apart_joined (count_changes c (counted c acts)) (all_changes acts) (counters_apart c (counted c acts)) h.apart (λ x y i j same.
-    let of = of_counters c (counted c acts) x i in h.uncounted y j of.0 (same ∙ of.1))
+    let of = of_counters c (counted c acts) x i in h.uncounted y j of.0 of.1 (same ∙ of.2))
+
+-- what is left to be shown for two changes: where they are of one kind, that they are of different rows
+abbrev pub Owe : Bool → Type 0 → Type 0 → Type 0
+Owe true A B = A × B
+Owe false A B = B
+
+-- no change of the list is of that row, but for those of another kind, of which that is plain
+abbrev pub Owed : RowKey → List Change → Type 0
+Owed k [] = ⊤
+Owed k (c ∷ cs) = Owe (eqb (kind (change_key c)) (kind k)) (change_key c ≢ k) (Owed k cs)
+
+-- no two changes of the list are of one row
+abbrev pub AllOwed : List Change → Type 0
+AllOwed [] = ⊤
+AllOwed (c ∷ cs) = Owed (change_key c) cs × AllOwed cs
+
+paid : (a k : RowKey) (B : Type 0) (t : Bool) → eqb (kind a) (kind k) ≡ t → Owe t (a ≢ k) B → (a ≢ k) × B
+paid a k B true is h = h
+paid a k B false is h = (λ same. let never : false ≡ true = sym is ∙ eq-eqb (kind a) (kind k) (ap kind same) in absurd (cc), h)
+
+owed_each : (k : RowKey) (cs : List Change) → Owed k cs → (c : Change) → Contains cs c → change_key c ≢ k
+owed_each k [] h c i = absurd (in_none c i)
+owed_each k (x ∷ xs) h c i =
+    let both = paid (change_key x) k (Owed k xs) (eqb (kind (change_key x)) (kind k)) refl h in
+    elim (of_cons x xs c i) [
+      | inl is ↦ subst (λ (z : Change). change_key z ≢ k) is both.0
+      | inr j ↦ owed_each k xs both.1 c j
+    ]
+
+pub apart_owed : (cs : List Change) → AllOwed cs → AreApart cs
+apart_owed [] h = tt
+apart_owed (c ∷ cs) h = (each_by (λ d. change_key d ≢ change_key c) cs (owed_each (change_key c) cs h.0), apart_owed cs h.1)
+
+-- acts some of whose changes are of one kind
+pub orderly_owed : (acts : List Act) → AllOwed (all_changes acts) → IsTrue (are_uncounted (all_changes acts)) → AreOrderly acts
+orderly_owed acts owed uncounted = record { apart = apart_owed (all_changes acts) owed; uncounted = uncounted_kinds (all_changes acts) uncounted }
+
+pub push_apart : (m n : ℕ) → m ≢ n → keys.Push m ≢ keys.Push n
+push_apart m n h same = let one : m ≡ n = cc in h one

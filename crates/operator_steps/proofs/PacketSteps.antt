@@ -1,35 +1,73 @@
--- A packet comes: the acts may be carried out.
-use Rattle.std.proofs.Common.{ℕ, List, [], ◌∷◌, refl, sym, subst}
+-- A packet comes: what it asks for may be done.
+use Rattle.std.proofs.Common.{ℕ, List, [], ◌∷◌, refl, sym, subst, ◌∙◌}
+use Rattle.ocpi_text.specs.Text.{key}
 use Rattle.ocpi_types.specs.declared.packet.Packet.{Packet}
+use Rattle.ocpi_types.specs.declared.rows.Change.TheVariants.{Put}
+use Rattle.ocpi_types.specs.declared.rows.Row.TheVariants as row
 use Rattle.ocpi_types.specs.declared.stored.Reply.{Reply}
-use Rattle.node_steps.specs.Acts.{Act, acknowledged, all_changes, repeated}
-use Rattle.node_steps.specs.Peers.{IsPeer}
+use Rattle.ocpi_types.specs.declared.token.Token.{Token}
+use Rattle.node_steps.specs.Acts.{Act, acknowledged, all_changes, answered, changed, repeated}
+use Rattle.node_steps.specs.Peers.{HasPeer, IsPeer}
 use Rattle.operator_rows.specs.State.{State}
 use Rattle.operator_rows.specs.Sound.{IsConsistent}
 use Rattle.operator_tables.proofs.Lines.{all_tell}
 use Rattle.operator_steps.specs.Facts.{PacketsMayFollow}
-use Rattle.operator_steps.specs.Steps.{Comes, PacketLine, Again, Decided, Acknowledged, Idle}
+use Rattle.operator_steps.specs.Moves.{AreInRange, Work}
+use Rattle.operator_steps.specs.Steps.{Comes, PacketLine, Again, Decided, Sent, Acknowledged, Idle, Answered, Unasked, TokenLine, Foreign, Kept, Stored, acknowledgement}
+use Rattle.operator_steps.proofs.Charging.{next_kinds}
 use Rattle.operator_steps.proofs.Orderly.{orderly_kinds}
 use Rattle.operator_steps.proofs.Sending.{sent_none}
-use Rattle.operator_steps.proofs.Planning.{ArePlanned, may_follow}
+use Rattle.operator_steps.proofs.Planning.{ArePlanned, IsPlanned, may_follow_full, planned_quiet}
 use Rattle.operator_steps.proofs.ServiceSteps.{planned_none}
 use Rattle.operator_steps.proofs.DecidedSteps.{decided_planned}
+use Rattle.operator_steps.proofs.AnswerSteps.{answer_planned}
 
 again_planned : (s : State) (to : List ℕ) (n : ℕ) (r : Reply) → ArePlanned s (repeated to n r ∷ [])
-again_planned s to n r = record { orderly = orderly_kinds (repeated to n r ∷ []) refl refl; fit = (tt, tt); sent = sent_none s [] }
+again_planned s to n r = record { orderly = orderly_kinds (repeated to n r ∷ []) refl refl; fit = (tt, tt); sent = sent_none s []; next = next_kinds s [] refl refl }
 
 acknowledged_planned : (s : State) (n : ℕ) → ArePlanned s (acknowledged n ∷ [])
-acknowledged_planned s n = record { orderly = orderly_kinds (acknowledged n ∷ []) refl refl; fit = ((tt, tt), tt); sent = sent_none s (all_changes (acknowledged n ∷ [])) }
+acknowledged_planned s n = record {
+  orderly = orderly_kinds (acknowledged n ∷ []) refl refl;
+  fit = ((tt, tt), tt);
+  sent = sent_none s (all_changes (acknowledged n ∷ []));
+  next = next_kinds s _ refl refl;
+}
 
-line_planned : (s : State) (at : ℕ) (q : Packet) (to : List ℕ) (acts : List Act) → IsConsistent s → IsPeer s.providers q.from to → PacketLine s at q to acts → ArePlanned s acts
-line_planned s at q to acts h peer (Again c carries r kept is) = subst (ArePlanned s) (sym is) (again_planned s to q.request r)
-line_planned s at q to acts h peer (Decided c d of is) =
-    subst (ArePlanned s) (sym is) (decided_planned s h at to q.from q.request c of.new peer d (all_tell s at q.from q.request c d of.decides))
-line_planned s at q to acts h peer (Acknowledged a carries ends is) = subst (ArePlanned s) (sym is) (acknowledged_planned s q.request)
-line_planned s at q to acts h peer (Idle a carries ends is) = subst (ArePlanned s) (sym is) (planned_none s)
+-- a token is answered, and perhaps stored
+replied_planned : (s : State) (sender to : List ℕ) (n : ℕ) (r : Reply) → ArePlanned s (answered sender to n r ∷ [])
+replied_planned s sender to n r = record {
+  orderly = orderly_kinds (answered sender to n r ∷ []) refl refl;
+  fit = ((tt, tt), tt);
+  sent = sent_none s (all_changes (answered sender to n r ∷ []));
+  next = next_kinds s _ refl refl;
+}
 
-pub packet_planned : (s : State) → IsConsistent s → (at : ℕ) (q : Packet) (acts : List Act) → Comes s at q acts → ArePlanned s acts
-packet_planned s h at q acts comes = line_planned s at q comes.provider acts h comes.from comes.line
+stored_planned : (s : State) (sender to : List ℕ) (n : ℕ) (r : Reply) (t : Token) → HasPeer s.providers (key t.party) → ArePlanned s (answered sender to n r ∷ (changed (Put (row.Token t)) ∷ []))
+stored_planned s sender to n r t peer = record {
+  orderly = orderly_kinds (answered sender to n r ∷ (changed (Put (row.Token t)) ∷ [])) refl refl;
+  fit = ((tt, tt), ((peer, tt), tt));
+  sent = sent_none s (all_changes (answered sender to n r ∷ (changed (Put (row.Token t)) ∷ [])));
+  next = next_kinds s _ refl refl;
+}
+
+token_planned : (s : State) (at : ℕ) (to from : List ℕ) (n : ℕ) (t : Token) (acts : List Act) → IsPeer s.providers from to → TokenLine s at to (key from) n t acts → ArePlanned s acts
+token_planned s at to from n t acts peer (Foreign other is) = subst (ArePlanned s) (sym is) (replied_planned s (key from) to n (acknowledgement at 2001))
+token_planned s at to from n t acts peer (Kept own old is) = subst (ArePlanned s) (sym is) (replied_planned s (key from) to n (acknowledgement at 1000))
+token_planned s at to from n t acts peer (Stored own new is) =
+    subst (ArePlanned s) (sym is) (stored_planned s (key from) to n (acknowledgement at 1000) t (to, peer.listed, peer.same ∙ sym own))
+
+line_planned : (s : State) (at : ℕ) (q : Packet) (to : List ℕ) (work : Work) → IsConsistent s → IsPeer s.providers q.from to → PacketLine s at q to work → AreInRange s work.acts → IsPlanned s work
+line_planned s at q to work h peer (Again carries r kept is) range = subst (IsPlanned s) (sym is) (planned_quiet s _ h (again_planned s to q.request r))
+line_planned s at q to work h peer (Decided c d of is) range =
+    subst (IsPlanned s) (sym is) (planned_quiet s _ h (decided_planned s h at to q.from q.request c of.new peer d (all_tell s at q.from q.request c d of.decides)))
+line_planned s at q to work h peer (Sent t acts carries new line is) range = subst (IsPlanned s) (sym is) (planned_quiet s acts h (token_planned s at to q.from q.request t acts peer line))
+line_planned s at q to work h peer (Acknowledged a carries ends is) range = subst (IsPlanned s) (sym is) (planned_quiet s _ h (acknowledged_planned s q.request))
+line_planned s at q to work h peer (Idle a carries ends is) range = subst (IsPlanned s) (sym is) (planned_quiet s [] h (planned_none s))
+line_planned s at q to work h peer (Answered a carries line) range = answer_planned s h at q a work line range
+line_planned s at q to work h peer (Unasked a carries none is) range = subst (IsPlanned s) (sym is) (planned_quiet s [] h (planned_none s))
+
+pub packet_planned : (s : State) → IsConsistent s → (at : ℕ) (q : Packet) (work : Work) → Comes s at q work → AreInRange s work.acts → IsPlanned s work
+packet_planned s h at q work comes range = line_planned s at q comes.provider work h comes.from comes.line range
 
 pub packets : PacketsMayFollow
-packets at q s acts h comes = may_follow s acts h (packet_planned s h at q acts comes)
+packets at q s work h comes range = may_follow_full s work h (packet_planned s h at q work comes range)

@@ -1,27 +1,36 @@
 -- What the acts of a step must be, for it to be carried out.
-use Rattle.std.proofs.Common.{◌≡◌, ◌≢◌, ℕ, List, ◌++◌, inl, inr, refl, sym, subst, ◌∙◌}
-use Rattle.std.specs.Prelude.{Contains}
+use Rattle.std.proofs.Common.{◌≡◌, ◌≢◌, ◌≤◌, ◌+◌, ℕ, List, ◌++◌, inl, inr, refl, sym, ap, subst, ◌∙◌, arith}
+use Rattle.std.specs.Prelude.{Contains, IsTrue}
+use Rattle.std.specs.FinMap.{contains_key}
 use Rattle.std.proofs.lemmas.List.Elements.{Contains-append_cases, Contains-append_right}
+use Rattle.tables.proofs.Elements.{in_none}
+use Rattle.ocpi_types.specs.declared.rows.Row.TheVariants as row
 use Rattle.ocpi_types.specs.declared.rows.RowKey.TheVariants as keys
 use Rattle.ocpi_types.specs.declared.rows.Change.{Change}
-use Rattle.node_steps.specs.Acts.{Act, all_changes, all_volatile}
-use Rattle.node_steps.specs.Drafts.{Step, count_changes, counted}
+use Rattle.ocpi_types.specs.declared.rows.Change.TheVariants.{Put}
+use Rattle.authorization_book.specs.Waits.{MayWait, waited_all}
+use Rattle.authorization_book.specs.declared.awaited.Awaited.{Awaited}
+use Rattle.authorization_book.specs.declared.waiting.Waiting.TheVariants.{Begins}
+use Rattle.node_steps.specs.Acts.{Act, all_changes, all_requests, all_volatile}
+use Rattle.node_steps.specs.Drafts.{Counters, count_changes, counted}
 use Rattle.operator_rows.specs.State.{State}
-use Rattle.operator_rows.specs.Sound.{IsConsistent}
+use Rattle.operator_rows.specs.Sound.{IsConsistent, MayAwait}
 use Rattle.operator_rows.specs.Stored.{change_key}
-use Rattle.operator_rows.specs.Steps.{MayFollow, after, number_of}
-use Rattle.operator_steps.specs.Moves.{PlannedBy, StepBy, carried, counters_of, step_of_acts}
+use Rattle.operator_rows.specs.Steps.{FullStep, MayFollow, MayFollowFull, after, number_of}
+use Rattle.operator_steps.specs.Moves.{AreInRange, PlannedBy, StepBy, Work, carried, counters_of, quiet, step_of_acts, step_of_work}
+use Rattle.operator_steps.proofs.Charging.{AreNext}
 use Rattle.operator_steps.proofs.Orderly.{AreOrderly, of_counters, orderly_apart}
 use Rattle.operator_steps.proofs.Fitting.{AreFit, fit_step, numbered_for}
 use Rattle.operator_steps.proofs.Counts.{counters_after}
 use Rattle.operator_steps.proofs.Sending.{ActsAreSent, may_send, sent_with}
 
--- the acts change different rows and no counter; the rows allow them, one after the other, once the counters are stored; and what
--- they send stands then
+-- the acts change different rows and no counter that the step stores; the rows allow them, one after the other, once the counters are
+-- stored; what they send stands then; and the versions and charge detail records that they put may come next
 pub record ArePlanned (s : State) (acts : List Act) : Type 0 where
   pub orderly : AreOrderly acts
   pub fit : AreFit (numbered_for acts s) acts
   pub sent : ActsAreSent s acts
+  pub next : AreNext s (all_changes acts)
 
 pub may_follow : (s : State) (acts : List Act) → IsConsistent s → ArePlanned s acts → MayFollow s (step_of_acts s acts)
 may_follow s acts h plan =
@@ -29,7 +38,7 @@ may_follow s acts h plan =
     let apart = orderly_apart s.party (counters_of s) acts plan.orderly in
     let uncounted : (c : Change) → Contains counts c → (n : ℕ) → change_key c ≢ keys.Push n = λ c i n same.
     let of = of_counters (counters_of s) (counted (counters_of s) acts) c i in
-    let never : keys.Count of.0 ≡ keys.Push n = sym of.1 ∙ same in
+    let never : keys.Count of.0 ≡ keys.Push n = sym of.2 ∙ same in
     cc
     in
     record {
@@ -41,16 +50,50 @@ may_follow s acts h plan =
             (λ c j. Contains-append_right counts (all_changes acts) c j) (plan.sent.each v i);
         once = plan.sent.once;
       });
+      sessions = λ v i. elim (Contains-append_cases counts (all_changes acts) (Put (row.Session v)) i) [
+        | inl a ↦ let of = of_counters (counters_of s) (counted (counters_of s) acts) (Put (row.Session v)) a in let never = of.2 in absurd (cc)
+        | inr b ↦ plan.next.sessions v b
+      ];
+      cdrs = λ x i. elim (Contains-append_cases counts (all_changes acts) (Put (row.Cdr x)) i) [
+        | inl a ↦ let of = of_counters (counters_of s) (counted (counters_of s) acts) (Put (row.Cdr x)) a in let never = of.2 in absurd (cc)
+        | inr b ↦ plan.next.cdrs x b
+      ];
     }
 
 -- and then the counters are those that the acts come to
 pub counters_follow : (s : State) (acts : List Act) → ArePlanned s acts → counters_of (after (step_of_acts s acts) s) ≡ counted (counters_of s) acts
 counters_follow s acts plan = counters_after acts s plan.orderly
 
+-- the work may be done: its acts are planned, and what it awaits may be awaited
+pub record IsPlanned (s : State) (work : Work) : Type 0 where
+  pub acts : ArePlanned s work.acts
+  pub waits : MayWait s.waits work.waits
+  pub awaited : (n : ℕ) (w : Awaited) → Contains work.waits (Begins n w) → MayAwait s w
+  pub asked : (n : ℕ) → IsTrue (contains_key (waited_all work.waits s.waits) n) → n ≤ s.rows.request + all_requests work.acts
+
+pub planned_quiet : (s : State) (acts : List Act) → IsConsistent s → ArePlanned s acts → IsPlanned s (quiet acts)
+planned_quiet s acts h plan = record {
+  acts = plan;
+  waits = tt;
+  awaited = λ n w i. absurd (in_none _ i);
+  asked = λ n has. let given = h.asked n has in omega (arith, given);
+}
+
+pub may_follow_full : (s : State) (work : Work) → IsConsistent s → IsPlanned s work → MayFollowFull s (step_of_work s work)
+may_follow_full s work h plan = record {
+  step = may_follow s work.acts h plan.acts;
+  waits = plan.waits;
+  awaited = plan.awaited;
+  asked = λ n has.
+      let given = plan.asked n has in
+      let request = ap (λ (c : Counters). c.request) (counters_follow s work.acts plan.acts) in
+      omega (arith, given, request);
+}
+
 -- a plan that a line asks for is a step that it asks for, once it is carried out
-pub planned_step : (Line : List Act → Type 0) (s : State) (x : Step) → PlannedBy Line s x → StepBy Line s (carried s x)
-planned_step Line s x h = record { acts = h.acts; line = h.line; in_range = h.in_range; out_is = subst (λ z. carried s x ≡ carried s z) h.step_is refl }
+pub planned_step : (Line : Work → Type 0) (s : State) (x : FullStep) → PlannedBy Line s x → StepBy Line s (carried s x)
+planned_step Line s x h = record { work = h.work; line = h.line; in_range = h.in_range; out_is = subst (λ z. carried s x ≡ carried s z) h.step_is refl }
 
 -- and it may be carried out, where its acts may
-pub planned_may : (Line : List Act → Type 0) (s : State) (x : Step) → ((acts : List Act) → Line acts → MayFollow s (step_of_acts s acts)) → PlannedBy Line s x → MayFollow s x
-planned_may Line s x may h = subst (MayFollow s) (sym h.step_is) (may h.acts h.line)
+pub planned_may : (Line : Work → Type 0) (s : State) (x : FullStep) → ((work : Work) → Line work → AreInRange s work.acts → MayFollowFull s (step_of_work s work)) → PlannedBy Line s x → MayFollowFull s x
+planned_may Line s x may h = subst (MayFollowFull s) (sym h.step_is) (may h.work h.line h.in_range)

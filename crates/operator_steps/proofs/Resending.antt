@@ -17,7 +17,7 @@ use Rattle.operator_rows.specs.State.{State}
 use Rattle.operator_rows.specs.Stored.{AreApart, change_key}
 use Rattle.operator_rows.specs.Steps.{number_of}
 use Rattle.operator_steps.specs.Ends.{all_resent, resent_acts}
-use Rattle.operator_steps.proofs.Orderly.{AreOrderly, in_later}
+use Rattle.operator_steps.proofs.Orderly.{AreOrderly, IsOfStep, in_later}
 use Rattle.operator_steps.proofs.Fitting.{AreFit, fit_append, left_by}
 use Rattle.operator_steps.proofs.Sending.{ActsAreSent, Again, sent_append, sent_none}
 
@@ -74,7 +74,7 @@ module _ (at : ℕ) (m : Pushes) where
   pub resent_orderly : (numbers : List ℕ) → AreOrderly (all_resent at m numbers)
   resent_orderly numbers = record {
     apart = subst AreApart (sym (resent_changes numbers)) tt;
-    uncounted = λ c i. resent_leave numbers (λ d. (counter : Counter) → change_key d ≢ keys.Count counter) c i;
+    uncounted = λ c i. resent_leave numbers (λ d. (counter : Counter) → IsOfStep counter → change_key d ≢ keys.Count counter) c i;
   }
 
   -- the rows allow what changes none

@@ -6,7 +6,8 @@ use Rattle.std.specs.Ordering.{nat_cmp}
 use Rattle.std.specs.Cmp.{nat_cmp_total}
 use Rattle.std.specs.FinMap.{get, empty, contains_key, get-empty, nat_cmp-IsAntisymmetric}
 use Rattle.std.proofs.lemmas.List.Elements.{Contains-append_left, Contains-append_right, Contains-append_cases}
-use Rattle.tables.proofs.Elements.{in_none, in_front, in_single, no_pairs, joined}
+use Rattle.std.proofs.lemmas.List.Kept.{AllPairs-cons}
+use Rattle.tables.proofs.Elements.{all_of, in_none, in_front, in_single, no_pairs, joined}
 use Rattle.tables.proofs.Options.{known, not_both}
 use Rattle.tables.proofs.Maps.{get-insert_same, get-insert_other, get-remove_other}
 use Rattle.ocpi_types.specs.declared.rows.Change.{Change}
@@ -103,6 +104,16 @@ sent_one s changes v h = record {
   each = λ w i. subst (IsSent s changes) (in_single v w i) h;
   once = λ i j d below bound. absurd (omega (arith, below, bound));
 }
+
+-- two that differ
+pub sent_two : (s : State) (changes : List Change) (v w : Volatile) → IsSent s changes v → IsSent s changes w → number_of v ≢ number_of w → AreSent s changes (v ∷ (w ∷ []))
+sent_two s changes v w h g apart =
+    let R : Volatile → Volatile → Type 0 = λ x y. number_of x ≢ number_of y in
+    record {
+      each = λ x i. elim (of_cons v (w ∷ []) x i) [ inl is ↦ subst (IsSent s changes) is h | inr j ↦ subst (IsSent s changes) (in_single w x j) g ];
+      once = AllPairs-cons R v (w ∷ []) (all_of (R v) (w ∷ []) (λ x i. subst (R v) (in_single w x i) apart))
+          (AllPairs-cons R w [] (all_of (R w) [] (λ x i. absurd (in_none x i))) (no_pairs R));
+    }
 
 -- what is sent beside further changes, before or after, which leave it
 pub sent_with : (s : State) (xs ys : List Change) (v : Volatile) → ((c : Change) → Contains ys c → Contains xs c ⊎ (change_key c ≢ keys.Push (number_of v))) → ((c : Change) → Contains xs c → Contains ys c) → IsSent s xs v → IsSent s ys v

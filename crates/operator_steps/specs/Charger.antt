@@ -1,5 +1,5 @@
 -- What a charge point reports to its operator (OCPI 2.2.1, Commands: the results of commands).
-use Rattle.std.specs.Prelude.{◌≡◌, ℕ, List, [], ◌∷◌, Option, Some, None}
+use Rattle.std.specs.Prelude.{◌≡◌, ℕ, ◌+◌, List, [], ◌∷◌, ◌++◌, Option, Some, None}
 use Rattle.std.specs.FinMap.{get}
 use Rattle.ocpi_text.specs.Text.{key}
 use Rattle.ocpi_types.specs.declared.events.ChargerEvent.{ChargerEvent}
@@ -14,9 +14,19 @@ use Rattle.operator_steps.specs.declared.ending.Ending.{Ending}
 use Rattle.operator_rows.specs.State.{State, Rows, HasClaim}
 use Rattle.node_steps.specs.Acts.{Act}
 use Rattle.operator_steps.specs.Ends.{IsOfSite, ends_acts}
-use Rattle.operator_steps.specs.Moves.{Out, StepBy}
+use Rattle.ocpi_types.specs.declared.rows.Place.{Place}
+use Rattle.ocpi_types.specs.declared.token.Token.{Token}
+use Rattle.operator_steps.specs.Asking.{IsAsked}
+use Rattle.operator_steps.specs.Moves.{Out, StepBy, Work, quiet}
+use Rattle.operator_steps.specs.Sessions.{IsBegun, IsMoved, numbered_sessions}
+use Rattle.session_tables.specs.declared.beginning.Beginning.{Beginning}
+use Rattle.session_tables.specs.declared.shown.Shown.{Shown}
+use Rattle.session_tables.specs.declared.shown.Shown.TheVariants.{Nothing, Begins, Asks}
+use Rattle.session_tables.specs.Accepts.{Accepts}
+use Rattle.session_tables.specs.Moves.{MovesNone}
+use Rattle.session_tables.specs.Swipes.{SwipeLine}
 
--- how a command ends that the charge point carries out. A start will make a session
+-- how a command ends that the charge point carries out, but for a start, which begins a session
 abbrev pub accepted : Command → Option CommandResultType
 accepted (command.StopSession c) = Some result.Accepted
 accepted other = None
@@ -56,10 +66,47 @@ pub record IsEnded (s : State) (report : ChargerEvent) (e : Ending) : Type 0 whe
 abbrev pub EndsNone : State → ChargerEvent → Type 0
 EndsNone s report = (p : List ℕ) (n : ℕ) (o : OpenCommand) (x : CommandResultType) → get s.rows.commands.pending (p, n) ≡ Some o → EndsBy s.rows report p n o.command x → ⊥
 
--- what a report comes to, were there no last number: a command ends, or nothing happens
-pub data ChargerLine (s : State) (at : ℕ) (report : ChargerEvent) (acts : List Act) : Type 0 where
-  Ended : (e : Ending) → IsEnded s report e → acts ≡ ends_acts at s.rows.commands.pending s.rows.request (e ∷ []) → ChargerLine s at report acts
-  Idle : EndsNone s report → acts ≡ [] → ChargerLine s at report acts
+-- the charge point carries an open start out, whose provider is told, and a session begins
+pub record IsStarted (s : State) (report : ChargerEvent) (e : Ending) (b : Beginning) : Type 0 where
+  pub provider : List ℕ
+  pub report_is : report ≡ event.Accepts provider e.number
+  pub same : key provider ≡ e.provider
+  pub command : OpenCommand
+  pub stands : get s.rows.commands.pending (e.provider, e.number) ≡ Some command
+  pub begins : Accepts s.site command b
+  pub result_is : e.result ≡ result.Accepted
+  pub of_site : IsOfSite s.providers e
+
+abbrev pub StartsNone : State → ChargerEvent → Type 0
+StartsNone s report = (e : Ending) (b : Beginning) → IsStarted s report e b → ⊥
+
+-- what a driver's token comes to, where the report is that one was shown
+abbrev pub Shows : State → ChargerEvent → Shown → Type 0
+Shows s (event.Swipe evse_uid connector_id token_uid token_type) d = SwipeLine s evse_uid connector_id token_uid token_type d
+Shows s (event.Accepts provider number) d = ⊥
+Shows s (event.Refuses provider number) d = ⊥
+Shows s (event.Unlocked provider number) d = ⊥
+Shows s (event.Starts evse_uid) d = ⊥
+Shows s (event.Meter evse_uid kwh) d = ⊥
+Shows s (event.Stops evse_uid) d = ⊥
+Shows s (event.Fault evse_uid) d = ⊥
+
+-- the report is of no token that begins or asks for anything
+abbrev pub ShowsNone : State → ChargerEvent → Type 0
+ShowsNone s report = (d : Shown) → Shows s report d → d ≡ Nothing
+
+-- what a report comes to, were there no last number: a command ends; a start begins a session; a session goes on or ends; a token
+-- begins a session, or is asked about; or nothing happens
+pub data ChargerLine (s : State) (at : ℕ) (report : ChargerEvent) (work : Work) : Type 0 where
+  Ended : (e : Ending) → IsEnded s report e → work ≡ quiet (ends_acts at s.rows.commands.pending s.rows.request (e ∷ [])) → ChargerLine s at report work
+  Started : (e : Ending) (b : Beginning) (begun : List Act) → IsStarted s report e b → IsBegun s at (s.rows.request + 1) (s.rows.charged.last_session + 1) b begun →
+      work ≡ quiet (numbered_sessions (s.rows.charged.last_session + 1) ∷ (ends_acts at s.rows.commands.pending s.rows.request (e ∷ []) ++ begun)) → ChargerLine s at report work
+  Moved : (acts : List Act) → IsMoved s at report acts → work ≡ quiet acts → ChargerLine s at report work
+  Begun : (b : Beginning) (begun : List Act) → Shows s report (Begins b) → IsBegun s at s.rows.request (s.rows.charged.last_session + 1) b begun →
+      work ≡ quiet (numbered_sessions (s.rows.charged.last_session + 1) ∷ begun) → ChargerLine s at report work
+  Asked : (t : Token) (location_id : List ℕ) (place : Place) → Shows s report (Asks t location_id place) → IsAsked s at t location_id place work →
+      ChargerLine s at report work
+  Idle : EndsNone s report → StartsNone s report → MovesNone s.site s.rows at report → ShowsNone s report → work ≡ quiet [] → ChargerLine s at report work
 
 -- one step of an operator: a charge point reports at a moment
 abbrev pub ChargerStep : State → ℕ → ChargerEvent → Out → Type 0

@@ -3,10 +3,9 @@ use Rattle.std.specs.Prelude.{◌≡◌, ℕ, Bool, List}
 use Rattle.ocpi_types.specs.declared.events.ChargerEvent.{ChargerEvent}
 use Rattle.ocpi_types.specs.declared.packet.Packet.{Packet}
 use Rattle.ocpi_types.specs.declared.rows.Change.{Change}
-use Rattle.node_steps.specs.Acts.{Act}
 use Rattle.operator_rows.specs.State.{State}
 use Rattle.operator_rows.specs.Steps.{restarted}
-use Rattle.operator_steps.specs.Moves.{Out, StepBy, idle}
+use Rattle.operator_steps.specs.Moves.{Out, Quietly, StepBy, Work, idle}
 use Rattle.operator_steps.specs.Steps.{Comes}
 use Rattle.operator_steps.specs.Charger.{ChargerLine}
 use Rattle.operator_steps.specs.Tick.{TickLine}
@@ -22,12 +21,12 @@ pub data Input : Type 0 where
   Restarts : Input
 
 -- what an input comes to, were there no last number. A new start is no list of acts
-abbrev pub Asks : State → Input → List Act → Type 0
-Asks s (Arrives at q) acts = Comes s at q acts
-Asks s (Serves evse in_service) acts = ServiceLine s evse in_service acts
-Asks s (Reports at report) acts = ChargerLine s at report acts
-Asks s (Ticks at) acts = TickLine s at acts
-Asks s Restarts acts = ⊥
+abbrev pub Asks : State → Input → Work → Type 0
+Asks s (Arrives at q) work = Comes s at q work
+Asks s (Serves evse in_service) work = Quietly (ServiceLine s evse in_service) work
+Asks s (Reports at report) work = ChargerLine s at report work
+Asks s (Ticks at) work = TickLine s at work
+Asks s Restarts work = ⊥
 
 -- what reached the operator, the rows that it changed, and the packets that it sent
 pub record Event : Type 0 where

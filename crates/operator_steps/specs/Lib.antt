@@ -1,5 +1,7 @@
 pub mod Moves
 pub mod Acts
+pub mod Sessions
+pub mod Asking
 pub mod Steps
 pub mod Ends
 pub mod Charger

@@ -6,7 +6,7 @@ use Rattle.ocpi_types.specs.declared.rows.RowKey.TheVariants as keys
 use Rattle.site_book.specs.Sites.{IsEvse, works}
 use Rattle.node_steps.specs.Acts.{Act, changed}
 use Rattle.operator_rows.specs.State.{State}
-use Rattle.operator_steps.specs.Moves.{Out, StepBy}
+use Rattle.operator_steps.specs.Moves.{Out, Quietly, StepBy}
 
 -- standing claims stay; an EVSE that is unknown, or that already is what it is to be, is left as it is
 pub data ServiceLine (s : State) (evse : List ℕ) (in_service : Bool) (acts : List Act) : Type 0 where
@@ -17,4 +17,4 @@ pub data ServiceLine (s : State) (evse : List ℕ) (in_service : Bool) (acts : L
 
 -- one step of an operator: it takes no numbers, so no counter stands in its way
 abbrev pub ServiceStep : State → List ℕ → Bool → Out → Type 0
-ServiceStep s evse in_service out = StepBy (ServiceLine s evse in_service) s out
+ServiceStep s evse in_service out = StepBy (Quietly (ServiceLine s evse in_service)) s out

@@ -1,5 +1,5 @@
 -- What a packet makes an operator do.
-use Rattle.std.specs.Prelude.{◌≡◌, ◌⊎◌, ℕ, List, [], ◌∷◌, Some, None}
+use Rattle.std.specs.Prelude.{◌≡◌, ◌≢◌, ◌⊎◌, ℕ, List, [], ◌∷◌, Some, None}
 use Rattle.std.specs.FinMap.{get}
 use Rattle.ocpi_text.specs.Text.{key}
 use Rattle.ocpi_types.specs.Stored.{body_of_command}
@@ -9,14 +9,22 @@ use Rattle.ocpi_types.specs.declared.packet.Body.TheVariants as body
 use Rattle.ocpi_types.specs.declared.replies.Ack.{Ack}
 use Rattle.ocpi_types.specs.declared.stored.Command.{Command}
 use Rattle.ocpi_types.specs.declared.stored.Reply.{Reply}
+use Rattle.ocpi_types.specs.declared.authorizations.Authorization.{Authorization}
+use Rattle.ocpi_types.specs.declared.rows.Change.TheVariants.{Put}
+use Rattle.ocpi_types.specs.declared.rows.Row.TheVariants as row
+use Rattle.ocpi_types.specs.declared.stored.Reply.TheVariants as reply
+use Rattle.ocpi_types.specs.declared.token.Token.{Token}
+use Rattle.token_desk.specs.Putting.{IsNewer, IsNotNewer}
+use Rattle.authorization_book.specs.declared.awaited.Awaited.{Awaited}
 use Rattle.outbox.specs.Outbox.{IsTo}
-use Rattle.node_steps.specs.Acts.{Act, acknowledged, repeated}
+use Rattle.node_steps.specs.Acts.{Act, acknowledged, answered, changed, repeated}
 use Rattle.node_steps.specs.Peers.{IsPeer}
 use Rattle.operator_rows.specs.State.{State}
 use Rattle.operator_tables.specs.Decides.{Decides}
 use Rattle.operator_tables.specs.declared.decision.Decision.{Decision}
 use Rattle.operator_steps.specs.Acts.{decided_acts}
-use Rattle.operator_steps.specs.Moves.{Out, StepBy}
+use Rattle.operator_steps.specs.Asking.{IsAnswered, IsAwaited}
+use Rattle.operator_steps.specs.Moves.{Out, StepBy, Work, quiet}
 
 -- the acknowledgement ends a push of this operator: it has status 1000, and comes from the addressee under the push's number
 abbrev pub Acknowledges : State → Packet → Ack → Type 0
@@ -28,18 +36,38 @@ pub record IsDecided (s : State) (at : ℕ) (q : Packet) (c : Command) (d : Deci
   pub new : get s.rows.commands.replies (key q.from, q.request) ≡ None
   pub decides : Decides s.site s.rows at q.from q.request c d
 
+-- the bodies of requests that an operator answers, and keeps its replies to: commands and tokens
+abbrev pub IsRequestBody : Body → Type 0
+IsRequestBody b = ((c : Command) × (b ≡ body_of_command c)) ⊎ ((t : Token) × (b ≡ body.PutToken t))
+
+-- an acknowledgement of that status, without data
+abbrev pub acknowledgement : ℕ → ℕ → Reply
+acknowledgement at status = reply.Ack (record { status_code = status; timestamp = at })
+
+-- what becomes of a token that a provider sends under its number n (OCPI 2.2.1, Tokens: Receiver interface, PUT)
+pub data TokenLine (s : State) (at : ℕ) (to sender : List ℕ) (n : ℕ) (t : Token) (acts : List Act) : Type 0 where
+  Foreign : key t.party ≢ sender → acts ≡ answered sender to n (acknowledgement at 2001) ∷ [] → TokenLine s at to sender n t acts
+  Kept : key t.party ≡ sender → IsNotNewer s.rows.tokens t → acts ≡ answered sender to n (acknowledgement at 1000) ∷ [] → TokenLine s at to sender n t acts
+  Stored : key t.party ≡ sender → IsNewer s.rows.tokens t → acts ≡ answered sender to n (acknowledgement at 1000) ∷ (changed (Put (row.Token t)) ∷ []) →
+      TokenLine s at to sender n t acts
+
 -- what becomes of a packet of the provider that the site spells `to`. A request that has a kept reply gets that reply again;
--- another is decided. An acknowledgement ends the push that it is for, or is idle
-pub data PacketLine (s : State) (at : ℕ) (q : Packet) (to : List ℕ) (acts : List Act) : Type 0 where
-  Again : (c : Command) → q.body ≡ body_of_command c → (r : Reply) → get s.rows.commands.replies (key q.from, q.request) ≡ Some r → acts ≡ repeated to q.request r ∷ [] →
-      PacketLine s at q to acts
-  Decided : (c : Command) (d : Decision) → IsDecided s at q c d → acts ≡ decided_acts at s.rows.request to (key q.from) q.request c d → PacketLine s at q to acts
-  Acknowledged : (a : Ack) → q.body ≡ body.Ack a → Acknowledges s q a → acts ≡ acknowledged q.request ∷ [] → PacketLine s at q to acts
-  Idle : (a : Ack) → q.body ≡ body.Ack a → ¬ Acknowledges s q a → acts ≡ [] → PacketLine s at q to acts
+-- another is decided. An acknowledgement ends the push that it is for, or is idle; an answer ends the waiting that it is for, or is
+-- idle
+pub data PacketLine (s : State) (at : ℕ) (q : Packet) (to : List ℕ) (work : Work) : Type 0 where
+  Again : IsRequestBody q.body → (r : Reply) → get s.rows.commands.replies (key q.from, q.request) ≡ Some r → work ≡ quiet (repeated to q.request r ∷ []) →
+      PacketLine s at q to work
+  Decided : (c : Command) (d : Decision) → IsDecided s at q c d → work ≡ quiet (decided_acts at s.rows.request to (key q.from) q.request c d) → PacketLine s at q to work
+  Sent : (t : Token) (acts : List Act) → q.body ≡ body.PutToken t → get s.rows.commands.replies (key q.from, q.request) ≡ None →
+      TokenLine s at to (key q.from) q.request t acts → work ≡ quiet acts → PacketLine s at q to work
+  Acknowledged : (a : Ack) → q.body ≡ body.Ack a → Acknowledges s q a → work ≡ quiet (acknowledged q.request ∷ []) → PacketLine s at q to work
+  Idle : (a : Ack) → q.body ≡ body.Ack a → ¬ Acknowledges s q a → work ≡ quiet [] → PacketLine s at q to work
+  Answered : (a : Authorization) → q.body ≡ body.Authorization a → IsAnswered s at q a work → PacketLine s at q to work
+  Unasked : (a : Authorization) → q.body ≡ body.Authorization a → ((w : Awaited) → IsAwaited s q w → ⊥) → work ≡ quiet [] → PacketLine s at q to work
 
 -- the kinds of packet that an operator takes
 abbrev pub IsTaken : Body → Type 0
-IsTaken b = ((c : Command) × (b ≡ body_of_command c)) ⊎ ((a : Ack) × (b ≡ body.Ack a))
+IsTaken b = IsRequestBody b ⊎ (((a : Ack) × (b ≡ body.Ack a)) ⊎ ((a : Authorization) × (b ≡ body.Authorization a)))
 
 -- a packet to this operator, from a provider of its site, of a kind that it takes
 pub record IsForMe (s : State) (q : Packet) : Type 0 where
@@ -48,11 +76,11 @@ pub record IsForMe (s : State) (q : Packet) : Type 0 where
   pub kind : IsTaken q.body
 
 -- what a packet comes to, were there no last number
-pub record Comes (s : State) (at : ℕ) (q : Packet) (acts : List Act) : Type 0 where
+pub record Comes (s : State) (at : ℕ) (q : Packet) (work : Work) : Type 0 where
   pub to : key q.to ≡ key s.party
   pub provider : List ℕ
   pub from : IsPeer s.providers q.from provider
-  pub line : PacketLine s at q provider acts
+  pub line : PacketLine s at q provider work
 
 -- one step of an operator: a packet comes at a moment
 abbrev pub OperatorStep : State → ℕ → Packet → Out → Type 0

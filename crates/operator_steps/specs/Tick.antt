@@ -10,7 +10,8 @@ use Rattle.node_steps.specs.Acts.{Act}
 use Rattle.operator_rows.specs.State.{State, as_outbox}
 use Rattle.operator_steps.specs.declared.ending.Ending.{Ending}
 use Rattle.operator_steps.specs.Ends.{IsOfSite, all_resent, ends_acts, expired_acts}
-use Rattle.operator_steps.specs.Moves.{Out, StepBy, Stages}
+use Rattle.operator_steps.specs.Asking.{Deadlines}
+use Rattle.operator_steps.specs.Moves.{Out, Quietly, Stages, StepBy, Work}
 
 abbrev pub request_of : Ending → book.Request
 request_of e = (e.provider, e.number)
@@ -48,9 +49,10 @@ pub record Resends (last at : ℕ) (s : State) (acts : List Act) : Type 0 where
   pub are_due : AreExactly (IsToResend last s at) due
   pub acts_are : acts ≡ all_resent at s.rows.pushes due
 
--- what a moment comes to, were there no last number
-abbrev pub TickLine : State → ℕ → List Act → Type 0
-TickLine s at acts = Stages (Timeouts at ∷ (Expiries at ∷ (Resends s.rows.request at ∷ []))) s acts
+-- what a moment comes to, were there no last number: each stage sees what the ones before it left, so that an authorization whose
+-- deadline has come may take an EVSE that a timeout or an expiry freed
+abbrev pub TickLine : State → ℕ → Work → Type 0
+TickLine s at work = Stages ((λ t. Quietly (Timeouts at t)) ∷ ((λ t. Quietly (Expiries at t)) ∷ (Deadlines at ∷ ((λ t. Quietly (Resends s.rows.request at t)) ∷ [])))) s work
 
 -- one step of an operator: time passes
 abbrev pub TickStep : State → ℕ → Out → Type 0

@@ -128,8 +128,11 @@ module _ (s : State) (at : ℕ) (sender : List ℕ) (n : ℕ) where
   start_tells c d (start.Held l v k a b x h e) = told s at sender n _ d _ e (starts s sender c l v k a b (Some x.id) (holds s sender c l v k a b x h))
   start_tells c d (start.Free l v k a b g h e) = told s at sender n _ d _ e (starts s sender c l v k a b None h)
 
+  -- what a STOP_SESSION is decided to be
   pub stop_tells : (c : StopSession) (d : Decision) → stop.StopLine s.rows sender c d → Tells s at sender n (command.StopSession c) d
-  stop_tells c d (stop.UnknownSession e) = told s at sender n _ d _ e (record { not_accepted = λ f. cc; stale = λ x f. absurd (cc) })
+  stop_tells c d (stop.UnknownSession a e) = told s at sender n _ d _ e (record { not_accepted = λ f. cc; stale = λ x f. absurd (cc) })
+  stop_tells c d (stop.Ended v a b e) = told s at sender n _ d _ e (record { not_accepted = λ f. cc; stale = λ x f. absurd (cc) })
+  stop_tells c d (stop.Going v a b e) = told s at sender n _ d _ e (record { kind = inr (record { stop = c; command_is = refl; session = v; own = a; going = b }); no_start = λ x. x })
 
   -- what a RESERVE_NOW is decided to be
   pub reserve_tells : (c : ReserveNow) (d : Decision) → reserve.ReserveLine s.site s.rows at sender n c d → Tells s at sender n (command.ReserveNow c) d
@@ -157,7 +160,7 @@ module _ (s : State) (at : ℕ) (sender : List ℕ) (n : ℕ) where
   unlock_tells c d (unlock.UnknownLocation a e) = told s at sender n _ d _ e (record { status_is = inr refl; no_cancel = λ x f. absurd (cc) })
   unlock_tells c d (unlock.NoPlace l a b e) = told s at sender n _ d _ e (record { not_accepted = λ f. cc; stale = λ x f. absurd (cc) })
   unlock_tells c d (unlock.Foreign l v k a b e) = told s at sender n _ d _ e (record { not_accepted = λ f. cc; stale = λ x f. absurd (cc) })
-  unlock_tells c d (unlock.Allowed l v k a b e) = told s at sender n _ d _ e (record { unlock = c; command_is = refl; no_start = λ x. x })
+  unlock_tells c d (unlock.Allowed l v k a b e) = told s at sender n _ d _ e (record { kind = inl (record { unlock = c; command_is = refl }); no_start = λ x. x })
 
   -- what any command is decided to be
   pub all_tell : (c : Command) (d : Decision) → Decides s.site s.rows at sender n c d → Tells s at sender n c d

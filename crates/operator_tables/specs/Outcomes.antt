@@ -4,10 +4,12 @@ use Rattle.std.specs.Prelude.{◌≡◌, ◌≢◌, ◌<◌, ◌⊎◌, ℕ, tru
 use Rattle.std.specs.FinMap.{get}
 use Rattle.ocpi_text.specs.Text.{key}
 use Rattle.ocpi_types.specs.declared.commands.StartSession.{StartSession}
+use Rattle.ocpi_types.specs.declared.commands.StopSession.{StopSession}
 use Rattle.ocpi_types.specs.declared.commands.ReserveNow.{ReserveNow}
 use Rattle.ocpi_types.specs.declared.commands.CancelReservation.{CancelReservation}
 use Rattle.ocpi_types.specs.declared.commands.UnlockConnector.{UnlockConnector}
 use Rattle.ocpi_types.specs.declared.rows.Place.{Place}
+use Rattle.ocpi_types.specs.declared.sessions.Session.{Session}
 use Rattle.ocpi_types.specs.declared.stored.Command.{Command}
 use Rattle.ocpi_types.specs.declared.stored.Command.TheVariants as command
 use Rattle.ocpi_types.specs.declared.stored.Reservation.{Reservation}
@@ -17,11 +19,13 @@ use Rattle.ocpi_types.specs.declared.words.CommandResultType.{CommandResultType}
 use Rattle.ocpi_types.specs.declared.words.CommandResultType.TheVariants as result
 use Rattle.reservation_book.specs.Refusals.{IsHere, IsInTime}
 use Rattle.reservation_book.specs.Tokens.{IsToken}
+use Rattle.session_state.specs.Pasts.{IsFinal}
 use Rattle.site_book.specs.Sites.{IsConnectorOf, IsNamed, IsSiteOf, works}
 use Rattle.operator_rows.specs.State.{State, Rows, IsFree, IsSpent, IsStart}
 use Rattle.operator_tables.specs.declared.decision.Decision.{Decision}
 use Rattle.operator_tables.specs.declared.decision.Decision.TheVariants as decision
 use Rattle.operator_tables.specs.Places.{MayReserve}
+use Rattle.operator_tables.specs.Stop.{IsOwnSession}
 use Rattle.operator_tables.specs.Decides.{Decides}
 
 -- a response of another status than 1000. No cancellation gets one
@@ -34,10 +38,22 @@ pub record Answers (s : State) (sender : List ℕ) (n : ℕ) (c : Command) (w : 
   pub not_accepted : w ≢ response.Accepted
   pub stale : (x : CancelReservation) → c ≡ command.CancelReservation x → ¬ IsInTime s.rows.booked.marks (key sender, key x.reservation_id) n
 
--- an unlock, and so no start, is open until its result
-pub record Opens (c : Command) : Type 0 where
+-- the command is to unlock a connector
+pub record Unlocks (c : Command) : Type 0 where
   pub unlock : UnlockConnector
   pub command_is : c ≡ command.UnlockConnector unlock
+
+-- the command is to stop a session of the party's that has not ended
+pub record Stops (s : State) (sender : List ℕ) (c : Command) : Type 0 where
+  pub stop : StopSession
+  pub command_is : c ≡ command.StopSession stop
+  pub session : Session
+  pub own : IsOwnSession s.rows (key sender) stop session
+  pub going : ¬ IsFinal session.status
+
+-- an unlock, or a stop of a session that goes on, and so no start, is open until its result
+pub record Opens (s : State) (sender : List ℕ) (c : Command) : Type 0 where
+  pub kind : Unlocks c ⊎ Stops s sender c
   pub no_start : ¬ IsStart c
 
 -- the reservation of that id of the provider of that key is on the EVSE of that key, and is for the token of the start, at the
@@ -124,7 +140,7 @@ pub record Cancels (s : State) (sender : List ℕ) (n : ℕ) (c : Command) (id :
 abbrev pub Tells : State → ℕ → List ℕ → ℕ → Command → Decision → Type 0
 Tells s at sender n c (decision.Refused status) = Refuses c status
 Tells s at sender n c (decision.Answered w) = Answers s sender n c w
-Tells s at sender n c decision.Opened = Opens c
+Tells s at sender n c decision.Opened = Opens s sender c
 Tells s at sender n c (decision.Started place used) = Starts s sender c place used
 Tells s at sender n c (decision.Resulted x) = Fails c x
 Tells s at sender n c (decision.Noted id x) = Notes s sender n c id x

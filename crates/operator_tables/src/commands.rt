@@ -27,7 +27,7 @@ pub fn decide(books: &Books, request: &Request, sender: &Party, body: &Body) -> 
     let provider = request.provider;
     match body {
         Body::StartSession(command) => decide_start(books, sender, provider, command),
-        Body::StopSession(command) => decide_stop(books, sender, command),
+        Body::StopSession(command) => decide_stop(books, sender, provider, command),
         Body::ReserveNow(command) => decide_reserve(books, request, sender, command),
         Body::CancelReservation(command) => decide_cancel(books, request, sender, command),
         Body::UnlockConnector(command) => decide_unlock(books, sender, provider, command),

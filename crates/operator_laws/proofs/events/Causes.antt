@@ -1,10 +1,14 @@
 -- Why an event changes a row, kind by kind of row. Each act of each line has such a cause for each row that it changes; a law asks
 -- for the cause of a row, and need not know which acts there are.
-use Rattle.std.specs.Prelude.{◌≡◌, ◌≢◌, ◌⊎◌, ℕ, List, Some, None, Contains, ⊤}
+use Rattle.std.specs.Prelude.{◌≡◌, ◌≢◌, ℕ, List, Some, None, Contains, ⊤}
 use Rattle.std.specs.FinMap.{get}
 use Rattle.ocpi_text.specs.Text.{key}
 use Rattle.ocpi_types.specs.declared.commands.ReserveNow.{ReserveNow}
+use Rattle.ocpi_types.specs.Stored.{body_of_command}
+use Rattle.ocpi_types.specs.declared.packet.Body.TheVariants as body
 use Rattle.ocpi_types.specs.declared.packet.Packet.{Packet}
+use Rattle.ocpi_types.specs.declared.rows.Counter.{Counter}
+use Rattle.ocpi_types.specs.declared.rows.Counter.TheVariants as counter
 use Rattle.ocpi_types.specs.declared.rows.Row.TheVariants as row
 use Rattle.ocpi_types.specs.declared.rows.RowKey.TheVariants as keys
 use Rattle.ocpi_types.specs.declared.rows.Change.{Change}
@@ -12,19 +16,21 @@ use Rattle.ocpi_types.specs.declared.rows.Change.TheVariants.{Put, Drop}
 use Rattle.ocpi_types.specs.declared.stored.Command.{Command}
 use Rattle.ocpi_types.specs.declared.stored.Command.TheVariants as command
 use Rattle.ocpi_types.specs.declared.stored.OpenCommand.{OpenCommand}
-use Rattle.ocpi_types.specs.declared.stored.Push.{Push}
-use Rattle.ocpi_types.specs.declared.stored.Push.TheVariants as push
 use Rattle.ocpi_types.specs.declared.stored.Reply.{Reply}
 use Rattle.ocpi_types.specs.declared.words.CommandResultType.{CommandResultType}
+use Rattle.ocpi_types.specs.declared.token.Token.{Token}
 use Rattle.reservation_book.specs.Refusals.{IsInTime}
+use Rattle.token_desk.specs.Putting.{IsNewer}
 use Rattle.node_steps.specs.Acts.{Act, all_changes}
 use Rattle.node_steps.specs.Peers.{IsPeer}
 use Rattle.operator_rows.specs.State.{State}
 use Rattle.operator_rows.specs.Sound.{IsSound}
 use Rattle.operator_tables.specs.declared.decision.Decision.{Decision}
-use Rattle.operator_steps.specs.Acts.{decided_acts, reply_of, told, url_of}
+use Rattle.operator_steps.specs.Acts.{decided_acts, reply_of}
 use Rattle.operator_steps.specs.Events.{Input, Arrives}
-use Rattle.operator_steps.specs.Steps.{IsDecided}
+use Rattle.operator_steps.specs.Steps.{IsDecided, TokenLine}
+use Rattle.operator_steps.proofs.Orderly.{AreOrderly}
+use Rattle.operator_laws.specs.Laws.{IsReplyTo}
 use Rattle.operator_laws.specs.References.{Uses}
 
 -- the acts of an event are those of a decision on a command that came
@@ -39,12 +45,44 @@ pub record DecidesIt (s : State) (i : Input) (acts : List Act) : Type 0 where
   pub it : IsDecided s at packet command decision
   pub acts_are : acts ≡ decided_acts at s.rows.request to (key packet.from) packet.request command decision
 
--- a reply is kept: the decision's, to the packet that came
+-- the acts of an event are those of a token that came, and was not answered before
+pub record TakesToken (s : State) (i : Input) (acts : List Act) : Type 0 where
+  pub at : ℕ
+  pub packet : Packet
+  pub arrives : i ≡ Arrives at packet
+  pub to : List ℕ
+  pub from : IsPeer s.providers packet.from to
+  pub token : Token
+  pub carries : packet.body ≡ body.PutToken token
+  pub new : get s.rows.commands.replies (key packet.from, packet.request) ≡ None
+  pub line : TokenLine s at to (key packet.from) packet.request token acts
+
+-- a request that came is answered, for the first time
+pub record Replying (s : State) (i : Input) (acts : List Act) : Type 0 where
+  pub at : ℕ
+  pub packet : Packet
+  pub arrives : i ≡ Arrives at packet
+  pub new : get s.rows.commands.replies (key packet.from, packet.request) ≡ None
+  pub reply : Reply
+  pub puts : Contains (all_changes acts) (Put (row.Reply (key packet.from) packet.request reply))
+  pub answers : IsReplyTo reply packet.body
+  pub orderly : AreOrderly acts
+  -- a command is decided
+  pub decided : (c : Command) → packet.body ≡ body_of_command c → (h : DecidesIt s i acts) × (h.packet ≡ packet) × (reply_of h.at h.decision ≡ reply)
+
+-- a reply is kept: to the packet that came
 pub record Answering (s : State) (i : Input) (acts : List Act) (p : List ℕ) (n : ℕ) (r : Reply) : Type 0 where
-  pub decides : DecidesIt s i acts
-  pub by : key decides.packet.from ≡ p
-  pub number : decides.packet.request ≡ n
-  pub reply_is : reply_of decides.at decides.decision ≡ r
+  pub replies : Replying s i acts
+  pub by : key replies.packet.from ≡ p
+  pub number : replies.packet.request ≡ n
+  pub reply_is : replies.reply ≡ r
+
+-- a token is stored: it came from its provider, and is newer than the one before it
+pub record Storing (s : State) (i : Input) (acts : List Act) (t : Token) : Type 0 where
+  pub takes : TakesToken s i acts
+  pub token_is : takes.token ≡ t
+  pub own : key t.party ≡ key takes.packet.from
+  pub newer : IsNewer s.rows.tokens t
 
 -- a command is open: the one that came. The reference of a start was not used before, and is used now
 pub record Opening (s : State) (i : Input) (acts : List Act) (p : List ℕ) (n : ℕ) (o : OpenCommand) : Type 0 where
@@ -71,26 +109,21 @@ pub record Reserving (s : State) (i : Input) (acts : List Act) (p id : List ℕ)
   pub id_is : key asked.reservation_id ≡ id
   pub timely : IsInTime s.rows.booked.marks (p, id) decides.packet.request
 
--- the command of that number of a party was open, or comes now
-abbrev pub Stems : State → Input → List Act → List ℕ → ℕ → Command → Type 0
-Stems s i acts p m c = ((o : OpenCommand) × (get s.rows.commands.pending (p, m) ≡ Some o) × (o.command ≡ c)) ⊎
-    ((h : DecidesIt s i acts) × (key h.packet.from ≡ p) × (h.packet.request ≡ m) × (h.command ≡ c))
+-- a counter that an act may change: of sessions, or of charge detail records
+abbrev pub IsOwnCounter : Counter → Type 0
+IsOwnCounter counter.Serial = ⊥
+IsOwnCounter counter.Request = ⊥
+IsOwnCounter counter.Session = ⊤
+IsOwnCounter counter.Cdr = ⊤
+IsOwnCounter counter.Reference = ⊥
 
--- a push tells of the result of a command of its addressee, which is kept, and goes to where that command says
-pub record Posting (s : State) (i : Input) (acts : List Act) (to : List ℕ) (p : Push) : Type 0 where
-  pub number : ℕ
-  pub command : Command
-  pub result : CommandResultType
-  pub stems : Stems s i acts (key to) number command
-  pub push_is : p ≡ push.CommandResult (told (url_of command) result)
-  pub puts : Contains (all_changes acts) (Put (row.Result (key to) number result))
-
--- the cause of each change; no event has another
+-- the cause of each change, whatever state it is made in; no event has another. Of pushes, sessions, charge detail records and their
+-- counters more is said where what holds at all times holds (`Reason`)
 abbrev pub Cause : State → Input → List Act → Change → Type 0
-Cause s i acts (Put (row.Count c n)) = ⊥
+Cause s i acts (Put (row.Count c n)) = IsOwnCounter c
 Cause s i acts (Put (row.Reply p n r)) = Answering s i acts p n r
-Cause s i acts (Put (row.Token t)) = ⊥
-Cause s i acts (Put (row.Push n to p)) = Posting s i acts to p
+Cause s i acts (Put (row.Token t)) = Storing s i acts t
+Cause s i acts (Put (row.Push n to p)) = ⊤
 Cause s i acts (Put (row.Service evse)) = ⊤
 Cause s i acts (Put (row.Spent p reference)) = get s.rows.spent (p, reference) ≢ Some tt
 Cause s i acts (Put (row.Mark p id n)) = Marking s i acts p id n
@@ -98,8 +131,8 @@ Cause s i acts (Put (row.Reservation p id r)) = Reserving s i acts p id
 Cause s i acts (Put (row.Pending p n o)) = Opening s i acts p n o
 -- a command has one result
 Cause s i acts (Put (row.Result p n x)) = IsSound s → get s.rows.commands.results (p, n) ≡ None
-Cause s i acts (Put (row.Session x)) = ⊥
-Cause s i acts (Put (row.Cdr x)) = ⊥
+Cause s i acts (Put (row.Session x)) = ⊤
+Cause s i acts (Put (row.Cdr x)) = ⊤
 Cause s i acts (Put (row.Command n x)) = ⊥
 Cause s i acts (Drop (keys.Count c)) = ⊥
 Cause s i acts (Drop (keys.Reply p n)) = ⊥

@@ -19,8 +19,10 @@ use Rattle.operator_rows.specs.State.{State}
 use Rattle.operator_rows.specs.Stored.{change_key}
 use Rattle.operator_rows.specs.Sound.{IsConsistent, IsSound}
 use Rattle.operator_steps.specs.Events.{Event, Input}
+use Rattle.operator_steps.proofs.Orderly.{AreOrderly}
 use Rattle.operator_laws.proofs.events.Causes.{Answering, Cause, DecidesIt, Marking, Opening}
-use Rattle.operator_laws.proofs.events.Doing.{Does, put_stands, stays, stays_or}
+use Rattle.operator_laws.proofs.events.Decided.{replying}
+use Rattle.operator_laws.proofs.events.Doing.{Does, put_now, put_stands, stays, stays_or}
 
 -- what is put under a key is of its kind
 put_reply : (x : Row) (p : List ℕ) (n : ℕ) → keys.Reply p n ≡ key_of x → (r : Reply) × (x ≡ row.Reply p n r)
@@ -47,13 +49,21 @@ put_spent x p reference e = absurd (cc)
 pub new_for : (s : State) (i : Input) (acts : List Act) (h : DecidesIt s i acts) (p : List ℕ) (n : ℕ) → key h.packet.from ≡ p → h.packet.request ≡ n → get s.rows.commands.replies (p, n) ≡ None
 new_for s i acts h p n by number = ap (get s.rows.commands.replies) (λ j. (sym by j, sym number j)) ∙ h.it.new
 
+-- nor has one that is answered
+pub new_answer : (s : State) (i : Input) (acts : List Act) (p : List ℕ) (n : ℕ) (r : Reply) → Answering s i acts p n r → get s.rows.commands.replies (p, n) ≡ None
+new_answer s i acts p n r a = ap (get s.rows.commands.replies) (λ j. (sym a.by j, sym a.number j)) ∙ a.replies.new
+
+-- what a decision does is orderly
+pub orderly_of : (s : State) (i : Input) (acts : List Act) (h : DecidesIt s i acts) → AreOrderly acts
+orderly_of s i acts h = (replying s i acts h).orderly
+
 module _ (s : State) (i : Input) (acts : List Act) where
   -- a change whose cause is known is not of a row that is kept for good
   reply_untouched : (p : List ℕ) (n : ℕ) (r : Reply) → get s.rows.commands.replies (p, n) ≡ Some r → (c : Change) → Cause s i acts c → keys.Reply p n ≢ change_key c
   reply_untouched p n r has (Put x) cause same =
       let found = put_reply x p n same in
       let a : Answering s i acts p n found.0 = subst (λ z. Cause s i acts (Put z)) found.1 cause in
-      not_both r _ (new_for s i acts a.decides p n a.by a.number) has
+      not_both r _ (new_answer s i acts p n found.0 a) has
   reply_untouched p n r has (Drop k) cause same = subst (λ z. Cause s i acts (Drop z)) (sym same) cause
 
   result_untouched : (p : List ℕ) (n : ℕ) (r : CommandResultType) → IsSound s → get s.rows.commands.results (p, n) ≡ Some r → (c : Change) → Cause s i acts c → keys.Result p n ≢ change_key c
@@ -102,7 +112,7 @@ module _ (s t : State) (e : Event) (d : Does s e t) where
     | inl still ↦ (m, still, omega arith)
     | inr (c, i, same) ↦
         let (n, is, marking) = mark_set s e.input d.acts p id c (d.caused c i) same in
-        (n, put_stands s t e d (row.Mark p id n) tt (inl marking.decides) (subst (λ z. Contains (all_changes d.acts) z) is i), marking.timely m has)
+        (n, put_stands s t e d (row.Mark p id n) tt (orderly_of s e.input d.acts marking.decides) (subst (λ z. Contains (all_changes d.acts) z) is i), marking.timely m has)
   ]
 
   pub marks_rise : Rises s.rows.booked.marks t.rows.booked.marks
@@ -118,4 +128,4 @@ module _ (s t : State) (e : Event) (d : Does s e t) where
     where
       by : {c : Change} → Pends s e.input d.acts p n c → (x : CommandResultType) × (get t.rows.commands.results (p, n) ≡ Some x)
       by (Opened y h) = not_both r _ (new_for s e.input d.acts h.decides p n h.by h.number) replied
-      by (Ended x puts) = (x, put_stands s t e d (row.Result p n x) tt (inr fine) puts)
+      by (Ended x puts) = (x, put_now s t e d fine (row.Result p n x) puts)

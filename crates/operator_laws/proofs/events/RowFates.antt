@@ -1,8 +1,8 @@
 -- What becomes of a row, whatever changes are made: one that stands was put or stood before, and one that no change is of stays.
 use Rattle.std.proofs.Common.{◌≡◌, ◌≢◌, ◌⊎◌, List, [], ◌∷◌, inl, inr, refl, sym, ap, subst, ◌∙◌}
-use Rattle.std.specs.Prelude.{Contains, ℕ, ⊤}
+use Rattle.std.specs.Prelude.{Contains, ℕ}
 use Rattle.std.specs.Cmp.{nat_cmp_total}
-use Rattle.std.specs.FinMap.{get, nat_cmp-IsAntisymmetric}
+use Rattle.std.specs.FinMap.{get, empty, nat_cmp-IsAntisymmetric}
 use Rattle.tables.specs.Keys.{text_total, text_exact, text_number_total, text_number_exact, text_pair_total, text_pair_exact}
 use Rattle.tables.proofs.Elements.{in_none, in_front}
 use Rattle.tables.proofs.Maps.{told}
@@ -15,30 +15,17 @@ use Rattle.ocpi_types.specs.declared.rows.Change.{Change}
 use Rattle.ocpi_types.specs.declared.rows.Change.TheVariants.{Put, Drop}
 use Rattle.ocpi_types.specs.declared.rows.Counter.{Counter}
 use Rattle.ocpi_types.specs.declared.rows.Counter.TheVariants.{Serial, Request, Session, Cdr, Reference}
+use Rattle.session_book.specs.Stored.{no_rows}
 use Rattle.operator_rows.specs.State.{Rows}
 use Rattle.operator_rows.specs.Stored.{AreApart, changed, changed_all, change_key, counted}
 use Rattle.operator_rows.specs.Rows.{HasRow}
-use Rattle.operator_rows.proofs.RowChanges.{One, each_of, in_later, of_cons, one_drop, one_put}
+use Rattle.operator_rows.proofs.RowChanges.{each_of, in_later, of_cons}
+pub use Rattle.operator_laws.proofs.events.OneChange.{IsOwn}
+use Rattle.operator_laws.proofs.events.OneChange.{One, one_drop, one_put}
 
--- rows that an operator keeps, and that are no counters
-abbrev pub IsOwn : Row → Type 0
-IsOwn (row.Count c n) = ⊥
-IsOwn (row.Reply p n reply) = ⊤
-IsOwn (row.Token t) = ⊥
-IsOwn (row.Push n to push) = ⊤
-IsOwn (row.Service evse) = ⊤
-IsOwn (row.Spent p reference) = ⊤
-IsOwn (row.Mark p id n) = ⊤
-IsOwn (row.Reservation p id r) = ⊤
-IsOwn (row.Pending p n o) = ⊤
-IsOwn (row.Result p n x) = ⊤
-IsOwn (row.Session x) = ⊥
-IsOwn (row.Cdr x) = ⊥
-IsOwn (row.Command n x) = ⊥
-
--- the rows without the counters
+-- the rows without the counters, the tokens, the sessions and the charge detail records
 abbrev uncounted : Rows → Rows
-uncounted s = record s { serial = 0; request = 0 }
+uncounted s = record s { serial = 0; request = 0; tokens = empty; charged = no_rows }
 
 without_counter : (c : Counter) (n : ℕ) (s : Rows) → uncounted (counted c n s) ≡ uncounted s
 without_counter Serial n s = refl
@@ -104,7 +91,19 @@ alters (Put (row.Result p n x)) s r own = by_one (Put (row.Result p n x)) s r (o
 alters (Put (row.Session x)) s r own = by_none (Put (row.Session x)) s r own (unlike (row.Session x) r own (λ h. h)) refl
 alters (Put (row.Cdr x)) s r own = by_none (Put (row.Cdr x)) s r own (unlike (row.Cdr x) r own (λ h. h)) refl
 alters (Put (row.Command n x)) s r own = by_none (Put (row.Command n x)) s r own (unlike (row.Command n x) r own (λ h. h)) refl
-alters (Drop k) s r own = by_one (Drop k) s r (one_drop k s)
+alters (Drop (keys.Count c)) s r own = by_none (Drop (keys.Count c)) s r own (λ e. absurd (cc)) (without_counter c 0 s)
+alters (Drop (keys.Token p k u)) s r own = by_none (Drop (keys.Token p k u)) s r own (λ e. absurd (cc)) refl
+alters (Drop (keys.Session p id)) s r own = by_none (Drop (keys.Session p id)) s r own (λ e. absurd (cc)) refl
+alters (Drop (keys.Cdr p id)) s r own = by_none (Drop (keys.Cdr p id)) s r own (λ e. absurd (cc)) refl
+alters (Drop (keys.Command n)) s r own = by_none (Drop (keys.Command n)) s r own (λ e. absurd (cc)) refl
+alters (Drop (keys.Reply p n)) s r own = by_one (Drop (keys.Reply p n)) s r (one_drop (keys.Reply p n) s tt)
+alters (Drop (keys.Push n)) s r own = by_one (Drop (keys.Push n)) s r (one_drop (keys.Push n) s tt)
+alters (Drop (keys.Service evse)) s r own = by_one (Drop (keys.Service evse)) s r (one_drop (keys.Service evse) s tt)
+alters (Drop (keys.Spent p x)) s r own = by_one (Drop (keys.Spent p x)) s r (one_drop (keys.Spent p x) s tt)
+alters (Drop (keys.Mark p id)) s r own = by_one (Drop (keys.Mark p id)) s r (one_drop (keys.Mark p id) s tt)
+alters (Drop (keys.Reservation p id)) s r own = by_one (Drop (keys.Reservation p id)) s r (one_drop (keys.Reservation p id) s tt)
+alters (Drop (keys.Pending p n)) s r own = by_one (Drop (keys.Pending p n)) s r (one_drop (keys.Pending p n) s tt)
+alters (Drop (keys.Result p n)) s r own = by_one (Drop (keys.Result p n)) s r (one_drop (keys.Result p n) s tt)
 
 -- a row that stands after changes was put by one of them, or stood before
 pub row_from : (cs : List Change) (s : Rows) (r : Row) → IsOwn r → HasRow (changed_all cs s) r → Contains cs (Put r) ⊎ HasRow s r

@@ -12,18 +12,18 @@ use Rattle.ocpi_types.specs.declared.stored.OpenCommand.{OpenCommand}
 use Rattle.node_steps.specs.Acts.{Act}
 use Rattle.operator_rows.specs.State.{State, opening}
 use Rattle.operator_rows.specs.Sound.{IsConsistent}
-use Rattle.operator_rows.proofs.KeepingTimes.{follow_consistent, opening_consistent, restarted_consistent}
+use Rattle.operator_rows.proofs.KeepingTimes.{follow_full_consistent, opening_consistent, restarted_consistent}
 use Rattle.operator_steps.specs.Events.{Arrives, Event, Happens, Done, Restarted, Refused, Input}
-use Rattle.operator_steps.specs.Moves.{Out, step_of_acts}
-use Rattle.operator_laws.specs.Laws.{HoldsAlways}
+use Rattle.operator_steps.specs.Moves.{Out, step_of_work}
+use Rattle.operator_laws.specs.Laws.{HoldsAlways, IsOfParty}
 use Rattle.operator_laws.specs.References.{AreSpent, Carries, HaveOneCarrier, Uses}
 use Rattle.operator_laws.proofs.events.Causes.{DecidesIt, Opening}
 use Rattle.operator_laws.proofs.events.Doing.{Does, asked_may, does, put_stands, stood_or_put}
-use Rattle.operator_laws.proofs.events.Keeping.{spent_stays}
+use Rattle.operator_laws.proofs.events.Keeping.{orderly_of, spent_stays}
 
 pub consistent_stays : (s t : State) (e : Event) → Happens s e t → IsConsistent s → IsConsistent t
 consistent_stays s t e (Done by) fine =
-    subst (λ (o : Out). IsConsistent o.state) (sym by.out_is) (follow_consistent s (step_of_acts s by.acts) (asked_may s e.input by.acts fine by.line) fine)
+    subst (λ (o : Out). IsConsistent o.state) (sym by.out_is) (follow_full_consistent s (step_of_work s by.work) (asked_may s e.input by.work fine by.line by.in_range) fine)
 consistent_stays s t e (Restarted now is) fine = subst (λ (o : Out). IsConsistent o.state) (sym is) (restarted_consistent s fine)
 consistent_stays s t e (Refused is) fine = subst (λ (o : Out). IsConsistent o.state) (sym is) fine
 
@@ -36,7 +36,7 @@ module _ (s t : State) (e : Event) (d : Does s e t) (p : List ℕ) (n : ℕ) (re
   abbrev OpensWith : Type 0
   OpensWith = (o : OpenCommand) × Opening s e.input d.acts p n o × Uses o reference
 
-  carried_by : Carries t.rows p n reference → OpensWith ⊎ Carries s.rows p n reference
+  pub carried_by : Carries t.rows p n reference → OpensWith ⊎ Carries s.rows p n reference
   carried_by (o, has, uses) = elim (stood_or_put s t e d (row.Pending p n o) tt has) [
     | inl put ↦ inl (o, d.caused (Put (row.Pending p n o)) put, uses)
     | inr old ↦ inr (o, old, uses)
@@ -44,7 +44,7 @@ module _ (s t : State) (e : Event) (d : Does s e t) (p : List ℕ) (n : ℕ) (re
 
   -- which is spent then
   opened_spent : OpensWith → get t.rows.spent (p, reference) ≡ Some tt
-  opened_spent (o, h, uses) = put_stands s t e d (row.Spent p reference) tt (inl h.decides) (h.spends reference uses)
+  opened_spent (o, h, uses) = put_stands s t e d (row.Spent p reference) tt (orderly_of s e.input d.acts h.decides) (h.spends reference uses)
 
 module _ (s t : State) (e : Event) (d : Does s e t) (spent : AreSpent s.rows) where
   pub carried_stay_spent : AreSpent t.rows
@@ -65,21 +65,31 @@ module _ (s t : State) (e : Event) (d : Does s e t) (spent : AreSpent s.rows) wh
     ]
   ]
 
-pub holds_stays : (s t : State) (e : Event) → Happens s e t → HoldsAlways s → HoldsAlways t
-holds_stays s t e happens h =
-    let d = does s t e happens in
-    record {
-      consistent = consistent_stays s t e happens h.consistent;
-      one_carrier = one_carrier_stays s t e d h.carried_spent h.one_carrier;
-      carried_spent = carried_stay_spent s t e d h.carried_spent;
-    }
+-- the references of open starts, at any time
+pub record AreCarried (t : State) : Type 0 where
+  pub one_carrier : HaveOneCarrier t.rows
+  pub carried_spent : AreSpent t.rows
 
-pub holds_first : (line : SiteLine) → HoldsAlways (opening line)
-holds_first line = record {
-  consistent = opening_consistent line;
+pub carried_stay : (s t : State) (e : Event) → Happens s e t → AreCarried s → AreCarried t
+carried_stay s t e happens h =
+    let d = does s t e happens in
+    record { one_carrier = one_carrier_stays s t e d h.carried_spent h.one_carrier; carried_spent = carried_stay_spent s t e d h.carried_spent }
+
+pub carried_first : (line : SiteLine) → AreCarried (opening line)
+carried_first line = record {
   one_carrier = λ p m n reference g h. absurd (none p m reference g);
   carried_spent = λ p n reference g. absurd (none p n reference g);
 }
   where
     none : (p : List ℕ) (n : ℕ) (reference : List ℕ) → Carries (opening line).rows p n reference → ⊥
     none p n reference (o, has, uses) = not_both o _ (get-empty text_number_cmp (p, n)) has
+
+pub holds_stays : (s t : State) (e : Event) → Happens s e t → HoldsAlways s → HoldsAlways t
+holds_stays s t e happens h =
+    let carried = carried_stay s t e happens (record { one_carrier = h.one_carrier; carried_spent = h.carried_spent }) in
+    record { consistent = consistent_stays s t e happens h.consistent; one_carrier = carried.one_carrier; carried_spent = carried.carried_spent }
+
+pub holds_first : (line : SiteLine) → IsOfParty line → HoldsAlways (opening line)
+holds_first line own =
+    let carried = carried_first line in
+    record { consistent = opening_consistent line own; one_carrier = carried.one_carrier; carried_spent = carried.carried_spent }

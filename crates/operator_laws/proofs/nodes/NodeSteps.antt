@@ -1,91 +1,248 @@
 -- Each event of an operator is a step of a node.
-use Rattle.std.proofs.Common.{◌≡◌, ◌≢◌, ◌++◌, ℕ, List, [], ◌∷◌, refl, sym, ap, subst, ◌∙◌}
-use Rattle.std.specs.Prelude.{Contains}
-use Rattle.std.proofs.lemmas.List.Elements.{Contains-append_left, Contains-append_right}
-use Rattle.tables.proofs.Elements.{in_front}
-use Rattle.ocpi_types.specs.Rows.{key_of}
+use Rattle.std.proofs.Common.{◌≡◌, ◌⊎◌, ◌+◌, ◌≤◌, ◌<◌, ℕ, List, [], ◌∷◌, length, inl, inr, refl, sym, ap, subst, ◌∙◌, arith}
+use Rattle.std.specs.Prelude.{Option, Some, None, Contains, is_some, slice_get}
+use Rattle.std.specs.Option.{option_map}
+use Rattle.std.specs.FinMap.{get}
+use Rattle.tables.proofs.Elements.{in_front, in_single}
+use Rattle.tables.proofs.Options.{none_some}
+use Rattle.ocpi_text.specs.Text.{key}
+use Rattle.ocpi_types.specs.Stored.{body_of_push, body_of_reply}
+use Rattle.ocpi_types.specs.declared.packet.Body.{Body}
 use Rattle.ocpi_types.specs.declared.packet.Packet.{Packet}
 use Rattle.ocpi_types.specs.declared.rows.Change.{Change}
 use Rattle.ocpi_types.specs.declared.rows.Change.TheVariants.{Put, Drop}
-use Rattle.ocpi_types.specs.declared.rows.Counter.{Counter}
-use Rattle.ocpi_types.specs.declared.rows.Row.{Row}
 use Rattle.ocpi_types.specs.declared.rows.Row.TheVariants as row
 use Rattle.ocpi_types.specs.declared.rows.RowKey.TheVariants as keys
-use Rattle.node_steps.specs.Acts.{Act, all_changes}
-use Rattle.node_steps.proofs.Gathering.{changes_append}
-use Rattle.node_laws.specs.Nodes.{NodeStep}
-use Rattle.node_laws.proofs.Joining.{idle_step}
-use Rattle.operator_rows.specs.State.{State, Rows}
+use Rattle.ocpi_types.specs.declared.sessions.Session.{Session}
+use Rattle.ocpi_types.specs.declared.stored.Push.{Push}
+use Rattle.ocpi_types.specs.declared.stored.Push.TheVariants as push
+use Rattle.ocpi_types.specs.declared.stored.Reply.{Reply}
+use Rattle.ocpi_types.specs.declared.stored.Reply.TheVariants as reply
+use Rattle.ocpi_types.specs.declared.words.TokenType.{TokenType}
+use Rattle.ocpi_types.specs.declared.words.TokenType.TheVariants as type
+use Rattle.outbox.specs.Pushes.{subject, subject_of, type_number}
+use Rattle.outbox.specs.declared.push_book.Outgoing.{Outgoing}
+use Rattle.outbox.specs.declared.push_book.Subject.{Subject}
+use Rattle.node_steps.specs.Acts.{all_changes, all_messages, all_requests, push_message}
+use Rattle.node_steps.specs.Messages.{Message}
+use Rattle.node_laws.specs.Nodes as node_specs
+use Rattle.node_laws.specs.Nodes.{AreAboutSame, AreGiven, Answers, CountsPackets, IsAnswer, IsMade, IsOwn, IsReply, IsRepeated, IsSettled, KeepsReplies, KeepsRequests, NodeStep, Request, request_of}
+use Rattle.node_laws.proofs.BodyKinds.{asked_once, no_push, one_reply, reply_or_repeated}
+use Rattle.node_laws.proofs.Joining.{one_value}
+use Rattle.operator_rows.specs.State.{State}
 use Rattle.operator_rows.specs.Stored.{change_key}
-use Rattle.operator_rows.specs.Sound.{with_rows}
-use Rattle.operator_steps.specs.Events.{Done, Restarted, Refused, Input, Arrives, Serves, Reports, Ticks, Restarts, Asks}
-use Rattle.operator_steps.specs.Moves.{Out, acted}
-use Rattle.operator_steps.specs.Tick.{TickLine}
-use Rattle.operator_steps.proofs.Orderly.{AreUncounted}
-use Rattle.operator_laws.specs.AsNode.{node, came_in, StepsAreNodeSteps}
-use Rattle.operator_laws.proofs.events.Causes.{Cause}
-use Rattle.operator_laws.proofs.events.Caused.{asked_caused}
-use Rattle.operator_laws.proofs.nodes.ActSteps.{AreSteps, steps_append, steps_join}
-use Rattle.operator_laws.proofs.nodes.LineSteps.{ends_steps, expired_steps, line_steps, report_steps, resent_steps, service_steps}
-use Rattle.operator_laws.proofs.nodes.RowsThrough.{acted_through, through}
+use Rattle.operator_rows.specs.Sound.{IsConsistent}
+use Rattle.operator_steps.specs.Events.{Event, Input}
+use Rattle.operator_laws.specs.AsNode.{node, came_in, exchange, pushed_request, StepsAreNodeSteps}
+use Rattle.operator_laws.specs.Laws.{IsReplyTo}
+use Rattle.operator_laws.proofs.events.Causes.{Answering}
+use Rattle.operator_laws.proofs.events.Doing.{Does, does, put_now, stays_or, stood_or_put}
+use Rattle.operator_laws.proofs.events.Keeping.{reply_stays}
+use Rattle.operator_laws.proofs.events.Reasons as reasons
+use Rattle.operator_laws.proofs.events.Reasons.{Ending, Pushing, Reason, Saying}
+use Rattle.operator_laws.proofs.events.Standing.{consistent_stays}
+use Rattle.operator_laws.proofs.nodes.Messages.{message_of, numbered_at, numbered_length, said_of, sent_as}
+use Rattle.operator_laws.proofs.replies.Answering.{kept_or_answered}
 
--- no change with a cause is of a counter
-put_count : (x : Row) (k : Counter) → key_of x ≡ keys.Count k → (n : ℕ) × (x ≡ row.Count k n)
-put_count (row.Count c n) k e = let same : c ≡ k = cc in (n, ap (λ z. row.Count z n) same)
-put_count x k e = absurd (cc)
+-- what a map shows of an optional value
+pub shown : (o : Option Outgoing) (r : Request) → option_map pushed_request o ≡ Some r → (x : Outgoing) × (o ≡ Some x) × (pushed_request x ≡ r)
+shown None r e = absurd (let bad : None ≡ Some r = e in cc)
+shown (Some x) r e = (x, refl, let same : pushed_request x ≡ r = cc in same)
 
-uncounted : (s : State) (i : Input) (acts : List Act) → Asks s i acts → AreUncounted (all_changes acts)
-uncounted s i acts line c j = by c (asked_caused s i acts line c j)
-  where
-    by : (c : Change) → Cause s i acts c → (k : Counter) → change_key c ≢ keys.Count k
-    by (Put x) cause k same = let found = put_count x k same in subst (λ z. Cause s i acts (Put z)) found.1 cause
-    by (Drop x) cause k same = subst (λ z. Cause s i acts (Drop z)) same cause
+-- which request the reply answers, as of any node
+answers_of : (r : Reply) (b : Body) → IsReplyTo r b → Answers r b
+answers_of (reply.CommandResponse x) b h = h
+answers_of (reply.Ack x) b (t, is) = (push.PutToken t, is)
+answers_of (reply.Authorization x) b h = absurd h
 
--- so the parts of acts that change no counter
-first_uncounted : (xs ys : List Act) → AreUncounted (all_changes (xs ++ ys)) → AreUncounted (all_changes xs)
-first_uncounted xs ys h c i = h c (subst (λ l. Contains l c) (sym (changes_append xs ys)) (Contains-append_left (all_changes xs) (all_changes ys) c i))
+one_subject : (u w : Subject) → Some u ≡ Some w → u ≡ w
+one_subject u w e = cc
 
-rest_uncounted : (xs ys : List Act) → AreUncounted (all_changes (xs ++ ys)) → AreUncounted (all_changes ys)
-rest_uncounted xs ys h c i = h c (subst (λ l. Contains l c) (sym (changes_append xs ys)) (Contains-append_right (all_changes xs) (all_changes ys) c i))
+type_positive : (t : TokenType) → type_number t ≡ 0 → ⊥
+type_positive type.AdHocUser e = cc
+type_positive type.AppUser e = cc
+type_positive type.Other e = cc
+type_positive type.Rfid e = cc
 
--- each stage of a moment reads the rows that the ones before it left
-tick_steps : (s : State) (came : List Packet) (at : ℕ) (acts : List Act) → AreUncounted (all_changes acts) → TickLine s at acts → AreSteps s came s.rows acts
-tick_steps s came at acts plain (ends, after_ends, timeouts, (expired, after_expired, expiries, (again, none, resends, none_is, again_is), expired_is), ends_is) =
-    let t : State = (acted s ends).state in
-    let u : State = (acted t expired).state in
-    let all : AreUncounted (all_changes (ends ++ after_ends)) = subst (λ l. AreUncounted (all_changes l)) ends_is plain in
-    let later : AreUncounted (all_changes (expired ++ after_expired)) = subst (λ l. AreUncounted (all_changes l)) expired_is (rest_uncounted ends after_ends all) in
-    let first_rows : t.rows ≡ through ends s.rows = acted_through s ends (first_uncounted ends after_ends all) in
-    let rows : u.rows ≡ through expired (through ends s.rows) = acted_through t expired (first_uncounted expired after_expired later) ∙ ap (through expired) first_rows in
-    let third : AreSteps s came (through expired (through ends s.rows)) after_expired = subst (AreSteps s came (through expired (through ends s.rows))) (sym again_is)
-    (steps_append s came again none (through expired (through ends s.rows))
-    (subst (AreSteps s came (through expired (through ends s.rows))) (sym resends.acts_are) (resent_steps s came at u.rows.pushes resends.due (through expired (through ends s.rows)) (ap (λ (z : Rows). z.pushes) rows)))
-    (subst (AreSteps s came (through again (through expired (through ends s.rows)))) (sym none_is) tt))
-    in
-    let second : AreSteps s came (through ends s.rows) after_ends = subst (AreSteps s came (through ends s.rows)) (sym expired_is)
-    (steps_append s came expired after_expired (through ends s.rows) (subst (AreSteps s came (through ends s.rows)) (sym expiries.acts_are) (expired_steps s came expiries.expired (through ends s.rows))) third)
-    in
-    subst (AreSteps s came s.rows) (sym ends_is) (steps_append s came ends after_ends s.rows
-    (subst (AreSteps s came s.rows) (sym timeouts.acts_are)
-    (ends_steps s came at s.rows.commands.pending s.rows.request timeouts.ends s.rows (λ e i. (timeouts.timed_out.each e i).of_site.listed) refl)) second)
+-- what a version replaces is an older one of its session
+pub about_same : (to a : List ℕ) (p : Push) (v : Session) → subject a p ≡ subject to (push.PutSession v) → (w : Session) × (p ≡ push.PutSession w) × (key w.party ≡ key v.party) × (key w.id ≡ key v.id)
+about_same to a (push.CommandResult x) v e = none_some _ e
+about_same to a (push.PostCdr x) v e = none_some _ e
+about_same to a (push.PutToken t) v e = absurd (type_positive t.token_type (ap (λ (u : Subject). u.kind) (one_subject _ _ e)))
+about_same to a (push.PutSession w) v e = let same = one_subject _ _ e in (w, refl, ap (λ (u : Subject). u.party) same, ap (λ (u : Subject). u.id) same)
 
-asked_steps : (s : State) (i : Input) (acts : List Act) → Asks s i acts → AreSteps s (came_in i) s.rows acts
-asked_steps s (Arrives at q) acts comes = line_steps s (q ∷ []) at q comes.provider (in_front q []) comes.from acts comes.line
-asked_steps s (Serves evse in_service) acts line = service_steps s [] evse in_service acts line
-asked_steps s (Reports at report) acts line = report_steps s [] at report acts line
-asked_steps s (Ticks at) acts line = tick_steps s [] at acts (uncounted s (Ticks at) acts line) line
-asked_steps s Restarts acts line = absurd line
+-- a change of a push makes it, or ends it
+pub data OfPush (n : ℕ) (c : Change) : Type 0 where
+  Made : (to : List ℕ) (p : Push) → c ≡ Put (row.Push n to p) → OfPush n c
+  Ended : c ≡ Drop (keys.Push n) → OfPush n c
 
-module _ (s : State) (i : Input) where
-  abbrev StepTo : Out → Type 0
-  StepTo o = NodeStep (node s) (record { came = came_in i; packets = o.packets }) (node o.state)
+pub of_push : (n : ℕ) (c : Change) → keys.Push n ≡ change_key c → OfPush n c
+of_push n (Put (row.Push m to p)) e = let same : m ≡ n = cc in Made to p (ap (λ z. Put (row.Push z to p)) same)
+of_push n (Put x) e = absurd (cc)
+of_push n (Drop k) e = Ended (ap Drop (sym e))
 
-  acted_step : (acts : List Act) → Asks s i acts → StepTo (acted s acts)
-  acted_step acts line =
-      subst (λ r. NodeStep (node s) (record { came = came_in i; packets = (acted s acts).packets }) (node (with_rows r s))) (sym (acted_through s acts (uncounted s i acts line)))
-      (steps_join s (came_in i) acts s.rows (asked_steps s i acts line))
+module _ (s t : State) (e : Event) (d : Does s e t) where
+  pub counts : CountsPackets (node s) (exchange e) (node t)
+  counts = record {
+    party = d.party;
+    peers = d.providers;
+    serial = d.serial ∙ ap (λ n. s.rows.serial + n) (sym (ap length d.packets ∙ numbered_length s.party s.rows.serial (all_messages d.acts)));
+    each = λ k x at. let (from, number) = numbered_at s.party s.rows.serial (all_messages d.acts) k x (subst (λ l. slice_get l k ≡ Some x) d.packets at) in record { from = from; serial = number };
+  }
+
+  -- the message of a packet, and the packet of a message
+  pub message_in : (x : Packet) → Contains e.packets x → Contains (all_messages d.acts) (message_of x)
+  message_in x i = said_of s.party s.rows.serial (all_messages d.acts) x (subst (λ l. Contains l x) d.packets i)
+
+  pub packet_in : (m : Message) → Contains (all_messages d.acts) m → (x : Packet) × Contains e.packets x × (message_of x ≡ m)
+  packet_in m i =
+      let (x, sent, is) = sent_as s.party s.rows.serial (all_messages d.acts) m i in
+      (x, subst (λ l. Contains l x) (sym d.packets) sent, is)
+
+  module _ (fine : IsConsistent s) (after : IsConsistent t) where
+    pub saying : (x : Packet) → Contains e.packets x → Saying s e.input d.acts (message_of x)
+    saying x i = d.sayings fine (message_of x) (message_in x i)
+
+    pub pushing : (n : ℕ) (to : List ℕ) (p : Push) → Contains (all_changes d.acts) (Put (row.Push n to p)) → Pushing s e.input d.acts n to p
+    pushing n to p puts = d.reasons fine (Put (row.Push n to p)) puts
+
+    abbrev KeptReply : Packet → Reply → Type 0
+    KeptReply x r = get t.rows.commands.replies (key x.to, x.request) ≡ Some r
+
+    kept_reply : (x : Packet) (r : Reply) → x.body ≡ body_of_reply r → Saying s e.input d.acts (message_of x) → KeptReply x r
+    kept_reply x r is (reasons.Replies q body_is listed (inl puts)) = subst (KeptReply x) (one_reply q r (sym body_is ∙ is)) (put_now s t e d fine (row.Reply (key x.to) x.request q) puts)
+    kept_reply x r is (reasons.Replies q body_is listed (inr had)) = subst (KeptReply x) (one_reply q r (sym body_is ∙ is)) (reply_stays s t e d (key x.to) x.request q had)
+    kept_reply x r is (reasons.Pushes p body_is puts) = absurd (no_push r p (sym is ∙ body_is))
+    kept_reply x r is (reasons.Again p body_is stood) = absurd (no_push r p (sym is ∙ body_is))
+    kept_reply x r is (reasons.Asks a body_is listed number acts_are) = absurd ((asked_once x.body a body_is).0 (r, is))
+
+    answered : (p : List ℕ) (n : ℕ) (r : Reply) → Answering s e.input d.acts p n r → IsAnswer (exchange e) p n r
+    answered p n r a = record {
+      packet = a.replies.packet;
+      came = subst (λ (i : Input). Contains (came_in i) a.replies.packet) (sym a.replies.arrives) (in_front a.replies.packet []);
+      from = a.by;
+      number = a.number;
+      answers = answers_of r a.replies.packet.body (subst (λ z. IsReplyTo z a.replies.packet.body) a.reply_is a.replies.answers);
+    }
+
+    keeps_replies : KeepsReplies (node s) (exchange e) (node t)
+    keeps_replies = record {
+      stay = λ k r has. reply_stays s t e d k.0 k.1 r has;
+      answer = λ p n r has. elim (kept_or_answered s t e d p n r has) [ inl old ↦ inl old | inr a ↦ inr (answered p n r a) ];
+      kept = λ x r i is. kept_reply x r is (saying x i);
+    }
+
+    -- a push that is made stands
+    pub made_stands : (n : ℕ) (to : List ℕ) (p : Push) → Contains (all_changes d.acts) (Put (row.Push n to p)) → get t.rows.pushes n ≡ Some (record { to = to; push = p })
+    made_stands n to p puts = put_now s t e d fine (row.Push n to p) puts
+
+    pub numbered_below : (n : ℕ) (o : Outgoing) → get t.rows.pushes n ≡ Some o → n ≤ t.rows.request
+    numbered_below n o has = after.sound.outbox.pushes_counted n (ap is_some has)
+
+    module _ (given : AreGiven (node s)) where
+      -- a request that is sent: one that stood, or a new one, or the only message
+      data Sent (x : Packet) : Type 0 where
+        Old : (node s).standing x.request ≡ Some (request_of x) → Sent x
+        New : s.rows.request < x.request → (node t).standing x.request ≡ Some (request_of x) → x.request ≤ t.rows.request → Sent x
+        Only : all_messages d.acts ≡ message_of x ∷ [] → s.rows.request < x.request → x.request ≤ t.rows.request → Sent x
+
+      request_is : (x : Packet) (p : Push) → x.body ≡ body_of_push p → pushed_request (record { to = x.to; push = p }) ≡ request_of x
+      request_is x p is = ap (λ (b : Body). record { to = x.to; body = b }) (sym is)
+
+      sent_how : (x : Packet) → ¬ IsReply x.body → Saying s e.input d.acts (message_of x) → Sent x
+      sent_how x apart (reasons.Replies q is listed how) = absurd (apart (q, is))
+      sent_how x apart (reasons.Pushes p is puts) =
+          let stands = made_stands x.request x.to p puts in
+          New (pushing x.request x.to p puts).above (ap (option_map pushed_request) stands ∙ ap (λ z. Some z) (request_is x p is)) (numbered_below x.request _ stands)
+      sent_how x apart (reasons.Again p is stood) = Old (ap (option_map pushed_request) stood ∙ ap (λ z. Some z) (request_is x p is))
+      sent_how x apart (reasons.Asks a is listed number acts_are) =
+          Only (ap all_messages acts_are ∙ (λ i. record { to = x.to; request = (sym number) i; body = (sym is) i } ∷ [])) (omega (arith, number))
+          (let more = d.request in let one = ap all_requests acts_are in omega (arith, number, more, one))
+
+      to_listed : (x : Packet) → Saying s e.input d.acts (message_of x) → Contains s.providers x.to
+      to_listed x (reasons.Replies q is listed how) = listed
+      to_listed x (reasons.Pushes p is puts) = (pushing x.request x.to p puts).listed
+      to_listed x (reasons.Again p is stood) = (given x.request (pushed_request (record { to = x.to; push = p })) (ap (option_map pushed_request) stood)).peer
+      to_listed x (reasons.Asks a is listed number acts_are) = listed
+
+      own : (x : Packet) → Sent x → IsOwn (node s) (node t) x
+      own x (Old stood) = inl stood
+      own x (New above stands below) = inr (above, below)
+      own x (Only alone above below) = inr (above, below)
+
+      -- the only message is that of each packet
+      only : (x y : Packet) → all_messages d.acts ≡ message_of x ∷ [] → Contains e.packets y → request_of x ≡ request_of y
+      only x y alone j =
+          let same = in_single (message_of x) (message_of y) (subst (λ l. Contains l (message_of y)) alone (message_in y j)) in
+          ap (λ (m : Message). record { to = m.to; body = m.body }) same
+
+      one : (x y : Packet) → Contains e.packets x → Contains e.packets y → x.request ≡ y.request → Sent x → Sent y → request_of x ≡ request_of y
+      one x y i j equal (Only alone above below) other = only x y alone j
+      one x y i j equal other (Only alone above below) = sym (only y x alone i)
+      one x y i j equal (Old a) (Old b) = one_value (request_of x) (request_of y) (sym a ∙ ap (node s).standing equal ∙ b)
+      one x y i j equal (New above a below) (New over b under) = one_value (request_of x) (request_of y) (sym a ∙ ap (node t).standing equal ∙ b)
+      one x y i j equal (Old a) (New above b below) = absurd (let under = (given x.request (request_of x) a).below in omega (arith, under, above, equal))
+      one x y i j equal (New above a below) (Old b) = absurd (let under = (given y.request (request_of y) b).below in omega (arith, under, above, equal))
+
+      made_now : (n : ℕ) (o : Outgoing) → get t.rows.pushes n ≡ Some o → Contains (all_changes d.acts) (Put (row.Push n o.to o.push)) → IsMade (node s) (exchange e) (node t) n (pushed_request o)
+      made_now n o has puts =
+          let h = pushing n o.to o.push puts in
+          let (x, sent, is) = packet_in (push_message n o.to o.push) h.says in
+          record { above = h.above; given = numbered_below n o has; packet = x; was_sent = sent; number = ap (λ (m : Message). m.request) is; request = ap (λ (m : Message). record { to = m.to; body = m.body }) is }
+
+      made : (n : ℕ) (r : Request) → (node t).standing n ≡ Some r → ((node s).standing n ≡ Some r) ⊎ IsMade (node s) (exchange e) (node t) n r
+      made n r has =
+          let (o, stands, is) = shown (get t.rows.pushes n) r has in
+          elim (stood_or_put s t e d (row.Push n o.to o.push) tt stands) [
+            | inl puts ↦ inr (subst (IsMade (node s) (exchange e) (node t) n) is (made_now n o stands puts))
+            | inr old ↦ inl (ap (option_map pushed_request) old ∙ ap (λ z. Some z) is)
+          ]
+
+      settled_by : (n : ℕ) (o : Outgoing) → get s.rows.pushes n ≡ Some o → Ending s e.input d.acts n → IsSettled (exchange e) n (pushed_request o)
+      settled_by n o stood (reasons.Acknowledged at q a arrives is done (x, has, same) number) =
+          let it = one_value x o (sym has ∙ stood) in
+          node_specs.Acknowledged q (subst (λ (i : Input). Contains (came_in i) q) (sym arrives) (in_front q [])) a is done (sym same ∙ ap (λ (z : Outgoing). key z.to) it) number
+      settled_by n o stood (reasons.Replaced v to x m has about above says stored) =
+          let it = one_value x o (sym has ∙ stood) in
+          let (w, push_is, party, id) = about_same to o.to o.push v (ap subject_of (sym it) ∙ about) in
+          let (y, sent, is) = packet_in (push_message m to (push.PutSession v)) says in
+          let below = (given n (pushed_request o) (ap (option_map pushed_request) stood)).below in
+          let number = ap (λ (z : Message). z.request) is in
+          node_specs.Replaced y sent (omega (arith, below, above, number)) (node_specs.Sessions w v (ap body_of_push push_is) (ap (λ (z : Message). z.body) is) party id)
+
+      changed_push : (n : ℕ) (o : Outgoing) → get s.rows.pushes n ≡ Some o → (c : Change) → Contains (all_changes d.acts) c → OfPush n c → IsSettled (exchange e) n (pushed_request o)
+      changed_push n o stood c i (Made to p is) =
+          let above = (pushing n to p (subst (λ z. Contains (all_changes d.acts) z) is i)).above in
+          let below = (given n (pushed_request o) (ap (option_map pushed_request) stood)).below in
+          absurd (omega (arith, above, below))
+      changed_push n o stood c i (Ended is) = settled_by n o stood (d.reasons fine (Drop (keys.Push n)) (subst (λ z. Contains (all_changes d.acts) z) is i))
+
+      stays : (n : ℕ) (r : Request) → (node s).standing n ≡ Some r → ((node t).standing n ≡ Some r) ⊎ IsSettled (exchange e) n r
+      stays n r has =
+          let (o, stood, is) = shown (get s.rows.pushes n) r has in
+          elim (stays_or s t e d (row.Push n o.to o.push) tt stood) [
+            | inl still ↦ inl (ap (option_map pushed_request) still ∙ ap (λ z. Some z) is)
+            | inr (c, i, same) ↦ inr (subst (IsSettled (exchange e) n) is (changed_push n o stood c i (of_push n c same)))
+          ]
+
+      stands : (x : Packet) → IsRepeated x.body → Saying s e.input d.acts (message_of x) → ((node t).standing x.request ≡ Some (request_of x)) ⊎ IsSettled (exchange e) x.request (request_of x)
+      stands x repeated (reasons.Replies q is listed how) = absurd (reply_or_repeated x.body (q, is) repeated)
+      stands x repeated (reasons.Pushes p is puts) = inl (ap (option_map pushed_request) (made_stands x.request x.to p puts) ∙ ap (λ z. Some z) (request_is x p is))
+      stands x repeated (reasons.Again p is stood) = stays x.request (request_of x) (ap (option_map pushed_request) stood ∙ ap (λ z. Some z) (request_is x p is))
+      stands x repeated (reasons.Asks a is listed number acts_are) = absurd ((asked_once x.body a is).1 repeated)
+
+      asks : KeepsRequests (node s) (exchange e) (node t)
+      asks = record {
+        to_peer = λ x i. to_listed x (saying x i);
+        own = λ x i apart. own x (sent_how x apart (saying x i));
+        one = λ x y i j x_apart y_apart equal. one x y i j equal (sent_how x x_apart (saying x i)) (sent_how y y_apart (saying y j));
+        made = made;
+        stays = stays;
+        stands = λ x i repeated. stands x repeated (saying x i);
+      }
+
+    pub node_step : NodeStep (node s) (exchange e) (node t)
+    node_step = record { counts = counts; replies = keeps_replies; rises = (let more = d.request in omega (arith, more)); asks = asks }
 
 pub steps_are_node_steps : StepsAreNodeSteps
-steps_are_node_steps s t e (Done by) = subst (StepTo s e.input) (sym by.out_is) (acted_step s e.input by.acts by.line)
-steps_are_node_steps s t e (Restarted now is) = subst (StepTo s e.input) (sym is) (idle_step (node s) (came_in e.input))
-steps_are_node_steps s t e (Refused is) = subst (StepTo s e.input) (sym is) (idle_step (node s) (came_in e.input))
+steps_are_node_steps s t e fine happens = node_step s t e (does s t e happens) fine (consistent_stays s t e happens fine)

@@ -1,5 +1,5 @@
 -- A reference of a provider opens one start at most.
-use Rattle.std.proofs.Common.{zero, suc, ◌≡◌, ◌≢◌, ℕ, List, [], ◌∷◌, inl, refl, sym, ap, subst}
+use Rattle.std.proofs.Common.{zero, suc, ◌≡◌, ◌≢◌, ℕ, List, [], ◌∷◌, refl, sym, ap, subst}
 use Rattle.std.specs.Prelude.{Some, slice_get}
 use Rattle.std.specs.FinMap.{get}
 use Rattle.ocpi_types.specs.declared.rows.Row.TheVariants as row
@@ -9,7 +9,7 @@ use Rattle.operator_steps.specs.Events.{Event}
 use Rattle.operator_laws.specs.Laws.{OneStart, Opens, Run}
 use Rattle.operator_laws.proofs.events.Causes.{Opening}
 use Rattle.operator_laws.proofs.events.Doing.{Does, does, put_by, put_stands}
-use Rattle.operator_laws.proofs.events.Keeping.{spent_stays}
+use Rattle.operator_laws.proofs.events.Keeping.{orderly_of, spent_stays}
 
 -- a start that an event opens has a reference that was not spent, and is spent from then on
 record Spends (s t : State) (p reference : List ℕ) : Type 0 where
@@ -19,7 +19,7 @@ record Spends (s t : State) (p reference : List ℕ) : Type 0 where
 opens : (s t : State) (e : Event) → Does s e t → (p reference : List ℕ) → Opens e p reference → Spends s t p reference
 opens s t e d p reference (n, o, puts, uses) =
     let h : Opening s e.input d.acts p n o = d.caused (Put (row.Pending p n o)) (put_by s t e d (row.Pending p n o) tt puts) in
-    record { unspent = h.unspent reference uses; spent = put_stands s t e d (row.Spent p reference) tt (inl h.decides) (h.spends reference uses) }
+    record { unspent = h.unspent reference uses; spent = put_stands s t e d (row.Spent p reference) tt (orderly_of s e.input d.acts h.decides) (h.spends reference uses) }
 
 -- a spent reference opens no start
 no_more : (es : List Event) (s t : State) → Run s es t → (p reference : List ℕ) → get s.rows.spent (p, reference) ≡ Some tt → (i : ℕ) (e : Event) → slice_get es i ≡ Some e → Opens e p reference → ⊥

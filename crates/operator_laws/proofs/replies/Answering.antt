@@ -23,10 +23,11 @@ use Rattle.operator_tables.proofs.Lines.{all_tell}
 use Rattle.operator_tables.specs.Outcomes.{Tells}
 use Rattle.operator_steps.specs.Acts.{refusal, reply_of, responded}
 use Rattle.operator_steps.specs.Events.{Arrives, Event, Happens, Input}
-use Rattle.operator_laws.specs.Laws.{RepliesAnswer}
+use Rattle.operator_laws.specs.Laws.{IsReplyTo, RepliesAnswer}
 use Rattle.operator_laws.specs.Replied.{AnswersIt}
 use Rattle.operator_laws.proofs.events.Causes.{Answering, DecidesIt}
 use Rattle.operator_laws.proofs.events.Doing.{Does, does, put_stands, stood_or_put}
+use Rattle.operator_laws.proofs.events.Keeping.{orderly_of}
 
 -- a decision puts its reply
 pub answer_put : (s : State) (i : Input) (acts : List Act) (h : DecidesIt s i acts) → Contains (all_changes acts) (Put (row.Reply (key h.packet.from) h.packet.request (reply_of h.at h.decision)))
@@ -36,10 +37,13 @@ answer_put s i acts h = subst (λ l. Contains (all_changes l) (Put (row.Reply (k
 pub told_of : (s : State) (i : Input) (acts : List Act) (h : DecidesIt s i acts) → Tells s h.at h.packet.from h.packet.request h.command h.decision
 told_of s i acts h = all_tell s h.at h.packet.from h.packet.request h.command h.decision h.it.decides
 
+one_arrival : (at when : ℕ) (q r : Packet) → Arrives at q ≡ Arrives when r → q ≡ r
+one_arrival at when q r e = cc
+
 module _ (s t : State) (e : Event) (d : Does s e t) where
   -- the reply of a decision is kept from now on
   pub replied_now : (h : DecidesIt s e.input d.acts) → get t.rows.commands.replies (key h.packet.from, h.packet.request) ≡ Some (reply_of h.at h.decision)
-  replied_now h = put_stands s t e d (row.Reply (key h.packet.from) h.packet.request (reply_of h.at h.decision)) tt (inl h) (answer_put s e.input d.acts h)
+  replied_now h = put_stands s t e d (row.Reply (key h.packet.from) h.packet.request (reply_of h.at h.decision)) tt (orderly_of s e.input d.acts h) (answer_put s e.input d.acts h)
 
   -- a decision answers its packet
   pub answers_now : (h : DecidesIt s e.input d.acts) → AnswersIt s e t h.packet (reply_of h.at h.decision)
@@ -55,36 +59,38 @@ module _ (s t : State) (e : Event) (d : Does s e t) where
     pub packet_is : it.packet ≡ q
     pub reply_is : reply_of it.at it.decision ≡ r
 
-  pub was_decided : (q : Packet) (r : Reply) → AnswersIt s e t q r → WasDecided q r
-  was_decided q r a = elim (kept_or_answered (key q.from) q.request r a.kept) [
+  pub was_decided : (q : Packet) (r : Reply) (c : Command) → q.body ≡ body_of_command c → AnswersIt s e t q r → WasDecided q r
+  was_decided q r c is a = elim (kept_or_answered (key q.from) q.request r a.kept) [
     | inl old ↦ absurd (not_both r _ a.new old)
-    | inr h ↦ record { it = h.decides; packet_is = (let both : Arrives h.decides.at h.decides.packet ≡ Arrives a.at q = sym h.decides.arrives ∙ a.comes in cc); reply_is = h.reply_is }
+    | inr h ↦
+        let came : h.replies.packet ≡ q = one_arrival h.replies.at a.at h.replies.packet q (subst (λ z. z ≡ Arrives a.at q) h.replies.arrives a.comes) in
+        let (it, same, reply) = h.replies.decided c (subst (λ (z : Packet). z.body ≡ body_of_command c) (sym came) is) in
+        record { it = it; packet_is = same ∙ came; reply_is = reply ∙ h.reply_is }
   ]
 
   -- the command of the decision is the one that the packet carries
   pub command_is : (q : Packet) (r : Reply) (w : WasDecided q r) (c : Command) → q.body ≡ body_of_command c → w.it.command ≡ c
   command_is q r w c is = same_command w.it.command c (sym w.it.it.carries ∙ ap (λ (z : Packet). z.body) w.packet_is ∙ is)
 
--- the event brings the command of that party and number
-record Brings (e : Event) (p : List ℕ) (n : ℕ) : Type 0 where
+-- the event brings the request of that party and number, which the reply answers
+record Brings (e : Event) (p : List ℕ) (n : ℕ) (r : Reply) : Type 0 where
   at : ℕ
   packet : Packet
   arrives : e.input ≡ Arrives at packet
   by : key packet.from ≡ p
   number : packet.request ≡ n
-  command : Command
-  carries : packet.body ≡ body_of_command command
+  answers : IsReplyTo r packet.body
 
-brought : (p : List ℕ) (n : ℕ) (r : Reply) (s t : State) (e : Event) → Happens s e t → get t.rows.commands.replies (p, n) ≡ Some r → (get s.rows.commands.replies (p, n) ≡ Some r) ⊎ Brings e p n
+brought : (p : List ℕ) (n : ℕ) (r : Reply) (s t : State) (e : Event) → Happens s e t → get t.rows.commands.replies (p, n) ≡ Some r → (get s.rows.commands.replies (p, n) ≡ Some r) ⊎ Brings e p n r
 brought p n r s t e happens has = elim (kept_or_answered s t e (does s t e happens) p n r has) [
   | inl old ↦ inl old
-  | inr h ↦ inr (record { at = h.decides.at; packet = h.decides.packet; arrives = h.decides.arrives; by = h.by; number = h.number; command = h.decides.command; carries = h.decides.it.carries })
+  | inr h ↦ inr (record { at = h.replies.at; packet = h.replies.packet; arrives = h.replies.arrives; by = h.by; number = h.number; answers = subst (λ z. IsReplyTo z h.replies.packet.body) h.reply_is h.replies.answers })
 ]
 
 pub replies_answer : RepliesAnswer
-replies_answer line es t run p n r has = elim (made_runs Happens (λ z. get z.rows.commands.replies (p, n) ≡ Some r) (λ e. Brings e p n) (brought p n r) (opening line) t es run has) [
+replies_answer line es t run p n r has = elim (made_runs Happens (λ z. get z.rows.commands.replies (p, n) ≡ Some r) (λ e. Brings e p n r) (brought p n r) (opening line) t es run has) [
   | inl old ↦ absurd (not_both r _ (get-empty text_number_cmp (p, n)) old)
-  | inr (e, i, b) ↦ (b.packet, (e, i, (b.at, b.arrives)), b.by, b.number, (b.command, b.carries))
+  | inr (e, i, b) ↦ (b.packet, (e, i, (b.at, b.arrives)), b.by, b.number, b.answers)
 ]
 
 -- the word of a response of status 1000

@@ -28,7 +28,7 @@ use Rattle.operator_laws.specs.Laws.{ReservationsAreNewer, Run}
 use Rattle.operator_laws.specs.Replied.{CancellationsAreMarked, IsMarked, ReservationsAreMarked}
 use Rattle.operator_laws.proofs.events.Causes.{DecidesIt, Marking}
 use Rattle.operator_laws.proofs.events.Doing.{Does, does, put_by, put_stands}
-use Rattle.operator_laws.proofs.events.Keeping.{mark_rises, new_for, reply_stays}
+use Rattle.operator_laws.proofs.events.Keeping.{orderly_of, mark_rises, new_for, reply_stays}
 use Rattle.operator_laws.proofs.replies.Answering.{command_is, no_word, replied_now, same_word, told_of, was_decided}
 use Rattle.operator_laws.proofs.standing.AtAllTimes.{stays_marked}
 
@@ -44,7 +44,7 @@ marked s t e d p id n puts =
     let here = put_by s t e d (row.Mark p id n) tt puts in
     let h : Marking s e.input d.acts p id n = d.caused (Put (row.Mark p id n)) here in
     record {
-      stands = put_stands s t e d (row.Mark p id n) tt (inl h.decides) here;
+      stands = put_stands s t e d (row.Mark p id n) tt (orderly_of s e.input d.acts h.decides) here;
       above = h.timely;
       new = new_for s e.input d.acts h.decides p n h.by h.number;
       answered = (reply_of h.decides.at h.decides.decision, ap (get t.rows.commands.replies) (λ j. (sym h.by j, sym h.number j)) ∙ replied_now s t e d h.decides);
@@ -112,7 +112,7 @@ module _ (s u : State) (e : Event) (d : Does s e u) (h : DecidesIt s e.input d.a
   mark_put : (z : Decision) (id : List ℕ) → h.decision ≡ z → Contains (all_changes (decided_acts h.at s.rows.request h.to p n h.command z)) (Put (row.Mark p id n)) → IsMarked u p id n
   mark_put z id is puts =
       let within = subst (λ l. Contains (all_changes l) (Put (row.Mark p id n))) (sym (h.acts_are ∙ ap (decided_acts h.at s.rows.request h.to p n h.command) is)) puts in
-      (n, put_stands s u e d (row.Mark p id n) tt (inl h) within, omega arith)
+      (n, put_stands s u e d (row.Mark p id n) tt (orderly_of s e.input d.acts h) within, omega arith)
 
   -- a request about a reservation is about one
   one_id : (id : List ℕ) (c : Command) → h.command ≡ c → IsAbout id h.command → IsAbout id c
@@ -125,7 +125,7 @@ module _ (s u : State) (e : Event) (d : Does s e u) (h : DecidesIt s e.input d.a
       let (m, stood, above) = too_late s.rows.booked.marks (p, key c.reservation_id) n (tells.stale c named) in
       let (later, stands, rose) = mark_rises s u e d p (key c.reservation_id) m stood in
       (later, stands, omega (arith, above, rose))
-  cancelled c named decision.Opened is tells = let bad : command.CancelReservation c ≡ command.UnlockConnector tells.unlock = sym named ∙ tells.command_is in absurd (cc)
+  cancelled c named decision.Opened is tells = absurd (elim tells.kind [ inl x ↦ (let bad : command.CancelReservation c ≡ command.UnlockConnector x.unlock = sym named ∙ x.command_is in cc) | inr x ↦ (let bad : command.CancelReservation c ≡ command.StopSession x.stop = sym named ∙ x.command_is in cc) ])
   cancelled c named (decision.Started place used) is tells = let bad : command.CancelReservation c ≡ command.StartSession tells.start = sym named ∙ tells.command_is in absurd (cc)
   cancelled c named (decision.Resulted x) is tells = let bad : command.CancelReservation c ≡ command.StartSession tells.start = sym named ∙ tells.command_is in absurd (cc)
   cancelled c named (decision.Noted id x) is tells =
@@ -143,7 +143,7 @@ module _ (s u : State) (e : Event) (d : Does s e u) (h : DecidesIt s e.input d.a
       Tells s h.at h.packet.from n h.command z → IsMarked u p (key c.reservation_id) n
   accepted when c named (decision.Refused status) is reply tells = absurd (no_word h.at status when Accepted reply)
   accepted when c named (decision.Answered w) is reply tells = absurd (tells.not_accepted (same_word h.at when w Accepted reply))
-  accepted when c named decision.Opened is reply tells = let bad : command.ReserveNow c ≡ command.UnlockConnector tells.unlock = sym named ∙ tells.command_is in absurd (cc)
+  accepted when c named decision.Opened is reply tells = absurd (elim tells.kind [ inl x ↦ (let bad : command.ReserveNow c ≡ command.UnlockConnector x.unlock = sym named ∙ x.command_is in cc) | inr x ↦ (let bad : command.ReserveNow c ≡ command.StopSession x.stop = sym named ∙ x.command_is in cc) ])
   accepted when c named (decision.Started place used) is reply tells = let bad : command.ReserveNow c ≡ command.StartSession tells.start = sym named ∙ tells.command_is in absurd (cc)
   accepted when c named (decision.Resulted x) is reply tells = let bad : command.ReserveNow c ≡ command.StartSession tells.start = sym named ∙ tells.command_is in absurd (cc)
   accepted when c named (decision.Noted id x) is reply tells =
@@ -163,7 +163,7 @@ of_packet u x q id same h = subst (λ (z : Packet). IsMarked u (key z.from) id z
 pub cancellations_are_marked : CancellationsAreMarked
 cancellations_are_marked s u t e es q c r happens a is run =
     let d = does s u e happens in
-    let w = was_decided s u e d q r a in
+    let w = was_decided s u e d q r (command.CancelReservation c) is a in
     stays_marked u t es run (key q.from) (key c.reservation_id) q.request
     (of_packet u w.it.packet q (key c.reservation_id) w.packet_is
     (cancelled s u e d w.it c (command_is s u e d q r w (command.CancelReservation c) is) w.it.decision refl (told_of s e.input d.acts w.it)))
@@ -171,7 +171,7 @@ cancellations_are_marked s u t e es q c r happens a is run =
 pub reservations_are_marked : ReservationsAreMarked
 reservations_are_marked s u t e es q c at happens a is run =
     let d = does s u e happens in
-    let w = was_decided s u e d q (responded at Accepted) a in
+    let w = was_decided s u e d q (responded at Accepted) (command.ReserveNow c) is a in
     stays_marked u t es run (key q.from) (key c.reservation_id) q.request
     (of_packet u w.it.packet q (key c.reservation_id) w.packet_is
     (accepted s u e d w.it at c (command_is s u e d q (responded at Accepted) w (command.ReserveNow c) is) w.it.decision refl w.reply_is (told_of s e.input d.acts w.it)))

@@ -5,6 +5,7 @@ use Rattle.std.specs.FinMap.{get, get-empty}
 use Rattle.tables.specs.Keys.{text_number_cmp}
 use Rattle.tables.proofs.Options.{not_both}
 use Rattle.ocpi_text.specs.Text.{key}
+use Rattle.ocpi_types.specs.declared.packet.Packet.{Packet}
 use Rattle.ocpi_types.specs.declared.rows.Row.TheVariants as row
 use Rattle.ocpi_types.specs.declared.rows.Change.{Change}
 use Rattle.ocpi_types.specs.declared.rows.Change.TheVariants.{Put}
@@ -21,10 +22,11 @@ use Rattle.operator_tables.specs.declared.decision.Decision.TheVariants as decis
 use Rattle.operator_tables.specs.Outcomes.{Tells}
 use Rattle.operator_steps.specs.Acts.{deadline, decided_acts, opened, reference_of, reply_of, responded, spent, used}
 use Rattle.operator_steps.specs.Events.{Event}
+use Rattle.operator_laws.specs.Laws.{IsReplyTo}
 use Rattle.operator_laws.specs.Replied.{AcceptedIsOpenOrSettled, IsOpenNow, IsSettled}
 use Rattle.operator_laws.proofs.events.Causes.{DecidesIt}
 use Rattle.operator_laws.proofs.events.Doing.{Does, does, put_stands}
-use Rattle.operator_laws.proofs.events.Keeping.{pending_stays, result_stays}
+use Rattle.operator_laws.proofs.events.Keeping.{orderly_of, pending_stays, result_stays}
 use Rattle.operator_laws.proofs.events.Standing.{consistent_stays}
 use Rattle.operator_laws.proofs.replies.Answering.{kept_or_answered, no_word, same_word, told_of}
 use Rattle.operator_laws.proofs.standing.AtAllTimes.{always_consistent, kept}
@@ -58,10 +60,10 @@ module _ (s t : State) (e : Event) (d : Does s e t) (h : DecidesIt s e.input d.a
   within z is c j = subst (λ l. Contains (all_changes l) c) (sym (h.acts_are ∙ ap acts_of is)) j
 
   opens_it : (z : Decision) → h.decision ≡ z → (o : OpenCommand) → Contains (all_changes (acts_of z)) (Put (row.Pending p n o)) → CarriedOut t p n
-  opens_it z is o j = inl (o, put_stands s t e d (row.Pending p n o) tt (inl h) (within z is (Put (row.Pending p n o)) j))
+  opens_it z is o j = inl (o, put_stands s t e d (row.Pending p n o) tt (orderly_of s e.input d.acts h) (within z is (Put (row.Pending p n o)) j))
 
   settles_it : (z : Decision) → h.decision ≡ z → (x : CommandResultType) → Contains (all_changes (acts_of z)) (Put (row.Result p n x)) → CarriedOut t p n
-  settles_it z is x j = inr (x, put_stands s t e d (row.Result p n x) tt (inl h) (within z is (Put (row.Result p n x)) j))
+  settles_it z is x j = inr (x, put_stands s t e d (row.Result p n x) tt (orderly_of s e.input d.acts h) (within z is (Put (row.Result p n x)) j))
 
   -- what a decision accepts is open, or has its result at once
   accepted_now : (when : ℕ) (z : Decision) → h.decision ≡ z → Tells s h.at h.packet.from n h.command z → reply_of h.at z ≡ responded when Accepted → CarriedOut t p n
@@ -82,13 +84,18 @@ carried_stays s t e d fine before p n when has = elim (kept_or_answered s t e d 
     | inl (o, stands) ↦ elim (pending_stays s t e d fine p n (responded when Accepted) old o stands) [ inl still ↦ inl (o, still) | inr settled ↦ inr settled ]
     | inr (x, stands) ↦ inr (x, result_stays s t e d fine.sound p n x stands)
   ]
-  | inr a ↦ subst (λ (k : List ℕ × ℕ). CarriedOut t k.0 k.1) (λ i. (a.by i, a.number i))
-      (accepted_now s t e d a.decides when a.decides.decision refl (told_of s e.input d.acts a.decides) a.reply_is)
+  | inr a ↦
+      let (c, is) = subst (λ z. IsReplyTo z a.replies.packet.body) a.reply_is a.replies.answers in
+      let (it, same, reply) = a.replies.decided c is in
+      let by : key it.packet.from ≡ p = ap (λ (q : Packet). key q.from) same ∙ a.by in
+      let number : it.packet.request ≡ n = ap (λ (q : Packet). q.request) same ∙ a.number in
+      subst (λ (k : List ℕ × ℕ). CarriedOut t k.0 k.1) (λ i. (by i, number i))
+      (accepted_now s t e d it when it.decision refl (told_of s e.input d.acts it) (reply ∙ a.reply_is))
 ]
 
 pub accepted_is_open_or_settled : AcceptedIsOpenOrSettled
-accepted_is_open_or_settled line es t run p n at accepted = (
+accepted_is_open_or_settled line es t own run p n at accepted = (
   (kept (λ z. IsConsistent z × AreCarriedOut z) (λ a b e happens held. (consistent_stays a b e happens held.0, carried_stays a b e (does a b e happens) held.0 held.1)) (opening line) t es run
-      ((always_consistent line [] (opening line) refl).consistent, λ q m when none. absurd (not_both (responded when Accepted) _ (get-empty text_number_cmp (q, m)) none))).1 p n at accepted,
-  λ opened_one settled. not_both settled.0 _ ((always_consistent line es t run).consistent.sound.pending p n opened_one.0 opened_one.1).unsettled settled.1,
+      ((always_consistent line [] (opening line) own refl).consistent, λ q m when none. absurd (not_both (responded when Accepted) _ (get-empty text_number_cmp (q, m)) none))).1 p n at accepted,
+  λ opened_one settled. not_both settled.0 _ ((always_consistent line es t own run).consistent.sound.pending p n opened_one.0 opened_one.1).unsettled settled.1,
 )

@@ -2,6 +2,7 @@
 use Rattle.std.proofs.Common.{◌≡◌, ℕ, List, arith}
 use Rattle.std.specs.Prelude.{Some}
 use Rattle.std.specs.FinMap.{get}
+use Rattle.ocpi_types.specs.declared.site.SiteLine.{SiteLine}
 use Rattle.node_laws.proofs.Runs.{kept_runs}
 use Rattle.operator_rows.specs.State.{State, opening}
 use Rattle.operator_rows.specs.Sound.{IsConsistent}
@@ -10,20 +11,23 @@ use Rattle.operator_laws.specs.Laws.{Run, AlwaysConsistent, HoldsAlways, Referen
 use Rattle.operator_laws.specs.Replied.{IsMarked, SpentStays}
 use Rattle.operator_laws.proofs.events.Doing.{does}
 use Rattle.operator_laws.proofs.events.Keeping.{Rises, marks_rise, reply_stays, result_stays, spent_stays}
-use Rattle.operator_laws.proofs.events.Standing.{consistent_stays, holds_first, holds_stays}
+use Rattle.operator_laws.proofs.events.Standing.{AreCarried, carried_first, carried_stay, consistent_stays, holds_first, holds_stays}
 
 -- what each event keeps, a run keeps
 pub kept : (P : State → Type 0) → ((s t : State) (e : Event) → Happens s e t → P s → P t) → (s t : State) (es : List Event) → Run s es t → P s → P t
 kept P keeps s t es run h = kept_runs Happens P keeps s t es run h
 
 pub always_consistent : AlwaysConsistent
-always_consistent line es t run = kept HoldsAlways holds_stays (opening line) t es run (holds_first line)
+always_consistent line es t own run = kept HoldsAlways holds_stays (opening line) t es run (holds_first line own)
+
+pub are_carried : (line : SiteLine) (es : List Event) (t : State) → Run (opening line) es t → AreCarried t
+are_carried line es t run = kept AreCarried carried_stay (opening line) t es run (carried_first line)
 
 pub references_have_one_carrier : ReferencesHaveOneCarrier
-references_have_one_carrier line es t run = (always_consistent line es t run).one_carrier
+references_have_one_carrier line es t run = (are_carried line es t run).one_carrier
 
 pub carried_references_are_spent : CarriedReferencesAreSpent
-carried_references_are_spent line es t run = (always_consistent line es t run).carried_spent
+carried_references_are_spent line es t run = (are_carried line es t run).carried_spent
 
 pub replies_stay : RepliesStay
 replies_stay s t es run k r has = kept (λ z. get z.rows.commands.replies k ≡ Some r) (λ a b e h. reply_stays a b e (does a b e h) k.0 k.1 r) s t es run has

@@ -16,3 +16,9 @@ returns-in-StartSession-4 c = (λ _. taken c.args.body.now c.in-StartSession.is,
 
 pub returns-in-StartSession-5 : goal.returns-in-StartSession-5
 returns-in-StartSession-5 c = (λ _. taken c.args.body.now c.in-StartSession.is, λ _. refl)
+
+pub returns-in-StartSession-6 : goal.returns-in-StartSession-6
+returns-in-StartSession-6 c = (λ _. taken c.args.body.now c.in-StartSession.is, λ _. refl)
+
+pub returns-in-StartSession-7 : goal.returns-in-StartSession-7
+returns-in-StartSession-7 c = (λ _. taken c.args.body.now c.in-StartSession.is, λ _. refl)

@@ -13,6 +13,11 @@ returns-in-StartSession c =
     let line = subst (λ (x : StartSession). StartLine s.site s.rows c.args.sender.now x c.decide_start.result) c.deref.ensures c.decide_start.ensures in
     decides_as s.site s.rows c.args.request.now.at c.args.sender.now c.args.request.now.number c.args.body.now (command.StartSession c.in-StartSession.command) c.decide_start.result c.in-StartSession.is line
 
+pub returns-in-StopSession : goal.returns-in-StopSession
+returns-in-StopSession c =
+    let s = c.args.books.now.state in
+    decides_as s.site s.rows c.args.request.now.at c.args.sender.now c.args.request.now.number c.args.body.now (command.StopSession c.in-StopSession.command) c.decide_stop.result c.in-StopSession.is c.decide_stop.ensures
+
 pub returns-in-ReserveNow : goal.returns-in-ReserveNow
 returns-in-ReserveNow c =
     let s = c.args.books.now.state in

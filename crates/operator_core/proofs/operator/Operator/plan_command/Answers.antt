@@ -1,30 +1,11 @@
-use Rattle.std.proofs.Common.{◌≡◌, [], ◌∷◌, sym}
-use Rattle.std.specs.Prelude.{Some, None}
-use Rattle.std.specs.FinMap.{get}
-use Rattle.node_steps.specs.Acts.{repeated}
 use Rattle.node_steps.specs.Drafts.{step_of}
 use Rattle.operator_steps.specs.Acts.{decided_acts}
+use Rattle.operator_steps.specs.Moves.{quiet}
 use Rattle.operator_steps.specs.Steps.{Comes}
-use Rattle.operator_core.proofs.Packets.{again_comes, decided_comes, due_faults}
-use Rattle.operator_core.proofs.Plans.{all_planned}
+use Rattle.operator_core.proofs.PacketLines.{decided_comes, due_faults}
+use Rattle.operator_core.proofs.PlannedActs.{all_planned}
 use Rattle.operator_core.proofs.Parts.{err_at, ok_at, on_at}
 use Rattle.operator_core.proofs.operator.Operator.plan_command.Goals as goal
-
-pub returns-in-Some-clause-step : goal.returns-in-Some-clause-step
-returns-in-Some-clause-step c =
-    let s = c.args.self.now.state in
-    let r = c.args.request.now in
-    let has : get s.rows.commands.replies (r.provider, r.number) ≡ Some c.in-Some.reply.now = rw (← c.self.view_is) (sym c.in-Some.ensures) in
-    let line = again_comes s c.args.packet.now r c.requires.request c.requires.command.0 c.requires.command.1 c.in-Some.reply.now has in
-    all_planned (Comes s r.at c.args.packet.now) s c.plan_again.result step_of (repeated r.from r.number c.in-Some.reply.now ∷ []) line c.plan_again.ensures.in_range c.plan_again.ensures.ok
-
-pub returns-in-Some-clause-fault : goal.returns-in-Some-clause-fault
-returns-in-Some-clause-fault c =
-    let s = c.args.self.now.state in
-    let r = c.args.request.now in
-    let has : get s.rows.commands.replies (r.provider, r.number) ≡ Some c.in-Some.reply.now = rw (← c.self.view_is) (sym c.in-Some.ensures) in
-    let line = again_comes s c.args.packet.now r c.requires.request c.requires.command.0 c.requires.command.1 c.in-Some.reply.now has in
-    due_faults s c.args.packet.now r c.requires.request c.plan_again.result (repeated r.from r.number c.in-Some.reply.now ∷ []) line c.plan_again.ensures.err
 
 pub returns-clause-step : goal.returns-clause-step
 returns-clause-step c =
@@ -32,9 +13,8 @@ returns-clause-step c =
     let r = c.args.request.now in
     let command = c.requires.command.0 in
     let carries = c.requires.command.1 in
-    let none : get s.rows.commands.replies (r.provider, r.number) ≡ None = rw (← c.self.view_is) (sym c.in_default.ensures) in
     let d = c.decide-decision.result in
-    let line = decided_comes s c.args.packet.now r c.requires.request command carries none d (rw (← c.self.view_is) (c.decide-decision.ensures command carries)) in
+    let line = decided_comes s c.args.packet.now r c.requires.request command carries c.requires.new d (rw (← c.self.view_is) (c.decide-decision.ensures command carries)) in
     all_planned (Comes s r.at c.args.packet.now) s c.plan_decided.result step_of (decided_acts r.at s.rows.request r.from r.provider r.number command d) line
     (on_at _ _ command carries c.plan_decided.result c.plan_decided.ensures.in_range) (ok_at _ _ command carries c.plan_decided.result c.plan_decided.ensures.ok)
 
@@ -44,8 +24,7 @@ returns-clause-fault c =
     let r = c.args.request.now in
     let command = c.requires.command.0 in
     let carries = c.requires.command.1 in
-    let none : get s.rows.commands.replies (r.provider, r.number) ≡ None = rw (← c.self.view_is) (sym c.in_default.ensures) in
     let d = c.decide-decision.result in
-    let line = decided_comes s c.args.packet.now r c.requires.request command carries none d (rw (← c.self.view_is) (c.decide-decision.ensures command carries)) in
-    due_faults s c.args.packet.now r c.requires.request c.plan_decided.result (decided_acts r.at s.rows.request r.from r.provider r.number command d) line
+    let line = decided_comes s c.args.packet.now r c.requires.request command carries c.requires.new d (rw (← c.self.view_is) (c.decide-decision.ensures command carries)) in
+    due_faults s c.args.packet.now r c.requires.request c.plan_decided.result (quiet (decided_acts r.at s.rows.request r.from r.provider r.number command d)) line
     (err_at _ _ command carries c.plan_decided.result c.plan_decided.ensures.err)

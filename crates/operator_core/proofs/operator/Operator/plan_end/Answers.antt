@@ -1,9 +1,10 @@
 use Rattle.std.proofs.Common.{◌∙◌, ℕ, List, [], ◌∷◌, sym}
 use Rattle.node_steps.specs.Acts.{Act}
-use Rattle.node_steps.proofs.Gathering.{has_all, step_is, refused, starved, range_is}
-use Rattle.operator_steps.specs.Moves.{counters_of}
+use Rattle.node_steps.proofs.Gathering.{has_all, step_is}
 use Rattle.operator_steps.specs.Ends.{ends_acts}
+use Rattle.operator_steps.specs.Moves.{counters_of}
 use Rattle.operator_steps.proofs.Ends.{ends_ask, ends_send}
+use Rattle.operator_core.proofs.CountedDrafts.{counted_in_range, counted_refused, counted_starved}
 use Rattle.operator_core.proofs.operator.Operator.plan_end.Goals as goal
 
 -- what opens the draft is refused where the step is
@@ -12,7 +13,7 @@ returns-in_err-draft-clause-err c =
     let s = c.args.self.now.state in
     let m = s.rows.commands.pending in
     let acts : ℕ → List Act = λ last. ends_acts c.args.at m last (c.args.ending ∷ []) in
-    refused s.party (counters_of s) acts _ _ (sym (ends_send c.args.at m s.rows.request (c.args.ending ∷ []))) (sym (ends_ask c.args.at m s.rows.request (c.args.ending ∷ [])))
+    counted_refused s acts _ _ (sym (ends_send c.args.at m s.rows.request (c.args.ending ∷ []))) (sym (ends_ask c.args.at m s.rows.request (c.args.ending ∷ []))) (tt, (tt, (tt, tt)))
     c.from_residual.result _ c.from_residual.ensures.1 c.in_err-draft.ensures.err
 
 -- the draft has the numbers of all acts
@@ -30,7 +31,7 @@ returns-in_err-add_ends-clause-err c =
     let s = c.args.self.now.state in
     let m = s.rows.commands.pending in
     let acts : ℕ → List Act = λ last. ends_acts c.args.at m last (c.args.ending ∷ []) in
-    starved s.party (counters_of s) acts _ _ (sym (ends_send c.args.at m s.rows.request (c.args.ending ∷ []))) (sym (ends_ask c.args.at m s.rows.request (c.args.ending ∷ [])))
+    counted_starved s acts _ _ (sym (ends_send c.args.at m s.rows.request (c.args.ending ∷ []))) (sym (ends_ask c.args.at m s.rows.request (c.args.ending ∷ []))) (tt, (tt, (tt, tt)))
     c.from_residual-in_err-add_ends.result c.from_residual-in_err-add_ends.ensures.1 c.in_ok-draft.ensures.in_range
 
 -- what was gathered is the step
@@ -48,5 +49,5 @@ returns-clause-in_range c =
     let s = c.args.self.now.state in
     let m = s.rows.commands.pending in
     let acts : ℕ → List Act = λ last. ends_acts c.args.at m last (c.args.ending ∷ []) in
-    range_is s.party (counters_of s) acts _ _ (sym (ends_send c.args.at m s.rows.request (c.args.ending ∷ []))) (sym (ends_ask c.args.at m s.rows.request (c.args.ending ∷ [])))
+    counted_in_range s acts _ _ (sym (ends_send c.args.at m s.rows.request (c.args.ending ∷ []))) (sym (ends_ask c.args.at m s.rows.request (c.args.ending ∷ []))) (tt, (tt, (tt, tt)))
     c.in_ok-draft.ensures.in_range

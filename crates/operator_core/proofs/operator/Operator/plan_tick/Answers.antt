@@ -1,44 +1,70 @@
-use Rattle.outbox.specs.Due.{AreExactly, IsDue}
-use Rattle.reservation_book.specs.Calls.{AreExpired}
+use Rattle.std.proofs.Common.{◌≡◌, map}
+use Rattle.authorization_book.specs.Waits as waits
+use Rattle.authorization_book.specs.declared.waiting.Waiting.TheVariants.{Ends}
+use Rattle.outbox.specs.Due.{AreExactly}
 use Rattle.node_steps.specs.Drafts.{step_of}
-use Rattle.operator_rows.specs.State.{as_outbox}
-use Rattle.operator_steps.specs.Tick.{TickLine, TimeOut}
-use Rattle.operator_steps.specs.TickFacts.{tick_acts}
-use Rattle.operator_steps.proofs.TickStages.{due_stands, tick_is}
-use Rattle.operator_steps.proofs.TickSteps.{ticks_may_follow, timed_open}
-use Rattle.operator_core.proofs.Plans.{all_follow, all_planned, own_faults}
+use Rattle.operator_steps.specs.Tick.{TickLine}
+use Rattle.operator_steps.proofs.TickSteps.{ticks, timed_open}
+use Rattle.operator_core.specs.Happenings.{IsHappening}
+use Rattle.operator_core.proofs.CountedDrafts.{returned}
+use Rattle.operator_core.proofs.PlannedActs.{own_fault, planned_may}
+use Rattle.operator_core.proofs.TickDrafts.{exactly_due, happens_line, resent_stand, starved_own, work_of}
 use Rattle.operator_core.proofs.operator.Operator.plan_tick.Goals as goal
+
+pub returns-in_err-late-clause-fault : goal.returns-in_err-late-clause-fault
+returns-in_err-late-clause-fault c = starved_own (TickLine c.args.self.now.state c.args.at) c.args.self.now.state c.from_residual.result c.from_residual.ensures.1
+
+pub happening-requires : goal.happening-requires
+happening-requires c =
+    let s = c.args.self.now.state in
+    let late : AreExactly (waits.IsDue s.waits c.args.at) c.in_ok-late.late.items = exactly_due s.waits c.args.at c.in_ok-late.late.items (rw (← c.self.view_is, ← c.waits.ensures) c.in_ok-late.ensures.list) in
+    rw c.as_slice.ensures.value late
+
+pub returns-in_err-all-clause-fault : goal.returns-in_err-all-clause-fault
+returns-in_err-all-clause-fault c = returned (λ f h. h) c.from_residual-in_err-all.result _ c.from_residual-in_err-all.ensures.1 c.in_err-all.ensures.err
 
 pub plan_all-requires-clause-open : goal.plan_all-requires-clause-open
 plan_all-requires-clause-open c =
-    let timed : TimeOut c.args.self.now.state c.args.at c.as_slice.result.now = rw c.as_slice.ensures.value c.in_ok-ends.ensures in
-    timed_open c.args.self.now.state c.args.at c.as_slice.result.now timed
+    let s = c.args.self.now.state in
+    timed_open s c.args.at c.in_ok-all.all.due.ends.items c.in_ok-all.ensures.ok.happen.due.timed_out
 
 pub plan_all-requires-clause-stand : goal.plan_all-requires-clause-stand
 plan_all-requires-clause-stand c =
     let s = c.args.self.now.state in
-    let due : AreExactly (IsDue (as_outbox s.rows) s.resend c.args.at) c.as_slice-3.result.now = rw (c.as_slice-3.ensures.value, ← c.self.view_is, ← c.outbox.ensures.rows, ← c.outbox.ensures.resend) c.in_ok-due.ensures.ok in
-    λ n i. due_stands s c.args.at n ((due.exact n).0 i)
+    let h = c.in_ok-all.ensures.ok in
+    resent_stand s c.args.at h.beginnings c.in_ok-all.all h.happen
+
+pub plan_all-requires-clause-number : goal.plan_all-requires-clause-number
+plan_all-requires-clause-number c = c.in_ok-all.ensures.ok.happen.in_range
+
+pub returns-in_err-plan-clause-fault : goal.returns-in_err-plan-clause-fault
+returns-in_err-plan-clause-fault c =
+    let s = c.args.self.now.state in
+    let late : AreExactly (waits.IsDue s.waits c.args.at) c.in_ok-late.late.items = exactly_due s.waits c.args.at c.in_ok-late.late.items (rw (← c.self.view_is, ← c.waits.ensures) c.in_ok-late.ensures.list) in
+    let x = c.in_ok-all.all in
+    let h : IsHappening s c.args.at c.in_ok-late.late.items x = rw (← c.as_slice.ensures.value) c.in_ok-all.ensures.ok in
+    let line = happens_line s c.args.at c.consistency.ensures c.in_ok-late.late.items late h.beginnings h.begin x h.happen in
+    let work = work_of s c.args.at c.consistency.ensures c.in_ok-late.late.items late h.beginnings h.begin x in
+    returned (own_fault (TickLine s c.args.at) s work line) c.from_residual-in_err-plan.result _ c.from_residual-in_err-plan.ensures.1 c.in_err-plan.ensures.err
+
+pub returns-in_err-waits-clause-fault : goal.returns-in_err-waits-clause-fault
+returns-in_err-waits-clause-fault c = starved_own (TickLine c.args.self.now.state c.args.at) c.args.self.now.state c.from_residual-in_err-waits.result c.from_residual-in_err-waits.ensures.1
 
 pub returns-clause-step : goal.returns-clause-step
 returns-clause-step c =
     let s = c.args.self.now.state in
-    let timed : TimeOut s c.args.at c.as_slice.result.now = rw c.as_slice.ensures.value c.in_ok-ends.ensures in
-    let expired : AreExpired c.args.at s.rows.booked.reservations c.as_slice-2.result.now = rw (c.as_slice-2.ensures.value, ← c.self.view_is, ← c.booked.ensures) c.in_ok-expired.ensures.list in
-    let due : AreExactly (IsDue (as_outbox s.rows) s.resend c.args.at) c.as_slice-3.result.now = rw (c.as_slice-3.ensures.value, ← c.self.view_is, ← c.outbox.ensures.rows, ← c.outbox.ensures.resend) c.in_ok-due.ensures.ok in
-    let line = tick_is s c.args.at c.as_slice.result.now c.as_slice-2.result.now c.as_slice-3.result.now c.consistency.ensures timed expired due in
-    all_planned (TickLine s c.args.at) s c.plan_all.result step_of (tick_acts c.args.at s c.as_slice.result.now c.as_slice-2.result.now c.as_slice-3.result.now) line c.plan_all.ensures.in_range c.plan_all.ensures.ok
-
-pub returns-clause-fault : goal.returns-clause-fault
-returns-clause-fault c =
-    let s = c.args.self.now.state in
-    let timed : TimeOut s c.args.at c.as_slice.result.now = rw c.as_slice.ensures.value c.in_ok-ends.ensures in
-    let expired : AreExpired c.args.at s.rows.booked.reservations c.as_slice-2.result.now = rw (c.as_slice-2.ensures.value, ← c.self.view_is, ← c.booked.ensures) c.in_ok-expired.ensures.list in
-    let due : AreExactly (IsDue (as_outbox s.rows) s.resend c.args.at) c.as_slice-3.result.now = rw (c.as_slice-3.ensures.value, ← c.self.view_is, ← c.outbox.ensures.rows, ← c.outbox.ensures.resend) c.in_ok-due.ensures.ok in
-    let line = tick_is s c.args.at c.as_slice.result.now c.as_slice-2.result.now c.as_slice-3.result.now c.consistency.ensures timed expired due in
-    own_faults (TickLine s c.args.at) s c.plan_all.result (tick_acts c.args.at s c.as_slice.result.now c.as_slice-2.result.now c.as_slice-3.result.now) line c.plan_all.ensures.err
+    let late : AreExactly (waits.IsDue s.waits c.args.at) c.in_ok-late.late.items = exactly_due s.waits c.args.at c.in_ok-late.late.items (rw (← c.self.view_is, ← c.waits.ensures) c.in_ok-late.ensures.list) in
+    let x = c.in_ok-all.all in
+    let h : IsHappening s c.args.at c.in_ok-late.late.items x = rw (← c.as_slice.ensures.value) c.in_ok-all.ensures.ok in
+    let waiting : c.in_ok-waits.waits.items ≡ map Ends c.in_ok-late.late.items = rw (← c.as_slice-2.ensures.value) c.in_ok-waits.ensures in
+    record {
+      work = work_of s c.args.at c.consistency.ensures c.in_ok-late.late.items late h.beginnings h.begin x;
+      line = happens_line s c.args.at c.consistency.ensures c.in_ok-late.late.items late h.beginnings h.begin x h.happen;
+      in_range = c.in_ok-plan.ensures.in_range;
+      step_is = λ i. record { step = c.in_ok-plan.ensures.ok i; waits = waiting i };
+    }
 
 pub returns-clause-follows : goal.returns-clause-follows
 returns-clause-follows c =
     let s = c.args.self.now.state in
-    all_follow (TickLine s c.args.at) s c.plan_all.result step_of (λ acts line. ticks_may_follow c.args.at s acts c.consistency.ensures line) (returns-clause-step c)
+    planned_may (TickLine s c.args.at) s (record { step = step_of c.in_ok-plan.plan; waits = c.in_ok-waits.waits.items }) (λ work line in_range. ticks c.args.at s work c.consistency.ensures line in_range) (returns-clause-step c)

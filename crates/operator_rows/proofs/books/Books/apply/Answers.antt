@@ -10,10 +10,10 @@ use Rattle.operator_rows.proofs.books.Books.apply.Goals as goal
 pub send_all-requires-clause-room : goal.send_all-requires-clause-room
 send_all-requires-clause-room c =
     let s = c.args.self.now in
-    let room = step_room s.state (step_of c.args.plan) c.requires.may s.sending c.change_all.new.self.sending c.change_all.ensures.sending c.requires.room.volatile in
+    let room = step_room s.state (step_of c.args.plan) c.consistency.ensures.sound c.requires.may s.sending c.change_all.new.self.sending c.change_all.ensures.sending c.requires.room.volatile in
     rw c.as_slice.ensures.value (subst (λ (h : Node). HaveTimeRoom h.sending c.args.plan.volatile.items) (sym c.self.view_is) room)
 
 pub invariant_of-self : goal.invariant_of-self
 invariant_of-self c =
     let i = c.self.inside in
-    kept_resent i.site.claims i.parties i.serial i.commands.rows (shown_of text_pair_cmp i.spent) i.booked.rows i.site i.outbox c.send_all.new.outbox c.self.invariant c.send_all.ensures.rows
+    kept_resent i.site.claims i.parties i.serial i.commands.rows (shown_of text_pair_cmp i.spent) i.booked.rows i.site i.desk.rows.tokens i.charged.rows i.waits.waits i.desk.rows.references i.outbox c.send_all.new.outbox c.self.invariant c.send_all.ensures.rows

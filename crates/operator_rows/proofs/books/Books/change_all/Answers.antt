@@ -4,7 +4,7 @@ use Rattle.operator_rows.specs.State.{State}
 use Rattle.operator_rows.specs.Sound.{MayChangeAll, with_rows}
 use Rattle.operator_rows.specs.Steps.{KeepsTimeRoom, untimed, untimed_all}
 use Rattle.operator_rows.specs.Stored.{AreApart, Each, HasRoom, changed, changed_all}
-use Rattle.operator_rows.proofs.KeepingSound.{may_resent}
+use Rattle.operator_rows.proofs.KeepingSound.{may_beside}
 use Rattle.operator_rows.proofs.TimeRooms.{then_keeps}
 use Rattle.operator_rows.proofs.books.Books.change_all.Goals as goal
 
@@ -35,6 +35,7 @@ loop-change-preserved c =
     let may = (subst (λ l. MayChangeAll at.self.state l) steps at.invariant.may).1 in
     let is = c.change.ensures.state in
     record {
+      waiting = c.change.ensures.waiting ∙ at.invariant.waiting;
       kept = is ∙ ap (λ (s : State). record s { rows = changed one at.self.state.rows; resend = untimed one at.self.state.resend }) at.invariant.kept ∙ sym (ap (λ (s : State). record c.args.self.now.state { rows = s.rows; resend = s.resend }) is);
       rows = ap (λ (s : State). changed_all rest s.rows) is ∙ sym (ap (λ l. changed_all l at.self.state.rows) steps) ∙ at.invariant.rows;
       resend = ap (λ (s : State). untimed_all rest s.resend) is ∙ sym (ap (λ l. untimed_all l at.self.state.resend) steps) ∙ at.invariant.resend;
@@ -43,7 +44,7 @@ loop-change-preserved c =
           (subst (λ (s : State). KeepsTimeRoom s.resend rest c.change.new.self.sending t) is keeps)));
       rooms = λ k d e. c.change.ensures.keeps d (apart.0 k d e) (rooms (suc k) d e);
       apart = apart.1;
-      may = subst (λ (s : State). MayChangeAll s rest) (sym is) (may_resent rest (with_rows (changed one at.self.state.rows) at.self.state) (untimed one at.self.state.resend) may);
+      may = subst (λ (s : State). MayChangeAll s rest) (sym is) (may_beside rest (with_rows (changed one at.self.state.rows) at.self.state) (untimed one at.self.state.resend) at.self.state.waits may);
       long =
           let was = at.invariant.long in
           let gone = c.in-Some.ensures.steps.1 in

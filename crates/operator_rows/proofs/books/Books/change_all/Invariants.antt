@@ -8,6 +8,7 @@ use Rattle.operator_rows.proofs.books.Books.change_all.Given as goal
 
 abbrev pub invariant-loop-change : goal.invariant-loop-change
 invariant-loop-change l = record {
+  waiting : l.self.waiting ≡ l.initial.self.waiting;
   kept : l.self.state ≡ record l.initial.self.state { rows = l.self.state.rows; resend = l.self.state.resend };
   rows : changed_all (into_iter_items l.change-iterator) l.self.state.rows ≡ changed_all (into_iter_items l.initial.change-iterator) l.initial.self.state.rows;
   resend : untimed_all (into_iter_items l.change-iterator) l.self.state.resend ≡ untimed_all (into_iter_items l.initial.change-iterator) l.initial.self.state.resend;

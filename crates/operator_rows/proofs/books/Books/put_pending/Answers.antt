@@ -17,4 +17,4 @@ invariant_of-self c =
     let taken : IsTaken (the_view c.self.inside).state.rows (keys.Pending c.args.provider c.args.number) c.held_by_command-before.result = subst (λ (h : Node). IsTaken h.state.rows (keys.Pending c.args.provider c.args.number) c.held_by_command-before.result) (sym c.self.view_is) (c.held_by_command-before.ensures.taken, c.held_by_command-before.ensures.none) in
     let own : AreTakenBy c.args.command c.evse_taken-evse.result = subst (λ (o : OpenCommand). AreTakenBy o c.evse_taken-evse.result) c.deref.ensures (c.evse_taken-evse.ensures.taken, c.evse_taken-evse.ensures.none) in
     rw (c.put_row.ensures.rows, c.claim.ensures, c.release.ensures)
-    (kept_put_open _ _ _ c.self.invariant c.args.provider c.args.number c.args.command _ _ taken own (rw (← c.self.view_is) at c.requires.may))
+    (kept_put_open _ _ _ _ c.self.invariant c.args.provider c.args.number c.args.command _ _ taken own (rw (← c.self.view_is) at c.requires.may))

@@ -14,4 +14,4 @@ put_row-requires-clause-may c =
 pub invariant_of-self : goal.invariant_of-self
 invariant_of-self c =
     let i = c.self.inside in
-    kept_put_push i.site.claims i.parties i.serial i.commands.rows (shown_of text_pair_cmp i.spent) i.booked.rows i.site i.outbox c.put_row.new.self c.self.invariant c.args.number c.args.to c.args.push (rw (← c.self.view_is) at c.requires.may) c.put_row.ensures.rows
+    kept_put_push i.site.claims i.parties i.serial i.commands.rows (shown_of text_pair_cmp i.spent) i.booked.rows i.site i.desk.rows.tokens i.charged.rows i.waits.waits i.desk.rows.references i.outbox c.put_row.new.self c.self.invariant c.args.number c.args.to c.args.push (rw (← c.self.view_is) at c.requires.may) c.put_row.ensures.rows

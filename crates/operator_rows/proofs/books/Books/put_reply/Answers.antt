@@ -4,4 +4,4 @@ use Rattle.operator_rows.proofs.KeepingRows.{kept_put}
 use Rattle.operator_rows.proofs.books.Books.put_reply.Goals as goal
 
 pub invariant_of-self : goal.invariant_of-self
-invariant_of-self c = rw c.put_row.ensures.rows (kept_put _ _ _ c.self.invariant (row.Reply c.args.sender c.args.number c.args.reply) tt refl refl)
+invariant_of-self c = rw c.put_row.ensures.rows (kept_put _ _ _ _ c.self.invariant (row.Reply c.args.sender c.args.number c.args.reply) tt refl refl refl)

@@ -10,4 +10,4 @@ pub invariant_of-self : goal.invariant_of-self
 invariant_of-self c =
     let taken : IsTaken (the_view c.self.inside).state.rows (keys.Reservation c.args.provider c.args.reservation_id) c.held_by_reservation-before.result = subst (λ (h : Node). IsTaken h.state.rows (keys.Reservation c.args.provider c.args.reservation_id) c.held_by_reservation-before.result) (sym c.self.view_is) (c.held_by_reservation-before.ensures.taken, c.held_by_reservation-before.ensures.none) in
     rw (c.put_row.ensures.rows, c.claim.ensures, c.release.ensures, c.key.ensures, c.deref.ensures)
-    (kept_put_reserved _ _ _ c.self.invariant c.args.provider c.args.reservation_id c.args.reservation _ taken (rw (← c.self.view_is) at c.requires.may))
+    (kept_put_reserved _ _ _ _ c.self.invariant c.args.provider c.args.reservation_id c.args.reservation _ taken (rw (← c.self.view_is) at c.requires.may))

@@ -4,4 +4,4 @@ use Rattle.operator_rows.proofs.KeepingRows.{kept_put}
 use Rattle.operator_rows.proofs.books.Books.put_result.Goals as goal
 
 pub invariant_of-self : goal.invariant_of-self
-invariant_of-self c = rw c.put_row.ensures.rows (kept_put _ _ _ c.self.invariant (row.Result c.args.provider c.args.number c.args.outcome) (rw (← c.self.view_is) at c.requires.may) refl refl)
+invariant_of-self c = rw c.put_row.ensures.rows (kept_put _ _ _ _ c.self.invariant (row.Result c.args.provider c.args.number c.args.outcome) (rw (← c.self.view_is) at c.requires.may) refl refl refl)

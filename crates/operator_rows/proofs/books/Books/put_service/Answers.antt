@@ -7,4 +7,4 @@ use Rattle.operator_rows.proofs.books.Books.put_service.Goals as goal
 pub invariant_of-self : goal.invariant_of-self
 invariant_of-self c =
     let known = rw (← c.self.view_is) at c.requires.may in
-    rw (was_done UnknownEvse c.set_service-known.result c.set_service-known.ensures.service c.set_service-known.ensures.refusal known) (kept_put _ _ _ c.self.invariant (row.Service c.args.evse_uid) known refl refl)
+    rw (was_done UnknownEvse c.set_service-known.result c.set_service-known.ensures.service c.set_service-known.ensures.refusal known) (kept_put _ _ _ _ c.self.invariant (row.Service c.args.evse_uid) known refl refl refl)

@@ -8,6 +8,7 @@ abbrev pub invariant-loop-change : goal.invariant-loop-change
 invariant-loop-change l = record {
   state : l.self.state ≡ l.initial.self.state;
   sending : l.self.sending ≡ l.initial.self.sending;
+  waiting : l.self.waiting ≡ l.initial.self.waiting;
   made : (k : ℕ) → k < l.change-index → (c : Change) → slice_get l.changes k ≡ Some c → HasRoom l.self.rooms c;
   keeps : KeepsRoom l.initial.self.rooms l.self.rooms;
 }

@@ -1,0 +1,123 @@
+-- The ids of sessions and of charge detail records are those of numbers that were given.
+use Rattle.std.proofs.Common.{◌≡◌, ◌+◌, ◌≤◌, ℕ, List, inl, inr, refl, sym, ap, ◌∙◌, arith}
+use Rattle.std.specs.Prelude.{Some, Contains}
+use Rattle.std.specs.Cmp.{nat_cmp_total}
+use Rattle.std.specs.FinMap.{get, get-empty, nat_cmp-IsAntisymmetric}
+use Rattle.tables.specs.Keys.{text_cmp}
+use Rattle.tables.proofs.Maps.{told}
+use Rattle.tables.proofs.Options.{not_both}
+use Rattle.ocpi_text.specs.OwnIds.{own_id_text}
+use Rattle.ocpi_text.specs.Text.{key}
+use Rattle.ocpi_text.specs.Whole.{max_whole}
+use Rattle.ocpi_text.specs.declared.own_ids.OwnIdKind.{OwnIdKind}
+use Rattle.ocpi_text.specs.declared.own_ids.OwnIdKind.TheVariants as own
+use Rattle.ocpi_types.specs.declared.cdrs.Cdr.{Cdr}
+use Rattle.ocpi_types.specs.declared.rows.Change.TheVariants.{Put}
+use Rattle.ocpi_types.specs.declared.rows.Counter.TheVariants as counter
+use Rattle.ocpi_types.specs.declared.rows.Row.TheVariants as row
+use Rattle.ocpi_types.specs.declared.sessions.Session.{Session}
+use Rattle.session_book.specs.Numbers.{id_key}
+use Rattle.session_book.proofs.OwnIds.{ids_differ}
+use Rattle.node_steps.specs.Acts.{all_changes}
+use Rattle.operator_rows.specs.State.{State, opening}
+use Rattle.operator_rows.specs.Sound.{IsConsistent}
+use Rattle.operator_rows.proofs.KeepingTimes.{opening_consistent}
+use Rattle.operator_steps.specs.Events.{Event}
+use Rattle.operator_laws.specs.Sessions.{IdsAreGiven, IsGivenId}
+use Rattle.operator_laws.proofs.events.Doing.{Does, does, put_now}
+use Rattle.operator_laws.proofs.events.Reasons as reasons
+use Rattle.operator_laws.proofs.events.Reasons.{Begun, Billing, Versioning}
+use Rattle.operator_laws.proofs.events.Standing.{consistent_stays}
+use Rattle.operator_laws.proofs.standing.AtAllTimes.{kept}
+use Rattle.operator_laws.proofs.sessions.Going.{cdr_from, cdr_rises, followed, last_cdr_is, last_session_is, session_from, session_rises}
+
+record HaveIds (s : State) : Type 0 where
+  fine : IsConsistent s
+  sessions : (id : List ℕ) (v : Session) → get s.rows.charged.sessions id ≡ Some v → IsGivenId own.Session s.party s.rows.charged.last_session v.id
+  cdrs : (id : List ℕ) (x : Cdr) → get s.rows.charged.cdrs id ≡ Some x → IsGivenId own.Cdr s.party s.rows.charged.last_cdr x.id
+  sessions_counted : s.rows.charged.last_session ≤ max_whole
+  cdrs_counted : s.rows.charged.last_cdr ≤ max_whole
+
+-- an id stays that of a number
+later_id : (kind : OwnIdKind) (p q : List ℕ) (last now : ℕ) (a b : List ℕ) → q ≡ p → last ≤ now → b ≡ a → IsGivenId kind p last a → IsGivenId kind q now b
+later_id kind p q last now a b same above is h = record {
+  number = h.number;
+  from_one = h.from_one;
+  given = let below = h.given in omega (arith, below, above);
+  id_is = is ∙ h.id_is ∙ ap (λ z. own_id_text kind z h.number) (sym same);
+}
+
+module _ (s t : State) (e : Event) (d : Does s e t) (before : HaveIds s) (after : IsConsistent t) where
+  last_session : (n : ℕ) → Contains (all_changes d.acts) (Put (row.Count counter.Session n)) → t.rows.charged.last_session ≡ n
+  last_session n i = (put_now s t e d before.fine (row.Count counter.Session n) i).0
+
+  last_cdr : (n : ℕ) → Contains (all_changes d.acts) (Put (row.Count counter.Cdr n)) → t.rows.charged.last_cdr ≡ n
+  last_cdr n i = (put_now s t e d before.fine (row.Count counter.Cdr n) i).0
+
+  given_now : (v : Session) → Contains (all_changes d.acts) (Put (row.Session v)) → Versioning s e.input d.acts v → IsGivenId own.Session t.party t.rows.charged.last_session v.id
+  given_now v i (reasons.Begins b) = record {
+    number = b.number;
+    from_one = (let above = b.above in omega (arith, above));
+    given = (let counted = b.counted in let is = last_session b.last b.counts in omega (arith, counted, is));
+    id_is = b.id_is ∙ ap (λ z. own_id_text own.Session z b.number) (sym d.party);
+  }
+  given_now v i (reasons.Goes w has bill) =
+      later_id own.Session s.party t.party s.rows.charged.last_session t.rows.charged.last_session w.id v.id d.party (session_rises s t e d before.fine) (sym (followed s t e d before.fine w v has i).same.id) (before.sessions (key v.id) w has)
+
+  session_given : (id : List ℕ) (v : Session) → get t.rows.charged.sessions id ≡ Some v → IsGivenId own.Session t.party t.rows.charged.last_session v.id
+  session_given id v has = elim (session_from s t e d before.fine v (ap (get t.rows.charged.sessions) (sym (after.sound.charged_keyed.sessions id v has)) ∙ has)) [
+    | inl i ↦ given_now v i (d.reasons before.fine (Put (row.Session v)) i).how
+    | inr old ↦ later_id own.Session s.party t.party s.rows.charged.last_session t.rows.charged.last_session v.id v.id d.party (session_rises s t e d before.fine) refl (before.sessions (key v.id) v old)
+  ]
+
+  bill_given : (x : Cdr) → Billing s e.input d.acts x → IsGivenId own.Cdr t.party t.rows.charged.last_cdr x.id
+  bill_given x b = record {
+    number = s.rows.charged.last_cdr + 1;
+    from_one = omega arith;
+    given = (let is = last_cdr (s.rows.charged.last_cdr + 1) b.bill.counts in omega (arith, is));
+    id_is = ap (λ (z : Cdr). z.id) b.bill.record_is ∙ ap (λ z. own_id_text own.Cdr z (s.rows.charged.last_cdr + 1)) (sym d.party);
+  }
+
+  cdr_given : (id : List ℕ) (x : Cdr) → get t.rows.charged.cdrs id ≡ Some x → IsGivenId own.Cdr t.party t.rows.charged.last_cdr x.id
+  cdr_given id x has = elim (cdr_from s t e d before.fine x (ap (get t.rows.charged.cdrs) (sym (after.sound.charged_keyed.cdrs id x has)) ∙ has)) [
+    | inl i ↦ bill_given x (d.reasons before.fine (Put (row.Cdr x)) i)
+    | inr old ↦ later_id own.Cdr s.party t.party s.rows.charged.last_cdr t.rows.charged.last_cdr x.id x.id d.party (cdr_rises s t e d before.fine) refl (before.cdrs (key x.id) x old)
+  ]
+
+  ids_stay : HaveIds t
+  ids_stay = record {
+    fine = after;
+    sessions = session_given;
+    cdrs = cdr_given;
+    sessions_counted = elim (last_session_is s t e d before.fine t.rows.charged.last_session refl) [
+      | inl same ↦ (let below = before.sessions_counted in omega (arith, below, same))
+      | inr i ↦ d.range counter.Session t.rows.charged.last_session i
+    ];
+    cdrs_counted = elim (last_cdr_is s t e d before.fine t.rows.charged.last_cdr refl) [
+      | inl same ↦ (let below = before.cdrs_counted in omega (arith, below, same))
+      | inr i ↦ d.range counter.Cdr t.rows.charged.last_cdr i
+    ];
+  }
+
+-- numbers that were given have different ids
+one_number : (s : State) → IsConsistent s → (kind : OwnIdKind) (last m n : ℕ) → last ≤ max_whole → m ≤ last → n ≤ last → id_key kind s.party m ≡ id_key kind s.party n → m ≡ n
+one_number s fine kind last m n most first second same = elim (told nat_cmp_total nat_cmp-IsAntisymmetric m n) [
+  | inl equal ↦ equal
+  | inr apart ↦ absurd (ids_differ kind s.party m n fine.own (omega (arith, most, first)) (omega (arith, most, second)) apart same)
+]
+
+pub ids_are_given : IdsAreGiven
+ids_are_given line es t own_party run =
+    let h = kept HaveIds (λ a b e happens held. ids_stay a b e (does a b e happens) held (consistent_stays a b e happens held.fine)) (opening line) t es run (record {
+      fine = opening_consistent line own_party;
+      sessions = λ id v has. absurd (not_both v _ (get-empty text_cmp id) has);
+      cdrs = λ id x has. absurd (not_both x _ (get-empty text_cmp id) has);
+      sessions_counted = omega arith;
+      cdrs_counted = omega arith;
+    }) in
+    record {
+      sessions = λ id v has. (h.fine.sound.charged_keyed.sessions id v has, h.sessions id v has);
+      cdrs = λ id x has. (h.fine.sound.charged_keyed.cdrs id x has, h.cdrs id x has);
+      sessions_differ = λ m n first second same. one_number t h.fine own.Session t.rows.charged.last_session m n h.sessions_counted first second same;
+      cdrs_differ = λ m n first second same. one_number t h.fine own.Cdr t.rows.charged.last_cdr m n h.cdrs_counted first second same;
+    }

@@ -1,0 +1,59 @@
+-- The charge detail records of an operator (OCPI 2.2.1, CDRs: CDR object).
+use Rattle.std.specs.Prelude.{◌≡◌, ◌+◌, ℕ, List, Some}
+use Rattle.std.specs.FinMap.{get}
+use Rattle.ocpi_text.specs.OwnIds.{own_id_text}
+use Rattle.ocpi_text.specs.Text.{key}
+use Rattle.ocpi_text.specs.declared.own_ids.OwnIdKind.TheVariants as own
+use Rattle.ocpi_types.specs.declared.cdrs.Cdr.{Cdr}
+use Rattle.ocpi_types.specs.declared.rows.Row.TheVariants as row
+use Rattle.ocpi_types.specs.declared.sessions.Session.{Session}
+use Rattle.ocpi_types.specs.declared.site.Connector.{Connector}
+use Rattle.ocpi_types.specs.declared.site.Evse.{Evse}
+use Rattle.ocpi_types.specs.declared.site.Location.{Location}
+use Rattle.ocpi_types.specs.declared.site.SiteLine.{SiteLine}
+use Rattle.ocpi_types.specs.declared.words.SessionStatus.TheVariants.{Completed}
+use Rattle.session_state.specs.Records.{cdr_of}
+use Rattle.session_tables.specs.Places.{IsConnectorAt, cdr_location_of}
+use Rattle.operator_rows.specs.State.{State, opening}
+use Rattle.operator_rows.specs.Sound.{IsConsistent}
+use Rattle.operator_steps.specs.Events.{Event, Happens}
+use Rattle.session_laws.specs.Runs.{IsOfParty, Puts, Run}
+use Rattle.session_laws.specs.Pasts.{stored}
+
+-- the record bills the version, which is COMPLETED: its energy and its cost are the version's
+pub record Bills (v : Session) (x : Cdr) : Type 0 where
+  pub completed : v.status ≡ Completed
+  pub session : x.session_id ≡ v.id
+  pub token : x.cdr_token ≡ v.cdr_token
+  pub energy : x.total_energy ≡ v.kwh
+  pub cost : v.total_cost ≡ Some x.total_cost
+
+-- it is the record that a version gets: its id is that of the next number, and its location that of the version's connector
+pub record IsRecordOf (s : State) (v : Session) (x : Cdr) : Type 0 where
+  pub bills : Bills v x
+  pub location : Location
+  pub of_evse : Evse
+  pub of_connector : Connector
+  pub place : IsConnectorAt s.site.locations (key v.evse_uid) (key v.connector_id) location of_evse of_connector
+  pub record_is : x ≡ cdr_of v (own_id_text own.Cdr s.party (s.rows.charged.last_cdr + 1)) (cdr_location_of location of_evse of_connector)
+
+-- an event puts a charge detail record exactly where it puts a COMPLETED version of a session, and it is the record of that version
+pub record PutsRecords (s : State) (e : Event) : Type 0 where
+  pub each : (v : Session) → Puts e (row.Session v) → v.status ≡ Completed → (x : Cdr) × Puts e (row.Cdr x) × IsRecordOf s v x
+  pub only : (x : Cdr) → Puts e (row.Cdr x) → (v : Session) × Puts e (row.Session v) × IsRecordOf s v x
+
+abbrev pub RecordsAreOfCompletedSessions : Type 0
+RecordsAreOfCompletedSessions = (s t : State) (e : Event) → IsConsistent s → Happens s e t → PutsRecords s e
+
+-- each session that is COMPLETED has one charge detail record, and no other session has one
+pub record AreBilledOnce (t : State) : Type 0 where
+  pub each : (id : List ℕ) (v : Session) → stored t id ≡ Some v → v.status ≡ Completed → (x : Cdr) × (get t.rows.charged.cdrs (key x.id) ≡ Some x) × Bills v x
+  pub only : (id : List ℕ) (x : Cdr) → get t.rows.charged.cdrs id ≡ Some x → (v : Session) × (stored t (key v.id) ≡ Some v) × Bills v x
+  pub once : (i j : List ℕ) (x y : Cdr) → get t.rows.charged.cdrs i ≡ Some x → get t.rows.charged.cdrs j ≡ Some y → key x.session_id ≡ key y.session_id → i ≡ j
+
+abbrev pub SessionsAreBilledOnce : Type 0
+SessionsAreBilledOnce = (line : SiteLine) (es : List Event) (t : State) → IsOfParty line → Run (opening line) es t → AreBilledOnce t
+
+-- a charge detail record stays for good, unchanged
+abbrev pub RecordsStay : Type 0
+RecordsStay = (s t : State) (es : List Event) → IsConsistent s → Run s es t → (id : List ℕ) (x : Cdr) → get s.rows.charged.cdrs id ≡ Some x → get t.rows.charged.cdrs id ≡ Some x

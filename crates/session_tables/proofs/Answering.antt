@@ -1,0 +1,107 @@
+-- What begins by an answer, or without one.
+use Rattle.std.proofs.Common.{◌≡◌, ℕ, List, refl, sym, subst}
+use Rattle.std.specs.Prelude.{Option, Some, None}
+use Rattle.ocpi_text.specs.Text.{key}
+use Rattle.ocpi_types.specs.declared.authorizations.Authorization.{Authorization}
+use Rattle.ocpi_types.specs.declared.authorizations.AuthorizationInfo.{AuthorizationInfo}
+use Rattle.ocpi_types.specs.declared.site.Connector.{Connector}
+use Rattle.ocpi_types.specs.declared.site.Evse.{Evse}
+use Rattle.ocpi_types.specs.declared.site.Location.{Location}
+use Rattle.ocpi_types.specs.declared.site.Site.{Site}
+use Rattle.ocpi_types.specs.declared.words.AuthMethod.{AuthMethod}
+use Rattle.ocpi_types.specs.declared.words.AuthMethod.TheVariants as how
+use Rattle.ocpi_types.specs.declared.stored.OpenCommand.{OpenCommand}
+use Rattle.authorization_book.specs.declared.awaited.Awaited.{Awaited}
+use Rattle.operator_rows.specs.State.{Rows, IsSpent}
+use Rattle.session_tables.specs.declared.beginning.Beginning.{Beginning}
+use Rattle.session_tables.specs.declared.taking.Taking.{Taking}
+use Rattle.session_tables.specs.declared.taking.Taking.TheVariants.{No, Free, Reserved}
+use Rattle.session_tables.specs.Accepts.{Accepts}
+use Rattle.session_tables.specs.Answered.{IsUsed, MayGoWithout}
+use Rattle.session_tables.specs.Answers.{Allows, BeginsByAnswer, BeginsThere, BeginsWithoutAnswer, Decided}
+use Rattle.session_tables.specs.Beginnings.{begins}
+use Rattle.session_tables.specs.Places.{HasNoConnector, IsConnectorAt, MayTake}
+use Rattle.session_tables.specs.Taken.{IsTaken}
+
+-- where nothing begins, nothing is told
+pub nothing : (Begins : Beginning → Type 0) (r : Option Beginning) → r ≡ None → ((b : Beginning) → Begins b → ⊥) → Decided Begins r
+nothing Begins r is none = subst (Decided Begins) (sym is) none
+
+-- no start begins where the site has no such connector
+pub not_accepted : (site : Site) (o : OpenCommand) (evse connector : List ℕ) → o.evse_uid ≡ Some evse → o.connector_id ≡ Some connector →
+    HasNoConnector site.locations (key evse) (key connector) → (b : Beginning) → Accepts site o b → ⊥
+not_accepted site o evse connector evse_is connector_is none b x =
+    let same : x.evse ≡ evse = let e = x.evse_is in cc in
+    let alike : x.connector ≡ connector = let e = x.connector_is in cc in
+    none x.location x.of_evse x.of_connector
+    (subst (λ v. IsConnectorAt site.locations (key v) (key connector) x.location x.of_evse x.of_connector) same
+    (subst (λ v. IsConnectorAt site.locations (key x.evse) (key v) x.location x.of_evse x.of_connector) alike x.place))
+
+may_of : (May : Option (List ℕ) → Type 0) (taking : Taking) (used : Option (List ℕ)) → IsTaken May taking → IsUsed taking used → May used
+may_of May No used t u = absurd u
+may_of May Free used t u = subst May (sym u) t
+may_of May (Reserved id) used t u = subst May (sym u) t
+
+module _ (site : Site) (w : Awaited) (method : AuthMethod) (reference : Option (List ℕ)) where
+  -- nothing begins where the token may not take the EVSE
+  pub none_taken : (taking : Taking) → taking ≡ No → (b : Beginning) → BeginsThere site (IsUsed taking) w method reference b → ⊥
+  none_taken taking is b there = subst (λ t. IsUsed t there.used) is there.may
+
+  -- nor where the site has no such connector
+  pub none_placed : (May : Option (List ℕ) → Type 0) → HasNoConnector site.locations (key w.place.evse_uid) (key w.place.connector_id) → (b : Beginning) → BeginsThere site May w method reference b → ⊥
+  none_placed May none b there = none there.location there.of_evse there.of_connector there.place
+
+  pub begins_there : (taking : Taking) (used : Option (List ℕ)) → IsUsed taking used → (l : Location) (e : Evse) (k : Connector) →
+      IsConnectorAt site.locations (key w.place.evse_uid) (key w.place.connector_id) l e k → (b : Beginning) → b ≡ begins w.token method reference l e k used →
+      BeginsThere site (IsUsed taking) w method reference b
+  begins_there taking used u l e k at b is = record { used = used; may = u; location = l; of_evse = e; of_connector = k; place = at; begins_is = is }
+
+  module _ (May : Option (List ℕ) → Type 0) where
+    -- what begins by what is taken begins by what may be
+    pub taken : (taking : Taking) → IsTaken May taking → (b : Beginning) → BeginsThere site (IsUsed taking) w method reference b → BeginsThere site May w method reference b
+    taken taking t b there = record {
+      used = there.used;
+      may = may_of May taking there.used t there.may;
+      location = there.location;
+      of_evse = there.of_evse;
+      of_connector = there.of_connector;
+      place = there.place;
+      begins_is = there.begins_is;
+    }
+
+    -- and where nothing does, nothing may
+    pub untaken : (taking : Taking) → IsTaken May taking → ((b : Beginning) → BeginsThere site (IsUsed taking) w method reference b → ⊥) → (b : Beginning) → BeginsThere site May w method reference b → ⊥
+    untaken No t none b there = t there.used there.may
+    untaken Free t none b there = none (begins w.token method reference there.location there.of_evse there.of_connector None)
+        (begins_there Free None refl there.location there.of_evse there.of_connector there.place _ refl)
+    untaken (Reserved id) t none b there = none (begins w.token method reference there.location there.of_evse there.of_connector (Some id))
+        (begins_there (Reserved id) (Some id) refl there.location there.of_evse there.of_connector there.place _ refl)
+
+module _ (site : Site) (s : Rows) (w : Awaited) (a : Authorization) (info : AuthorizationInfo) (only : (other : AuthorizationInfo) → Allows a w other → other ≡ info) where
+  -- a spent reference begins nothing
+  pub none_spent : IsSpent s.spent (key w.token.party) info.authorization_reference → (b : Beginning) → BeginsByAnswer site s w a b → ⊥
+  none_spent spent b by =
+      let same = only by.info by.allows in
+      by.unspent (subst (λ (x : AuthorizationInfo). IsSpent s.spent (key w.token.party) x.authorization_reference) (sym same) spent)
+
+  pub by_answer : Allows a w info → ¬ IsSpent s.spent (key w.token.party) info.authorization_reference → (taking : Taking) → IsTaken (MayTake s w.token (key w.place.evse_uid)) taking →
+      (r : Option Beginning) → Decided (BeginsThere site (IsUsed taking) w how.AuthRequest info.authorization_reference) r → Decided (BeginsByAnswer site s w a) r
+  by_answer allows unspent taking t (Some b) there = record {
+    info = info;
+    allows = allows;
+    unspent = unspent;
+    there = taken site w how.AuthRequest info.authorization_reference (MayTake s w.token (key w.place.evse_uid)) taking t b there;
+  }
+  by_answer allows unspent taking t None none = λ b by.
+      let there = subst (λ (x : AuthorizationInfo). BeginsThere site (MayTake s w.token (key w.place.evse_uid)) w how.AuthRequest x.authorization_reference b) (only by.info by.allows) by.there in
+      untaken site w how.AuthRequest info.authorization_reference (MayTake s w.token (key w.place.evse_uid)) taking t none b there
+
+module _ (site : Site) (May : Option (List ℕ) → Type 0) (w : Awaited) where
+  -- a token that may not be used without its provider begins nothing so
+  pub none_without : ¬ MayGoWithout w.token → (b : Beginning) → BeginsWithoutAnswer site May w b → ⊥
+  none_without barred b x = barred (record { offline = x.offline; valid = x.valid })
+
+  pub without_answer : MayGoWithout w.token → (taking : Taking) → IsTaken May taking → (r : Option Beginning) → Decided (BeginsThere site (IsUsed taking) w how.Whitelist None) r →
+      Decided (BeginsWithoutAnswer site May w) r
+  without_answer may taking t (Some b) there = record { offline = may.offline; valid = may.valid; there = taken site w how.Whitelist None May taking t b there }
+  without_answer may taking t None none = λ b x. untaken site w how.Whitelist None May taking t none b x.there

@@ -1,0 +1,13 @@
+pub mod Places
+pub mod Found
+pub mod Beginnings
+pub mod Taken
+pub mod Moves
+pub mod Moved
+pub mod Going
+pub mod Accepts
+pub mod Swipes
+pub mod Opened
+pub mod Answers
+pub mod Answered
+pub mod Laws
