@@ -45,13 +45,15 @@ pub data BeginsAsAsked (s : State) (e : Event) (t : State) (v : Session) : Type 
   -- start ends ACCEPTED
   ByStart : (at n : ℕ) (provider : List ℕ) → e.input ≡ Reports at (event.Accepts provider n) → (o : OpenCommand) → get s.rows.commands.pending (key provider, n) ≡ Some o →
       (c : StartSession) → o.command ≡ command.StartSession c → (evse connector : List ℕ) → o.evse_uid ≡ Some evse → o.connector_id ≡ Some connector →
-      IsFor v c.token how.Command c.authorization_reference (key evse) (key connector) → get t.rows.commands.results (key provider, n) ≡ Some result.Accepted → BeginsAsAsked s e t v
+      IsFor v c.token how.Command c.authorization_reference (key evse) (key connector) → get t.rows.commands.results (key provider, n) ≡ Some result.Accepted →
+      BeginsAsAsked s e t v
   -- a token is shown that its provider lets in without being asked
   ByToken : (at : ℕ) (evse connector uid : List ℕ) (type : TokenType) → e.input ≡ Reports at (event.Swipe evse connector uid type) → (p : List ℕ) (k : Token) →
       get s.rows.tokens ((type, key uid), p) ≡ Some k → IsWhitelisted k.whitelist → k.valid ≡ true → IsFor v k how.Whitelist None (key evse) (key connector) → BeginsAsAsked s e t v
   -- the provider of a token that was shown allows it, as it was asked, by a reference that was not used before, which may not be used
   -- again
-  ByAnswer : (at : ℕ) (q : Packet) → e.input ≡ Arrives at q → (a : Authorization) → q.body ≡ body.Authorization a → (w : Awaited) → IsAwaited s q w → (info : AuthorizationInfo) → Allows a w info →
+  ByAnswer : (at : ℕ) (q : Packet) → e.input ≡ Arrives at q → (a : Authorization) → q.body ≡ body.Authorization a → (w : Awaited) → IsAwaited s q w →
+      (info : AuthorizationInfo) → Allows a w info →
       ¬ IsSpent s.rows.spent (key w.token.party) info.authorization_reference →
       ((r : List ℕ) → info.authorization_reference ≡ Some r → get t.rows.spent (key w.token.party, key r) ≡ Some tt) →
       IsFor v w.token how.AuthRequest info.authorization_reference (key w.place.evse_uid) (key w.place.connector_id) → BeginsAsAsked s e t v
@@ -83,4 +85,5 @@ pub record BeganIn (s : State) (es : List Event) (t : State) (id : List ℕ) : T
 
 -- from the opening on, each session that is stored began so
 abbrev pub SessionsBegan : Type 0
-SessionsBegan = (line : SiteLine) (es : List Event) (t : State) → IsOfParty line → Run (opening line) es t → (id : List ℕ) (v : Session) → stored t id ≡ Some v → BeganIn (opening line) es t id
+SessionsBegan = (line : SiteLine) (es : List Event) (t : State) → IsOfParty line → Run (opening line) es t → (id : List ℕ) (v : Session) → stored t id ≡ Some v →
+    BeganIn (opening line) es t id

@@ -32,5 +32,6 @@ pub record HasSession (t : State) (p : List ℕ) (c : StartSession) : Type 0 whe
 
 -- from the opening on, a start that was opened, and whose kept result is ACCEPTED, began a session
 abbrev pub AcceptedStartsHaveSessions : Type 0
-AcceptedStartsHaveSessions = (line : SiteLine) (es : List Event) (t : State) → IsOfParty line → Run (opening line) es t → (e : Event) (p : List ℕ) (n : ℕ) (c : StartSession) → Contains es e →
+AcceptedStartsHaveSessions = (line : SiteLine) (es : List Event) (t : State) → IsOfParty line → Run (opening line) es t →
+    (e : Event) (p : List ℕ) (n : ℕ) (c : StartSession) → Contains es e →
     OpensStart e p n c → get t.rows.commands.results (p, n) ≡ Some result.Accepted → HasSession t p c

@@ -25,7 +25,8 @@ Uses o reference = (spelled : List ℕ) × (reference_of o.command ≡ Some spel
 -- a reference of a provider is carried by one session or by one open start, and may not be used again
 pub record AreUsedOnce (t : State) : Type 0 where
   pub sessions : (p r i j : List ℕ) (v w : Session) → stored t i ≡ Some v → stored t j ≡ Some w → IsBy v p r → IsBy w p r → i ≡ j
-  pub starts : (p r : List ℕ) (m n : ℕ) (o q : OpenCommand) → get t.rows.commands.pending (p, m) ≡ Some o → get t.rows.commands.pending (p, n) ≡ Some q → Uses o r → Uses q r → m ≡ n
+  pub starts : (p r : List ℕ) (m n : ℕ) (o q : OpenCommand) → get t.rows.commands.pending (p, m) ≡ Some o → get t.rows.commands.pending (p, n) ≡ Some q → Uses o r →
+      Uses q r → m ≡ n
   pub not_both : (p r i : List ℕ) (n : ℕ) (v : Session) (o : OpenCommand) → stored t i ≡ Some v → get t.rows.commands.pending (p, n) ≡ Some o → IsBy v p r → Uses o r → ⊥
   pub spent_by : (p r i : List ℕ) (v : Session) → stored t i ≡ Some v → IsBy v p r → get t.rows.spent (p, r) ≡ Some tt
   pub spent_for : (p r : List ℕ) (n : ℕ) (o : OpenCommand) → get t.rows.commands.pending (p, n) ≡ Some o → Uses o r → get t.rows.spent (p, r) ≡ Some tt
