@@ -17,7 +17,8 @@ use Rattle.session_tables.specs.Places.{IsConnectorAt, cdr_location_of}
 use Rattle.operator_rows.specs.State.{State, opening}
 use Rattle.operator_rows.specs.Sound.{IsConsistent}
 use Rattle.operator_steps.specs.Events.{Event, Happens}
-use Rattle.session_laws.specs.Runs.{IsOfParty, Puts, Run}
+use Rattle.operator_laws.specs.Laws.{IsOfParty, Run}
+use Rattle.operator_laws.specs.Sessions.{Puts}
 use Rattle.session_laws.specs.Pasts.{stored}
 
 -- the record bills the version, which is COMPLETED: its energy and its cost are the version's
@@ -57,3 +58,11 @@ SessionsAreBilledOnce = (line : SiteLine) (es : List Event) (t : State) → IsOf
 -- a charge detail record stays for good, unchanged
 abbrev pub RecordsStay : Type 0
 RecordsStay = (s t : State) (es : List Event) → IsConsistent s → Run s es t → (id : List ℕ) (x : Cdr) → get s.rows.charged.cdrs id ≡ Some x → get t.rows.charged.cdrs id ≡ Some x
+
+-- each session and each charge detail record is in the currency of the site
+pub record AreInCurrency (t : State) : Type 0 where
+  pub sessions : (id : List ℕ) (v : Session) → stored t id ≡ Some v → v.currency ≡ t.site.currency
+  pub cdrs : (id : List ℕ) (x : Cdr) → get t.rows.charged.cdrs id ≡ Some x → x.currency ≡ t.site.currency
+
+abbrev pub CurrenciesAreOfSite : Type 0
+CurrenciesAreOfSite = (line : SiteLine) (es : List Event) (t : State) → IsOfParty line → Run (opening line) es t → AreInCurrency t
