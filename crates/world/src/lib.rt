@@ -1,0 +1,2 @@
+//! The world.
+#![tactic(auto)]

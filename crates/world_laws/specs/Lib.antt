@@ -1,0 +1,5 @@
+pub mod Nodes
+pub mod Safe
+pub mod Later
+pub mod Agree
+pub mod Laws

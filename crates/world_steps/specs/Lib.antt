@@ -1,0 +1,5 @@
+pub mod World
+pub mod Network
+pub mod Steps
+pub mod Traces
+pub mod Laws
