@@ -1,8 +1,7 @@
 -- A world is safe: no EVSE has two claims, no authorization reference starts two sessions, each session goes on in order, what a provider
 -- holds of it is what the operator had, and each session is billed once and owed once.
-use Rattle.std.specs.Prelude.{◌≡◌, ◌≢◌, ◌↔◌, ℕ, ℤ, List, Option, Some, None, map, Contains, last_or}
-use Rattle.std.specs.Int.{pos}
-use Rattle.std.specs.List.{AllPairs}
+use Rattle.std.specs.Prelude.{◌≡◌, ◌≢◌, ◌↔◌, ℕ, ℤ, List, Option, Some, None, map, pos, Contains}
+use Rattle.std.specs.List.{AllPairs, last_or}
 use Rattle.std.specs.FinMap.{get, values}
 use Rattle.ocpi_text.specs.Text.{key}
 use Rattle.ocpi_types.specs.declared.cdrs.Cdr.{Cdr}
