@@ -2,6 +2,7 @@ pub mod Runs
 pub mod Pasts
 pub mod Bills
 pub mod Ids
+pub mod Currencies
 pub mod Begun
 pub mod Used
 pub mod Started
