@@ -6,7 +6,6 @@ pub mod Causes
 pub mod Caused
 pub mod Billing
 pub mod Numbering
-pub mod Currencies
 pub mod Beginning
 pub mod Opens
 pub mod Using

@@ -2,7 +2,6 @@ pub mod Runs
 pub mod Pasts
 pub mod Bills
 pub mod Ids
-pub mod Currencies
 pub mod Begun
 pub mod Used
 pub mod Started

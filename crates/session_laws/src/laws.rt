@@ -4,7 +4,6 @@
 
 ghost use Rattle.session_laws.specs.Begun.{SessionsBegan, SessionsBeginAsAsked};
 ghost use Rattle.session_laws.specs.Bills.{RecordsAreOfCompletedSessions, RecordsStay, SessionsAreBilledOnce};
-ghost use Rattle.session_laws.specs.Currencies.{CurrencyIsOfTheSite};
 ghost use Rattle.session_laws.specs.Delivered.{NewestVersionsArePushed};
 ghost use Rattle.session_laws.specs.Ids.{IdsAreGiven};
 ghost use Rattle.session_laws.specs.Sent.{SentVersionsArePast};
@@ -53,12 +52,6 @@ pub fn records_stay()
 /// numbers have different ids. An id that is given twice, or by a counter that is not stored, would break this.
 pub fn ids_are_given()
     ensures { IdsAreGiven }
-{}
-
-/// From the opening on each session, and each charge detail record, names the currency of the site. A session whose currency is that of
-/// another site, or a bill in a currency other than its session's, would break this.
-pub fn currency_is_of_the_site()
-    ensures { CurrencyIsOfTheSite }
 {}
 
 /// The first version of a session is PENDING, and is put by an event that carries out an open start, shows a token that its provider
