@@ -1,1 +1,4 @@
 pub mod NodeRuns
+pub mod Newest
+pub mod Senders
+pub mod Acknowledged
