@@ -1,11 +1,9 @@
 -- What is acknowledged is held: the provider that acknowledged a push came by it from the operator, and holds what it carried.
-use Rattle.std.proofs.Common.{◌≡◌, ◌⊎◌, ◌<◌, ◌≤◌, ℕ, List, map, inl, inr, refl, sym, ap, subst, ◌∙◌, arith}
-use Rattle.std.specs.Prelude.{Some, None, Contains}
-use Rattle.std.specs.List.{last_or}
+use Rattle.std.proofs.Common.{◌≡◌, ◌⊎◌, ◌≤◌, ℕ, List, map, inl, inr, refl, sym, ap, subst, ◌∙◌, arith}
+use Rattle.std.specs.Prelude.{Some, Contains}
 use Rattle.std.specs.FinMap.{get, get-empty}
 use Rattle.tables.specs.Keys.{text_number_cmp, text_pair_cmp}
 use Rattle.tables.proofs.Options.{not_both}
-use Rattle.node_laws.specs.Nodes as nodes
 use Rattle.ocpi_text.specs.Text.{key}
 use Rattle.ocpi_types.specs.Stored.{body_of_push}
 use Rattle.ocpi_types.specs.declared.cdrs.Cdr.{Cdr}
@@ -19,7 +17,6 @@ use Rattle.ocpi_types.specs.declared.stored.Push.TheVariants as push
 use Rattle.ocpi_types.specs.declared.stored.Reply.{Reply}
 use Rattle.ocpi_types.specs.declared.stored.Reply.TheVariants as reply
 use Rattle.ocpi_types.specs.declared.words.SessionStatus.{SessionStatus}
-use Rattle.ocpi_types.specs.declared.words.SessionStatus.TheVariants.{Completed, Invalid}
 use Rattle.handover.specs.Cdrs.{cdr_key}
 use Rattle.handover.specs.Inbox as inbox
 use Rattle.handover.specs.Inbox.{session_key}
@@ -32,7 +29,7 @@ use Rattle.operator_laws.proofs.sessions.HandedOver.{versions_are_pushed}
 use Rattle.operator_laws.proofs.standing.AtAllTimes.{always_consistent}
 use Rattle.operator_rows.specs.Sound.{IsConsistent}
 use Rattle.operator_rows.specs.State as operator
-use Rattle.provider_laws.specs.Held.{HoldsAtLeast, IsTaken}
+use Rattle.provider_laws.specs.Held.{IsTaken}
 use Rattle.provider_laws.specs.Laws as provider_laws
 use Rattle.provider_laws.proofs.held.Cdrs.{acknowledged_cdrs_are_held}
 use Rattle.provider_laws.proofs.held.Sessions.{acknowledged_sessions_are_held, held_sessions_came}
@@ -162,7 +159,9 @@ module _ (setup : List Node) (is_setup : IsSetup setup) (w : World) (hs : Histor
           let its_key : session_key v ≡ (o, id) = λ i. (((consistent.sound.sessions id v stands).own ∙ party_is) i, sym (consistent.sound.charged_keyed.sessions id v stands) i) in
           let held : get t.state.rows.inbox.sessions (o, id) ≡ Some y = ap (get t.state.rows.inbox.sessions) (sym its_key) ∙ has in
           let (ordered, is_last) = pasts_are_orderly (line_of setup at.trace.party at.trace.site) at.trace.events s at.trace.by_form run id in
-          let among = last_or_earlier at.trace.site.price (past id at.trace.events) v y ordered (sym is_last ∙ stands) (of_past (key v.cdr_token.party) id t.place t.state (provider_at setup is_setup w hs traces (key v.cdr_token.party) t.place t.state t.of) y held) in
+          let among =
+              last_or_earlier at.trace.site.price (past id at.trace.events) v y ordered (sym is_last ∙ stands)
+              (of_past (key v.cdr_token.party) id t.place t.state (provider_at setup is_setup w hs traces (key v.cdr_token.party) t.place t.state t.of) y held) in
           record { place = t.place; state = t.state; at = t.of; held = held ∙ ap Some (newest v y among at_least) }
 
       held_cdr : (x : Cdr) → get s.rows.charged.cdrs id ≡ Some x → Took (key x.cdr_token.party) (push.PostCdr x) → HoldsCdr w (key x.cdr_token.party) o id x

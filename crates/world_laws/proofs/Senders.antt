@@ -1,5 +1,5 @@
 -- What came was sent by the one node of its sender's party.
-use Rattle.std.proofs.Common.{◌≡◌, ℕ, List, ◌∷◌, ◌++◌, refl, sym, ap, subst, ◌∙◌}
+use Rattle.std.proofs.Common.{◌≡◌, ℕ, List, ◌∷◌, sym, ap, subst, ◌∙◌}
 use Rattle.std.specs.Prelude.{Contains}
 use Rattle.std.proofs.lemmas.List.Elements.{Contains-append_right}
 use Rattle.tables.proofs.Elements.{in_front}
@@ -10,7 +10,6 @@ use Rattle.ocpi_types.specs.Stored.{body_of_command, body_of_push}
 use Rattle.ocpi_types.specs.declared.packet.Body.{Body}
 use Rattle.ocpi_types.specs.declared.packet.Packet.{Packet}
 use Rattle.ocpi_types.specs.declared.setup.Node.{Node}
-use Rattle.ocpi_types.specs.declared.site.SiteLine.{SiteLine}
 use Rattle.ocpi_types.specs.declared.stored.Command.{Command}
 use Rattle.ocpi_types.specs.declared.stored.Push.{Push}
 use Rattle.ocpi_types.specs.declared.stored.Reply.{Reply}
@@ -44,10 +43,12 @@ came_and_was_answered s t es q r h =
 
 module _ (setup : List Node) (is_setup : IsSetup setup) (w : World) (hs : Histories) (traces : Traces setup w hs) where
   -- the node's run leads to its state
-  pub run_of_operator : (o : List ℕ) (p : Place) (s : operator.State) (at : OperatorAt setup is_setup w hs traces o p s) → operator_laws.Run (operator.opening (line_of setup at.trace.party at.trace.site)) at.trace.events s
+  pub run_of_operator : (o : List ℕ) (p : Place) (s : operator.State) (at : OperatorAt setup is_setup w hs traces o p s) →
+      operator_laws.Run (operator.opening (line_of setup at.trace.party at.trace.site)) at.trace.events s
   run_of_operator o p s at = subst (λ z. operator_laws.Run (operator.opening (line_of setup at.trace.party at.trace.site)) at.trace.events z) at.state_is at.trace.run
 
-  pub run_of_provider : (o : List ℕ) (p : Place) (s : provider.State) (at : ProviderAt setup is_setup w hs traces o p s) → provider_laws.Run (provider.opening (peering_of setup at.trace.party)) at.trace.events s
+  pub run_of_provider : (o : List ℕ) (p : Place) (s : provider.State) (at : ProviderAt setup is_setup w hs traces o p s) →
+      provider_laws.Run (provider.opening (peering_of setup at.trace.party)) at.trace.events s
   run_of_provider o p s at = subst (λ z. provider_laws.Run (provider.opening (peering_of setup at.trace.party)) at.trace.events z) at.state_is at.trace.run
 
   -- a packet from a party was sent in the run of the party's node
