@@ -2,3 +2,4 @@ pub mod NodeRuns
 pub mod Newest
 pub mod Senders
 pub mod Acknowledged
+pub mod Agreeing
