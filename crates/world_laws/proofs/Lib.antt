@@ -1,2 +1,6 @@
 pub mod Setups
 pub mod NodeRuns
+pub mod Newest
+pub mod Senders
+pub mod Acknowledged
+pub mod Agreeing
