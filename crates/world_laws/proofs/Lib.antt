@@ -1,1 +1,3 @@
 pub mod NodeRuns
+pub mod Reserving
+pub mod Later
