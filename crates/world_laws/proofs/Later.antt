@@ -72,18 +72,20 @@ after_first : (v : Session) (vs : List Session) (a b : Session) → StandsAfter 
 after_first v vs a b h = record { before = v ∷ h.before; after = h.after; all = ap (λ l. v ∷ l) h.all; later = h.later }
 
 -- of two versions of a past the later one stands after the other
+by_places : (price : ℤ) (v : Session) (vs : List Session) → Follow price v vs → (a b : Session) → a.last_updated < b.last_updated → (Contains vs a → Contains vs b → StandsAfter vs a b) →
+    (v ≡ a) ⊎ Contains vs a → (v ≡ b) ⊎ Contains vs b → StandsAfter (v ∷ vs) a b
+by_places price v vs follow a b later rest (inl here) (inl there) = let same = ap (λ (z : Session). z.last_updated) (sym here ∙ there) in absurd (omega (arith, later, same))
+by_places price v vs follow a b later rest (inl here) (inr there) = record { before = []; after = vs; all = ap (λ z. z ∷ vs) here; later = there }
+by_places price v vs follow a b later rest (inr here) (inl there) =
+    let earlier = is_earlier price v vs follow a here in
+    let same = ap (λ (z : Session). z.last_updated) there in
+    absurd (omega (arith, later, earlier, same))
+by_places price v vs follow a b later rest (inr here) (inr there) = after_first v vs a b (rest here there)
+
 follows_it : (price : ℤ) (v : Session) (vs : List Session) → Follow price v vs → (a b : Session) → Contains (v ∷ vs) a → Contains (v ∷ vs) b → a.last_updated < b.last_updated → StandsAfter (v ∷ vs) a b
-follows_it price v vs follow a b i j later = by_places vs follow (of_cons v vs a i) (of_cons v vs b j)
-  where
-    by_places : (ws : List Session) → Follow price v ws → (v ≡ a) ⊎ Contains ws a → (v ≡ b) ⊎ Contains ws b → StandsAfter (v ∷ ws) a b
-    by_places ws all (inl here) (inl there) = let same = ap (λ (z : Session). z.last_updated) (sym here ∙ there) in absurd (omega (arith, later, same))
-    by_places ws all (inl here) (inr there) = record { before = []; after = ws; all = ap (λ z. z ∷ ws) here; later = there }
-    by_places ws all (inr here) (inl there) =
-        let earlier = is_earlier price v ws all a here in
-        let same = ap (λ (z : Session). z.last_updated) there in
-        absurd (omega (arith, later, earlier, same))
-    by_places [] all (inr here) (inr there) = absurd (in_none a here)
-    by_places (w ∷ ws) all (inr here) (inr there) = after_first v (w ∷ ws) a b (follows_it price w ws all.1 a b here there later)
+follows_it price v [] follow a b i j later = by_places price v [] follow a b later (λ k l. absurd (in_none a k)) (of_cons v [] a i) (of_cons v [] b j)
+follows_it price v (w ∷ ws) follow a b i j later =
+    by_places price v (w ∷ ws) follow a b later (λ k l. follows_it price w ws follow.1 a b k l later) (of_cons v (w ∷ ws) a i) (of_cons v (w ∷ ws) b j)
 
 stands_after : (price : ℤ) (vs : List Session) → IsOrderly price vs → (a b : Session) → Contains vs a → Contains vs b → a.last_updated < b.last_updated → StandsAfter vs a b
 stands_after price [] orderly a b i j later = absurd (in_none a i)
@@ -149,7 +151,7 @@ module _ (setup : List Node) (is_setup : IsSetup setup) (w : World) (hs : Histor
     run_first = subst (operator_laws.Run (operator.opening line) events) h.first.state_is h.first.trace.run
 
     -- all that the operator did until the later world
-    trace_on : OperatorTrace setup h.first.number h.place (joined hs ms h.first.number)
+    abbrev trace_on : OperatorTrace setup h.first.number h.place (joined hs ms h.first.number)
     trace_on = record {
       party = h.first.trace.party;
       site = h.first.trace.site;
@@ -165,7 +167,7 @@ module _ (setup : List Node) (is_setup : IsSetup setup) (w : World) (hs : Histor
       versions_is = h.more.versions_is ∙ ap (λ l. l ++ versions_in h.more.events) h.first.trace.versions_is ∙ sym (flat_map-append (λ (e : operator_events.Event). all_put e.changes) events h.more.events);
     }
 
-    at_on : OperatorAt setup is_setup v (joined hs ms) on o h.place h.more.state
+    abbrev at_on : OperatorAt setup is_setup v (joined hs ms) on o h.place h.more.state
     at_on = record { number = h.first.number; here = h.here; party = ap key h.same ∙ h.first.party; trace = trace_on; state_is = refl }
 
     of_on : OperatorOf v o h.place h.more.state
