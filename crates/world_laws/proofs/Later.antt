@@ -43,7 +43,7 @@ use Rattle.world_laws.specs.Laws.{IsSetup}
 use Rattle.world_laws.specs.Nodes.{Holds, IsPast, OperatorOf, ProviderOf}
 use Rattle.world_laws.specs.Safe.{IsSafe}
 use Rattle.world_laws.proofs.NodeRuns.{OperatorAt, OperatorGoes, OperatorTrace, ProviderAt, ProviderGoes, line_of, one_operator, operator_at, operator_goes, peering_of, provider_at, provider_goes, versions_in}
-use Rattle.world_laws.proofs.Reserving.{RepliesWereGiven, newly_made}
+use Rattle.world_laws.proofs.Reserving.{newly_made}
 use Rattle.world_steps.specs.Steps.{AtOperator, all_put}
 use Rattle.world_steps.specs.Traces.{Histories, Goes, Traces, Went, joined}
 use Rattle.world_steps.specs.World.{Place, World, past_of}
@@ -176,11 +176,11 @@ module _ (setup : List Node) (is_setup : IsSetup setup) (w : World) (hs : Histor
     fine_first : operator_sound.IsConsistent s
     fine_first = (operators.always_consistent line events s h.first.trace.by_form run_first).consistent
 
-    operator_later : RepliesWereGiven → OperatorIsLater v o p h.place s h.more.state
-    operator_later given = record {
+    operator_later : OperatorIsLater v o p h.place s h.more.state
+    operator_later = record {
       pasts = λ id. (past_of id (versions_in h.more.events), past_grows id p h.place (versions_in h.more.events) h.more.versions_is);
       keeps = operator_keeps s h.more.state h.more.events fine_first h.more.run;
-      reservations = newly_made given setup is_setup v (joined hs ms) on o h.place h.more.state at_on line events h.more.events refl s run_first h.more.run;
+      reservations = newly_made setup is_setup v (joined hs ms) on o h.place h.more.state at_on line events h.more.events refl s run_first h.more.run;
     }
 
   -- and a provider
@@ -238,9 +238,9 @@ module _ (setup : List Node) (is_setup : IsSetup setup) (w : World) (hs : Histor
         by_rise b now (inl same) = inl same
         by_rise b now (inr (open_still, later)) = inr (rose p o id a b held now later)
 
-    pub is_later : RepliesWereGiven → IsLaterWorld w v
-    is_later given = record {
-      operators = λ o p s of. let h = operator_on o p s of in (h.place, h.more.state, of_on o p s h, operator_later o p s h given);
+    pub is_later : IsLaterWorld w v
+    is_later = record {
+      operators = λ o p s of. let h = operator_on o p s of in (h.place, h.more.state, of_on o p s h, operator_later o p s h);
       providers = λ o p s of. let h = provider_on o p s of in (h.place, h.more.state, provider_of_on o p s h, provider_later o p s h);
       held = held_later;
     }

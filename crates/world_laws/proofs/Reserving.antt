@@ -21,6 +21,7 @@ use Rattle.node_laws.specs.Nodes.{IsReply}
 use Rattle.node_laws.proofs.BodyKinds.{no_command, no_push}
 use Rattle.operator_laws.specs.Laws.{Came, IsReplyTo, Run}
 use Rattle.operator_laws.specs.Made.{IsAnsweredIn, IsReserved}
+use Rattle.operator_laws.proofs.replies.Given.{replies_were_given}
 use Rattle.operator_laws.proofs.reservations.Making.{reservations_are_made}
 use Rattle.operator_laws.proofs.standing.AtAllTimes.{replies_stay}
 use Rattle.operator_rows.specs.State.{State, opening}
@@ -32,12 +33,6 @@ use Rattle.world_laws.specs.Nodes.{ProviderOf}
 use Rattle.world_laws.proofs.NodeRuns.{FromProvider, OperatorAt, came_to_operator, one_provider, peering_of}
 use Rattle.world_steps.specs.Traces.{Histories, Traces}
 use Rattle.world_steps.specs.World.{Place, World}
-
--- each kept reply was given to a request that came, in an event of the run
-abbrev pub RepliesWereGiven : Type 0
-RepliesWereGiven = (line : SiteLine) (es : List Event) (t : State) → Run (opening line) es t → (p : List ℕ) (n : ℕ) (r : Reply) →
-    get t.rows.commands.replies (p, n) ≡ Some r →
-    (q : Packet) × IsAnsweredIn (opening line) es t q r × (key q.from ≡ p) × (q.request ≡ n) × IsReplyTo r q.body
 
 -- what is answered is no reply
 no_reply : (r : Reply) (b : Body) → IsReplyTo r b → ¬ IsReply b
@@ -60,7 +55,7 @@ came_later : (es fs all : List Event) → all ≡ es ++ fs → (q : Packet) → 
 came_later es fs all is q (e, within, brings) = (e, subst (λ l. Contains l e) (sym is) (Contains-append_right es fs e within), brings)
 
 -- an operator of a world, by the state s that it had after the events es
-module _ (given : RepliesWereGiven) (setup : List Node) (is_setup : IsSetup setup) (v : World) (hs : Histories) (traces : Traces setup v hs)
+module _ (setup : List Node) (is_setup : IsSetup setup) (v : World) (hs : Histories) (traces : Traces setup v hs)
     (o : List ℕ) (q : Place) (t : State) (at : OperatorAt setup is_setup v hs traces o q t) (line : SiteLine) (es fs : List Event)
     (all : at.trace.events ≡ es ++ fs) (s : State) (first : Run (opening line) es s) (then : Run s fs t) where
 
@@ -94,7 +89,7 @@ module _ (given : RepliesWereGiven) (setup : List Node) (is_setup : IsSetup setu
   is_newer : (r id : List ℕ) (m : IsReserved (opening line) es s fs t r id) (n : ℕ) (c : CancelReservation) → HasDecided s r n → HasSent v r o n (body.CancelReservation c) →
       key c.reservation_id ≡ id → n < m.packet.request
   is_newer r id m n c (w, kept) h same =
-      let (x, answered, by, number, replies) = given line es s first r n w kept in
+      let (x, answered, by, number, replies) = replies_were_given line es s first r n w kept in
       let came = came_first es fs at.trace.events all x (answered_came (opening line) s es x w answered) in
       let below = m.newer x c w answered (answered_is x w r n c came by number replies h) by same in
       omega (arith, below, number)
