@@ -1,12 +1,10 @@
 -- A world to which a run goes on is later: each node goes on from the very state that it had.
-use Rattle.std.proofs.Common.{◌≡◌, ◌⊎◌, ◌<◌, zero, suc, ℕ, ℤ, List, [], ◌∷◌, ◌++◌, length, inl, inr, refl, sym, ap, subst, ◌∙◌, arith}
+use Rattle.std.proofs.Common.{◌≡◌, ◌⊎◌, ◌<◌, ℕ, ℤ, List, [], ◌∷◌, ◌++◌, inl, inr, refl, sym, ap, subst, ◌∙◌, arith}
 use Rattle.std.specs.Prelude.{Some, Contains, slice_get}
-use Rattle.std.specs.FinMap.{get}
 use Rattle.std.specs.Str.{bytes_eq}
 use Rattle.std.proofs.lemmas.List.Elements.{Contains-append_left, filter-append}
 use Rattle.std.proofs.lemmas.List.Concat.{flat_map-append}
 use Rattle.std.proofs.lemmas.List.{map-append}
-use Rattle.std.proofs.lemmas.Option.{slice_get_within}
 use Rattle.tables.proofs.Elements.{in_none}
 use Rattle.ocpi_text.specs.Text.{key}
 use Rattle.ocpi_types.specs.declared.sessions.Session.{Session}
@@ -18,7 +16,7 @@ use Rattle.operator_laws.specs.Laws as operator_laws
 use Rattle.operator_laws.proofs.standing.AtAllTimes as operators
 use Rattle.operator_rows.specs.Sound as operator_sound
 use Rattle.operator_rows.specs.State as operator
-use Rattle.operator_rows.proofs.RowChanges.{in_later, of_cons}
+use Rattle.operator_rows.proofs.RowChanges.{of_cons}
 use Rattle.operator_steps.specs.Events as operator_events
 use Rattle.provider_laws.specs.Commands.{IsLater}
 use Rattle.provider_laws.specs.Held.{IsAfter}
@@ -45,8 +43,9 @@ use Rattle.world_laws.specs.Safe.{IsSafe}
 use Rattle.world_laws.proofs.NodeRuns.{OperatorAt, OperatorGoes, OperatorTrace, ProviderAt, ProviderGoes, line_of, one_operator, operator_at, operator_goes, peering_of, provider_at, provider_goes, versions_in}
 use Rattle.world_laws.proofs.Reserving.{newly_made}
 use Rattle.world_steps.specs.Steps.{AtOperator, all_put}
-use Rattle.world_steps.specs.Traces.{Histories, Goes, Traces, Went, joined}
+use Rattle.world_steps.specs.Traces.{Histories, Goes, Traces, joined}
 use Rattle.world_steps.specs.World.{Place, World, past_of}
+use Rattle.world_steps.proofs.Places.{got_within, stands}
 
 -- what holds of a provider at all times
 provider_consistent : provider_laws.AlwaysConsistent
@@ -91,11 +90,6 @@ stands_after : (price : ℤ) (vs : List Session) → IsOrderly price vs → (a b
 stands_after price [] orderly a b i j later = absurd (in_none a i)
 stands_after price (v ∷ vs) orderly a b i j later = follows_it price v vs orderly.2 a b i j later
 
-got : {X : Type 0} (xs : List X) (i : ℕ) → i < length xs → (x : X) × (slice_get xs i ≡ Some x)
-got [] i within = absurd (omega (arith, within))
-got (x ∷ xs) zero within = (x, refl)
-got (x ∷ xs) (suc i) within = got xs i (omega (arith, within))
-
 -- the past of a session grows by what is stored of it
 past_grows : (id : List ℕ) (p q : Place) (more : List Session) → q.versions ≡ p.versions ++ more → past_of id q.versions ≡ past_of id p.versions ++ past_of id more
 past_grows id p q more is = ap (past_of id) is ∙ filter-append (λ (v : Session). bytes_eq (key v.id) id) p.versions more
@@ -120,10 +114,9 @@ provider_keeps s t es fine run = record {
 
 module _ (setup : List Node) (is_setup : IsSetup setup) (w : World) (hs : Histories) (traces : Traces setup w hs) (v : World) (ms : Histories) (goes : Goes w ms v)
     (on : Traces setup v (joined hs ms)) where
-
   -- each place has one in the later world
   there : (i : ℕ) (p : Place) → slice_get w i ≡ Some p → (q : Place) × (slice_get v i ≡ Some q)
-  there i p here = let within = slice_get_within w i p here in let size = goes.size in got v i (omega (arith, within, size))
+  there i p here = let within = got_within w i p here in let size = goes.size in stands v i (omega (arith, within, size))
 
   -- an operator, and what it is in the later world, with all that it did
   record OperatorOn (o : List ℕ) (p : Place) (s : operator.State) : Type 0 where
@@ -220,7 +213,7 @@ module _ (setup : List Node) (is_setup : IsSetup setup) (w : World) (hs : Histor
         let one = one_operator setup is_setup v (joined hs ms) on o is.is_past.place h.place is.is_past.state h.more.state is.is_past.at (of_on o was.is_past.place was.is_past.state h) in
         let all : is.versions ≡ past_of id h.place.versions = is.is_past.past_is ∙ ap (λ (z : Place). past_of id z.versions) one.0 in
         let grown : is.versions ≡ was.versions ++ past_of id (versions_in h.more.events) =
-            all ∙ past_grows id was.is_past.place h.place (versions_in h.more.events) h.more.versions_is ∙ ap (λ l. l ++ past_of id (versions_in h.more.events)) (sym was.is_past.past_is) in
+        all ∙ past_grows id was.is_past.place h.place (versions_in h.more.events) h.more.versions_is ∙ ap (λ l. l ++ past_of id (versions_in h.more.events)) (sym was.is_past.past_is) in
         let member : Contains is.versions a = subst (λ l. Contains l a) (sym grown) (Contains-append_left was.versions (past_of id (versions_in h.more.events)) a was.member) in
         let orderly = (safe_on.orderly o is.is_past.place is.is_past.state is.is_past.at id).orderly in
         let follows = subst (IsOrderly is.is_past.state.site.price) (sym is.is_past.past_is) orderly in

@@ -1,5 +1,5 @@
 -- A reservation that stands in a later world, and did not in the earlier, was asked for in between, and not before its cancellation.
-use Rattle.std.proofs.Common.{◌≡◌, ◌<◌, ℕ, List, ◌∷◌, ◌++◌, refl, sym, ap, subst, ◌∙◌, arith}
+use Rattle.std.proofs.Common.{◌≡◌, ◌<◌, ℕ, List, ◌∷◌, ◌++◌, refl, sym, subst, ◌∙◌, arith}
 use Rattle.std.specs.Prelude.{Some, None, Contains}
 use Rattle.std.specs.FinMap.{get}
 use Rattle.std.proofs.lemmas.List.Elements.{Contains-append_left, Contains-append_right}
@@ -30,7 +30,7 @@ use Rattle.provider_laws.proofs.nodes.NodeLaws.{requests_agree}
 use Rattle.world_laws.specs.Later.{HasDecided, HasSent, IsNewlyMade}
 use Rattle.world_laws.specs.Laws.{IsSetup}
 use Rattle.world_laws.specs.Nodes.{ProviderOf}
-use Rattle.world_laws.proofs.NodeRuns.{FromProvider, OperatorAt, came_to_operator, one_provider, peering_of}
+use Rattle.world_laws.proofs.NodeRuns.{OperatorAt, came_to_operator, one_provider, peering_of}
 use Rattle.world_steps.specs.Traces.{Histories, Traces}
 use Rattle.world_steps.specs.World.{Place, World}
 
@@ -58,7 +58,6 @@ came_later es fs all is q (e, within, brings) = (e, subst (λ l. Contains l e) (
 module _ (setup : List Node) (is_setup : IsSetup setup) (v : World) (hs : Histories) (traces : Traces setup v hs)
     (o : List ℕ) (q : Place) (t : State) (at : OperatorAt setup is_setup v hs traces o q t) (line : SiteLine) (es fs : List Event)
     (all : at.trace.events ≡ es ++ fs) (s : State) (first : Run (opening line) es s) (then : Run s fs t) where
-
   -- what came to it was sent by the provider that it is from
   has_sent : (x : Packet) (r : List ℕ) (b : Body) → Came at.trace.events x → key x.from ≡ r → x.body ≡ b → HasSent v r o x.request b
   has_sent x r b came by carries =
@@ -82,7 +81,7 @@ module _ (setup : List Node) (is_setup : IsSetup setup) (v : World) (hs : Histor
       let one = one_provider setup is_setup v hs traces r f.place h.place f.state h.state (subst (λ z. ProviderOf v z f.place f.state) by f.of) h.at in
       let within : Contains f.place.sent h.packet = subst (λ (z : Place). Contains z.sent h.packet) (sym one.0) h.was_sent in
       let agree = requests_agree (peering_of setup f.at.trace.party) f.at.trace.events f.at.trace.state f.at.trace.run x h.packet f.within
-          (subst (λ l. Contains l h.packet) f.at.trace.sent_is within) (no_reply w x.body replies) (no_cancellation c h.packet.body h.carries) (number ∙ sym h.number) in
+      (subst (λ l. Contains l h.packet) f.at.trace.sent_is within) (no_reply w x.body replies) (no_cancellation c h.packet.body h.carries) (number ∙ sym h.number) in
       agree.0 ∙ h.carries
 
   -- a cancellation that was decided before is under a lower number
@@ -103,8 +102,8 @@ module _ (setup : List Node) (is_setup : IsSetup setup) (v : World) (hs : Histor
         number = m.packet.request;
         asked = m.asked;
         undecided = none_else (get s.rows.commands.replies k) (λ w has.
-          not_both w (get a.before.rows.commands.replies k) (subst (λ z. get a.before.rows.commands.replies (z, m.packet.request) ≡ None) m.by a.answers.new)
-          (replies_stay s a.before a.earlier a.reached k w has));
+            not_both w (get a.before.rows.commands.replies k) (subst (λ z. get a.before.rows.commands.replies (z, m.packet.request) ≡ None) m.by a.answers.new)
+            (replies_stay s a.before a.earlier a.reached k w has));
         decided = (
           m.reply,
           replies_stay a.after t a.later a.left k m.reply (subst (λ z. get a.after.rows.commands.replies (z, m.packet.request) ≡ Some m.reply) m.by a.answers.kept),
