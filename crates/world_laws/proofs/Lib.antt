@@ -4,3 +4,5 @@ pub mod Newest
 pub mod Senders
 pub mod Acknowledged
 pub mod Agreeing
+pub mod Reserving
+pub mod Later
