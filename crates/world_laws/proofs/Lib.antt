@@ -1,1 +1,3 @@
 pub mod NodeRuns
+pub mod PastOrder
+pub mod Holding
