@@ -23,14 +23,14 @@ use Rattle.world_steps.specs.Steps.{AtOperator, AtProvider, NodeEvent, NodeStep,
 use Rattle.world_steps.specs.Traces.{Histories, Goes, Traces, Went}
 use Rattle.world_steps.specs.World.{Operates, Place, Provides, World, operators_of, providers_of}
 
-pub line_of : List Node → List ℕ → Site → SiteLine
+abbrev pub line_of : List Node → List ℕ → Site → SiteLine
 line_of setup party site = record { at = 0; parties = record { operator = party; providers = providers_of setup }; site = site }
 
-pub peering_of : List Node → List ℕ → provider.Peering
+abbrev pub peering_of : List Node → List ℕ → provider.Peering
 peering_of setup party = record { provider = party; operators = operators_of setup }
 
 -- the versions that events of an operator put
-pub versions_in : List operator_events.Event → List Session
+abbrev pub versions_in : List operator_events.Event → List Session
 versions_in es = flat_map (λ (e : operator_events.Event). all_put e.changes) es
 
 pub record OperatorTrace (setup : List Node) (i : ℕ) (p : Place) (es : List NodeEvent) : Type 0 where
@@ -61,25 +61,27 @@ pub record ProviderTrace (setup : List Node) (i : ℕ) (p : Place) (es : List No
   pub sent_is : p.sent ≡ provider_laws.sent events
 
 -- a place goes on as an operator, or as a provider, from the state that it had
-pub record OperatorGoes (p q : Place) (s : operator.State) : Type 0 where
+pub record OperatorGoes (p q : Place) (es : List NodeEvent) (s : operator.State) : Type 0 where
   pub state : operator.State
   pub is : q.node ≡ Operates state
   pub events : List operator_events.Event
   pub run : operator_laws.Run s events state
+  pub history : es ≡ map AtOperator events
   pub sent_is : q.sent ≡ p.sent ++ operator_laws.sent events
   pub versions_is : q.versions ≡ p.versions ++ versions_in events
 
-pub record ProviderGoes (p q : Place) (s : provider.State) : Type 0 where
+pub record ProviderGoes (p q : Place) (es : List NodeEvent) (s : provider.State) : Type 0 where
   pub state : provider.State
   pub is : q.node ≡ Provides state
   pub events : List provider_events.Event
   pub run : provider_laws.Run s events state
+  pub history : es ≡ map AtProvider events
   pub sent_is : q.sent ≡ p.sent ++ provider_laws.sent events
 
-pub operator_goes : (p q : Place) (es : List NodeEvent) (s : operator.State) → Went p es q → p.node ≡ Operates s → OperatorGoes p q s
+pub operator_goes : (p q : Place) (es : List NodeEvent) (s : operator.State) → Went p es q → p.node ≡ Operates s → OperatorGoes p q es s
 operator_goes p q es s went is = ?
 
-pub provider_goes : (p q : Place) (es : List NodeEvent) (s : provider.State) → Went p es q → p.node ≡ Provides s → ProviderGoes p q s
+pub provider_goes : (p q : Place) (es : List NodeEvent) (s : provider.State) → Went p es q → p.node ≡ Provides s → ProviderGoes p q es s
 provider_goes p q es s went is = ?
 
 module _ (setup : List Node) (is_setup : IsSetup setup) (w : World) (hs : Histories) (traces : Traces setup w hs) where
