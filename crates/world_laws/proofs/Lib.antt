@@ -1,3 +1,4 @@
+pub mod Setups
 pub mod NodeRuns
 pub mod PastOrder
 pub mod Holding
