@@ -6,3 +6,5 @@ pub mod Acknowledged
 pub mod Agreeing
 pub mod Reserving
 pub mod Later
+pub mod PastOrder
+pub mod Holding
