@@ -23,14 +23,14 @@ use Rattle.world_steps.specs.Steps.{AtOperator, AtProvider, NodeEvent, NodeStep,
 use Rattle.world_steps.specs.Traces.{Histories, Goes, Traces, Went}
 use Rattle.world_steps.specs.World.{Operates, Place, Provides, World, operators_of, providers_of}
 
-pub line_of : List Node → List ℕ → Site → SiteLine
+abbrev pub line_of : List Node → List ℕ → Site → SiteLine
 line_of setup party site = record { at = 0; parties = record { operator = party; providers = providers_of setup }; site = site }
 
-pub peering_of : List Node → List ℕ → provider.Peering
+abbrev pub peering_of : List Node → List ℕ → provider.Peering
 peering_of setup party = record { provider = party; operators = operators_of setup }
 
 -- the versions that events of an operator put
-pub versions_in : List operator_events.Event → List Session
+abbrev pub versions_in : List operator_events.Event → List Session
 versions_in es = flat_map (λ (e : operator_events.Event). all_put e.changes) es
 
 pub record OperatorTrace (setup : List Node) (i : ℕ) (p : Place) (es : List NodeEvent) : Type 0 where

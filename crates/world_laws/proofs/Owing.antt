@@ -104,7 +104,7 @@ module _ (setup : List Node) (is_setup : IsSetup setup) (w : World) (hs : Histor
     versions_apart : AllPairs (λ (v u : Session). key v.id ≢ key u.id) versions
     versions_apart = gathered_apart (version_of o r) (λ (e d : Entry). e.0 ≢ d.0) (λ (v u : Session). key v.id ≢ key u.id) held_entries (keys_apart text_pair_total text_pair_exact t.rows.inbox.cdrs)
         (λ e d v u i j differ v_is u_is same. apart e d v u i j differ (chosen (bytes_eq e.0.0 o) (last_or None (past_of (key e.1.session_id) r.versions)) v v_is)
-            (chosen (bytes_eq d.0.0 o) (last_or None (past_of (key d.1.session_id) r.versions)) u u_is) same)
+        (chosen (bytes_eq d.0.0 o) (last_or None (past_of (key d.1.session_id) r.versions)) u u_is) same)
       where
         apart : (e d : Entry) (v u : Session) → Contains held_entries e → Contains held_entries d → e.0 ≢ d.0 → (bytes_eq e.0.0 o ≡ true) × EndsAs r (key e.1.session_id) v →
             (bytes_eq d.0.0 o ≡ true) × EndsAs r (key d.1.session_id) u → key v.id ≡ key u.id → ⊥
