@@ -1,15 +1,12 @@
 -- The currency of sessions and charge detail records: a session begins in that of its site and keeps it, and a record has its session's.
-use Rattle.std.proofs.Common.{◌≡◌, ℕ, ℤ, List, inl, inr, refl, sym, ap, subst, ◌∙◌}
-use Rattle.std.specs.Prelude.{Some, Contains}
-use Rattle.std.specs.FinMap.{get, get-empty}
+use Rattle.std.proofs.Common.{◌≡◌, ℕ, ℤ, List, inl, inr, sym, ap, ◌∙◌}
+use Rattle.std.specs.FinMap.{get-empty}
 use Rattle.tables.specs.Keys.{text_cmp}
 use Rattle.tables.proofs.Options.{none_some}
 use Rattle.ocpi_text.specs.Text.{key}
 use Rattle.ocpi_types.specs.declared.cdrs.Cdr.{Cdr}
 use Rattle.ocpi_types.specs.declared.events.ChargerEvent.{ChargerEvent}
 use Rattle.ocpi_types.specs.declared.events.ChargerEvent.TheVariants as event
-use Rattle.ocpi_types.specs.declared.rows.Change.TheVariants.{Put}
-use Rattle.ocpi_types.specs.declared.rows.Row.TheVariants as row
 use Rattle.ocpi_types.specs.declared.sessions.Session.{Session}
 use Rattle.ocpi_types.specs.declared.site.Site.{Site}
 use Rattle.ocpi_types.specs.declared.site.SiteLine.{SiteLine}
@@ -20,7 +17,6 @@ use Rattle.operator_rows.specs.Sound.{IsConsistent}
 use Rattle.operator_rows.proofs.KeepingTimes.{opening_consistent}
 use Rattle.operator_steps.specs.Events.{Event, Happens}
 use Rattle.session_laws.specs.Bills.{AreInCurrency, CurrenciesAreOfSite}
-use Rattle.session_laws.specs.Pasts.{stored}
 use Rattle.session_laws.proofs.Billing.{puts_records, record_from, session_from}
 use Rattle.session_laws.proofs.Caused.{session_cause}
 use Rattle.session_laws.proofs.Causes.{Begun, Moved, SessionCause}
