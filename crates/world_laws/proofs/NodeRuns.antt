@@ -61,25 +61,27 @@ pub record ProviderTrace (setup : List Node) (i : ℕ) (p : Place) (es : List No
   pub sent_is : p.sent ≡ provider_laws.sent events
 
 -- a place goes on as an operator, or as a provider, from the state that it had
-pub record OperatorGoes (p q : Place) (s : operator.State) : Type 0 where
+pub record OperatorGoes (p q : Place) (es : List NodeEvent) (s : operator.State) : Type 0 where
   pub state : operator.State
   pub is : q.node ≡ Operates state
   pub events : List operator_events.Event
   pub run : operator_laws.Run s events state
+  pub history : es ≡ map AtOperator events
   pub sent_is : q.sent ≡ p.sent ++ operator_laws.sent events
   pub versions_is : q.versions ≡ p.versions ++ versions_in events
 
-pub record ProviderGoes (p q : Place) (s : provider.State) : Type 0 where
+pub record ProviderGoes (p q : Place) (es : List NodeEvent) (s : provider.State) : Type 0 where
   pub state : provider.State
   pub is : q.node ≡ Provides state
   pub events : List provider_events.Event
   pub run : provider_laws.Run s events state
+  pub history : es ≡ map AtProvider events
   pub sent_is : q.sent ≡ p.sent ++ provider_laws.sent events
 
-pub operator_goes : (p q : Place) (es : List NodeEvent) (s : operator.State) → Went p es q → p.node ≡ Operates s → OperatorGoes p q s
+pub operator_goes : (p q : Place) (es : List NodeEvent) (s : operator.State) → Went p es q → p.node ≡ Operates s → OperatorGoes p q es s
 operator_goes p q es s went is = ?
 
-pub provider_goes : (p q : Place) (es : List NodeEvent) (s : provider.State) → Went p es q → p.node ≡ Provides s → ProviderGoes p q s
+pub provider_goes : (p q : Place) (es : List NodeEvent) (s : provider.State) → Went p es q → p.node ≡ Provides s → ProviderGoes p q es s
 provider_goes p q es s went is = ?
 
 module _ (setup : List Node) (is_setup : IsSetup setup) (w : World) (hs : Histories) (traces : Traces setup w hs) where
