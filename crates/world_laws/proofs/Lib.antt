@@ -8,3 +8,6 @@ pub mod Reserving
 pub mod Later
 pub mod PastOrder
 pub mod Holding
+pub mod Gathering
+pub mod Billing
+pub mod Owing
