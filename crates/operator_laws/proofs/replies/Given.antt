@@ -1,5 +1,5 @@
 -- Each kept reply was given by an event of the run.
-use Rattle.std.proofs.Common.{◌≡◌, ◌⊎◌, ℕ, List, [], ◌∷◌, inl, inr, refl, sym, ap, ◌∙◌}
+use Rattle.std.proofs.Common.{◌≡◌, ◌⊎◌, ℕ, List, [], ◌∷◌, inl, inr, refl, sym, ap, subst, ◌∙◌}
 use Rattle.std.specs.Prelude.{Option, Some, None}
 use Rattle.std.specs.FinMap.{get, get-empty}
 use Rattle.tables.specs.Keys.{text_number_cmp}
@@ -8,14 +8,29 @@ use Rattle.ocpi_text.specs.Text.{key}
 use Rattle.ocpi_types.specs.declared.packet.Packet.{Packet}
 use Rattle.ocpi_types.specs.declared.stored.Reply.{Reply}
 use Rattle.operator_rows.specs.State.{State, opening}
-use Rattle.operator_steps.specs.Events.{Event, Happens}
+use Rattle.operator_steps.specs.Events.{Arrives, Event, Happens}
 use Rattle.operator_laws.specs.Laws.{IsReplyTo, Run}
 use Rattle.operator_laws.specs.Made.{IsAnsweredIn, RepliesWereGiven}
 use Rattle.operator_laws.specs.Replied.{AnswersIt}
 use Rattle.operator_laws.proofs.events.Doing.{does}
 use Rattle.operator_laws.proofs.events.Keeping.{reply_stays}
-use Rattle.operator_laws.proofs.replies.Answering.{Brings, brought}
+use Rattle.operator_laws.proofs.replies.Answering.{kept_or_answered}
 use Rattle.operator_laws.proofs.reservations.Making.{answered_here, answered_later}
+
+-- the event brings the request of that party and number, which the reply answers
+record Brings (e : Event) (p : List ℕ) (n : ℕ) (r : Reply) : Type 0 where
+  at : ℕ
+  packet : Packet
+  arrives : e.input ≡ Arrives at packet
+  by : key packet.from ≡ p
+  number : packet.request ≡ n
+  answers : IsReplyTo r packet.body
+
+brought : (p : List ℕ) (n : ℕ) (r : Reply) (s t : State) (e : Event) → Happens s e t → get t.rows.commands.replies (p, n) ≡ Some r → (get s.rows.commands.replies (p, n) ≡ Some r) ⊎ Brings e p n r
+brought p n r s t e happens has = elim (kept_or_answered s t e (does s t e happens) p n r has) [
+  | inl old ↦ inl old
+  | inr h ↦ inr (record { at = h.replies.at; packet = h.replies.packet; arrives = h.replies.arrives; by = h.by; number = h.number; answers = subst (λ z. IsReplyTo z h.replies.packet.body) h.reply_is h.replies.answers })
+]
 
 -- the event gives that reply to the request of that party and number
 record GivesNow (s : State) (e : Event) (t : State) (p : List ℕ) (n : ℕ) (r : Reply) : Type 0 where
