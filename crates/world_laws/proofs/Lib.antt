@@ -1,3 +1,6 @@
+pub mod Setups
 pub mod NodeRuns
+pub mod PastOrder
+pub mod Holding
 pub mod Reserving
 pub mod Later
