@@ -2,3 +2,4 @@ pub mod Setups
 pub mod NodeRuns
 pub mod PastOrder
 pub mod Holding
+pub mod Starting
