@@ -1,21 +1,18 @@
 -- A reference of a provider starts one session at most, over all operators: the packets that give it go to one operator, and there one
 -- session has it.
-use Rattle.std.proofs.Common.{◌≡◌, ◌⊎◌, ℕ, List, inl, inr, refl, sym, ap, subst, ◌∙◌}
+use Rattle.std.proofs.Common.{◌≡◌, ℕ, List, inl, inr, sym, ap, subst, ◌∙◌}
 use Rattle.std.specs.Prelude.{Some, Contains}
 use Rattle.std.specs.FinMap.{get}
 use Rattle.ocpi_text.specs.Text.{key}
 use Rattle.ocpi_types.specs.declared.authorizations.Authorization.TheVariants as authorization
-use Rattle.ocpi_types.specs.declared.authorizations.AuthorizationInfo.{AuthorizationInfo}
-use Rattle.ocpi_types.specs.declared.commands.StartSession.{StartSession}
 use Rattle.ocpi_types.specs.declared.packet.Packet.{Packet}
-use Rattle.ocpi_types.specs.declared.packet.Body.TheVariants as body
 use Rattle.ocpi_types.specs.declared.setup.Node.{Node}
 use Rattle.ocpi_types.specs.declared.stored.Command.TheVariants as command
 use Rattle.ocpi_types.specs.declared.stored.Reply.TheVariants as reply
 use Rattle.ocpi_types.specs.declared.stored.SentCommand.{SentCommand}
 use Rattle.operator_rows.specs.State as operator
 use Rattle.operator_laws.specs.Sessions as sessions
-use Rattle.operator_laws.specs.Sessions.{AreSpentOnce, GivesReference, InSession, WasGiven}
+use Rattle.operator_laws.specs.Sessions.{AreSpentOnce, GivesReference, InSession}
 use Rattle.operator_laws.proofs.sessions.Once.{references_are_spent_once}
 use Rattle.provider_rows.specs.State as provider
 use Rattle.provider_rows.specs.State.{reference_of}
@@ -28,9 +25,9 @@ use Rattle.provider_laws.proofs.references.Carrying.{references_have_one_carrier
 use Rattle.world_steps.specs.Traces.{Histories, Traces}
 use Rattle.world_steps.specs.World.{Place, World}
 use Rattle.world_laws.specs.Laws.{IsSetup}
-use Rattle.world_laws.specs.Nodes.{HasSession, OperatorOf, ProviderOf}
+use Rattle.world_laws.specs.Nodes.{ProviderOf}
 use Rattle.world_laws.specs.Safe.{Started}
-use Rattle.world_laws.proofs.NodeRuns.{FromProvider, OperatorAt, ProviderAt, came_to_operator, line_of, one_operator, one_provider, operator_at, peering_of, provider_at}
+use Rattle.world_laws.proofs.NodeRuns.{OperatorAt, ProviderAt, came_to_operator, line_of, one_operator, one_provider, operator_at, peering_of, provider_at}
 
 -- what carries a reference goes to that operator, in key form
 abbrev GoesTo : provider.Rows → Carrier → List ℕ → Type 0
@@ -62,7 +59,7 @@ module _ (setup : List Node) (is_setup : IsSetup setup) (w : World) (hs : Histor
       by : GivesReference q.body spelled → IsGivenTo at.trace.state reference o
       by (inl (c, is, named)) =
           let (d, has, to_is, command_is) = sent_commands_stand (provider.opening (peering_of setup at.trace.party)) at.trace.state at.trace.events
-              (opening_consistent (peering_of setup at.trace.party) at.trace.are_peers) at.trace.run q (command.StartSession c) within is in
+          (opening_consistent (peering_of setup at.trace.party) at.trace.are_peers) at.trace.run q (command.StartSession c) within is in
           record {
             carrier = InCommand q.request;
             spelled = spelled;
@@ -114,7 +111,7 @@ module _ (setup : List Node) (is_setup : IsSetup setup) (w : World) (hs : Histor
   given_to_one p place s at reference o q a b =
       let before = λ (x : Carrier) (l : List ℕ) (h : Carries s.rows x l). subst (λ (z : provider.State). Carries z.rows x l) (sym at.state_is) h in
       let same = references_have_one_carrier (peering_of setup at.trace.party) at.trace.events at.trace.state at.trace.are_peers at.trace.run a.carrier b.carrier a.spelled b.spelled
-          (before a.carrier a.spelled a.carries) (before b.carrier b.spelled b.carries) (a.same ∙ sym b.same) in
+      (before a.carrier a.spelled a.carries) (before b.carrier b.spelled b.carries) (a.same ∙ sym b.same) in
       one_goal s.rows b.carrier o q (subst (λ z. GoesTo s.rows z o) same a.goes) b.goes
 
   one_operator_of : (p reference o q : List ℕ) → WasGivenBy p reference o → WasGivenBy p reference q → o ≡ q
