@@ -1,6 +1,6 @@
 -- What an operator bills, and what charge detail records a provider holds, in a traced world.
-use Rattle.std.proofs.Common.{◌≡◌, ◌⊎◌, ℕ, List, inl, inr, refl, sym, ap, subst, ◌∙◌}
-use Rattle.std.specs.Prelude.{Option, Some, None}
+use Rattle.std.proofs.Common.{◌≡◌, ◌⊎◌, ℕ, List, inl, inr, sym, ap, subst, ◌∙◌}
+use Rattle.std.specs.Prelude.{Some, None}
 use Rattle.std.specs.List.{last_or}
 use Rattle.std.specs.FinMap.{get, get-empty}
 use Rattle.tables.specs.Keys.{text_pair_cmp}
@@ -23,8 +23,8 @@ use Rattle.session_laws.proofs.Billing.{sessions_are_billed_once}
 use Rattle.session_laws.proofs.Currencies.{currencies_are_of_site}
 use Rattle.session_laws.proofs.Growing.{pasts_are_orderly}
 use Rattle.world_laws.specs.Laws.{IsSetup}
-use Rattle.world_laws.specs.Nodes.{HasCdr, HoldsCdr, OperatorOf, ProviderOf}
-use Rattle.world_laws.specs.Safe.{Bills, BillsOnce, EndsAs}
+use Rattle.world_laws.specs.Nodes.{HasCdr, HoldsCdr, OperatorOf}
+use Rattle.world_laws.specs.Safe.{Bills, BillsOnce}
 use Rattle.world_laws.proofs.Holding.{past_is}
 use Rattle.world_laws.proofs.NodeRuns.{FromOperator, OperatorAt, ProviderAt, came_to_provider, line_of, one_provider, operator_at, peering_of, provider_at}
 use Rattle.world_steps.specs.Traces.{Histories, Traces}
