@@ -2,7 +2,7 @@
 //! which is what `Operator::on_packet`, `on_charger`, `on_tick`, `on_service` and `restart` do.
 
 ghost use Rattle.operator_laws.specs.AsNode.{StepsAreNodeSteps, RunsAreNodeRuns, PacketsAreAddressed, PushesWereSent};
-ghost use Rattle.operator_laws.specs.Made.{ReservationsAreMade, OpenCommandsCame};
+ghost use Rattle.operator_laws.specs.Made.{RepliesWereGiven, ReservationsAreMade, OpenCommandsCame};
 ghost use Rattle.operator_laws.specs.Replied.{AcceptedIsOpenOrSettled, CancellationsAreMarked, ReservationsAreAskedFor, ReservationsAreMarked, ResultsArePosted, SpentStays};
 ghost use Rattle.operator_laws.specs.Laws.{AlwaysConsistent, OneStart, SentRepliesAreKept, RepliesStay, RepliesAnswer, ResultsStay, Numbered, RequestsAgree, PushesStand, SentResultsAreKept, MarksNeverFall, ReservationsAreNewer, ReferencesHaveOneCarrier, CarriedReferencesAreSpent};
 
@@ -44,6 +44,12 @@ pub fn replies_stay()
 /// Each kept reply answers a request that came: a response a command, and an acknowledgement a token.
 pub fn replies_answer()
     ensures { RepliesAnswer }
+{}
+
+/// Each kept reply was given by one event, to a request that came in that event and that it answers: a response to a command, and an
+/// acknowledgement to a token. Up to that event no reply was kept for the request.
+pub fn replies_were_given()
+    ensures { RepliesWereGiven }
 {}
 
 /// A result is kept for good.

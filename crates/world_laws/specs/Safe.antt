@@ -1,6 +1,6 @@
 -- A world is safe: no EVSE has two claims, no authorization reference starts two sessions, each session goes on in order, what a provider
 -- holds of it is what the operator had, and each session is billed once and owed once.
-use Rattle.std.specs.Prelude.{◌≡◌, ◌≢◌, ◌↔◌, ℕ, ℤ, List, Option, Some, None, map, pos, Contains}
+use Rattle.std.specs.Prelude.{◌≡◌, ◌≢◌, ◌↔◌, ℕ, ℤ, List, Option, Some, None, map, Contains, pos}
 use Rattle.std.specs.List.{AllPairs, last_or}
 use Rattle.std.specs.FinMap.{get, values}
 use Rattle.ocpi_text.specs.Text.{key}
@@ -54,8 +54,8 @@ pub record BillsOnce (p : Place) (s : operator.State) : Type 0 where
   pub once : (i j : List ℕ) (x y : Cdr) → get s.rows.charged.cdrs i ≡ Some x → get s.rows.charged.cdrs j ≡ Some y → key x.session_id ≡ key y.session_id → i ≡ j
 
 -- the sessions of an operator of which the provider holds a charge detail record, each once, in their last versions
-pub record AreBilled (w : World) (p o : List ℕ) (operator : Place) (versions : List Session) : Type 0 where
-  pub each : (v : Session) → Contains versions v ↔ ((id : List ℕ) × (x : Cdr) × HoldsCdr w p o id x × EndsAs operator (key x.session_id) v)
+pub record AreBilled (w : World) (p o : List ℕ) (place : Place) (versions : List Session) : Type 0 where
+  pub each : (v : Session) → Contains versions v ↔ ((id : List ℕ) × (x : Cdr) × HoldsCdr w p o id x × EndsAs place (key x.session_id) v)
   pub once : AllPairs (λ (v w : Session). key v.id ≢ key w.id) versions
 
 abbrev pub cost_of : Session → ℤ

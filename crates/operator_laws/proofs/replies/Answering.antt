@@ -73,15 +73,15 @@ module _ (s t : State) (e : Event) (d : Does s e t) where
   command_is q r w c is = same_command w.it.command c (sym w.it.it.carries ∙ ap (λ (z : Packet). z.body) w.packet_is ∙ is)
 
 -- the event brings the request of that party and number, which the reply answers
-record Brings (e : Event) (p : List ℕ) (n : ℕ) (r : Reply) : Type 0 where
-  at : ℕ
-  packet : Packet
-  arrives : e.input ≡ Arrives at packet
-  by : key packet.from ≡ p
-  number : packet.request ≡ n
-  answers : IsReplyTo r packet.body
+pub record Brings (e : Event) (p : List ℕ) (n : ℕ) (r : Reply) : Type 0 where
+  pub at : ℕ
+  pub packet : Packet
+  pub arrives : e.input ≡ Arrives at packet
+  pub by : key packet.from ≡ p
+  pub number : packet.request ≡ n
+  pub answers : IsReplyTo r packet.body
 
-brought : (p : List ℕ) (n : ℕ) (r : Reply) (s t : State) (e : Event) → Happens s e t → get t.rows.commands.replies (p, n) ≡ Some r → (get s.rows.commands.replies (p, n) ≡ Some r) ⊎ Brings e p n r
+pub brought : (p : List ℕ) (n : ℕ) (r : Reply) (s t : State) (e : Event) → Happens s e t → get t.rows.commands.replies (p, n) ≡ Some r → (get s.rows.commands.replies (p, n) ≡ Some r) ⊎ Brings e p n r
 brought p n r s t e happens has = elim (kept_or_answered s t e (does s t e happens) p n r has) [
   | inl old ↦ inl old
   | inr h ↦ inr (record { at = h.replies.at; packet = h.replies.packet; arrives = h.replies.arrives; by = h.by; number = h.number; answers = subst (λ z. IsReplyTo z h.replies.packet.body) h.reply_is h.replies.answers })

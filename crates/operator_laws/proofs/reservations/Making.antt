@@ -76,10 +76,10 @@ reservations_are_asked_for s t es run p id r has = elim (made_runs Happens (λ z
 
 -- what the first event of a run answers, or a later one
 module _ (s u t : State) (e : Event) (es : List Event) (q : Packet) (r : Reply) (happens : Happens s e u) where
-  answered_here : Run u es t → AnswersIt s e u q r → IsAnsweredIn s (e ∷ es) t q r
+  pub answered_here : Run u es t → AnswersIt s e u q r → IsAnsweredIn s (e ∷ es) t q r
   answered_here run a = record { before = s; after = u; earlier = []; event = e; later = es; reached = refl; happens = happens; left = run; all = refl; answers = a }
 
-  answered_later : IsAnsweredIn u es t q r → IsAnsweredIn s (e ∷ es) t q r
+  pub answered_later : IsAnsweredIn u es t q r → IsAnsweredIn s (e ∷ es) t q r
   answered_later d = record {
     before = d.before;
     after = d.after;
