@@ -1,50 +1,40 @@
 -- The pasts of sessions in a traced world are those of the operators' own runs; and what is held of a session is a version of its past.
-use Rattle.std.proofs.Common.{◌≡◌, ◌⊎◌, ◌<◌, ◌≤◌, ℕ, ℤ, List, [], ◌∷◌, ◌++◌, inl, inr, refl, sym, ap, subst, ◌∙◌, arith}
-use Rattle.std.specs.Prelude.{Option, Some, None, Contains}
+use Rattle.std.proofs.Common.{◌≡◌, ℕ, List, [], ◌∷◌, ◌++◌, inl, inr, refl, sym, ap, subst, ◌∙◌}
+use Rattle.std.specs.Prelude.{Some, None, Contains}
 use Rattle.std.specs.FinMap.{get, get-empty}
 use Rattle.std.specs.Str.{bytes_eq}
-use Rattle.std.specs.List.{flat_map, last_or}
-use Rattle.std.proofs.lemmas.List.Elements.{filter-append, Contains-append_left, Contains-append_right, Contains-append_cases}
+use Rattle.std.specs.List.{last_or}
+use Rattle.std.proofs.lemmas.List.Elements.{filter-append}
 use Rattle.tables.specs.Keys.{text_pair_cmp}
-use Rattle.tables.proofs.Elements.{in_none, in_single, in_front}
-use Rattle.tables.proofs.Options.{none_some, not_both}
+use Rattle.tables.proofs.Options.{not_both}
 use Rattle.node_laws.proofs.Runs.{kept_runs}
 use Rattle.ocpi_text.specs.Text.{key}
-use Rattle.ocpi_types.specs.declared.packet.Body.TheVariants as body
-use Rattle.ocpi_types.specs.declared.packet.Packet.{Packet}
 use Rattle.ocpi_types.specs.declared.rows.Change.{Change}
 use Rattle.ocpi_types.specs.declared.rows.Change.TheVariants.{Put, Drop}
 use Rattle.ocpi_types.specs.declared.rows.Row.TheVariants as row
 use Rattle.ocpi_types.specs.declared.sessions.Session.{Session}
 use Rattle.ocpi_types.specs.declared.setup.Node.{Node}
 use Rattle.ocpi_types.specs.declared.site.Site.{Site}
-use Rattle.ocpi_types.specs.declared.words.SessionStatus.{SessionStatus}
-use Rattle.ocpi_types.specs.declared.words.SessionStatus.TheVariants.{Completed}
-use Rattle.session_state.specs.Pasts.{Follow, IsFinal, IsOrderly, MayFollow}
-use Rattle.session_state.proofs.PastLemmas.{final_is_last}
-use Rattle.handover.specs.Inbox.{IsOfParties, session_key}
+use Rattle.session_state.specs.Pasts.{IsFinal, IsOrderly}
+use Rattle.handover.specs.Inbox.{session_key}
 use Rattle.operator_rows.specs.State as operator
 use Rattle.operator_steps.specs.Events as operator_events
 use Rattle.operator_steps.specs.Events.{Happens}
-use Rattle.operator_laws.specs.Laws as operator_laws
-use Rattle.operator_laws.specs.Sessions.{PutIn}
-use Rattle.operator_laws.proofs.events.Doing.{Does, does}
+use Rattle.operator_laws.proofs.events.Doing.{does}
 use Rattle.operator_laws.proofs.standing.AtAllTimes.{always_consistent}
 use Rattle.session_laws.specs.Pasts as pasts
 use Rattle.session_laws.proofs.Growing.{pasts_are_orderly}
 use Rattle.session_laws.proofs.Sending.{sent_versions_are_past}
 use Rattle.provider_rows.specs.State as provider
-use Rattle.provider_laws.specs.Laws as provider_laws
 use Rattle.provider_laws.specs.Held.{SessionCame}
 use Rattle.provider_laws.proofs.held.Sessions.{held_sessions_came}
 use Rattle.world_steps.specs.Steps.{NodeEvent, all_put, version_put}
 use Rattle.world_steps.specs.Traces.{Histories, Traces}
 use Rattle.world_steps.specs.World.{Place, World, past_of}
 use Rattle.world_laws.specs.Laws.{IsSetup}
-use Rattle.world_laws.specs.Later.{StandsAfter}
-use Rattle.world_laws.specs.Nodes.{Holds, IsPast, OperatorOf, ProviderOf}
+use Rattle.world_laws.specs.Nodes.{Holds, OperatorOf}
 use Rattle.world_laws.specs.Safe.{GoesInOrder, IsOfPast}
-use Rattle.world_laws.proofs.NodeRuns.{FromOperator, OperatorAt, OperatorTrace, ProviderAt, came_to_provider, line_of, operator_at, peering_of, provider_at, versions_in}
+use Rattle.world_laws.proofs.NodeRuns.{OperatorAt, OperatorTrace, ProviderAt, came_to_provider, line_of, operator_at, peering_of, provider_at, versions_in}
 use Rattle.world_laws.proofs.PastOrder.{final_is_newest}
 
 -- of the versions that changes put, those of one session

@@ -11,3 +11,4 @@ pub mod Holding
 pub mod Gathering
 pub mod Billing
 pub mod Owing
+pub mod Starting

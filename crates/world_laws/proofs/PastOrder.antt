@@ -1,17 +1,14 @@
 -- The order of an orderly past: by moments, and by places.
-use Rattle.std.proofs.Common.{◌≡◌, ◌⊎◌, ◌<◌, ◌≤◌, ℕ, ℤ, List, [], ◌∷◌, ◌++◌, inl, inr, refl, sym, ap, subst, ◌∙◌, arith}
+use Rattle.std.proofs.Common.{◌≡◌, ◌⊎◌, ◌<◌, ◌≤◌, ℤ, List, [], ◌∷◌, ◌++◌, inl, inr, refl, sym, ap, subst, ◌∙◌, arith}
 use Rattle.std.specs.Prelude.{Option, Some, None, Contains}
 use Rattle.std.specs.List.{last_or}
-use Rattle.std.proofs.lemmas.List.Elements.{Contains-append_cases, Contains-append_right}
-use Rattle.tables.proofs.Elements.{in_none, in_single, in_front}
+use Rattle.tables.proofs.Elements.{in_none, in_front}
 use Rattle.tables.proofs.Options.{none_some}
 use Rattle.ocpi_types.specs.declared.sessions.Session.{Session}
 use Rattle.session_state.specs.Pasts.{Follow, IsFinal, IsOrderly}
 use Rattle.session_state.proofs.PastLemmas.{final_is_last}
+use Rattle.operator_rows.proofs.RowChanges.{in_later, of_cons}
 use Rattle.world_laws.specs.Later.{StandsAfter}
-
-first_or_later : (x : Session) (xs : List Session) (y : Session) → Contains (x ∷ xs) y → (x ≡ y) ⊎ Contains xs y
-first_or_later x xs y h = elim (Contains-append_cases (x ∷ []) xs y h) [ inl i ↦ inl (in_single x y i) | inr i ↦ inr i ]
 
 -- what comes after a version may follow it
 after_follows : (price : ℤ) (u : Session) (before : List Session) (v : Session) (after : List Session) → Follow price u (before ++ v ∷ after) → Follow price v after
@@ -24,7 +21,7 @@ rest_follows price (u ∷ before) v after h = after_follows price u before v aft
 
 follow_is_later : (price : ℤ) (v : Session) (vs : List Session) (w : Session) → Follow price v vs → Contains vs w → v.last_updated < w.last_updated
 follow_is_later price v [] w h i = absurd (in_none w i)
-follow_is_later price v (x ∷ vs) w h i = by (first_or_later x vs w i) (λ j. follow_is_later price x vs w h.1 j)
+follow_is_later price v (x ∷ vs) w h i = by (of_cons x vs w i) (λ j. follow_is_later price x vs w h.1 j)
   where
     by : (x ≡ w) ⊎ Contains vs w → (Contains vs w → x.last_updated < w.last_updated) → v.last_updated < w.last_updated
     by (inl is) rest = subst (λ (z : Session). v.last_updated < z.last_updated) is h.0.later
@@ -49,7 +46,7 @@ at_first x vs v w is later = record { before = []; after = vs; all = ap (λ z. z
 
 pub places : (vs : List Session) (v w : Session) → Contains vs v → Contains vs w → Places vs v w
 places [] v w i j = absurd (in_none v i)
-places (x ∷ vs) v w i j = by (first_or_later x vs v i) (first_or_later x vs w j) (λ i j. places vs v w i j)
+places (x ∷ vs) v w i j = by (of_cons x vs v i) (of_cons x vs w j) (λ i j. places vs v w i j)
   where
     more : Places vs v w → Places (x ∷ vs) v w
     more (Same is) = Same is
@@ -91,7 +88,7 @@ last_is_in o (x ∷ vs) l is = by (last_is_in (Some x) vs l is)
   where
     by : (Some x ≡ Some l) ⊎ Contains vs l → (o ≡ Some l) ⊎ Contains (x ∷ vs) l
     by (inl one) = let same : x ≡ l = cc in inr (subst (Contains (x ∷ vs)) same (in_front x vs))
-    by (inr i) = inr (Contains-append_right (x ∷ []) vs l i)
+    by (inr i) = inr (in_later x vs l i)
 
 -- the newest version of a past is one of it
 pub newest_is_in : (vs : List Session) (l : Session) → last_or None vs ≡ Some l → Contains vs l
@@ -110,7 +107,7 @@ pub record StandsIn (vs : List Session) (v : Session) : Type 0 where
 
 pub stands_in : (vs : List Session) (v : Session) → Contains vs v → StandsIn vs v
 stands_in [] v i = absurd (in_none v i)
-stands_in (x ∷ vs) v i = by (first_or_later x vs v i) (λ j. stands_in vs v j)
+stands_in (x ∷ vs) v i = by (of_cons x vs v i) (λ j. stands_in vs v j)
   where
     by : (x ≡ v) ⊎ Contains vs v → (Contains vs v → StandsIn vs v) → StandsIn (x ∷ vs) v
     by (inl is) rest = record { before = []; after = vs; all = ap (λ z. z ∷ vs) is }
