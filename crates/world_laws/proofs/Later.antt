@@ -1,11 +1,10 @@
 -- A world to which a run goes on is later: each node goes on from the very state that it had.
-use Rattle.std.proofs.Common.{◌≡◌, ◌⊎◌, ◌<◌, ℕ, ℤ, List, [], ◌∷◌, ◌++◌, inl, inr, refl, sym, ap, subst, ◌∙◌, arith}
+use Rattle.std.proofs.Common.{◌≡◌, ◌⊎◌, ◌<◌, ℕ, List, ◌++◌, inl, inr, refl, sym, ap, subst, ◌∙◌, arith}
 use Rattle.std.specs.Prelude.{Some, Contains, slice_get}
 use Rattle.std.specs.Str.{bytes_eq}
 use Rattle.std.proofs.lemmas.List.Elements.{Contains-append_left, filter-append}
 use Rattle.std.proofs.lemmas.List.Concat.{flat_map-append}
 use Rattle.std.proofs.lemmas.List.{map-append}
-use Rattle.tables.proofs.Elements.{in_none}
 use Rattle.ocpi_text.specs.Text.{key}
 use Rattle.ocpi_types.specs.declared.sessions.Session.{Session}
 use Rattle.ocpi_types.specs.declared.setup.Node.{Node}
@@ -16,7 +15,6 @@ use Rattle.operator_laws.specs.Laws as operator_laws
 use Rattle.operator_laws.proofs.standing.AtAllTimes as operators
 use Rattle.operator_rows.specs.Sound as operator_sound
 use Rattle.operator_rows.specs.State as operator
-use Rattle.operator_rows.proofs.RowChanges.{of_cons}
 use Rattle.operator_steps.specs.Events as operator_events
 use Rattle.provider_laws.specs.Commands.{IsLater}
 use Rattle.provider_laws.specs.Held.{IsAfter}
@@ -35,12 +33,13 @@ use Rattle.provider_steps.proofs.PacketSteps.{packets}
 use Rattle.provider_steps.proofs.TickSteps.{ticks}
 use Rattle.provider_steps.proofs.TokenSteps.{tokens}
 use Rattle.session_laws.proofs.Billing.{records_stay}
-use Rattle.session_state.specs.Pasts.{Follow, IsOrderly}
+use Rattle.session_state.specs.Pasts.{IsOrderly}
 use Rattle.world_laws.specs.Later.{IsLater as IsLaterWorld, IsLaterCommand, OperatorIsLater, OperatorKeeps, ProviderKeeps, StandsAfter}
 use Rattle.world_laws.specs.Laws.{IsSetup}
 use Rattle.world_laws.specs.Nodes.{Holds, IsPast, OperatorOf, ProviderOf}
-use Rattle.world_laws.specs.Safe.{IsSafe}
+use Rattle.world_laws.proofs.Holding.{held, orderly}
 use Rattle.world_laws.proofs.NodeRuns.{OperatorAt, OperatorGoes, OperatorTrace, ProviderAt, ProviderGoes, line_of, one_operator, operator_at, operator_goes, peering_of, provider_at, provider_goes, versions_in}
+use Rattle.world_laws.proofs.PastOrder.{stands_after}
 use Rattle.world_laws.proofs.Reserving.{newly_made}
 use Rattle.world_steps.specs.Steps.{AtOperator, all_put}
 use Rattle.world_steps.specs.Traces.{Histories, Goes, Traces, joined}
@@ -56,39 +55,6 @@ provider_consistent = consistent_over_runs (record {
   tokens = tokens;
   ticks = ticks;
 })
-
--- a version is earlier than those that follow it
-is_earlier : (price : ℤ) (a : Session) (vs : List Session) → Follow price a vs → (b : Session) → Contains vs b → a.last_updated < b.last_updated
-is_earlier price a [] follow b i = absurd (in_none b i)
-is_earlier price a (v ∷ vs) follow b i =
-    let first = follow.0.later in
-    elim (of_cons v vs b i) [
-      | inl is ↦ subst (λ (z : Session). a.last_updated < z.last_updated) is first
-      | inr j ↦ let rest = is_earlier price v vs follow.1 b j in omega (arith, first, rest)
-    ]
-
-after_first : (v : Session) (vs : List Session) (a b : Session) → StandsAfter vs a b → StandsAfter (v ∷ vs) a b
-after_first v vs a b h = record { before = v ∷ h.before; after = h.after; all = ap (λ l. v ∷ l) h.all; later = h.later }
-
--- of two versions of a past the later one stands after the other
-by_places : (price : ℤ) (v : Session) (vs : List Session) → Follow price v vs → (a b : Session) → a.last_updated < b.last_updated → (Contains vs a → Contains vs b → StandsAfter vs a b) →
-    (v ≡ a) ⊎ Contains vs a → (v ≡ b) ⊎ Contains vs b → StandsAfter (v ∷ vs) a b
-by_places price v vs follow a b later rest (inl here) (inl there) = let same = ap (λ (z : Session). z.last_updated) (sym here ∙ there) in absurd (omega (arith, later, same))
-by_places price v vs follow a b later rest (inl here) (inr there) = record { before = []; after = vs; all = ap (λ z. z ∷ vs) here; later = there }
-by_places price v vs follow a b later rest (inr here) (inl there) =
-    let earlier = is_earlier price v vs follow a here in
-    let same = ap (λ (z : Session). z.last_updated) there in
-    absurd (omega (arith, later, earlier, same))
-by_places price v vs follow a b later rest (inr here) (inr there) = after_first v vs a b (rest here there)
-
-follows_it : (price : ℤ) (v : Session) (vs : List Session) → Follow price v vs → (a b : Session) → Contains (v ∷ vs) a → Contains (v ∷ vs) b → a.last_updated < b.last_updated → StandsAfter (v ∷ vs) a b
-follows_it price v [] follow a b i j later = by_places price v [] follow a b later (λ k l. absurd (in_none a k)) (of_cons v [] a i) (of_cons v [] b j)
-follows_it price v (w ∷ ws) follow a b i j later =
-    by_places price v (w ∷ ws) follow a b later (λ k l. follows_it price w ws follow.1 a b k l later) (of_cons v (w ∷ ws) a i) (of_cons v (w ∷ ws) b j)
-
-stands_after : (price : ℤ) (vs : List Session) → IsOrderly price vs → (a b : Session) → Contains vs a → Contains vs b → a.last_updated < b.last_updated → StandsAfter vs a b
-stands_after price [] orderly a b i j later = absurd (in_none a i)
-stands_after price (v ∷ vs) orderly a b i j later = follows_it price v vs orderly.2 a b i j later
 
 -- the past of a session grows by what is stored of it
 past_grows : (id : List ℕ) (p q : Place) (more : List Session) → q.versions ≡ p.versions ++ more → past_of id q.versions ≡ past_of id p.versions ++ past_of id more
@@ -204,36 +170,35 @@ module _ (setup : List Node) (is_setup : IsSetup setup) (w : World) (hs : Histor
     provider_later = provider_keeps s h.more.state h.more.events provider_fine h.more.run
 
   -- of two versions that a provider held at one time and later, each is of the later past
-  module _ (safe : IsSafe w) (safe_on : IsSafe v) where
-    rose : (p o id : List ℕ) (a b : Session) → Holds w p o id a → Holds v p o id b → a.last_updated < b.last_updated → (versions : List Session) × IsPast v o id versions × StandsAfter versions a b
-    rose p o id a b held held_on later =
-        let was = safe.held p o id a held in
-        let is = safe_on.held p o id b held_on in
-        let h = operator_on o was.is_past.place was.is_past.state was.is_past.at in
-        let one = one_operator setup is_setup v (joined hs ms) on o is.is_past.place h.place is.is_past.state h.more.state is.is_past.at (of_on o was.is_past.place was.is_past.state h) in
-        let all : is.versions ≡ past_of id h.place.versions = is.is_past.past_is ∙ ap (λ (z : Place). past_of id z.versions) one.0 in
-        let grown : is.versions ≡ was.versions ++ past_of id (versions_in h.more.events) =
-        all ∙ past_grows id was.is_past.place h.place (versions_in h.more.events) h.more.versions_is ∙ ap (λ l. l ++ past_of id (versions_in h.more.events)) (sym was.is_past.past_is) in
-        let member : Contains is.versions a = subst (λ l. Contains l a) (sym grown) (Contains-append_left was.versions (past_of id (versions_in h.more.events)) a was.member) in
-        let orderly = (safe_on.orderly o is.is_past.place is.is_past.state is.is_past.at id).orderly in
-        let follows = subst (IsOrderly is.is_past.state.site.price) (sym is.is_past.past_is) orderly in
-        (is.versions, is.is_past, stands_after is.is_past.state.site.price is.versions follows a b member is.member later)
+  rose : (p o id : List ℕ) (a b : Session) → Holds w p o id a → Holds v p o id b → a.last_updated < b.last_updated → (versions : List Session) × IsPast v o id versions × StandsAfter versions a b
+  rose p o id a b first then later =
+      let was = held setup is_setup w hs traces p o id a first in
+      let is = held setup is_setup v (joined hs ms) on p o id b then in
+      let h = operator_on o was.is_past.place was.is_past.state was.is_past.at in
+      let one = one_operator setup is_setup v (joined hs ms) on o is.is_past.place h.place is.is_past.state h.more.state is.is_past.at (of_on o was.is_past.place was.is_past.state h) in
+      let all : is.versions ≡ past_of id h.place.versions = is.is_past.past_is ∙ ap (λ (z : Place). past_of id z.versions) one.0 in
+      let grown : is.versions ≡ was.versions ++ past_of id (versions_in h.more.events) =
+      all ∙ past_grows id was.is_past.place h.place (versions_in h.more.events) h.more.versions_is ∙ ap (λ l. l ++ past_of id (versions_in h.more.events)) (sym was.is_past.past_is) in
+      let member : Contains is.versions a = subst (λ l. Contains l a) (sym grown) (Contains-append_left was.versions (past_of id (versions_in h.more.events)) a was.member) in
+      let in_order = (orderly setup is_setup v (joined hs ms) on o is.is_past.place is.is_past.state is.is_past.at id).orderly in
+      let follows = subst (IsOrderly is.is_past.state.site.price) (sym is.is_past.past_is) in_order in
+      (is.versions, is.is_past, stands_after is.is_past.state.site.price is.versions follows a b member is.member later)
 
-    held_later : (p o id : List ℕ) (a : Session) → Holds w p o id a →
-        (b : Session) × Holds v p o id b × ((a ≡ b) ⊎ ((versions : List Session) × IsPast v o id versions × StandsAfter versions a b))
-    held_later p o id a held =
-        let h = provider_on p held.place held.state held.at in
-        let (b, stands, after) = held_sessions_rise held.state h.more.state h.more.events h.more.run (o, id) a held.held in
-        let now : Holds v p o id b = record { place = h.place; state = h.more.state; at = provider_of_on p held.place held.state h; held = stands } in
-        (b, now, by_rise b now after)
-      where
-        by_rise : (b : Session) → Holds v p o id b → IsAfter a b → (a ≡ b) ⊎ ((versions : List Session) × IsPast v o id versions × StandsAfter versions a b)
-        by_rise b now (inl same) = inl same
-        by_rise b now (inr (open_still, later)) = inr (rose p o id a b held now later)
+  held_later : (p o id : List ℕ) (a : Session) → Holds w p o id a →
+      (b : Session) × Holds v p o id b × ((a ≡ b) ⊎ ((versions : List Session) × IsPast v o id versions × StandsAfter versions a b))
+  held_later p o id a first =
+      let h = provider_on p first.place first.state first.at in
+      let (b, stands, after) = held_sessions_rise first.state h.more.state h.more.events h.more.run (o, id) a first.held in
+      let now : Holds v p o id b = record { place = h.place; state = h.more.state; at = provider_of_on p first.place first.state h; held = stands } in
+      (b, now, by_rise b now after)
+    where
+      by_rise : (b : Session) → Holds v p o id b → IsAfter a b → (a ≡ b) ⊎ ((versions : List Session) × IsPast v o id versions × StandsAfter versions a b)
+      by_rise b now (inl same) = inl same
+      by_rise b now (inr (open_still, later)) = inr (rose p o id a b first now later)
 
-    pub is_later : IsLaterWorld w v
-    is_later = record {
-      operators = λ o p s of. let h = operator_on o p s of in (h.place, h.more.state, of_on o p s h, operator_later o p s h);
-      providers = λ o p s of. let h = provider_on o p s of in (h.place, h.more.state, provider_of_on o p s h, provider_later o p s h);
-      held = held_later;
-    }
+  pub is_later : IsLaterWorld w v
+  is_later = record {
+    operators = λ o p s of. let h = operator_on o p s of in (h.place, h.more.state, of_on o p s h, operator_later o p s h);
+    providers = λ o p s of. let h = provider_on o p s of in (h.place, h.more.state, provider_of_on o p s h, provider_later o p s h);
+    held = held_later;
+  }
