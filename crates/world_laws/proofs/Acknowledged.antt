@@ -86,7 +86,7 @@ module _ (setup : List Node) (is_setup : IsSetup setup) (w : World) (hs : Histor
       let peering = peering_of setup there.trace.party in
       let run = run_of_provider setup is_setup w hs traces party q t there in
       elim (replies_answer (provider.opening peering) t there.trace.events run (key a.to) a.request (reply.Ack ack)
-          (provider_proofs.sent_replies_are_kept peering there.trace.events t run a (reply.Ack ack) within is_ack)) [
+      (provider_proofs.sent_replies_are_kept peering there.trace.events t run a (reply.Ack ack) within is_ack)) [
         | inl old ↦ not_both (reply.Ack ack) _ (get-empty text_number_cmp (key a.to, a.request)) old
         | inr r ↦ r
       ]
@@ -106,7 +106,7 @@ module _ (setup : List Node) (is_setup : IsSetup setup) (w : World) (hs : Histor
     party_is =
         let line = line_of setup at.trace.party at.trace.site in
         let whole = node_runs.runs_are_steps (operator_node.node (operator.opening line)) (operator_node.node s) (map operator_node.exchange at.trace.events)
-            (operator_proofs.as_run line at.trace.events s at.trace.by_form run) in
+        (operator_proofs.as_run line at.trace.events s at.trace.by_form run) in
         ap key (whole.counts.party ∙ sym at.trace.party_is) ∙ at.party
 
     -- what the provider of the push acknowledged is the push, and came to it from this operator
@@ -121,7 +121,7 @@ module _ (setup : List Node) (is_setup : IsSetup setup) (w : World) (hs : Histor
             let (to_it, g) = came_to_provider setup is_setup w hs traces (key a.from) f.place f.state f.at r.packet came_there in
             let within = sent_by_operator setup is_setup w hs traces o p s of at r.packet g (r.by ∙ to_us) in
             let same = operator_proofs.requests_agree (line_of setup at.trace.party at.trace.site) at.trace.events s at.trace.by_form run r.packet t.packet within t.was_sent
-                (push_is_no_reply r.packet.body r.answers.0 r.answers.1) (push_is_no_reply t.packet.body x t.carries) (r.number ∙ number) in
+            (push_is_no_reply r.packet.body r.answers.0 r.answers.1) (push_is_no_reply t.packet.body x t.carries) (r.number ∙ number) in
             record {
               place = f.place;
               state = f.state;
@@ -160,8 +160,8 @@ module _ (setup : List Node) (is_setup : IsSetup setup) (w : World) (hs : Histor
           let held : get t.state.rows.inbox.sessions (o, id) ≡ Some y = ap (get t.state.rows.inbox.sessions) (sym its_key) ∙ has in
           let (ordered, is_last) = pasts_are_orderly (line_of setup at.trace.party at.trace.site) at.trace.events s at.trace.by_form run id in
           let among =
-              last_or_earlier at.trace.site.price (past id at.trace.events) v y ordered (sym is_last ∙ stands)
-              (of_past (key v.cdr_token.party) id t.place t.state (provider_at setup is_setup w hs traces (key v.cdr_token.party) t.place t.state t.of) y held) in
+          last_or_earlier at.trace.site.price (past id at.trace.events) v y ordered (sym is_last ∙ stands)
+          (of_past (key v.cdr_token.party) id t.place t.state (provider_at setup is_setup w hs traces (key v.cdr_token.party) t.place t.state t.of) y held) in
           record { place = t.place; state = t.state; at = t.of; held = held ∙ ap Some (newest v y among at_least) }
 
       held_cdr : (x : Cdr) → get s.rows.charged.cdrs id ≡ Some x → Took (key x.cdr_token.party) (push.PostCdr x) → HoldsCdr w (key x.cdr_token.party) o id x

@@ -100,7 +100,7 @@ module _ (setup : List Node) (is_setup : IsSetup setup) (w : World) (hs : Histor
             let (to, f) = came_to_provider setup is_setup w hs traces p q t at x came in
             let line = line_of setup f.at.trace.party f.at.trace.site in
             let kept = operator_proofs.sent_replies_are_kept line f.at.trace.events f.state f.at.trace.by_form (run_of_operator setup is_setup w hs traces (key x.from) f.place f.state f.at) x
-                (reply.CommandResponse r) f.within carries in
+            (reply.CommandResponse r) f.within carries in
             record {
               place = f.place;
               state = f.state;

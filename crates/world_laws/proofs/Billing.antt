@@ -1,6 +1,6 @@
 -- What an operator bills, and what charge detail records a provider holds, in a traced world.
-use Rattle.std.proofs.Common.{◌≡◌, ◌⊎◌, ℕ, List, inl, inr, refl, sym, ap, subst, ◌∙◌}
-use Rattle.std.specs.Prelude.{Option, Some, None}
+use Rattle.std.proofs.Common.{◌≡◌, ◌⊎◌, ℕ, List, inl, inr, sym, ap, subst, ◌∙◌}
+use Rattle.std.specs.Prelude.{Some, None}
 use Rattle.std.specs.List.{last_or}
 use Rattle.std.specs.FinMap.{get, get-empty}
 use Rattle.tables.specs.Keys.{text_pair_cmp}
@@ -20,10 +20,11 @@ use Rattle.provider_laws.proofs.held.Cdrs.{held_cdrs_came, one_cdr_per_session}
 use Rattle.provider_rows.specs.State as provider
 use Rattle.session_laws.specs.Bills as bills
 use Rattle.session_laws.proofs.Billing.{sessions_are_billed_once}
+use Rattle.session_laws.proofs.Currencies.{currencies_are_of_site}
 use Rattle.session_laws.proofs.Growing.{pasts_are_orderly}
 use Rattle.world_laws.specs.Laws.{IsSetup}
-use Rattle.world_laws.specs.Nodes.{HasCdr, HoldsCdr, OperatorOf, ProviderOf}
-use Rattle.world_laws.specs.Safe.{Bills, BillsOnce, EndsAs}
+use Rattle.world_laws.specs.Nodes.{HasCdr, HoldsCdr, OperatorOf}
+use Rattle.world_laws.specs.Safe.{Bills, BillsOnce}
 use Rattle.world_laws.proofs.Holding.{past_is}
 use Rattle.world_laws.proofs.NodeRuns.{FromOperator, OperatorAt, ProviderAt, came_to_provider, line_of, one_provider, operator_at, peering_of, provider_at}
 use Rattle.world_steps.specs.Traces.{Histories, Traces}
@@ -44,6 +45,9 @@ module _ (setup : List Node) (is_setup : IsSetup setup) (w : World) (hs : Histor
 
     billed_state : bills.AreBilledOnce s
     billed_state = subst bills.AreBilledOnce at.state_is (sessions_are_billed_once (line_of setup at.trace.party at.trace.site) at.trace.events at.trace.state at.trace.by_form at.trace.run)
+
+    in_currency : (id : List ℕ) (x : Cdr) → get s.rows.charged.cdrs id ≡ Some x → x.currency ≡ s.site.currency
+    in_currency = (subst bills.AreInCurrency at.state_is (currencies_are_of_site (line_of setup at.trace.party at.trace.site) at.trace.events at.trace.state at.trace.by_form at.trace.run)).cdrs
 
     bills_once : BillsOnce p s
     bills_once = record {
@@ -119,4 +123,4 @@ module _ (setup : List Node) (is_setup : IsSetup setup) (w : World) (hs : Histor
 
   -- an operator's records have the currency of its site
   pub own_currency : (o : List ℕ) (p : Place) (s : operator.State) → OperatorOf w o p s → (id : List ℕ) (x : Cdr) → get s.rows.charged.cdrs id ≡ Some x → x.currency ≡ s.site.currency
-  own_currency o p s of id x stands = ?
+  own_currency o p s of id x stands = in_currency o p s (operator_at setup is_setup w hs traces o p s of) id x stands

@@ -1,17 +1,16 @@
 -- A list that is gathered from another, at most one element of each: what stands in it, that its elements differ, and its sum.
 use Rattle.std.proofs.Common.{◌≡◌, ◌≢◌, ◌<◌, List, [], ◌∷◌, map, refl, sym, ap, subst, ◌∙◌, inl, inr, arith, length}
 use Rattle.std.proofs.lemmas.Int.{ints}
-use Rattle.std.specs.Prelude.{Option, Some, None, Contains, ℤ, pos, ◌+ℤ◌}
+use Rattle.std.specs.Prelude.{Option, Some, None, Contains, ℤ, pos}
 use Rattle.std.specs.List.{AllPairs, filter_map, cons_option}
 use Rattle.std.specs.declared.cmp.Ordering.{Ordering}
 use Rattle.std.specs.Cmp.{IsTotalOrder}
-use Rattle.std.specs.FinMap.{FinMap, IsAntisymmetric, get, entries}
+use Rattle.std.specs.FinMap.{FinMap, IsAntisymmetric, entries}
 use Rattle.std.proofs.lemmas.List.{get_or-map, length-map}
 use Rattle.std.proofs.lemmas.List.Elements.{All-contains, Contains-append_cases, Contains-append_right}
 use Rattle.std.proofs.lemmas.List.Kept.{AllPairs-cons}
 use Rattle.tables.proofs.Elements.{all_of, first_pairs, in_front, in_none, in_single, later_pairs, no_pairs}
 use Rattle.tables.proofs.Entries.{all_apart}
-use Rattle.tables.proofs.Options.{none_some}
 use Rattle.handover.specs.Owed.{total}
 use Rattle.handover.proofs.Totals.{term_at}
 

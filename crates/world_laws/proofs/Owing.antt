@@ -1,9 +1,9 @@
 -- What a provider owes an operator of a traced world: the costs of the sessions of which it holds a charge detail record, each once.
-use Rattle.std.proofs.Common.{◌≡◌, ◌≢◌, ◌↔◌, ℕ, ℤ, pos, List, map, Bool, true, false, cond, refl, sym, ap, subst, ◌∙◌}
+use Rattle.std.proofs.Common.{◌≡◌, ◌≢◌, ℕ, ℤ, pos, List, Bool, true, false, cond, refl, sym, ap, subst, ◌∙◌}
 use Rattle.std.specs.Prelude.{Option, Some, None, Contains}
 use Rattle.std.specs.List.{AllPairs, filter_map, last_or}
 use Rattle.std.specs.Str.{bytes_eq}
-use Rattle.std.specs.FinMap.{get, entries, values}
+use Rattle.std.specs.FinMap.{get, entries}
 use Rattle.std.specs.Ordering.{eq_by_cmp}
 use Rattle.std.specs.Cmp.{eq_by_cmp_equiv}
 use Rattle.std.proofs.lemmas.Slice.Eq.{bytes_eq-Decides}
@@ -15,13 +15,12 @@ use Rattle.ocpi_text.specs.Text.{key}
 use Rattle.ocpi_types.specs.declared.cdrs.Cdr.{Cdr}
 use Rattle.ocpi_types.specs.declared.sessions.Session.{Session}
 use Rattle.ocpi_types.specs.declared.setup.Node.{Node}
-use Rattle.handover.specs.Cdrs.{cdr_key}
 use Rattle.handover.specs.Owed.{Account, account_of, cost_in, seen_by}
 use Rattle.handover.proofs.Totals.{term_at}
 use Rattle.operator_rows.specs.State as operator
 use Rattle.provider_rows.specs.State as provider
 use Rattle.world_laws.specs.Laws.{IsSetup}
-use Rattle.world_laws.specs.Nodes.{HasCdr, HoldsCdr, OperatorOf, ProviderOf}
+use Rattle.world_laws.specs.Nodes.{HoldsCdr, OperatorOf, ProviderOf}
 use Rattle.world_laws.specs.Safe.{AreBilled, Bills, EndsAs, OwesForEach, cost_of}
 use Rattle.world_laws.proofs.Billing.{billed, own_currency, own_keys, records, records_once}
 use Rattle.world_laws.proofs.Gathering.{gathered_apart, gathered_in, gathered_of, gathered_total, keys_apart, nothing_total}
