@@ -87,8 +87,8 @@ module _ (setup : List Node) (is_setup : IsSetup setup) where
   pub one_node : (i j : ℕ) (n m : Node) → slice_get setup i ≡ Some n → slice_get setup j ≡ Some m → node_key n ≡ node_key m → i ≡ j
   one_node i j n m at there same =
       stands_once [] (map node_key setup) is_setup.are_nodes.apart i j (node_key n)
-        (slice_get-map node_key setup i ∙ ap (option_map node_key) at)
-        (slice_get-map node_key setup j ∙ ap (option_map node_key) there ∙ ap Some (sym same))
+      (slice_get-map node_key setup i ∙ ap (option_map node_key) at)
+      (slice_get-map node_key setup j ∙ ap (option_map node_key) there ∙ ap Some (sym same))
 
   -- so none is an operator and a provider
   pub one_role : (i j : ℕ) (p q : List ℕ) (site : Site) → slice_get setup i ≡ Some (node.Operator p site) → slice_get setup j ≡ Some (node.Provider q) → key p ≡ key q → ⊥
