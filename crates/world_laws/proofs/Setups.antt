@@ -5,15 +5,15 @@ use Rattle.std.proofs.lemmas.List.Elements.{Contains-append_left, Contains-appen
 use Rattle.std.proofs.lemmas.Option.{slice_get-map}
 use Rattle.ocpi_text.specs.Party.{party_at}
 use Rattle.ocpi_text.specs.Text.{key}
-use Rattle.ocpi_types.specs.Apart.{AllDiffer, DifferFrom}
+use Rattle.ocpi_types.specs.Apart.{DifferFrom}
 use Rattle.ocpi_types.specs.Setups.{node_key, party_of}
 use Rattle.ocpi_types.specs.declared.setup.Node.{Node}
 use Rattle.ocpi_types.specs.declared.setup.Node.TheVariants as node
 use Rattle.ocpi_types.specs.declared.site.Site.{Site}
-use Rattle.provider_rows.specs.State.{ArePeers, Peering}
+use Rattle.provider_rows.specs.State.{ArePeers}
 use Rattle.tables.proofs.Elements.{in_front, in_none, in_single}
 use Rattle.world_laws.specs.Laws.{IsSetup}
-use Rattle.world_steps.proofs.Places.{got_within, is_in, some_same}
+use Rattle.world_steps.proofs.Places.{is_in, some_same}
 use Rattle.world_steps.specs.World.{operators_of, providers_of}
 
 -- a text of a list that differs from others is none of them
