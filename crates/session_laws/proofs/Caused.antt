@@ -1,8 +1,8 @@
 -- Each version and each charge detail record that an event puts has a cause.
-use Rattle.std.proofs.Common.{◌≡◌, ◌≢◌, ◌<◌, ◌≤◌, ◌+◌, ◌++◌, ◌⊎◌, ℕ, Bool, true, false, cond, nat_eq, eqb-true, List, [], ◌∷◌, length, map, inl, inr, refl, sym, ap, subst, ◌∙◌, arith}
+use Rattle.std.proofs.Common.{◌≡◌, ◌≢◌, ◌<◌, ◌≤◌, ◌+◌, ◌++◌, ℕ, Bool, true, false, cond, nat_eq, eqb-true, List, [], ◌∷◌, length, map, inl, inr, refl, sym, ap, subst, arith}
 use Rattle.std.specs.Prelude.{Option, Some, None, Contains}
-use Rattle.std.proofs.lemmas.List.Elements.{Contains-append_cases, Contains-append_right, Contains-append_left}
-use Rattle.tables.proofs.Elements.{in_none, in_front, in_single}
+use Rattle.std.proofs.lemmas.List.Elements.{Contains-append_right, Contains-append_left}
+use Rattle.tables.proofs.Elements.{in_front}
 use Rattle.ocpi_text.specs.Text.{key}
 use Rattle.ocpi_text.specs.Whole.{max_whole}
 use Rattle.ocpi_types.specs.declared.authorizations.Authorization.{Authorization}
@@ -22,20 +22,17 @@ use Rattle.ocpi_types.specs.declared.stored.OpenCommand.{OpenCommand}
 use Rattle.ocpi_types.specs.declared.stored.Push.TheVariants as push
 use Rattle.ocpi_types.specs.declared.stored.Reply.{Reply}
 use Rattle.ocpi_types.specs.declared.token.Token.{Token}
-use Rattle.ocpi_types.specs.declared.words.CommandResultType.{CommandResultType}
 use Rattle.command_book.specs.Stored as book
 use Rattle.reservation_book.specs.declared.standing.Standing.{Standing}
 use Rattle.authorization_book.specs.Waits as waits
-use Rattle.outbox.specs.Due.{AreExactly}
 use Rattle.node_steps.specs.Acts.{Act, all_changes, changed}
 use Rattle.node_steps.specs.Drafts.{count_change}
 use Rattle.node_steps.proofs.Gathering.{changes_append}
 use Rattle.operator_rows.specs.State.{State}
-use Rattle.operator_rows.specs.Stored.{change_key}
 use Rattle.operator_rows.specs.Sound.{IsConsistent}
 use Rattle.operator_tables.specs.declared.decision.Decision.{Decision}
 use Rattle.operator_tables.specs.declared.decision.Decision.TheVariants as decision
-use Rattle.operator_steps.specs.Acts.{deadline, decided_acts, opened, reference_of, reply_of, settled_if, spent, url_of, used}
+use Rattle.operator_steps.specs.Acts.{deadline, decided_acts, opened, reference_of, reply_of, spent, used}
 use Rattle.node_steps.specs.Acts.{answered}
 use Rattle.operator_steps.specs.declared.ending.Ending.{Ending}
 use Rattle.operator_steps.specs.Asking.{AnswerActs, IsAnswered}
@@ -56,8 +53,8 @@ use Rattle.operator_steps.proofs.Expiring.{of_expired}
 use Rattle.operator_steps.proofs.Resending.{resent_changes}
 use Rattle.operator_steps.proofs.TickStages.{stages_see}
 use Rattle.operator_steps.proofs.BegunChanges.{late_counts}
-use Rattle.operator_steps.proofs.BegunSteps.{begun_acts, begun_is}
-use Rattle.operator_steps.proofs.Orderly.{in_later, of_counter}
+use Rattle.operator_steps.proofs.BegunSteps.{begun_is}
+use Rattle.operator_steps.proofs.Orderly.{in_later}
 use Rattle.session_tables.specs.declared.beginning.Beginning.{Beginning}
 use Rattle.session_tables.specs.declared.shown.Shown.TheVariants as shown
 use Rattle.session_tables.specs.Answers.{BeginsByAnswer, Decided}

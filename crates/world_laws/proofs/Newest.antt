@@ -13,8 +13,8 @@ use Rattle.ocpi_types.specs.declared.sessions.Session.{Session}
 use Rattle.session_state.specs.Pasts.{Follow, IsFinal, IsOrderly, IsSame, MayFollow}
 use Rattle.operator_rows.proofs.RowChanges.{of_cons}
 use Rattle.operator_steps.specs.Events.{Event}
+use Rattle.operator_laws.specs.Sessions.{Puts}
 use Rattle.session_laws.specs.Pasts.{past, version_put, versions_put}
-use Rattle.session_laws.specs.Runs.{Puts}
 use Rattle.session_laws.proofs.Growing.{no_turn}
 
 -- an earlier version of the session: it is not final
