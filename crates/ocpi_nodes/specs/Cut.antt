@@ -23,7 +23,7 @@ too_long line long =
     ap (λ b. cond b (Err Syntax) (cond (is_utf8 line) (Ok line) (Err Syntax))) (lt-ltb max_line (length line) long)
 
 -- a front of a line is read as the line is
-tree-cut : (line : List ℕ) → tree_at (take KEPT_BYTES line) ≡ tree_at line
+pub tree-cut : (line : List ℕ) → tree_at (take KEPT_BYTES line) ≡ tree_at line
 unfolding tree_at
 tree-cut line = at (cases_lt max_line (length line))
   where

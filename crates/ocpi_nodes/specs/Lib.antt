@@ -1,2 +1,5 @@
+pub mod Writing
 pub mod Answer
 pub mod Cut
+pub mod Play
+pub mod PlayCut
