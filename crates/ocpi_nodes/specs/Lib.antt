@@ -1,5 +1,6 @@
 pub mod Writing
-pub mod Answer
 pub mod Cut
+pub mod Answer
+pub mod AnswerCut
 pub mod Play
 pub mod PlayCut

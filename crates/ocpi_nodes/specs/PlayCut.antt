@@ -2,7 +2,6 @@
 use Rattle.std.specs.Prelude.{ℕ, ◌≡◌, List, Option, None, Some, take}
 use Rattle.std.proofs.Common.{sym, ap, subst, ◌∙◌}
 use Rattle.json_text.specs.Fault.{◌>>=◌, Fails}
-use Rattle.json_text.specs.Line.{tree_at}
 use Rattle.ocpi_json.specs.EventForms.{event_in, event_of_line}
 use Rattle.ocpi_json.specs.SetupForms.{setup_in, setup_of_line}
 use Rattle.line_runs.specs.declared.run.Turn.{Turn}

@@ -95,7 +95,7 @@ impl Program {
 }
 
 impl AnswerLines for Program {
-    ghost use Rattle.ocpi_nodes.specs.Cut.{cut_alike};
+    ghost use Rattle.ocpi_nodes.specs.AnswerCut.{cut_alike};
 
     ghost line_gives = { LineGives };
 

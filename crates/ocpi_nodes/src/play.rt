@@ -5,17 +5,18 @@ ghost use Rattle.std.specs.Prelude.{IfOk, IfErr, OnOk, codes, flat_map, string_b
 ghost use Rattle.json_text.specs.Fault.{Fails};
 ghost use Rattle.ocpi_json.specs.EventForms.{event_in};
 ghost use Rattle.ocpi_json.specs.SetupForms.{setup_in};
+ghost use Rattle.ocpi_types.specs.declared.rows.Change.{Change as ChangeOf};
 ghost use Rattle.ocpi_types.specs.declared.setup.Node.{Node as NodeOf};
-ghost use Rattle.ocpi_nodes.specs.Play.{EventTurn, PlayEndGives, PlayLineGives, SetupTurn, debt_line, debt_lines, debts_of, owed_lines, played_from};
+ghost use Rattle.ocpi_nodes.specs.Play.{EventTurn, PlayEndGives, PlayLineGives, SetupTurn, debt_line, debt_lines, debts_of, outcome_lines, owed_lines, played_from, turn_of};
 ghost use Rattle.ocpi_text.specs.Text.{key};
-ghost use Rattle.world.specs.Seen.{owed_by};
+ghost use Rattle.world.specs.Seen.{owed_by, told};
 ghost use Rattle.line_runs.specs.Run.{Begins, Outputs, ReadsFewLines, StopsReading};
 
 use crate::writing::{refuse, write_packets};
 use line_runs::{AnswerLines, LineReader, Ran, RunFault, Turn, run_whole};
 use ocpi_json::{JsonFault, Scratch, read_event, read_setup};
 use ocpi_text::{FreeText, Party, ShortText, write_sum};
-use ocpi_types::{Event, Node, Setup};
+use ocpi_types::{Event, Node, Packet, Setup};
 use std::alloc::{AllocError, Global};
 use std::io::{BufRead, Write};
 use std::marker::Model;
@@ -152,19 +153,19 @@ fn play_setup(
     }
 }
 
-/// Lets an event that was read happen, and writes what comes of it.
-fn play_read(
+/// Writes what came of an event: the packets that the node sent, that the event was of no node, or why it was refused.
+fn write_outcome(
     alloc: Global,
-    played: &mut Played,
-    event: &Event,
+    outcome: Outcome,
+    packets: &[Packet],
     output: &mut String,
 ) -> Result<Turn, AllocError>
-    ensures { IfOk result (λ turn. (out : List ℕ) × (string_bytes output.new ≡ string_bytes output.old ++ out)
-        × ((line : List ℕ) → event_in line ≡ Ok event.now → EventTurn played.old line turn out (Some played.new))) }
+    ensures { IfOk result (λ turn. (changes : List ChangeOf) → (turn ≡ turn_of (told outcome packets.now changes))
+        × (string_bytes output.new ≡ string_bytes output.old ++ outcome_lines (told outcome packets.now changes))) }
 {
-    match played.world.step(event)? {
+    match outcome {
         Outcome::Stepped => {
-            write_packets(alloc, played.world.packets(), output)?;
+            write_packets(alloc, packets, output)?;
             Ok(Turn::Taken)
         }
         Outcome::Skipped => {
@@ -176,6 +177,20 @@ fn play_read(
             Ok(Turn::Refused)
         }
     }
+}
+
+/// Lets an event that was read happen, and writes what comes of it.
+fn play_read(
+    alloc: Global,
+    played: &mut Played,
+    event: &Event,
+    output: &mut String,
+) -> Result<Turn, AllocError>
+    ensures { IfOk result (λ turn. (out : List ℕ) × (string_bytes output.new ≡ string_bytes output.old ++ out)
+        × ((line : List ℕ) → event_in line ≡ Ok event.now → EventTurn played.old line turn out (Some played.new))) }
+{
+    let outcome = played.world.step(event)?;
+    write_outcome(alloc, outcome, played.world.packets(), output)
 }
 
 /// Reads a line's event and lets it happen.
@@ -288,14 +303,26 @@ fn write_debts(
     Ok(())
 }
 
+/// Adds a line for each provider and each operator of a setup: what is owed in its world.
+fn write_all_debts(
+    alloc: Global,
+    world: &World,
+    setup: &[Node],
+    output: &mut String,
+) -> Result<(), AllocError>
+    ensures { OnOk result (string_bytes output.new ≡ string_bytes output.old ++ flat_map (debts_of world.now.places setup.now) setup.now) }
+{
+    for node in setup {
+        write_debts_of(alloc, world, setup, node, output)?;
+    }
+    Ok(())
+}
+
 /// Adds a line for each provider and each operator: what is owed.
 fn write_owed(alloc: Global, played: &Played, output: &mut String) -> Result<(), AllocError>
     ensures { OnOk result (string_bytes output.new ≡ string_bytes output.old ++ owed_lines played.now) }
 {
-    for node in played.setup.as_slice() {
-        write_debts_of(alloc, &played.world, played.setup.as_slice(), node, output)?;
-    }
-    Ok(())
+    write_all_debts(alloc, &played.world, played.setup.as_slice(), output)
 }
 
 /// Plays the events of an input in a world of nodes. The first line that holds something is the setup, and each other an
