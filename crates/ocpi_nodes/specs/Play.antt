@@ -10,6 +10,7 @@ use Rattle.json_text.specs.declared.fault.JsonFault.TheVariants.{Syntax}
 use Rattle.json_text.specs.Fault.{Fails, fault_text as json_fault_text}
 use Rattle.ocpi_json.specs.EventForms.{event_in}
 use Rattle.ocpi_json.specs.SetupForms.{setup_in}
+use Rattle.node_steps.specs.declared.fault.NodeFault.TheVariants.{Memory}
 use Rattle.node_steps.specs.FaultText.{fault_text as node_fault_text}
 use Rattle.world_steps.specs.Steps.{Gives, Outcome}
 use Rattle.world_steps.specs.Steps as outcome
@@ -49,11 +50,14 @@ pub data SetupTurn (line : List ℕ) (turn : Turn) (out : List ℕ) (next : Opti
   NoSetup : (fault : JsonFault) → Fails fault (setup_in line) → turn ≡ Ended → out ≡ refusal_line (json_fault_text fault)
       → next ≡ None → SetupTurn line turn out next
 
--- Each other line is an event of the world. A line that is no event changes nothing, and neither does an event that is refused.
+-- Each other line is an event of the world. A line that is no event changes nothing, and neither does an event that is refused, by
+-- the node or for want of memory.
 pub data EventTurn (now : Playing) (line : List ℕ) (turn : Turn) (out : List ℕ) (next : Option Playing) : Type 0 where
   Happened : (event : Event) → event_in line ≡ Ok event → (o : Outcome) → (v : World) → Gives now.world event o v
       → turn ≡ turn_of o → out ≡ outcome_lines o → next ≡ Some (record { setup = now.setup; world = v })
       → EventTurn now line turn out next
+  Starved : (event : Event) → event_in line ≡ Ok event → turn ≡ Refused → out ≡ refusal_line (node_fault_text Memory)
+      → next ≡ Some now → EventTurn now line turn out next
   Unread : (fault : JsonFault) → Fails fault (event_in line)
       → turn ≡ Refused → out ≡ refusal_line (json_fault_text fault) → next ≡ Some now → EventTurn now line turn out next
 

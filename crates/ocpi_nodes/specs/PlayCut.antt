@@ -7,7 +7,7 @@ use Rattle.ocpi_json.specs.SetupForms.{setup_in, setup_of_line}
 use Rattle.line_runs.specs.declared.run.Turn.{Turn}
 use Rattle.line_runs.specs.declared.lines.TheConstants.{KEPT_BYTES}
 use Rattle.ocpi_nodes.specs.Cut.{tree-cut}
-use Rattle.ocpi_nodes.specs.Play.{Playing, PlayLineGives, Opened, NoSetup, Happened, Unread}
+use Rattle.ocpi_nodes.specs.Play.{Playing, PlayLineGives, Opened, NoSetup, Happened, Starved, Unread}
 
 setup-cut : (line : List ℕ) → setup_in (take KEPT_BYTES line) ≡ setup_in line
 unfolding setup_in
@@ -24,5 +24,7 @@ play_cut_alike None t line turn out (NoSetup fault fails ended refused next) =
     NoSetup fault (subst (Fails fault) (setup-cut line) fails) ended refused next
 play_cut_alike (Some now) t line turn out (Happened event read o v gives taken lines next) =
     Happened event (sym (event-cut line) ∙ read) o v gives taken lines next
+play_cut_alike (Some now) t line turn out (Starved event read refused written next) =
+    Starved event (sym (event-cut line) ∙ read) refused written next
 play_cut_alike (Some now) t line turn out (Unread fault fails refused written next) =
     Unread fault (subst (Fails fault) (event-cut line) fails) refused written next

@@ -14,6 +14,7 @@ ghost use Rattle.line_runs.specs.Run.{Begins, Outputs, ReadsFewLines, StopsReadi
 
 use crate::writing::{refuse, write_packets};
 use line_runs::{AnswerLines, LineReader, Ran, RunFault, Turn, run_whole};
+use node_steps::NodeFault;
 use ocpi_json::{JsonFault, Scratch, read_event, read_setup};
 use ocpi_text::{FreeText, Party, ShortText, write_sum};
 use ocpi_types::{Event, Node, Packet, Setup};
@@ -179,7 +180,7 @@ fn write_outcome(
     }
 }
 
-/// Lets an event that was read happen, and writes what comes of it.
+/// Lets an event that was read happen, and writes what comes of it. Where memory runs out for it, it is refused.
 fn play_read(
     alloc: Global,
     played: &mut Played,
@@ -189,7 +190,10 @@ fn play_read(
     ensures { IfOk result (λ turn. (out : List ℕ) × (string_bytes output.new ≡ string_bytes output.old ++ out)
         × ((line : List ℕ) → event_in line ≡ Ok event.now → EventTurn played.old line turn out (Some played.new))) }
 {
-    let outcome = played.world.step(event)?;
+    let Ok(outcome) = played.world.step(event) else {
+        refuse(output, NodeFault::Memory)?;
+        return Ok(Turn::Refused);
+    };
     write_outcome(alloc, outcome, played.world.packets(), output)
 }
 

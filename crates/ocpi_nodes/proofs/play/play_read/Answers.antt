@@ -6,14 +6,14 @@ use Rattle.world_steps.specs.Steps.{Gives}
 use Rattle.ocpi_nodes.specs.Play.{EventTurn, Happened, Playing, outcome_lines}
 use Rattle.ocpi_nodes.proofs.play.play_read.Goals as goal
 
-pub returns : goal.returns
+pub returns : goal.returns-in-Ok
 returns c =
     let before = c.played.inside.world.places in
     let after = c.step.new.self in
     let event = c.args.event.now in
-    let told_of = λ (packets : List Packet). told c.in_ok-outcome.outcome packets after.changes in
+    let told_of = λ (packets : List Packet). told c.in-Ok.outcome packets after.changes in
     let o = told_of c.packets.result.now in
-    let gives = subst (λ (packets : List Packet). Gives before event (told_of packets) after.places) (sym c.packets.ensures) c.in_ok-outcome.ensures.ok in
+    let gives = subst (λ (packets : List Packet). Gives before event (told_of packets) after.places) (sym c.packets.ensures) c.in-Ok.ensures.ok in
     let next : Playing = record { setup = c.played.inside.setup; world = after.places } in
     IfOk-weaker c.write_outcome.result _ _ (λ turn r. (
       outcome_lines o,
