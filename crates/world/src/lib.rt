@@ -18,8 +18,8 @@ mod finding;
 mod opening;
 mod past;
 mod place;
-mod planning;
 mod planned;
+mod planning;
 mod world;
 
 pub use past::Past;

@@ -1,5 +1,13 @@
 //! The places of a setup, before the first event.
 
+ghost use Rattle.std.specs.Prelude.{◌≡◌, Contains, IfOk, ℕ};
+ghost use Rattle.ocpi_types.specs.Setups.{AreNodes};
+ghost use Rattle.ocpi_types.specs.declared.setup.Node.TheVariants as node;
+ghost use Rattle.operator_rows.specs.State as operator;
+ghost use Rattle.provider_rows.specs.State as provider;
+ghost use Rattle.world.specs.Seen.{node_seen, place_seen, places_seen};
+ghost use Rattle.world_steps.specs.World.{opened, opening_of, operator_of, operators_of, place_of, provider_of, providers_of};
+
 use crate::place::{Node, Place};
 use node_steps::NodeFault;
 use ocpi_text::{Moment, Party};
@@ -10,7 +18,9 @@ use provider_rows::Peers;
 use std::alloc::{AllocError, Global};
 
 /// The providers among the nodes, in order. An error is want of memory.
-fn providers(alloc: Global, nodes: &[SetupNode]) -> Result<Vec<Party>, AllocError> {
+fn providers(alloc: Global, nodes: &[SetupNode]) -> Result<Vec<Party>, AllocError>
+    ensures { IfOk result (λ v. v.items ≡ providers_of nodes.now) }
+{
     let mut parties = Vec::new(alloc);
     for node in nodes {
         if let SetupNode::Provider { party } = node {
@@ -21,7 +31,9 @@ fn providers(alloc: Global, nodes: &[SetupNode]) -> Result<Vec<Party>, AllocErro
 }
 
 /// The operators among the nodes, in order. An error is want of memory.
-fn operators(alloc: Global, nodes: &[SetupNode]) -> Result<Vec<Party>, AllocError> {
+fn operators(alloc: Global, nodes: &[SetupNode]) -> Result<Vec<Party>, AllocError>
+    ensures { IfOk result (λ v. v.items ≡ operators_of nodes.now) }
+{
     let mut parties = Vec::new(alloc);
     for node in nodes {
         if let SetupNode::Operator { party, .. } = node {
@@ -32,7 +44,9 @@ fn operators(alloc: Global, nodes: &[SetupNode]) -> Result<Vec<Party>, AllocErro
 }
 
 /// The first moment of all, at which a setup is opened.
-fn first_moment() -> Moment {
+fn first_moment() -> Moment
+    ensures { result ≡ 0 }
+{
     Moment::read("1970-01-01T00:00:00Z").unwrap()
 }
 
@@ -42,7 +56,11 @@ fn open_operator(
     nodes: &[SetupNode],
     party: &Party,
     site: &Site,
-) -> Result<Operator, AllocError> {
+) -> Result<Operator, AllocError>
+    requires are { AreNodes nodes.now }
+    requires member { Contains nodes.now (node.Operator party.now site.now) }
+    ensures { IfOk result (λ o. o.state ≡ operator.opening (record { at = 0; parties = record { operator = party.now; providers = providers_of nodes.now }; site = site.now })) }
+{
     let Some(parties) = Parties::new(*party, providers(alloc, nodes)?) else {
         unreachable!()
     };
@@ -57,20 +75,24 @@ fn open_operator(
 }
 
 /// A provider, and all operators among the nodes. An error is want of memory.
-fn open_provider(
-    alloc: Global,
-    nodes: &[SetupNode],
-    party: &Party,
-) -> Result<Provider, AllocError> {
+fn open_provider(alloc: Global, nodes: &[SetupNode], party: &Party) -> Result<Provider, AllocError>
+    requires are { AreNodes nodes.now }
+    requires member { Contains nodes.now (node.Provider party.now) }
+    ensures { IfOk result (λ p. p.state ≡ provider.opening (record { provider = party.now; operators = operators_of nodes.now })) }
+{
     let Some(peers) = Peers::new(*party, operators(alloc, nodes)?) else {
         unreachable!()
     };
     Ok(Provider::new(alloc, peers))
 }
 
-/// The place of a node among the nodes, before the first event. An error is want of memory.
-fn open_node(alloc: Global, nodes: &[SetupNode], node: &SetupNode) -> Result<Node, AllocError> {
-    match node {
+/// A node among the nodes, before the first event. An error is want of memory.
+fn open_node(alloc: Global, nodes: &[SetupNode], member: &SetupNode) -> Result<Node, AllocError>
+    requires are { AreNodes nodes.now }
+    requires member { Contains nodes.now member.now }
+    ensures { IfOk result (λ n. node_seen n ≡ opening_of nodes.now member.now) }
+{
+    match member {
         SetupNode::Operator { party, site } => {
             Ok(Node::Operator(open_operator(alloc, nodes, party, site)?))
         }
@@ -80,10 +102,15 @@ fn open_node(alloc: Global, nodes: &[SetupNode], node: &SetupNode) -> Result<Nod
 
 impl Place {
     /// The place of a node among the nodes, before the first event. An error is want of memory.
-    fn open(alloc: Global, nodes: &[SetupNode], node: &SetupNode) -> Result<Place, AllocError> {
+    fn open(alloc: Global, nodes: &[SetupNode], member: &SetupNode) -> Result<Place, AllocError>
+        requires are { AreNodes nodes.now }
+        requires member { Contains nodes.now member.now }
+        ensures { IfOk result (λ p. place_seen p ≡ place_of nodes.now member.now) }
+    {
+        let node = open_node(alloc, nodes, member)?;
         Ok(Place {
-            party: *node.party(),
-            node: open_node(alloc, nodes, node)?,
+            party: *member.party(),
+            node,
             sent: Vec::new(alloc),
             versions: Vec::new(alloc),
         })
@@ -91,10 +118,13 @@ impl Place {
 }
 
 /// A place for each node, in order, before the first event. An error is want of memory.
-pub(crate) fn open_all(alloc: Global, nodes: &[SetupNode]) -> Result<Vec<Place>, AllocError> {
+pub(crate) fn open_all(alloc: Global, nodes: &[SetupNode]) -> Result<Vec<Place>, AllocError>
+    requires { AreNodes nodes.now }
+    ensures { IfOk result (λ v. places_seen v.items ≡ opened nodes.now) }
+{
     let mut places = Vec::new(alloc);
-    for node in nodes {
-        let place = Place::open(alloc, nodes, node)?;
+    for member in nodes {
+        let place = Place::open(alloc, nodes, member)?;
         places.push(place)?;
     }
     Ok(places)

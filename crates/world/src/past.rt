@@ -1,5 +1,8 @@
 //! The past of a session.
 
+ghost use Rattle.std.specs.Iterator.{YieldsFirstRef, item_count};
+ghost use Rattle.world.specs.Seen.{versions_left};
+
 use ocpi_text::CiKey;
 use ocpi_types::Session;
 
@@ -12,6 +15,10 @@ pub struct Past<'w> {
 
 impl<'w> Iterator for Past<'w> {
     type Item = &'w Session;
+
+    ghost next_gives = { YieldsFirstRef versions_left };
+
+    ghost remaining = { item_count versions_left };
 
     fn next(&mut self) -> Option<&'w Session> {
         while let Some((version, rest)) = self.versions.split_first() {

@@ -1,5 +1,7 @@
 //! What an event comes to at a node, before anything changes.
 
+ghost use Rattle.std.specs.Prelude.{◌≡◌, [], None};
+
 use node_steps::{NodeFault, Plan};
 use ocpi_types::Change;
 use operator_rows::FullPlan;
@@ -48,7 +50,11 @@ pub(crate) struct Told {
 
 impl Told {
     /// Nothing was sent and nothing changed.
-    pub(crate) fn idle(alloc: Global, outcome: Outcome) -> Told {
+    pub(crate) fn idle(alloc: Global, outcome: Outcome) -> Told
+        ensures outcome { result.outcome ≡ outcome }
+        ensures sending { result.sending ≡ None }
+        ensures changes { result.changes.items ≡ [] }
+    {
         Told {
             outcome,
             sending: None,

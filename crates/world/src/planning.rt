@@ -1,5 +1,10 @@
 //! What an event comes to at a node. Nothing is changed here.
 
+ghost use Rattle.std.specs.Prelude.{IfOk};
+ghost use Rattle.world.specs.Seen.{node_seen, places_seen};
+ghost use Rattle.world.specs.Works.{ComesOf, ComesOfFull, IsPlanned};
+ghost use Rattle.world_steps.specs.World.{Operates, Provides};
+
 use crate::finding::delivered;
 use crate::place::{Node, Place};
 use crate::planned::{Outcome, Planned, Work};
@@ -12,7 +17,9 @@ use provider_core::Provider;
 use std::alloc::AllocError;
 
 /// What comes of a plan of an operator. An error is want of memory.
-fn of_operator(planned: Result<FullPlan, NodeFault>) -> Result<Planned, AllocError> {
+fn of_operator(planned: Result<FullPlan, NodeFault>) -> Result<Planned, AllocError>
+    ensures { IfOk result (λ x. ComesOfFull planned x) }
+{
     match planned {
         Ok(plan) => Ok(Planned::Acts(Work::Operator(plan))),
         Err(NodeFault::Memory) => Err(AllocError),
@@ -21,7 +28,9 @@ fn of_operator(planned: Result<FullPlan, NodeFault>) -> Result<Planned, AllocErr
 }
 
 /// What comes of a plan of a provider. An error is want of memory.
-fn of_provider(planned: Result<Plan, NodeFault>) -> Result<Planned, AllocError> {
+fn of_provider(planned: Result<Plan, NodeFault>) -> Result<Planned, AllocError>
+    ensures { IfOk result (λ x. ComesOf planned x) }
+{
     match planned {
         Ok(plan) => Ok(Planned::Acts(Work::Provider(plan))),
         Err(NodeFault::Memory) => Err(AllocError),
@@ -35,7 +44,9 @@ fn plan_operator(
     party: &Party,
     operator: &Operator,
     kind: &EventKind,
-) -> Result<Planned, AllocError> {
+) -> Result<Planned, AllocError>
+    ensures { IfOk result (λ x. IsPlanned (places_seen places.now) party.now (Operates operator.now.state) kind.now x) }
+{
     match kind {
         EventKind::Submit { .. } | EventKind::Token { .. } => Ok(Planned::Idle(Outcome::Skipped)),
         EventKind::Service {
@@ -62,7 +73,9 @@ fn plan_provider(
     party: &Party,
     provider: &Provider,
     kind: &EventKind,
-) -> Result<Planned, AllocError> {
+) -> Result<Planned, AllocError>
+    ensures { IfOk result (λ x. IsPlanned (places_seen places.now) party.now (Provides provider.now.state) kind.now x) }
+{
     match kind {
         EventKind::Submit {
             at,
@@ -84,11 +97,9 @@ fn plan_provider(
 }
 
 /// What an event comes to at a place. An error is want of memory.
-pub(crate) fn plan(
-    places: &[Place],
-    place: &Place,
-    kind: &EventKind,
-) -> Result<Planned, AllocError> {
+pub(crate) fn plan(places: &[Place], place: &Place, kind: &EventKind) -> Result<Planned, AllocError>
+    ensures { IfOk result (λ x. IsPlanned (places_seen places.now) place.now.party (node_seen place.now.node) kind.now x) }
+{
     match &place.node {
         Node::Operator(operator) => plan_operator(places, &place.party, operator, kind),
         Node::Provider(provider) => plan_provider(places, &place.party, provider, kind),
