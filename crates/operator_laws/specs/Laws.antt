@@ -90,12 +90,6 @@ IsReplyTo (reply.CommandResponse r) b = (c : Command) × (b ≡ body_of_command 
 IsReplyTo (reply.Ack r) b = (t : Token) × (b ≡ body.PutToken t)
 IsReplyTo (reply.Authorization r) b = ⊥
 
--- each kept reply answers a request that came, from that party under that number: a command, or a token
-abbrev pub RepliesAnswer : Type 0
-RepliesAnswer = (line : SiteLine) (es : List Event) (t : State) → Run (opening line) es t → (p : List ℕ) (n : ℕ) (r : Reply) →
-    get t.rows.commands.replies (p, n) ≡ Some r →
-    (q : Packet) × Came es q × (key q.from ≡ p) × (q.request ≡ n) × IsReplyTo r q.body
-
 -- a result is kept for good
 abbrev pub ResultsStay : Type 0
 ResultsStay = (s t : State) (es : List Event) → IsConsistent s → Run s es t → (k : List ℕ × ℕ) (x : CommandResultType) → get s.rows.commands.results k ≡ Some x →

@@ -1,5 +1,5 @@
 -- What stands because a command made it: the event that answered the command is named, and what was answered before it.
-use Rattle.std.specs.Prelude.{◌≡◌, ◌⊎◌, ◌<◌, ◌++◌, ℕ, List, ◌∷◌, Some, None}
+use Rattle.std.specs.Prelude.{◌≡◌, ◌⊎◌, ◌<◌, ◌++◌, ℕ, List, ◌∷◌, Some, None, Contains}
 use Rattle.std.specs.FinMap.{get}
 use Rattle.ocpi_text.specs.Text.{key}
 use Rattle.ocpi_types.specs.Stored.{body_of_command}
@@ -7,13 +7,16 @@ use Rattle.ocpi_types.specs.declared.commands.CancelReservation.{CancelReservati
 use Rattle.ocpi_types.specs.declared.commands.ReserveNow.{ReserveNow}
 use Rattle.ocpi_types.specs.declared.packet.Body.TheVariants as body
 use Rattle.ocpi_types.specs.declared.packet.Packet.{Packet}
+use Rattle.ocpi_types.specs.declared.rows.Change.TheVariants.{Put}
+use Rattle.ocpi_types.specs.declared.rows.Row.TheVariants as row
+use Rattle.ocpi_types.specs.declared.site.SiteLine.{SiteLine}
 use Rattle.ocpi_types.specs.declared.stored.Command.{Command}
 use Rattle.ocpi_types.specs.declared.stored.OpenCommand.{OpenCommand}
 use Rattle.ocpi_types.specs.declared.stored.Reply.{Reply}
 use Rattle.ocpi_types.specs.declared.stored.Reservation.{Reservation}
-use Rattle.operator_rows.specs.State.{State}
+use Rattle.operator_rows.specs.State.{State, opening}
 use Rattle.operator_steps.specs.Events.{Event, Happens}
-use Rattle.operator_laws.specs.Laws.{Run}
+use Rattle.operator_laws.specs.Laws.{IsReplyTo, Run}
 use Rattle.operator_laws.specs.Replied.{AnswersIt}
 
 -- an event of the run answered the request of that packet
@@ -28,6 +31,12 @@ pub record IsAnsweredIn (s : State) (es : List Event) (t : State) (q : Packet) (
   pub left : Run after later t
   pub all : es ≡ earlier ++ event ∷ later
   pub answers : AnswersIt before event after q r
+
+-- each kept reply was given by an event of the run, to a request that it answers: a command, or a token, of that party under that number
+abbrev pub RepliesWereGiven : Type 0
+RepliesWereGiven = (line : SiteLine) (es : List Event) (t : State) → Run (opening line) es t → (p : List ℕ) (n : ℕ) (r : Reply) →
+    get t.rows.commands.replies (p, n) ≡ Some r →
+    (q : Packet) × IsAnsweredIn (opening line) es t q r × (key q.from ≡ p) × (q.request ≡ n) × IsReplyTo r q.body
 
 -- a RESERVE_NOW of that provider about that id was answered in the events from s to t, under a number above that of every
 -- CANCEL_RESERVATION about it that was answered in those from r to s
@@ -63,3 +72,9 @@ pub record IsCommandOf (s : State) (es : List Event) (t : State) (p : List ℕ) 
 abbrev pub OpenCommandsCame : Type 0
 OpenCommandsCame = (s t : State) (es : List Event) → Run s es t → (p : List ℕ) (n : ℕ) (o : OpenCommand) → get t.rows.commands.pending (p, n) ≡ Some o →
     (get s.rows.commands.pending (p, n) ≡ Some o) ⊎ IsCommandOf s es t p n o.command
+
+-- a command that an event of the run opens, whether or not it is open still, came in the run under that number
+abbrev pub OpenedCommandsCame : Type 0
+OpenedCommandsCame = (s t : State) (es : List Event) → Run s es t → (e : Event) → Contains es e → (p : List ℕ) (n : ℕ) (o : OpenCommand) →
+    Contains e.changes (Put (row.Pending p n o)) →
+    IsCommandOf s es t p n o.command

@@ -4,6 +4,7 @@ use Rattle.std.specs.Prelude.{◌≡◌, ◌⊎◌, ◌≤◌, ◌<◌, ℕ, Lis
 use Rattle.std.specs.FinMap.{get}
 use Rattle.ocpi_text.specs.OwnIds.{own_id_text}
 use Rattle.ocpi_text.specs.Text.{key}
+use Rattle.ocpi_text.specs.Whole.{max_whole}
 use Rattle.ocpi_text.specs.declared.own_ids.OwnIdKind.{OwnIdKind}
 use Rattle.ocpi_text.specs.declared.own_ids.OwnIdKind.TheVariants as own
 use Rattle.ocpi_types.specs.Stored.{body_of_push}
@@ -22,10 +23,12 @@ use Rattle.ocpi_types.specs.declared.site.SiteLine.{SiteLine}
 use Rattle.ocpi_types.specs.declared.stored.Push.{Push}
 use Rattle.ocpi_types.specs.declared.stored.Push.TheVariants as push
 use Rattle.ocpi_types.specs.declared.stored.Reply.{Reply}
+use Rattle.ocpi_types.specs.declared.words.AuthMethod.TheVariants as how
 use Rattle.ocpi_types.specs.declared.words.CommandResultType.TheVariants.{Accepted}
 use Rattle.ocpi_types.specs.declared.words.SessionStatus.TheVariants.{Pending}
 use Rattle.session_state.specs.Pasts.{IsSame}
 use Rattle.session_book.specs.Numbers.{id_key}
+use Rattle.session_tables.specs.Beginnings.{cdr_token_of}
 use Rattle.outbox.specs.declared.push_book.Outgoing.{Outgoing}
 use Rattle.operator_rows.specs.State.{Rows, State, opening}
 use Rattle.operator_rows.specs.Sound.{IsConsistent}
@@ -48,13 +51,15 @@ pub record IsGivenId (kind : OwnIdKind) (party : List ℕ) (last : ℕ) (id : Li
   pub given : number ≤ last
   pub id_is : id ≡ own_id_text kind party number
 
--- each session and each charge detail record stands under its id, which is that of a number that was given; and different numbers that
--- were given have different ids, also without case
+-- each session and each charge detail record stands under its id, which is that of a number that was given; no number beyond the last
+-- is given; and different numbers that were given have different ids, also without case
 pub record HaveGivenIds (t : State) : Type 0 where
   pub sessions : (id : List ℕ) (v : Session) → get t.rows.charged.sessions id ≡ Some v →
       (id ≡ key v.id) × IsGivenId own.Session t.party t.rows.charged.last_session v.id
   pub cdrs : (id : List ℕ) (x : Cdr) → get t.rows.charged.cdrs id ≡ Some x →
       (id ≡ key x.id) × IsGivenId own.Cdr t.party t.rows.charged.last_cdr x.id
+  pub sessions_within : t.rows.charged.last_session ≤ max_whole
+  pub cdrs_within : t.rows.charged.last_cdr ≤ max_whole
   pub sessions_differ : (m n : ℕ) → m ≤ t.rows.charged.last_session → n ≤ t.rows.charged.last_session →
       id_key own.Session t.party m ≡ id_key own.Session t.party n → m ≡ n
   pub cdrs_differ : (m n : ℕ) → m ≤ t.rows.charged.last_cdr → n ≤ t.rows.charged.last_cdr →
@@ -155,7 +160,7 @@ abbrev pub VersionsArePushed : Type 0
 VersionsArePushed = (line : SiteLine) (es : List Event) (t : State) → IsOfParty line → Run (opening line) es t → AreHandedOver es t
 
 -- one event of the run gives the start of that number of a provider the result ACCEPTED, and begins a session for the provider with the
--- start's reference
+-- start's token and its reference
 pub record BeganIn (es : List Event) (p : List ℕ) (n : ℕ) (c : StartSession) : Type 0 where
   pub event : Event
   pub happened : Contains es event
@@ -164,6 +169,8 @@ pub record BeganIn (es : List Event) (p : List ℕ) (n : ℕ) (c : StartSession)
   pub begins : Puts event (row.Session session)
   pub first : session.status ≡ Pending
   pub of_provider : key session.cdr_token.party ≡ p
+  pub token_is : session.cdr_token ≡ cdr_token_of c.token
+  pub method_is : session.auth_method ≡ how.Command
   pub reference_is : session.authorization_reference ≡ c.authorization_reference
 
 -- a start that was answered in the run, and has the result ACCEPTED, began a session

@@ -2,9 +2,9 @@
 //! which is what `Operator::on_packet`, `on_charger`, `on_tick`, `on_service` and `restart` do.
 
 ghost use Rattle.operator_laws.specs.AsNode.{StepsAreNodeSteps, RunsAreNodeRuns, PacketsAreAddressed, PushesWereSent};
-ghost use Rattle.operator_laws.specs.Made.{ReservationsAreMade, OpenCommandsCame};
+ghost use Rattle.operator_laws.specs.Made.{OpenCommandsCame, OpenedCommandsCame, RepliesWereGiven, ReservationsAreMade};
 ghost use Rattle.operator_laws.specs.Replied.{AcceptedIsOpenOrSettled, CancellationsAreMarked, ReservationsAreAskedFor, ReservationsAreMarked, ResultsArePosted, SpentStays};
-ghost use Rattle.operator_laws.specs.Laws.{AlwaysConsistent, OneStart, SentRepliesAreKept, RepliesStay, RepliesAnswer, ResultsStay, Numbered, RequestsAgree, PushesStand, SentResultsAreKept, MarksNeverFall, ReservationsAreNewer, ReferencesHaveOneCarrier, CarriedReferencesAreSpent};
+ghost use Rattle.operator_laws.specs.Laws.{AlwaysConsistent, OneStart, SentRepliesAreKept, RepliesStay, ResultsStay, Numbered, RequestsAgree, PushesStand, SentResultsAreKept, MarksNeverFall, ReservationsAreNewer, ReferencesHaveOneCarrier, CarriedReferencesAreSpent};
 
 /// Each EVSE has at most one claim, among open starts, sessions and reservations; each open command is of a provider of the site, and
 /// has a reply and no result; each command that has a result has a reply; what claims an EVSE names one of the site; each push is to a
@@ -41,9 +41,10 @@ pub fn replies_stay()
     ensures { RepliesStay }
 {}
 
-/// Each kept reply answers a request that came: a response a command, and an acknowledgement a token.
-pub fn replies_answer()
-    ensures { RepliesAnswer }
+/// Each kept reply was given by one event, to a request that came in that event and that it answers: a response to a command, and an
+/// acknowledgement to a token. Up to that event no reply was kept for the request.
+pub fn replies_were_given()
+    ensures { RepliesWereGiven }
 {}
 
 /// A result is kept for good.
@@ -122,6 +123,11 @@ pub fn reservations_are_made()
 /// An open command was open before, or is the command that came under its number.
 pub fn open_commands_came()
     ensures { OpenCommandsCame }
+{}
+
+/// A command that an event opens, whether or not it is open still, came in that event under its number, and was answered.
+pub fn opened_commands_came()
+    ensures { OpenedCommandsCame }
 {}
 
 /// Each event of an operator is a step of a node.

@@ -36,7 +36,7 @@ pub fn versions_are_pushed()
     ensures { VersionsArePushed }
 {}
 
-/// A start whose result is ACCEPTED began a session for its provider, with its reference.
+/// A start whose result is ACCEPTED began a session for its provider, with its token and its reference.
 pub fn accepted_starts_have_sessions()
     ensures { AcceptedStartsHaveSessions }
 {}

@@ -4,7 +4,7 @@
 ghost use Rattle.provider_laws.specs.Laws.{AlwaysConsistent, RepliesStay, RepliesAnswer, Numbered, PacketsAreAddressed, SentRepliesAreKept, RequestsAgree};
 ghost use Rattle.provider_laws.specs.Held.{HeldSessionsCame, HeldSessionsRise, AcknowledgedSessionsAreHeld, HeldCdrsCame, HeldCdrsStay, OneCdrPerSession, AcknowledgedCdrsAreHeld, SettlementsAreTaken, TakenCdrsAreHeld, CdrsAreTakenOnce, SentAcknowledgementsHold};
 ghost use Rattle.provider_laws.specs.Commands.{CommandsStay, SentCommandsStand, AnswersCame, ResultsCame, UrlsAreOwn, UrlsHaveOneNumber};
-ghost use Rattle.provider_laws.specs.References.{ReferencesNeverFall, ReferencesHaveOneCarrier};
+ghost use Rattle.provider_laws.specs.References.{ReferencesNeverFall, ReferencesHaveOneCarrier, ReferencesAreOwn};
 ghost use Rattle.provider_laws.specs.AsNode.{StepsAreNodeSteps, RunsAreNodeRuns};
 
 use provider_rows::stays_consistent;
@@ -116,9 +116,14 @@ pub fn references_never_fall()
     ensures { ReferencesNeverFall }
 {}
 
-/// Each reference belongs to one command or to one kept authorization, and so to one operator.
+/// Each reference belongs to one command or to one kept authorization, and so to one operator, also without case.
 pub fn references_have_one_carrier()
     ensures { ReferencesHaveOneCarrier }
+{}
+
+/// Each reference that a command or a kept authorization carries is that of a number which the counter of references gave.
+pub fn references_are_own()
+    ensures { ReferencesAreOwn }
 {}
 
 /// Each event of a provider is a step of a node.

@@ -15,3 +15,4 @@ pub mod Messages
 pub mod Sending
 pub mod Pushing
 pub mod Delivering
+pub mod Currencies

@@ -57,3 +57,11 @@ SessionsAreBilledOnce = (line : SiteLine) (es : List Event) (t : State) → IsOf
 -- a charge detail record stays for good, unchanged
 abbrev pub RecordsStay : Type 0
 RecordsStay = (s t : State) (es : List Event) → IsConsistent s → Run s es t → (id : List ℕ) (x : Cdr) → get s.rows.charged.cdrs id ≡ Some x → get t.rows.charged.cdrs id ≡ Some x
+
+-- each session and each charge detail record is in the currency of the site
+pub record AreInCurrency (t : State) : Type 0 where
+  pub sessions : (id : List ℕ) (v : Session) → stored t id ≡ Some v → v.currency ≡ t.site.currency
+  pub cdrs : (id : List ℕ) (x : Cdr) → get t.rows.charged.cdrs id ≡ Some x → x.currency ≡ t.site.currency
+
+abbrev pub CurrenciesAreOfSite : Type 0
+CurrenciesAreOfSite = (line : SiteLine) (es : List Event) (t : State) → IsOfParty line → Run (opening line) es t → AreInCurrency t

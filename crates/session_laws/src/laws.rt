@@ -3,7 +3,7 @@
 //! do.
 
 ghost use Rattle.session_laws.specs.Begun.{SessionsBegan, SessionsBeginAsAsked};
-ghost use Rattle.session_laws.specs.Bills.{RecordsAreOfCompletedSessions, RecordsStay, SessionsAreBilledOnce};
+ghost use Rattle.session_laws.specs.Bills.{CurrenciesAreOfSite, RecordsAreOfCompletedSessions, RecordsStay, SessionsAreBilledOnce};
 ghost use Rattle.session_laws.specs.Delivered.{NewestVersionsArePushed};
 ghost use Rattle.session_laws.specs.Ids.{IdsAreGiven};
 ghost use Rattle.session_laws.specs.Sent.{SentVersionsArePast};
@@ -41,6 +41,12 @@ pub fn records_are_of_completed_sessions()
 /// there is no other record. A second bill where a report is repeated, or one for a session that was INVALID, would break this.
 pub fn sessions_are_billed_once()
     ensures { SessionsAreBilledOnce }
+{}
+
+/// From the opening on, each session and each charge detail record is in the currency of the site. A bill in a currency of its token's
+/// provider would break this.
+pub fn currencies_are_of_site()
+    ensures { CurrenciesAreOfSite }
 {}
 
 /// A charge detail record stays for good, unchanged. A record that a later one replaces would break this.

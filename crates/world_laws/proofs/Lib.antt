@@ -1,1 +1,14 @@
+pub mod Setups
 pub mod NodeRuns
+pub mod Newest
+pub mod Senders
+pub mod Acknowledged
+pub mod Agreeing
+pub mod Reserving
+pub mod Later
+pub mod PastOrder
+pub mod Holding
+pub mod Gathering
+pub mod Billing
+pub mod Owing
+pub mod Starting

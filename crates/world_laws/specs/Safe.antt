@@ -1,8 +1,7 @@
 -- A world is safe: no EVSE has two claims, no authorization reference starts two sessions, each session goes on in order, what a provider
 -- holds of it is what the operator had, and each session is billed once and owed once.
-use Rattle.std.specs.Prelude.{◌≡◌, ◌≢◌, ◌↔◌, ℕ, ℤ, List, Option, Some, None, map, Contains, last_or}
-use Rattle.std.specs.Int.{pos}
-use Rattle.std.specs.List.{AllPairs}
+use Rattle.std.specs.Prelude.{◌≡◌, ◌≢◌, ◌↔◌, ℕ, ℤ, List, Option, Some, None, map, Contains, pos}
+use Rattle.std.specs.List.{AllPairs, last_or}
 use Rattle.std.specs.FinMap.{get, values}
 use Rattle.ocpi_text.specs.Text.{key}
 use Rattle.ocpi_types.specs.declared.cdrs.Cdr.{Cdr}
@@ -55,17 +54,17 @@ pub record BillsOnce (p : Place) (s : operator.State) : Type 0 where
   pub once : (i j : List ℕ) (x y : Cdr) → get s.rows.charged.cdrs i ≡ Some x → get s.rows.charged.cdrs j ≡ Some y → key x.session_id ≡ key y.session_id → i ≡ j
 
 -- the sessions of an operator of which the provider holds a charge detail record, each once, in their last versions
-pub record AreBilled (w : World) (p o : List ℕ) (operator : Place) (versions : List Session) : Type 0 where
-  pub each : (v : Session) → Contains versions v ↔ ((id : List ℕ) × (x : Cdr) × HoldsCdr w p o id x × EndsAs operator (key x.session_id) v)
+pub record AreBilled (w : World) (p o : List ℕ) (place : Place) (versions : List Session) : Type 0 where
+  pub each : (v : Session) → Contains versions v ↔ ((id : List ℕ) × (x : Cdr) × HoldsCdr w p o id x × EndsAs place (key x.session_id) v)
   pub once : AllPairs (λ (v w : Session). key v.id ≢ key w.id) versions
 
 abbrev pub cost_of : Session → ℤ
 cost_of v = elim v.total_cost [ None ↦ pos 0 | Some cost ↦ cost.excl_vat ]
 
 -- what is owed in the operator's currency is the sum of the costs of those sessions, and in another currency nothing
-pub record OwesForEach (w : World) (p o : List ℕ) (operator : Place) (site : operator.State) (t : provider.State) : Type 0 where
+pub record OwesForEach (w : World) (p o : List ℕ) (place : Place) (site : operator.State) (t : provider.State) : Type 0 where
   pub versions : List Session
-  pub billed : AreBilled w p o operator versions
+  pub billed : AreBilled w p o place versions
   pub sum : owed (o, site.site.currency) (values t.rows.inbox.cdrs) ≡ total (map cost_of versions)
   pub other : (currency : List ℕ) → currency ≢ site.site.currency → owed (o, currency) (values t.rows.inbox.cdrs) ≡ pos 0
 

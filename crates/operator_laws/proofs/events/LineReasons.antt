@@ -43,7 +43,7 @@ use Rattle.operator_tables.specs.Outcomes.{IsAbout, Tells}
 use Rattle.operator_tables.proofs.Lines.{all_tell}
 use Rattle.session_tables.specs.declared.beginning.Beginning.{Beginning}
 use Rattle.session_tables.specs.declared.shown.Shown.TheVariants as shows
-use Rattle.session_tables.specs.Beginnings.{begins}
+use Rattle.session_tables.specs.Beginnings.{begins, cdr_token_of}
 use Rattle.session_tables.specs.Answers.{BeginsByAnswer, Decided}
 use Rattle.session_tables.specs.Moves.{Makes}
 use Rattle.session_tables.specs.Swipes as swipes
@@ -260,7 +260,15 @@ module _ (s : State) (i : Input) (acts : List Act) where
     started_for puts a is =
         let both : command.StartSession h.begins.start ≡ command.StartSession a = sym h.begins.command_is ∙ is in
         let same : h.begins.start ≡ a = cc in
-        record { session = first; puts = puts; of_provider = started_provider; reference_is = started_reference ∙ ap (λ (z : StartSession). z.authorization_reference) same; first = refl }
+        record {
+          session = first;
+          puts = puts;
+          of_provider = started_provider;
+          token_is = ap (λ (z : Beginning). z.token) h.begins.begins_is ∙ ap (λ (z : StartSession). cdr_token_of z.token) same;
+          method_is = ap (λ (z : Beginning). z.auth_method) h.begins.begins_is;
+          reference_is = started_reference ∙ ap (λ (z : StartSession). z.authorization_reference) same;
+          first = refl;
+        }
 
     started_reason : (begun : List Act) → IsBegun s at (s.rows.request + 1) number b begun → acts ≡ numbered_sessions number ∷ (ends_acts at s.rows.commands.pending s.rows.request (e ∷ []) ++ begun) → AreReasoned
     started_reason begun is_begun is =

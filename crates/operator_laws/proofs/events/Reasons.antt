@@ -27,10 +27,12 @@ use Rattle.ocpi_types.specs.declared.stored.OpenCommand.{OpenCommand}
 use Rattle.ocpi_types.specs.declared.stored.Push.{Push}
 use Rattle.ocpi_types.specs.declared.stored.Push.TheVariants as push
 use Rattle.ocpi_types.specs.declared.stored.Reply.{Reply}
+use Rattle.ocpi_types.specs.declared.words.AuthMethod.TheVariants as how
 use Rattle.ocpi_types.specs.declared.words.CommandResultType.{CommandResultType}
 use Rattle.ocpi_types.specs.declared.words.CommandResultType.TheVariants.{Accepted}
 use Rattle.ocpi_types.specs.declared.words.SessionStatus.TheVariants.{Completed, Pending}
 use Rattle.session_state.specs.Records.{cdr_of}
+use Rattle.session_tables.specs.Beginnings.{cdr_token_of}
 use Rattle.outbox.specs.Outbox.{IsTo}
 use Rattle.outbox.specs.Pushes.{subject, subject_of}
 use Rattle.outbox.specs.declared.push_book.Outgoing.{Outgoing}
@@ -111,6 +113,8 @@ module _ (s : State) (i : Input) (acts : List Act) where
     pub session : Session
     pub puts : Makes (Put (row.Session session))
     pub of_provider : key session.cdr_token.party ≡ p
+    pub token_is : session.cdr_token ≡ cdr_token_of c.token
+    pub method_is : session.auth_method ≡ how.Command
     pub reference_is : session.authorization_reference ≡ c.authorization_reference
     pub first : session.status ≡ Pending
 

@@ -1,8 +1,7 @@
 -- An event that answers a request decides it: its packet, its command and its reply are those of the decision.
 use Rattle.std.proofs.Common.{◌≡◌, ◌⊎◌, ℕ, List, inl, inr, sym, ap, subst, ◌∙◌}
 use Rattle.std.specs.Prelude.{Option, Some, None, Contains}
-use Rattle.std.specs.FinMap.{get, get-empty}
-use Rattle.tables.specs.Keys.{text_number_cmp}
+use Rattle.std.specs.FinMap.{get}
 use Rattle.tables.proofs.Elements.{in_front}
 use Rattle.tables.proofs.Options.{not_both}
 use Rattle.ocpi_text.specs.Text.{key}
@@ -16,17 +15,15 @@ use Rattle.ocpi_types.specs.declared.stored.Reply.TheVariants as reply
 use Rattle.ocpi_types.specs.declared.replies.CommandResponse.TheVariants as response
 use Rattle.ocpi_types.specs.declared.words.CommandResponseType.{CommandResponseType}
 use Rattle.node_steps.specs.Acts.{Act, all_changes}
-use Rattle.node_laws.proofs.Runs.{made_runs}
-use Rattle.operator_rows.specs.State.{State, opening}
+use Rattle.operator_rows.specs.State.{State}
 use Rattle.operator_tables.proofs.Bodies.{same_command}
 use Rattle.operator_tables.proofs.Lines.{all_tell}
 use Rattle.operator_tables.specs.Outcomes.{Tells}
 use Rattle.operator_steps.specs.Acts.{refusal, reply_of, responded}
-use Rattle.operator_steps.specs.Events.{Arrives, Event, Happens, Input}
-use Rattle.operator_laws.specs.Laws.{IsReplyTo, RepliesAnswer}
+use Rattle.operator_steps.specs.Events.{Arrives, Event, Input}
 use Rattle.operator_laws.specs.Replied.{AnswersIt}
 use Rattle.operator_laws.proofs.events.Causes.{Answering, DecidesIt}
-use Rattle.operator_laws.proofs.events.Doing.{Does, does, put_stands, stood_or_put}
+use Rattle.operator_laws.proofs.events.Doing.{Does, put_stands, stood_or_put}
 use Rattle.operator_laws.proofs.events.Keeping.{orderly_of}
 
 -- a decision puts its reply
@@ -71,27 +68,6 @@ module _ (s t : State) (e : Event) (d : Does s e t) where
   -- the command of the decision is the one that the packet carries
   pub command_is : (q : Packet) (r : Reply) (w : WasDecided q r) (c : Command) → q.body ≡ body_of_command c → w.it.command ≡ c
   command_is q r w c is = same_command w.it.command c (sym w.it.it.carries ∙ ap (λ (z : Packet). z.body) w.packet_is ∙ is)
-
--- the event brings the request of that party and number, which the reply answers
-record Brings (e : Event) (p : List ℕ) (n : ℕ) (r : Reply) : Type 0 where
-  at : ℕ
-  packet : Packet
-  arrives : e.input ≡ Arrives at packet
-  by : key packet.from ≡ p
-  number : packet.request ≡ n
-  answers : IsReplyTo r packet.body
-
-brought : (p : List ℕ) (n : ℕ) (r : Reply) (s t : State) (e : Event) → Happens s e t → get t.rows.commands.replies (p, n) ≡ Some r → (get s.rows.commands.replies (p, n) ≡ Some r) ⊎ Brings e p n r
-brought p n r s t e happens has = elim (kept_or_answered s t e (does s t e happens) p n r has) [
-  | inl old ↦ inl old
-  | inr h ↦ inr (record { at = h.replies.at; packet = h.replies.packet; arrives = h.replies.arrives; by = h.by; number = h.number; answers = subst (λ z. IsReplyTo z h.replies.packet.body) h.reply_is h.replies.answers })
-]
-
-pub replies_answer : RepliesAnswer
-replies_answer line es t run p n r has = elim (made_runs Happens (λ z. get z.rows.commands.replies (p, n) ≡ Some r) (λ e. Brings e p n r) (brought p n r) (opening line) t es run has) [
-  | inl old ↦ absurd (not_both r _ (get-empty text_number_cmp (p, n)) old)
-  | inr (e, i, b) ↦ (b.packet, (e, i, (b.at, b.arrives)), b.by, b.number, b.answers)
-]
 
 -- the word of a response of status 1000
 abbrev word_of : Reply → Option CommandResponseType

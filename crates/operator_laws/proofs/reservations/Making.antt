@@ -1,7 +1,8 @@
 -- What stands because a command made it, over runs: reservations, and open commands.
 use Rattle.std.proofs.Common.{◌≡◌, ◌⊎◌, ◌<◌, ℕ, List, [], ◌∷◌, inl, inr, refl, sym, ap, subst, ◌∙◌, arith}
-use Rattle.std.specs.Prelude.{Some}
+use Rattle.std.specs.Prelude.{Some, Contains}
 use Rattle.std.specs.FinMap.{get}
+use Rattle.tables.proofs.Elements.{in_none}
 use Rattle.tables.proofs.Options.{not_both}
 use Rattle.ocpi_text.specs.Text.{key}
 use Rattle.ocpi_types.specs.Stored.{body_of_command}
@@ -17,13 +18,14 @@ use Rattle.ocpi_types.specs.declared.stored.Reservation.{Reservation}
 use Rattle.reservation_book.specs.Refusals.{IsInTime}
 use Rattle.node_laws.proofs.Runs.{made_runs}
 use Rattle.operator_rows.specs.State.{State}
+use Rattle.operator_rows.proofs.RowChanges.{of_cons}
 use Rattle.operator_steps.specs.Acts.{reply_of}
 use Rattle.operator_steps.specs.Events.{Arrives, Event, Happens}
 use Rattle.operator_laws.specs.Laws.{Run}
 use Rattle.operator_laws.specs.Replied.{AnswersIt, IsMarked, ReservationsAreAskedFor}
-use Rattle.operator_laws.specs.Made.{IsAnsweredIn, ReservationsAreMade, IsCommandOf, OpenCommandsCame}
+use Rattle.operator_laws.specs.Made.{IsAnsweredIn, ReservationsAreMade, IsCommandOf, OpenCommandsCame, OpenedCommandsCame}
 use Rattle.operator_laws.proofs.events.Causes.{Opening, Reserving}
-use Rattle.operator_laws.proofs.events.Doing.{Does, does, stood_or_put}
+use Rattle.operator_laws.proofs.events.Doing.{Does, does, put_by, stood_or_put}
 use Rattle.operator_laws.proofs.replies.Answering.{answers_now}
 use Rattle.operator_laws.proofs.reservations.Marks.{above_unless, cancellations_are_marked}
 use Rattle.operator_laws.proofs.standing.AtAllTimes.{marks_never_fall, replies_stay}
@@ -76,10 +78,10 @@ reservations_are_asked_for s t es run p id r has = elim (made_runs Happens (λ z
 
 -- what the first event of a run answers, or a later one
 module _ (s u t : State) (e : Event) (es : List Event) (q : Packet) (r : Reply) (happens : Happens s e u) where
-  answered_here : Run u es t → AnswersIt s e u q r → IsAnsweredIn s (e ∷ es) t q r
+  pub answered_here : Run u es t → AnswersIt s e u q r → IsAnsweredIn s (e ∷ es) t q r
   answered_here run a = record { before = s; after = u; earlier = []; event = e; later = es; reached = refl; happens = happens; left = run; all = refl; answers = a }
 
-  answered_later : IsAnsweredIn u es t q r → IsAnsweredIn s (e ∷ es) t q r
+  pub answered_later : IsAnsweredIn u es t q r → IsAnsweredIn s (e ∷ es) t q r
   answered_later d = record {
     before = d.before;
     after = d.after;
@@ -169,25 +171,45 @@ pub opened_now : (s t : State) (e : Event) (d : Does s e t) (p : List ℕ) (n : 
     (get s.rows.commands.pending (p, n) ≡ Some o) ⊎ Opening s e.input d.acts p n o
 opened_now s t e d p n o has = elim (stood_or_put s t e d (row.Pending p n o) tt has) [ inl put ↦ inr (d.caused (Put (row.Pending p n o)) put) | inr old ↦ inl old ]
 
+-- the first event of a run answers the command that it opens
+opened_here : (s u t : State) (e : Event) (es : List Event) → Happens s e u → Run u es t → (p : List ℕ) (n : ℕ) (o : OpenCommand) → (d : Does s e u) → Opening s e.input d.acts p n o →
+    IsCommandOf s (e ∷ es) t p n o.command
+opened_here s u t e es first rest p n o d h =
+    let r = reply_of h.decides.at h.decides.decision in
+    record {
+      packet = h.decides.packet;
+      reply = r;
+      answered = answered_here s u t e es h.decides.packet r first rest (answers_now s u e d h.decides);
+      carries = h.decides.it.carries ∙ ap body_of_command (sym h.command_is);
+      by = h.by;
+      number = h.number;
+    }
+
+-- and one that a later event answers came in the whole run
+opened_later : (s u t : State) (e : Event) (es : List Event) → Happens s e u → (p : List ℕ) (n : ℕ) (o : OpenCommand) → IsCommandOf u es t p n o.command → IsCommandOf s (e ∷ es) t p n o.command
+opened_later s u t e es first p n o later =
+    record { packet = later.packet; reply = later.reply; answered = answered_later s u t e es later.packet later.reply first later.answered; carries = later.carries; by = later.by; number = later.number }
+
 open_runs : (es : List Event) (s t : State) → Run s es t → (p : List ℕ) (n : ℕ) (o : OpenCommand) → get t.rows.commands.pending (p, n) ≡ Some o →
     (get s.rows.commands.pending (p, n) ≡ Some o) ⊎ IsCommandOf s es t p n o.command
 open_runs [] s t run p n o has = inl (ap (λ (z : State). get z.rows.commands.pending (p, n)) (sym run) ∙ has)
 open_runs (e ∷ es) s t (u, first, rest) p n o has = elim (open_runs es u t rest p n o has) [
   | inl before ↦ elim (opened_now s u e (does s u e first) p n o before) [
     | inl old ↦ inl old
-    | inr h ↦
-        let r = reply_of h.decides.at h.decides.decision in
-        inr (record {
-          packet = h.decides.packet;
-          reply = r;
-          answered = answered_here s u t e es h.decides.packet r first rest (answers_now s u e (does s u e first) h.decides);
-          carries = h.decides.it.carries ∙ ap body_of_command (sym h.command_is);
-          by = h.by;
-          number = h.number;
-        })
+    | inr h ↦ inr (opened_here s u t e es first rest p n o (does s u e first) h)
   ]
-  | inr later ↦ inr (record { packet = later.packet; reply = later.reply; answered = answered_later s u t e es later.packet later.reply first later.answered; carries = later.carries; by = later.by; number = later.number })
+  | inr later ↦ inr (opened_later s u t e es first p n o later)
 ]
 
 pub open_commands_came : OpenCommandsCame
 open_commands_came s t es run p n o has = open_runs es s t run p n o has
+
+pub opened_commands_came : OpenedCommandsCame
+opened_commands_came s t [] run e i p n o puts = absurd (in_none e i)
+opened_commands_came s t (x ∷ es) (u, first, rest) e i p n o puts =
+    let d = does s u x first in
+    elim (of_cons x es e i) [
+      | inl here ↦ opened_here s u t x es first rest p n o d
+          (d.caused (Put (row.Pending p n o)) (put_by s u x d (row.Pending p n o) tt (subst (λ (z : Event). Contains z.changes (Put (row.Pending p n o))) (sym here) puts)))
+      | inr later ↦ opened_later s u t x es first p n o (opened_commands_came u t es rest e later p n o puts)
+    ]

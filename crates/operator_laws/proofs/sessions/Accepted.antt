@@ -43,6 +43,8 @@ later_began es fs p n c within h = record {
   begins = h.begins;
   first = h.first;
   of_provider = h.of_provider;
+  token_is = h.token_is;
+  method_is = h.method_is;
   reference_is = h.reference_is;
 }
 
@@ -56,6 +58,8 @@ module _ (p : List ℕ) (n : ℕ) (c : StartSession) where
     begins = d.to_acts (Put (row.Session b.session)) b.puts;
     first = b.first;
     of_provider = b.of_provider;
+    token_is = b.token_is;
+    method_is = b.method_is;
     reference_is = b.reference_is;
   }
 

@@ -118,6 +118,8 @@ ids_are_given line es t own_party run =
     record {
       sessions = λ id v has. (h.fine.sound.charged_keyed.sessions id v has, h.sessions id v has);
       cdrs = λ id x has. (h.fine.sound.charged_keyed.cdrs id x has, h.cdrs id x has);
+      sessions_within = h.sessions_counted;
+      cdrs_within = h.cdrs_counted;
       sessions_differ = λ m n first second same. one_number t h.fine own.Session t.rows.charged.last_session m n h.sessions_counted first second same;
       cdrs_differ = λ m n first second same. one_number t h.fine own.Cdr t.rows.charged.last_cdr m n h.cdrs_counted first second same;
     }

@@ -1,0 +1,74 @@
+-- The currency of sessions and charge detail records: a session begins in that of its site and keeps it, and a record has its session's.
+use Rattle.std.proofs.Common.{◌≡◌, ℕ, ℤ, List, inl, inr, sym, ap, ◌∙◌}
+use Rattle.std.specs.FinMap.{get-empty}
+use Rattle.tables.specs.Keys.{text_cmp}
+use Rattle.tables.proofs.Options.{none_some}
+use Rattle.ocpi_text.specs.Text.{key}
+use Rattle.ocpi_types.specs.declared.cdrs.Cdr.{Cdr}
+use Rattle.ocpi_types.specs.declared.events.ChargerEvent.{ChargerEvent}
+use Rattle.ocpi_types.specs.declared.events.ChargerEvent.TheVariants as event
+use Rattle.ocpi_types.specs.declared.sessions.Session.{Session}
+use Rattle.ocpi_types.specs.declared.site.Site.{Site}
+use Rattle.ocpi_types.specs.declared.site.SiteLine.{SiteLine}
+use Rattle.session_tables.specs.Moves.{Ends, Makes}
+use Rattle.node_laws.proofs.Runs.{kept_runs}
+use Rattle.operator_rows.specs.State.{State, opening}
+use Rattle.operator_rows.specs.Sound.{IsConsistent}
+use Rattle.operator_rows.proofs.KeepingTimes.{opening_consistent}
+use Rattle.operator_steps.specs.Events.{Event, Happens}
+use Rattle.session_laws.specs.Bills.{AreInCurrency, CurrenciesAreOfSite}
+use Rattle.session_laws.proofs.Billing.{puts_records, record_from, session_from}
+use Rattle.session_laws.proofs.Caused.{session_cause}
+use Rattle.session_laws.proofs.Causes.{Begun, Moved, SessionCause}
+use Rattle.session_laws.proofs.Doing.{Does, does}
+
+abbrev currency_of : Session → List ℕ
+currency_of v = v.currency
+
+ends_keep : (at : ℕ) (v w : Session) → Ends at v w → w.currency ≡ v.currency
+ends_keep at v w (inl (s, is)) = ap currency_of is
+ends_keep at v w (inr (s, is)) = ap currency_of is
+
+-- what a report makes of a version has its currency
+makes_keep : (price : ℤ) (at : ℕ) (report : ChargerEvent) (v w : Session) → Makes price at report v w → w.currency ≡ v.currency
+makes_keep price at (event.Starts e) v w (s, is) = ap currency_of is
+makes_keep price at (event.Meter e kwh) v w (s, can, is) = ap currency_of is
+makes_keep price at (event.Stops e) v w ends = ends_keep at v w ends
+makes_keep price at (event.Fault e) v w ends = ends_keep at v w ends
+makes_keep price at (event.Accepts p n) v w none = absurd none
+makes_keep price at (event.Refuses p n) v w none = absurd none
+makes_keep price at (event.Unlocked p n) v w none = absurd none
+makes_keep price at (event.Swipe e k u t) v w none = absurd none
+
+module _ (s t : State) (e : Event) (fine : IsConsistent s) (d : Does s e t) (h : AreInCurrency s) where
+  site_is : s.site.currency ≡ t.site.currency
+  site_is = ap (λ (z : Site). z.currency) (sym d.site)
+
+  -- a version that the event puts
+  put_in : (v : Session) → SessionCause s e.input d.acts v → v.currency ≡ t.site.currency
+  put_in v (Begun at n b how above within is only) = ap currency_of is ∙ site_is
+  put_in v (Moved at report reports m is) =
+      ap currency_of is ∙ makes_keep s.site.price at report m.before m.after m.moves.makes ∙ h.sessions (key m.before.id) m.before m.moves.here.stands ∙ site_is
+
+  stays_in : AreInCurrency t
+  stays_in = record {
+    sessions = λ id v has. elim (session_from s t e fine d id v has) [
+      | inl old ↦ h.sessions id v old ∙ site_is
+      | inr i ↦ put_in v (session_cause s t e fine d v i)
+    ];
+    cdrs = λ id x has. elim (record_from s t e fine d id x has) [
+      | inl old ↦ h.cdrs id x old ∙ site_is
+      | inr i ↦ (let (v, put, r) = (puts_records s t e fine d).only x i in ap (λ (z : Cdr). z.currency) r.record_is ∙ put_in v (session_cause s t e fine d v put))
+    ];
+  }
+
+none_in : (line : SiteLine) → AreInCurrency (opening line)
+none_in line = record {
+  sessions = λ id v has. none_some v (sym (get-empty text_cmp id) ∙ has);
+  cdrs = λ id x has. none_some x (sym (get-empty text_cmp id) ∙ has);
+}
+
+pub currencies_are_of_site : CurrenciesAreOfSite
+currencies_are_of_site line es t own run =
+    (kept_runs Happens (λ z. IsConsistent z × AreInCurrency z) (λ a b e h before. let d = does a b e before.0 h in (d.consistent, stays_in a b e before.0 d before.1)) (opening line) t es run
+    (opening_consistent line own, none_in line)).1
