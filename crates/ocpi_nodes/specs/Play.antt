@@ -15,7 +15,7 @@ use Rattle.node_steps.specs.FaultText.{fault_text as node_fault_text}
 use Rattle.world_steps.specs.Steps.{Gives, Outcome}
 use Rattle.world_steps.specs.Steps as outcome
 use Rattle.world_steps.specs.World.{World, opened}
-use Rattle.world.specs.Seen.{owed_by}
+use Rattle.world.specs.State.{owed_by}
 use Rattle.line_runs.specs.declared.outcome.Ran.{Ran}
 use Rattle.line_runs.specs.declared.outcome.Ran.TheVariants.{Whole, WithRefusals}
 use Rattle.line_runs.specs.declared.run.Turn.{Turn}

@@ -9,7 +9,8 @@ ghost use Rattle.ocpi_types.specs.declared.rows.Change.{Change as ChangeOf};
 ghost use Rattle.ocpi_types.specs.declared.setup.Node.{Node as NodeOf};
 ghost use Rattle.ocpi_nodes.specs.Play.{EventTurn, PlayEndGives, PlayLineGives, SetupTurn, debt_line, debt_lines, debts_of, outcome_lines, owed_lines, played_from, turn_of};
 ghost use Rattle.ocpi_text.specs.Text.{key};
-ghost use Rattle.world.specs.Seen.{owed_by, told};
+ghost use Rattle.world.specs.Seen.{told};
+ghost use Rattle.world.specs.State.{owed_by};
 ghost use Rattle.line_runs.specs.Run.{Begins, Outputs, ReadsFewLines, StopsReading};
 
 use crate::writing::{refuse, write_packets};

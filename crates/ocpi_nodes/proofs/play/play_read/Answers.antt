@@ -1,12 +1,16 @@
-use Rattle.std.proofs.Common.{refl, sym, subst, List, Some}
+use Rattle.std.proofs.Common.{◌∙◌, refl, sym, ap, subst, List, Some}
 use Rattle.std.proofs.lemmas.Result.{IfOk-weaker}
 use Rattle.ocpi_types.specs.declared.packet.Packet.{Packet}
+use Rattle.node_steps.specs.FaultText.{fault_text}
+use Rattle.node_steps.specs.declared.fault.NodeFault.TheVariants.{Memory}
 use Rattle.world.specs.Seen.{told}
+use Rattle.world.specs.State.{WorldState}
 use Rattle.world_steps.specs.Steps.{Gives}
-use Rattle.ocpi_nodes.specs.Play.{EventTurn, Happened, Playing, outcome_lines}
+use Rattle.ocpi_nodes.specs.Play.{EventTurn, Happened, Playing, Starved, outcome_lines}
+use Rattle.ocpi_nodes.specs.Writing.{refusal_line}
 use Rattle.ocpi_nodes.proofs.play.play_read.Goals as goal
 
-pub returns : goal.returns-in-Ok
+pub returns : goal.returns
 returns c =
     let before = c.played.inside.world.places in
     let after = c.step.new.self in
@@ -21,3 +25,9 @@ returns c =
       λ line is. subst (λ (now : Playing). EventTurn now line turn (outcome_lines o) (Some next)) c.played.view_is
           (Happened event is o after.places gives (r after.changes).0 refl refl),
     )) c.write_outcome.ensures
+
+pub returns-in_default : goal.returns-in_default
+returns-in_default c =
+    let playing : WorldState → Playing = λ world. record { setup = c.played.inside.setup; world = world.places } in
+    let unchanged = ap (λ world. Some (playing world)) c.in_default.ensures.err ∙ ap Some c.played.view_is in
+    (refusal_line (fault_text Memory), c.in_ok-refuse.ensures, λ line is. Starved c.args.event.now is refl refl unchanged)

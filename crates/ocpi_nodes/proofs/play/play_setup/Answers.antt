@@ -1,4 +1,4 @@
-use Rattle.std.proofs.Common.{[], Some, refl, sym, ap, string_bytes}
+use Rattle.std.proofs.Common.{refl}
 use Rattle.json_text.specs.Fault.{fault_text}
 use Rattle.ocpi_nodes.specs.Play.{NoSetup}
 use Rattle.ocpi_nodes.specs.Writing.{refusal_line}
