@@ -11,7 +11,7 @@ ghost use Rattle.world_steps.specs.Steps.{Gives, WorldRun};
 ghost use Rattle.world_steps.specs.World.{World as WorldOf, opened};
 
 use crate::finding::find;
-use crate::opening::open_all;
+use crate::opening::{nodes_of, open_all};
 use crate::past::Past;
 use crate::place::{Node, Place};
 use crate::planned::{Outcome, Planned, Sending, Told};
@@ -101,7 +101,7 @@ impl World {
     pub fn open(alloc: Global, setup: &Setup) -> Result<World, AllocError>
         ensures { IfOk result (λ w. w ≡ record { places = opened setup.now; changes = []; packets = [] }) }
     {
-        let places = open_all(alloc, setup.as_slice())?;
+        let places = open_all(alloc, nodes_of(setup))?;
         Ok(World {
             alloc,
             places,
