@@ -1,1 +1,4 @@
 pub mod Lists
+pub mod Delivering
+pub mod OpeningSetups
+pub mod Steps

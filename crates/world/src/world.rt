@@ -3,7 +3,7 @@
 ghost use Rattle.std.specs.Prelude.{◌≡◌, ◌≢◌, List, [], None, IfOk, OnErr, OnOk, drop};
 ghost use Rattle.ocpi_text.specs.Text.{key};
 ghost use Rattle.ocpi_types.specs.declared.events.Event.{Event as EventOf};
-ghost use Rattle.world.specs.Seen.{node_seen, place_seen, places_seen, told, told_in, versions_left};
+ghost use Rattle.world.specs.Seen.{node_seen, packets_sent, places_seen, told, told_in, versions_left};
 ghost use Rattle.world.specs.State.{owed_by, owed_of, past_by};
 ghost use Rattle.world_laws.specs.Later.{IsLater};
 ghost use Rattle.world_laws.specs.Laws.{IsReached, IsRight, IsSetup};
@@ -96,6 +96,54 @@ impl Place {
     }
 }
 
+/// The packets that a step sent.
+fn packets_of(places: &[Place], sending: Option<Sending>) -> &[Packet]
+    ensures { result.now ≡ packets_sent (places_seen places.now) sending }
+{
+    let Some(sending) = sending else {
+        return &[];
+    };
+    match places.get(sending.place) {
+        Some(place) => place.sent_from(sending.from),
+        None => &[],
+    }
+}
+
+/// All versions that a session of an operator ever had.
+fn past_among<'w>(places: &'w [Place], operator: &Party, session: CiKey<36>) -> Past<'w>
+    ensures { versions_left result ≡ past_by (places_seen places.now) operator.now session }
+{
+    for place in places {
+        if place.party.is_same(operator) {
+            return Past {
+                session,
+                versions: place.versions.as_slice(),
+            };
+        }
+    }
+    Past {
+        session,
+        versions: &[],
+    }
+}
+
+/// What a provider owes to an operator in a currency.
+fn owed_among(
+    places: &[Place],
+    provider: &Party,
+    operator: &Party,
+    currency: ShortText<3, 12>,
+) -> i128
+    ensures { result ≡ owed_by (places_seen places.now) provider.now (key operator.now, currency) }
+{
+    for place in places {
+        if place.party.is_same(provider) {
+            return place.owed(operator, currency);
+        }
+    }
+    0
+}
+
 impl World {
     /// The world of a setup before the first event. An error is want of memory.
     pub fn open(alloc: Global, setup: &Setup) -> Result<World, AllocError>
@@ -164,13 +212,7 @@ impl World {
     pub fn packets(&self) -> &[Packet]
         ensures { result.now ≡ self.now.packets }
     {
-        let Some(sending) = self.sending else {
-            return &[];
-        };
-        match self.places.as_slice().get(sending.place) {
-            Some(place) => place.sent_from(sending.from),
-            None => &[],
-        }
+        packets_of(self.places.as_slice(), self.sending)
     }
 
     /// The rows that the last step changed, in order. None, where the event of it was not stepped.
@@ -184,30 +226,14 @@ impl World {
     pub fn past(&self, operator: &Party, session: CiKey<36>) -> Past<'_>
         ensures { versions_left result ≡ past_by self.now.places operator.now session }
     {
-        for place in self.places.as_slice() {
-            if place.party.is_same(operator) {
-                return Past {
-                    session,
-                    versions: place.versions.as_slice(),
-                };
-            }
-        }
-        Past {
-            session,
-            versions: &[],
-        }
+        past_among(self.places.as_slice(), operator, session)
     }
 
     /// What a provider owes to an operator in a currency, in ten-thousandths: the sum of the costs of the operator's charge detail
-    /// records in that currency that it holds. 0, where there is no such provider.
+    /// records in that currency that it holds. 0, where there is no such provider. It takes no memory.
     pub fn settlement(&self, provider: &Party, operator: &Party, currency: ShortText<3, 12>) -> i128
         ensures { result ≡ owed_by self.now.places provider.now (key operator.now, currency) }
     {
-        for place in self.places.as_slice() {
-            if place.party.is_same(provider) {
-                return place.owed(operator, currency);
-            }
-        }
-        0
+        owed_among(self.places.as_slice(), provider, operator, currency)
     }
 }
