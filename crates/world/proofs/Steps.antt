@@ -1,12 +1,15 @@
 -- What comes of a plan, and one event of a world.
-use Rattle.std.proofs.Common.{◌≡◌, ◌≢◌, ℕ, List, [], ◌∷◌, ◌++◌, length, map, refl, sym, ap, subst, ◌∙◌}
-use Rattle.std.specs.Prelude.{Result, Ok, Err, None, Some, IfOk, IfErr, Option, option_map, slice_get, slice_set}
+use Rattle.std.proofs.Common.{◌≡◌, ◌≢◌, ℕ, List, [], ◌∷◌, ◌++◌, drop, get_or, length, map, refl, sym, ap, subst, ◌∙◌}
+use Rattle.std.specs.Prelude.{Result, Ok, Err, None, Some, IfOk, IfErr, OnErr, Option, option_map, slice_get, slice_set}
 use Rattle.std.specs.declared.alloc.AllocError.{AllocError}
-use Rattle.std.proofs.lemmas.List.{map-set}
-use Rattle.std.proofs.lemmas.Option.{slice_get-map}
+use Rattle.std.proofs.Math.Seq.{map-set_same}
+use Rattle.std.proofs.lemmas.List.{drop_at, map-set}
+use Rattle.std.proofs.lemmas.Option.{same_Some, slice_get-map, slice_get_read, slice_get_within}
+use Rattle.ocpi_text.specs.Text.{key}
 use Rattle.ocpi_types.specs.declared.events.Event.{Event}
 use Rattle.ocpi_types.specs.declared.events.EventKind.{EventKind}
 use Rattle.ocpi_types.specs.declared.events.EventKind.TheVariants as kind
+use Rattle.ocpi_types.specs.declared.rows.Change.{Change}
 use Rattle.node_laws.proofs.Runs.{run_join}
 use Rattle.node_steps.specs.Drafts.{step_of}
 use Rattle.node_steps.specs.declared.fault.NodeFault.{NodeFault}
@@ -22,13 +25,14 @@ use Rattle.provider_rows.specs.Steps as provider_rows
 use Rattle.provider_steps.specs.Events as provider
 use Rattle.provider_steps.specs.Moves as provider_moves
 use Rattle.world.specs.Deliveries.{IsPlaceOf}
-use Rattle.world.specs.Seen.{node_seen, place_seen, places_seen, told, told_in}
+use Rattle.world.specs.Seen.{node_seen, packets_sent, place_seen, places_seen, sent_from, told, told_in}
 use Rattle.world.specs.Works.{ComesOf, ComesOfFull, IsIdle, IsPlanned, IsWork, MayDo, changes_by, node_after, packets_by, place_after, versions_by}
 use Rattle.world.specs.declared.place.Place as declared
 use Rattle.world.specs.declared.planned.Outcome as outcomes
 use Rattle.world.specs.declared.planned.Outcome.TheVariants as outcome
 use Rattle.world.specs.declared.planned.Planned.{Planned}
 use Rattle.world.specs.declared.planned.Planned.TheVariants.{Acts, Idle}
+use Rattle.world.specs.declared.planned.Sending.{Sending}
 use Rattle.world.specs.declared.planned.Told.{Told}
 use Rattle.world.specs.declared.planned.Work.{Work}
 use Rattle.world.specs.declared.planned.Work.TheVariants as work
@@ -37,7 +41,7 @@ use Rattle.world_steps.specs.Network.{Input, OfOperator, OfProvider, OperatorInp
 use Rattle.world_steps.specs.Steps as steps
 use Rattle.world_steps.specs.Steps.{AtOperator, AtProvider, Does, Gives, IsForNone, Loses, NoNode, NodeEvent, NodeStep, NothingReaches, OperatorRefuses, Passes, PlaceStep, ProviderRefuses, Refuses, WorldRun, WorldStep, changes_of, input_of, packets_of, versions_of}
 use Rattle.world_steps.specs.World.{IsAt, NodeState, Operates, Place, Provides, World, opened}
-use Rattle.world_steps.proofs.Places.{of_mapped}
+use Rattle.world_steps.proofs.Places.{of_mapped, set_same}
 
 -- what an operator plans is what the event asks for, and its refusal is one of the event
 operator_came : (w : World) (party : List ℕ) (s : operator_state.State) (k : EventKind) (i : operator.Input) → OperatorInput w party k i → (r : Result FullPlan NodeFault) →
@@ -153,6 +157,32 @@ work_gives ps e i x y d at h is =
     (subst (PlaceStep p does.event) (sym is) (record { step = does.step; party = refl; sent = ap (λ (l : List _). p.sent ++ l) (sym does.packets); versions = ap (λ (l : List _). p.versions ++ l) (sym does.versions) }))
     (sym (ap (λ l. steps.Stepped l (changes_of does.event)) does.packets ∙ ap (steps.Stepped (packets_by d)) does.changes))
     (map-set place_seen ps i y)
+
+-- the place that was read is the party's
+pub place_here : (ps : List declared.Place) (party : List ℕ) (i : ℕ) (p x : declared.Place) → IsPlaceOf ps party i p → x ≡ get_or ps i x → IsPlaceOf ps party i x
+place_here ps party i p x at is =
+    let here = slice_get_read ps (length ps) i x refl (slice_get_within ps i p at.here) is in
+    record { here = here; same = ap (λ (z : declared.Place). key z.party) (same_Some x p (sym here ∙ at.here)) ∙ at.same }
+
+-- what is told where there is no work
+pub told_idle : (w : World) (t : Told) (o : outcomes.Outcome) → t.outcome ≡ o → t.sending ≡ None → t.changes.items ≡ [] → told_in w t ≡ told o [] []
+told_idle w t o is no_packets no_changes =
+    ap (λ (z : outcomes.Outcome). told z (packets_sent w t.sending) t.changes.items) is
+    ∙ (ap (λ (z : Option Sending). told o (packets_sent w z) t.changes.items) no_packets ∙ ap (λ (z : List Change). told o [] z) no_changes)
+
+-- and where there is
+pub told_work : (ps : List declared.Place) (i from : ℕ) (y z : declared.Place) (d : Work) → slice_get ps i ≡ Some y → from ≡ length y.sent.items → place_seen z ≡ place_after d (place_seen y) →
+    sent_from from (slice_get (places_seen (slice_set ps i z)) i) ≡ packets_by d
+told_work ps i from y z d here len is =
+    ap (sent_from from) (slice_get-map place_seen (slice_set ps i z) i ∙ ap (option_map place_seen) (set_same ps i y z here))
+    ∙ (ap (λ (p : Place). drop from p.sent) is ∙ drop_at y.sent.items (packets_by d) from (sym len))
+
+pub unchanged : (ps : List declared.Place) (i : ℕ) (y z : declared.Place) → y ≡ get_or ps i y → place_seen z ≡ place_seen y → places_seen (slice_set ps i z) ≡ places_seen ps
+unchanged ps i y z is same = map-set_same place_seen ps i z y (same ∙ ap place_seen is)
+
+pub on_err_always : {T E P : Type 0} (r : Result T E) → P → OnErr r P
+on_err_always (Ok x) h = tt
+on_err_always (Err e) h = h
 
 -- a run goes on by one event
 pub run_more : (w u v : World) (es : List Event) (e : Event) (o : steps.Outcome) → WorldRun w es u → Gives u e o v → WorldRun w (es ++ e ∷ []) v

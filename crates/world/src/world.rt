@@ -10,7 +10,7 @@ ghost use Rattle.world_laws.specs.Laws.{IsReached, IsRight, IsSetup};
 ghost use Rattle.world_steps.specs.Steps.{Gives, WorldRun};
 ghost use Rattle.world_steps.specs.World.{World as WorldOf, opened};
 
-use crate::finding::find;
+use crate::finding::{find, of_party};
 use crate::opening::{nodes_of, open_all};
 use crate::past::Past;
 use crate::place::{Node, Place};
@@ -61,7 +61,7 @@ fn step_places(alloc: Global, places: &mut Vec<Place>, event: &Event) -> Result<
         Planned::Idle(outcome) => Ok(Told::idle(alloc, outcome)),
         Planned::Acts(work) => {
             let place = &mut places[i];
-            let from = place.sent.len();
+            let from = place.sent.as_slice().len();
             let changes = place.carry_out(alloc, work)?;
             Ok(Told {
                 outcome: Outcome::Stepped,
@@ -113,17 +113,15 @@ fn packets_of(places: &[Place], sending: Option<Sending>) -> &[Packet]
 fn past_among<'w>(places: &'w [Place], operator: &Party, session: CiKey<36>) -> Past<'w>
     ensures { versions_left result ≡ past_by (places_seen places.now) operator.now session }
 {
-    for place in places {
-        if place.party.is_same(operator) {
-            return Past {
-                session,
-                versions: place.versions.as_slice(),
-            };
-        }
-    }
-    Past {
-        session,
-        versions: &[],
+    match of_party(places, operator) {
+        Some(place) => Past {
+            session,
+            versions: place.versions.as_slice(),
+        },
+        None => Past {
+            session,
+            versions: &[],
+        },
     }
 }
 
@@ -136,12 +134,10 @@ fn owed_among(
 ) -> i128
     ensures { result ≡ owed_by (places_seen places.now) provider.now (key operator.now, currency) }
 {
-    for place in places {
-        if place.party.is_same(provider) {
-            return place.owed(operator, currency);
-        }
+    match of_party(places, provider) {
+        Some(place) => place.owed(operator, currency),
+        None => 0,
     }
-    0
 }
 
 impl World {

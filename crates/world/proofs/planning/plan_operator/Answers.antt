@@ -25,7 +25,7 @@ returns-in-Charger c =
     let party = c.args.party.now in
     let x = operator.Reports c.in-Charger.at c.in-Charger.event in
     operator_planned w party c.args.operator.now.state c.args.kind.now x (subst (λ (k : EventKind). OperatorInput w party k x) (sym c.in-Charger.is) refl)
-        c.plan_charger.result c.plan_charger.ensures.step c.plan_charger.ensures.follows c.plan_charger.ensures.fault c.of_operator.result c.of_operator.ensures
+    c.plan_charger.result c.plan_charger.ensures.step c.plan_charger.ensures.follows c.plan_charger.ensures.fault c.of_operator.result c.of_operator.ensures
 
 pub returns-in-Some : goal.returns-in-Some
 returns-in-Some c =
@@ -33,7 +33,7 @@ returns-in-Some c =
     let party = c.args.party.now in
     let x = operator.Arrives c.in-Deliver.at c.in-Some.packet.now in
     operator_planned w party c.args.operator.now.state c.args.kind.now x (subst (λ (k : EventKind). OperatorInput w party k x) (sym c.in-Deliver.is) (c.in-Some.packet.now, c.in-Some.ensures.found, refl))
-        c.plan_packet.result c.plan_packet.ensures.step c.plan_packet.ensures.follows c.plan_packet.ensures.fault c.of_operator-in-Some.result c.of_operator-in-Some.ensures
+    c.plan_packet.result c.plan_packet.ensures.step c.plan_packet.ensures.follows c.plan_packet.ensures.fault c.of_operator-in-Some.result c.of_operator-in-Some.ensures
 
 pub returns-in-Tick : goal.returns-in-Tick
 returns-in-Tick c =
@@ -41,4 +41,4 @@ returns-in-Tick c =
     let party = c.args.party.now in
     let x = operator.Ticks c.in-Tick.at in
     operator_planned w party c.args.operator.now.state c.args.kind.now x (subst (λ (k : EventKind). OperatorInput w party k x) (sym c.in-Tick.is) refl)
-        c.plan_tick.result c.plan_tick.ensures.step c.plan_tick.ensures.follows c.plan_tick.ensures.fault c.of_operator-in-Tick.result c.of_operator-in-Tick.ensures
+    c.plan_tick.result c.plan_tick.ensures.step c.plan_tick.ensures.follows c.plan_tick.ensures.fault c.of_operator-in-Tick.result c.of_operator-in-Tick.ensures
