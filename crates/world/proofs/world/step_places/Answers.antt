@@ -88,8 +88,9 @@ returns-in_ok-changes-in-Acts-clause-ok c =
     let planned = subst (λ (l : List Place). IsPlanned (places_seen l) x.party (node_seen x.node) e.kind c.in_ok-outcome.field-0) c.as_slice-2.ensures.value c.in_ok-outcome.ensures in
     let at_x = subst (λ (q : Planned). IsPlanned w x.party (node_seen x.node) e.kind q) c.in-Acts.is planned in
     let work = subst (λ (q : Place). IsWork w q.party (node_seen q.node) e.kind d) (same_Some x y (sym at.here ∙ there.here)) at_x in
-    let len = c.len-from.ensures ∙ ap length c.as_slice-in-Acts.ensures.value in
-    let packets = told_work ps i c.len-from.result y z d there.here len c.in_ok-changes-in-Acts.ensures.ok in
+    let from = length c.as_slice-from.result.now in
+    let len = ap length c.as_slice-from.ensures.value in
+    let packets = told_work ps i from y z d there.here len c.in_ok-changes-in-Acts.ensures.ok in
     let after = places_seen (slice_set ps i z) in
     subst (λ (q : List Packet). Gives w e (steps.Stepped q c.in_ok-changes-in-Acts.changes.items) after) (sym packets)
     (subst (λ (q : List Change). Gives w e (steps.Stepped (packets_by d) q) after) (sym c.in_ok-changes-in-Acts.ensures.changes)
