@@ -1,10 +1,9 @@
 -- What is asked of the place of a party.
-use Rattle.std.proofs.Common.{◌≡◌, ℕ, ℤ, List, [], ◌∷◌, Bool, true, false, bytes_eq, cond, Option, None, Some, pos, ap, refl}
+use Rattle.std.proofs.Common.{◌≡◌, ℕ, List, [], ◌∷◌, Bool, true, false, bytes_eq, cond, Option, None, Some, pos, ap, refl}
 use Rattle.handover.specs.Owed.{Account}
 use Rattle.ocpi_text.specs.Text.{key}
-use Rattle.ocpi_types.specs.declared.sessions.Session.{Session}
 use Rattle.world.specs.Deliveries.{first_of}
-use Rattle.world.specs.Seen.{node_seen, place_seen, places_seen}
+use Rattle.world.specs.Seen.{node_seen, places_seen}
 use Rattle.world.specs.State.{owed_by, owed_of, past_by}
 use Rattle.world.specs.declared.place.Place.{Place}
 use Rattle.world_steps.specs.World.{past_of}

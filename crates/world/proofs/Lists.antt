@@ -1,8 +1,8 @@
 -- Lists that are gone through, place by place.
-use Rattle.std.proofs.Common.{◌≡◌, ℕ, zero, suc, ◌+◌, ◌<◌, List, [], ◌∷◌, ◌++◌, length, take, drop, get_or, map, Bool, true, false, bytes_eq, refl, sym, ap, ◌∙◌, arith}
+use Rattle.std.proofs.Common.{◌≡◌, ℕ, ◌+◌, ◌<◌, List, [], ◌∷◌, ◌++◌, length, take, drop, get_or, Bool, true, false, bytes_eq, refl, sym, ap, ◌∙◌}
 use Rattle.std.specs.Prelude.{Contains, Some, slice_get}
 use Rattle.std.specs.List.{flat_map}
-use Rattle.std.proofs.lemmas.List.{drop_more, flat_map_more, map_push, take_more}
+use Rattle.std.proofs.lemmas.List.{drop_more, flat_map_more, take_more}
 use Rattle.std.proofs.lemmas.Option.{slice_get-get_or}
 use Rattle.std.proofs.lemmas.Slice.Eq.{bytes_eq-Decides}
 
@@ -26,13 +26,6 @@ pub flat_step : {X Y : Type 0} (f : X → List Y) (xs : List X) (i : ℕ) (x : X
     next ≡ flat_map f (take (i + 1) xs)
 flat_step {Y = Y} f xs i x now next within is so_far grown =
     grown ∙ (ap (λ (l : List Y). l ++ f x) so_far ∙ (flat_map_more f [] (take i xs) x ∙ ap (flat_map f) (sym (front_more xs i x within is))))
-
--- what each value becomes, so far and with the next
-pub map_step : {X Y Z : Type 0} (f : X → Z) (g : Y → Z) (xs : List X) (i : ℕ) (x : X) (ys zs : List Y) (y : Y) → i < length xs → x ≡ get_or xs i x → map g ys ≡ map f (take i xs) →
-    zs ≡ ys ++ y ∷ [] → g y ≡ f x → map g zs ≡ map f (take (i + 1) xs)
-map_step {Z = Z} f g xs i x ys zs y within is so_far grown same =
-    ap (map g) grown ∙ (map_push g ys y ∙ (ap (λ (l : List Z). l ++ g y ∷ []) so_far ∙ (ap (λ (z : Z). map f (take i xs) ++ z ∷ []) same
-    ∙ sym (ap (map f) (front_more xs i x within is) ∙ map_push f (take i xs) x))))
 
 is_false : (b : Bool) → (b ≡ true → ⊥) → b ≡ false
 is_false true h = absurd (h refl)

@@ -1,14 +1,12 @@
 -- What comes of a plan, and one event of a world.
-use Rattle.std.proofs.Common.{◌≡◌, ◌≢◌, ℕ, List, [], ◌∷◌, ◌++◌, drop, get_or, length, map, refl, sym, ap, subst, ◌∙◌}
+use Rattle.std.proofs.Common.{◌≡◌, ℕ, List, [], ◌∷◌, ◌++◌, drop, get_or, length, refl, sym, ap, subst, ◌∙◌}
 use Rattle.std.specs.Prelude.{Result, Ok, Err, None, Some, IfOk, IfErr, OnErr, Option, option_map, slice_get, slice_set}
-use Rattle.std.specs.declared.alloc.AllocError.{AllocError}
 use Rattle.std.proofs.Math.Seq.{map-set_same}
 use Rattle.std.proofs.lemmas.List.{drop_at, map-set}
 use Rattle.std.proofs.lemmas.Option.{same_Some, slice_get-map, slice_get_read, slice_get_within}
 use Rattle.ocpi_text.specs.Text.{key}
 use Rattle.ocpi_types.specs.declared.events.Event.{Event}
 use Rattle.ocpi_types.specs.declared.events.EventKind.{EventKind}
-use Rattle.ocpi_types.specs.declared.events.EventKind.TheVariants as kind
 use Rattle.ocpi_types.specs.declared.rows.Change.{Change}
 use Rattle.node_laws.proofs.Runs.{run_join}
 use Rattle.node_steps.specs.Drafts.{step_of}
@@ -31,13 +29,12 @@ use Rattle.world.specs.declared.place.Place as declared
 use Rattle.world.specs.declared.planned.Outcome as outcomes
 use Rattle.world.specs.declared.planned.Outcome.TheVariants as outcome
 use Rattle.world.specs.declared.planned.Planned.{Planned}
-use Rattle.world.specs.declared.planned.Planned.TheVariants.{Acts, Idle}
 use Rattle.world.specs.declared.planned.Sending.{Sending}
 use Rattle.world.specs.declared.planned.Told.{Told}
 use Rattle.world.specs.declared.planned.Work.{Work}
 use Rattle.world.specs.declared.planned.Work.TheVariants as work
 use Rattle.world_laws.specs.Laws.{IsReached}
-use Rattle.world_steps.specs.Network.{Input, OfOperator, OfProvider, OperatorInput, ProviderInput, Reaches}
+use Rattle.world_steps.specs.Network.{OfOperator, OfProvider, OperatorInput, ProviderInput, Reaches}
 use Rattle.world_steps.specs.Steps as steps
 use Rattle.world_steps.specs.Steps.{AtOperator, AtProvider, Does, Gives, IsForNone, Loses, NoNode, NodeEvent, NodeStep, NothingReaches, OperatorRefuses, Passes, PlaceStep, ProviderRefuses, Refuses, WorldRun, WorldStep, changes_of, input_of, packets_of, versions_of}
 use Rattle.world_steps.specs.World.{IsAt, NodeState, Operates, Place, Provides, World, opened}

@@ -7,14 +7,13 @@ ghost use Rattle.ocpi_types.specs.declared.setup.Node.{Node as NodeOf};
 ghost use Rattle.ocpi_types.specs.declared.setup.Node.TheVariants as node;
 ghost use Rattle.operator_rows.specs.State as operator;
 ghost use Rattle.provider_rows.specs.State as provider;
-ghost use Rattle.world_laws.specs.Laws.{IsSetup};
 ghost use Rattle.world.specs.Seen.{node_seen, place_seen, places_seen};
+ghost use Rattle.world_laws.specs.Laws.{IsSetup};
 ghost use Rattle.world_steps.specs.World.{opened, opening_of, operator_of, operators_of, place_of, provider_of, providers_of};
 
 use crate::place::{Node, Place};
-use node_steps::NodeFault;
 use ocpi_text::{Moment, Party};
-use ocpi_types::{Node as SetupNode, Packet, Parties, Session, Setup, Site, SiteLine};
+use ocpi_types::{Node as SetupNode, Parties, Setup, Site, SiteLine};
 use operator_core::Operator;
 use provider_core::Provider;
 use provider_rows::Peers;

@@ -1,12 +1,12 @@
 //! The world.
 
-ghost use Rattle.std.specs.Prelude.{◌≡◌, ◌≢◌, List, [], None, IfOk, OnErr, OnOk, drop};
+ghost use Rattle.std.specs.Prelude.{◌≡◌, ◌≢◌, List, [], None, IfOk, OnErr, drop};
 ghost use Rattle.ocpi_text.specs.Text.{key};
 ghost use Rattle.ocpi_types.specs.declared.events.Event.{Event as EventOf};
 ghost use Rattle.world.specs.Seen.{node_seen, packets_sent, places_seen, told, told_in, versions_left};
 ghost use Rattle.world.specs.State.{owed_by, owed_of, past_by};
 ghost use Rattle.world_laws.specs.Later.{IsLater};
-ghost use Rattle.world_laws.specs.Laws.{IsReached, IsRight, IsSetup};
+ghost use Rattle.world_laws.specs.Laws.{IsReached, IsRight};
 ghost use Rattle.world_steps.specs.Steps.{Gives, WorldRun};
 ghost use Rattle.world_steps.specs.World.{World as WorldOf, opened};
 
@@ -23,12 +23,23 @@ use std::marker::Model;
 use world_laws::laws::{worlds_are_right, worlds_go_on};
 
 /// The nodes of a setup, all packets that each ever sent, and all versions that the sessions of each operator ever had.
-#[derive(Drop)]
 pub struct World {
     alloc: Global,
     places: Vec<Place>,
     changes: Vec<Change>,
     sending: Option<Sending>,
+}
+
+/// What a derive would do, in a function of its own: so it is proved once, and not in each function that drops a world.
+impl Drop for World {
+    fn drop(self) {
+        let World {
+            alloc: _,
+            places: _,
+            changes: _,
+            sending: _,
+        } = self;
+    }
 }
 
 impl Model for World {

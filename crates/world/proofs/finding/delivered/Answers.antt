@@ -1,4 +1,4 @@
-use Rattle.std.proofs.Common.{◌≡◌, List, arith, subst, sym}
+use Rattle.std.proofs.Common.{List, arith, subst, sym}
 use Rattle.ocpi_types.specs.declared.packet.Packet.{Packet}
 use Rattle.world.proofs.Delivering.{is_here, may_arrive, none_arrives, none_more}
 use Rattle.world.proofs.finding.delivered.Goals as goal

@@ -1,5 +1,5 @@
-use Rattle.std.proofs.Common.{◌≡◌, ◌∙◌, ap, arith, length, sym}
-use Rattle.std.specs.Prelude.{Some, slice_get, ⊤}
+use Rattle.std.proofs.Common.{◌∙◌, ap, arith, sym}
+use Rattle.std.specs.Prelude.{⊤}
 use Rattle.ocpi_text.specs.Text.{key}
 use Rattle.world.proofs.Delivering.{is_here, none_more}
 use Rattle.world.proofs.finding.find.Goals as goal

@@ -1,5 +1,4 @@
 use Rattle.std.proofs.Common.{ap, refl, subst, sym}
-use Rattle.ocpi_text.specs.Text.{key}
 use Rattle.ocpi_types.specs.declared.events.EventKind.{EventKind}
 use Rattle.operator_steps.specs.Events as operator
 use Rattle.world.proofs.Steps.{operator_planned}

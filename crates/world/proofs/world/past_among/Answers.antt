@@ -1,4 +1,4 @@
-use Rattle.std.proofs.Common.{◌≡◌, ◌∙◌, List, ap, sym}
+use Rattle.std.proofs.Common.{◌∙◌, List, ap, sym}
 use Rattle.ocpi_types.specs.declared.sessions.Session.{Session}
 use Rattle.world.proofs.Asking.{past_at, past_nowhere}
 use Rattle.world.proofs.world.past_among.Goals as goal

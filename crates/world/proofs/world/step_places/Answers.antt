@@ -1,4 +1,4 @@
-use Rattle.std.proofs.Common.{◌≡◌, ◌∙◌, ℕ, List, [], ap, arith, get_or, length, subst, sym}
+use Rattle.std.proofs.Common.{◌∙◌, ℕ, List, ap, arith, length, subst, sym}
 use Rattle.std.specs.Prelude.{slice_set}
 use Rattle.std.proofs.lemmas.Option.{same_Some, slice_get_within}
 use Rattle.ocpi_types.specs.declared.packet.Packet.{Packet}
@@ -6,8 +6,8 @@ use Rattle.ocpi_types.specs.declared.rows.Change.{Change}
 use Rattle.world.proofs.Steps.{idle_gives, may_do, none_gives, on_err_always, place_here, told_idle, told_work, unchanged, work_gives}
 use Rattle.world.proofs.world.step_places.Goals as goal
 use Rattle.world.specs.Deliveries.{IsPlaceOf}
-use Rattle.world.specs.Seen.{node_seen, places_seen, told}
-use Rattle.world.specs.Works.{IsIdle, IsPlanned, IsWork, MayDo, changes_by, packets_by}
+use Rattle.world.specs.Seen.{node_seen, places_seen}
+use Rattle.world.specs.Works.{IsPlanned, IsWork, MayDo, packets_by}
 use Rattle.world.specs.declared.place.Place.{Place}
 use Rattle.world.specs.declared.planned.Outcome.TheVariants as outcome
 use Rattle.world.specs.declared.planned.Planned.{Planned}
