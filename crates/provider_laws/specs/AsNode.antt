@@ -1,5 +1,5 @@
 -- A provider as a node of any role: what the laws of nodes speak of.
-use Rattle.std.specs.Prelude.{◌≡◌, ℕ, List, [], ◌∷◌, map, Option, Some, None}
+use Rattle.std.specs.Prelude.{ℕ, List, [], ◌∷◌, map, Option, Some, None}
 use Rattle.std.specs.FinMap.{get}
 use Rattle.ocpi_types.specs.Stored.{body_of_command, body_of_push}
 use Rattle.ocpi_types.specs.declared.packet.Packet.{Packet}

@@ -1,5 +1,5 @@
 -- The sessions and the charge detail records that a provider holds, and what it owes for them (OCPI 2.2.1, Sessions, CDRs).
-use Rattle.std.specs.Prelude.{◌≡◌, ◌≢◌, ◌⊎◌, ◌≤◌, ◌<◌, ◌+ℤ◌, ℕ, List, [], ◌∷◌, ◌++◌, Some, None, Contains}
+use Rattle.std.specs.Prelude.{◌≡◌, ◌≢◌, ◌⊎◌, ◌≤◌, ◌<◌, ◌+ℤ◌, ℕ, List, [], ◌∷◌, Some, None, Contains}
 use Rattle.std.specs.List.{AllPairs, flat_map}
 use Rattle.std.specs.FinMap.{get, values}
 use Rattle.ocpi_text.specs.Text.{key}

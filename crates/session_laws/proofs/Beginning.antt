@@ -1,5 +1,5 @@
 -- Sessions begin as was asked.
-use Rattle.std.proofs.Common.{◌≡◌, ◌⊎◌, ◌≤◌, ℕ, true, List, [], ◌∷◌, ◌++◌, inl, inr, refl, sym, ap, subst, ◌∙◌}
+use Rattle.std.proofs.Common.{◌≡◌, ◌≤◌, ℕ, true, List, [], ◌∷◌, inl, inr, refl, sym, ap, subst, ◌∙◌}
 use Rattle.std.specs.Prelude.{Option, Some, None, Contains}
 use Rattle.std.specs.FinMap.{get, get-empty}
 use Rattle.tables.specs.Keys.{text_cmp}
@@ -13,11 +13,9 @@ use Rattle.ocpi_types.specs.declared.sessions.Session.{Session}
 use Rattle.ocpi_types.specs.declared.site.Connector.{Connector}
 use Rattle.ocpi_types.specs.declared.site.Evse.{Evse}
 use Rattle.ocpi_types.specs.declared.site.Location.{Location}
-use Rattle.ocpi_types.specs.declared.site.SiteLine.{SiteLine}
 use Rattle.ocpi_types.specs.declared.token.Token.{Token}
 use Rattle.ocpi_types.specs.declared.words.AuthMethod.{AuthMethod}
 use Rattle.ocpi_types.specs.declared.words.AuthMethod.TheVariants as how
-use Rattle.ocpi_types.specs.declared.words.CommandResultType.TheVariants as result
 use Rattle.ocpi_types.specs.declared.words.SessionStatus.TheVariants.{Pending}
 use Rattle.ocpi_types.specs.declared.words.TokenType.{TokenType}
 use Rattle.authorization_book.specs.declared.awaited.Awaited.{Awaited}
@@ -40,7 +38,7 @@ use Rattle.session_tables.specs.Swipes as swipes
 use Rattle.session_tables.specs.Swipes.{id_of, provider_of, told_by}
 use Rattle.session_laws.specs.Begun.{BeganIn, BeginsAsAsked, ByStart, ByToken, ByAnswer, ByDeadline, IsFor, SessionsBeginAsAsked, SessionsBegan}
 use Rattle.session_laws.specs.Pasts.{stored}
-use Rattle.session_laws.specs.Runs.{Run}
+use Rattle.operator_laws.specs.Laws.{Run}
 use Rattle.session_laws.proofs.Billing.{session_from}
 use Rattle.session_laws.proofs.Causes as causes
 use Rattle.session_laws.proofs.Causes.{HowBegun, SessionCause}
@@ -156,7 +154,7 @@ module _ (s t : State) (e : Event) (fine : IsConsistent s) (d : Does s e t) (v :
       let same : key m.before.id ≡ key v.id = ap key ((follows s fine.sound at report m.before m.after m.moves m.later).same.id ∙ ap (λ (z : Session). z.id) (sym is)) in
       not_both m.before (stored s (key v.id)) new (ap (get s.rows.charged.sessions) (sym same) ∙ m.moves.here.stands)
 
-  pub begins_put : Contains e.changes (Put (row.Session v)) → stored s (key v.id) ≡ None → (v.status ≡ Pending) × BeginsAsAsked s e t v
+  begins_put : Contains e.changes (Put (row.Session v)) → stored s (key v.id) ≡ None → (v.status ≡ Pending) × BeginsAsAsked s e t v
   begins_put i new = begins_by new (session_cause s t e fine d v i)
 
 pub sessions_begin_as_asked : SessionsBeginAsAsked

@@ -1,9 +1,9 @@
 -- Charge detail records: each is of a COMPLETED version, which has one.
-use Rattle.std.proofs.Common.{◌≡◌, ◌≢◌, ◌⊎◌, ◌+◌, ℕ, ℤ, pos, List, [], ◌∷◌, map, inl, inr, refl, sym, ap, subst, ◌∙◌, arith}
+use Rattle.std.proofs.Common.{◌≡◌, ◌≢◌, ◌⊎◌, ◌+◌, ℕ, ℤ, pos, List, map, inl, inr, refl, sym, ap, subst, ◌∙◌, arith}
 use Rattle.std.specs.Prelude.{Option, Some, None, Contains, unwrap_or}
 use Rattle.std.specs.FinMap.{get, get-empty}
 use Rattle.tables.specs.Keys.{text_cmp}
-use Rattle.tables.proofs.Elements.{in_front, of_map}
+use Rattle.tables.proofs.Elements.{of_map}
 use Rattle.tables.proofs.Options.{none_some, not_both}
 use Rattle.ocpi_text.specs.Text.{key}
 use Rattle.ocpi_text.specs.OwnIds.{own_id_text}
@@ -27,7 +27,7 @@ use Rattle.ocpi_types.specs.declared.words.SessionStatus.TheVariants.{Completed,
 use Rattle.session_state.specs.Pasts.{IsFinal, MayFollow}
 use Rattle.session_state.specs.Versions.{HasCost}
 use Rattle.node_laws.proofs.Runs.{kept_runs}
-use Rattle.node_steps.specs.Acts.{Act, all_changes, changed, pushed}
+use Rattle.node_steps.specs.Acts.{all_changes}
 use Rattle.node_steps.proofs.Gathering.{changes_append}
 use Rattle.std.proofs.lemmas.List.Elements.{Contains-append_left, Contains-append_right}
 use Rattle.operator_rows.specs.State.{State, opening}
@@ -39,11 +39,11 @@ use Rattle.operator_steps.specs.Events.{Event, Happens}
 use Rattle.operator_steps.specs.Sessions as acts_of
 use Rattle.operator_steps.specs.Sessions.{IsBilled, IsMoved, first_of, next_cdr}
 use Rattle.session_laws.specs.Pasts.{stored}
-use Rattle.session_laws.specs.Bills.{AreBilledOnce, Bills, IsRecordOf, PutsRecords, RecordsAreOfCompletedSessions, RecordsStay, SessionsAreBilledOnce}
+use Rattle.session_laws.specs.Bills.{AreBilledOnce, IsRecordOf, PutsRecords, RecordsAreOfCompletedSessions, RecordsStay, SessionsAreBilledOnce}
 use Rattle.session_laws.proofs.Causes.{CdrCause, Billed, SessionCause, Begun, Moved}
 use Rattle.session_laws.proofs.Caused.{cdr_cause, session_cause}
 use Rattle.session_laws.proofs.Doing.{Does, does}
-use Rattle.session_laws.proofs.Growing.{final_versions_are_last, no_turn}
+use Rattle.session_laws.proofs.Growing.{no_turn}
 use Rattle.session_laws.proofs.Versions.{of_each, stands, stays}
 
 -- a version that may come next has its cost
@@ -133,7 +133,7 @@ module _ (s t : State) (e : Event) (fine : IsConsistent s) (d : Does s e t) wher
       let id_is : key y.id ≡ key x.id = cc in
       not_both x (get s.rows.charged.cdrs (key y.id)) (d.cdrs y (subst (λ z. Contains e.changes z) is listed)) (ap (get s.rows.charged.cdrs) id_is ∙ has)
 
-  pub record_stays : (id : List ℕ) (x : Cdr) → get s.rows.charged.cdrs id ≡ Some x → get t.rows.charged.cdrs id ≡ Some x
+  record_stays : (id : List ℕ) (x : Cdr) → get s.rows.charged.cdrs id ≡ Some x → get t.rows.charged.cdrs id ≡ Some x
   record_stays id x has =
       let at : id ≡ key x.id = fine.sound.charged_keyed.cdrs id x has in
       let here = ap (get s.rows.charged.cdrs) (sym at) ∙ has in
@@ -145,7 +145,7 @@ module _ (s t : State) (e : Event) (fine : IsConsistent s) (d : Does s e t) wher
       let at : id ≡ key x.id = d.consistent.sound.charged_keyed.cdrs id x has in
       elim ((d.rows (row.Cdr x)).0 (ap (get t.rows.charged.cdrs) (sym at) ∙ has)) [ inl i ↦ inr i | inr was ↦ inl (ap (get s.rows.charged.cdrs) at ∙ was.0) ]
 
-  pub record_stands : (x : Cdr) → Contains e.changes (Put (row.Cdr x)) → get t.rows.charged.cdrs (key x.id) ≡ Some x
+  record_stands : (x : Cdr) → Contains e.changes (Put (row.Cdr x)) → get t.rows.charged.cdrs (key x.id) ≡ Some x
   record_stands x i = (d.rows (row.Cdr x)).1 (inl i)
 
   -- and so for sessions
@@ -175,7 +175,7 @@ module _ (s t : State) (e : Event) (fine : IsConsistent s) (d : Does s e t) wher
   one_id : (x : Cdr) → Contains e.changes (Put (row.Cdr x)) → x.id ≡ own_id_text own.Cdr s.party (s.rows.charged.last_cdr + 1)
   one_id x i = let (v, put, r) = (puts_records s t e fine d).only x i in ap (λ (z : Cdr). z.id) r.record_is
 
-  pub billed_stays : AreBilledOnce s → AreBilledOnce t
+  billed_stays : AreBilledOnce s → AreBilledOnce t
   billed_stays h = record {
     each = λ id v has complete. elim (session_from id v has) [
       | inl old ↦ (let (x, had, bills) = h.each id v old complete in (x, record_stays (key x.id) x had, bills))

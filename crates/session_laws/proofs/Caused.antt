@@ -1,8 +1,8 @@
 -- Each version and each charge detail record that an event puts has a cause.
-use Rattle.std.proofs.Common.{◌≡◌, ◌≢◌, ◌<◌, ◌≤◌, ◌+◌, ◌++◌, ◌⊎◌, ℕ, Bool, true, false, cond, nat_eq, eqb-true, List, [], ◌∷◌, length, map, inl, inr, refl, sym, ap, subst, ◌∙◌, arith}
+use Rattle.std.proofs.Common.{◌≡◌, ◌≢◌, ◌<◌, ◌≤◌, ◌+◌, ◌++◌, ℕ, Bool, true, false, cond, nat_eq, eqb-true, List, [], ◌∷◌, length, map, inl, inr, refl, sym, ap, subst, arith}
 use Rattle.std.specs.Prelude.{Option, Some, None, Contains}
-use Rattle.std.proofs.lemmas.List.Elements.{Contains-append_cases, Contains-append_right, Contains-append_left}
-use Rattle.tables.proofs.Elements.{in_none, in_front, in_single}
+use Rattle.std.proofs.lemmas.List.Elements.{Contains-append_right, Contains-append_left}
+use Rattle.tables.proofs.Elements.{in_front}
 use Rattle.ocpi_text.specs.Text.{key}
 use Rattle.ocpi_text.specs.Whole.{max_whole}
 use Rattle.ocpi_types.specs.declared.authorizations.Authorization.{Authorization}
@@ -22,20 +22,17 @@ use Rattle.ocpi_types.specs.declared.stored.OpenCommand.{OpenCommand}
 use Rattle.ocpi_types.specs.declared.stored.Push.TheVariants as push
 use Rattle.ocpi_types.specs.declared.stored.Reply.{Reply}
 use Rattle.ocpi_types.specs.declared.token.Token.{Token}
-use Rattle.ocpi_types.specs.declared.words.CommandResultType.{CommandResultType}
 use Rattle.command_book.specs.Stored as book
 use Rattle.reservation_book.specs.declared.standing.Standing.{Standing}
 use Rattle.authorization_book.specs.Waits as waits
-use Rattle.outbox.specs.Due.{AreExactly}
 use Rattle.node_steps.specs.Acts.{Act, all_changes, changed}
 use Rattle.node_steps.specs.Drafts.{count_change}
 use Rattle.node_steps.proofs.Gathering.{changes_append}
 use Rattle.operator_rows.specs.State.{State}
-use Rattle.operator_rows.specs.Stored.{change_key}
 use Rattle.operator_rows.specs.Sound.{IsConsistent}
 use Rattle.operator_tables.specs.declared.decision.Decision.{Decision}
 use Rattle.operator_tables.specs.declared.decision.Decision.TheVariants as decision
-use Rattle.operator_steps.specs.Acts.{deadline, decided_acts, opened, reference_of, reply_of, settled_if, spent, url_of, used}
+use Rattle.operator_steps.specs.Acts.{deadline, decided_acts, opened, reference_of, reply_of, spent, used}
 use Rattle.node_steps.specs.Acts.{answered}
 use Rattle.operator_steps.specs.declared.ending.Ending.{Ending}
 use Rattle.operator_steps.specs.Asking.{AnswerActs, IsAnswered}
@@ -56,8 +53,8 @@ use Rattle.operator_steps.proofs.Expiring.{of_expired}
 use Rattle.operator_steps.proofs.Resending.{resent_changes}
 use Rattle.operator_steps.proofs.TickStages.{stages_see}
 use Rattle.operator_steps.proofs.BegunChanges.{late_counts}
-use Rattle.operator_steps.proofs.BegunSteps.{begun_acts, begun_is}
-use Rattle.operator_steps.proofs.Orderly.{in_later, of_counter}
+use Rattle.operator_steps.proofs.BegunSteps.{begun_is}
+use Rattle.operator_steps.proofs.Orderly.{in_later}
 use Rattle.session_tables.specs.declared.beginning.Beginning.{Beginning}
 use Rattle.session_tables.specs.declared.shown.Shown.TheVariants as shown
 use Rattle.session_tables.specs.Answers.{BeginsByAnswer, Decided}
@@ -145,10 +142,10 @@ module _ (P : Session → Type 0) (Q : Cdr → Type 0) where
   covers_service s evse in_service acts (service.Withdrawn one off was is) = subst (λ l. Covers P Q (all_changes l)) (sym is) (covers_kinds P Q _ refl refl)
   covers_service s evse in_service acts (service.Restored one on was is) = subst (λ l. Covers P Q (all_changes l)) (sym is) (covers_kinds P Q _ refl refl)
 
-pub in_left : (xs ys : List Act) (c : Change) → Contains (all_changes xs) c → Contains (all_changes (xs ++ ys)) c
+in_left : (xs ys : List Act) (c : Change) → Contains (all_changes xs) c → Contains (all_changes (xs ++ ys)) c
 in_left xs ys c i = subst (λ l. Contains l c) (sym (changes_append xs ys)) (Contains-append_left (all_changes xs) (all_changes ys) c i)
 
-pub in_right : (xs ys : List Act) (c : Change) → Contains (all_changes ys) c → Contains (all_changes (xs ++ ys)) c
+in_right : (xs ys : List Act) (c : Change) → Contains (all_changes ys) c → Contains (all_changes (xs ++ ys)) c
 in_right xs ys c i = subst (λ l. Contains l c) (sym (changes_append xs ys)) (Contains-append_right (all_changes xs) (all_changes ys) c i)
 
 -- a counter that gave a number since is stored
@@ -175,10 +172,6 @@ module _ (s : State) (i : Input) where
 
   as_quiet : (work : Work) (acts : List Act) → work ≡ quiet acts → IsCaused acts → IsCaused work.acts
   as_quiet work acts is h = subst (λ (w : Work). IsCaused w.acts) (sym is) h
-
-  -- acts that do the same, whatever causes them
-  covered : (acts : List Act) → ((P : Session → Type 0) (Q : Cdr → Type 0) → Covers P Q (all_changes acts)) → IsCaused acts
-  covered acts h = h (SessionCause s i acts) (CdrCause s i acts)
 
   -- the number of a session that begins is within its counter
   numbered_in : (rest : List Act) (n : ℕ) → AreInRange s (numbered_sessions n ∷ rest) → n ≤ max_whole
@@ -303,7 +296,7 @@ module _ (s : State) (i : Input) where
       (subst (λ l. AreCaused acts l) (sym (resent_changes at s.rows.pushes h.due)) (covers_none _ _))))
 
 -- where what holds at all times holds, each version and each record that an input asks for has a cause
-pub asked_caused : (s : State) (i : Input) (work : Work) → IsConsistent s → Asks s i work → AreInRange s work.acts → IsCaused s i work.acts
+asked_caused : (s : State) (i : Input) (work : Work) → IsConsistent s → Asks s i work → AreInRange s work.acts → IsCaused s i work.acts
 asked_caused s (Arrives at q) work fine comes range = packet_caused s (Arrives at q) at q refl comes.provider work comes.line range
 asked_caused s (Serves evse in_service) work fine line range = service_caused s (Serves evse in_service) evse in_service work line
 asked_caused s (Reports at report) work fine line range = report_caused s (Reports at report) at report refl work line range

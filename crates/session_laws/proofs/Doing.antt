@@ -1,5 +1,5 @@
 -- What an event does: the acts that it comes to, and what its changes make of the rows.
-use Rattle.std.proofs.Common.{◌≡◌, ◌⊎◌, ℕ, List, [], refl, inl, inr, sym, ap, subst, ◌∙◌}
+use Rattle.std.proofs.Common.{◌≡◌, ◌⊎◌, List, [], refl, inl, inr, sym, ap, subst, ◌∙◌}
 use Rattle.std.specs.Prelude.{None, Contains}
 use Rattle.std.specs.FinMap.{get}
 use Rattle.std.proofs.lemmas.List.Elements.{Contains-append_cases, Contains-append_right}
@@ -16,14 +16,14 @@ use Rattle.node_steps.specs.Acts.{Act, all_changes, all_messages}
 use Rattle.node_steps.specs.Messages.{numbered}
 use Rattle.node_steps.specs.Drafts.{count_changes, counted}
 use Rattle.operator_rows.specs.State.{State}
-use Rattle.operator_rows.specs.Stored.{AreApart, changed_all, change_key}
+use Rattle.operator_rows.specs.Stored.{AreApart, change_key}
 use Rattle.operator_rows.specs.Rows.{AreChanges}
 use Rattle.operator_rows.specs.Sound.{IsConsistent, MayChangeAll}
 use Rattle.operator_rows.specs.Steps.{IsNext, MayFollowFull, after_full, restarted}
 use Rattle.operator_rows.proofs.KeepingTimes.{follow_full_consistent, restarted_consistent}
 use Rattle.operator_rows.proofs.RowChanges.{row_changes}
 use Rattle.operator_steps.specs.Events.{Event, Happens, Done, Restarted, Refused, Input, Arrives, Serves, Reports, Ticks, Restarts, Asks, event_out}
-use Rattle.operator_steps.specs.Moves.{AreInRange, Out, StepBy, Work, counters_of, idle, quiet, step_of_acts, step_of_work}
+use Rattle.operator_steps.specs.Moves.{AreInRange, Out, StepBy, Work, counters_of, idle, step_of_acts, step_of_work}
 use Rattle.operator_steps.proofs.PacketSteps.{packets}
 use Rattle.operator_steps.proofs.ServiceSteps.{services}
 use Rattle.operator_steps.proofs.ReportSteps.{reports}

@@ -5,14 +5,6 @@ pub mod Covering
 pub mod Causes
 pub mod Caused
 pub mod Billing
-pub mod Numbering
 pub mod Beginning
-pub mod Opens
-pub mod Using
-pub mod Results
-pub mod Starting
-pub mod Messages
 pub mod Sending
-pub mod Pushing
-pub mod Delivering
 pub mod Currencies

@@ -1,6 +1,6 @@
 -- The versions of a session that the changes of one event put: one at most, which is stored then.
-use Rattle.std.proofs.Common.{◌≡◌, ◌≢◌, ◌⊎◌, ℕ, zero, suc, Bool, true, false, cond, List, [], ◌∷◌, ◌++◌, map, inl, inr, refl, sym, ap, subst, ◌∙◌}
-use Rattle.std.specs.Prelude.{Option, Some, None, Contains}
+use Rattle.std.proofs.Common.{◌≡◌, ◌≢◌, ℕ, Bool, true, false, cond, List, [], ◌∷◌, ◌++◌, map, inl, inr, refl, sym, ap, subst, ◌∙◌}
+use Rattle.std.specs.Prelude.{Some, Contains}
 use Rattle.std.specs.Str.{bytes_eq}
 use Rattle.std.specs.FinMap.{get}
 use Rattle.std.proofs.lemmas.Slice.Eq.{bytes_eq-Decides}
@@ -95,7 +95,7 @@ own_of s (Put r) t same may v is = absurd (cc)
 own_of s (Drop k) t same may v is = absurd (cc)
 
 module _ (s t : State) (e : Event) (d : Does s e t) (id : List ℕ) where
-  pub own_put : (v : Session) → Contains e.changes (Put (row.Session v)) → key v.party ≡ key s.party
+  own_put : (v : Session) → Contains e.changes (Put (row.Session v)) → key v.party ≡ key s.party
   own_put v i = of_each (λ c. (w : Session) → c ≡ Put (row.Session w) → key w.party ≡ key s.party) s (own_of s) e.changes s refl d.may (Put (row.Session v)) i v refl
 
   puts_it : (c : Change) → Contains e.changes c → (p k : List ℕ) → change_key c ≡ keys.Session p k → PutsSession c

@@ -28,7 +28,8 @@ use Rattle.operator_rows.specs.State.{State, IsSpent, opening}
 use Rattle.operator_rows.specs.Sound.{IsConsistent}
 use Rattle.operator_steps.specs.Asking.{IsAwaited}
 use Rattle.operator_steps.specs.Events.{Event, Happens, Arrives, Reports, Ticks}
-use Rattle.session_laws.specs.Runs.{IsOfParty, Puts, Run}
+use Rattle.operator_laws.specs.Laws.{IsOfParty, Run}
+use Rattle.operator_laws.specs.Sessions.{Puts}
 use Rattle.session_laws.specs.Pasts.{stored}
 
 -- the session is for that token, by that method, with that reference, at the connector of those keys

@@ -17,7 +17,8 @@ use Rattle.session_tables.specs.Places.{IsConnectorAt, cdr_location_of}
 use Rattle.operator_rows.specs.State.{State, opening}
 use Rattle.operator_rows.specs.Sound.{IsConsistent}
 use Rattle.operator_steps.specs.Events.{Event, Happens}
-use Rattle.session_laws.specs.Runs.{IsOfParty, Puts, Run}
+use Rattle.operator_laws.specs.Laws.{IsOfParty, Run}
+use Rattle.operator_laws.specs.Sessions.{Puts}
 use Rattle.session_laws.specs.Pasts.{stored}
 
 -- the record bills the version, which is COMPLETED: its energy and its cost are the version's

@@ -13,7 +13,7 @@ use Rattle.session_state.specs.Pasts.{Follow, IsFinal, IsOrderly}
 use Rattle.operator_rows.specs.State.{State, opening}
 use Rattle.operator_rows.specs.Sound.{IsConsistent}
 use Rattle.operator_steps.specs.Events.{Event}
-use Rattle.session_laws.specs.Runs.{IsOfParty, Run}
+use Rattle.operator_laws.specs.Laws.{IsOfParty, Run}
 
 -- the version of the session of that id, in key form, that a change puts
 abbrev pub version_put : List ℕ → Change → List Session

@@ -4,11 +4,7 @@
 
 ghost use Rattle.session_laws.specs.Begun.{SessionsBegan, SessionsBeginAsAsked};
 ghost use Rattle.session_laws.specs.Bills.{CurrenciesAreOfSite, RecordsAreOfCompletedSessions, RecordsStay, SessionsAreBilledOnce};
-ghost use Rattle.session_laws.specs.Delivered.{NewestVersionsArePushed};
-ghost use Rattle.session_laws.specs.Ids.{IdsAreGiven};
 ghost use Rattle.session_laws.specs.Sent.{SentVersionsArePast};
-ghost use Rattle.session_laws.specs.Started.{AcceptedStartsHaveSessions};
-ghost use Rattle.session_laws.specs.Used.{AReferenceBeginsOneSession};
 ghost use Rattle.session_laws.specs.Pasts.{FinalVersionsAreLast, PastsAreOrderly, PastsGoOn};
 
 /// The past of each session is orderly: it begins PENDING, its statuses follow one another, each version is later than the one before
@@ -54,12 +50,6 @@ pub fn records_stay()
     ensures { RecordsStay }
 {}
 
-/// The id of each session, and of each charge detail record, is that of a number from 1 to the last that its counter gave; different
-/// numbers have different ids. An id that is given twice, or by a counter that is not stored, would break this.
-pub fn ids_are_given()
-    ensures { IdsAreGiven }
-{}
-
 /// The first version of a session is PENDING, and is put by an event that carries out an open start, shows a token that its provider
 /// lets in, allows a token that its provider was asked about, or comes at the deadline of such a question. A session that a token begins
 /// which its provider blocked, or an answer from another provider, would break this.
@@ -72,29 +62,8 @@ pub fn sessions_began()
     ensures { SessionsBegan }
 {}
 
-/// From the opening on, an authorization reference of a provider, in key form, is carried by one session or by one open start, and may
-/// not be used again. A start that came again under another number, or an answer by the reference of a start, would break this if a
-/// session began by it.
-pub fn a_reference_begins_one_session()
-    ensures { AReferenceBeginsOneSession }
-{}
-
-/// From the opening on, a start that was opened, and whose kept result is ACCEPTED, began a session of its provider, with its token and
-/// its reference. A start that is told to be carried out, and has no session, would break this.
-pub fn accepted_starts_have_sessions()
-    ensures { AcceptedStartsHaveSessions }
-{}
-
-/// From the opening on, each version of a session that was sent, or is to be sent again, is of the session's past, and each charge detail
-/// record is one that stands. A version that is sent and not stored, or a bill that is made anew when it is sent again, would break
-/// this.
+/// From the opening on, each version of a session that was sent, or is to be sent again, is of the session's past. A version that is sent
+/// and not stored would break this.
 pub fn sent_versions_are_past()
     ensures { SentVersionsArePast }
-{}
-
-/// From the opening on, the newest version of each session, and each charge detail record, has a push that stands, and so is sent again;
-/// or it was sent to its token's provider, which acknowledged it with status 1000 under its number. A push that ends when it is sent,
-/// by another party's acknowledgement, or by one of another status, would break this.
-pub fn newest_versions_are_pushed()
-    ensures { NewestVersionsArePushed }
 {}

@@ -6,7 +6,7 @@ use Rattle.ocpi_text.specs.Text.{key}
 use Rattle.ocpi_types.specs.declared.packet.Packet.{Packet}
 use Rattle.ocpi_types.specs.declared.rows.Change.{Change}
 use Rattle.ocpi_types.specs.declared.sessions.Session.{Session}
-use Rattle.world_steps.specs.World.{NodeState, Operates, Place, Provides, World, past_of}
+use Rattle.world_steps.specs.World.{NodeState, Operates, Provides, World, past_of}
 
 -- the world, and of the last step the rows that it changed and the packets that it sent
 pub record WorldState : Type 0 where

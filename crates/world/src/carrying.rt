@@ -1,6 +1,6 @@
 //! Work that is carried out: all memory for it is taken first, and then nothing can fail.
 
-ghost use Rattle.std.specs.Prelude.{◌≡◌, ◌≤◌, ◌+◌, ◌++◌, IfOk, OnErr, OnOk, length, vec_capacity};
+ghost use Rattle.std.specs.Prelude.{◌≡◌, ◌≤◌, ◌+◌, ◌++◌, ◌∷◌, [], IfOk, OnErr, OnOk, length, vec_capacity};
 ghost use Rattle.node_steps.specs.Drafts.{step_of};
 ghost use Rattle.operator_rows.specs.FullSteps.{full_step_of};
 ghost use Rattle.operator_rows.specs.Steps.{MayFollowFull, after_full};
@@ -19,15 +19,23 @@ use operator_rows::FullPlan;
 use provider_core::Provider;
 use std::alloc::{AllocError, Global};
 
+/// Adds a version. What a record is made of is known once a member of it is read.
+fn push_copy(versions: &mut Vec<Session>, version: &Session) -> Result<(), AllocError>
+    ensures { OnOk result (versions.new.items ≡ versions.old.items ++ version.now ∷ []) }
+{
+    let _end = version.end_date_time;
+    let _cost = version.total_cost;
+    let _reference = version.authorization_reference;
+    versions.push(*version)?;
+    Ok(())
+}
+
 /// Adds the version of a session that a change puts.
 fn push_version(versions: &mut Vec<Session>, change: &Change) -> Result<(), AllocError>
     ensures { OnOk result (versions.new.items ≡ versions.old.items ++ version_put change.now) }
 {
     match change {
-        Change::Put(Row::Session { session }) => {
-            versions.push(**session)?;
-            Ok(())
-        }
+        Change::Put(Row::Session { session }) => push_copy(versions, session),
         _ => Ok(()),
     }
 }

@@ -1,8 +1,8 @@
 //! The node of a party, and the packets that may be delivered to it.
 
-ghost use Rattle.std.specs.Prelude.{◌≡◌, ℕ, IfNone, IfSome};
+ghost use Rattle.std.specs.Prelude.{◌≡◌, ℕ, IfNone, IfSome, None, Some};
 ghost use Rattle.ocpi_types.specs.declared.packet.Packet.{Packet as PacketOf};
-ghost use Rattle.world.specs.Deliveries.{IsPlaceOf, IsSentTo};
+ghost use Rattle.world.specs.Deliveries.{IsPlaceOf, IsSentTo, first_of};
 ghost use Rattle.world.specs.Seen.{places_seen};
 ghost use Rattle.world.specs.declared.place.Place.{Place as PlaceOf};
 ghost use Rattle.world_steps.specs.Network.{MayArrive};
@@ -19,6 +19,19 @@ pub(crate) fn find(places: &[Place], party: &Party) -> Option<usize>
     for i in 0..places.len() {
         if places[i].party.is_same(party) {
             return Some(i);
+        }
+    }
+    None
+}
+
+/// The first place of a party, which is compared without case.
+pub(crate) fn of_party<'w>(places: &'w [Place], party: &Party) -> Option<&'w Place>
+    ensures found { IfSome result (λ p. first_of places.now party.now ≡ Some p.now) }
+    ensures none { IfNone result (first_of places.now party.now ≡ None) }
+{
+    for place in places {
+        if place.party.is_same(party) {
+            return Some(place);
         }
     }
     None

@@ -1,31 +1,57 @@
 //! The places of a setup, before the first event.
 
-ghost use Rattle.std.specs.Prelude.{◌≡◌, Contains, IfOk, ℕ};
-ghost use Rattle.ocpi_types.specs.Setups.{AreNodes};
+ghost use Rattle.std.specs.Prelude.{◌≡◌, ◌++◌, Contains, IfOk, Ok, OnOk, List, ℕ};
+ghost use Rattle.ocpi_text.specs.Party.{party_at};
+ghost use Rattle.ocpi_types.specs.Setups.{party_of};
+ghost use Rattle.ocpi_types.specs.declared.setup.Node.{Node as NodeOf};
 ghost use Rattle.ocpi_types.specs.declared.setup.Node.TheVariants as node;
 ghost use Rattle.operator_rows.specs.State as operator;
 ghost use Rattle.provider_rows.specs.State as provider;
 ghost use Rattle.world.specs.Seen.{node_seen, place_seen, places_seen};
+ghost use Rattle.world_laws.specs.Laws.{IsSetup};
 ghost use Rattle.world_steps.specs.World.{opened, opening_of, operator_of, operators_of, place_of, provider_of, providers_of};
 
 use crate::place::{Node, Place};
-use node_steps::NodeFault;
 use ocpi_text::{Moment, Party};
-use ocpi_types::{Node as SetupNode, Packet, Parties, Session, Site, SiteLine};
+use ocpi_types::{Node as SetupNode, Parties, Setup, Site, SiteLine};
 use operator_core::Operator;
 use provider_core::Provider;
 use provider_rows::Peers;
 use std::alloc::{AllocError, Global};
+
+/// Adds the party of a provider.
+fn push_provider(parties: &mut Vec<Party>, member: &SetupNode) -> Result<(), AllocError>
+    ensures { OnOk result (parties.new.items ≡ parties.old.items ++ provider_of member.now) }
+{
+    match member {
+        SetupNode::Operator { .. } => Ok(()),
+        SetupNode::Provider { party } => {
+            parties.push(*party)?;
+            Ok(())
+        }
+    }
+}
+
+/// Adds the party of an operator.
+fn push_operator(parties: &mut Vec<Party>, member: &SetupNode) -> Result<(), AllocError>
+    ensures { OnOk result (parties.new.items ≡ parties.old.items ++ operator_of member.now) }
+{
+    match member {
+        SetupNode::Operator { party, .. } => {
+            parties.push(*party)?;
+            Ok(())
+        }
+        SetupNode::Provider { .. } => Ok(()),
+    }
+}
 
 /// The providers among the nodes, in order. An error is want of memory.
 fn providers(alloc: Global, nodes: &[SetupNode]) -> Result<Vec<Party>, AllocError>
     ensures { IfOk result (λ v. v.items ≡ providers_of nodes.now) }
 {
     let mut parties = Vec::new(alloc);
-    for node in nodes {
-        if let SetupNode::Provider { party } = node {
-            parties.push(*party)?;
-        }
+    for member in nodes {
+        push_provider(&mut parties, member)?;
     }
     Ok(parties)
 }
@@ -35,10 +61,8 @@ fn operators(alloc: Global, nodes: &[SetupNode]) -> Result<Vec<Party>, AllocErro
     ensures { IfOk result (λ v. v.items ≡ operators_of nodes.now) }
 {
     let mut parties = Vec::new(alloc);
-    for node in nodes {
-        if let SetupNode::Operator { party, .. } = node {
-            parties.push(*party)?;
-        }
+    for member in nodes {
+        push_operator(&mut parties, member)?;
     }
     Ok(parties)
 }
@@ -57,7 +81,7 @@ fn open_operator(
     party: &Party,
     site: &Site,
 ) -> Result<Operator, AllocError>
-    requires are { AreNodes nodes.now }
+    requires setup { IsSetup nodes.now }
     requires member { Contains nodes.now (node.Operator party.now site.now) }
     ensures { IfOk result (λ o. o.state ≡ operator.opening (record { at = 0; parties = record { operator = party.now; providers = providers_of nodes.now }; site = site.now })) }
 {
@@ -76,7 +100,7 @@ fn open_operator(
 
 /// A provider, and all operators among the nodes. An error is want of memory.
 fn open_provider(alloc: Global, nodes: &[SetupNode], party: &Party) -> Result<Provider, AllocError>
-    requires are { AreNodes nodes.now }
+    requires setup { IsSetup nodes.now }
     requires member { Contains nodes.now (node.Provider party.now) }
     ensures { IfOk result (λ p. p.state ≡ provider.opening (record { provider = party.now; operators = operators_of nodes.now })) }
 {
@@ -88,7 +112,7 @@ fn open_provider(alloc: Global, nodes: &[SetupNode], party: &Party) -> Result<Pr
 
 /// A node among the nodes, before the first event. An error is want of memory.
 fn open_node(alloc: Global, nodes: &[SetupNode], member: &SetupNode) -> Result<Node, AllocError>
-    requires are { AreNodes nodes.now }
+    requires setup { IsSetup nodes.now }
     requires member { Contains nodes.now member.now }
     ensures { IfOk result (λ n. node_seen n ≡ opening_of nodes.now member.now) }
 {
@@ -103,7 +127,7 @@ fn open_node(alloc: Global, nodes: &[SetupNode], member: &SetupNode) -> Result<N
 impl Place {
     /// The place of a node among the nodes, before the first event. An error is want of memory.
     fn open(alloc: Global, nodes: &[SetupNode], member: &SetupNode) -> Result<Place, AllocError>
-        requires are { AreNodes nodes.now }
+        requires setup { IsSetup nodes.now }
         requires member { Contains nodes.now member.now }
         ensures { IfOk result (λ p. place_seen p ≡ place_of nodes.now member.now) }
     {
@@ -117,9 +141,28 @@ impl Place {
     }
 }
 
+/// The party of each node is one by its form, which its type keeps.
+fn parties_are(nodes: &[SetupNode])
+    ensures { (n : NodeOf) → Contains nodes.now n → party_at (party_of n) ≡ Ok (party_of n) }
+{
+    for member in nodes {
+        let _text = member.party().as_str();
+    }
+}
+
+/// The nodes of a setup, and what its type keeps.
+pub(crate) fn nodes_of(setup: &Setup) -> &[SetupNode]
+    ensures value { result.now ≡ setup.now }
+    ensures is_setup { IsSetup setup.now }
+{
+    let nodes = setup.as_slice();
+    parties_are(nodes);
+    nodes
+}
+
 /// A place for each node, in order, before the first event. An error is want of memory.
 pub(crate) fn open_all(alloc: Global, nodes: &[SetupNode]) -> Result<Vec<Place>, AllocError>
-    requires { AreNodes nodes.now }
+    requires { IsSetup nodes.now }
     ensures { IfOk result (λ v. places_seen v.items ≡ opened nodes.now) }
 {
     let mut places = Vec::new(alloc);

@@ -1,6 +1,5 @@
 //! A node, and all that it ever sent.
 
-use node_steps::NodeFault;
 use ocpi_text::Party;
 use ocpi_types::{Packet, Session};
 use operator_core::Operator;

@@ -1,17 +1,17 @@
 //! The world.
 
-ghost use Rattle.std.specs.Prelude.{◌≡◌, ◌≢◌, List, [], None, IfOk, OnErr, OnOk, drop};
+ghost use Rattle.std.specs.Prelude.{◌≡◌, ◌≢◌, List, [], None, IfOk, OnErr, drop};
 ghost use Rattle.ocpi_text.specs.Text.{key};
 ghost use Rattle.ocpi_types.specs.declared.events.Event.{Event as EventOf};
-ghost use Rattle.world.specs.Seen.{node_seen, place_seen, places_seen, told, told_in, versions_left};
+ghost use Rattle.world.specs.Seen.{node_seen, packets_sent, places_seen, told, told_in, versions_left};
 ghost use Rattle.world.specs.State.{owed_by, owed_of, past_by};
 ghost use Rattle.world_laws.specs.Later.{IsLater};
-ghost use Rattle.world_laws.specs.Laws.{IsReached, IsRight, IsSetup};
+ghost use Rattle.world_laws.specs.Laws.{IsReached, IsRight};
 ghost use Rattle.world_steps.specs.Steps.{Gives, WorldRun};
 ghost use Rattle.world_steps.specs.World.{World as WorldOf, opened};
 
-use crate::finding::find;
-use crate::opening::open_all;
+use crate::finding::{find, of_party};
+use crate::opening::{nodes_of, open_all};
 use crate::past::Past;
 use crate::place::{Node, Place};
 use crate::planned::{Outcome, Planned, Sending, Told};
@@ -23,12 +23,23 @@ use std::marker::Model;
 use world_laws::laws::{worlds_are_right, worlds_go_on};
 
 /// The nodes of a setup, all packets that each ever sent, and all versions that the sessions of each operator ever had.
-#[derive(Drop)]
 pub struct World {
     alloc: Global,
     places: Vec<Place>,
     changes: Vec<Change>,
     sending: Option<Sending>,
+}
+
+/// What a derive would do, in a function of its own: so it is proved once, and not in each function that drops a world.
+impl Drop for World {
+    fn drop(self) {
+        let World {
+            alloc: _,
+            places: _,
+            changes: _,
+            sending: _,
+        } = self;
+    }
 }
 
 impl Model for World {
@@ -61,7 +72,7 @@ fn step_places(alloc: Global, places: &mut Vec<Place>, event: &Event) -> Result<
         Planned::Idle(outcome) => Ok(Told::idle(alloc, outcome)),
         Planned::Acts(work) => {
             let place = &mut places[i];
-            let from = place.sent.len();
+            let from = place.sent.as_slice().len();
             let changes = place.carry_out(alloc, work)?;
             Ok(Told {
                 outcome: Outcome::Stepped,
@@ -96,12 +107,56 @@ impl Place {
     }
 }
 
+/// The packets that a step sent.
+fn packets_of(places: &[Place], sending: Option<Sending>) -> &[Packet]
+    ensures { result.now ≡ packets_sent (places_seen places.now) sending }
+{
+    let Some(sending) = sending else {
+        return &[];
+    };
+    match places.get(sending.place) {
+        Some(place) => place.sent_from(sending.from),
+        None => &[],
+    }
+}
+
+/// All versions that a session of an operator ever had.
+fn past_among<'w>(places: &'w [Place], operator: &Party, session: CiKey<36>) -> Past<'w>
+    ensures { versions_left result ≡ past_by (places_seen places.now) operator.now session }
+{
+    match of_party(places, operator) {
+        Some(place) => Past {
+            session,
+            versions: place.versions.as_slice(),
+        },
+        None => Past {
+            session,
+            versions: &[],
+        },
+    }
+}
+
+/// What a provider owes to an operator in a currency.
+fn owed_among(
+    places: &[Place],
+    provider: &Party,
+    operator: &Party,
+    currency: ShortText<3, 12>,
+) -> i128
+    ensures { result ≡ owed_by (places_seen places.now) provider.now (key operator.now, currency) }
+{
+    match of_party(places, provider) {
+        Some(place) => place.owed(operator, currency),
+        None => 0,
+    }
+}
+
 impl World {
     /// The world of a setup before the first event. An error is want of memory.
     pub fn open(alloc: Global, setup: &Setup) -> Result<World, AllocError>
         ensures { IfOk result (λ w. w ≡ record { places = opened setup.now; changes = []; packets = [] }) }
     {
-        let places = open_all(alloc, setup.as_slice())?;
+        let places = open_all(alloc, nodes_of(setup))?;
         Ok(World {
             alloc,
             places,
@@ -164,13 +219,7 @@ impl World {
     pub fn packets(&self) -> &[Packet]
         ensures { result.now ≡ self.now.packets }
     {
-        let Some(sending) = self.sending else {
-            return &[];
-        };
-        match self.places.as_slice().get(sending.place) {
-            Some(place) => place.sent_from(sending.from),
-            None => &[],
-        }
+        packets_of(self.places.as_slice(), self.sending)
     }
 
     /// The rows that the last step changed, in order. None, where the event of it was not stepped.
@@ -184,30 +233,14 @@ impl World {
     pub fn past(&self, operator: &Party, session: CiKey<36>) -> Past<'_>
         ensures { versions_left result ≡ past_by self.now.places operator.now session }
     {
-        for place in self.places.as_slice() {
-            if place.party.is_same(operator) {
-                return Past {
-                    session,
-                    versions: place.versions.as_slice(),
-                };
-            }
-        }
-        Past {
-            session,
-            versions: &[],
-        }
+        past_among(self.places.as_slice(), operator, session)
     }
 
     /// What a provider owes to an operator in a currency, in ten-thousandths: the sum of the costs of the operator's charge detail
-    /// records in that currency that it holds. 0, where there is no such provider.
+    /// records in that currency that it holds. 0, where there is no such provider. It takes no memory.
     pub fn settlement(&self, provider: &Party, operator: &Party, currency: ShortText<3, 12>) -> i128
         ensures { result ≡ owed_by self.now.places provider.now (key operator.now, currency) }
     {
-        for place in self.places.as_slice() {
-            if place.party.is_same(provider) {
-                return place.owed(operator, currency);
-            }
-        }
-        0
+        owed_among(self.places.as_slice(), provider, operator, currency)
     }
 }

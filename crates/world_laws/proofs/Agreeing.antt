@@ -36,7 +36,6 @@ use Rattle.operator_laws.proofs.standing.AtAllTimes.{always_consistent}
 use Rattle.operator_rows.specs.State as operator
 use Rattle.operator_steps.specs.Acts as operator_acts
 use Rattle.operator_steps.specs.Events as operator_events
-use Rattle.provider_laws.specs.Commands as commands
 use Rattle.provider_laws.specs.Laws as provider_laws
 use Rattle.provider_laws.proofs.commands.Sent.{sent_commands_stand}
 use Rattle.provider_laws.proofs.commands.Standing.{answers_came, results_came}

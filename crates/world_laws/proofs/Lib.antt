@@ -12,3 +12,4 @@ pub mod Gathering
 pub mod Billing
 pub mod Owing
 pub mod Starting
+pub mod Right

@@ -2,7 +2,6 @@
 use Rattle.std.proofs.Common.{◌≡◌, ◌⊎◌, ◌<◌, ℤ, List, [], ◌∷◌, cond, inl, inr, refl, sym, subst, ◌∙◌, arith}
 use Rattle.std.specs.Prelude.{Some, None, Contains}
 use Rattle.std.specs.List.{last_or}
-use Rattle.std.specs.Str.{bytes_eq}
 use Rattle.std.proofs.lemmas.Slice.Eq.{bytes_eq-Decides}
 use Rattle.std.proofs.lemmas.List.Elements.{Contains-append_left, Contains-append_right}
 use Rattle.tables.proofs.Elements.{in_none, in_front, in_single}
@@ -14,8 +13,8 @@ use Rattle.ocpi_types.specs.declared.sessions.Session.{Session}
 use Rattle.session_state.specs.Pasts.{Follow, IsFinal, IsOrderly, IsSame, MayFollow}
 use Rattle.operator_rows.proofs.RowChanges.{of_cons}
 use Rattle.operator_steps.specs.Events.{Event}
+use Rattle.operator_laws.specs.Sessions.{Puts}
 use Rattle.session_laws.specs.Pasts.{past, version_put, versions_put}
-use Rattle.session_laws.specs.Runs.{Puts}
 use Rattle.session_laws.proofs.Growing.{no_turn}
 
 -- an earlier version of the session: it is not final

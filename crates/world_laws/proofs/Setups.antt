@@ -5,15 +5,15 @@ use Rattle.std.proofs.lemmas.List.Elements.{Contains-append_left, Contains-appen
 use Rattle.std.proofs.lemmas.Option.{slice_get-map}
 use Rattle.ocpi_text.specs.Party.{party_at}
 use Rattle.ocpi_text.specs.Text.{key}
-use Rattle.ocpi_types.specs.Apart.{AllDiffer, DifferFrom}
+use Rattle.ocpi_types.specs.Apart.{DifferFrom}
 use Rattle.ocpi_types.specs.Setups.{node_key, party_of}
 use Rattle.ocpi_types.specs.declared.setup.Node.{Node}
 use Rattle.ocpi_types.specs.declared.setup.Node.TheVariants as node
 use Rattle.ocpi_types.specs.declared.site.Site.{Site}
-use Rattle.provider_rows.specs.State.{ArePeers, Peering}
+use Rattle.provider_rows.specs.State.{ArePeers}
 use Rattle.tables.proofs.Elements.{in_front, in_none, in_single}
 use Rattle.world_laws.specs.Laws.{IsSetup}
-use Rattle.world_steps.proofs.Places.{got_within, is_in, some_same}
+use Rattle.world_steps.proofs.Places.{is_in, some_same}
 use Rattle.world_steps.specs.World.{operators_of, providers_of}
 
 -- a text of a list that differs from others is none of them
@@ -87,8 +87,8 @@ module _ (setup : List Node) (is_setup : IsSetup setup) where
   pub one_node : (i j : ℕ) (n m : Node) → slice_get setup i ≡ Some n → slice_get setup j ≡ Some m → node_key n ≡ node_key m → i ≡ j
   one_node i j n m at there same =
       stands_once [] (map node_key setup) is_setup.are_nodes.apart i j (node_key n)
-        (slice_get-map node_key setup i ∙ ap (option_map node_key) at)
-        (slice_get-map node_key setup j ∙ ap (option_map node_key) there ∙ ap Some (sym same))
+      (slice_get-map node_key setup i ∙ ap (option_map node_key) at)
+      (slice_get-map node_key setup j ∙ ap (option_map node_key) there ∙ ap Some (sym same))
 
   -- so none is an operator and a provider
   pub one_role : (i j : ℕ) (p q : List ℕ) (site : Site) → slice_get setup i ≡ Some (node.Operator p site) → slice_get setup j ≡ Some (node.Provider q) → key p ≡ key q → ⊥

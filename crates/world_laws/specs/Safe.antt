@@ -1,6 +1,6 @@
 -- A world is safe: no EVSE has two claims, no authorization reference starts two sessions, each session goes on in order, what a provider
 -- holds of it is what the operator had, and each session is billed once and owed once.
-use Rattle.std.specs.Prelude.{◌≡◌, ◌≢◌, ◌↔◌, ℕ, ℤ, List, Option, Some, None, map, Contains, pos}
+use Rattle.std.specs.Prelude.{◌≡◌, ◌≢◌, ◌↔◌, ℕ, ℤ, List, Some, None, map, Contains, pos}
 use Rattle.std.specs.List.{AllPairs, last_or}
 use Rattle.std.specs.FinMap.{get, values}
 use Rattle.ocpi_text.specs.Text.{key}

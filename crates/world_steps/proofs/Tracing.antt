@@ -1,5 +1,5 @@
 -- From a run of a world to the runs of its nodes: the one induction over worlds.
-use Rattle.std.proofs.Common.{◌≡◌, ◌≢◌, ℕ, ◌<◌, List, [], ◌∷◌, ◌++◌, length, inl, inr, refl, sym, ap, subst, subst₂, ◌∙◌, arith, append_assoc, append-nil, length-set}
+use Rattle.std.proofs.Common.{◌≡◌, ℕ, List, [], ◌∷◌, ◌++◌, inl, inr, refl, sym, ap, subst, subst₂, ◌∙◌, arith, append_assoc, append-nil, length-set}
 use Rattle.std.specs.Prelude.{Some, Contains, slice_get, slice_set}
 use Rattle.std.proofs.lemmas.Bool.{cases_eq}
 use Rattle.ocpi_text.specs.Text.{key}
@@ -13,9 +13,9 @@ use Rattle.provider_steps.specs.Events as provider
 use Rattle.tables.proofs.Elements.{in_none}
 use Rattle.world_steps.specs.Laws as laws
 use Rattle.world_steps.specs.Network.{MayArrive, OperatorInput, ProviderInput, Reaches}
-use Rattle.world_steps.specs.Steps.{AtOperator, AtProvider, Does, Gives, Loses, NodeEvent, Outcome, Passes, PlaceStep, Refuses, WorldRun, WorldStep, input_of}
+use Rattle.world_steps.specs.Steps.{AtOperator, AtProvider, Does, Gives, Loses, NodeEvent, Outcome, Passes, PlaceStep, Refuses, WorldRun, input_of}
 use Rattle.world_steps.specs.Traces.{Brings, Came, Goes, Histories, IsSent, Linked, Traces, Went, joined, only, sent}
-use Rattle.world_steps.specs.World.{IsAt, NodeState, Operates, Place, Provides, World, opened, place_of}
+use Rattle.world_steps.specs.World.{NodeState, Operates, Place, Provides, World, opened, place_of}
 use Rattle.world_steps.proofs.Histories.{came_cases, came_one, only_elsewhere, only_here, sent_before, went_none, went_on, went_one}
 use Rattle.world_steps.proofs.Places.{got_within, is_in, of_mapped, set_other, set_same, some_same, stands}
 

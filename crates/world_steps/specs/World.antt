@@ -1,5 +1,5 @@
 -- A world: the nodes of a setup, all packets that each ever sent, and all versions that the sessions of each operator ever had.
-use Rattle.std.specs.Prelude.{◌≡◌, ℕ, List, [], ◌∷◌, ◌++◌, Some, map, filter, slice_get, bytes_eq}
+use Rattle.std.specs.Prelude.{◌≡◌, ℕ, List, [], ◌∷◌, Some, map, filter, slice_get, bytes_eq}
 use Rattle.std.specs.List.{flat_map}
 use Rattle.ocpi_text.specs.Text.{key}
 use Rattle.ocpi_types.specs.Setups.{party_of}
@@ -7,7 +7,6 @@ use Rattle.ocpi_types.specs.declared.packet.Packet.{Packet}
 use Rattle.ocpi_types.specs.declared.sessions.Session.{Session}
 use Rattle.ocpi_types.specs.declared.setup.Node.{Node}
 use Rattle.ocpi_types.specs.declared.setup.Node.TheVariants as node
-use Rattle.ocpi_types.specs.declared.site.SiteLine.{SiteLine}
 use Rattle.operator_rows.specs.State as operator
 use Rattle.provider_rows.specs.State as provider
 

@@ -1,5 +1,5 @@
 -- The result of each command is posted to the url of its number, so no two commands have one.
-use Rattle.std.proofs.Common.{◌≡◌, ◌≤◌, ◌<◌, ◌^◌, ◌++◌, ◌∷◌, ℕ, List, inl, inr, refl, sym, ap, subst, ◌∙◌, arith, codes, decimal, length, drop}
+use Rattle.std.proofs.Common.{◌≡◌, ◌≤◌, ◌++◌, ◌∷◌, ℕ, List, inl, inr, refl, sym, ap, ◌∙◌, arith, codes, decimal, length, drop}
 use Rattle.std.specs.Prelude.{Some}
 use Rattle.std.specs.Cmp.{nat_cmp_total}
 use Rattle.std.specs.Ordering.{nat_cmp}

@@ -4,7 +4,6 @@ use Rattle.std.specs.Prelude.{Option, Some, None, Contains}
 use Rattle.std.specs.Cmp.{nat_cmp_total}
 use Rattle.std.specs.FinMap.{get, insert, remove, nat_cmp-IsAntisymmetric}
 use Rattle.tables.specs.Keys.{text_number_total, text_number_exact}
-use Rattle.tables.proofs.Elements.{in_front}
 use Rattle.std.proofs.lemmas.List.Elements.{Contains-append_right}
 use Rattle.tables.proofs.Maps.{of_insert, of_remove}
 use Rattle.tables.proofs.Options.{not_both}
@@ -41,8 +40,7 @@ use Rattle.provider_steps.specs.Orders.{Makes, OrderLine, next_reference, next_r
 use Rattle.provider_steps.specs.Orders as orders
 use Rattle.provider_steps.specs.Packets.{Answers, PacketLine}
 use Rattle.provider_steps.specs.Packets as lines
-use Rattle.provider_steps.specs.Tick.{TickLine, all_resent, resent_acts}
-use Rattle.provider_steps.specs.Tokens.{TokenLine}
+use Rattle.provider_steps.specs.Tick.{all_resent, resent_acts}
 use Rattle.provider_laws.specs.Held.{cdr_put, cdrs_put}
 use Rattle.provider_laws.specs.References.{Carrier, InCommand, InReply, Carries, given_in}
 use Rattle.provider_laws.proofs.events.Parts.{Does, Kept, SameReplies, SameCommands, Made, Responded, Resulted, SameSessions, SessionTaken, SameCdrs, CdrTaken, SameReferences, Given, CdrsMove}

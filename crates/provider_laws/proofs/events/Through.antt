@@ -12,7 +12,7 @@ use Rattle.node_steps.specs.Acts.{Act, all_changes, all_messages, all_requests}
 use Rattle.node_steps.specs.Drafts.{Counters, count_change, count_changes, counted}
 use Rattle.provider_rows.specs.State.{State, Rows}
 use Rattle.provider_rows.specs.Stored.{changed, changed_all}
-use Rattle.provider_steps.specs.Moves.{acted, counters_of, step_of_acts}
+use Rattle.provider_steps.specs.Moves.{acted, counters_of}
 
 -- the change is not of the counter of packets, nor of that of requests
 abbrev pub IsPlain : Change → Type 0

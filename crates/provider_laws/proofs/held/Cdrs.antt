@@ -1,6 +1,6 @@
 -- Charge detail records that are held: each came from its operator, is held for good, and is the only one of its session.
-use Rattle.std.proofs.Common.{◌≡◌, ◌≢◌, ◌⊎◌, ℕ, List, [], ◌∷◌, inl, inr, refl, sym, ap, subst, ◌∙◌}
-use Rattle.std.specs.Prelude.{Some, None, Contains}
+use Rattle.std.proofs.Common.{◌≡◌, ◌⊎◌, ℕ, List, [], ◌∷◌, inl, inr, refl, sym, ap, subst, ◌∙◌}
+use Rattle.std.specs.Prelude.{Some, None}
 use Rattle.std.specs.FinMap.{get, insert, get-empty}
 use Rattle.tables.specs.Keys.{text_exact, text_pair_cmp, text_pair_exact, text_pair_total, text_total}
 use Rattle.tables.proofs.Elements.{in_front}
@@ -16,13 +16,13 @@ use Rattle.handover.specs.Cdrs.{AreOwnCdrs, Cdrs, HasOnePerSession, cdr_key}
 use Rattle.handover.specs.Inbox.{IsInConflict, IsOfParties}
 use Rattle.node_laws.proofs.Runs.{kept_runs}
 use Rattle.node_steps.specs.Acts.{Act, answered}
-use Rattle.provider_rows.specs.State.{Peering, Rows, State, opening}
+use Rattle.provider_rows.specs.State.{Rows, State, opening}
 use Rattle.provider_steps.specs.Acts.{billed}
 use Rattle.provider_steps.specs.Events.{Event, Happens}
 use Rattle.provider_steps.specs.Packets.{Answers}
 use Rattle.provider_steps.specs.Packets as lines
-use Rattle.provider_laws.specs.Laws.{AnswersIt, Brings, Run}
-use Rattle.provider_laws.specs.Held.{AcknowledgedCdrsAreHeld, CdrCame, HeldCdrsCame, HeldCdrsStay, IsTaken, OneCdrPerSession, cdrs_put}
+use Rattle.provider_laws.specs.Laws.{AnswersIt, Brings}
+use Rattle.provider_laws.specs.Held.{AcknowledgedCdrsAreHeld, HeldCdrsCame, HeldCdrsStay, IsTaken, OneCdrPerSession, cdrs_put}
 use Rattle.provider_laws.proofs.events.Parts.{CdrTaken, CdrsMove, SameCdrs}
 use Rattle.provider_laws.proofs.events.Doing.{does, same_party}
 use Rattle.provider_laws.proofs.events.Through.{one_act, through}

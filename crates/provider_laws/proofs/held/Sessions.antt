@@ -9,7 +9,6 @@ use Rattle.tables.proofs.Maps.{get-insert_same, get-insert_other, of_insert, tol
 use Rattle.ocpi_types.specs.declared.packet.Packet.{Packet}
 use Rattle.ocpi_types.specs.declared.packet.Body.{Body}
 use Rattle.ocpi_types.specs.declared.packet.Body.TheVariants as body
-use Rattle.ocpi_types.specs.declared.replies.Ack.{Ack}
 use Rattle.ocpi_types.specs.declared.sessions.Session.{Session}
 use Rattle.ocpi_types.specs.declared.stored.Reply.{Reply}
 use Rattle.ocpi_types.specs.declared.stored.Reply.TheVariants as reply
@@ -24,8 +23,8 @@ use Rattle.provider_steps.specs.Acts.{acknowledgement, held}
 use Rattle.provider_steps.specs.Events.{Event, Happens}
 use Rattle.provider_steps.specs.Packets.{Answers, IsRight}
 use Rattle.provider_steps.specs.Packets as lines
-use Rattle.provider_laws.specs.Laws.{AnswersIt, Brings, Run}
-use Rattle.provider_laws.specs.Held.{AcknowledgedSessionsAreHeld, HeldSessionsCame, HeldSessionsRise, HoldsAtLeast, IsAfter, IsTaken, SessionCame}
+use Rattle.provider_laws.specs.Laws.{AnswersIt, Brings}
+use Rattle.provider_laws.specs.Held.{AcknowledgedSessionsAreHeld, HeldSessionsCame, HeldSessionsRise, HoldsAtLeast, IsAfter, IsTaken}
 use Rattle.provider_laws.proofs.events.Parts.{SessionsMove, SameSessions, SessionTaken}
 use Rattle.provider_laws.proofs.events.Doing.{does, same_party}
 use Rattle.provider_laws.proofs.events.Through.{one_act, through}

@@ -1,7 +1,7 @@
 -- What is owed changes by the charge detail records that are taken, each once.
-use Rattle.std.proofs.Common.{◌≡◌, ◌≢◌, ◌⊎◌, ℕ, List, [], ◌∷◌, ◌++◌, map, inl, inr, refl, sym, ap, subst, ◌∙◌, arith}
+use Rattle.std.proofs.Common.{◌≡◌, ◌≢◌, List, [], ◌∷◌, ◌++◌, inl, inr, sym, ap, subst, ◌∙◌, arith}
 use Rattle.std.proofs.lemmas.Int.{ints}
-use Rattle.std.specs.Prelude.{Some, None, Contains, ℤ, pos, ◌+ℤ◌}
+use Rattle.std.specs.Prelude.{Some, None, Contains, pos, ◌+ℤ◌}
 use Rattle.std.specs.List.{AllPairs}
 use Rattle.std.specs.FinMap.{get, insert, values}
 use Rattle.std.proofs.lemmas.List.Elements.{All-nil, Contains-append_cases}
@@ -12,11 +12,10 @@ use Rattle.tables.proofs.Maps.{get-insert_same}
 use Rattle.tables.proofs.Options.{none_else, not_both}
 use Rattle.ocpi_types.specs.declared.cdrs.Cdr.{Cdr}
 use Rattle.handover.specs.Cdrs.{Cdrs, cdr_key}
-use Rattle.handover.specs.Owed.{Account, cost_in, owed, total}
+use Rattle.handover.specs.Owed.{Account, cost_in, owed}
 use Rattle.handover.proofs.Totals.{term_at, total_insert}
 use Rattle.provider_rows.specs.State.{State}
 use Rattle.provider_steps.specs.Events.{Event, Happens}
-use Rattle.provider_laws.specs.Laws.{Run}
 use Rattle.provider_laws.specs.Held.{CdrsAreTakenOnce, SettlementsAreTaken, TakenCdrsAreHeld, cdrs_put, taken}
 use Rattle.provider_laws.proofs.events.Parts.{CdrTaken, CdrsMove, SameCdrs}
 use Rattle.provider_laws.proofs.events.Doing.{does}

@@ -1,5 +1,5 @@
 -- Each line is a step of a node.
-use Rattle.std.proofs.Common.{◌≡◌, ◌+◌, ◌≤◌, ◌<◌, ◌++◌, ℕ, map, List, [], ◌∷◌, inl, inr, refl, sym, ap, subst, ◌∙◌, arith}
+use Rattle.std.proofs.Common.{◌≡◌, ◌+◌, ◌≤◌, ◌++◌, ℕ, List, [], ◌∷◌, inl, inr, refl, sym, ap, subst, ◌∙◌, arith}
 use Rattle.std.specs.Prelude.{Option, Some, None, Contains, is_some}
 use Rattle.std.specs.FinMap.{get}
 use Rattle.std.proofs.lemmas.List.Elements.{Contains-append_right}
@@ -8,7 +8,6 @@ use Rattle.tables.proofs.Options.{none_contained, none_else, none_some, not_both
 use Rattle.ocpi_text.specs.Text.{key}
 use Rattle.ocpi_types.specs.Stored.{body_of_push}
 use Rattle.ocpi_types.specs.declared.events.Order.{Order}
-use Rattle.ocpi_types.specs.declared.packet.Body.TheVariants as body
 use Rattle.ocpi_types.specs.declared.packet.Packet.{Packet}
 use Rattle.ocpi_types.specs.declared.rows.Change.TheVariants.{Put}
 use Rattle.ocpi_types.specs.declared.rows.Counter.TheVariants.{Reference}
@@ -22,27 +21,26 @@ use Rattle.ocpi_types.specs.declared.stored.SentCommand.{SentCommand}
 use Rattle.ocpi_types.specs.declared.token.Token.{Token}
 use Rattle.ocpi_types.specs.declared.words.TokenType.{TokenType}
 use Rattle.ocpi_types.specs.declared.words.TokenType.TheVariants as type
-use Rattle.outbox.specs.Due.{IsDue}
 use Rattle.outbox.specs.Outbox.{OutboxRows, Waits}
-use Rattle.outbox.specs.Pushes.{IsReplaced, Pushes, subject, type_number}
+use Rattle.outbox.specs.Pushes.{IsReplaced, subject, type_number}
 use Rattle.outbox.specs.declared.push_book.Outgoing.{Outgoing}
 use Rattle.outbox.specs.declared.push_book.Subject.{Subject}
 use Rattle.node_steps.specs.Acts.{Act, all_requests, answered, commanded, in_turn, pushed}
 use Rattle.node_steps.specs.Peers.{IsPeer}
-use Rattle.node_laws.specs.Nodes.{AreAboutSame, Request, Tokens, posted_to}
+use Rattle.node_laws.specs.Nodes.{AreAboutSame, Tokens, posted_to}
 use Rattle.provider_rows.specs.State.{Rows, State, url_of}
 use Rattle.provider_rows.specs.Sound.{IsConsistent}
 use Rattle.provider_steps.specs.declared.pushing.Pushing.{Pushing}
-use Rattle.provider_steps.specs.Acts.{billed, held, referenced, replaced, stored, token_acts}
+use Rattle.provider_steps.specs.Acts.{referenced, replaced, stored, token_acts}
 use Rattle.provider_steps.specs.Events.{Arrives, Asks, Gives, Input, Restarts, Submits, Ticks}
 use Rattle.provider_steps.specs.Orders as orders
 use Rattle.provider_steps.specs.Orders.{Makes, next_reference, next_request}
 use Rattle.provider_steps.specs.Packets as lines
 use Rattle.provider_steps.specs.Packets.{Answers, PacketLine}
-use Rattle.provider_steps.specs.Tick.{TickLine, all_resent, resent_acts}
-use Rattle.provider_steps.specs.Tokens.{AreTokenPushes, TokenLine}
+use Rattle.provider_steps.specs.Tick.{all_resent, resent_acts}
+use Rattle.provider_steps.specs.Tokens.{AreTokenPushes}
 use Rattle.provider_laws.specs.AsNode.{came_in, pushed_request}
-use Rattle.provider_laws.proofs.events.Doing.{Untouched, pushed_asks, pushed_last, pushed_untouched, same_rows, untouched_twice}
+use Rattle.provider_laws.proofs.events.Doing.{Untouched, pushed_asks, pushed_last, pushed_untouched, untouched_twice}
 use Rattle.provider_laws.proofs.events.Through.{one_act, through}
 use Rattle.provider_laws.proofs.nodes.ActSteps.{AreStep, acknowledged_step, answered_step, command_resent_step, commanded_step, no_step, pushed_step, quiet, repeated_step, replaced_step, resent_step, responded_step, resulted_step, step_append}
 use Rattle.provider_laws.proofs.replies.Answering.{answers_request}

@@ -1,17 +1,15 @@
 -- Each event of a provider is a step of a node.
-use Rattle.std.proofs.Common.{◌≡◌, ◌⊎◌, ◌≤◌, ℕ, List, inl, inr, refl, sym, ap, subst, ◌∙◌, arith}
-use Rattle.std.specs.Prelude.{Some, None}
+use Rattle.std.proofs.Common.{◌≡◌, ◌⊎◌, ◌≤◌, ℕ, List, inl, inr, sym, ap, subst, ◌∙◌, arith}
+use Rattle.std.specs.Prelude.{Some}
 use Rattle.std.specs.Cmp.{nat_cmp_total}
-use Rattle.std.specs.FinMap.{get, insert, nat_cmp-IsAntisymmetric}
+use Rattle.std.specs.FinMap.{get, nat_cmp-IsAntisymmetric}
 use Rattle.tables.proofs.Maps.{of_insert}
 use Rattle.tables.proofs.Options.{none_else, not_both}
 use Rattle.ocpi_types.specs.declared.stored.SentCommand.{SentCommand}
-use Rattle.outbox.specs.Outbox.{OutboxRows}
-use Rattle.outbox.specs.declared.push_book.Outgoing.{Outgoing}
 use Rattle.node_steps.specs.Acts.{Act, unanswered}
 use Rattle.node_laws.specs.Nodes.{NodeStep}
 use Rattle.node_laws.proofs.Joining.{idle_step}
-use Rattle.provider_rows.specs.State.{State, Rows}
+use Rattle.provider_rows.specs.State.{State}
 use Rattle.provider_rows.specs.Sound.{with_rows}
 use Rattle.provider_steps.specs.Acts.{with_answer, with_result}
 use Rattle.provider_steps.specs.Events.{Asks, Done, Event, Happens, Input, Refused, Restarted}

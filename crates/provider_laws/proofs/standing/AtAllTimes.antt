@@ -1,5 +1,5 @@
 -- What holds of a provider at all times, over runs.
-use Rattle.std.proofs.Common.{◌≡◌, List, sym, subst}
+use Rattle.std.proofs.Common.{List, sym, subst}
 use Rattle.node_laws.proofs.Runs.{kept_runs}
 use Rattle.node_steps.specs.Acts.{Act}
 use Rattle.provider_rows.specs.State.{State, opening}

@@ -9,5 +9,5 @@ returns c =
     let after = string_bytes c.write_all_debts.new.output in
     let world = c.played.inside.world.places in
     let written = subst (λ (setup : List Node). OnOk c.write_all_debts.result (after ≡ before ++ flat_map (debts_of world setup) setup))
-          c.as_slice.ensures.value c.write_all_debts.ensures in
+    c.as_slice.ensures.value c.write_all_debts.ensures in
     subst (λ (now : Playing). OnOk c.write_all_debts.result (after ≡ before ++ owed_lines now)) c.played.view_is written

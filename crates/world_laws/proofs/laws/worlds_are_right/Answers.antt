@@ -1,0 +1,5 @@
+use Rattle.world_laws.proofs.Right as laws
+use Rattle.world_laws.proofs.laws.worlds_are_right.Goals as goal
+
+pub returns : goal.returns
+returns c = laws.worlds_are_right
