@@ -33,7 +33,8 @@ use Rattle.world.specs.declared.planned.Sending.{Sending}
 use Rattle.world.specs.declared.planned.Told.{Told}
 use Rattle.world.specs.declared.planned.Work.{Work}
 use Rattle.world.specs.declared.planned.Work.TheVariants as work
-use Rattle.world_laws.specs.Laws.{IsReached}
+use Rattle.world_laws.specs.Later.{IsLater}
+use Rattle.world_laws.specs.Laws.{IsReached, IsRight, WorldsGoOn}
 use Rattle.world_steps.specs.Network.{OfOperator, OfProvider, OperatorInput, ProviderInput, Reaches}
 use Rattle.world_steps.specs.Steps as steps
 use Rattle.world_steps.specs.Steps.{AtOperator, AtProvider, Does, Gives, IsForNone, Loses, NoNode, NodeEvent, NodeStep, NothingReaches, OperatorRefuses, Passes, PlaceStep, ProviderRefuses, Refuses, WorldRun, WorldStep, changes_of, input_of, packets_of, versions_of}
@@ -192,3 +193,7 @@ reached_more u v e o reached gives = record {
   events = reached.events ++ e ∷ [];
   run = run_more (opened reached.setup) u v reached.events e o reached.run gives;
 }
+
+-- what holds after one event, by what holds after many
+pub one_event : WorldsGoOn → (u v : World) (e : Event) (o : steps.Outcome) → IsReached u → Gives u e o v → IsRight v × IsLater u v
+one_event go_on u v e o reached gives = let on = go_on u v (e ∷ []) reached (v, (o, gives), refl) in (on.1, on.2)

@@ -1,6 +1,6 @@
 //! The world.
 
-ghost use Rattle.std.specs.Prelude.{◌≡◌, ◌≢◌, List, [], None, IfOk, OnErr, drop};
+ghost use Rattle.std.specs.Prelude.{◌≡◌, ◌≢◌, List, [], None, IfOk, OnErr, OnOk, drop};
 ghost use Rattle.ocpi_text.specs.Text.{key};
 ghost use Rattle.ocpi_types.specs.declared.events.Event.{Event as EventOf};
 ghost use Rattle.world.specs.Seen.{node_seen, packets_sent, places_seen, told, told_in, versions_left};
@@ -168,12 +168,15 @@ impl World {
     /// What happens at a node. An event that is of no node is passed over: where there is no node of that party, where it is no event of
     /// the node's role, and where a packet that is to be delivered was not sent, or not to it. A node may refuse an event (`NodeFault`,
     /// but for want of memory), and then nothing changes and nothing is sent. An error is want of memory: nothing changes then, and the
-    /// event may come again.
+    /// event may come again. A world is right after each step, and later than before it (`consistency`).
     pub fn step(&mut self, event: &Event) -> Result<Outcome, AllocError>
         ensures ok { IfOk result (λ o. Gives self.old.places event.now (told o self.new.packets self.new.changes) self.new.places) }
         ensures idle { IfOk result (λ o. o ≢ Outcome.Stepped → (self.new.packets ≡ []) × (self.new.changes ≡ [])) }
+        ensures right { OnOk result (IsRight self.new.places) }
+        ensures later { OnOk result (IsLater self.old.places self.new.places) }
         ensures err { OnErr result (self.new ≡ self.old) }
     {
+        worlds_go_on();
         let told = step_places(self.alloc, &mut self.places, event)?;
         let Told {
             outcome,
