@@ -1,4 +1,4 @@
-use Rattle.std.proofs.Common.{◌≡◌, ◌++◌, ◌∙◌, List, OnOk, flat_map, subst, string_bytes}
+use Rattle.std.proofs.Common.{◌≡◌, ◌++◌, List, OnOk, flat_map, subst, string_bytes}
 use Rattle.ocpi_types.specs.declared.setup.Node.{Node}
 use Rattle.ocpi_nodes.specs.Play.{Playing, debts_of, owed_lines}
 use Rattle.ocpi_nodes.proofs.play.write_owed.Goals as goal
