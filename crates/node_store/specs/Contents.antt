@@ -1,6 +1,6 @@
 -- What a keeper keeps: under each kind and key, the text of the row.
-use Rattle.std.specs.Prelude.{◌≡◌, ℕ, List, [], ◌∷◌, ◌++◌, Option, Some, None, Result, Ok, Err}
-use Rattle.std.specs.FinMap.{FinMap, entries, insert, remove}
+use Rattle.std.specs.Prelude.{◌≡◌, ℕ, Bool, true, false, List, [], ◌∷◌, ◌++◌, Option, Some, None, Result, Ok, Err}
+use Rattle.std.specs.FinMap.{FinMap, entries, get, insert, remove}
 use Rattle.tables.specs.Keys.{text_pair_cmp}
 use Rattle.json_text.specs.Fault.{Read}
 use Rattle.ocpi_types.specs.Rows.{key_of}
@@ -36,11 +36,24 @@ abbrev pub changed_all : Content → List Change → Content
 changed_all c [] = c
 changed_all c (x ∷ xs) = changed_all (changed c x) xs
 
+-- what a change puts is read again as that very row
+abbrev pub IsReadAgain : Change → Type 0
+IsReadAgain (change.Put r) = row_in (row_kind_word (kind_of_key (key_of r))) (key_text (key_of r)) (row_text r) ≡ Ok r
+IsReadAgain (change.Drop k) = Unit {0}
+
 -- ---- the rows that are kept
 
 abbrev pub after_row : {X : Type 0} → Read Row → (Row → Option X) → Option X
 after_row (Ok r) f = f r
 after_row (Err e) f = None
+
+abbrev pub is_row : Read Row → Bool
+is_row (Ok r) = true
+is_row (Err e) = false
+
+-- each text is a row of its kind and key
+abbrev pub AreRows : Content → Type 0
+AreRows c = (p : RowPlace) (t : List ℕ) → get c p ≡ Some t → is_row (row_in p.0 p.1 t) ≡ true
 
 -- the rows of entries in turn behind those before, or none where a text is no row of its kind and key
 abbrev pub rows_after : List Row → List (RowPlace × List ℕ) → Option (List Row)

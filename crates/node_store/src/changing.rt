@@ -1,6 +1,7 @@
 //! Changes of a table of texts, made all together or not at all.
 
 ghost use Rattle.std.specs.Prelude.{◌≡◌, All, IfOk, map};
+ghost use Rattle.node_store.specs.Contents.{IsReadAgain};
 ghost use Rattle.node_store.specs.Placing.{HasRoom, kept, placed_all, placed_of, room, set_text};
 
 use crate::stored::{Place, Placed, StoredText, placed_of};
@@ -10,7 +11,8 @@ use tables::Table;
 
 /// The places and texts of changes, in turn.
 pub(crate) fn placed_all(alloc: Global, changes: &[Change]) -> Result<Vec<Placed>, AllocError>
-    ensures { IfOk result (λ v. v.items ≡ map placed_of changes.now) }
+    ensures placed { IfOk result (λ v. v.items ≡ map placed_of changes.now) }
+    ensures again { IfOk result (λ v. All IsReadAgain changes.now) }
 {
     let mut placed = Vec::new(alloc);
     for change in changes {

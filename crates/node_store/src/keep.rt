@@ -1,7 +1,7 @@
 //! What a keeper of a node's rows is.
 
-ghost use Rattle.std.specs.Prelude.{◌≡◌, ◌≢◌, ◌⊎◌, List, ℕ, [], IfErr, IfOk, OnErr, OnOk, None, Some};
-ghost use Rattle.node_store.specs.Contents.{Content, changed_all, rows_of};
+ghost use Rattle.std.specs.Prelude.{◌≡◌, ◌≢◌, ◌⊎◌, All, List, ℕ, [], IfErr, IfOk, OnErr, OnOk, None, Some};
+ghost use Rattle.node_store.specs.Contents.{Content, IsReadAgain, changed_all, rows_of};
 ghost use Rattle.node_store.specs.Faults.{IsCommitFault, counted};
 ghost use Rattle.node_store.specs.declared.fault.StoreFault.TheVariants.{BadRow, OldLayout};
 
@@ -38,6 +38,8 @@ pub trait Keep {
         ensures all { Self.is_honest self.new → OnOk result (Self.content self.new ≡ changed_all (Self.content self.old) changes.now) }
         ensures none { Self.is_honest self.new → OnErr result (Self.content self.new ≡ Self.content self.old) }
         ensures fault { IfErr result IsCommitFault }
+        // What was put can be read again.
+        ensures again { OnOk result (All IsReadAgain changes.now) }
         // It is refused only where the count rises.
         ensures counted { Self.refusals self.new ≡ counted result (Self.refusals self.old) }
         ensures honest { Self.is_honest self.new → Self.is_honest self.old }

@@ -1,8 +1,8 @@
 //! A keeper in memory.
 
-ghost use Rattle.std.specs.Prelude.{◌≡◌, ◌≢◌, ◌⊎◌, List, ℕ, [], IfErr, IfOk, OnErr, OnOk, None, Some};
+ghost use Rattle.std.specs.Prelude.{◌≡◌, ◌≢◌, ◌⊎◌, All, List, ℕ, [], IfErr, IfOk, OnErr, OnOk, IsSome, None, Some};
 ghost use Rattle.std.specs.FinMap.{empty};
-ghost use Rattle.node_store.specs.Contents.{Content, changed_all, rows_of};
+ghost use Rattle.node_store.specs.Contents.{Content, IsReadAgain, changed_all, rows_of};
 ghost use Rattle.node_store.specs.Faults.{IsListFault, IsCommitFault, counted};
 ghost use Rattle.node_store.specs.Placing.{kept};
 ghost use Rattle.node_store.specs.declared.fault.StoreFault.TheVariants.{BadRow};
@@ -27,7 +27,7 @@ pub struct ListKeep {
 impl Model for ListKeep {
     ghost use Rattle.std.specs.Coded.{codes};
     ghost use Rattle.std.specs.FinMap as map;
-    ghost use Rattle.node_store.specs.Contents.{Content};
+    ghost use Rattle.node_store.specs.Contents.{AreRows, Content};
     ghost use Rattle.node_store.specs.Placing.{kept};
 
     ghost Value = { Content };
@@ -35,6 +35,8 @@ impl Model for ListKeep {
     ghost coded = { Prim.hlevel (codes, map.code) };
 
     ghost view = { λ k. kept k.texts };
+
+    ghost invariant = { λ k. AreRows (kept k.texts) };
 }
 
 impl ListKeep {
@@ -46,6 +48,14 @@ impl ListKeep {
             alloc,
             texts: Table::new(alloc),
         }
+    }
+
+    /// Each text is a row of its kind and key, so that `load` never answers `BadRow`.
+    #[tactic(auto, using(crate::proofs::KeptRows::rows_are))]
+    pub fn has_rows(&self)
+        ensures { IsSome (rows_of self.now) }
+    {
+        let _texts = &self.texts;
     }
 }
 
@@ -76,6 +86,7 @@ fn change_all(
 ) -> Result<(), AllocError>
     ensures all { OnOk result (kept texts.new ≡ changed_all (kept texts.old) changes.now) }
     ensures none { OnErr result (kept texts.new ≡ kept texts.old) }
+    ensures again { OnOk result (All IsReadAgain changes.now) }
 {
     let placed = placed_all(alloc, changes)?;
     let places = reserve_all(alloc, texts, placed.as_slice())?;

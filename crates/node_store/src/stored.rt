@@ -1,8 +1,10 @@
 //! The places and the texts under which rows are kept.
 
-ghost use Rattle.std.specs.Prelude.{◌≡◌, IfOk, string_bytes};
+ghost use Rattle.std.specs.Prelude.{◌≡◌, IfOk, Ok, string_bytes};
 ghost use Rattle.ocpi_json.specs.RowForms.{row_in, row_text};
-ghost use Rattle.node_store.specs.Contents.{AnswersRow, place_of};
+ghost use Rattle.ocpi_json.specs.RowKeys.{key_text, kind_of_key, row_kind_word};
+ghost use Rattle.ocpi_types.specs.Rows.{key_of};
+ghost use Rattle.node_store.specs.Contents.{AnswersRow, IsReadAgain, place_of};
 ghost use Rattle.node_store.specs.Placing.{placed_of};
 
 use crate::fault::StoreFault;
@@ -39,7 +41,8 @@ impl StoredText {
 
     /// The text of a row.
     fn of_row(alloc: Global, row: &Row) -> Result<StoredText, AllocError>
-        ensures { IfOk result (λ t. t ≡ row_text row.now) }
+        ensures text { IfOk result (λ t. t ≡ row_text row.now) }
+        ensures again { IfOk result (λ t. row_in (row_kind_word (kind_of_key (key_of row.now))) (key_text (key_of row.now)) (row_text row.now) ≡ Ok row.now) }
     {
         Ok(StoredText {
             text: write_row(alloc, row)?,
@@ -71,7 +74,8 @@ fn place_of(alloc: Global, key: &RowKey) -> Result<Place, AllocError>
 
 /// The place that a change is of, and the text that it puts there.
 pub(crate) fn placed_of(alloc: Global, change: &Change) -> Result<Placed, AllocError>
-    ensures { IfOk result (λ p. p ≡ placed_of change.now) }
+    ensures placed { IfOk result (λ p. p ≡ placed_of change.now) }
+    ensures again { IfOk result (λ p. IsReadAgain change.now) }
 {
     match change {
         Change::Put(row) => {
