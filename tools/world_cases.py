@@ -132,8 +132,8 @@ def events_of_no_node():
         ("skipped", {"event": "deliver", "node": "BE/BEC", "at": at, "from": "BE/BEC", "serial": 1}),
         ("skipped", {"event": "deliver", "node": "NL/TNM", "at": at, "from": "FR/FRC", "serial": 1}),
         # The node refuses it.
-        ("refused 5 UnknownOperator", {"event": "submit", "node": "NL/TNM", "at": at, "operator": "FR/FRC", "order": "stop_session",
-                                       "session_id": SESSION}),
+        ("refused 5 UnknownOperator", {"event": "submit", "node": "NL/TNM", "at": at, "operator": "FR/FRC",
+                                       "order": "stop_session", "session_id": SESSION}),
         # Its storing was refused; nothing is due; the node starts again.
         ("stepped", {"event": "refused", "node": "NL/TNM"}),
         ("stepped", {"event": "tick", "node": "BE/BEC", "at": at}),
