@@ -4,8 +4,8 @@ a choice of them into bench/, of which it tells the names.
 
     tools/case_lines.py
 
-What each part holds is told in `packet_cases`, `book_cases`, `operator_cases` and `provider_cases`. To see where the program
-differs:
+What each part holds is told in `packet_cases`, `book_cases`, `operator_cases`, `provider_cases` and `world_cases`. To see where
+the program differs:
 
     tools/try_cases
 """
@@ -16,9 +16,16 @@ import book_cases
 import operator_cases
 import packet_cases
 import provider_cases
+import world_cases
 
 TOP = pathlib.Path(__file__).resolve().parent.parent
-PARTS = {"packets": packet_cases, "books": book_cases, "operator": operator_cases, "provider": provider_cases}
+PARTS = {
+    "packets": packet_cases,
+    "books": book_cases,
+    "operator": operator_cases,
+    "provider": provider_cases,
+    "worlds": world_cases,
+}
 
 
 def part(name, lines):

@@ -1,11 +1,12 @@
 -- What the program `answer` writes for what it reads: the site line, and then packets at that line's moment.
-use Rattle.std.specs.Prelude.{◌≡◌, ℕ, List, [], ◌∷◌, ◌++◌, Option, None, Some, Ok, codes, flat_map}
+use Rattle.std.specs.Prelude.{◌≡◌, ℕ, List, [], Option, None, Some, Ok}
+use Rattle.ocpi_nodes.specs.Writing.{packet_lines, refusal_line}
 use Rattle.ocpi_types.specs.declared.packet.Packet.{Packet}
 use Rattle.ocpi_types.specs.declared.site.SiteLine.{SiteLine}
 use Rattle.json_text.specs.declared.fault.JsonFault.{JsonFault}
 use Rattle.json_text.specs.declared.fault.JsonFault.TheVariants.{Syntax}
 use Rattle.json_text.specs.Fault.{Fails, fault_text as json_fault_text}
-use Rattle.ocpi_json.specs.Packets.{packet_in, packet_text}
+use Rattle.ocpi_json.specs.Packets.{packet_in}
 use Rattle.ocpi_json.specs.SiteLines.{site_in}
 use Rattle.node_steps.specs.declared.fault.NodeFault.{NodeFault}
 use Rattle.node_steps.specs.FaultText.{fault_text as node_fault_text}
@@ -26,14 +27,6 @@ pub record Answering : Type 0 where
 -- what a site line makes: its operator, and its moment
 abbrev pub made_by : SiteLine → Answering
 made_by site = record { at = site.at; operator = opening site }
-
--- the line of a refusal: its number and its name
-abbrev pub refusal_line : List ℕ → List ℕ
-refusal_line fault = codes "refused " ++ fault ++ 10 ∷ []
-
--- a line for each packet
-abbrev pub packet_lines : List Packet → List ℕ
-packet_lines packets = flat_map (λ p. packet_text p ++ 10 ∷ []) packets
 
 -- The first line makes the operator. Where it is no site line, that is all.
 pub data SiteTurn (line : List ℕ) (turn : Turn) (out : List ℕ) (next : Option Answering) : Type 0 where

@@ -1,22 +1,22 @@
 //! The program `answer`: one operator, which the first line makes and each other line sends a packet.
 
 ghost use Rattle.std.specs.Prelude.{◌≡◌, ◌≢◌, ◌++◌, ◌∷◌, ℕ, List, [], Option, None, Some, Ok, Err, true};
-ghost use Rattle.std.specs.Prelude.{IfOk, IfErr, IfSome, OnErr, OnOk, codes, string_bytes};
+ghost use Rattle.std.specs.Prelude.{IfOk, IfErr, OnErr, OnOk, codes, string_bytes};
 ghost use Rattle.json_text.specs.Fault.{Fails};
 ghost use Rattle.ocpi_json.specs.Packets.{packet_in};
 ghost use Rattle.ocpi_json.specs.SiteLines.{site_in};
 ghost use Rattle.ocpi_types.specs.declared.site.SiteLine.{SiteLine as SiteLineOf};
-ghost use Rattle.ocpi_nodes.specs.Answer.{EndGives, LineGives, PacketTurn, SiteTurn, made_by, packet_lines, refusal_line};
+ghost use Rattle.ocpi_nodes.specs.Answer.{EndGives, LineGives, PacketTurn, SiteTurn, made_by};
 ghost use Rattle.line_runs.specs.Run.{Begins, Outputs, ReadsFewLines, StopsReading};
 
+use crate::writing::{refuse, write_packets};
 use line_runs::{AnswerLines, LineReader, Ran, RunFault, Turn, run_whole};
 use node_steps::{NodeFault, Stepped};
-use ocpi_json::{JsonFault, Scratch, read_packet, read_site, write_packet};
+use ocpi_json::{JsonFault, Scratch, read_packet, read_site};
 use ocpi_text::Moment;
 use ocpi_types::Packet;
 use operator_core::Operator;
 use std::alloc::{AllocError, Global};
-use std::fmt::Display;
 use std::io::{BufRead, Write};
 use std::marker::Model;
 
@@ -95,7 +95,7 @@ impl Program {
 }
 
 impl AnswerLines for Program {
-    ghost use Rattle.ocpi_nodes.specs.Cut.{cut_alike};
+    ghost use Rattle.ocpi_nodes.specs.AnswerCut.{cut_alike};
 
     ghost line_gives = { LineGives };
 
@@ -205,26 +205,6 @@ fn answer_packet(
             Ok(Turn::Refused)
         }
     }
-}
-
-/// Adds a line for each packet.
-fn write_packets(alloc: Global, packets: &[Packet], output: &mut String) -> Result<(), AllocError>
-    ensures { OnOk result (string_bytes output.new ≡ string_bytes output.old ++ packet_lines packets.now) }
-{
-    for packet in packets {
-        let text = write_packet(alloc, packet)?;
-        output.push_str(text.as_str())?;
-        output.push('\n')?;
-    }
-    Ok(())
-}
-
-/// Adds the line of a refusal.
-fn refuse<F: Display + Drop>(output: &mut String, fault: F) -> Result<(), AllocError>
-    ensures { OnOk result (IfSome (F.output fault) (λ text.
-        string_bytes output.new ≡ string_bytes output.old ++ refusal_line text)) }
-{
-    writeln!(output, "refused {fault}")
 }
 
 /// Answers the packets of an input as one operator. The first line that holds something is a site line, and each

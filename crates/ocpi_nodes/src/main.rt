@@ -7,12 +7,15 @@ ghost use Rattle.line_runs.specs.Outcome.{exit_status};
 
 mod answer;
 mod command;
+mod play;
+mod writing;
 
 use answer::run_answer;
 use clap::Error;
 use clap::error::ErrorKind;
-use command::{WRONG_WORDS, status_after, take_words};
+use command::{WRONG_WORDS, Word, status_after, take_words};
 use line_runs::{LineReader, Ran, RunFault, status_of};
+use play::run_play;
 use std::io::{self, BufReader, BufWriter};
 use std::process::ExitCode;
 
@@ -32,10 +35,10 @@ fn run_program(rt: &HostRuntime) -> u8 {
             return WRONG_WORDS;
         }
     };
-    if let Err(text) = take_words(rt.alloc(), words.as_slice()) {
-        return say(rt, &text);
+    match take_words(rt.alloc(), words.as_slice()) {
+        Ok(word) => report(rt, run_standard_input(rt, word)),
+        Err(text) => say(rt, &text),
     }
-    report(rt, answer_standard_input(rt))
 }
 
 /// Says what stopped a run, and answers its exit status.
@@ -77,13 +80,17 @@ fn say(rt: &HostRuntime, text: &Error) -> u8
     status_after(text, is_printed)
 }
 
-/// Runs `answer` from the standard input to the standard output.
-fn answer_standard_input(rt: &HostRuntime) -> Result<Ran, RunFault> {
+/// Runs a program from the standard input to the standard output.
+fn run_standard_input(rt: &HostRuntime, word: Word) -> Result<Ran, RunFault> {
     let Ok(reader) = BufReader::with_capacity(rt.alloc(), BUFFER_BYTES, rt.reader()) else {
         return Err(RunFault::ReadFailed);
     };
     let Ok(mut writer) = BufWriter::with_capacity(rt.alloc(), BUFFER_BYTES, io::writer(rt)) else {
         return Err(RunFault::WriteFailed);
     };
-    run_answer(rt.alloc(), &mut LineReader::new(reader), &mut writer)
+    let mut input = LineReader::new(reader);
+    match word {
+        Word::Answer => run_answer(rt.alloc(), &mut input, &mut writer),
+        Word::Play => run_play(rt.alloc(), &mut input, &mut writer),
+    }
 }

@@ -154,7 +154,7 @@ module _ (s t : State) (e : Event) (fine : IsConsistent s) (d : Does s e t) (v :
       let same : key m.before.id ≡ key v.id = ap key ((follows s fine.sound at report m.before m.after m.moves m.later).same.id ∙ ap (λ (z : Session). z.id) (sym is)) in
       not_both m.before (stored s (key v.id)) new (ap (get s.rows.charged.sessions) (sym same) ∙ m.moves.here.stands)
 
-  pub begins_put : Contains e.changes (Put (row.Session v)) → stored s (key v.id) ≡ None → (v.status ≡ Pending) × BeginsAsAsked s e t v
+  begins_put : Contains e.changes (Put (row.Session v)) → stored s (key v.id) ≡ None → (v.status ≡ Pending) × BeginsAsAsked s e t v
   begins_put i new = begins_by new (session_cause s t e fine d v i)
 
 pub sessions_begin_as_asked : SessionsBeginAsAsked

@@ -133,7 +133,7 @@ module _ (s t : State) (e : Event) (fine : IsConsistent s) (d : Does s e t) wher
       let id_is : key y.id ≡ key x.id = cc in
       not_both x (get s.rows.charged.cdrs (key y.id)) (d.cdrs y (subst (λ z. Contains e.changes z) is listed)) (ap (get s.rows.charged.cdrs) id_is ∙ has)
 
-  pub record_stays : (id : List ℕ) (x : Cdr) → get s.rows.charged.cdrs id ≡ Some x → get t.rows.charged.cdrs id ≡ Some x
+  record_stays : (id : List ℕ) (x : Cdr) → get s.rows.charged.cdrs id ≡ Some x → get t.rows.charged.cdrs id ≡ Some x
   record_stays id x has =
       let at : id ≡ key x.id = fine.sound.charged_keyed.cdrs id x has in
       let here = ap (get s.rows.charged.cdrs) (sym at) ∙ has in
@@ -145,7 +145,7 @@ module _ (s t : State) (e : Event) (fine : IsConsistent s) (d : Does s e t) wher
       let at : id ≡ key x.id = d.consistent.sound.charged_keyed.cdrs id x has in
       elim ((d.rows (row.Cdr x)).0 (ap (get t.rows.charged.cdrs) (sym at) ∙ has)) [ inl i ↦ inr i | inr was ↦ inl (ap (get s.rows.charged.cdrs) at ∙ was.0) ]
 
-  pub record_stands : (x : Cdr) → Contains e.changes (Put (row.Cdr x)) → get t.rows.charged.cdrs (key x.id) ≡ Some x
+  record_stands : (x : Cdr) → Contains e.changes (Put (row.Cdr x)) → get t.rows.charged.cdrs (key x.id) ≡ Some x
   record_stands x i = (d.rows (row.Cdr x)).1 (inl i)
 
   -- and so for sessions
@@ -175,7 +175,7 @@ module _ (s t : State) (e : Event) (fine : IsConsistent s) (d : Does s e t) wher
   one_id : (x : Cdr) → Contains e.changes (Put (row.Cdr x)) → x.id ≡ own_id_text own.Cdr s.party (s.rows.charged.last_cdr + 1)
   one_id x i = let (v, put, r) = (puts_records s t e fine d).only x i in ap (λ (z : Cdr). z.id) r.record_is
 
-  pub billed_stays : AreBilledOnce s → AreBilledOnce t
+  billed_stays : AreBilledOnce s → AreBilledOnce t
   billed_stays h = record {
     each = λ id v has complete. elim (session_from id v has) [
       | inl old ↦ (let (x, had, bills) = h.each id v old complete in (x, record_stays (key x.id) x had, bills))

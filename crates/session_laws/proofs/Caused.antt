@@ -142,10 +142,10 @@ module _ (P : Session → Type 0) (Q : Cdr → Type 0) where
   covers_service s evse in_service acts (service.Withdrawn one off was is) = subst (λ l. Covers P Q (all_changes l)) (sym is) (covers_kinds P Q _ refl refl)
   covers_service s evse in_service acts (service.Restored one on was is) = subst (λ l. Covers P Q (all_changes l)) (sym is) (covers_kinds P Q _ refl refl)
 
-pub in_left : (xs ys : List Act) (c : Change) → Contains (all_changes xs) c → Contains (all_changes (xs ++ ys)) c
+in_left : (xs ys : List Act) (c : Change) → Contains (all_changes xs) c → Contains (all_changes (xs ++ ys)) c
 in_left xs ys c i = subst (λ l. Contains l c) (sym (changes_append xs ys)) (Contains-append_left (all_changes xs) (all_changes ys) c i)
 
-pub in_right : (xs ys : List Act) (c : Change) → Contains (all_changes ys) c → Contains (all_changes (xs ++ ys)) c
+in_right : (xs ys : List Act) (c : Change) → Contains (all_changes ys) c → Contains (all_changes (xs ++ ys)) c
 in_right xs ys c i = subst (λ l. Contains l c) (sym (changes_append xs ys)) (Contains-append_right (all_changes xs) (all_changes ys) c i)
 
 -- a counter that gave a number since is stored
@@ -172,10 +172,6 @@ module _ (s : State) (i : Input) where
 
   as_quiet : (work : Work) (acts : List Act) → work ≡ quiet acts → IsCaused acts → IsCaused work.acts
   as_quiet work acts is h = subst (λ (w : Work). IsCaused w.acts) (sym is) h
-
-  -- acts that do the same, whatever causes them
-  covered : (acts : List Act) → ((P : Session → Type 0) (Q : Cdr → Type 0) → Covers P Q (all_changes acts)) → IsCaused acts
-  covered acts h = h (SessionCause s i acts) (CdrCause s i acts)
 
   -- the number of a session that begins is within its counter
   numbered_in : (rest : List Act) (n : ℕ) → AreInRange s (numbered_sessions n ∷ rest) → n ≤ max_whole
@@ -300,7 +296,7 @@ module _ (s : State) (i : Input) where
       (subst (λ l. AreCaused acts l) (sym (resent_changes at s.rows.pushes h.due)) (covers_none _ _))))
 
 -- where what holds at all times holds, each version and each record that an input asks for has a cause
-pub asked_caused : (s : State) (i : Input) (work : Work) → IsConsistent s → Asks s i work → AreInRange s work.acts → IsCaused s i work.acts
+asked_caused : (s : State) (i : Input) (work : Work) → IsConsistent s → Asks s i work → AreInRange s work.acts → IsCaused s i work.acts
 asked_caused s (Arrives at q) work fine comes range = packet_caused s (Arrives at q) at q refl comes.provider work comes.line range
 asked_caused s (Serves evse in_service) work fine line range = service_caused s (Serves evse in_service) evse in_service work line
 asked_caused s (Reports at report) work fine line range = report_caused s (Reports at report) at report refl work line range

@@ -95,7 +95,7 @@ own_of s (Put r) t same may v is = absurd (cc)
 own_of s (Drop k) t same may v is = absurd (cc)
 
 module _ (s t : State) (e : Event) (d : Does s e t) (id : List ℕ) where
-  pub own_put : (v : Session) → Contains e.changes (Put (row.Session v)) → key v.party ≡ key s.party
+  own_put : (v : Session) → Contains e.changes (Put (row.Session v)) → key v.party ≡ key s.party
   own_put v i = of_each (λ c. (w : Session) → c ≡ Put (row.Session w) → key w.party ≡ key s.party) s (own_of s) e.changes s refl d.may (Put (row.Session v)) i v refl
 
   puts_it : (c : Change) → Contains e.changes c → (p k : List ℕ) → change_key c ≡ keys.Session p k → PutsSession c

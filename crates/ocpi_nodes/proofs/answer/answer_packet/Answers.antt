@@ -1,7 +1,8 @@
 use Rattle.std.proofs.Common.{refl}
 use Rattle.std.proofs.lemmas.Result.{IfOk-weaker}
 use Rattle.json_text.specs.Fault.{fault_text}
-use Rattle.ocpi_nodes.specs.Answer.{Unread, refusal_line}
+use Rattle.ocpi_nodes.specs.Answer.{Unread}
+use Rattle.ocpi_nodes.specs.Writing.{refusal_line}
 use Rattle.ocpi_nodes.proofs.answer.answer_packet.Goals as goal
 
 pub returns-in_ok-refuse-in-Err : goal.returns-in_ok-refuse-in-Err

@@ -1,7 +1,8 @@
 use Rattle.std.proofs.Common.{◌++◌, ◌∙◌, Some, refl, ap, string_bytes}
 use Rattle.node_steps.specs.FaultText.{fault_text}
 use Rattle.operator_core.specs.Requests.{out_of}
-use Rattle.ocpi_nodes.specs.Answer.{Answered, Unanswered, packet_lines, refusal_line}
+use Rattle.ocpi_nodes.specs.Answer.{Answered, Unanswered}
+use Rattle.ocpi_nodes.specs.Writing.{packet_lines, refusal_line}
 use Rattle.ocpi_nodes.proofs.answer.answer_read.Goals as goal
 
 pub returns-in_ok-write_packets-in-Ok : goal.returns-in_ok-write_packets-in-Ok

@@ -1,7 +1,8 @@
 use Rattle.std.proofs.Common.{[], Some, refl, sym, ap, string_bytes}
 use Rattle.std.proofs.lemmas.List.{append-nil}
 use Rattle.json_text.specs.Fault.{fault_text}
-use Rattle.ocpi_nodes.specs.Answer.{Opened, NoSite, refusal_line}
+use Rattle.ocpi_nodes.specs.Answer.{Opened, NoSite}
+use Rattle.ocpi_nodes.specs.Writing.{refusal_line}
 use Rattle.ocpi_nodes.proofs.answer.answer_site.Goals as goal
 
 pub returns-in-Ok : goal.returns-in-Ok

@@ -1,6 +1,6 @@
 use Rattle.std.proofs.Common.{◌≡◌, ◌++◌, take, string_bytes}
-use Rattle.ocpi_nodes.specs.Answer.{packet_lines}
-use Rattle.ocpi_nodes.proofs.answer.write_packets.Given as goal
+use Rattle.ocpi_nodes.specs.Writing.{packet_lines}
+use Rattle.ocpi_nodes.proofs.writing.write_packets.Given as goal
 
 -- the packets before this one are written
 abbrev pub invariant-loop-packet : goal.invariant-loop-packet

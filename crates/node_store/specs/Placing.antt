@@ -1,0 +1,37 @@
+-- Changes of a table of texts.
+use Rattle.std.specs.Prelude.{ℕ, List, [], ◌∷◌, Option, Some, None, IsTrue}
+use Rattle.std.specs.FinMap.{FinMap, insert, remove, contains_key}
+use Rattle.tables.specs.Keys.{text_pair_cmp}
+use Rattle.tables.specs.Tables.{shown_of, rooms_of}
+use Rattle.ocpi_types.specs.Rows.{key_of}
+use Rattle.ocpi_types.specs.declared.rows.Change.{Change}
+use Rattle.ocpi_types.specs.declared.rows.Change.TheVariants as change
+use Rattle.ocpi_json.specs.RowForms.{row_text}
+use Rattle.node_store.specs.Contents.{Content, RowPlace, place_of}
+use Rattle.node_store.specs.declared.stored.Placed.{Placed}
+
+-- a table's slots
+abbrev pub Slots : Type 0
+Slots = List (RowPlace × Option (List ℕ))
+
+abbrev pub kept : Slots → Content
+kept slots = shown_of text_pair_cmp slots
+
+abbrev pub room : Slots → FinMap text_pair_cmp (Unit {0})
+room slots = rooms_of text_pair_cmp slots
+
+abbrev pub placed_of : Change → Placed
+placed_of (change.Put r) = record { place = place_of (key_of r); text = Some (row_text r) }
+placed_of (change.Drop k) = record { place = place_of k; text = None }
+
+abbrev pub set_text : Content → RowPlace → Option (List ℕ) → Content
+set_text c p (Some t) = insert c p t
+set_text c p None = remove c p
+
+abbrev pub placed_all : Content → List Placed → Content
+placed_all c [] = c
+placed_all c (x ∷ xs) = placed_all (set_text c x.place x.text) xs
+
+-- the table has room for what is to stand there
+abbrev pub HasRoom : Slots → Placed → Type 0
+HasRoom slots x = IsTrue (contains_key (room slots) x.place)

@@ -1,0 +1,72 @@
+//! Changes of a table of texts, made all together or not at all.
+
+ghost use Rattle.std.specs.Prelude.{◌≡◌, All, IfOk, map};
+ghost use Rattle.node_store.specs.Contents.{IsReadAgain};
+ghost use Rattle.node_store.specs.Placing.{HasRoom, kept, placed_all, placed_of, room, set_text};
+
+use crate::stored::{Place, Placed, StoredText, placed_of};
+use ocpi_types::Change;
+use std::alloc::{AllocError, Global};
+use tables::Table;
+
+/// The places and texts of changes, in turn.
+pub(crate) fn placed_all(alloc: Global, changes: &[Change]) -> Result<Vec<Placed>, AllocError>
+    ensures placed { IfOk result (λ v. v.items ≡ map placed_of changes.now) }
+    ensures again { IfOk result (λ v. All IsReadAgain changes.now) }
+{
+    let mut placed = Vec::new(alloc);
+    for change in changes {
+        let next = placed_of(alloc, change)?;
+        placed.push(next)?;
+    }
+    Ok(placed)
+}
+
+/// Takes room for all of them, and answers their places. Where memory runs out, some room may stay.
+pub(crate) fn reserve_all(
+    alloc: Global,
+    texts: &mut Table<Place, StoredText>,
+    placed: &[Placed],
+) -> Result<Vec<Place>, AllocError>
+    ensures same { kept texts.new ≡ kept texts.old }
+    ensures ready { IfOk result (λ _. All (HasRoom texts.new) placed.now) }
+{
+    let mut places = Vec::new(alloc);
+    for next in placed {
+        texts.reserve(next.place)?;
+        places.push(next.place)?;
+    }
+    Ok(places)
+}
+
+/// Puts one text in its place, or takes it away.
+fn put_one(texts: &mut Table<Place, StoredText>, placed: Placed)
+    requires { HasRoom texts.old placed }
+    ensures shown { kept texts.new ≡ set_text (kept texts.old) placed.place placed.text }
+    ensures room { room texts.new ≡ room texts.old }
+{
+    let Placed { place, text } = placed;
+    match text {
+        Some(text) => texts.put(place, text),
+        None => texts.clear(place),
+    }
+}
+
+/// Puts all texts in their places, or takes them away. It takes no memory.
+pub(crate) fn put_all(texts: &mut Table<Place, StoredText>, placed: Vec<Placed>)
+    requires { All (HasRoom texts.old) placed.items }
+    ensures { kept texts.new ≡ placed_all (kept texts.old) placed.items }
+{
+    for next in placed {
+        put_one(texts, next);
+    }
+}
+
+/// Gives the room back of the places that hold no text.
+pub(crate) fn release_all(texts: &mut Table<Place, StoredText>, places: &[Place])
+    ensures { kept texts.new ≡ kept texts.old }
+{
+    for place in places {
+        texts.release(*place);
+    }
+}

@@ -1,0 +1,68 @@
+//! Why a keeper refused a call.
+
+ghost use Rattle.std.specs.Prelude.{◌≡◌, Some};
+
+use std::alloc::{AllocError, AllocFailed};
+use std::error::Error;
+use std::fmt;
+
+/// Why a store would not do what it was asked.
+#[derive(Clone, Copy, Debug, PartialEq, Eq)]
+pub enum Cause {
+    /// The disk failed, is full, or holds what no store wrote.
+    Disk,
+    /// A text is larger than the store takes.
+    Size,
+    /// Anything else.
+    Other,
+}
+
+/// Why a keeper refused a call.
+#[derive(Clone, Copy, Debug, PartialEq, Eq)]
+pub enum StoreFault {
+    /// The store would not do it.
+    Refused(Cause),
+    /// A text that is kept is no row of its kind and key.
+    BadRow,
+    /// The store was laid out for other rows.
+    OldLayout,
+    /// Memory ran out.
+    Memory,
+}
+
+impl fmt::Display for StoreFault {
+    ghost use Rattle.node_store.specs.Faults.{fault_text};
+
+    ghost output = { λ f. Some (fault_text f) };
+
+    fn fmt<W: fmt::Write>(&self, f: &mut fmt::Formatter<W>) -> fmt::Result {
+        match self {
+            StoreFault::Refused(_) => f.write_str("1 Refused"),
+            StoreFault::BadRow => f.write_str("2 BadRow"),
+            StoreFault::OldLayout => f.write_str("3 OldLayout"),
+            StoreFault::Memory => f.write_str("4 Memory"),
+        }
+    }
+}
+
+impl Error for StoreFault {}
+
+impl From<AllocError> for StoreFault {
+    ghost use Rattle.node_store.specs.declared.fault.StoreFault.TheVariants.{Memory};
+
+    ghost from_gives = { λ _ e. e ≡ Memory };
+
+    fn from(_e: AllocError) -> StoreFault {
+        StoreFault::Memory
+    }
+}
+
+impl<T: Drop> From<AllocFailed<T>> for StoreFault {
+    ghost use Rattle.node_store.specs.declared.fault.StoreFault.TheVariants.{Memory};
+
+    ghost from_gives = { λ _ e. e ≡ Memory };
+
+    fn from(_e: AllocFailed<T>) -> StoreFault {
+        StoreFault::Memory
+    }
+}

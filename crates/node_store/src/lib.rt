@@ -1,0 +1,18 @@
+//! Keepers of a node's rows: under the kind and the key of each row, its text.
+//!
+//! ```
+//! let mut keep = ListKeep::new(alloc);
+//! keep.commit(world.changes())?;
+//! let rows = keep.load()?;
+//! ```
+#![tactic(auto)]
+
+mod changing;
+mod fault;
+mod keep;
+mod list_keep;
+mod stored;
+
+pub use fault::{Cause, StoreFault};
+pub use keep::Keep;
+pub use list_keep::ListKeep;

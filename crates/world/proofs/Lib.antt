@@ -1,0 +1,5 @@
+pub mod Lists
+pub mod Delivering
+pub mod OpeningSetups
+pub mod Steps
+pub mod Asking

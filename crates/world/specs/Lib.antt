@@ -1,0 +1,4 @@
+pub mod State
+pub mod Seen
+pub mod Works
+pub mod Deliveries
