@@ -25,6 +25,7 @@ mod charger;
 mod charges;
 mod deadlines;
 mod ends;
+mod from_rows;
 mod operator;
 mod packets;
 mod plans;

@@ -15,6 +15,7 @@
 //! `FullPlan`, for `Books::make_full_room` and `Books::apply_full`.
 #![tactic(auto)]
 
+mod adding;
 mod books;
 mod claims;
 mod dropping;

@@ -5,6 +5,7 @@
 mod answer;
 mod answers;
 mod bodies;
+mod from_rows;
 mod orders;
 mod packets;
 mod prepared;

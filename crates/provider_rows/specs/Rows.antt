@@ -10,8 +10,10 @@ use Rattle.ocpi_types.specs.declared.rows.Change.TheVariants.{Put}
 use Rattle.ocpi_types.specs.declared.rows.Counter.{Counter}
 use Rattle.ocpi_types.specs.declared.rows.Counter.TheVariants.{Serial, Request, Session, Cdr, Reference}
 use Rattle.token_desk.specs.Stored as desk
+use Rattle.token_desk.specs.Tokens as tokens
 use Rattle.outbox.specs.Outbox as outbox
 use Rattle.handover.specs.Inbox as inbox
+use Rattle.handover.specs.InboxListing.{AreOwnRows}
 use Rattle.provider_rows.specs.State.{Rows}
 use Rattle.provider_rows.specs.Stored.{change_key}
 
@@ -38,6 +40,11 @@ HasRow s (row.Mark p id n) = ⊥
 HasRow s (row.Reservation p id r) = ⊥
 HasRow s (row.Pending p n o) = ⊥
 HasRow s (row.Result p n x) = ⊥
+
+-- each token, each session and each charge detail record stands under its own key
+pub record AreKeyed (s : Rows) : Type 0 where
+  pub tokens : tokens.AreKeyed s.desk.tokens
+  pub inbox : AreOwnRows s.inbox
 
 -- the list has exactly the rows that stand, each once
 pub record AreRowsOf (list : List Row) (s : Rows) : Type 0 where

@@ -5,6 +5,7 @@
 //! `Books::apply` then carries it out, takes no memory and cannot fail.
 #![tactic(auto)]
 
+mod adding;
 mod books;
 mod dropping;
 mod making_room;

@@ -58,7 +58,7 @@ fn reserve_url(urls: &mut UrlTable, number: Whole, command: &SentCommand) -> Res
 
 impl Books {
     /// Takes the memory that a row needs. An error is want of memory, for a row that has no room.
-    fn reserve_row(&mut self, row: &Row) -> Result<(), AllocError>
+    pub(crate) fn reserve_row(&mut self, row: &Row) -> Result<(), AllocError>
         ensures state { self.new.state ≡ self.old.state }
         ensures sending { self.new.sending ≡ self.old.sending }
         ensures keeps { KeepsRoom self.old.rooms self.new.rooms }

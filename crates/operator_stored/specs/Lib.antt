@@ -1,0 +1,3 @@
+pub mod Bad
+pub mod Whole
+pub mod Making

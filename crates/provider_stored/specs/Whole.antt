@@ -1,0 +1,15 @@
+-- What stored rows of a provider are tested for beside what its type keeps. It holds of each provider that ran from its opening.
+use Rattle.std.specs.Prelude.{◌≡◌, ℕ, List, Some}
+use Rattle.std.specs.FinMap.{get}
+use Rattle.ocpi_text.specs.declared.own_ids.OwnIdKind.TheVariants.{AuthorizationReference}
+use Rattle.ocpi_types.specs.declared.stored.SentCommand.{SentCommand}
+use Rattle.handover.specs.Cdrs.{HasOnePerSession}
+use Rattle.stored_rows.specs.Given.{IsOwnId}
+use Rattle.provider_rows.specs.State.{State, reference_of}
+
+pub record IsWhole (s : State) : Type 0 where
+  -- each authorization reference in a command is of the provider's own
+  pub references : (n : ℕ) (c : SentCommand) → get s.rows.outbox.commands n ≡ Some c → (r : List ℕ) → reference_of c.command ≡ Some r →
+      (number : ℕ) × IsOwnId AuthorizationReference s.party r number
+  -- no two charge detail records of an operator are of one session
+  pub once : HasOnePerSession s.rows.inbox.cdrs
