@@ -26,5 +26,5 @@ pub fn own_number(kind: OwnIdKind, party: &Party, id: &str) -> Option<Whole>
 fn counter_of(id: Uuid) -> Option<Whole>
 {
     let [_, _, _, _, _, _, _, _, a, b, c, d, e, f, g, h] = *id.as_bytes();
-    Whole::new(u64::from_be_bytes([a, b, c, d, e, f, g, h])).ok()
+    Whole::new(u64::from_be_bytes([a, b, c, d, e, f, g, h]))
 }
