@@ -10,7 +10,7 @@ ghost use Rattle.operator_stored.specs.Making.{IsMadeOf, StartsAgain};
 use crate::operator::Operator;
 use ocpi_text::Moment;
 use ocpi_types::{Row, SiteLine};
-use operator_stored::{books_of_rows, rows_make_again};
+use operator_stored::books_of_rows;
 use std::alloc::{AllocError, Global};
 use stored_rows::RowsFault;
 
@@ -28,9 +28,7 @@ impl Operator {
         ensures again { (s : State) → IsConsistent s → StartsAgain line rows.items s → IfOk result (λ o. o.state ≡ restarted s) }
         ensures good { (s : State) → IsConsistent s → StartsAgain line rows.items s → IfErr result (λ e. e ≡ RowsFault.Memory) }
     {
-        rows_make_again();
         let books = books_of_rows(alloc, line, rows)?;
-        books.consistency();
         Ok(Operator { alloc, books })
     }
 

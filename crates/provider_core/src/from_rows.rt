@@ -11,7 +11,7 @@ ghost use Rattle.provider_stored.specs.Making.{IsMadeOf, StartsAgain};
 use crate::provider::Provider;
 use ocpi_types::Row;
 use provider_rows::Peers;
-use provider_stored::{books_of_rows, rows_make_again};
+use provider_stored::books_of_rows;
 use std::alloc::{AllocError, Global};
 use stored_rows::RowsFault;
 
@@ -25,9 +25,7 @@ impl Provider {
         ensures again { (s : State) → IsConsistent s → AreKeyed s.rows → StartsAgain peers rows.items s → IfOk result (λ p. p.state ≡ restarted s) }
         ensures good { (s : State) → IsConsistent s → AreKeyed s.rows → StartsAgain peers rows.items s → IfErr result (λ e. e ≡ RowsFault.Memory) }
     {
-        rows_make_again();
         let books = books_of_rows(alloc, peers, rows)?;
-        books.keys_are_own();
         Ok(Provider { alloc, books })
     }
 
