@@ -2,7 +2,7 @@
 #![tactic(auto)]
 
 mod fault;
-
+mod own_numbers;
 
 pub use fault::RowsFault;
-
+pub use own_numbers::own_number;
