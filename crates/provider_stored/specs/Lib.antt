@@ -1,3 +1,4 @@
 pub mod Bad
 pub mod Whole
 pub mod Making
+pub mod Fitting

@@ -1,17 +1,48 @@
 //! Books that are made of rows.
 
-ghost use Rattle.std.specs.Prelude.{◌≡◌, IfErr, IfOk};
+ghost use Rattle.std.specs.Prelude.{◌≡◌, ◌∷◌, ◌++◌, [], List, IfErr, IfOk, OnOk};
+ghost use Rattle.std.specs.List.Sorted.{IsNonDecreasingBy};
+ghost use Rattle.ocpi_types.specs.declared.rows.Row as types;
 ghost use Rattle.provider_rows.specs.Rows.{AreKeyed};
 ghost use Rattle.provider_rows.specs.Sound.{IsConsistent};
-ghost use Rattle.provider_rows.specs.State.{State};
+ghost use Rattle.provider_rows.specs.State.{Peering, State, opening};
 ghost use Rattle.provider_rows.specs.Steps.{restarted};
 ghost use Rattle.provider_stored.specs.Bad.{IsBad};
+ghost use Rattle.provider_stored.specs.Fitting.{IsNext};
 ghost use Rattle.provider_stored.specs.Making.{IsMadeOf, StartsAgain};
+ghost use Rattle.stored_rows.specs.Turns.{turn_of};
 
+use crate::fitting::fits;
 use ocpi_types::Row;
 use provider_rows::{Books, Peers};
 use std::alloc::Global;
-use stored_rows::RowsFault;
+use stored_rows::{RowsFault, in_turn};
+
+/// Puts a row beside those that stand.
+fn add(books: &mut Books, row: Row) -> Result<(), RowsFault>
+    requires { IsNext books.old.state row }
+    ensures ok { (peers : Peering) (before : List types.Row) → IsMadeOf peers before books.old.state → OnOk result (IsMadeOf peers (before ++ row ∷ []) books.new.state) }
+    ensures bad { (peers : Peering) (before rest : List types.Row) → IsMadeOf peers before books.old.state → IsNonDecreasingBy turn_of (before ++ row ∷ rest) → IfErr result (λ e. e ≡ RowsFault.BadRows → IsBad peers (before ++ row ∷ rest)) }
+{
+    if !fits(books, &row) {
+        return Err(RowsFault::BadRows);
+    }
+    books.add_row(row)?;
+    Ok(())
+}
+
+/// Puts rows that come in turn into books without rows.
+fn add_all(books: &mut Books, rows: Vec<Row>) -> Result<(), RowsFault>
+    requires order { IsNonDecreasingBy turn_of rows.items }
+    requires peers { (peers : Peering) × (books.old.state ≡ opening peers) }
+    ensures ok { (peers : Peering) → books.old.state ≡ opening peers → OnOk result (IsMadeOf peers rows.items books.new.state) }
+    ensures bad { (peers : Peering) → books.old.state ≡ opening peers → IfErr result (λ e. e ≡ RowsFault.BadRows → IsBad peers rows.items) }
+{
+    for row in rows {
+        add(books, row)?;
+    }
+    Ok(())
+}
 
 /// The books of a provider with these peers that has just these rows, in whatever order they come: each request that waits is due
 /// at once. So of all that a provider stored the very same books are made, as it starts again. Refused (`BadRows`) where no provider
@@ -22,5 +53,8 @@ pub fn books_of_rows(alloc: Global, peers: Peers, rows: Vec<Row>) -> Result<Book
     ensures again { (s : State) → IsConsistent s → AreKeyed s.rows → StartsAgain peers rows.items s → IfOk result (λ b. b.state ≡ restarted s) }
     ensures good { (s : State) → IsConsistent s → AreKeyed s.rows → StartsAgain peers rows.items s → IfErr result (λ e. e ≡ RowsFault.Memory) }
 {
-    Err(RowsFault::Memory)
+    let mut books = Books::new(alloc, peers);
+    add_all(&mut books, in_turn(rows))?;
+    books.keys_are_own();
+    Ok(books)
 }

@@ -1,3 +1,4 @@
 pub mod OwnNumbers
+pub mod SameNumbers
 pub mod Repeated
 pub mod Growing

@@ -1,0 +1,176 @@
+-- Rows that no provider has beside those that stand, reason by reason.
+use Rattle.std.proofs.Common.{◌≡◌, ◌≢◌, ℕ, ◌<◌, List, ◌∷◌, ◌++◌, inl, inr, refl, sym, ap, subst, ◌∙◌, arith}
+use Rattle.std.specs.Prelude.{Option, Some, None, Contains}
+use Rattle.std.specs.FinMap.{get}
+use Rattle.std.specs.List.Sorted.{IsNonDecreasingBy}
+use Rattle.std.proofs.lemmas.List.Elements.{Contains-append_left, Contains-append_right}
+use Rattle.ocpi_text.specs.Text.{key}
+use Rattle.ocpi_text.specs.declared.own_ids.OwnIdKind.TheVariants.{AuthorizationReference}
+use Rattle.tables.proofs.Elements.{in_front}
+use Rattle.tables.proofs.Options.{not_both}
+use Rattle.ocpi_types.specs.Rows.{key_of}
+use Rattle.ocpi_types.specs.declared.cdrs.Cdr.{Cdr}
+use Rattle.ocpi_types.specs.declared.rows.Counter.{Counter}
+use Rattle.ocpi_types.specs.declared.rows.Counter.TheVariants as counter
+use Rattle.ocpi_types.specs.declared.rows.Row.{Row}
+use Rattle.ocpi_types.specs.declared.rows.Row.TheVariants as row
+use Rattle.ocpi_types.specs.declared.rows.RowKey.TheVariants as keys
+use Rattle.ocpi_types.specs.declared.sessions.Session.{Session}
+use Rattle.ocpi_types.specs.declared.stored.Push.{Push}
+use Rattle.ocpi_types.specs.declared.stored.Reply.{Reply}
+use Rattle.ocpi_types.specs.declared.stored.SentCommand.{SentCommand}
+use Rattle.ocpi_types.specs.declared.token.Token.{Token}
+use Rattle.token_desk.specs.Tokens.{token_key}
+use Rattle.outbox.specs.Pushes.{IsReplaced, subject}
+use Rattle.outbox.specs.declared.push_book.Subject.{Subject}
+use Rattle.handover.specs.Cdrs.{AreOwnCdrs, cdr_key}
+use Rattle.handover.specs.Inbox.{IsInConflict, session_key}
+use Rattle.node_steps.specs.Peers.{HasPeer}
+use Rattle.provider_rows.specs.Rows.{AreKeyed, HasRow}
+use Rattle.provider_rows.specs.State.{Peering, Rows, State, reference_of}
+use Rattle.provider_stored.specs.Bad.{IsBad, IsForeign}
+use Rattle.provider_stored.specs.Bad.IsBad.{Repeated, Foreign, NothingCounted, PushNotGiven, CommandNotGiven, ReferenceNotGiven, NumberShared, ReferenceNotOwn, PushToStranger, CommandToStranger, PushedTwice, BilledTwice}
+use Rattle.provider_stored.specs.Fitting.{HasStrangeReference, IsStrange, IsTaken, Spoils, given_last}
+use Rattle.provider_stored.specs.Making.{IsMadeOf}
+use Rattle.stored_rows.specs.Given.{IsNotGiven, IsOwnId}
+use Rattle.stored_rows.specs.Turns.{turn_of}
+use Rattle.stored_rows.proofs.Repeated.{repeats}
+use Rattle.stored_rows.proofs.Growing.{stands_before}
+
+-- a row of the same key stands
+pub repeated : (s : State) (r x : Row) → HasRow s.rows x → key_of x ≡ key_of r → Spoils s r
+repeated s r x h same peers before rest made order = Repeated (repeats before rest r x ((made.has_rows.exact x).1 h) same)
+
+-- the row is in the list, and so is each that stands
+here : (before rest : List Row) (r : Row) → Contains (before ++ r ∷ rest) r
+here before rest r = Contains-append_right before (r ∷ rest) r (in_front r rest)
+
+there : (p : Peering) (before rest : List Row) (s : State) (r x : Row) → IsMadeOf p before s → HasRow s.rows x → Contains (before ++ r ∷ rest) x
+there p before rest s r x made h = Contains-append_left before (r ∷ rest) x ((made.has_rows.exact x).1 h)
+
+party_is : (p : Peering) (before : List Row) (s : State) → IsMadeOf p before s → s.party ≡ p.provider
+party_is p before s made = ap (λ (t : State). t.party) made.with_peers
+
+operators_are : (p : Peering) (before : List Row) (s : State) → IsMadeOf p before s → s.operators ≡ p.operators
+operators_are p before s made = ap (λ (t : State). t.operators) made.with_peers
+
+pub foreign : (s : State) (r : Row) → IsForeign r → Spoils s r
+foreign s r h peers before rest made order = Foreign r (here before rest r) h
+
+-- what a counter that has a row gave last
+last_is : (s : Rows) (c : Counter) (g n : ℕ) → given_last s c ≡ Some g → HasRow s (row.Count c n) → g ≡ n
+last_is s counter.Serial g n e h = let is : s.serial ≡ g = cc in sym is ∙ h.0
+last_is s counter.Request g n e h = let is : s.outbox.last ≡ g = cc in sym is ∙ h.0
+last_is s counter.Reference g n e h = let is : s.desk.references ≡ g = cc in sym is ∙ h.0
+last_is s counter.Session g n e h = absurd h
+last_is s counter.Cdr g n e h = absurd h
+
+has_count : (s : Rows) (c : Counter) (g : ℕ) → given_last s c ≡ Some g → g ≢ 0 → HasRow s (row.Count c g)
+has_count s counter.Serial g e some = let is : s.serial ≡ g = cc in (is, some)
+has_count s counter.Request g e some = let is : s.outbox.last ≡ g = cc in (is, some)
+has_count s counter.Reference g e some = let is : s.desk.references ≡ g = cc in (is, some)
+has_count s counter.Session g e some = absurd (cc)
+has_count s counter.Cdr g e some = absurd (cc)
+
+not_counted : (s : Rows) (c : Counter) (n : ℕ) → given_last s c ≡ None → IsForeign (row.Count c n)
+not_counted s counter.Serial n e = absurd (cc)
+not_counted s counter.Request n e = absurd (cc)
+not_counted s counter.Reference n e = absurd (cc)
+not_counted s counter.Session n e = tt
+not_counted s counter.Cdr n e = tt
+
+pub other_counter : (s : State) (c : Counter) (last : ℕ) → given_last s.rows c ≡ None → Spoils s (row.Count c last)
+other_counter s c last e = foreign s (row.Count c last) (not_counted s.rows c last e)
+
+pub counted_before : (s : State) (c : Counter) (g last : ℕ) → given_last s.rows c ≡ Some g → g ≢ 0 → Spoils s (row.Count c last)
+counted_before s c g last e some = repeated s (row.Count c last) (row.Count c g) (has_count s.rows c g e some) refl
+
+pub nothing_counted : (s : State) (c : Counter) (last : ℕ) → last ≡ 0 → Spoils s (row.Count c last)
+nothing_counted s c last none peers before rest made order =
+    NothingCounted c (subst (λ (n : ℕ). Contains (before ++ row.Count c last ∷ rest) (row.Count c n)) none (here before rest (row.Count c last)))
+
+-- a number above what the counter gave
+not_given : (p : Peering) (before rest : List Row) (s : State) (r : Row) (c : Counter) (g n : ℕ) → IsMadeOf p before s
+    → IsNonDecreasingBy turn_of (before ++ r ∷ rest) → turn_of r ≡ 2 → given_last s.rows c ≡ Some g → g < n → IsNotGiven (before ++ r ∷ rest) c n
+not_given p before rest s r c g n made order turn e above = record {
+  some_number = λ none. omega arith;
+  above = λ last h.
+      let early = stands_before before rest r (row.Count c last) order h (omega arith) in
+      let is : g ≡ last = last_is s.rows c g last e ((made.has_rows.exact (row.Count c last)).0 early) in
+      omega arith;
+}
+
+pub replied_before : (s : State) (p : List ℕ) (n : ℕ) (v reply : Reply) → get s.rows.replies (p, n) ≡ Some v → Spoils s (row.Reply p n reply)
+replied_before s p n v reply h = repeated s (row.Reply p n reply) (row.Reply p n v) h refl
+
+pub token_before : (s : State) (t u : Token) → AreKeyed s.rows → get s.rows.desk.tokens (token_key t) ≡ Some u → Spoils s (row.Token t)
+token_before s t u keyed h =
+    let same : token_key t ≡ token_key u = keyed.tokens (token_key t) u h in
+    repeated s (row.Token t) (row.Token u) (subst (λ k. get s.rows.desk.tokens k ≡ Some u) same h) (let back = sym same in λ i. keys.Token (back i).1 (back i).0.0 (back i).0.1)
+
+pub session_before : (s : State) (v u : Session) → AreKeyed s.rows → get s.rows.inbox.sessions (session_key v) ≡ Some u → Spoils s (row.Session v)
+session_before s v u keyed h =
+    let same : session_key v ≡ session_key u = keyed.inbox.of_sessions (session_key v) u h in
+    repeated s (row.Session v) (row.Session u) (subst (λ k. get s.rows.inbox.sessions k ≡ Some u) same h) (let back = sym same in λ i. keys.Session (back i).0 (back i).1)
+
+pub cdr_before : (s : State) (v u : Cdr) → AreKeyed s.rows → get s.rows.inbox.cdrs (cdr_key v) ≡ Some u → Spoils s (row.Cdr v)
+cdr_before s v u keyed h =
+    let same : cdr_key v ≡ cdr_key u = keyed.inbox.of_cdrs (cdr_key v) u h in
+    repeated s (row.Cdr v) (row.Cdr u) (subst (λ k. get s.rows.inbox.cdrs k ≡ Some u) same h) (let back = sym same in λ i. keys.Cdr (back i).0 (back i).1)
+
+pub billed_before : (s : State) (v : Cdr) → AreKeyed s.rows → get s.rows.inbox.cdrs (cdr_key v) ≡ None → IsInConflict s.rows.inbox.cdrs v → Spoils s (row.Cdr v)
+billed_before s v keyed none h peers before rest made order =
+    let u = h.held in
+    let own : (key v.party, h.id) ≡ cdr_key u = keyed.inbox.of_cdrs (key v.party, h.id) u h.stands in
+    let stands : get s.rows.inbox.cdrs (cdr_key u) ≡ Some u = subst (λ k. get s.rows.inbox.cdrs k ≡ Some u) own h.stands in
+    let other : key v.id ≢ h.id = λ same. not_both u (get s.rows.inbox.cdrs (cdr_key v)) none (ap (λ (i : List ℕ). get s.rows.inbox.cdrs (key v.party, i)) same ∙ h.stands) in
+    elim h.alike [
+      | inl same ↦ absurd (other (sym same))
+      | inr session ↦ BilledTwice v u (here before rest (row.Cdr v)) (there peers before rest s (row.Cdr v) (row.Cdr u) made stands)
+          (ap (λ (k : List ℕ × List ℕ). k.0) own) (λ same. other (same ∙ sym (ap (λ (k : List ℕ × List ℕ). k.1) own))) (sym session)
+    ]
+
+pub push_taken : (s : State) (n : ℕ) (to : List ℕ) (push : Push) → IsTaken s.rows.outbox n → Spoils s (row.Push n to push)
+push_taken s n to push (inl above) peers before rest made order =
+    PushNotGiven n to push (here before rest (row.Push n to push)) (not_given peers before rest s (row.Push n to push) counter.Request s.rows.outbox.last n made order refl refl above)
+push_taken s n to push (inr (inl h)) peers before rest made order = repeated s (row.Push n to push) (row.Push n h.0.to h.0.push) h.1 refl peers before rest made order
+push_taken s n to push (inr (inr h)) peers before rest made order =
+    NumberShared n to push h.0 (here before rest (row.Push n to push)) (there peers before rest s (row.Push n to push) (row.Command n h.0) made h.1)
+
+pub command_taken : (s : State) (n : ℕ) (c : SentCommand) → IsTaken s.rows.outbox n → Spoils s (row.Command n c)
+command_taken s n c (inl above) peers before rest made order =
+    CommandNotGiven n c (here before rest (row.Command n c)) (not_given peers before rest s (row.Command n c) counter.Request s.rows.outbox.last n made order refl refl above)
+command_taken s n c (inr (inl h)) peers before rest made order =
+    NumberShared n h.0.to h.0.push c (there peers before rest s (row.Command n c) (row.Push n h.0.to h.0.push) made h.1) (here before rest (row.Command n c))
+command_taken s n c (inr (inr h)) peers before rest made order = repeated s (row.Command n c) (row.Command n h.0) h.1 refl peers before rest made order
+
+pub push_to_stranger : (s : State) (n : ℕ) (to : List ℕ) (push : Push) → ¬ HasPeer s.operators (key to) → Spoils s (row.Push n to push)
+push_to_stranger s n to push strange peers before rest made order =
+    PushToStranger n to push (here before rest (row.Push n to push)) (λ known. strange (subst (λ (l : List (List ℕ)). HasPeer l (key to)) (sym (operators_are peers before s made)) known))
+
+pub command_to_stranger : (s : State) (n : ℕ) (c : SentCommand) → ¬ HasPeer s.operators (key c.to) → Spoils s (row.Command n c)
+command_to_stranger s n c strange peers before rest made order =
+    CommandToStranger n c (here before rest (row.Command n c)) (λ known. strange (subst (λ (l : List (List ℕ)). HasPeer l (key c.to)) (sym (operators_are peers before s made)) known))
+
+-- a push about the same stands under another number
+pub pushed_before : (s : State) (n q : ℕ) (to : List ℕ) (push : Push) → get s.rows.outbox.pushes n ≡ None → IsReplaced s.rows.outbox.pushes (subject to push) (Some q)
+    → Spoils s (row.Push n to push)
+pushed_before s n q to push free about = go (subject to push) refl about
+  where
+    go : (o : Option Subject) → subject to push ≡ o → IsReplaced s.rows.outbox.pushes o (Some q) → Spoils s (row.Push n to push)
+    go None e h = let none : ◌≡◌ {A = Option ℕ} (Some q) None = h in absurd (cc)
+    go (Some u) e (x, stands, same) = λ peers before rest made order.
+        PushedTwice n q to x.to push x.push u (λ is. not_both x (get s.rows.outbox.pushes n) free (ap (get s.rows.outbox.pushes) is ∙ stands))
+        (here before rest (row.Push n to push)) (there peers before rest s (row.Push n to push) (row.Push q x.to x.push) made stands) e same
+
+pub strange_reference : (s : State) (n : ℕ) (c : SentCommand) → HasStrangeReference s.party s.rows.desk.references c.command → Spoils s (row.Command n c)
+strange_reference s n c (r, is, why) = go why
+  where
+    own_party : (peers : Peering) (before : List Row) (m : ℕ) → IsMadeOf peers before s → IsOwnId AuthorizationReference peers.provider r m → IsOwnId AuthorizationReference s.party r m
+    own_party peers before m made own = subst (λ (p : List ℕ). IsOwnId AuthorizationReference p r m) (sym (party_is peers before s made)) own
+
+    go : IsStrange s.party s.rows.desk.references r → Spoils s (row.Command n c)
+    go (inl never) peers before rest made order = ReferenceNotOwn n c r (here before rest (row.Command n c)) is (λ m own. never m (own_party peers before m made own))
+    go (inr (m, own, above)) peers before rest made order =
+        ReferenceNotGiven n c r m (here before rest (row.Command n c)) is (subst (λ (p : List ℕ). IsOwnId AuthorizationReference p r m) (party_is peers before s made) own)
+        (not_given peers before rest s (row.Command n c) counter.Reference s.rows.desk.references m made order refl refl above)
