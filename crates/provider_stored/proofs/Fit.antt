@@ -1,5 +1,6 @@
 -- Rows that may be put beside those that stand, kind by kind.
-use Rattle.std.proofs.Common.{◌≡◌, ◌≢◌, ℕ, ◌<◌, ◌≤◌, List, ◌⊎◌, inl, inr, refl, sym, ap, subst, ◌∙◌, arith, true}
+use Rattle.std.proofs.Common.{◌≡◌, ◌≢◌, ℕ, ◌<◌, ◌≤◌, List, ◌⊎◌, inl, inr, refl, sym, ap, subst, ◌∙◌, arith, Bool, true, false, not, nat_eq}
+use Rattle.std.proofs.lemmas.Bool.{eqb-true, eq-eqb}
 use Rattle.std.specs.Prelude.{Option, Some, None, Ok, IsTrue, is_some}
 use Rattle.std.specs.Cmp.{nat_cmp_total}
 use Rattle.std.specs.FinMap.{get, insert, contains_key, nat_cmp-IsAntisymmetric}
@@ -183,3 +184,14 @@ command_fits s n c party free peer own = record {
     once = w.once;
   };
 }
+
+-- what tests of a number tell
+pub not_zero : (n : ℕ) → IsTrue (not (nat_eq n 0)) → n ≢ 0
+not_zero n passes none = let same : nat_eq n 0 ≡ true = eq-eqb n 0 none in let f : false ≡ true = sym (ap not same) ∙ passes in cc
+
+pub is_zero : (n : ℕ) → not (nat_eq n 0) ≡ false → n ≡ 0
+is_zero n e = eqb-true n 0 (twice (nat_eq n 0) e)
+  where
+    twice : (b : Bool) → not b ≡ false → b ≡ true
+    twice true h = refl
+    twice false h = absurd (cc)

@@ -1,3 +1,5 @@
 pub mod Keys
+pub mod Looked
 pub mod Spoiled
 pub mod Fit
+pub mod Made
