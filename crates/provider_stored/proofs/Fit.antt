@@ -1,22 +1,19 @@
 -- Rows that may be put beside those that stand, kind by kind.
-use Rattle.std.proofs.Common.{◌≡◌, ◌≢◌, ℕ, ◌<◌, ◌≤◌, List, ◌⊎◌, inl, inr, refl, sym, ap, subst, ◌∙◌, arith, Bool, true, false, not, nat_eq}
+use Rattle.std.proofs.Common.{◌≡◌, ◌≢◌, ℕ, ◌≤◌, List, inl, inr, refl, sym, ap, subst, ◌∙◌, arith, Bool, true, false, not, nat_eq}
 use Rattle.std.proofs.lemmas.Bool.{eqb-true, eq-eqb}
 use Rattle.std.specs.Prelude.{Option, Some, None, Ok, IsTrue, is_some}
 use Rattle.std.specs.Cmp.{nat_cmp_total}
-use Rattle.std.specs.FinMap.{get, insert, contains_key, nat_cmp-IsAntisymmetric}
+use Rattle.std.specs.FinMap.{get, insert, nat_cmp-IsAntisymmetric}
 use Rattle.ocpi_text.specs.Party.{party_at}
 use Rattle.ocpi_text.specs.Text.{key}
 use Rattle.tables.specs.Keys.{text_pair_total, text_pair_exact}
 use Rattle.tables.proofs.Maps.{of_insert}
-use Rattle.tables.proofs.Options.{not_both, known}
-use Rattle.ocpi_types.specs.Rows.{key_of}
+use Rattle.tables.proofs.Options.{not_both}
 use Rattle.ocpi_types.specs.declared.cdrs.Cdr.{Cdr}
 use Rattle.ocpi_types.specs.declared.rows.Change.TheVariants.{Put}
 use Rattle.ocpi_types.specs.declared.rows.Counter.{Counter}
 use Rattle.ocpi_types.specs.declared.rows.Counter.TheVariants as counter
-use Rattle.ocpi_types.specs.declared.rows.Row.{Row}
 use Rattle.ocpi_types.specs.declared.rows.Row.TheVariants as row
-use Rattle.ocpi_types.specs.declared.rows.RowKey.TheVariants as keys
 use Rattle.ocpi_types.specs.declared.sessions.Session.{Session}
 use Rattle.ocpi_types.specs.declared.stored.Push.{Push}
 use Rattle.ocpi_types.specs.declared.stored.Reply.{Reply}

@@ -3,3 +3,4 @@ pub mod Looked
 pub mod Spoiled
 pub mod Fit
 pub mod Made
+pub mod Told

@@ -1,6 +1,6 @@
 -- What a lookup tells.
-use Rattle.std.proofs.Common.{◌≡◌, Bool, true, false, List, refl, sym, ap, ◌∙◌, Bor, not}
-use Rattle.std.specs.Prelude.{Option, Some, None, is_some, option_copied, Result, Ok, Err, IfErr, OnOk}
+use Rattle.std.proofs.Common.{◌≡◌, Bool, true, false, refl, sym, ap, ◌∙◌, Bor, not}
+use Rattle.std.specs.Prelude.{Option, Some, None, is_some, option_copied, Result, IfErr}
 use Rattle.std.specs.Result.{IsErrAnd}
 use Rattle.std.proofs.lemmas.Result.{err_from_is_err_and}
 

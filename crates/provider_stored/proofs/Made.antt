@@ -1,6 +1,6 @@
 -- A provider that is made of rows, row by row.
-use Rattle.std.proofs.Common.{◌≡◌, ◌≢◌, ℕ, ◌<◌, ◌≤◌, List, [], ◌∷◌, ◌++◌, refl, sym, ap, subst, ◌∙◌}
-use Rattle.std.specs.Prelude.{Option, Some, None, ⊤}
+use Rattle.std.proofs.Common.{◌≡◌, ℕ, List, [], ◌∷◌, ◌++◌, refl, sym, ap, subst, ◌∙◌}
+use Rattle.std.specs.Prelude.{Option, Some, None, Contains}
 use Rattle.std.specs.Cmp.{nat_cmp_total}
 use Rattle.std.specs.FinMap.{empty, get-empty, nat_cmp-IsAntisymmetric}
 use Rattle.std.specs.List.Sorted.{IsNonDecreasingBy, IsPermutation}
@@ -14,22 +14,24 @@ use Rattle.ocpi_types.specs.declared.rows.Counter.{Counter}
 use Rattle.ocpi_types.specs.declared.rows.Counter.TheVariants as counter
 use Rattle.ocpi_types.specs.declared.rows.Row.{Row}
 use Rattle.ocpi_types.specs.declared.rows.Row.TheVariants as row
-use Rattle.ocpi_types.specs.declared.rows.RowKey.{RowKey}
 use Rattle.outbox.specs.Outbox.{request_of, without}
 use Rattle.outbox.specs.Resend.{Resend}
 use Rattle.node_steps.specs.Changes.{Each}
 use Rattle.provider_rows.specs.Rows.{HasRow}
-use Rattle.provider_rows.specs.Sound.{with_rows}
-use Rattle.provider_rows.specs.State.{Peering, Rows, State, no_rows, opening}
+use Rattle.provider_rows.specs.State.{Peering, State, no_rows, opening}
 use Rattle.provider_rows.specs.Steps.{after_change}
 use Rattle.provider_rows.specs.Stored.{put_row}
 use Rattle.provider_rows.proofs.RowChanges.{row_changes}
 use Rattle.provider_stored.specs.Bad.{IsBad}
+use Rattle.provider_stored.specs.Bad.IsBad.{Repeated, Foreign, NothingCounted, PushNotGiven, CommandNotGiven, ReferenceNotGiven, NumberShared, ReferenceNotOwn, PushToStranger, CommandToStranger, PushedTwice, BilledTwice}
 use Rattle.provider_stored.specs.Fitting.{IsFit, IsNext}
 use Rattle.provider_stored.specs.Making.{IsMadeOf}
+use Rattle.stored_rows.specs.Given.{IsNotGiven}
 use Rattle.stored_rows.specs.Turns.{turn_of}
-use Rattle.stored_rows.proofs.Growing.{AreExactly, is_no_later, none_stand, one_more}
-use Rattle.stored_rows.proofs.Repeated.{apart_permuted}
+use Rattle.stored_rows.specs.declared.fault.RowsFault.{RowsFault}
+use Rattle.stored_rows.specs.declared.fault.RowsFault.TheVariants.{BadRows, Memory}
+use Rattle.stored_rows.proofs.Growing.{is_no_later, none_stand, one_more}
+use Rattle.stored_rows.proofs.Repeated.{apart_permuted, repeats_in_other_order}
 
 -- no counter gave a number, and nothing else stands
 none_at_first : (r : Row) → HasRow no_rows r → ⊥
@@ -97,3 +99,35 @@ made_of_other_order p xs ys s h made = record {
   };
   whole = made.whole;
 }
+
+-- and rows that are bad in one order are so in each
+there : (xs ys : List Row) → IsPermutation xs ys → (r : Row) → Contains ys r → Contains xs r
+there xs ys h r i = Contains-permutation ys xs r (IsPermutation-sym xs ys h) i
+
+not_given : (xs ys : List Row) → IsPermutation xs ys → (c : Counter) (n : ℕ) → IsNotGiven ys c n → IsNotGiven xs c n
+not_given xs ys h c n g = record {
+  some_number = g.some_number;
+  above = λ last i. g.above last (Contains-permutation xs ys (row.Count c last) h i);
+}
+
+pub bad_in_other_order : (p : Peering) (xs ys : List Row) → IsPermutation xs ys → IsBad p ys → IsBad p xs
+bad_in_other_order p xs ys h (Repeated r) = Repeated (repeats_in_other_order xs ys h r)
+bad_in_other_order p xs ys h (Foreign r i f) = Foreign r (there xs ys h r i) f
+bad_in_other_order p xs ys h (NothingCounted c i) = NothingCounted c (there xs ys h (row.Count c 0) i)
+bad_in_other_order p xs ys h (PushNotGiven n to push i g) = PushNotGiven n to push (there xs ys h (row.Push n to push) i) (not_given xs ys h counter.Request n g)
+bad_in_other_order p xs ys h (CommandNotGiven n c i g) = CommandNotGiven n c (there xs ys h (row.Command n c) i) (not_given xs ys h counter.Request n g)
+bad_in_other_order p xs ys h (ReferenceNotGiven n c r number i is own g) =
+    ReferenceNotGiven n c r number (there xs ys h (row.Command n c) i) is own (not_given xs ys h counter.Reference number g)
+bad_in_other_order p xs ys h (NumberShared n to push c i j) = NumberShared n to push c (there xs ys h (row.Push n to push) i) (there xs ys h (row.Command n c) j)
+bad_in_other_order p xs ys h (ReferenceNotOwn n c r i is never) = ReferenceNotOwn n c r (there xs ys h (row.Command n c) i) is never
+bad_in_other_order p xs ys h (PushToStranger n to push i strange) = PushToStranger n to push (there xs ys h (row.Push n to push) i) strange
+bad_in_other_order p xs ys h (CommandToStranger n c i strange) = CommandToStranger n c (there xs ys h (row.Command n c) i) strange
+bad_in_other_order p xs ys h (PushedTwice m n to other a b u apart i j one two) =
+    PushedTwice m n to other a b u apart (there xs ys h (row.Push m to a) i) (there xs ys h (row.Push n other b) j) one two
+bad_in_other_order p xs ys h (BilledTwice x y i j party ids session) =
+    BilledTwice x y (there xs ys h (row.Cdr x) i) (there xs ys h (row.Cdr y) j) party ids session
+
+-- a refusal of another kind is want of memory
+pub is_memory : (e : RowsFault) → (e ≡ BadRows → ⊥) → e ≡ Memory
+is_memory BadRows other = absurd (other refl)
+is_memory Memory other = refl

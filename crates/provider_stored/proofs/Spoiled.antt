@@ -23,12 +23,12 @@ use Rattle.ocpi_types.specs.declared.token.Token.{Token}
 use Rattle.token_desk.specs.Tokens.{token_key}
 use Rattle.outbox.specs.Pushes.{IsReplaced, subject}
 use Rattle.outbox.specs.declared.push_book.Subject.{Subject}
-use Rattle.handover.specs.Cdrs.{AreOwnCdrs, cdr_key}
+use Rattle.handover.specs.Cdrs.{cdr_key}
 use Rattle.handover.specs.Inbox.{IsInConflict, session_key}
 use Rattle.node_steps.specs.Peers.{HasPeer}
 use Rattle.provider_rows.specs.Rows.{AreKeyed, HasRow}
-use Rattle.provider_rows.specs.State.{Peering, Rows, State, reference_of}
-use Rattle.provider_stored.specs.Bad.{IsBad, IsForeign}
+use Rattle.provider_rows.specs.State.{Peering, Rows, State}
+use Rattle.provider_stored.specs.Bad.{IsForeign}
 use Rattle.provider_stored.specs.Bad.IsBad.{Repeated, Foreign, NothingCounted, PushNotGiven, CommandNotGiven, ReferenceNotGiven, NumberShared, ReferenceNotOwn, PushToStranger, CommandToStranger, PushedTwice, BilledTwice}
 use Rattle.provider_stored.specs.Fitting.{HasStrangeReference, IsStrange, IsTaken, Spoils, given_last}
 use Rattle.provider_stored.specs.Making.{IsMadeOf}
@@ -65,7 +65,7 @@ last_is s counter.Reference g n e h = let is : s.desk.references ≡ g = cc in s
 last_is s counter.Session g n e h = absurd h
 last_is s counter.Cdr g n e h = absurd h
 
-has_count : (s : Rows) (c : Counter) (g : ℕ) → given_last s c ≡ Some g → g ≢ 0 → HasRow s (row.Count c g)
+pub has_count : (s : Rows) (c : Counter) (g : ℕ) → given_last s c ≡ Some g → g ≢ 0 → HasRow s (row.Count c g)
 has_count s counter.Serial g e some = let is : s.serial ≡ g = cc in (is, some)
 has_count s counter.Request g e some = let is : s.outbox.last ≡ g = cc in (is, some)
 has_count s counter.Reference g e some = let is : s.desk.references ≡ g = cc in (is, some)

@@ -61,4 +61,3 @@ returns-in-Service-5-clause-spoils c = λ _. foreign c.args.books.now.state c.ar
 
 pub returns-in-Service-6-clause-spoils : goal.returns-in-Service-6-clause-spoils
 returns-in-Service-6-clause-spoils c = λ _. foreign c.args.books.now.state c.args.row.now (foreign_row c.args.row.now c.in-Service.is)
-

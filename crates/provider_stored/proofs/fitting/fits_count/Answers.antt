@@ -1,4 +1,4 @@
-use Rattle.std.proofs.Common.{◌≡◌, true, false, sym, ap, ◌∙◌}
+use Rattle.std.proofs.Common.{sym, ◌∙◌}
 use Rattle.provider_stored.proofs.Fit.{count_fits, not_zero, is_zero}
 use Rattle.provider_stored.proofs.Spoiled.{counted_before, nothing_counted, other_counter}
 use Rattle.provider_stored.proofs.fitting.fits_count.Goals as goal

@@ -1,4 +1,4 @@
-use Rattle.std.proofs.Common.{◌≡◌, false, ap, not, ◌∙◌}
+use Rattle.std.proofs.Common.{ap, not, ◌∙◌}
 use Rattle.std.specs.FinMap.{get}
 use Rattle.provider_stored.proofs.Looked.{found_there}
 use Rattle.provider_stored.proofs.Spoiled.{replied_before}

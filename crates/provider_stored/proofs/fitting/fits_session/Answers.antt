@@ -1,4 +1,4 @@
-use Rattle.std.proofs.Common.{◌≡◌, false, ap, not, ◌∙◌}
+use Rattle.std.proofs.Common.{ap, not, ◌∙◌}
 use Rattle.std.specs.FinMap.{get}
 use Rattle.handover.specs.Inbox.{InboxRows, session_key}
 use Rattle.provider_stored.proofs.Looked.{found_there}
@@ -10,5 +10,5 @@ returns-clause-spoils c = λ e.
     let s = c.args.books.now.state in
     let v = c.args.session.now in
     let (u, stands) = found_there c.held.result (get s.rows.inbox.sessions (session_key v))
-      (c.held.ensures ∙ ap (λ (r : InboxRows). get r.sessions (session_key v)) c.inbox.ensures) (c.is_none.ensures ∙ ap not e) in
+    (c.held.ensures ∙ ap (λ (r : InboxRows). get r.sessions (session_key v)) c.inbox.ensures) (c.is_none.ensures ∙ ap not e) in
     session_before s v u c.keys_are_own.ensures stands

@@ -1,4 +1,4 @@
-use Rattle.std.proofs.Common.{◌≡◌, sym, subst, ◌++◌, ◌∷◌, []}
+use Rattle.std.proofs.Common.{sym, subst, ◌++◌, ◌∷◌, []}
 use Rattle.provider_stored.specs.Making.{IsMadeOf}
 use Rattle.provider_stored.proofs.Made.{made_of_more}
 use Rattle.provider_stored.proofs.making.add.Goals as goal

@@ -1,9 +1,8 @@
-use Rattle.std.proofs.Common.{◌≡◌, List, [], ◌∷◌, ◌++◌, length, refl, sym, ap, subst, ◌∙◌, arith, append_assoc}
+use Rattle.std.proofs.Common.{rules, ◌≡◌, List, [], ◌∷◌, ◌++◌, length, sym, ap, subst, ◌∙◌, arith, append_assoc}
 use Rattle.std.specs.List.Sorted.{IsNonDecreasingBy}
 use Rattle.std.specs.Vec.Iter.{into_iter_items}
 use Rattle.std.proofs.lemmas.List.{append-nil, nil_from_length}
 use Rattle.ocpi_types.specs.declared.rows.Row.{Row}
-use Rattle.stored_rows.specs.declared.fault.RowsFault.{RowsFault}
 use Rattle.stored_rows.specs.declared.fault.RowsFault.TheVariants.{BadRows}
 use Rattle.provider_stored.specs.Bad.{IsBad}
 use Rattle.provider_stored.specs.Making.{IsMadeOf}
@@ -16,7 +15,7 @@ pub loop-row-init : goal.loop-row-init
 loop-row-init c = record {
   split = c.into_iter-row-iterator.ensures.into_iter_gives.0;
   made = λ peers is. made_of_none peers c.args.books.now.state is;
-  long = ?;
+  long = search rules;
 }
 
 pub add-requires : goal.add-requires

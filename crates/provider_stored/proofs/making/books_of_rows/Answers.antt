@@ -1,28 +1,29 @@
-use Rattle.std.proofs.Common.{rules, ◌≡◌, ◌∷◌, ◌++◌, [], List, IfErr, IfOk, OnOk, ℕ, ◌+◌, ◌-◌, ◌*◌, ◌<◌, ◌≤◌, length, ◌/◌, ◌%◌, Bool, true, false, nat_eq, nat_lt, slice_index_or, slice_set, bit_and, bit_or, Fits, w8, w32, w64, Bor, MutBor}
-use Rattle.std.specs.List.Sorted.{IsNonDecreasingBy}
-use Rattle.ocpi_types.specs.declared.rows.Row as types
-use Rattle.provider_rows.specs.Rows.{AreKeyed}
-use Rattle.provider_rows.specs.Sound.{IsConsistent}
-use Rattle.provider_rows.specs.State.{Peering, State, opening}
-use Rattle.provider_rows.specs.Steps.{restarted}
+use Rattle.std.proofs.Common.{◌≡◌}
+use Rattle.stored_rows.specs.declared.fault.RowsFault.TheVariants.{BadRows, Memory}
 use Rattle.provider_stored.specs.Bad.{IsBad}
-use Rattle.provider_stored.specs.Fitting.{IsNext}
-use Rattle.provider_stored.specs.Making.{IsMadeOf, StartsAgain}
-use Rattle.stored_rows.specs.Turns.{turn_of}
+use Rattle.provider_stored.proofs.Looked.{err_one}
+use Rattle.provider_stored.proofs.Made.{bad_in_other_order, made_of_other_order, is_memory}
+use Rattle.provider_stored.proofs.Told.{make_again}
 use Rattle.provider_stored.proofs.making.books_of_rows.Goals as goal
 
--- src/making.rt:57:5
 pub returns-in_err-add_all-clause-bad : goal.returns-in_err-add_all-clause-bad
-returns-in_err-add_all-clause-bad c = ?
+returns-in_err-add_all-clause-bad c =
+    let bad = c.in_err-add_all.ensures.bad c.args.peers c.new-books.ensures in
+    err_one (λ e. e ≡ BadRows → IsBad c.args.peers c.args.rows.items) c.from_residual.result _ c.from_residual.ensures.1
+    (λ e. bad_in_other_order c.args.peers c.args.rows.items c.in_turn.result.items c.in_turn.ensures.same (bad e))
 
--- src/making.rt:57:5
 pub returns-in_err-add_all-clause-good : goal.returns-in_err-add_all-clause-good
-returns-in_err-add_all-clause-good c = ?
+returns-in_err-add_all-clause-good c = λ s consistent keyed again.
+    let bad = c.in_err-add_all.ensures.bad c.args.peers c.new-books.ensures in
+    err_one (λ e. e ≡ Memory) c.from_residual.result _ c.from_residual.ensures.1
+    (is_memory _ (λ e. (make_again c.args.peers c.args.rows.items s consistent keyed again).good
+    (bad_in_other_order c.args.peers c.args.rows.items c.in_turn.result.items c.in_turn.ensures.same (bad e))))
 
--- src/making.rt:50:1
 pub returns-clause-made : goal.returns-clause-made
-returns-clause-made c = ?
+returns-clause-made c =
+    made_of_other_order c.args.peers c.args.rows.items c.in_turn.result.items _ c.in_turn.ensures.same (c.in_ok-add_all.ensures.ok c.args.peers c.new-books.ensures)
 
--- src/making.rt:50:1
 pub returns-clause-again : goal.returns-clause-again
-returns-clause-again c = ?
+returns-clause-again c = λ s consistent keyed again.
+    let made = made_of_other_order c.args.peers c.args.rows.items c.in_turn.result.items _ c.in_turn.ensures.same (c.in_ok-add_all.ensures.ok c.args.peers c.new-books.ensures) in
+    (make_again c.args.peers c.args.rows.items s consistent keyed again).same _ c.keys_are_own.ensures made
