@@ -13,7 +13,6 @@ use Rattle.provider_laws.proofs.references.Carrying.{references_are_own}
 use Rattle.provider_rows.specs.State as provider
 use Rattle.provider_rows.specs.State.{reference_of}
 use Rattle.provider_steps.specs.Events.{Event, Happens}
-use Rattle.provider_stored.specs.Whole.{IsWhole}
 use Rattle.stored_laws.specs.Laws.{ProvidersAreWhole}
 use Rattle.stored_rows.specs.Given.{IsOwnId}
 use Rattle.world_laws.specs.Laws.{IsSetup}
