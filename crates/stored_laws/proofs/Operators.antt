@@ -45,7 +45,8 @@ module _ (p : Place) (s : operator.State) (orderly : (id : List ℕ) → GoesInO
     billed = are_billed;
   }
 
-given_ids : (setup : List Node) (is_setup : IsSetup setup) (w : World) (hs : Histories) → Traces setup w hs → (o : List ℕ) (p : Place) (s : operator.State) → OperatorOf w o p s → HaveGivenIds s
+given_ids : (setup : List Node) (is_setup : IsSetup setup) (w : World) (hs : Histories) → Traces setup w hs → (o : List ℕ) (p : Place) (s : operator.State) →
+    OperatorOf w o p s → HaveGivenIds s
 given_ids setup is_setup w hs traces o p s of =
     let at = operator_at setup is_setup w hs traces o p s of in
     subst HaveGivenIds at.state_is (ids_are_given (line_of setup at.trace.party at.trace.site) at.trace.events at.trace.state at.trace.by_form at.trace.run)

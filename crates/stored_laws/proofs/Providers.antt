@@ -25,18 +25,22 @@ use Rattle.world_steps.proofs.Tracing.{traced}
 
 -- each authorization reference in a command of the provider is its own
 abbrev HasOwnReferences : provider.State → Type 0
-HasOwnReferences s = (n : ℕ) (c : SentCommand) → get s.rows.outbox.commands n ≡ Some c → (r : List ℕ) → reference_of c.command ≡ Some r → (number : ℕ) × IsOwnId AuthorizationReference s.party r number
+HasOwnReferences s = (n : ℕ) (c : SentCommand) → get s.rows.outbox.commands n ≡ Some c → (r : List ℕ) → reference_of c.command ≡ Some r →
+    (number : ℕ) × IsOwnId AuthorizationReference s.party r number
 
 -- the party of a provider is its own from the opening on
 party_stays : (p : provider.Peering) (es : List Event) (t : provider.State) → Run (provider.opening p) es t → t.party ≡ p.provider
-party_stays p es t run = kept_runs Happens (λ (z : provider.State). z.party ≡ p.provider) (λ a b e happens before. same_party a b e happens ∙ before) (provider.opening p) t es run refl
+party_stays p es t run =
+    kept_runs Happens (λ (z : provider.State). z.party ≡ p.provider) (λ a b e happens before. same_party a b e happens ∙ before) (provider.opening p) t es run refl
 
 own_references : (p : provider.Peering) (es : List Event) (t : provider.State) → provider.ArePeers p → Run (provider.opening p) es t → HasOwnReferences t
 own_references p es t peers run n c has r is =
     let h = references_are_own p es t peers run (InCommand n) r (c, has, is) in
-    subst (λ (party : List ℕ). (number : ℕ) × IsOwnId AuthorizationReference party r number) (sym (party_stays p es t run)) (h.number, record { is_number = h.within; made = h.text_is })
+    subst (λ (party : List ℕ). (number : ℕ) × IsOwnId AuthorizationReference party r number) (sym (party_stays p es t run))
+    (h.number, record { is_number = h.within; made = h.text_is })
 
-references : (setup : List Node) (is_setup : IsSetup setup) (w : World) (hs : Histories) → Traces setup w hs → (o : List ℕ) (p : Place) (s : provider.State) → ProviderOf w o p s → HasOwnReferences s
+references : (setup : List Node) (is_setup : IsSetup setup) (w : World) (hs : Histories) → Traces setup w hs → (o : List ℕ) (p : Place) (s : provider.State) →
+    ProviderOf w o p s → HasOwnReferences s
 references setup is_setup w hs traces o p s of =
     let at = provider_at setup is_setup w hs traces o p s of in
     subst HasOwnReferences at.state_is (own_references (peering_of setup at.trace.party) at.trace.events at.trace.state at.trace.are_peers at.trace.run)
