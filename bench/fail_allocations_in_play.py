@@ -103,7 +103,8 @@ def play(program, lines, parts, number, whole):
     rest, said = run.program.communicate()
     failed = said.count(b"an allocation failed")
     status = run.program.returncode
-    written = run.written + rest
+    # (the program may have refused the setup and ended before the next line was given)
+    written = run.written + (b"" if rest in WITHOUT_MEMORY else rest)
     if is_whole and status == (1 if run.refused else 0) and written == whole and run.refused <= failed:
         return failed, run.refused
     if failed == 1 and status in (1, 2) and written != whole and whole.startswith(written):
