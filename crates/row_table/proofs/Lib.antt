@@ -1,0 +1,5 @@
+pub mod Meanings
+pub mod RowLemmas
+pub mod StatementLemmas
+pub mod EffectLemmas
+pub mod EditLemmas

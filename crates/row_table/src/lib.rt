@@ -1,0 +1,10 @@
+//! The two tables of a store that keeps a node's rows: `layout`, which tells its version, and `row_text`, which has a
+//! text under each kind and name.
+#![tactic(auto)]
+
+mod edits;
+mod past;
+mod statements;
+
+pub use edits::TextEdit;
+pub use past::Past;
