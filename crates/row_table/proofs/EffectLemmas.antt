@@ -13,21 +13,22 @@ use Rattle.sqlite.specs.Tree.{put_row}
 use Rattle.sqlite_rules.specs.Lists.{Has}
 use Rattle.sqlite.specs.State.{State, Shows, KeepsCommit, ExecutesInside}
 use Rattle.row_table.specs.Texts.{Place, Texts, entry_in, texts_in, texts_of, text_row, IsTextRow, AreTexts}
-use Rattle.row_table.specs.Effects.{HasTables, HasMade}
+use Rattle.row_table.specs.Effects.{HasTables, HadTables, HasMade}
 use Rattle.row_table.proofs.Meanings.{insert_text, delete_text}
 use Rattle.row_table.proofs.RowLemmas.{is_at, rest, texts_rest, are_rest, none_at, texts_put, are_put}
 use Rattle.row_table.proofs.StatementLemmas.{deletes, inserts}
 
-pub clears : (old new : State) (kind name : List ℕ) (r : Result ℕ Error) → HasTables old.now → (old.in_transaction ≡ false → (e : Error) × (r ≡ Err e))
+pub clears : (old new : State) (kind name : List ℕ) (r : Result ℕ Error) → HadTables old → (old.in_transaction ≡ false → (e : Error) × (r ≡ Err e))
     → (IsTrue old.in_transaction → ExecutesInside 0 delete_text (Text kind ∷ Text name ∷ []) old new r) → OnOk r (HasMade old new (remove (texts_of old.now.trees) (kind, name)))
 clears old new kind name (Err e) has ended runs = tt
 clears old new kind name (Ok count) has ended runs = elim (cases_Bool old.in_transaction) [
   | inl within ↦
     let ran = runs within in
-    let after = deletes old new kind name (Ok count) has.schema has.texts ran.0 in
+    let it = has ran.1.was_open in
+    let after = deletes old new kind name (Ok count) it.schema it.texts ran.0 in
     record {
       shown = ran.1;
-      tables = record { schema = after.schema; texts = subst AreTexts (sym after.rows_are) (are_rest (kind, name) (old.now.trees 1) has.texts) };
+      tables = record { schema = after.schema; texts = subst AreTexts (sym after.rows_are) (are_rest (kind, name) (old.now.trees 1) it.texts) };
       texts_are = ap texts_in after.rows_are ∙ texts_rest (kind, name) (old.now.trees 1);
     }
   | inr outside ↦ absurd (let e = (ended outside).1 in cc)
@@ -40,20 +41,21 @@ none_there p (x ∷ rows) none r h = elim (is_at p x) as (λ b. is_at p x ≡ b 
   | false ↦ λ apart e. elim h [ inl same ↦ ap (is_at p) same ∙ apart | inr later ↦ none_there p rows e r later ]
 ] refl none
 
-pub adds : (old new : State) (kind name body : List ℕ) (r : Result ℕ Error) → HasTables old.now → get (texts_of old.now.trees) (kind, name) ≡ None → (old.in_transaction ≡ false → (e : Error) × (r ≡ Err e))
+pub adds : (old new : State) (kind name body : List ℕ) (r : Result ℕ Error) → HadTables old → get (texts_of old.now.trees) (kind, name) ≡ None → (old.in_transaction ≡ false → (e : Error) × (r ≡ Err e))
     → (IsTrue old.in_transaction → ExecutesInside 0 insert_text (Text kind ∷ Text name ∷ Text body ∷ []) old new r) → OnOk r (HasMade old new (insert (texts_of old.now.trees) (kind, name) body))
 adds old new kind name body (Err e) has none ended runs = tt
 adds old new kind name body (Ok count) has none ended runs = elim (cases_Bool old.in_transaction) [
   | inl within ↦
     let ran = runs within in
+    let it = has ran.1.was_open in
     let rows = old.now.trees 1 in
     let row = text_row (next_rowid rows) kind name body in
-    let after = inserts old new kind name body (Ok count) has.schema ran.0 in
+    let after = inserts old new kind name body (Ok count) it.schema ran.0 in
     let apart = none_there (kind, name) rows (sym (get-from_entries text_pair_total (map entry_in rows) (kind, name)) ∙ none) in
     let is : IsTextRow row = record { id = next_rowid rows; kind = kind; name = name; body = body; has_id = refl; has_kind = refl; has_name = refl; has_body = refl } in
     record {
       shown = ran.1;
-      tables = record { schema = after.0.schema; texts = subst AreTexts (sym after.0.rows_are) (are_put row rows has.texts is after.1) };
+      tables = record { schema = after.0.schema; texts = subst AreTexts (sym after.0.rows_are) (are_put row rows it.texts is after.1) };
       texts_are = ap texts_in after.0.rows_are ∙ texts_put row rows apart after.1;
     }
   | inr outside ↦ absurd (let e = (ended outside).1 in cc)

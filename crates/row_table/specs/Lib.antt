@@ -1,3 +1,4 @@
 pub mod Layout
 pub mod Texts
 pub mod Effects
+pub mod Reading

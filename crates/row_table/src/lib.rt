@@ -4,7 +4,9 @@
 
 mod edits;
 mod past;
+mod reading;
 mod statements;
 
 pub use edits::TextEdit;
 pub use past::Past;
+pub use reading::TextRow;

@@ -5,7 +5,7 @@ ghost use Rattle.std.specs.FinMap.{get, insert, remove};
 ghost use Rattle.sqlite.specs.State.{HasCleanDisk, KeepsCommit, Survives};
 ghost use Rattle.sqlite.specs.Held.{state};
 ghost use Rattle.row_table.specs.Texts.{texts_of};
-ghost use Rattle.row_table.specs.Effects.{HasTables, HasMade};
+ghost use Rattle.row_table.specs.Effects.{HadTables, HasMade};
 
 use sqlite::{Alter, Error, Row, Transaction, params};
 
@@ -17,7 +17,7 @@ pub(crate) fn clear<S: Alter>(
 ) -> Result<usize, Error>
     ensures same_reference { tx.new.conn.ghost_name ≡ tx.old.conn.ghost_name }
     ensures kept { HasCleanDisk (state S.Store tx.new.conn.now) → KeepsCommit (state S.Store tx.old.conn.now) (state S.Store tx.new.conn.now) }
-    ensures made { HasCleanDisk (state S.Store tx.new.conn.now) → HasTables (state S.Store tx.old.conn.now).now
+    ensures made { HasCleanDisk (state S.Store tx.new.conn.now) → HadTables (state S.Store tx.old.conn.now)
         → OnOk result (HasMade (state S.Store tx.old.conn.now) (state S.Store tx.new.conn.now) (remove (texts_of (state S.Store tx.old.conn.now).now.trees) (kind.now, name.now))) }
     ensures survives { Survives (state S.Store tx.old.conn.now) (state S.Store tx.new.conn.now) (λ _. ⊥) }
 {
@@ -36,7 +36,7 @@ fn add<S: Alter>(
 ) -> Result<usize, Error>
     ensures same_reference { tx.new.conn.ghost_name ≡ tx.old.conn.ghost_name }
     ensures kept { HasCleanDisk (state S.Store tx.new.conn.now) → KeepsCommit (state S.Store tx.old.conn.now) (state S.Store tx.new.conn.now) }
-    ensures made { HasCleanDisk (state S.Store tx.new.conn.now) → HasTables (state S.Store tx.old.conn.now).now → get (texts_of (state S.Store tx.old.conn.now).now.trees) (kind.now, name.now) ≡ None
+    ensures made { HasCleanDisk (state S.Store tx.new.conn.now) → HadTables (state S.Store tx.old.conn.now) → get (texts_of (state S.Store tx.old.conn.now).now.trees) (kind.now, name.now) ≡ None
         → OnOk result (HasMade (state S.Store tx.old.conn.now) (state S.Store tx.new.conn.now) (insert (texts_of (state S.Store tx.old.conn.now).now.trees) (kind.now, name.now) text.now)) }
     ensures survives { Survives (state S.Store tx.old.conn.now) (state S.Store tx.new.conn.now) (λ _. ⊥) }
 {
@@ -55,7 +55,7 @@ pub(crate) fn put<S: Alter>(
 ) -> Result<usize, Error>
     ensures same_reference { tx.new.conn.ghost_name ≡ tx.old.conn.ghost_name }
     ensures kept { HasCleanDisk (state S.Store tx.new.conn.now) → KeepsCommit (state S.Store tx.old.conn.now) (state S.Store tx.new.conn.now) }
-    ensures made { HasCleanDisk (state S.Store tx.new.conn.now) → HasTables (state S.Store tx.old.conn.now).now
+    ensures made { HasCleanDisk (state S.Store tx.new.conn.now) → HadTables (state S.Store tx.old.conn.now)
         → OnOk result (HasMade (state S.Store tx.old.conn.now) (state S.Store tx.new.conn.now) (insert (texts_of (state S.Store tx.old.conn.now).now.trees) (kind.now, name.now) text.now)) }
     ensures survives { Survives (state S.Store tx.old.conn.now) (state S.Store tx.new.conn.now) (λ _. ⊥) }
 {

@@ -13,4 +13,4 @@ returns-clause-made g c clean has =
     let place : Place = (c.args.kind.now, c.args.name.now) in
     let early : HasCleanDisk mid = omega (arith, c.add.ensures.survives.clean) in
     let first = c.in_ok-clear.ensures.made early has in
-    ok_then c.add.result _ _ (puts old mid new place c.args.text.now first) (c.add.ensures.made clean first.tables (none_after old mid place first))
+    ok_then c.add.result _ _ (puts old mid new place c.args.text.now first) (c.add.ensures.made clean (λ _. first.tables) (none_after old mid place first))
