@@ -6,3 +6,4 @@ pub mod EditLemmas
 pub mod ReadLemmas
 pub mod SortLemmas
 pub mod LoadLemmas
+pub mod KeptLemmas

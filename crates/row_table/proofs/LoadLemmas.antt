@@ -1,5 +1,5 @@
 -- The rows that are read in order are the entries.
-use Rattle.std.proofs.Common.{◌≡◌, ℕ, true, List, [], map, T, IfOk, IfErr, Ok, Err, Result, Vec, refl, sym, ap, subst, ◌∙◌}
+use Rattle.std.proofs.Common.{◌≡◌, ℕ, true, List, [], map, T, IfOk, IfErr, OnOk, Ok, Err, Result, Vec, refl, sym, ap, subst, ◌∙◌}
 use Rattle.std.specs.declared.alloc.Global.{Global}
 use Rattle.std.specs.FinMap.{entries, is_sorted}
 use Rattle.sqlite.specs.Order.{Row}
@@ -22,3 +22,7 @@ loaded g old rows given (Ok v) answer had same read sorted =
     let moved = selects (state g (record old { in_transaction = true })) (state g answer.mid) rows has.schema answer.shown in
     entries_read ((state g old).now.trees 1) rows v.items moved (read ∙ ap (map entry_shown) same) sorted
 loaded g old rows given (Err e) answer had same read sorted = tt
+
+pub any_ok : {A E : Type 0} (r : Result A E) (P : Type 0) → P → OnOk r P
+any_ok (Ok a) P p = p
+any_ok (Err e) P p = tt

@@ -2,3 +2,4 @@ pub mod Layout
 pub mod Texts
 pub mod Effects
 pub mod Reading
+pub mod Kept

@@ -79,7 +79,7 @@ pub(crate) fn commit_all<S: Alter>(
     ensures all { HasCleanDisk (state S.Store conn.new) → HadTables (state S.Store conn.old) → edits.now ≢ []
         → OnOk result (HasCommitted (state S.Store conn.old) (state S.Store conn.new) (set_all (texts_of (state S.Store conn.old).now.trees) edits.now)) }
     ensures none { HasCleanDisk (state S.Store conn.new) → HadTables (state S.Store conn.old) → edits.now ≢ [] → OnErr result (HasUndone (state S.Store conn.old) (state S.Store conn.new)) }
-    ensures crash { Survives (state S.Store conn.old) (state S.Store conn.new) (λ trees. HadTables (state S.Store conn.old) → edits.now ≢ [] → texts_of trees ≡ set_all (texts_of (state S.Store conn.old).now.trees) edits.now) }
+    ensures crash { Survives (state S.Store conn.old) (state S.Store conn.new) (λ trees. HadTables (state S.Store conn.old) → edits.now ≢ [] → IsTrue (state S.Store conn.old).is_open × (texts_of trees ≡ set_all (texts_of (state S.Store conn.old).now.trees) edits.now)) }
 {
     let mut tx = conn.transaction();
     make_all(&mut tx, edits)?;

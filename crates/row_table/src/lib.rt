@@ -6,7 +6,9 @@ mod edits;
 mod past;
 mod reading;
 mod statements;
+mod table;
 
 pub use edits::TextEdit;
 pub use past::Past;
 pub use reading::TextRow;
+pub use table::TextTable;
