@@ -1,9 +1,10 @@
 -- The two tables.
-use Rattle.std.specs.Prelude.{ℕ, true, false, None, List, [], ◌∷◌, codes}
+use Rattle.std.specs.Prelude.{◌≡◌, ℕ, true, false, None, List, [], ◌∷◌, codes}
 use Rattle.sqlite.specs.Collation.TheVariants.{Binary}
 use Rattle.sqlite.specs.declared.types.Value.TheVariants.{Null}
 use Rattle.sqlite.specs.Table.{Table}
 use Rattle.sqlite.specs.Schema.{Schema}
+use Rattle.sqlite_schema.specs.declared.schema.Kind.{Kind}
 use Rattle.sqlite.specs.Kind.TheVariants.{Integer, Text}
 use Rattle.sqlite_schema.specs.declared.schema.Index.{Index}
 use Rattle.sqlite_schema.specs.declared.schema.Column.{Column}
@@ -15,11 +16,14 @@ layout_text = codes "CREATE TABLE layout(version INTEGER NOT NULL) STRICT"
 abbrev pub row_text : List ℕ
 row_text = codes "CREATE TABLE row_text(kind TEXT NOT NULL, name TEXT NOT NULL, body TEXT NOT NULL, PRIMARY KEY(kind, name)) STRICT"
 
+abbrev pub strict_column : List ℕ → Kind → Column
+strict_column name kind = record { name = name; kind = kind; is_strict = true; not_null = true; default = Null; collation = Binary }
+
 abbrev pub layout_table : Table
 layout_table = record {
   name = codes "layout";
   tree = 0;
-  columns = (record { name = codes "version"; kind = Integer; is_strict = true; not_null = true; default = Null; collation = Binary }) ∷ [];
+  columns = strict_column (codes "version") Integer ∷ [];
   key = None;
   primary = [];
   uniques = [];
@@ -32,7 +36,7 @@ layout_table = record {
 }
 
 abbrev pub text_column : List ℕ → Column
-text_column name = record { name = name; kind = Text; is_strict = true; not_null = true; default = Null; collation = Binary }
+text_column name = strict_column name Text
 
 abbrev pub row_table : Table
 row_table = record {
@@ -62,3 +66,12 @@ layout_alone = record { tables = layout_table ∷ []; indexes = []; views = [] }
 
 abbrev pub both_tables : Schema
 both_tables = record { tables = layout_table ∷ row_table ∷ []; indexes = row_index ∷ []; views = [] }
+
+-- no rule beside the columns and the keys
+pub record IsPlainTable (t : Table) : Type 0 where
+  pub key : t.key ≡ None
+  pub checks : t.checks ≡ []
+  pub references : t.references ≡ []
+  pub computed : t.computed ≡ []
+  pub stamps : t.stamps ≡ record { places = []; terms = []; formats = [] }
+  pub is_counted : t.is_counted ≡ false

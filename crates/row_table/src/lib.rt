@@ -3,6 +3,7 @@
 #![tactic(auto)]
 
 mod edits;
+mod layout;
 mod past;
 mod reading;
 mod statements;
