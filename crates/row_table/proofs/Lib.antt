@@ -7,3 +7,4 @@ pub mod ReadLemmas
 pub mod SortLemmas
 pub mod LoadLemmas
 pub mod KeptLemmas
+pub mod MakeLemmas

@@ -3,3 +3,4 @@ pub mod Texts
 pub mod Effects
 pub mod Reading
 pub mod Kept
+pub mod Opening

@@ -4,6 +4,7 @@
 
 mod edits;
 mod layout;
+mod making;
 mod past;
 mod reading;
 mod statements;
