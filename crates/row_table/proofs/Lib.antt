@@ -8,3 +8,4 @@ pub mod SortLemmas
 pub mod LoadLemmas
 pub mod KeptLemmas
 pub mod MakeLemmas
+pub mod CheckLemmas

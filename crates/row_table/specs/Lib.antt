@@ -4,3 +4,4 @@ pub mod Effects
 pub mod Reading
 pub mod Kept
 pub mod Opening
+pub mod Checking

@@ -2,6 +2,7 @@
 //! text under each kind and name.
 #![tactic(auto)]
 
+mod checking;
 mod edits;
 mod layout;
 mod making;
