@@ -9,3 +9,4 @@ pub mod LoadLemmas
 pub mod KeptLemmas
 pub mod MakeLemmas
 pub mod CheckLemmas
+pub mod OpenLemmas

@@ -218,7 +218,7 @@ inserts old new kind name body (Ok count) has h =
 
 -- ---- SELECT
 
-every : (given : Row) (f : Env → Output) (rows : List Row) → map (λ (o : Output). o.1) (map f (flat_map (λ r. (given ∷ r ∷ []) ∷ []) rows)) ≡ map (λ r. (f (given ∷ r ∷ [])).1) rows
+pub every : (given : Row) (f : Env → Output) (rows : List Row) → map (λ (o : Output). o.1) (map f (flat_map (λ r. (given ∷ r ∷ []) ∷ []) rows)) ≡ map (λ r. (f (given ∷ r ∷ [])).1) rows
 every given f [] = refl
 every given f (r ∷ rows) = ap (λ l. (f (given ∷ r ∷ [])).1 ∷ l) (every given f rows)
 

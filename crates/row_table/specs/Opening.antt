@@ -1,12 +1,19 @@
 -- What opening a store makes of it.
-use Rattle.std.specs.Prelude.{◌≡◌, ℕ, pos, true, List, [], ◌∷◌, map, IsTrue}
+use Rattle.std.specs.Prelude.{◌≡◌, ◌≢◌, ◌⊎◌, ℕ, pos, true, List, [], ◌∷◌, map, IsTrue}
+use Rattle.std.specs.FinMap.{empty}
 use Rattle.sqlite.specs.declared.types.Value.{Value}
 use Rattle.sqlite.specs.declared.types.Value.TheVariants.{Int}
 use Rattle.sqlite.specs.Order.{Row, column}
 use Rattle.sqlite.specs.Tree.{Trees}
 use Rattle.sqlite.specs.Effect.{Database}
 use Rattle.sqlite.specs.State.{State, Shows}
-use Rattle.row_table.specs.Layout.{both_tables, layout_alone}
+use Rattle.sqlite.specs.Store.{Ghosts}
+use Rattle.sqlite.specs.Held.{Held, state}
+use Rattle.row_table.specs.Layout.{both_tables, layout_alone, no_schema}
+use Rattle.row_table.specs.Texts.{Texts, texts_of}
+use Rattle.row_table.specs.Checking.{HasOurNames}
+use Rattle.row_table.specs.Effects.{HasTables}
+use Rattle.row_table.specs.Kept.{IsAtRest}
 
 -- what the rows of `layout` say
 abbrev pub versions : Trees → List Value
@@ -45,3 +52,28 @@ pub record IsNewStore (old new : State) : Type 0 where
   pub is_open : IsTrue new.is_open
   pub one : HasOne new.now
   pub settled : new.now ≡ new.committed
+
+-- the texts that a store is opened with: those of its table, or none where it had no table
+abbrev pub FindsTexts : Database → Texts → Type 0
+FindsTexts db t = ((db.schema ≡ both_tables) × IsVersionOne db.trees × (t ≡ texts_of db.trees)) ⊎ ((db.schema ≡ no_schema) × (t ≡ empty))
+
+-- the store was laid out for other rows: it has something, and either not just the two tables with their columns, or not just the version 1
+abbrev pub IsOldLayout : Database → Type 0
+IsOldLayout db = (db.schema ≢ no_schema) × ((¬ HasOurNames db.schema) ⊎ (¬ IsVersionOne db.trees))
+
+pub record HoldsAsOpened {S : Type 0} (g : Ghosts S) (old new last : Held S) : Type 0 where
+  pub rest : IsAtRest g (record { conn = new; last = last })
+  pub finds : FindsTexts (state g old).now (texts_of (state g last).now.trees)
+  -- a stop leaves just these texts
+  pub stops : (trees : Trees) → (state g new).may_leave trees → texts_of trees ≡ texts_of (state g last).now.trees
+
+-- the connection was noted once, when it had the texts
+abbrev pub IsOpenedAs : {S : Type 0} → Ghosts S → Held S → Held S → List (Held S) → Type 0
+IsOpenedAs g old new [] = ⊥
+IsOpenedAs g old new (last ∷ more) = (more ≡ []) × HoldsAsOpened g old new last
+
+-- an open store of layout 1
+pub record IsLayoutOne (s : State) : Type 0 where
+  pub is_open : IsTrue s.is_open
+  pub tables : HasTables s.now
+  pub version : IsVersionOne s.now.trees

@@ -37,7 +37,7 @@ fn is_above(last: Option<i64>, id: i64) -> bool
 }
 
 /// Whether the rows have a rowid and three texts each, and the rowids rise.
-fn are_whole(rows: &[Row]) -> Result<bool, Error>
+pub(crate) fn are_whole(rows: &[Row]) -> Result<bool, Error>
     ensures { IfOk result (λ b. IsTrue b → AreWhole rows.now) }
 {
     let mut last = None;
@@ -52,7 +52,7 @@ fn are_whole(rows: &[Row]) -> Result<bool, Error>
 }
 
 /// Whether there is one row, with the number 1 alone.
-fn is_one(rows: &[Row]) -> Result<bool, Error>
+pub(crate) fn is_one(rows: &[Row]) -> Result<bool, Error>
     ensures { IfOk result (λ b. IsTrue b ↔ (rows.now ≡ (Int (pos 1) ∷ []) ∷ [])) }
 {
     let [row] = rows else {

@@ -1,10 +1,11 @@
 //! Whether a schema is that of the two tables.
 
-ghost use Rattle.std.specs.Prelude.{◌≡◌, true, false, [], ◌∷◌, None, codes, IsTrue, IfOk};
+ghost use Rattle.std.specs.Prelude.{◌≡◌, ◌↔◌, true, false, [], ◌∷◌, None, codes, IsTrue, IfOk};
 ghost use Rattle.sqlite_value.specs.Keys.{plain};
 ghost use Rattle.sqlite_schema.specs.declared.schema.Column.{Column};
 ghost use Rattle.sqlite.specs.declared.types.Value.TheVariants.{Null};
 ghost use Rattle.sqlite.specs.Collation.TheVariants.{Binary};
+ghost use Rattle.row_table.specs.Checking.{HasOurNames, outline};
 ghost use Rattle.row_table.specs.Layout.{IsPlainTable, both_tables, layout_table, no_schema, row_index, row_table, strict_column};
 
 use sqlite_schema::schema::{Column, Index, Kind, Schema, Table};
@@ -131,7 +132,7 @@ fn is_row_index(index: &Index) -> bool
 
 /// Whether the schema has nothing.
 pub(crate) fn is_empty(schema: &Schema) -> bool
-    ensures { IsTrue result → schema.now ≡ no_schema }
+    ensures { IsTrue result ↔ (schema.now ≡ no_schema) }
 {
     schema.tables.is_empty() && schema.indexes.is_empty() && schema.views.is_empty()
 }
@@ -150,4 +151,48 @@ pub(crate) fn is_ours(alloc: Global, schema: &Schema) -> Result<bool, AllocError
         && is_row_index(index)
         && is_layout(alloc, layout)?
         && is_row_table(alloc, rows)?)
+}
+
+fn is_column_named(column: &Column, name: &str) -> bool
+    ensures { IsTrue result ↔ (column.now.name ≡ name.now) }
+{
+    column.name.as_slice() == name.as_bytes()
+}
+
+fn is_table_named(table: &Table, name: &str) -> bool
+    ensures { IsTrue result ↔ (table.now.name ≡ name.now) }
+{
+    table.name.as_slice() == name.as_bytes()
+}
+
+fn is_outlined_layout(table: &Table) -> bool
+    ensures { outline table.now ≡ outline layout_table → IsTrue result }
+{
+    let [version] = table.columns.as_slice() else {
+        return false;
+    };
+    is_table_named(table, "layout") && is_column_named(version, "version")
+}
+
+fn is_outlined_rows(table: &Table) -> bool
+    ensures { outline table.now ≡ outline row_table → IsTrue result }
+{
+    let [kind, name, body] = table.columns.as_slice() else {
+        return false;
+    };
+    is_table_named(table, "row_text")
+        && is_column_named(kind, "kind")
+        && is_column_named(name, "name")
+        && is_column_named(body, "body")
+}
+
+/// Whether the schema has the two tables and no other, with just their columns, by their names.
+pub(crate) fn has_our_names(schema: &Schema) -> bool
+    ensures { HasOurNames schema.now → IsTrue result }
+{
+    let [first, second] = schema.tables.as_slice() else {
+        return false;
+    };
+    (is_outlined_layout(first) && is_outlined_rows(second))
+        || (is_outlined_rows(first) && is_outlined_layout(second))
 }

@@ -6,12 +6,14 @@ mod checking;
 mod edits;
 mod layout;
 mod making;
+mod opening;
 mod past;
 mod reading;
 mod statements;
 mod table;
 
 pub use edits::TextEdit;
+pub use opening::OpenFault;
 pub use past::Past;
 pub use reading::TextRow;
 pub use table::TextTable;
