@@ -18,11 +18,11 @@ use Rattle.sqlite.specs.State.{State, HasCleanDisk, Shown}
 use Rattle.sqlite.specs.Held.{Held, state}
 use Rattle.sqlite.proofs.Callers.{reads_as, one_permutation}
 use Rattle.row_table.specs.Layout.{both_tables, no_schema}
-use Rattle.row_table.specs.Texts.{AreTexts, texts_of}
+use Rattle.row_table.specs.Texts.{AreTexts, texts_in, texts_of}
 use Rattle.row_table.specs.Effects.{HasTables, HadTables, HasUndone}
 use Rattle.row_table.specs.Reading.{IsAnswered}
 use Rattle.row_table.specs.Checking.{AreWhole}
-use Rattle.row_table.specs.Opening.{IsVersionOne, IsLayoutOne, versions}
+use Rattle.row_table.specs.Opening.{FindsTexts, HasOne, HoldsAsOpened, IsNewStore, IsVersionOne, IsLayoutOne, versions}
 use Rattle.row_table.proofs.Meanings.{layout_select, whole_select, version_query, version_is, version_plain}
 use Rattle.row_table.proofs.StatementLemmas.{every, selects_whole}
 use Rattle.row_table.proofs.ReadLemmas.{answered_open}
@@ -78,3 +78,39 @@ layout_one old mid was still settled undone has version whole =
       tables = record { schema = has; texts = subst (λ (d : Database). AreTexts (d.trees 1)) same (whole (ap (λ (d : Database). d.schema) same ∙ has)) };
       version = version;
     }
+
+-- while a store is open, a stop leaves the last commit and nothing else
+abbrev pub LeavesCommit : State → Type 0
+LeavesCommit s = IsTrue s.is_open → (db : Trees) → s.may_leave db → db ≡ s.committed.trees
+
+module _ {S : Type 0} (g : Ghosts S) (old new : Held S) where
+  pub started : new.in_transaction ≡ false → (state g old).now.schema ≡ no_schema → IsNewStore (state g old) (state g new) → LeavesCommit (state g new) → HoldsAsOpened g old new new
+  started idle none made law = record {
+    rest = record {
+      idle = idle;
+      tables = λ _ _. record { schema = made.one.schema; texts = subst AreTexts (sym made.one.no_text) no_rows };
+      same = λ _ _. refl;
+      settled = λ _ _. made.settled;
+    };
+    finds = inr (none, ap texts_in made.one.no_text);
+    stops = λ trees may. ap texts_of (law made.is_open trees may ∙ sym (ap (λ (d : Database). d.trees) made.settled));
+  }
+    where
+      no_rows : AreTexts []
+      no_rows = record { each = λ r h. absurd h; keyed = λ a b h i e. absurd h }
+
+  pub found : new.in_transaction ≡ false → (HasCleanDisk (state g new) → HasCleanDisk (state g old)) → (IsTrue (state g old).is_open → (state g old).now ≡ (state g old).committed) → IsLayoutOne (state g old) → HasUndone (state g old) (state g new)
+      → ((db : Trees) → (state g new).may_leave db → (state g old).may_leave db) → LeavesCommit (state g old) → HoldsAsOpened g old new old
+  found idle earlier settled one undone left law = record {
+    rest = record {
+      idle = idle;
+      tables = λ _ still. subst HasTables (sym (back still)) one.tables;
+      same = λ _ still. ap (λ (d : Database). texts_of d.trees) (back still);
+      settled = λ _ still. (undone.undone still).0 ∙ sym (undone.undone still).1;
+    };
+    finds = inl (one.tables.schema, one.version, refl);
+    stops = λ trees may. ap texts_of (law one.is_open trees (left trees may) ∙ sym (ap (λ (d : Database). d.trees) (settled one.is_open)));
+  }
+    where
+      back : IsTrue (state g new).is_open → (state g new).now ≡ (state g old).now
+      back still = (undone.undone still).0 ∙ sym (settled one.is_open)

@@ -67,11 +67,6 @@ pub record HoldsAsOpened {S : Type 0} (g : Ghosts S) (old new last : Held S) : T
   -- a stop leaves just these texts
   pub stops : (trees : Trees) → (state g new).may_leave trees → texts_of trees ≡ texts_of (state g last).now.trees
 
--- the connection was noted once, when it had the texts
-abbrev pub IsOpenedAs : {S : Type 0} → Ghosts S → Held S → Held S → List (Held S) → Type 0
-IsOpenedAs g old new [] = ⊥
-IsOpenedAs g old new (last ∷ more) = (more ≡ []) × HoldsAsOpened g old new last
-
 -- an open store of layout 1
 pub record IsLayoutOne (s : State) : Type 0 where
   pub is_open : IsTrue s.is_open

@@ -1,13 +1,13 @@
 //! A store is opened.
 
-ghost use Rattle.std.specs.Prelude.{◌≡◌, ◌≢◌, ◌↔◌, ◌⊎◌, false, [], IsTrue, IfOk, IfErr, OnOk, OnErr};
+ghost use Rattle.std.specs.Prelude.{◌≡◌, ◌≢◌, ◌↔◌, ◌⊎◌, false, [], ◌∷◌, slice_index_or, IsTrue, IfOk, IfErr, OnOk, OnErr};
 ghost use Rattle.std.specs.FinMap.{empty};
 ghost use Rattle.sqlite.specs.State.{HasCleanDisk, Survives};
 ghost use Rattle.sqlite.specs.Held.{state};
 ghost use Rattle.row_table.specs.Layout.{both_tables, no_schema};
 ghost use Rattle.row_table.specs.Texts.{AreTexts, texts_of};
 ghost use Rattle.row_table.specs.Effects.{HasUndone};
-ghost use Rattle.row_table.specs.Opening.{IsLayoutOne, IsOldLayout, IsOpenedAs, IsVersionOne};
+ghost use Rattle.row_table.specs.Opening.{HoldsAsOpened, IsLayoutOne, IsOldLayout, IsVersionOne};
 ghost use Rattle.row_table.specs.Checking.{HasOurNames};
 
 use crate::checking::{are_whole, is_one};
@@ -100,4 +100,40 @@ fn check_tables<S: Alter>(alloc: Global, conn: &mut Connection<S>) -> Result<(),
         return Err(OpenFault::Refused(Error::SqliteFailure(ErrorCode::DatabaseCorrupt)));
     }
     Ok(())
+}
+
+/// Makes the tables, and notes the connection then.
+fn start<S: Alter>(conn: &mut Connection<S>) -> Result<Past<Connection<S>>, OpenFault>
+    requires { conn.old.in_transaction ≡ false }
+    ensures mode { conn.new.in_transaction ≡ false }
+    ensures once { IfOk result (λ p. p.items ≡ slice_index_or p.items 0 conn.new ∷ []) }
+    ensures opened { HasCleanDisk (state S.Store conn.new) → (state S.Store conn.old).now.schema ≡ no_schema → IfOk result (λ p. HoldsAsOpened S.Store conn.old conn.new (slice_index_or p.items 0 conn.new)) }
+    ensures honest { HasCleanDisk (state S.Store conn.new) → HasCleanDisk (state S.Store conn.old) }
+    ensures fault { IfErr result (λ e. e ≢ OpenFault.OldLayout) }
+{
+    make_tables(conn)?;
+    Ok(Past::new().note(conn))
+}
+
+/// Opens the store that the connection is over, and notes the connection once it has the texts.
+pub(crate) fn open_tables<S: Alter>(
+    alloc: Global,
+    conn: &mut Connection<S>,
+) -> Result<Past<Connection<S>>, OpenFault>
+    requires { conn.old.in_transaction ≡ false }
+    ensures mode { conn.new.in_transaction ≡ false }
+    ensures once { IfOk result (λ p. p.items ≡ slice_index_or p.items 0 conn.new ∷ []) }
+    ensures opened { HasCleanDisk (state S.Store conn.new) → IfOk result (λ p. HoldsAsOpened S.Store conn.old conn.new (slice_index_or p.items 0 conn.new)) }
+    ensures honest { HasCleanDisk (state S.Store conn.new) → HasCleanDisk (state S.Store conn.old) }
+    ensures old { HasCleanDisk (state S.Store conn.new) → IfErr result (λ e. e ≡ OpenFault.OldLayout → IsOldLayout (state S.Store conn.old).now) }
+{
+    let _settled = conn.is_autocommit();
+    if is_empty(conn.schema()) {
+        return start(conn);
+    }
+    let last = Past::new().note(conn);
+    match check_tables(alloc, conn) {
+        Ok(()) => Ok(last),
+        Err(fault) => Err(fault),
+    }
 }

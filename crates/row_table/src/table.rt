@@ -9,7 +9,8 @@ ghost use Rattle.row_table.specs.Kept.{IsClean, MayLeave, texts};
 use crate::edits::{TextEdit, commit_all};
 use crate::past::Past;
 use crate::reading::{TextRow, load};
-use sqlite::{Alter, Connection, Error};
+use crate::opening::{OpenFault, open_tables};
+use sqlite::{Alter, Connection, Error, ErrorCode};
 use std::alloc::Global;
 use std::marker::Model;
 
@@ -69,5 +70,34 @@ impl<S: Alter> TextTable<S> {
         commit_all(&mut self.conn, edits)?;
         self.last = Past::new().note(&self.conn);
         Ok(())
+    }
+}
+
+impl<S: Alter> TextTable<S> {
+    ghost use Rattle.std.specs.Prelude.{IfErr};
+    ghost use Rattle.sqlite.specs.State.{HasCleanDisk};
+    ghost use Rattle.sqlite.specs.Held.{state};
+    ghost use Rattle.row_table.specs.Opening.{FindsTexts, IsOldLayout};
+
+    /// Takes the connection over. A store with nothing gets both tables.
+    pub fn adopt(
+        alloc: Global,
+        mut conn: Connection<S>,
+    ) -> Result<TextTable<S>, (OpenFault, Connection<S>)>
+        ensures finds { IfOk result (λ t. IsClean S.Store t → FindsTexts (state S.Store conn).now (texts S.Store t)) }
+        ensures honest { IfOk result (λ t. IsClean S.Store t → HasCleanDisk (state S.Store conn)) }
+        ensures stops { IfOk result (λ t. IsClean S.Store t → (x : Texts) → MayLeave S.Store t x → x ≡ texts S.Store t) }
+        ensures old { IfErr result (λ e. HasCleanDisk (state S.Store e.1) → e.0 ≡ OpenFault.OldLayout → IsOldLayout (state S.Store conn).now) }
+    {
+        if !conn.is_autocommit() {
+            return Err((
+                OpenFault::Refused(Error::SqliteFailure(ErrorCode::TransactionState)),
+                conn,
+            ));
+        }
+        match open_tables(alloc, &mut conn) {
+            Ok(last) => Ok(TextTable { conn, last, alloc }),
+            Err(fault) => Err((fault, conn)),
+        }
     }
 }
