@@ -1,3 +1,4 @@
 pub mod Faults
 pub mod Contents
 pub mod Placing
+pub mod Editing
