@@ -1,3 +1,4 @@
 pub mod Places
 pub mod Placed
 pub mod KeptRows
+pub mod Edited
