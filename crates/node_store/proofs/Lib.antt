@@ -2,3 +2,4 @@ pub mod Places
 pub mod Placed
 pub mod KeptRows
 pub mod Edited
+pub mod Opening

@@ -2,3 +2,4 @@ pub mod Faults
 pub mod Contents
 pub mod Placing
 pub mod Editing
+pub mod Opened

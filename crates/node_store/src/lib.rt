@@ -14,6 +14,7 @@ mod keep;
 mod list_keep;
 mod stored;
 mod table_keep;
+mod table_opening;
 
 pub use fault::{Cause, StoreFault};
 pub use keep::Keep;

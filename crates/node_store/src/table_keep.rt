@@ -20,7 +20,7 @@ use std::marker::Model;
 /// A keeper in a SQLite database, of a file or of memory.
 pub struct TableKeep<S: Alter> {
     alloc: Global,
-    table: TextTable<S>,
+    pub(crate) table: TextTable<S>,
     refused: Past<()>,
 }
 
@@ -46,7 +46,7 @@ impl<S: Alter> Model for TableKeep<S> {
     ghost view = { λ k. (k.table, length k.refused.items) };
 }
 
-fn fault_of(error: Error) -> StoreFault
+pub(crate) fn fault_of(error: Error) -> StoreFault
     ensures { IsCommitFault result }
 {
     match error {
@@ -115,6 +115,17 @@ fn change<S: Alter>(
 }
 
 impl<S: Alter> TableKeep<S> {
+    /// A keeper that has refused nothing.
+    pub(crate) fn over(alloc: Global, table: TextTable<S>) -> TableKeep<S>
+        ensures { (result.0 ≡ table) × (result.1 ≡ 0) }
+    {
+        TableKeep {
+            alloc,
+            table,
+            refused: Past::new(),
+        }
+    }
+
     /// Counts a refusal, and answers the fault as it is.
     fn tell(&mut self, fault: StoreFault) -> StoreFault
         ensures same { (result ≡ fault) × (self.new.0 ≡ self.old.0) }

@@ -87,6 +87,7 @@ impl<S: Alter> TextTable<S> {
         ensures finds { IfOk result (λ t. IsClean S.Store t → FindsTexts (state S.Store conn).now (texts S.Store t)) }
         ensures honest { IfOk result (λ t. IsClean S.Store t → HasCleanDisk (state S.Store conn)) }
         ensures stops { IfOk result (λ t. IsClean S.Store t → (x : Texts) → MayLeave S.Store t x → x ≡ texts S.Store t) }
+        ensures unharmed { IfErr result (λ e. HasCleanDisk (state S.Store e.1) → HasCleanDisk (state S.Store conn)) }
         ensures old { IfErr result (λ e. HasCleanDisk (state S.Store e.1) → e.0 ≡ OpenFault.OldLayout → IsOldLayout (state S.Store conn).now) }
     {
         if !conn.is_autocommit() {
