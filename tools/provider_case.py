@@ -173,6 +173,15 @@ class Case:
         enter("row count\t%s\t%s" % (counter, row))
         self.rows[("count", counter)] = row
 
+    def made(self, rows):
+        """A provider is made of rows, each of which is a kind, a key and its members."""
+        for kind, key, members in rows:
+            end()
+            LINES.append("kept %s\t%s\t%s" % (kind, key, text(members)))
+            OPENED.append(len(LINES))
+        enter("made")
+        self.rows = {(kind, key): text(members) for kind, key, members in rows}
+
     # What the provider sends, and the rows that it puts.
 
     def sent(self, serial, number, kind, body, to):
@@ -188,6 +197,11 @@ class Case:
         WANTED.append("drop %s %s" % (kind, key))
 
     def stored(self):
+        """All rows that stand, of which a provider is made again."""
+        enter("again")
+        self.stands()
+
+    def stands(self):
         """All rows that stand."""
         enter("stored")
         for kind, key in self.rows:

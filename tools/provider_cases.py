@@ -2,7 +2,8 @@
 
 Each case is told in short words here and spelled out by `provider_case`, which knows the rules apart from the code: what is
 sent and which rows are put or dropped are written behind each event by hand, and an event behind which nothing stands gives
-nothing. The cases of numbers that are used up, of other spellings and of many operators are in `provider_limit_cases`.
+nothing. The cases of numbers that are used up, of other spellings and of many operators are in `provider_limit_cases`, those
+of rows that a provider is made of in `provider_row_cases`.
 """
 from operator_case import moment, token, url as other_url
 from provider_case import (
@@ -21,6 +22,7 @@ from provider_case import (
     version,
 )
 from provider_limit_cases import add_limit_cases
+from provider_row_cases import add_row_cases
 
 FINAL = "9999-12-31T23:59:59.999"
 
@@ -590,6 +592,7 @@ def cases():
     orders()
     tokens()
     ticks()
+    add_row_cases()
     add_limit_cases()
     end()
     return LINES, WANTED

@@ -1,7 +1,7 @@
 -- Rows that may be put beside those that stand, kind by kind.
 use Rattle.std.proofs.Common.{◌≡◌, ◌≢◌, ℕ, ◌≤◌, List, inl, inr, refl, sym, ap, subst, ◌∙◌, arith, Bool, true, false, not, nat_eq}
 use Rattle.std.proofs.lemmas.Bool.{eqb-true, eq-eqb}
-use Rattle.std.specs.Prelude.{Option, Some, None, Ok, IsTrue, is_some}
+use Rattle.std.specs.Prelude.{Option, Some, None, Ok, IsTrue}
 use Rattle.std.specs.Cmp.{nat_cmp_total}
 use Rattle.std.specs.FinMap.{get, insert, nat_cmp-IsAntisymmetric}
 use Rattle.ocpi_text.specs.Party.{party_at}
@@ -33,12 +33,8 @@ use Rattle.provider_rows.specs.Steps.{after_change}
 use Rattle.provider_stored.specs.Fitting.{HasOwnReference, IsFit, IsFree, IsNext, given_last}
 use Rattle.provider_stored.specs.Whole.{IsWhole}
 use Rattle.stored_rows.proofs.SameNumbers.{same_number}
+use Rattle.provider_stored.proofs.Looked.{is_found}
 use Rattle.provider_stored.proofs.Keys.{is_count, is_reply, is_token, is_push, is_command, is_session, is_cdr}
-
--- a value that is found
-found : {X : Type 0} (o : Option X) → is_some o ≡ true → (x : X) × (o ≡ Some x)
-found None e = absurd (cc)
-found (Some x) e = (x, refl)
 
 no_count : (s : Rows) (c : Counter) (g n : ℕ) → given_last s c ≡ Some g → g ≡ 0 → HasCount s c n → ⊥
 no_count s counter.Serial g n e none h = let is : s.serial ≡ g = cc in h.1 (sym h.0 ∙ is ∙ none)
@@ -50,10 +46,10 @@ no_count s counter.Cdr g n e none h = h
 -- no request stands before a counter
 up_to : (s : State) (last : ℕ) → IsNext s (row.Count counter.Request last) → outbox.AreUpTo s.rows.outbox last
 up_to s last next = record {
-  pushes = λ n h. let (x, stands) = found (get s.rows.outbox.pushes n) h in
+  pushes = λ n h. let (x, stands) = is_found (get s.rows.outbox.pushes n) h in
       let early : 2 ≤ 0 = next (row.Push n x.to x.push) stands in
       absurd (omega arith);
-  commands = λ n h. let (c, stands) = found (get s.rows.outbox.commands n) h in
+  commands = λ n h. let (c, stands) = is_found (get s.rows.outbox.commands n) h in
       let early : 2 ≤ 0 = next (row.Command n c) stands in
       absurd (omega arith);
 }
@@ -103,7 +99,8 @@ session_fits s v none = record {
 }
 
 -- no record that is held is of the session of one that is in conflict with none
-no_other : (m : Cdrs) (v y : Cdr) (j : List ℕ) → get m (cdr_key v) ≡ None → (IsInConflict m v → ⊥) → get m (key v.party, j) ≡ Some y → key y.session_id ≡ key v.session_id → AreOwnCdrs m → ⊥
+no_other : (m : Cdrs) (v y : Cdr) (j : List ℕ) → get m (cdr_key v) ≡ None → (IsInConflict m v → ⊥) → get m (key v.party, j) ≡ Some y
+    → key y.session_id ≡ key v.session_id → AreOwnCdrs m → ⊥
 no_other m v y j none quiet stands session own = quiet (record {
   id = j;
   held = y;
@@ -156,7 +153,8 @@ push_fits s n to push free peer alone = record {
 }
 
 -- a reference that is the party's own has no other number
-given_of : (s : State) (c : SentCommand) → party_at s.party ≡ Ok s.party → HasOwnReference s.party s.rows.desk.references c.command → IsGiven s.party s.rows.desk.references c.command
+given_of : (s : State) (c : SentCommand) → party_at s.party ≡ Ok s.party → HasOwnReference s.party s.rows.desk.references c.command
+    → IsGiven s.party s.rows.desk.references c.command
 given_of s c party own r n is small same =
     let g = own r is in
     let one : g.number ≡ n = same_number _ s.party g.number n party g.own.is_number small (ap key (sym g.own.made) ∙ same) in

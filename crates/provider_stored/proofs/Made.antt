@@ -23,7 +23,8 @@ use Rattle.provider_rows.specs.Steps.{after_change}
 use Rattle.provider_rows.specs.Stored.{put_row}
 use Rattle.provider_rows.proofs.RowChanges.{row_changes}
 use Rattle.provider_stored.specs.Bad.{IsBad}
-use Rattle.provider_stored.specs.Bad.IsBad.{Repeated, Foreign, NothingCounted, PushNotGiven, CommandNotGiven, ReferenceNotGiven, NumberShared, ReferenceNotOwn, PushToStranger, CommandToStranger, PushedTwice, BilledTwice}
+use Rattle.provider_stored.specs.Bad.IsBad.{Repeated, Foreign, NothingCounted, PushNotGiven, CommandNotGiven, ReferenceNotGiven, NumberShared}
+use Rattle.provider_stored.specs.Bad.IsBad.{ReferenceNotOwn, PushToStranger, CommandToStranger, PushedTwice, BilledTwice}
 use Rattle.provider_stored.specs.Fitting.{IsFit, IsNext}
 use Rattle.provider_stored.specs.Making.{IsMadeOf}
 use Rattle.stored_rows.specs.Given.{IsNotGiven}

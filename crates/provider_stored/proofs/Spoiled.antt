@@ -29,7 +29,8 @@ use Rattle.node_steps.specs.Peers.{HasPeer}
 use Rattle.provider_rows.specs.Rows.{AreKeyed, HasRow}
 use Rattle.provider_rows.specs.State.{Peering, Rows, State}
 use Rattle.provider_stored.specs.Bad.{IsForeign}
-use Rattle.provider_stored.specs.Bad.IsBad.{Repeated, Foreign, NothingCounted, PushNotGiven, CommandNotGiven, ReferenceNotGiven, NumberShared, ReferenceNotOwn, PushToStranger, CommandToStranger, PushedTwice, BilledTwice}
+use Rattle.provider_stored.specs.Bad.IsBad.{Repeated, Foreign, NothingCounted, PushNotGiven, CommandNotGiven, ReferenceNotGiven, NumberShared}
+use Rattle.provider_stored.specs.Bad.IsBad.{ReferenceNotOwn, PushToStranger, CommandToStranger, PushedTwice, BilledTwice}
 use Rattle.provider_stored.specs.Fitting.{HasStrangeReference, IsStrange, IsTaken, Spoils, given_last}
 use Rattle.provider_stored.specs.Making.{IsMadeOf}
 use Rattle.stored_rows.specs.Given.{IsNotGiven, IsOwnId}
@@ -132,7 +133,8 @@ billed_before s v keyed none h peers before rest made order =
 
 pub push_taken : (s : State) (n : ℕ) (to : List ℕ) (push : Push) → IsTaken s.rows.outbox n → Spoils s (row.Push n to push)
 push_taken s n to push (inl above) peers before rest made order =
-    PushNotGiven n to push (here before rest (row.Push n to push)) (not_given peers before rest s (row.Push n to push) counter.Request s.rows.outbox.last n made order refl refl above)
+    PushNotGiven n to push (here before rest (row.Push n to push))
+    (not_given peers before rest s (row.Push n to push) counter.Request s.rows.outbox.last n made order refl refl above)
 push_taken s n to push (inr (inl h)) peers before rest made order = repeated s (row.Push n to push) (row.Push n h.0.to h.0.push) h.1 refl peers before rest made order
 push_taken s n to push (inr (inr h)) peers before rest made order =
     NumberShared n to push h.0 (here before rest (row.Push n to push)) (there peers before rest s (row.Push n to push) (row.Command n h.0) made h.1)
@@ -146,11 +148,13 @@ command_taken s n c (inr (inr h)) peers before rest made order = repeated s (row
 
 pub push_to_stranger : (s : State) (n : ℕ) (to : List ℕ) (push : Push) → ¬ HasPeer s.operators (key to) → Spoils s (row.Push n to push)
 push_to_stranger s n to push strange peers before rest made order =
-    PushToStranger n to push (here before rest (row.Push n to push)) (λ known. strange (subst (λ (l : List (List ℕ)). HasPeer l (key to)) (sym (operators_are peers before s made)) known))
+    PushToStranger n to push (here before rest (row.Push n to push))
+    (λ known. strange (subst (λ (l : List (List ℕ)). HasPeer l (key to)) (sym (operators_are peers before s made)) known))
 
 pub command_to_stranger : (s : State) (n : ℕ) (c : SentCommand) → ¬ HasPeer s.operators (key c.to) → Spoils s (row.Command n c)
 command_to_stranger s n c strange peers before rest made order =
-    CommandToStranger n c (here before rest (row.Command n c)) (λ known. strange (subst (λ (l : List (List ℕ)). HasPeer l (key c.to)) (sym (operators_are peers before s made)) known))
+    CommandToStranger n c (here before rest (row.Command n c))
+    (λ known. strange (subst (λ (l : List (List ℕ)). HasPeer l (key c.to)) (sym (operators_are peers before s made)) known))
 
 -- a push about the same stands under another number
 pub pushed_before : (s : State) (n q : ℕ) (to : List ℕ) (push : Push) → get s.rows.outbox.pushes n ≡ None → IsReplaced s.rows.outbox.pushes (subject to push) (Some q)
@@ -166,7 +170,8 @@ pushed_before s n q to push free about = go (subject to push) refl about
 pub strange_reference : (s : State) (n : ℕ) (c : SentCommand) → HasStrangeReference s.party s.rows.desk.references c.command → Spoils s (row.Command n c)
 strange_reference s n c (r, is, why) = go why
   where
-    own_party : (peers : Peering) (before : List Row) (m : ℕ) → IsMadeOf peers before s → IsOwnId AuthorizationReference peers.provider r m → IsOwnId AuthorizationReference s.party r m
+    own_party : (peers : Peering) (before : List Row) (m : ℕ) → IsMadeOf peers before s → IsOwnId AuthorizationReference peers.provider r m
+        → IsOwnId AuthorizationReference s.party r m
     own_party peers before m made own = subst (λ (p : List ℕ). IsOwnId AuthorizationReference p r m) (sym (party_is peers before s made)) own
 
     go : IsStrange s.party s.rows.desk.references r → Spoils s (row.Command n c)

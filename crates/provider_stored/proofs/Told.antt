@@ -24,7 +24,8 @@ use Rattle.provider_rows.specs.Sound.{IsConsistent, IsSound, with_rows}
 use Rattle.provider_rows.specs.State.{Peering, Rows, State, opening}
 use Rattle.provider_rows.specs.Steps.{restarted}
 use Rattle.provider_stored.specs.Bad.{IsBad, IsForeign}
-use Rattle.provider_stored.specs.Bad.IsBad.{Repeated, Foreign, NothingCounted, PushNotGiven, CommandNotGiven, ReferenceNotGiven, NumberShared, ReferenceNotOwn, PushToStranger, CommandToStranger, PushedTwice, BilledTwice}
+use Rattle.provider_stored.specs.Bad.IsBad.{Repeated, Foreign, NothingCounted, PushNotGiven, CommandNotGiven, ReferenceNotGiven, NumberShared}
+use Rattle.provider_stored.specs.Bad.IsBad.{ReferenceNotOwn, PushToStranger, CommandToStranger, PushedTwice, BilledTwice}
 use Rattle.provider_stored.specs.Fitting.{given_last}
 use Rattle.provider_stored.specs.Making.{BadRowsAreOfNone, IsMadeOf, RowsMakeAgain, RowsTellAll, StartsAgain}
 use Rattle.stored_rows.specs.Given.{IsNotGiven, IsOwnId}

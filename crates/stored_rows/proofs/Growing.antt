@@ -48,7 +48,8 @@ one_more rows Had Has x was new now = record {
     one_alone x i j d below bound = absurd (omega arith)
 
 -- rows that come in turn: what is of an earlier turn than a row stands before it
-pub stands_before : (before rest : List Row) (x r : Row) → IsNonDecreasingBy turn_of (before ++ x ∷ rest) → Contains (before ++ x ∷ rest) r → turn_of r < turn_of x → Contains before r
+pub stands_before : (before rest : List Row) (x r : Row) → IsNonDecreasingBy turn_of (before ++ x ∷ rest)
+    → Contains (before ++ x ∷ rest) r → turn_of r < turn_of x → Contains before r
 stands_before before rest x r order h earlier =
     let all = before ++ x ∷ rest in
     elim (cases_lt h.0 (length before)) [

@@ -1,5 +1,6 @@
 -- An id that a party makes of a number is read back, and tells the number.
-use Rattle.std.proofs.Common.{◌≡◌, ℕ, ◌≤◌, ◌<◌, ◌↔◌, zero, suc, true, true≢false, subst, unwrap_or, Option, Result, IsOk, Err, List, [], ◌∷◌, ◌++◌, length, take, drop, All, Some, Ok, inl, refl, sym, ◌∙◌, ap, arith, append_assoc, drop-drop, length-append, length-take, length-drop}
+use Rattle.std.proofs.Common.{◌≡◌, ℕ, ◌≤◌, ◌<◌, ◌↔◌, zero, suc, true, true≢false, Option, Some, Result, Ok, Err, IsOk, unwrap_or, List, [], ◌∷◌, ◌++◌, length, take, drop, All}
+use Rattle.std.proofs.Common.{inl, refl, sym, ap, subst, ◌∙◌, arith, append_assoc, drop-drop, length-append, length-take, length-drop}
 use Rattle.std.specs.Int.{w64, to_be_bytes, from_be_bytes, bytes_high_first, byte_at}
 use Rattle.std.proofs.Math.Nat.{mod-lt}
 use Rattle.std.specs.List.{list_all}

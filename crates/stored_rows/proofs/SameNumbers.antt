@@ -27,7 +27,8 @@ digit d small = grind (arith, nat_tests)
 
 lowered_text : (xs : List ℕ) → map to_ascii_lowercase (key (hyphenated_text lower xs)) ≡ hyphenated_text lower xs
 lowered_text xs = lowered 36 _ (λ k.
-    cond_both (is_hyphen_place k) hyphen (hex_digit lower (nibble xs (digit_place k))) (λ (c : ℕ). to_ascii_lowercase (to_ascii_uppercase c) ≡ c) (λ _. refl) (λ _. digit _ (nibble_small xs (digit_place k))))
+    cond_both (is_hyphen_place k) hyphen (hex_digit lower (nibble xs (digit_place k))) (λ (c : ℕ). to_ascii_lowercase (to_ascii_uppercase c) ≡ c)
+    (λ _. refl) (λ _. digit _ (nibble_small xs (digit_place k))))
 
 lowered_id : (kind : OwnIdKind) (party : List ℕ) (n : ℕ) → map to_ascii_lowercase (key (own_id_text kind party n)) ≡ own_id_text kind party n
 unfolding own_id_text

@@ -30,19 +30,27 @@ pub returns-in-Reply-clause-spoils : goal.returns-in-Reply-clause-spoils
 returns-in-Reply-clause-spoils c = λ e. subst (Spoils c.args.books.now.state) (sym c.in-Reply.is) (c.fits_reply.ensures.spoils e)
 
 pub returns-in-Token-clause-spoils : goal.returns-in-Token-clause-spoils
-returns-in-Token-clause-spoils c = λ e. subst (Spoils c.args.books.now.state) (sym (c.in-Token.is ∙ ap (row.Token) (sym c.deref.ensures))) (c.fits_token.ensures.spoils e)
+returns-in-Token-clause-spoils c = λ e.
+    let is = c.in-Token.is ∙ ap row.Token (sym c.deref.ensures) in
+    subst (Spoils c.args.books.now.state) (sym is) (c.fits_token.ensures.spoils e)
 
 pub returns-in-Push-clause-spoils : goal.returns-in-Push-clause-spoils
 returns-in-Push-clause-spoils c = λ e. subst (Spoils c.args.books.now.state) (sym c.in-Push.is) (c.fits_push.ensures.spoils e)
 
 pub returns-in-Session-clause-spoils : goal.returns-in-Session-clause-spoils
-returns-in-Session-clause-spoils c = λ e. subst (Spoils c.args.books.now.state) (sym (c.in-Session.is ∙ ap (row.Session) (sym c.deref-in-Session.ensures))) (c.fits_session.ensures.spoils e)
+returns-in-Session-clause-spoils c = λ e.
+    let is = c.in-Session.is ∙ ap row.Session (sym c.deref-in-Session.ensures) in
+    subst (Spoils c.args.books.now.state) (sym is) (c.fits_session.ensures.spoils e)
 
 pub returns-in-Cdr-clause-spoils : goal.returns-in-Cdr-clause-spoils
-returns-in-Cdr-clause-spoils c = λ e. subst (Spoils c.args.books.now.state) (sym (c.in-Cdr.is ∙ ap (row.Cdr) (sym c.deref-in-Cdr.ensures))) (c.fits_cdr.ensures.spoils e)
+returns-in-Cdr-clause-spoils c = λ e.
+    let is = c.in-Cdr.is ∙ ap row.Cdr (sym c.deref-in-Cdr.ensures) in
+    subst (Spoils c.args.books.now.state) (sym is) (c.fits_cdr.ensures.spoils e)
 
 pub returns-in-Command-clause-spoils : goal.returns-in-Command-clause-spoils
-returns-in-Command-clause-spoils c = λ e. subst (Spoils c.args.books.now.state) (sym (c.in-Command.is ∙ ap (row.Command c.in-Command.number) (sym c.deref-in-Command.ensures))) (c.fits_command.ensures.spoils e)
+returns-in-Command-clause-spoils c = λ e.
+    let is = c.in-Command.is ∙ ap (row.Command c.in-Command.number) (sym c.deref-in-Command.ensures) in
+    subst (Spoils c.args.books.now.state) (sym is) (c.fits_command.ensures.spoils e)
 
 pub returns-in-Service-clause-spoils : goal.returns-in-Service-clause-spoils
 returns-in-Service-clause-spoils c = λ _. foreign c.args.books.now.state c.args.row.now (foreign_row c.args.row.now c.in-Service.is)

@@ -8,7 +8,8 @@ returns-in_default-clause-spoils c = λ _. other_counter c.args.books.now.state 
 
 pub returns-then-value-ne0-clause-spoils : goal.returns-then-value-ne0-clause-spoils
 returns-then-value-ne0-clause-spoils c = λ _.
-    counted_before c.args.books.now.state c.args.counter c.in-Some.given c.args.last (sym c.given_last.ensures ∙ c.in-Some.is) (λ none. c.if-value-ne0.true (c.value.ensures.value ∙ none))
+    counted_before c.args.books.now.state c.args.counter c.in-Some.given c.args.last (sym c.given_last.ensures ∙ c.in-Some.is)
+    (λ none. c.if-value-ne0.true (c.value.ensures.value ∙ none))
 
 pub returns-clause-fits : goal.returns-clause-fits
 returns-clause-fits c = λ yes.
