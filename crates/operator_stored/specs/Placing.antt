@@ -1,0 +1,50 @@
+-- A row that is put beside those that stand: rows of kinds that come no later, and none of its key.
+use Rattle.std.specs.Prelude.{◌≡◌, ◌≢◌, ◌↔◌, ◌≤◌, ◌<◌, ℕ, List, Bool, Contains, MatchBool, ⊤}
+use Rattle.ocpi_text.specs.declared.own_ids.OwnIdKind.TheVariants as own
+use Rattle.ocpi_types.specs.Rows.{key_of}
+use Rattle.ocpi_types.specs.declared.rows.Row.{Row}
+use Rattle.ocpi_types.specs.declared.rows.Row.TheVariants as row
+use Rattle.ocpi_types.specs.declared.site.SiteLine.{SiteLine}
+use Rattle.session_state.specs.Resuming.{CannotResume}
+use Rattle.stored_rows.specs.Given.{IsOwnId}
+use Rattle.operator_rows.specs.Rows.{HasRow}
+use Rattle.operator_rows.specs.Sound.{IsSound, MayPut, with_rows}
+use Rattle.operator_rows.specs.State.{State, opening}
+use Rattle.operator_stored.specs.Bad.{IsBad}
+use Rattle.operator_stored.specs.Order.{rank_of}
+
+pub record ComesNext (s : State) (r : Row) : Type 0 where
+  pub sound : IsSound s
+  pub no_later : (q : Row) → HasRow s.rows q → rank_of q ≤ rank_of r
+  pub other_key : (q : Row) → HasRow s.rows q → key_of q ≢ key_of r
+
+-- the row is one of those of which an operator of that site is made, and those of all earlier kinds stand
+pub record IsPlaced (line : SiteLine) (rows : List Row) (s : State) (r : Row) : Type 0 where
+  pub of_site : s ≡ with_rows s.rows (opening line)
+  pub here : Contains rows r
+  pub among : (q : Row) → HasRow s.rows q → Contains rows q
+  pub earlier : (q : Row) → Contains rows q → rank_of q < rank_of r → HasRow s.rows q
+
+-- what is asked of a row beside what the books keep
+abbrev pub IsFit : State → Row → Type 0
+IsFit s (row.Session v) = ((n : ℕ) × IsOwnId own.Session s.party v.id n) × ¬ CannotResume s.site.price v
+IsFit s (row.Cdr x) = (n : ℕ) × IsOwnId own.Cdr s.party x.id n
+IsFit s r = ⊤
+
+pub record MayAdd (s : State) (r : Row) : Type 0 where
+  pub may : MayPut s r
+  pub fit : IsFit s r
+
+-- the rows are bad, whichever the others are
+abbrev pub ShowsBad : State → Row → Type 0
+ShowsBad s r = (line : SiteLine) (rows : List Row) → IsPlaced line rows s r → IsBad line rows
+
+-- the answer to whether the row may be put
+abbrev pub Tells : Bool → State → Row → Type 0
+Tells may s r = MatchBool may (MayAdd s r) (ShowsBad s r)
+
+-- just these rows stand, and nothing else differs from the opening
+pub record ArePut (line : SiteLine) (rows : List Row) (s : State) : Type 0 where
+  pub of_site : s ≡ with_rows s.rows (opening line)
+  pub has_rows : (r : Row) → Contains rows r ↔ HasRow s.rows r
+  pub fit : (r : Row) → HasRow s.rows r → IsFit s r
