@@ -1,1 +1,3 @@
 pub mod OwnNumbers
+pub mod Repeated
+pub mod Growing

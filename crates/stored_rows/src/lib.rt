@@ -3,6 +3,8 @@
 
 mod fault;
 mod own_numbers;
+mod turns;
 
 pub use fault::RowsFault;
 pub use own_numbers::own_number;
+pub use turns::in_turn;
