@@ -1,29 +1,42 @@
--- A row that is put beside those that stand: rows of kinds that come no later, and none of its key.
-use Rattle.std.specs.Prelude.{◌≡◌, ◌≢◌, ◌↔◌, ◌≤◌, ◌<◌, ℕ, List, Bool, Contains, MatchBool, ⊤}
+-- A row that is put beside those that stand, none of which is of a later turn.
+use Rattle.std.specs.Prelude.{◌≡◌, ◌≢◌, ◌≤◌, ◌<◌, ℕ, List, Bool, Contains, MatchBool, ⊤}
 use Rattle.ocpi_text.specs.declared.own_ids.OwnIdKind.TheVariants as own
 use Rattle.ocpi_types.specs.Rows.{key_of}
 use Rattle.ocpi_types.specs.declared.rows.Row.{Row}
 use Rattle.ocpi_types.specs.declared.rows.Row.TheVariants as row
 use Rattle.ocpi_types.specs.declared.site.SiteLine.{SiteLine}
 use Rattle.session_state.specs.Resuming.{CannotResume}
-use Rattle.stored_rows.specs.Given.{IsOwnId}
-use Rattle.operator_rows.specs.Rows.{HasRow}
+use Rattle.stored_rows.specs.Given.{IsOwnId, RepeatsKey}
+use Rattle.stored_rows.specs.Turns.{turn_of}
+use Rattle.operator_rows.specs.Rows.{AreRowsOf, HasRow}
 use Rattle.operator_rows.specs.Sound.{IsSound, MayPut, with_rows}
 use Rattle.operator_rows.specs.State.{State, opening}
 use Rattle.operator_stored.specs.Bad.{IsBad}
-use Rattle.operator_stored.specs.Order.{rank_of}
+
+-- no row of a later turn stands
+pub record IsInTurn (s : State) (r : Row) : Type 0 where
+  pub sound : IsSound s
+  pub no_later : (q : Row) → HasRow s.rows q → turn_of q ≤ turn_of r
+
+-- none of its key does
+abbrev pub IsNew : State → Row → Type 0
+IsNew s r = (q : Row) → HasRow s.rows q → key_of q ≢ key_of r
+
+-- one of its key does
+abbrev pub Stands : State → Row → Type 0
+Stands s r = (q : Row) × HasRow s.rows q × (key_of q ≡ key_of r)
 
 pub record ComesNext (s : State) (r : Row) : Type 0 where
-  pub sound : IsSound s
-  pub no_later : (q : Row) → HasRow s.rows q → rank_of q ≤ rank_of r
-  pub other_key : (q : Row) → HasRow s.rows q → key_of q ≢ key_of r
+  pub in_turn : IsInTurn s r
+  pub is_new : IsNew s r
 
--- the row is one of those of which an operator of that site is made, and those of all earlier kinds stand
+-- the row is one of those of which an operator of that site is made, and those of all earlier turns stand
 pub record IsPlaced (line : SiteLine) (rows : List Row) (s : State) (r : Row) : Type 0 where
   pub of_site : s ≡ with_rows s.rows (opening line)
   pub here : Contains rows r
   pub among : (q : Row) → HasRow s.rows q → Contains rows q
-  pub earlier : (q : Row) → Contains rows q → rank_of q < rank_of r → HasRow s.rows q
+  pub earlier : (q : Row) → Contains rows q → turn_of q < turn_of r → HasRow s.rows q
+  pub twice : (q : Row) → HasRow s.rows q → key_of q ≡ key_of r → RepeatsKey rows
 
 -- what is asked of a row beside what the books keep
 abbrev pub IsFit : State → Row → Type 0
@@ -43,8 +56,8 @@ ShowsBad s r = (line : SiteLine) (rows : List Row) → IsPlaced line rows s r �
 abbrev pub Tells : Bool → State → Row → Type 0
 Tells may s r = MatchBool may (MayAdd s r) (ShowsBad s r)
 
--- just these rows stand, and nothing else differs from the opening
+-- just these rows stand, each once, and nothing else differs from the opening
 pub record ArePut (line : SiteLine) (rows : List Row) (s : State) : Type 0 where
   pub of_site : s ≡ with_rows s.rows (opening line)
-  pub has_rows : (r : Row) → Contains rows r ↔ HasRow s.rows r
+  pub has_rows : AreRowsOf rows s.rows
   pub fit : (r : Row) → HasRow s.rows r → IsFit s r

@@ -5,12 +5,13 @@ ghost use Rattle.ocpi_types.specs.declared.rows.Change.TheVariants as change;
 ghost use Rattle.ocpi_types.specs.declared.site.SiteLine.{SiteLine};
 ghost use Rattle.operator_rows.specs.Steps.{after_change};
 ghost use Rattle.operator_stored.specs.Bad.{IsBad};
-ghost use Rattle.operator_stored.specs.Placing.{ComesNext, MayAdd, ShowsBad, Tells};
+ghost use Rattle.operator_stored.specs.Placing.{ComesNext, IsInTurn, IsNew, MayAdd, ShowsBad, Tells};
 
 use crate::commands::{may_open, may_settle};
 use crate::places::{may_reserve, may_stop};
 use crate::pushes::{may_count, may_know, may_push};
 use crate::sessions::{is_own_cdr, may_stand};
+use crate::standing::stands;
 use ocpi_types::Row;
 use operator_rows::Books;
 use stored_rows::RowsFault;
@@ -39,8 +40,8 @@ fn may_add(books: &Books, row: &Row) -> bool
         Row::Result {
             provider,
             number,
-            result,
-        } => may_settle(books, *provider, *number, *result),
+            result: outcome,
+        } => may_settle(books, *provider, *number, *outcome),
         Row::Session { session } => may_stand(books, session),
         Row::Cdr { cdr } => is_own_cdr(books, cdr),
         Row::Command { .. } => false,
@@ -49,12 +50,13 @@ fn may_add(books: &Books, row: &Row) -> bool
 
 /// Puts a row beside those that stand, where it may be. Else the rows are bad, and it is refused.
 pub fn add_row(books: &mut Books, row: Row) -> Result<(), RowsFault>
-    requires { ComesNext books.old.state row }
+    requires { IsInTurn books.old.state row }
+    ensures new { OnOk result (IsNew books.old.state row) }
     ensures may { OnOk result (MayAdd books.old.state row) }
     ensures state { OnOk result (books.new.state ≡ after_change (change.Put row) books.old.state) }
     ensures bad { IfErr result (λ e. e ≡ RowsFault.BadRows → ShowsBad books.old.state row) }
 {
-    if !may_add(books, &row) {
+    if stands(books, &row) || !may_add(books, &row) {
         return Err(RowsFault::BadRows);
     }
     books.add_row(row)?;

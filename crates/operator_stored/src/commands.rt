@@ -30,32 +30,35 @@ fn is_own(provider: PartyKey, command: &Command) -> bool
 }
 
 /// Whether a command, where it is a start, has its place to itself.
-fn may_take(books: &Books, provider: PartyKey, number: Whole, open: &OpenCommand) -> bool
+fn may_take(books: &Books, provider: PartyKey, number: Whole, order: &OpenCommand) -> bool
 {
-    if !is_start(&open.command) {
+    if !is_start(&order.command) {
         return true;
     }
-    if !has_place(books, open) {
+    if !has_place(books, order) {
         return false;
     }
-    match open.evse_uid {
+    match order.evse_uid {
         Some(evse_uid) => is_unclaimed(books, evse_uid.key()),
         None => false,
     }
 }
 
 /// Whether a command may be open.
-pub fn may_open(books: &Books, provider: PartyKey, number: Whole, open: &OpenCommand) -> bool
-    requires { ComesNext books.now.state (row.Pending provider number open.now) }
-    ensures { Tells result books.now.state (row.Pending provider number open.now) }
+pub fn may_open(books: &Books, provider: PartyKey, number: Whole, order: &OpenCommand) -> bool
+    requires { ComesNext books.now.state (row.Pending provider number order.now) }
+    ensures { Tells result books.now.state (row.Pending provider number order.now) }
 {
-    if !is_provider(books, provider) || books.reply(provider, number).is_none() {
+    if !is_provider(books, provider) {
         return false;
     }
-    if !is_own(provider, &open.command) {
+    if books.reply(provider, number).is_none() {
         return false;
     }
-    may_take(books, provider, number, open)
+    if !is_own(provider, &order.command) {
+        return false;
+    }
+    may_take(books, provider, number, order)
 }
 
 /// Whether a command may have a result.
@@ -63,10 +66,13 @@ pub fn may_settle(
     books: &Books,
     provider: PartyKey,
     number: Whole,
-    result: CommandResultType,
+    outcome: CommandResultType,
 ) -> bool
-    requires { ComesNext books.now.state (row.Result provider number result.entry) }
-    ensures { Tells result books.now.state (row.Result provider number result.entry) }
+    requires { ComesNext books.now.state (row.Result provider number outcome) }
+    ensures { Tells result books.now.state (row.Result provider number outcome) }
 {
-    books.reply(provider, number).is_some() && books.commands().opened(provider, number).is_none()
+    if books.reply(provider, number).is_none() {
+        return false;
+    }
+    books.commands().opened(provider, number).is_none()
 }

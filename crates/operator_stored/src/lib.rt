@@ -6,7 +6,7 @@ mod bills;
 mod commands;
 mod laws;
 mod making;
-mod order;
+mod standing;
 mod places;
 mod pushes;
 mod sessions;

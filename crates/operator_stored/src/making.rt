@@ -1,9 +1,7 @@
 //! Books that are made of rows.
 
-ghost use Rattle.std.specs.Prelude.{◌≡◌, ◌≢◌, IfErr, IfOk, OnOk, List, ℕ, Contains};
-ghost use Rattle.std.specs.List.{AllPairs};
+ghost use Rattle.std.specs.Prelude.{◌≡◌, IfErr, IfOk, OnOk, List, ℕ, Contains};
 ghost use Rattle.std.specs.List.Sorted.{IsNonDecreasingBy, IsPermutation};
-ghost use Rattle.ocpi_types.specs.Rows.{key_of};
 ghost use Rattle.ocpi_types.specs.declared.rows.Row.{Row};
 ghost use Rattle.ocpi_types.specs.declared.site.SiteLine.{SiteLine};
 ghost use Rattle.operator_rows.specs.Sound.{IsConsistent};
@@ -12,21 +10,19 @@ ghost use Rattle.operator_rows.specs.Steps.{restarted};
 ghost use Rattle.operator_stored.specs.Bad.{IsBad};
 ghost use Rattle.operator_stored.specs.Bills.{AreBillsOf};
 ghost use Rattle.operator_stored.specs.Making.{IsMadeOf, StartsAgain};
-ghost use Rattle.operator_stored.specs.Order.{rank_of};
 ghost use Rattle.operator_stored.specs.Placing.{ArePut};
+ghost use Rattle.stored_rows.specs.Turns.{turn_of};
 
 use crate::adding::add_row;
 use crate::bills::are_billed;
-use crate::order::sort_by_kind;
 use ocpi_types::{Row, SiteLine};
 use operator_rows::Books;
 use std::alloc::Global;
-use stored_rows::RowsFault;
+use stored_rows::{RowsFault, in_turn};
 
-/// Puts rows that are sorted by kind, one by one, each where it may be. Where one may not the rows are bad, and it is refused.
+/// Puts rows that come in turn, one by one, each where it may be. Where one may not the rows are bad, and it is refused.
 fn put_all(books: &mut Books, rows: Vec<Row>) -> Result<(), RowsFault>
-    requires sorted { IsNonDecreasingBy rank_of rows.items }
-    requires apart { AllPairs (λ a b. key_of a ≢ key_of b) rows.items }
+    requires sorted { IsNonDecreasingBy turn_of rows.items }
     ensures put { (line : SiteLine) → books.old.state ≡ opening line → OnOk result (ArePut line rows.items books.new.state) }
     ensures bad { (line : SiteLine) (all : List Row) → books.old.state ≡ opening line → IsPermutation all rows.items → IfErr result (λ e. e ≡ RowsFault.BadRows → IsBad line all) }
 {
@@ -46,12 +42,11 @@ pub fn books_of_rows(alloc: Global, line: SiteLine, rows: Vec<Row>) -> Result<Bo
     ensures again { (s : State) → IsConsistent s → StartsAgain line rows.items s → IfOk result (λ b. b.state ≡ restarted s) }
     ensures good { (s : State) → IsConsistent s → StartsAgain line rows.items s → IfErr result (λ e. e ≡ RowsFault.Memory) }
 {
-    let mut rows = rows;
-    if !are_billed(alloc, rows.as_slice())? {
+    let billed = are_billed(alloc, rows.as_slice())?;
+    let mut books = Books::new(alloc, line)?;
+    put_all(&mut books, in_turn(rows))?;
+    if !billed {
         return Err(RowsFault::BadRows);
     }
-    sort_by_kind(rows.as_mut_slice());
-    let mut books = Books::new(alloc, line)?;
-    put_all(&mut books, rows)?;
     Ok(books)
 }

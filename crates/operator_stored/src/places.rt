@@ -44,13 +44,13 @@ pub fn may_reserve(
 }
 
 /// Whether an open start has an EVSE and a connector, which are of the site.
-pub fn has_place(books: &Books, open: &OpenCommand) -> bool
-    ensures { MatchBool result (HasPlace books.now.state.site open.now) (¬ HasPlace books.now.state.site open.now) }
+pub fn has_place(books: &Books, order: &OpenCommand) -> bool
+    ensures { MatchBool result (HasPlace books.now.state.site order.now) (¬ HasPlace books.now.state.site order.now) }
 {
-    let Some(evse_uid) = open.evse_uid else {
+    let Some(evse_uid) = order.evse_uid else {
         return false;
     };
-    let Some(connector_id) = open.connector_id else {
+    let Some(connector_id) = order.connector_id else {
         return false;
     };
     books

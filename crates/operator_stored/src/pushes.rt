@@ -22,10 +22,10 @@ pub fn may_count(books: &Books, counter: Counter, last: Whole) -> bool
     requires { ComesNext books.now.state (row.Count counter last) }
     ensures { Tells result books.now.state (row.Count counter last) }
 {
-    if matches!(counter, Counter::Reference) {
-        return false;
+    match counter {
+        Counter::Reference => false,
+        Counter::Serial | Counter::Request | Counter::Session | Counter::Cdr => last.value() != 0,
     }
-    last.value() != 0
 }
 
 /// Whether a token may be known.
@@ -41,7 +41,10 @@ pub fn may_push(books: &Books, number: Whole, to: &Party, push: &Push) -> bool
     requires { ComesNext books.now.state (row.Push number to.now push.now) }
     ensures { Tells result books.now.state (row.Push number to.now push.now) }
 {
-    if !is_provider(books, to.key()) || number > books.last_request() {
+    if !is_provider(books, to.key()) {
+        return false;
+    }
+    if number > books.last_request() {
         return false;
     }
     books.outbox().replaced(to, push).is_none()

@@ -1,0 +1,2 @@
+pub mod StandingRows
+pub mod Telling
