@@ -21,6 +21,7 @@ use Rattle.ocpi_types.specs.declared.rows.RowKey.TheVariants as keys
 use Rattle.site_book.specs.Sites.{OutOfService, works}
 use Rattle.outbox.specs.declared.push_book.Outgoing.{Outgoing}
 use Rattle.token_desk.specs.Tokens.{token_key}
+use Rattle.std.proofs.lemmas.Bool.Decides.{nat_tests}
 use Rattle.tables.proofs.Options.{none_some, not_both, known}
 use Rattle.operator_rows.specs.Rows.{HasCount, HasRow}
 use Rattle.operator_rows.specs.Sound.{IsSound}
@@ -161,7 +162,7 @@ is_other (suc n) h = λ e. absurd (omega arith)
 
 pub is_zero : (n : ℕ) → not (nat_eq n 0) ≡ false → n ≡ 0
 is_zero zero h = refl
-is_zero (suc n) h = absurd (true≢false h)
+is_zero (suc n) h = grind (arith, nat_tests)
 
 -- the count of a counter, tested
 pub told_number : (s : State) (c : Counter) (last now value : ℕ) → value ≡ now → (now ≢ 0 → HasCount s.rows c now) → ((n : ℕ) → HasCount s.rows c n → now ≢ 0) →

@@ -1,5 +1,5 @@
 -- What tells that a row may be put, and what that the rows are bad.
-use Rattle.std.proofs.Common.{◌≡◌, ◌≢◌, ℕ, ◌≤◌, ◌<◌, zero, suc, List, Bool, true, false, not, true≢false, is_gt, MatchBool, ◌⊎◌, inl, inr, refl, sym, ap, subst, ◌∙◌, arith}
+use Rattle.std.proofs.Common.{◌≡◌, ◌≢◌, ℕ, ◌≤◌, ◌<◌, zero, suc, List, Bool, true, false, not, true≢false, is_gt, nat_eq, MatchBool, ◌⊎◌, inl, inr, refl, sym, ap, subst, ◌∙◌, arith}
 use Rattle.std.specs.Prelude.{Option, Some, None, IsTrue, is_some, Contains}
 use Rattle.std.specs.FinMap.{get, contains_key, get-empty}
 use Rattle.std.specs.Ordering.{nat_cmp}
@@ -20,6 +20,7 @@ use Rattle.ocpi_types.specs.declared.rows.Counter.TheVariants as counter
 use Rattle.ocpi_types.specs.declared.rows.Row.{Row}
 use Rattle.ocpi_types.specs.declared.rows.Row.TheVariants as row
 use Rattle.ocpi_types.specs.declared.rows.RowKey.TheVariants as keys
+use Rattle.ocpi_types.specs.declared.site.Site.{Site}
 use Rattle.ocpi_types.specs.declared.site.SiteLine.{SiteLine}
 use Rattle.std.proofs.lemmas.Bool.Decides.{nat_tests}
 use Rattle.outbox.specs.Outbox.{OutboxRows}
@@ -38,7 +39,7 @@ use Rattle.operator_rows.specs.Rows.{HasCount, HasRow}
 use Rattle.operator_rows.specs.Sound.{HasPlace, IsOwnStart, IsSound, MayClaim, with_rows}
 use Rattle.operator_rows.specs.State.{HasClaim, IsFree, IsStart, State, Rows, Takes, as_outbox, opening}
 use Rattle.operator_rows.specs.Claimed.{IsIndexed}
-use Rattle.operator_stored.proofs.StandingRows.{some_of, zero_or_not}
+use Rattle.operator_stored.proofs.StandingRows.{is_other, is_zero, some_of, zero_or_not}
 use Rattle.operator_stored.specs.Bad.{IsBad, MakesClaim}
 use Rattle.operator_stored.specs.Bad.{Foreign, NothingCounted, PushNotGiven, PushToStranger, TokenOfStranger, CommandOfStranger, StartOfOtherToken, ServiceNowhere, ReservationNowhere, StartNowhere, ClaimedTwice, OpenUnanswered, ResultUnanswered, OpenWithResult, PushedTwice}
 use Rattle.operator_stored.specs.Placing.{ComesNext, IsPlaced, MayAdd, ShowsBad, Tells}
@@ -142,6 +143,12 @@ counted_may s counter.Cdr last known given next =
     }
 counted_may s counter.Reference last known given next = absurd (known refl)
 
+pub count_tells : (s : State) (c : Counter) (last value : ℕ) → ComesNext s (row.Count c last) → c ≢ counter.Reference → value ≡ last → Tells (not (nat_eq value 0)) s (row.Count c last)
+count_tells s c last value next known same =
+    tells (not (nat_eq value 0)) s (row.Count c last)
+    (λ h. counted_may s c last known (subst (λ (n : ℕ). n ≢ 0) same (is_other value h)) next)
+    (λ h. nothing_counted s c last (sym same ∙ is_zero value h))
+
 -- ---- tokens and pushes
 pub token_tells : (b : Bool) (s : State) (t : Token) → MatchBool b (HasPeer s.providers (key t.party)) (¬ HasPeer s.providers (key t.party)) → Tells b s (row.Token t)
 token_tells b s t h = tells_by b s (row.Token t) h (λ peer. record { may = peer; fit = tt })
@@ -179,9 +186,26 @@ module _ (s : State) (n : ℕ) (to : List ℕ) (push : Push) where
       (subst (λ (r : Option ℕ). IsReplaced s.rows.pushes (Some u) r) none (subst (λ (w : Option Subject). IsReplaced s.rows.pushes w o) is h)) q about
 
 -- ---- places
-pub service_tells : (b : Bool) (s : State) (evse : List ℕ) → (b ≡ true → IsEvse s.site.locations evse) → (IsEvse s.site.locations evse → b ≡ true) → Tells b s (row.Service evse)
-service_tells b s evse is also = tells b s (row.Service evse) (λ h. record { may = is h; fit = tt })
-    (λ h line rows p. ServiceNowhere evse p.here (λ e. true≢false (sym (also (subst (λ z. IsEvse z.locations evse) (sym (site_of s (row.Service evse) line rows p)) e)) ∙ h)))
+pub service_tells : (b : Bool) (s : State) (site : Site) (evse : List ℕ) → site ≡ s.site → (b ≡ true → IsEvse site.locations evse) → (IsEvse site.locations evse → b ≡ true) →
+    Tells b s (row.Service evse)
+service_tells b s site evse same is also =
+    tells b s (row.Service evse) (λ h. record { may = subst (λ (z : Site). IsEvse z.locations evse) same (is h); fit = tt })
+    (λ h line rows p. ServiceNowhere evse p.here
+        (λ e. true≢false (sym (also (subst (λ (z : Site). IsEvse z.locations evse) (sym (site_of s (row.Service evse) line rows p) ∙ sym same) e)) ∙ h)))
+
+-- whether an EVSE is at the location of a reservation
+module _ (b : Bool) (site : Site) (s : State) (r : Reservation) (evse : List ℕ) (same : site ≡ s.site) (is : evse ≡ key r.evse_uid) where
+  taken_over : IsSiteOf site.locations evse (key r.location_id) → IsSiteOf s.site.locations (key r.evse_uid) (key r.location_id)
+  taken_over h = subst (λ (k : List ℕ). IsSiteOf s.site.locations k (key r.location_id)) is (subst (λ (z : Site). IsSiteOf z.locations evse (key r.location_id)) same h)
+
+  taken_back : IsSiteOf s.site.locations (key r.evse_uid) (key r.location_id) → IsSiteOf site.locations evse (key r.location_id)
+  taken_back h = subst (λ (z : Site). IsSiteOf z.locations evse (key r.location_id)) (sym same) (subst (λ (k : List ℕ). IsSiteOf s.site.locations k (key r.location_id)) (sym is) h)
+
+  pub not_at : (IsSiteOf site.locations evse (key r.location_id) → b ≡ true) → IsSiteOf s.site.locations (key r.evse_uid) (key r.location_id) → b ≡ false → ⊥
+  not_at also h e = true≢false (sym (also (taken_back h)) ∙ e)
+
+  pub is_at : (b ≡ true → IsSiteOf site.locations evse (key r.location_id)) → b ≡ true → IsSiteOf s.site.locations (key r.evse_uid) (key r.location_id)
+  is_at may h = taken_over (may h)
 
 -- the row that makes a claim
 pub record ClaimsIt (s : State) (evse : List ℕ) (c : Claim) : Type 0 where

@@ -1,16 +1,25 @@
 -- A row that is put beside those that stand, none of which is of a later turn.
 use Rattle.std.specs.Prelude.{◌≡◌, ◌≢◌, ◌≤◌, ◌<◌, ℕ, List, Bool, Contains, MatchBool, ⊤}
+use Rattle.ocpi_text.specs.OwnIds.{own_id_text}
+use Rattle.ocpi_text.specs.Text.{key}
+use Rattle.ocpi_text.specs.Whole.{max_whole}
+use Rattle.ocpi_text.specs.declared.own_ids.OwnIdKind.{OwnIdKind}
 use Rattle.ocpi_text.specs.declared.own_ids.OwnIdKind.TheVariants as own
 use Rattle.ocpi_types.specs.Rows.{key_of}
 use Rattle.ocpi_types.specs.declared.rows.Row.{Row}
 use Rattle.ocpi_types.specs.declared.rows.Row.TheVariants as row
 use Rattle.ocpi_types.specs.declared.site.SiteLine.{SiteLine}
+use Rattle.ocpi_types.specs.declared.sessions.Session.{Session}
+use Rattle.ocpi_types.specs.declared.stored.OpenCommand.{OpenCommand}
+use Rattle.node_steps.specs.Peers.{HasPeer}
+use Rattle.site_book.specs.Sites.{IsConnectorOf}
+use Rattle.site_book.specs.declared.claim.Claim.TheVariants.{Live, OpenStart}
 use Rattle.session_state.specs.Resuming.{CannotResume}
 use Rattle.stored_rows.specs.Given.{IsOwnId, RepeatsKey}
 use Rattle.stored_rows.specs.Turns.{turn_of}
 use Rattle.operator_rows.specs.Rows.{AreRowsOf, HasRow}
-use Rattle.operator_rows.specs.Sound.{IsSound, MayPut, with_rows}
-use Rattle.operator_rows.specs.State.{State, opening}
+use Rattle.operator_rows.specs.Sound.{HasPlace, IsSound, MayClaim, MayPut, with_rows}
+use Rattle.operator_rows.specs.State.{IsStart, State, Takes, opening}
 use Rattle.operator_stored.specs.Bad.{IsBad}
 
 -- no row of a later turn stands
@@ -47,6 +56,24 @@ IsFit s r = ⊤
 pub record MayAdd (s : State) (r : Row) : Type 0 where
   pub may : MayPut s r
   pub fit : IsFit s r
+
+-- an open command has its place to itself, if it is a start
+pub record MayTake (s : State) (p : List ℕ) (n : ℕ) (o : OpenCommand) : Type 0 where
+  pub place : IsStart o.command → HasPlace s.site o
+  pub alone : (evse : List ℕ) → Takes o evse → MayClaim s.rows evse (OpenStart p n)
+
+-- a session has its place to itself
+pub record MayCharge (s : State) (v : Session) : Type 0 where
+  pub provider : HasPeer s.providers (key v.cdr_token.party)
+  pub place : IsConnectorOf s.site.locations (key v.evse_uid) (key v.connector_id)
+  pub alone : MayClaim s.rows (key v.evse_uid) (Live (key v.cdr_token.party) (key v.id))
+
+-- what has that party and that id is the operator's own, and its number was given, of which the last is that one
+pub record IsOwn (s : State) (kind : OwnIdKind) (last : ℕ) (party id : List ℕ) : Type 0 where
+  pub of_operator : key party ≡ key s.party
+  pub number : ℕ
+  pub made : IsOwnId kind s.party id number
+  pub given : (n : ℕ) → n ≤ max_whole → key (own_id_text kind s.party n) ≡ key id → n ≤ last
 
 -- the rows are bad, whichever the others are
 abbrev pub ShowsBad : State → Row → Type 0

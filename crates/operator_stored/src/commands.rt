@@ -4,7 +4,7 @@ ghost use Rattle.std.specs.Prelude.{◌≡◌, MatchBool};
 ghost use Rattle.ocpi_types.specs.declared.rows.Row.TheVariants as row;
 ghost use Rattle.operator_rows.specs.Sound.{IsOwnStart};
 ghost use Rattle.operator_rows.specs.State.{IsStart};
-ghost use Rattle.operator_stored.specs.Placing.{ComesNext, Tells};
+ghost use Rattle.operator_stored.specs.Placing.{ComesNext, MayTake, ShowsBad, Tells};
 
 use crate::places::{has_place, is_unclaimed};
 use crate::pushes::is_provider;
@@ -31,6 +31,8 @@ fn is_own(provider: PartyKey, command: &Command) -> bool
 
 /// Whether a command, where it is a start, has its place to itself.
 fn may_take(books: &Books, provider: PartyKey, number: Whole, order: &OpenCommand) -> bool
+    requires { ComesNext books.now.state (row.Pending provider number order.now) }
+    ensures { MatchBool result (MayTake books.now.state provider number order.now) (ShowsBad books.now.state (row.Pending provider number order.now)) }
 {
     if !is_start(&order.command) {
         return true;
@@ -53,6 +55,9 @@ pub fn may_open(books: &Books, provider: PartyKey, number: Whole, order: &OpenCo
         return false;
     }
     if books.reply(provider, number).is_none() {
+        return false;
+    }
+    if books.commands().answered(provider, number).is_some() {
         return false;
     }
     if !is_own(provider, &order.command) {

@@ -24,7 +24,7 @@ pub fn may_count(books: &Books, counter: Counter, last: Whole) -> bool
 {
     match counter {
         Counter::Reference => false,
-        Counter::Serial | Counter::Request | Counter::Session | Counter::Cdr => last.value() != 0,
+        _ => last.value() != 0,
     }
 }
 
