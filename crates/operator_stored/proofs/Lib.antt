@@ -1,2 +1,4 @@
 pub mod StandingRows
 pub mod Telling
+pub mod TellingCommands
+pub mod TellingSessions

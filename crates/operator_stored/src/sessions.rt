@@ -55,7 +55,7 @@ fn number_of(books: &Books, kind: OwnIdKind, id: &str) -> Option<Whole>
 fn is_own_session(books: &Books, session: &Session) -> bool
     ensures { MatchBool result (IsOwn books.now.state own.Session books.now.state.rows.charged.last_session session.now.party session.now.id) (ShowsBad books.now.state (row.Session session.now)) }
 {
-    if session.party.key() != books.party().key() {
+    if !session.party.is_same(&books.party()) {
         return false;
     }
     match number_of(books, OwnIdKind::Session, session.id.as_str()) {
@@ -105,7 +105,7 @@ pub fn may_stand(books: &Books, session: &Session) -> bool
 pub fn is_own_cdr(books: &Books, cdr: &Cdr) -> bool
     ensures { Tells result books.now.state (row.Cdr cdr.now) }
 {
-    if cdr.party.key() != books.party().key() {
+    if !cdr.party.is_same(&books.party()) {
         return false;
     }
     match number_of(books, OwnIdKind::Cdr, cdr.id.as_str()) {
