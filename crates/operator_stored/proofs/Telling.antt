@@ -14,6 +14,7 @@ use Rattle.ocpi_types.specs.declared.stored.OpenCommand.{OpenCommand}
 use Rattle.ocpi_types.specs.declared.stored.Push.{Push}
 use Rattle.ocpi_types.specs.declared.stored.Reply.{Reply}
 use Rattle.ocpi_types.specs.declared.stored.Reservation.{Reservation}
+use Rattle.ocpi_types.specs.declared.stored.SentCommand.{SentCommand}
 use Rattle.ocpi_types.specs.declared.words.CommandResultType.{CommandResultType}
 use Rattle.ocpi_types.specs.declared.rows.Counter.{Counter}
 use Rattle.ocpi_types.specs.declared.rows.Counter.TheVariants as counter
@@ -276,3 +277,10 @@ module _ (s : State) (n : ℕ) (to : List ℕ) (push : Push) (next : ComesNext s
       tells b s (row.Push n to push)
       (λ e. push_may s n to push peer given (not_pushed s n to push o (is_none_told b o is e) at))
       (λ e. let q = is_some_told b o is e in pushed_twice s n to push q.0 next (subst (λ (w : Option ℕ). IsReplaced s.rows.pushes (subject to push) w) q.1 at))
+
+-- the answer of a row that is known to be another
+pub tells_as : (b : Bool) (s : State) (r q : Row) → r ≡ q → Tells b s q → Tells b s r
+tells_as b s r q same h = subst (λ (x : Row). Tells b s x) (sym same) h
+
+pub command_foreign : (s : State) (r : Row) (n : ℕ) (x : SentCommand) → r ≡ row.Command n x → ShowsBad s r
+command_foreign s r n x is line rows p = Foreign (row.Command n x) (subst (λ (q : Row). Contains rows q) is p.here) tt

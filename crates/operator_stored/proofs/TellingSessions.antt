@@ -149,3 +149,6 @@ module _ (b : Bool) (site : Site) (s : State) (v : Session) (evse : List ℕ) (s
   connector_back also e h =
       true≢false (sym (also (subst (λ (z : Site). IsConnectorOf z.locations evse (key v.connector_id)) (sym same)
       (subst (λ (k : List ℕ). IsConnectorOf s.site.locations k (key v.connector_id)) (sym is) h))) ∙ e)
+
+pub not_same : (b : Bool) (party operator own : List ℕ) → operator ≡ own → (key party ≡ key operator → b ≡ true) → b ≡ false → key party ≡ key own → ⊥
+not_same b party operator own is also e h = true≢false (sym (also (h ∙ ap key (sym is))) ∙ e)

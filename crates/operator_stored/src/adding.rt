@@ -56,7 +56,10 @@ pub fn add_row(books: &mut Books, row: Row) -> Result<(), RowsFault>
     ensures state { OnOk result (books.new.state ≡ after_change (change.Put row) books.old.state) }
     ensures bad { IfErr result (λ e. e ≡ RowsFault.BadRows → ShowsBad books.old.state row) }
 {
-    if stands(books, &row) || !may_add(books, &row) {
+    if stands(books, &row) {
+        return Err(RowsFault::BadRows);
+    }
+    if !may_add(books, &row) {
         return Err(RowsFault::BadRows);
     }
     books.add_row(row)?;

@@ -1,8 +1,8 @@
-use Rattle.std.proofs.Common.{◌≡◌, ℕ, ap, ◌∙◌}
+use Rattle.std.proofs.Common.{◌≡◌, ap, ◌∙◌}
+use Rattle.ocpi_types.specs.declared.site.Site.{Site}
 use Rattle.operator_stored.proofs.TellingSessions.{stuck}
 use Rattle.operator_stored.proofs.sessions.may_stand.Goals as goal
 
-pr0 : goal.returns-then-not-can_go_on
-pr0 c = let h : ℕ = c.if-not-can_go_on.ensures in ?
 pub returns-then-not-can_go_on : goal.returns-then-not-can_go_on
-returns-then-not-can_go_on c = ?
+returns-then-not-can_go_on c = stuck c.args.books.now.state c.args.session.now c.site.result.now.price
+    (ap (λ (z : Site). z.price) (c.site.ensures ∙ c.site_book.ensures.site)) c.if-not-can_go_on.ensures
