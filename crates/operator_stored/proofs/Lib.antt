@@ -1,0 +1,2 @@
+pub mod RowsTell
+pub mod BadRows
