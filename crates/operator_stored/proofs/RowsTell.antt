@@ -50,28 +50,28 @@ module _ (s t : Rows) (same : (r : Row) → HasRow s r ↔ HasRow t r) where
   same_commands : s.commands ≡ t.commands
   same_commands =
       let replies : s.commands.replies ≡ t.commands.replies =
-          same_values text_number_total text_number_exact s.commands.replies t.commands.replies (λ k x. same (row.Reply k.0 k.1 x)) in
+      same_values text_number_total text_number_exact s.commands.replies t.commands.replies (λ k x. same (row.Reply k.0 k.1 x)) in
       let pending : s.commands.pending ≡ t.commands.pending =
-          same_values text_number_total text_number_exact s.commands.pending t.commands.pending (λ k x. same (row.Pending k.0 k.1 x)) in
+      same_values text_number_total text_number_exact s.commands.pending t.commands.pending (λ k x. same (row.Pending k.0 k.1 x)) in
       let results : s.commands.results ≡ t.commands.results =
-          same_values text_number_total text_number_exact s.commands.results t.commands.results (λ k x. same (row.Result k.0 k.1 x)) in
+      same_values text_number_total text_number_exact s.commands.results t.commands.results (λ k x. same (row.Result k.0 k.1 x)) in
       λ i. record { replies = replies i; pending = pending i; results = results i }
 
   same_booked : s.booked ≡ t.booked
   same_booked =
       let reservations : s.booked.reservations ≡ t.booked.reservations =
-          same_values text_pair_total text_pair_exact s.booked.reservations t.booked.reservations (λ k x. same (row.Reservation k.0 k.1 x)) in
+      same_values text_pair_total text_pair_exact s.booked.reservations t.booked.reservations (λ k x. same (row.Reservation k.0 k.1 x)) in
       let marks : s.booked.marks ≡ t.booked.marks = same_values text_pair_total text_pair_exact s.booked.marks t.booked.marks (λ k x. same (row.Mark k.0 k.1 x)) in
       λ i. record { reservations = reservations i; marks = marks i }
 
   same_charged : charged.AreKeyed s.charged → charged.AreKeyed t.charged → s.charged ≡ t.charged
   same_charged a b =
       let sessions : s.charged.sessions ≡ t.charged.sessions =
-          same_own_values text_total text_exact (λ (v : Session). key v.id) s.charged.sessions t.charged.sessions a.sessions b.sessions (λ x. same (row.Session x)) in
+      same_own_values text_total text_exact (λ (v : Session). key v.id) s.charged.sessions t.charged.sessions a.sessions b.sessions (λ x. same (row.Session x)) in
       let cdrs : s.charged.cdrs ≡ t.charged.cdrs =
-          same_own_values text_total text_exact (λ (x : Cdr). key x.id) s.charged.cdrs t.charged.cdrs a.cdrs b.cdrs (λ x. same (row.Cdr x)) in
+      same_own_values text_total text_exact (λ (x : Cdr). key x.id) s.charged.cdrs t.charged.cdrs a.cdrs b.cdrs (λ x. same (row.Cdr x)) in
       let last_session : s.charged.last_session ≡ t.charged.last_session =
-          same_count s.charged.last_session t.charged.last_session (λ n. same (row.Count counter.Session n)) in
+      same_count s.charged.last_session t.charged.last_session (λ n. same (row.Count counter.Session n)) in
       let last_cdr : s.charged.last_cdr ≡ t.charged.last_cdr = same_count s.charged.last_cdr t.charged.last_cdr (λ n. same (row.Count counter.Cdr n)) in
       λ i. record { sessions = sessions i; cdrs = cdrs i; last_session = last_session i; last_cdr = last_cdr i }
 
@@ -82,7 +82,7 @@ module _ (s t : Rows) (same : (r : Row) → HasRow s r ↔ HasRow t r) where
       let spent : s.spent ≡ t.spent = same_values text_pair_total text_pair_exact s.spent t.spent (λ k x. same (row.Spent k.0 k.1)) in
       let pushes : s.pushes ≡ t.pushes = same_values nat_cmp_total nat_cmp-IsAntisymmetric s.pushes t.pushes (λ k x. same (row.Push k x.to x.push)) in
       let out_of_service : s.out_of_service ≡ t.out_of_service =
-          same_values text_total text_exact s.out_of_service t.out_of_service (λ k x. same (row.Service k)) in
+      same_values text_total text_exact s.out_of_service t.out_of_service (λ k x. same (row.Service k)) in
       let tokens : s.tokens ≡ t.tokens = same_own_values tokens_total tokens_exact token_key s.tokens t.tokens a b (λ x. same (row.Token x)) in
       let commands = same_commands in
       let booked = same_booked in
