@@ -1,2 +1,5 @@
 pub mod RowsTell
 pub mod BadRows
+pub mod MadeOf
+pub mod StandingRows
+pub mod Telling
