@@ -19,7 +19,7 @@ use Rattle.token_desk.specs.Tokens.{token_key}
 use Rattle.stored_rows.specs.Given.{IsNotGiven, IsOwnId}
 use Rattle.stored_rows.proofs.Repeated.{none_repeated}
 use Rattle.operator_rows.specs.Rows.{AreRowsOf, HasRow}
-use Rattle.operator_rows.specs.Sound.{IsConsistent, IsSound, with_rows}
+use Rattle.operator_rows.specs.Sound.{IsSound, with_rows}
 use Rattle.operator_rows.specs.State.{HasClaim, Rows, State, opening}
 use Rattle.operator_rows.specs.Steps.{restarted}
 use Rattle.operator_rows.proofs.KeepingTimes.{restarted_consistent}
@@ -28,7 +28,7 @@ use Rattle.operator_stored.specs.Bad.{Repeated, Foreign, NothingCounted, PushNot
 use Rattle.operator_stored.specs.Bad.{PushToStranger, TokenOfStranger, CommandOfStranger, SessionOfStranger, StartOfOtherToken, ServiceNowhere, ReservationNowhere}
 use Rattle.operator_stored.specs.Bad.{StartNowhere, SessionNowhere, ClaimedTwice, OpenUnanswered, ResultUnanswered, OpenWithResult, PushedTwice, Stuck, BilledTwice}
 use Rattle.operator_stored.specs.Bad.{BilledEarly, Unbilled}
-use Rattle.operator_stored.specs.Making.{BadRowsAreOfNone, IsMadeOf, MakesAgain, RowsMakeAgain, StartsAgain}
+use Rattle.operator_stored.specs.Making.{BadRowsAreOfNone, IsMadeOf, RowsMakeAgain, StartsAgain}
 use Rattle.operator_stored.specs.Whole.{IsWhole}
 use Rattle.operator_stored.proofs.RowsTell.{rows_tell}
 

@@ -1,9 +1,9 @@
 -- The operator that is made of rows, once they are put and their bills are seen to be right.
-use Rattle.std.proofs.Common.{◌≡◌, ◌≢◌, ◌↔◌, ℕ, List, inl, inr, refl, sym, ap, subst, ◌∙◌}
+use Rattle.std.proofs.Common.{◌≡◌, ℕ, List, inl, inr, refl, sym, ap, subst, ◌∙◌}
 use Rattle.std.specs.Prelude.{Some, Contains, slice_get}
 use Rattle.std.specs.FinMap.{get}
 use Rattle.std.specs.List.Sorted.{IsPermutation}
-use Rattle.std.proofs.lemmas.List.Sorted.{IsPermutation-sym}
+use Rattle.std.proofs.lemmas.List.Sorted.{Contains-permutation, IsPermutation-sym}
 use Rattle.std.proofs.lemmas.Option.{slice_get_within, get_or_from_slice_get}
 use Rattle.ocpi_text.specs.Text.{key}
 use Rattle.tables.specs.Keys.{text_total, text_exact}
@@ -95,11 +95,17 @@ module _ (line : SiteLine) (rows : List Row) (s : State) (sound : IsSound s) (pu
   made_of bills = record { of_site = put.of_site; has_rows = put.has_rows; whole = whole_of bills }
 
 -- the order of the rows does not matter
-pub rows_in_other_order : (xs ys : List Row) (s : State) → IsPermutation xs ys → AreRowsOf ys s.rows → ((r : Row) → Contains xs r ↔ Contains ys r) → AreRowsOf xs s.rows
-rows_in_other_order xs ys s h are same = record {
-  exact = λ r. (λ i. (are.exact r).0 ((same r).0 i), λ i. (same r).1 ((are.exact r).1 i));
+pub rows_in_other_order : (xs ys : List Row) (s : State) → IsPermutation xs ys → AreRowsOf ys s.rows → AreRowsOf xs s.rows
+rows_in_other_order xs ys s h are = record {
+  exact = λ r. (
+    λ i. (are.exact r).0 (Contains-permutation xs ys r h i),
+    λ i. Contains-permutation ys xs r (IsPermutation-sym xs ys h) ((are.exact r).1 i),
+  );
   apart = apart_permuted xs ys h are.apart;
 }
+
+pub put_in_other_order : (line : SiteLine) (xs ys : List Row) (s : State) → IsPermutation xs ys → ArePut line ys s → ArePut line xs s
+put_in_other_order line xs ys s h put = record { of_site = put.of_site; has_rows = rows_in_other_order xs ys s h put.has_rows; fit = put.fit }
 
 -- what an operator starts again as is all that is made of its rows
 pub same_again : (line : SiteLine) (rows : List Row) (s t : State) → IsConsistent s → StartsAgain line rows s → IsSound t → IsMadeOf line rows t → t ≡ restarted s

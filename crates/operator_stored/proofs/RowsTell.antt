@@ -1,6 +1,6 @@
 -- The rows of an operator tell all that it stores.
 use Rattle.std.proofs.Common.{◌≡◌, ◌≢◌, ◌↔◌, ℕ, zero, suc, List, refl, sym, subst, arith}
-use Rattle.std.specs.Prelude.{Some, Contains}
+use Rattle.std.specs.Prelude.{Some}
 use Rattle.std.specs.Cmp.{IsTotalOrder, nat_cmp_total}
 use Rattle.std.specs.FinMap.{FinMap, IsAntisymmetric, nat_cmp-IsAntisymmetric, get, same_map}
 use Rattle.std.specs.declared.cmp.Ordering.{Ordering}
