@@ -6,3 +6,4 @@ pub mod Telling
 pub mod TellingCommands
 pub mod TellingSessions
 pub mod Putting
+pub mod Billing

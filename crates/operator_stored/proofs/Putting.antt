@@ -1,6 +1,8 @@
 -- Rows that are put one after the other, in turn.
 use Rattle.std.proofs.Common.{◌≡◌, ◌≢◌, ℕ, List, [], ◌∷◌, ◌++◌, inl, inr, refl, sym, ap, subst, ◌∙◌}
-use Rattle.std.specs.Prelude.{Option, Some, None, Contains}
+use Rattle.std.specs.Prelude.{Option, Some, None, Contains, Result, IfErr}
+use Rattle.std.specs.Result.{IsErrAnd}
+use Rattle.std.proofs.lemmas.Result.{err_from_is_err_and}
 use Rattle.std.specs.Cmp.{nat_cmp_total}
 use Rattle.std.specs.FinMap.{empty, get-empty, nat_cmp-IsAntisymmetric}
 use Rattle.std.specs.List.Sorted.{IsNonDecreasingBy, IsPermutation}
@@ -129,3 +131,7 @@ module _ (line : SiteLine) (before rest : List Row) (s : State) (r : Row) (put :
 -- a row of a key that stands is bad
 pub repeated : (s : State) (r : Row) → Stands s r → ShowsBad s r
 repeated s r h line rows p = Repeated (p.twice h.0 h.1 h.2)
+
+-- what a `?` returns is the fault that it passes on
+pub err_one : {T E : Type 0} (P : E → Type 0) (r : Result T E) (f : E) → IsErrAnd r (λ e. e ≡ f) → P f → IfErr r P
+err_one P r f is h = let p = err_from_is_err_and r is in rw (p.1, p.2) h
