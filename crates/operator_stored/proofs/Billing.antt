@@ -1,5 +1,5 @@
 -- The sessions that are billed, gathered row by row.
-use Rattle.std.proofs.Common.{◌≡◌, ◌≢◌, ◌↔◌, ◌⊎◌, inl, inr, ℕ, ◌+◌, ◌<◌, ◌≤◌, List, length, get_or, Bool, true, false, true≢false, not, ◌||◌, refl, sym, ap, subst, ◌∙◌, arith}
+use Rattle.std.proofs.Common.{◌≡◌, ◌≢◌, ◌↔◌, ◌⊎◌, inl, inr, ℕ, ◌+◌, ◌<◌, ◌≤◌, List, length, get_or, Bool, true, false, true≢false, not, ◌||◌, MatchBool, refl, sym, ap, subst, ◌∙◌, arith}
 use Rattle.std.specs.Prelude.{Some, Contains, IsTrue, slice_get}
 use Rattle.std.specs.Cmp.{eq_by_cmp_equiv}
 use Rattle.std.specs.FinSet.{FinSet, contains, empty, insert, contains-empty, contains-insert}
@@ -196,3 +196,11 @@ module _ (billed ended : FinSet text_cmp) (rows : List Row) (bills : AreBilledBy
   pub misbilled : (k : ℕ) (r : Row) → slice_get rows k ≡ Some r → IsEarly ended r ⊎ IsUnbilled billed r → IsMisbilled rows
   misbilled k r at (inl h) = Early h.0 (at_place rows k (row.Cdr h.0) (at ∙ ap (λ (q : Row). Some q) h.1)) (λ e. true≢false (sym ((ends (key h.0.session_id)).1 e) ∙ h.2))
   misbilled k r at (inr h) = Never h.0 (at_place rows k (row.Session h.0) (at ∙ ap (λ (q : Row). Some q) h.1)) h.2 (λ b. true≢false (sym ((bills.all (key h.0.id)).1 b) ∙ h.3))
+
+pub if_true : (P Q : Type 0) (b : Bool) → MatchBool b P Q → b ≡ true → P
+if_true P Q true h e = h
+if_true P Q false h e = absurd (true≢false (sym e))
+
+pub if_false : (P Q : Type 0) (b : Bool) → MatchBool b P Q → b ≡ false → Q
+if_false P Q true h e = absurd (true≢false e)
+if_false P Q false h e = h
