@@ -88,14 +88,14 @@ module _ (P : Row → List ℕ → Type 0) (rows : List Row) (n : ℕ) (r : Row)
       | inr p ↦ (n, r, omega arith, here, p)
     ],
     λ b. let under : b.0 < n + 1 = b.2 in
-      elim (cases_lt b.0 n) [
-        | inl below ↦ (also id).1 (inl ((ids id).1 (b.0, b.1, below, b.3, b.4)))
-        | inr above ↦
-            let at : b.0 ≡ n = omega arith in
-            let e : Some b.1 ≡ Some r = sym b.3 ∙ ap (slice_get rows) at ∙ here in
-            let same : b.1 ≡ r = cc in
-            (also id).1 (inr (subst (λ (q : Row). P q id) same b.4))
-      ],
+        elim (cases_lt b.0 n) [
+          | inl below ↦ (also id).1 (inl ((ids id).1 (b.0, b.1, below, b.3, b.4)))
+          | inr above ↦
+              let at : b.0 ≡ n = omega arith in
+              let e : Some b.1 ≡ Some r = sym b.3 ∙ ap (slice_get rows) at ∙ here in
+              let same : b.1 ≡ r = cc in
+              (also id).1 (inr (subst (λ (q : Row). P q id) same b.4))
+        ],
   )
 
 -- all rows

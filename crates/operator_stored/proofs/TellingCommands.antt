@@ -78,4 +78,4 @@ module _ (s : State) (p : List ℕ) (n : ℕ) (x : CommandResultType) where
       tells b s (row.Result p n x)
       (λ h. record { may = record { answered = has; settled = none_copied b r (get s.rows.commands.pending (p, n)) is at h }; fit = tt })
       (λ h line all q. let o = some_copied b r (get s.rows.commands.pending (p, n)) is at h in
-          OpenWithResult p n o.0 x (q.among (row.Pending p n o.0) o.1) q.here)
+      OpenWithResult p n o.0 x (q.among (row.Pending p n o.0) o.1) q.here)

@@ -136,7 +136,7 @@ module _ (s : State) (x : Cdr) where
       ((m : ℕ) → m ≤ max_whole → key (own_id_text own.Cdr s.party m) ≡ key x.id → m ≡ n) → Tells b s (row.Cdr x)
   own_cdr b n last is same of made sole = tells b s (row.Cdr x)
       (λ e. let o = own_of s own.Cdr s.rows.charged.last_cdr n x.party x.id of made sole (is_at_most n last s.rows.charged.last_cdr b is same e) in
-          record { may = record { own = of; number = o.given }; fit = (n, made) })
+      record { may = record { own = of; number = o.given }; fit = (n, made) })
       (λ e. cdr_not_given n made (is_beyond n last s.rows.charged.last_cdr b is same e))
 
 -- whether the EVSE of a session has its connector
