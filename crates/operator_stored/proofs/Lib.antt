@@ -1,5 +1,6 @@
 pub mod RowsTell
 pub mod BadRows
 pub mod MadeOf
+pub mod Gathered
 pub mod StandingRows
 pub mod Telling
