@@ -283,10 +283,10 @@ module _ (line : SiteLine) (rows : List Row) (good : IsBad line rows → ⊥) wh
   apart : AllPairs (λ a b. key_of a ≢ key_of b) rows
   apart = all_apart rows (λ r. good (Repeated r))
 
-  own_session : (v : Session) → Contains rows (row.Session v) → key v.party ≡ key line.parties.operator
+  pub own_session : (v : Session) → Contains rows (row.Session v) → key v.party ≡ key line.parties.operator
   own_session v h = elim (told text_total text_exact (key v.party) (key line.parties.operator)) [ inl same ↦ same | inr other ↦ absurd (good (SessionOfOther v h other)) ]
 
-  own_cdr : (x : Cdr) → Contains rows (row.Cdr x) → key x.party ≡ key line.parties.operator
+  pub own_cdr : (x : Cdr) → Contains rows (row.Cdr x) → key x.party ≡ key line.parties.operator
   own_cdr x h = elim (told text_total text_exact (key x.party) (key line.parties.operator)) [ inl same ↦ same | inr other ↦ absurd (good (CdrOfOther x h other)) ]
 
   session_named : (r : Row) (e : List ℕ × Session) → Contains rows r → session_of r ≡ Some e → key_of r ≡ keys.Session (key line.parties.operator) e.0
@@ -307,8 +307,7 @@ module _ (line : SiteLine) (rows : List Row) (good : IsBad line rows → ⊥) wh
   count_exact : (c : Counter) (n : ℕ) → Contains rows (row.Count c n) ↔ ((last_of rows c ≡ n) × (n ≢ 0))
   count_exact c n =
       let all = exact_of nat_cmp_total nat_cmp-IsAntisymmetric count_of (λ e. row.Count (counter_at e.0) e.1) count_is rows apart (λ k. keys.Count (counter_at k))
-          (λ r e h at. ap key_of (count_is r e at)) in
-      (
+      (λ r e h at. ap key_of (count_is r e at)) in (
         λ h. (ap number_or_none ((all (row.Count c n) (place_of c, n) refl).0 h), λ z. good (NothingCounted c (subst (λ m. Contains rows (row.Count c m)) z h))),
         λ h. elim (known (get (gathered nat_cmp_total nat_cmp-IsAntisymmetric count_of rows) (place_of c))) [
           | inl none ↦ absurd (h.1 (sym h.0 ∙ ap number_or_none none))
