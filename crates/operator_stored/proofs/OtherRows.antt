@@ -32,7 +32,7 @@ use Rattle.site_book.specs.declared.claim.Claim.TheVariants.{OpenStart, Live, Re
 use Rattle.outbox.specs.Outbox.{AreConsistent}
 use Rattle.outbox.proofs.Timing.{has_none, has_some, has_unit}
 use Rattle.session_state.specs.Versions.{HasCost}
-use Rattle.session_book.specs.Numbers.{AreNumbered, id_key}
+use Rattle.session_book.specs.Numbers.{id_key}
 use Rattle.session_book.specs.Stored as charged
 use Rattle.session_book.proofs.OwnIds.{ids_differ}
 use Rattle.token_desk.specs.Tokens.{TokenKey, token_key}
@@ -46,9 +46,10 @@ use Rattle.operator_rows.proofs.RowChanges.{of_cons, in_later}
 use Rattle.operator_stored.specs.Bad.{IsBad, MakesClaim, PushNotGiven, SessionNotGiven, CdrNotGiven, SessionIdNotOwn, CdrIdNotOwn, PushToStranger, TokenOfStranger}
 use Rattle.operator_stored.specs.Bad.{CommandOfStranger, SessionOfStranger, StartOfOtherToken, ServiceNowhere, ReservationNowhere, StartNowhere, SessionNowhere}
 use Rattle.operator_stored.specs.Bad.{ClaimedTwice, OpenUnanswered, ResultUnanswered, OpenWithResult, PushedTwice, Stuck, BilledTwice, BilledEarly, Unbilled}
-use Rattle.operator_stored.specs.Making.{IsMadeOf, OtherRowsAreBad}
+use Rattle.operator_stored.specs.Making.{OtherRowsAreBad}
 use Rattle.operator_stored.specs.Whole.{AreBilled, IsWhole}
-use Rattle.operator_stored.proofs.Gathered.{gathered_rows, gathered_exact, gathered_are, comes_of, own_session, own_cdr, token_of, token_keyed, session_of, session_keyed, cdr_of, cdr_keyed}
+use Rattle.operator_stored.proofs.Gathered.{gathered_rows, gathered_exact, gathered_are, comes_of, own_session, own_cdr}
+use Rattle.operator_stored.proofs.Gathered.{token_of, token_keyed, session_of, session_keyed, cdr_of, cdr_keyed}
 
 -- it cannot be refuted
 abbrev NotNot : Type 0 → Type 0
@@ -119,7 +120,8 @@ module _ (line : SiteLine) (rows : List Row) (good : IsBad line rows → ⊥) wh
       good (SessionIdNotOwn v h (λ n made.
       good (Stuck v h (inr (λ priced.
       given (λ (live : IsLive v.status). λ (stranger : HasPeer line.parties.providers (key v.cdr_token.party) → ⊥). good (SessionOfStranger v h live stranger)) (λ provider.
-      given (λ (live : IsLive v.status). λ (nowhere : IsConnectorOf line.site.locations (key v.evse_uid) (key v.connector_id) → ⊥). good (SessionNowhere v h live nowhere)) (λ place.
+      given (λ (live : IsLive v.status). λ (nowhere : IsConnectorOf line.site.locations (key v.evse_uid) (key v.connector_id) → ⊥).
+          good (SessionNowhere v h live nowhere)) (λ place.
       given (λ (done : v.status ≡ Completed). λ (none : (x : Cdr) × Contains rows (row.Cdr x) × (key x.session_id ≡ key v.id) → ⊥).
       good (Unbilled v h done (λ x i same. none (x, i, same)))) (λ billed.
       refuted (record { made = (n, made); priced = priced; provider = provider; place = place; billed = billed })))))))))
@@ -204,7 +206,8 @@ module _ (line : SiteLine) (rows : List Row) (good : IsBad line rows → ⊥) wh
     apart = λ n h k. has_none SentCommand nat_cmp n k;
     one_each = λ u n q x y. elim (told nat_cmp_total nat_cmp-IsAntisymmetric n q) [
       | inl same ↦ same
-      | inr apart ↦ absurd (good (PushedTwice n q x.0.to y.0.to x.0.push y.0.push u apart (listed (row.Push n x.0.to x.0.push) x.1) (listed (row.Push q y.0.to y.0.push) y.1) x.2 y.2))
+      | inr apart ↦ absurd (good (PushedTwice n q x.0.to y.0.to x.0.push y.0.push u apart
+          (listed (row.Push n x.0.to x.0.push) x.1) (listed (row.Push q y.0.to y.0.push) y.1) x.2 y.2))
     ];
   }
 

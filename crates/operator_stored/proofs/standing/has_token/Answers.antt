@@ -16,4 +16,4 @@ returns c =
     ap (λ (k : List ℕ). get s.rows.tokens ((t.token_type, k), c.key.result)) c.key-2.ensures ∙
     ap (λ (k : List ℕ). get s.rows.tokens ((t.token_type, key t.uid), k)) c.key.ensures in
     told_by c.is_some.result (get s.rows.tokens (token_key t)) s (row.Token t) c.requires
-    (c.is_some.ensures ∙ ap is_some (c.find.ensures ∙ keyed)) (λ x h. (x, h)) (λ u. u)
+        (c.is_some.ensures ∙ ap is_some (c.find.ensures ∙ keyed)) (λ x h. (x, h)) (λ u. u)
