@@ -33,7 +33,6 @@ use Rattle.outbox.specs.Outbox.{AreConsistent}
 use Rattle.outbox.proofs.Timing.{has_none, has_some, has_unit}
 use Rattle.session_state.specs.Versions.{HasCost}
 use Rattle.session_book.specs.Numbers.{id_key}
-use Rattle.session_book.specs.Stored as charged
 use Rattle.session_book.proofs.OwnIds.{ids_differ}
 use Rattle.token_desk.specs.Tokens.{TokenKey, token_key}
 use Rattle.token_desk.specs.TypeOrder.{tokens_total, tokens_exact}
