@@ -177,8 +177,8 @@ module _ (s : State) (n : ℕ) (to : List ℕ) (push : Push) where
     | inr some ↦
         let about : IsAbout s.rows.pushes some.0 q = subst (λ (o : Option Subject). IsReplaced s.rows.pushes o (Some q)) some.1 h in
         PushedTwice q n about.0.to to about.0.push push some.0
-        (λ same. next.is_new (row.Push q about.0.to about.0.push) about.1 (ap keys.Push same))
-        (p.among (row.Push q about.0.to about.0.push) about.1) p.here about.2 some.1
+            (λ same. next.is_new (row.Push q about.0.to about.0.push) about.1 (ap keys.Push same))
+            (p.among (row.Push q about.0.to about.0.push) about.1) p.here about.2 some.1
   ]
 
   pub not_pushed : (o : Option ℕ) → o ≡ None → IsReplaced s.rows.pushes (subject to push) o → (u : Subject) (q : ℕ) → subject to push ≡ Some u → IsAbout s.rows.pushes u q → ⊥
@@ -191,7 +191,7 @@ pub service_tells : (b : Bool) (s : State) (site : Site) (evse : List ℕ) → s
 service_tells b s site evse same is also =
     tells b s (row.Service evse) (λ h. record { may = subst (λ (z : Site). IsEvse z.locations evse) same (is h); fit = tt })
     (λ h line rows p. ServiceNowhere evse p.here
-    (λ e. true≢false (sym (also (subst (λ (z : Site). IsEvse z.locations evse) (sym (site_of s (row.Service evse) line rows p) ∙ sym same) e)) ∙ h)))
+        (λ e. true≢false (sym (also (subst (λ (z : Site). IsEvse z.locations evse) (sym (site_of s (row.Service evse) line rows p) ∙ sym same) e)) ∙ h)))
 
 -- whether an EVSE is at the location of a reservation
 module _ (b : Bool) (site : Site) (s : State) (r : Reservation) (evse : List ℕ) (same : site ≡ s.site) (is : evse ≡ key r.evse_uid) where

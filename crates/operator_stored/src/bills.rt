@@ -7,7 +7,8 @@ use ocpi_types::{IdSet, Row, SessionStatus};
 use std::alloc::{AllocError, Global};
 
 /// Adds the session of a charge detail record, and answers whether it was not there. Other rows add nothing.
-fn add_bill(row: &Row, billed: &mut IdSet) -> Result<bool, AllocError> {
+fn add_bill(row: &Row, billed: &mut IdSet) -> Result<bool, AllocError>
+{
     match row {
         Row::Cdr { cdr } => billed.insert(&cdr.session_id),
         _ => Ok(true),
@@ -15,7 +16,8 @@ fn add_bill(row: &Row, billed: &mut IdSet) -> Result<bool, AllocError> {
 }
 
 /// Adds the sessions of the charge detail records, and answers whether no two are of one session.
-fn add_bills(rows: &[Row], billed: &mut IdSet) -> Result<bool, AllocError> {
+fn add_bills(rows: &[Row], billed: &mut IdSet) -> Result<bool, AllocError>
+{
     for row in rows {
         if !add_bill(row, billed)? {
             return Ok(false);
@@ -25,7 +27,8 @@ fn add_bills(rows: &[Row], billed: &mut IdSet) -> Result<bool, AllocError> {
 }
 
 /// Adds a session that is COMPLETED. Other rows add nothing.
-fn add_ended(row: &Row, ended: &mut IdSet) -> Result<(), AllocError> {
+fn add_ended(row: &Row, ended: &mut IdSet) -> Result<(), AllocError>
+{
     match row {
         Row::Session { session } => {
             if matches!(session.status, SessionStatus::Completed) {
@@ -38,7 +41,8 @@ fn add_ended(row: &Row, ended: &mut IdSet) -> Result<(), AllocError> {
 }
 
 /// Adds the sessions that are COMPLETED.
-fn add_all_ended(rows: &[Row], ended: &mut IdSet) -> Result<(), AllocError> {
+fn add_all_ended(rows: &[Row], ended: &mut IdSet) -> Result<(), AllocError>
+{
     for row in rows {
         add_ended(row, ended)?;
     }
@@ -46,7 +50,8 @@ fn add_all_ended(rows: &[Row], ended: &mut IdSet) -> Result<(), AllocError> {
 }
 
 /// Whether a session that is COMPLETED is billed, and what is billed is.
-fn agrees(row: &Row, billed: &IdSet, ended: &IdSet) -> bool {
+fn agrees(row: &Row, billed: &IdSet, ended: &IdSet) -> bool
+{
     match row {
         Row::Session { session } => {
             !matches!(session.status, SessionStatus::Completed) || billed.contains(&session.id)
@@ -57,7 +62,8 @@ fn agrees(row: &Row, billed: &IdSet, ended: &IdSet) -> bool {
 }
 
 /// Whether that is so of all rows.
-fn all_agree(rows: &[Row], billed: &IdSet, ended: &IdSet) -> bool {
+fn all_agree(rows: &[Row], billed: &IdSet, ended: &IdSet) -> bool
+{
     for row in rows {
         if !agrees(row, billed, ended) {
             return false;
