@@ -11,5 +11,5 @@ mod pushes;
 mod sessions;
 mod standing;
 
-pub use laws::{bad_rows_are_of_none, rows_make_again, rows_tell_all};
+pub use laws::{bad_rows_are_of_none, other_rows_are_bad, rows_make_again, rows_tell_all};
 pub use making::books_of_rows;
