@@ -1,0 +1,11 @@
+pub mod RowsTell
+pub mod BadRows
+pub mod MadeOf
+pub mod Gathered
+pub mod OtherRows
+pub mod StandingRows
+pub mod Telling
+pub mod TellingCommands
+pub mod TellingSessions
+pub mod Putting
+pub mod Billing
