@@ -1,5 +1,5 @@
 -- The sessions that are billed, gathered row by row.
-use Rattle.std.proofs.Common.{◌≡◌, ◌≢◌, ◌↔◌, ◌⊎◌, inl, inr, ℕ, ◌+◌, ◌<◌, ◌≤◌, List, length, get_or, Bool, true, false, true≢false, not, ◌||◌, MatchBool, refl, sym, ap, subst, ◌∙◌, arith}
+use Rattle.std.proofs.Common.{◌≡◌, ◌↔◌, ◌⊎◌, inl, inr, ℕ, ◌+◌, ◌<◌, ◌≤◌, List, length, get_or, Bool, true, false, true≢false, ◌||◌, MatchBool, refl, sym, ap, subst, ◌∙◌, arith}
 use Rattle.std.specs.Prelude.{Some, Contains, IsTrue, slice_get}
 use Rattle.std.specs.Cmp.{eq_by_cmp_equiv}
 use Rattle.std.specs.FinSet.{FinSet, contains, empty, insert, contains-empty, contains-insert}
@@ -15,7 +15,7 @@ use Rattle.ocpi_types.specs.declared.rows.Row.TheVariants as row
 use Rattle.ocpi_types.specs.declared.sessions.Session.{Session}
 use Rattle.ocpi_types.specs.declared.words.SessionStatus.TheVariants.{Completed}
 use Rattle.operator_stored.proofs.MadeOf.{at_place}
-use Rattle.operator_stored.specs.Bills.{Agrees, AreBilledBy, AreBillsOf, AreIdsOf, BillOf, BillsTwice, EndOf, HasBill, HasEnded, HaveAlso, IsEarly, IsMisbilled, IsUnbilled, Early, Never, Twice}
+use Rattle.operator_stored.specs.Bills.{Agrees, AreBilledBy, AreBillsOf, AreIdsOf, BillOf, BillsTwice, EndOf, HasEnded, HaveAlso, IsEarly, IsMisbilled, IsUnbilled, Early, Never}
 
 either_true : (a b : Bool) → (a || b) ≡ true → (a ≡ true) ⊎ (b ≡ true)
 either_true true b h = inl refl

@@ -1,5 +1,5 @@
 -- Whether a row of a kind and key stands, as it is told by what stands under the key.
-use Rattle.std.proofs.Common.{◌≡◌, ◌≢◌, ℕ, ◌≤◌, zero, suc, List, nat_eq, Bool, true, false, not, true≢false, MatchBool, ◌⊎◌, inl, inr, refl, sym, ap, subst, ◌∙◌, arith}
+use Rattle.std.proofs.Common.{◌≡◌, ◌≢◌, ℕ, zero, suc, List, nat_eq, Bool, true, false, not, true≢false, MatchBool, ◌⊎◌, inl, inr, refl, sym, ap, subst, ◌∙◌, arith}
 use Rattle.std.specs.Prelude.{Option, Some, None, is_some, option_copied}
 use Rattle.std.specs.FinMap.{get}
 use denote.Ref.{Bor}
@@ -13,7 +13,6 @@ use Rattle.ocpi_types.specs.declared.stored.Reply.{Reply}
 use Rattle.ocpi_types.specs.declared.stored.Reservation.{Reservation}
 use Rattle.ocpi_types.specs.declared.words.CommandResultType.{CommandResultType}
 use Rattle.ocpi_types.specs.declared.rows.Counter.{Counter}
-use Rattle.ocpi_types.specs.declared.rows.Counter.TheVariants as counter
 use Rattle.ocpi_types.specs.declared.rows.Row.{Row}
 use Rattle.ocpi_types.specs.declared.rows.Row.TheVariants as row
 use Rattle.ocpi_types.specs.declared.rows.RowKey.{RowKey}
@@ -22,7 +21,6 @@ use Rattle.site_book.specs.Sites.{OutOfService, works}
 use Rattle.outbox.specs.declared.push_book.Outgoing.{Outgoing}
 use Rattle.token_desk.specs.Tokens.{token_key}
 use Rattle.std.proofs.lemmas.Bool.Decides.{nat_tests}
-use Rattle.tables.proofs.Options.{none_some, not_both, known}
 use Rattle.operator_rows.specs.Rows.{HasCount, HasRow}
 use Rattle.operator_rows.specs.Sound.{IsSound}
 use Rattle.operator_rows.specs.State.{State, Rows}

@@ -1,21 +1,13 @@
 -- What tells that a row may be put, and what that the rows are bad.
-use Rattle.std.proofs.Common.{◌≡◌, ◌≢◌, ℕ, ◌≤◌, ◌<◌, zero, suc, List, Bool, true, false, not, true≢false, is_gt, nat_eq, MatchBool, ◌⊎◌, inl, inr, refl, sym, ap, subst, ◌∙◌, arith}
+use Rattle.std.proofs.Common.{◌≡◌, ◌≢◌, ℕ, ◌≤◌, ◌<◌, List, Bool, true, false, not, true≢false, is_gt, nat_eq, MatchBool, inl, inr, refl, sym, ap, subst, ◌∙◌, arith}
 use Rattle.std.specs.Prelude.{Option, Some, None, IsTrue, is_some, Contains}
 use Rattle.std.specs.FinMap.{get, contains_key, get-empty}
 use Rattle.std.specs.Ordering.{nat_cmp}
 use Rattle.ocpi_text.specs.Text.{key}
-use Rattle.ocpi_text.specs.Whole.{max_whole}
-use Rattle.ocpi_text.specs.declared.own_ids.OwnIdKind.TheVariants as own
-use Rattle.ocpi_types.specs.Rows.{key_of}
-use Rattle.ocpi_types.specs.declared.cdrs.Cdr.{Cdr}
-use Rattle.ocpi_types.specs.declared.sessions.Session.{Session}
 use Rattle.ocpi_types.specs.declared.token.Token.{Token}
-use Rattle.ocpi_types.specs.declared.stored.OpenCommand.{OpenCommand}
 use Rattle.ocpi_types.specs.declared.stored.Push.{Push}
-use Rattle.ocpi_types.specs.declared.stored.Reply.{Reply}
 use Rattle.ocpi_types.specs.declared.stored.Reservation.{Reservation}
 use Rattle.ocpi_types.specs.declared.stored.SentCommand.{SentCommand}
-use Rattle.ocpi_types.specs.declared.words.CommandResultType.{CommandResultType}
 use Rattle.ocpi_types.specs.declared.rows.Counter.{Counter}
 use Rattle.ocpi_types.specs.declared.rows.Counter.TheVariants as counter
 use Rattle.ocpi_types.specs.declared.rows.Row.{Row}
@@ -27,22 +19,20 @@ use Rattle.std.proofs.lemmas.Bool.Decides.{nat_tests}
 use Rattle.outbox.specs.Outbox.{OutboxRows}
 use Rattle.outbox.proofs.Timing.{has_none}
 use Rattle.outbox.specs.Pushes.{IsAbout, IsReplaced, subject}
-use Rattle.outbox.specs.declared.push_book.Outgoing.{Outgoing}
 use Rattle.outbox.specs.declared.push_book.Subject.{Subject}
 use Rattle.node_steps.specs.Peers.{HasPeer}
-use Rattle.site_book.specs.Sites.{Claims, IsConnectorOf, IsEvse, IsSiteOf}
+use Rattle.site_book.specs.Sites.{Claims, IsEvse, IsSiteOf}
 use Rattle.site_book.specs.declared.claim.Claim.{Claim}
 use Rattle.site_book.specs.declared.claim.Claim.TheVariants.{OpenStart, Live, Reserved}
-use Rattle.stored_rows.specs.Given.{IsNotGiven, IsOwnId}
 use Rattle.stored_rows.specs.Turns.{turn_of}
-use Rattle.tables.proofs.Options.{none_some, not_both, known, none_else}
+use Rattle.tables.proofs.Options.{none_some, known}
 use Rattle.operator_rows.specs.Rows.{HasCount, HasRow}
-use Rattle.operator_rows.specs.Sound.{HasPlace, IsOwnStart, IsSound, MayClaim, with_rows}
-use Rattle.operator_rows.specs.State.{HasClaim, IsFree, IsStart, State, Rows, Takes, as_outbox, opening}
+use Rattle.operator_rows.specs.Sound.{IsSound, MayClaim}
+use Rattle.operator_rows.specs.State.{HasClaim, IsFree, State, Rows, as_outbox}
 use Rattle.operator_rows.specs.Claimed.{IsIndexed}
 use Rattle.operator_stored.proofs.StandingRows.{is_other, is_zero, some_of, zero_or_not}
-use Rattle.operator_stored.specs.Bad.{IsBad, MakesClaim}
-use Rattle.operator_stored.specs.Bad.{Foreign, NothingCounted, PushNotGiven, PushToStranger, TokenOfStranger, CommandOfStranger, StartOfOtherToken, ServiceNowhere, ReservationNowhere, StartNowhere, ClaimedTwice, OpenUnanswered, ResultUnanswered, OpenWithResult, PushedTwice}
+use Rattle.operator_stored.specs.Bad.{MakesClaim}
+use Rattle.operator_stored.specs.Bad.{Foreign, NothingCounted, PushNotGiven, PushToStranger, TokenOfStranger, ServiceNowhere, ReservationNowhere, ClaimedTwice, PushedTwice}
 use Rattle.operator_stored.specs.Placing.{ComesNext, IsPlaced, MayAdd, ShowsBad, Tells}
 
 -- the answer, told by cases

@@ -1,8 +1,5 @@
-use Rattle.std.proofs.Common.{◌≡◌, List, ℕ, subst}
-use Rattle.ocpi_text.specs.Text.{key}
-use Rattle.ocpi_types.specs.declared.site.Site.{Site}
+use Rattle.std.proofs.Common.{List, ℕ, subst}
 use Rattle.node_steps.specs.Peers.{HasPeer}
-use Rattle.site_book.specs.Sites.{IsConnectorOf}
 use Rattle.operator_stored.proofs.TellingSessions.{charge_tells, connector_back, connector_over, session_nowhere, session_of_stranger}
 use Rattle.operator_stored.proofs.sessions.may_charge.Goals as goal
 
