@@ -18,11 +18,7 @@ impl Operator {
     /// The operator of a site that has just these rows, in whatever order they come: each push is due at once, and no authorization
     /// is awaited. So of all that an operator stored (`stored`) the very same is made, as it starts again. Refused (`BadRows`) where
     /// no operator of that site has just these rows.
-    pub fn from_rows(
-        alloc: Global,
-        line: SiteLine,
-        rows: Vec<Row>,
-    ) -> Result<Operator, RowsFault>
+    pub fn from_rows(alloc: Global, line: SiteLine, rows: Vec<Row>) -> Result<Operator, RowsFault>
         ensures made { IfOk result (λ o. IsMadeOf line rows.items o.state) }
         ensures bad { IfErr result (λ e. e ≡ RowsFault.BadRows → IsBad line rows.items) }
         ensures again { (s : State) → IsConsistent s → StartsAgain line rows.items s → IfOk result (λ o. o.state ≡ restarted s) }

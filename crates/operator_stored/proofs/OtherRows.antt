@@ -120,7 +120,7 @@ module _ (line : SiteLine) (rows : List Row) (good : IsBad line rows → ⊥) wh
       good (Stuck v h (inr (λ priced.
       given (λ (live : IsLive v.status). λ (stranger : HasPeer line.parties.providers (key v.cdr_token.party) → ⊥). good (SessionOfStranger v h live stranger)) (λ provider.
       given (λ (live : IsLive v.status). λ (nowhere : IsConnectorOf line.site.locations (key v.evse_uid) (key v.connector_id) → ⊥).
-          good (SessionNowhere v h live nowhere)) (λ place.
+      good (SessionNowhere v h live nowhere)) (λ place.
       given (λ (done : v.status ≡ Completed). λ (none : (x : Cdr) × Contains rows (row.Cdr x) × (key x.session_id ≡ key v.id) → ⊥).
       good (Unbilled v h done (λ x i same. none (x, i, same)))) (λ billed.
       refuted (record { made = (n, made); priced = priced; provider = provider; place = place; billed = billed })))))))))

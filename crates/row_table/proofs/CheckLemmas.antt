@@ -62,6 +62,7 @@ pushed done last row id is has above was = record {
     the_row : (r : Row) → Has (row ∷ []) r → r ≡ row
     the_row r (inl same) = same
     the_row r (inr none) = absurd none
+
     apart : (r : Row) → Has done r → column r 0 ≡ column row 0 → ⊥
     apart r old e = not_below id (up_to_above last id id (was.up r id old (e ∙ has)) above)
 

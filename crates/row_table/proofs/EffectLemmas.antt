@@ -23,14 +23,14 @@ pub clears : (old new : State) (kind name : List ℕ) (r : Result ℕ Error) →
 clears old new kind name (Err e) has ended runs = tt
 clears old new kind name (Ok count) has ended runs = elim (cases_Bool old.in_transaction) [
   | inl within ↦
-    let ran = runs within in
-    let it = has ran.1.was_open in
-    let after = deletes old new kind name (Ok count) it.schema it.texts ran.0 in
-    record {
-      shown = ran.1;
-      tables = record { schema = after.schema; texts = subst AreTexts (sym after.rows_are) (are_rest (kind, name) (old.now.trees 1) it.texts) };
-      texts_are = ap texts_in after.rows_are ∙ texts_rest (kind, name) (old.now.trees 1);
-    }
+      let ran = runs within in
+      let it = has ran.1.was_open in
+      let after = deletes old new kind name (Ok count) it.schema it.texts ran.0 in
+      record {
+        shown = ran.1;
+        tables = record { schema = after.schema; texts = subst AreTexts (sym after.rows_are) (are_rest (kind, name) (old.now.trees 1) it.texts) };
+        texts_are = ap texts_in after.rows_are ∙ texts_rest (kind, name) (old.now.trees 1);
+      }
   | inr outside ↦ absurd (let e = (ended outside).1 in cc)
 ]
 
@@ -46,18 +46,18 @@ pub adds : (old new : State) (kind name body : List ℕ) (r : Result ℕ Error) 
 adds old new kind name body (Err e) has none ended runs = tt
 adds old new kind name body (Ok count) has none ended runs = elim (cases_Bool old.in_transaction) [
   | inl within ↦
-    let ran = runs within in
-    let it = has ran.1.was_open in
-    let rows = old.now.trees 1 in
-    let row = text_row (next_rowid rows) kind name body in
-    let after = inserts old new kind name body (Ok count) it.schema ran.0 in
-    let apart = none_there (kind, name) rows (sym (get-from_entries text_pair_total (map entry_in rows) (kind, name)) ∙ none) in
-    let is : IsTextRow row = record { id = next_rowid rows; kind = kind; name = name; body = body; has_id = refl; has_kind = refl; has_name = refl; has_body = refl } in
-    record {
-      shown = ran.1;
-      tables = record { schema = after.0.schema; texts = subst AreTexts (sym after.0.rows_are) (are_put row rows it.texts is after.1) };
-      texts_are = ap texts_in after.0.rows_are ∙ texts_put row rows apart after.1;
-    }
+      let ran = runs within in
+      let it = has ran.1.was_open in
+      let rows = old.now.trees 1 in
+      let row = text_row (next_rowid rows) kind name body in
+      let after = inserts old new kind name body (Ok count) it.schema ran.0 in
+      let apart = none_there (kind, name) rows (sym (get-from_entries text_pair_total (map entry_in rows) (kind, name)) ∙ none) in
+      let is : IsTextRow row = record { id = next_rowid rows; kind = kind; name = name; body = body; has_id = refl; has_kind = refl; has_name = refl; has_body = refl } in
+      record {
+        shown = ran.1;
+        tables = record { schema = after.0.schema; texts = subst AreTexts (sym after.0.rows_are) (are_put row rows it.texts is after.1) };
+        texts_are = ap texts_in after.0.rows_are ∙ texts_put row rows apart after.1;
+      }
   | inr outside ↦ absurd (let e = (ended outside).1 in cc)
 ]
 

@@ -21,9 +21,9 @@ module _ {S : Type 0} (g : Ghosts S) (old last new : Held S) where
       → IsAtRest g (record { conn = new; last = last })
   undone_rest rest idle earlier undone =
       let back = λ (clean : HasCleanDisk (state g new)) (is_open : IsTrue (state g new).is_open).
-          let it = undone clean in
-          let now : (state g new).now ≡ (state g old).now = (it.undone is_open).0 ∙ sym (rest.settled (earlier clean) (it.was_open is_open)) in
-          now in
+      let it = undone clean in
+      let now : (state g new).now ≡ (state g old).now = (it.undone is_open).0 ∙ sym (rest.settled (earlier clean) (it.was_open is_open)) in
+      now in
       record {
         idle = idle;
         tables = λ clean is_open. subst HasTables (sym (back clean is_open)) (rest.tables (earlier clean) ((undone clean).was_open is_open));

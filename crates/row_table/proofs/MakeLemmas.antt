@@ -97,7 +97,7 @@ version_written old new count has h =
     let step = one_step both_tables _ db written.0 (edit_of db layout_table [] Chosen 0 given.0) refl written.1 in
     let news : (edit_of db layout_table [] Chosen 0 given.0).news ≡ (Int (next_rowid (db 0)) ∷ Int (pos 1) ∷ []) ∷ [] = ap (λ all. (edit_of db layout_table [] Chosen 0 all).news) given.1.1 ∙ rw (cast_null, cast_one) refl in
     let rows : new.now.trees 0 ≡ (Int (next_rowid (db 0)) ∷ Int (pos 1) ∷ []) ∷ [] = ap (λ (d : Database). d.trees 0) now ∙ ap (λ (t : Trees). t 0) trees ∙ step.rows ∙ ap (put_all (db 0)) news
-        ∙ ap (λ l. put_all l ((Int (next_rowid (db 0)) ∷ Int (pos 1) ∷ []) ∷ [])) has.no_version in
+    ∙ ap (λ l. put_all l ((Int (next_rowid (db 0)) ∷ Int (pos 1) ∷ []) ∷ [])) has.no_version in
     record {
       schema = ap (λ (d : Database). d.schema) now;
       version = ap (map (λ (r : Row). column r 1)) rows;
@@ -112,9 +112,9 @@ module _ (old new : State) (r : Result ℕ Error) (ended : old.in_transaction �
       go (Err e) is = tt
       go (Ok count) is = elim (cases_Bool old.in_transaction) [
         | inl within ↦
-          let ran = subst (λ x. ExecutesInside 0 layout_text [] old new x) is (runs within) in
-          let made = layout_made old new count has ran.0 in
-          record { shown = ran.1; schema = made.0; none = made.1 }
+            let ran = subst (λ x. ExecutesInside 0 layout_text [] old new x) is (runs within) in
+            let made = layout_made old new count has ran.0 in
+            record { shown = ran.1; schema = made.0; none = made.1 }
         | inr outside ↦ absurd (let e = sym is ∙ (ended outside).1 in cc)
       ]
 
@@ -125,8 +125,8 @@ module _ (old new : State) (r : Result ℕ Error) (ended : old.in_transaction �
       go (Err e) is = tt
       go (Ok count) is = elim (cases_Bool old.in_transaction) [
         | inl within ↦
-          let ran = subst (λ x. ExecutesInside 0 row_text [] old new x) is (runs within) in
-          (ran.1, rows_made old new count has none ran.0)
+            let ran = subst (λ x. ExecutesInside 0 row_text [] old new x) is (runs within) in
+            (ran.1, rows_made old new count has none ran.0)
         | inr outside ↦ absurd (let e = sym is ∙ (ended outside).1 in cc)
       ]
 
@@ -137,7 +137,7 @@ module _ (old new : State) (r : Result ℕ Error) (ended : old.in_transaction �
       go (Err e) is = tt
       go (Ok count) is = elim (cases_Bool old.in_transaction) [
         | inl within ↦
-          let ran = subst (λ x. ExecutesInside 0 layout_insert [] old new x) is (runs within) in
-          (ran.1, version_written old new count has ran.0)
+            let ran = subst (λ x. ExecutesInside 0 layout_insert [] old new x) is (runs within) in
+            (ran.1, version_written old new count has ran.0)
         | inr outside ↦ absurd (let e = sym is ∙ (ended outside).1 in cc)
       ]

@@ -28,7 +28,6 @@ use Rattle.row_table.proofs.StatementLemmas.{every, selects_whole}
 use Rattle.row_table.proofs.ReadLemmas.{answered_open}
 use Rattle.row_table.proofs.CheckLemmas.{are_texts}
 
-
 selects_version : (old new : State) (rows : List Row) → old.now.schema ≡ both_tables → Shown layout_select [] old new rows → IsPermutation (map (λ r. column r 1 ∷ []) (old.now.trees 0)) rows
 selects_version old new rows has h =
     let got = reads_as layout_select [] old new both_tables has _ version_is.0 version_plain version_is.1 rows h in

@@ -49,6 +49,7 @@ found_rest p q (r ∷ rows) =
     gone true b e = refl
     gone false true e = cc
     gone false false e = refl
+
     kept : (a b : Bool) → eq_by_cmp text_pair_cmp q p ≡ a → eq_by_cmp text_pair_cmp q (place_in r) ≡ b → is_at p r ≡ false → cond b (Some (entry_in r).1) (cond a None (found q rows)) ≡ cond a None (cond b (Some (entry_in r).1) (found q rows))
     kept true true ea eb apart =
         let one : q ≡ p = same_place q p ea in
@@ -162,6 +163,7 @@ module _ (new : Row) where
       later : (b : Bool) → (b || is_taken rows new) ≡ false → is_taken rows new ≡ false
       later true e = cc
       later false e = e
+
       swapped : (a b : Bool) → eq_by_cmp text_pair_cmp q (place_in x) ≡ a → eq_by_cmp text_pair_cmp q (place_in new) ≡ b
           → cond a (Some (entry_in x).1) (cond b (Some (entry_in new).1) (found q rows)) ≡ cond b (Some (entry_in new).1) (cond a (Some (entry_in x).1) (found q rows))
       swapped true true ea eb =

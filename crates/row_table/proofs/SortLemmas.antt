@@ -27,9 +27,9 @@ find_in : (q : Place) (es : List Entry) (v : List ℕ) → find text_pair_cmp q 
 find_in q [] v h = absurd (cc)
 find_in q (e ∷ es) v h = elim (is_eq (text_pair_cmp q e.0)) as (λ b. is_eq (text_pair_cmp q e.0) ≡ b → cond b (Some e.1) (find text_pair_cmp q es) ≡ Some v → Has (e ∷ es) (q, v)) [
   | true ↦ λ tied at.
-    let one : q ≡ e.0 = text_pair_exact q e.0 (equal_of_is_eq (text_pair_cmp q e.0) tied) in
-    let text : v ≡ e.1 = cc in
-    inl (λ i. (one i, text i))
+      let one : q ≡ e.0 = text_pair_exact q e.0 (equal_of_is_eq (text_pair_cmp q e.0) tied) in
+      let text : v ≡ e.1 = cc in
+      inl (λ i. (one i, text i))
   | false ↦ λ _ at. inr (find_in q es v at)
 ] refl h
 
@@ -39,9 +39,9 @@ find_there q (e ∷ es) w h none = elim (is_eq (text_pair_cmp q e.0)) as (λ b. 
   | true ↦ λ tied at. cc
   | false ↦ λ apart at. elim h [
     | inl same ↦
-      let tied : is_eq (text_pair_cmp q e.0) ≡ true = subst (λ (z : Place). is_eq (text_pair_cmp q z) ≡ true) (ap (λ (x : Entry). x.0) same) ((eq_by_cmp_equiv text_pair_total).refl q) in
-      let f : true ≡ false = sym tied ∙ apart in
-      cc
+        let tied : is_eq (text_pair_cmp q e.0) ≡ true = subst (λ (z : Place). is_eq (text_pair_cmp q z) ≡ true) (ap (λ (x : Entry). x.0) same) ((eq_by_cmp_equiv text_pair_total).refl q) in
+        let f : true ≡ false = sym tied ∙ apart in
+        cc
     | inr later ↦ find_there q es w later at
   ]
 ] refl none

@@ -109,7 +109,6 @@ both_tied Equal Equal = refl
 both_tied Equal Greater = refl
 both_tied Greater b = refl
 
-
 equal_texts : (s t : List ℕ) → ops.is_true (ops.binary (binary.Compare compare.Eq collation.Binary) (Text s) (Text t)) ≡ is_eq (text_cmp t s)
 unfolding ops.binary value_cmp
 equal_texts s t = tied (value_cmp (Text s) (Text t)) ∙ ap is_eq (value_cmp-Text s t) ∙ (eq_by_cmp_equiv text_total).symm s t
@@ -151,14 +150,14 @@ deleted_ids kind name db rows answer texts =
     let found = found_rowids db (Text kind ∷ Text name ∷ []) rows answer in
     cleared (kind, name) (db 1) (ids_of rows) texts
     (λ id i.
-      let x = has_mapped (λ (x : Row). id_in (rowid x)) rows id i in
-      let r = found.sound x.0 x.1 in
-      let is = texts.each r.0 r.1 in
-      let one : id ≡ is.id = x.2 ∙ ap (λ (y : Row). id_in (rowid y)) r.3 ∙ ap id_in is.has_id in
-      (r.0, r.1, sym (tests_are kind name r.0 is) ∙ r.2, is.has_id ∙ ap Int (sym one)))
+    let x = has_mapped (λ (x : Row). id_in (rowid x)) rows id i in
+    let r = found.sound x.0 x.1 in
+    let is = texts.each r.0 r.1 in
+    let one : id ≡ is.id = x.2 ∙ ap (λ (y : Row). id_in (rowid y)) r.3 ∙ ap id_in is.has_id in
+    (r.0, r.1, sym (tests_are kind name r.0 is) ∙ r.2, is.has_id ∙ ap Int (sym one)))
     (λ r id i at same.
-      let there = found.complete r i (tests_are kind name r (texts.each r i) ∙ at) in
-      subst (Has (ids_of rows)) (ap id_in same) (mapped_has (λ (x : Row). id_in (rowid x)) rows (rowid r ∷ []) there))
+    let there = found.complete r i (tests_are kind name r (texts.each r i) ∙ at) in
+    subst (Has (ids_of rows)) (ap id_in same) (mapped_has (λ (x : Row). id_in (rowid x)) rows (rowid r ∷ []) there))
 
 -- the tables stay, and the rows are these
 pub record HasRows (db : Database) (rows : List Row) : Type 0 where
@@ -203,16 +202,18 @@ inserts old new kind name body (Ok count) has h =
     let counted = went written.2 in
     let trees : done.0.trees ≡ written.0 = ap (λ (it : Written). it.trees) (same_value counted.2) ∙ same_value counted.1 in
     let step = one_step both_tables _ db written.0 (edit_of db row_table [] Chosen 0 given.0) refl written.1 in
-    let news : (edit_of db row_table [] Chosen 0 given.0).news ≡ text_row (next_rowid (db 1)) kind name body ∷ [] = ap (λ all. (edit_of db row_table [] Chosen 0 all).news) given.1.1 ∙ rw cast_null refl in
-    (record {
+    let news : (edit_of db row_table [] Chosen 0 given.0).news ≡ text_row (next_rowid (db 1)) kind name body ∷ [] = ap (λ all. (edit_of db row_table [] Chosen 0 all).news) given.1.1 ∙ rw cast_null refl in (
+      record {
         schema = ap (λ (d : Database). d.schema) now;
         rows_are = ap (λ (d : Database). d.trees 1) now ∙ ap (λ (t : Trees). t 1) trees ∙ step.rows ∙ ap (put_all (db 1)) news;
       },
-      front_fresh (db 1) (text_row (next_rowid (db 1)) kind name body) (subst (λ (l : List Row). are_fresh (db 1) l ≡ true) news step.fresh))
+      front_fresh (db 1) (text_row (next_rowid (db 1)) kind name body) (subst (λ (l : List Row). are_fresh (db 1) l ≡ true) news step.fresh),
+    )
   where
     turned : (a b : Bool) → (not a && b) ≡ true → a ≡ false
     turned true b e = cc
     turned false b e = refl
+
     front_fresh : (rows : List Row) (row : Row) → are_fresh rows (row ∷ []) ≡ true → is_taken rows row ≡ false
     front_fresh rows row e = turned (is_taken rows row) _ e
 

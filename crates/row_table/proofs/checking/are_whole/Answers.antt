@@ -9,7 +9,7 @@ loop-row-preserved c =
     let id = c.in_ok-id.id in
     let fits : SFits w64 id = search rules in
     simp (to_z-of_z, fits) (one_checked c.args.rows.now at.row-index at.last c.row-item.result id c.loop-row-test.true c.row-item.is c.in_ok-id.ensures.whole c.in_ok-id.ensures.id
-      (simp (to_z-of_z, fits) at (c.if-not-is_above.ensures refl)) at.invariant)
+    (simp (to_z-of_z, fits) at (c.if-not-is_above.ensures refl)) at.invariant)
 
 pub returns : goal.returns
 returns c _ =

@@ -31,8 +31,8 @@ returns-clause-crash g c =
     let P = λ (trees : Trees). HadTables (state g.S.Store old) → c.args.edits.now ≢ [] → IsTrue (state g.S.Store old).is_open × (texts_of trees ≡ set_all (texts_of (state g.S.Store old).now.trees) c.args.edits.now) in
     let whole = survives_then (state g.S.Store old) (state g.S.Store last) (state g.S.Store end) _ _ P (λ _ db none. absurd none)
     (λ clean db is has some.
-      let made = rw begun at (c.in_ok-make_all.ensures.made (omega (arith, c.commit.ensures.survives.clean))) in
-      ((made has some).shown.was_open, ap texts_of is ∙ (made has some).texts_are))
+    let made = rw begun at (c.in_ok-make_all.ensures.made (omega (arith, c.commit.ensures.survives.clean))) in
+    ((made has some).shown.was_open, ap texts_of is ∙ (made has some).texts_are))
     (survives_begin g.S.Store old (state g.S.Store last) _ (rw begun at c.make_all.ensures.survives)) c.commit.ensures.survives in
     let same : end ≡ c.conn-2-1.given.0 = search rules in
     subst (λ h. Survives (state g.S.Store old) (state g.S.Store h) P) same whole
