@@ -134,7 +134,8 @@ counted_may s counter.Cdr last known given next =
     }
 counted_may s counter.Reference last known given next = absurd (known refl)
 
-pub count_tells : (s : State) (c : Counter) (last value : ℕ) → ComesNext s (row.Count c last) → c ≢ counter.Reference → value ≡ last → Tells (not (nat_eq value 0)) s (row.Count c last)
+pub count_tells : (s : State) (c : Counter) (last value : ℕ) → ComesNext s (row.Count c last) → c ≢ counter.Reference → value ≡ last →
+    Tells (not (nat_eq value 0)) s (row.Count c last)
 count_tells s c last value next known same =
     tells (not (nat_eq value 0)) s (row.Count c last)
     (λ h. counted_may s c last known (subst (λ (n : ℕ). n ≢ 0) same (is_other value h)) next)
@@ -155,7 +156,8 @@ module _ (s : State) (n : ℕ) (to : List ℕ) (push : Push) where
     above = λ last h. let is = count_of s (row.Push n to push) line rows p counter.Request last (omega arith) h in let same : s.rows.request ≡ last = is.0 in omega arith;
   })
 
-  pub push_may : HasPeer s.providers (key to) → n ≤ s.rows.request → ((u : Subject) (q : ℕ) → subject to push ≡ Some u → IsAbout s.rows.pushes u q → ⊥) →
+  pub push_may : HasPeer s.providers (key to) → n ≤ s.rows.request →
+      ((u : Subject) (q : ℕ) → subject to push ≡ Some u → IsAbout s.rows.pushes u q → ⊥) →
       MayAdd s (row.Push n to push)
   push_may peer given alone = record {
     may = record { peer = peer; outbox = record { counted = given; apart = get-empty nat_cmp n; alone = λ u q is h. absurd (alone u q is h) } };

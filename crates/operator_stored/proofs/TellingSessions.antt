@@ -91,7 +91,8 @@ module _ (s : State) (v : Session) where
 
   pub session_nowhere : IsLive v.status → ¬ IsConnectorOf s.site.locations (key v.evse_uid) (key v.connector_id) → ShowsBad s (row.Session v)
   session_nowhere live not line rows h =
-      SessionNowhere v h.here live (λ e. not (subst (λ (z : Site). IsConnectorOf z.locations (key v.evse_uid) (key v.connector_id)) (sym (site_of s (row.Session v) line rows h)) e))
+      SessionNowhere v h.here live (λ e. not (subst (λ (z : Site). IsConnectorOf z.locations (key v.evse_uid) (key v.connector_id))
+      (sym (site_of s (row.Session v) line rows h)) e))
 
   pub stuck : (price : ℤ) → price ≡ s.site.price → CannotResume price v → ShowsBad s (row.Session v)
   stuck price same cannot line rows h = Stuck v h.here (subst (λ (z : ℤ). CannotResume z v) (same ∙ ap (λ (z : Site). z.price) (site_of s (row.Session v) line rows h)) cannot)

@@ -7,7 +7,8 @@ pub returns-in-Count : goal.returns-in-Count
 returns-in-Count c = tells_as c.may_count.result c.args.books.now.state c.args.row.now (row.Count c.in-Count.counter c.in-Count.last) c.in-Count.is c.may_count.ensures
 
 pub returns-in-Token : goal.returns-in-Token
-returns-in-Token c = tells_as c.may_know.result c.args.books.now.state c.args.row.now (row.Token c.deref.result.now) (c.in-Token.is ∙ ap (λ t. row.Token t) (sym c.deref.ensures)) c.may_know.ensures
+returns-in-Token c = tells_as c.may_know.result c.args.books.now.state c.args.row.now (row.Token c.deref.result.now)
+    (c.in-Token.is ∙ ap (λ t. row.Token t) (sym c.deref.ensures)) c.may_know.ensures
 
 pub returns-in-Push : goal.returns-in-Push
 returns-in-Push c = tells_as c.may_push.result c.args.books.now.state c.args.row.now (row.Push c.in-Push.number c.in-Push.to c.in-Push.push) c.in-Push.is c.may_push.ensures

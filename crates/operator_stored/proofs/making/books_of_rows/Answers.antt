@@ -30,12 +30,14 @@ returns-in_err-put_all-clause-good c = λ s consistent again.
 pub returns-clause-made : goal.returns-clause-made
 returns-clause-made c =
     let bills = subst AreBillsOf c.as_slice.ensures.value (if_true _ _ c.in_ok-are_billed.field-0 c.in_ok-are_billed.ensures c.if-not-branch.false) in
-    let put = put_in_other_order c.args.line c.args.rows.items c.in_turn.result.items c.put_all.new.books.state c.in_turn.ensures.same (c.in_ok-put_all.ensures.put c.args.line c.in_ok-books.ensures) in
+    let put = put_in_other_order c.args.line c.args.rows.items c.in_turn.result.items c.put_all.new.books.state c.in_turn.ensures.same
+    (c.in_ok-put_all.ensures.put c.args.line c.in_ok-books.ensures) in
     made_of c.args.line c.args.rows.items c.put_all.new.books.state c.consistency.ensures.sound put bills
 
 pub returns-clause-again : goal.returns-clause-again
 returns-clause-again c = λ s consistent again.
     let bills = subst AreBillsOf c.as_slice.ensures.value (if_true _ _ c.in_ok-are_billed.field-0 c.in_ok-are_billed.ensures c.if-not-branch.false) in
-    let put = put_in_other_order c.args.line c.args.rows.items c.in_turn.result.items c.put_all.new.books.state c.in_turn.ensures.same (c.in_ok-put_all.ensures.put c.args.line c.in_ok-books.ensures) in
+    let put = put_in_other_order c.args.line c.args.rows.items c.in_turn.result.items c.put_all.new.books.state c.in_turn.ensures.same
+    (c.in_ok-put_all.ensures.put c.args.line c.in_ok-books.ensures) in
     same_again c.args.line c.args.rows.items s c.put_all.new.books.state consistent again c.consistency.ensures.sound
     (made_of c.args.line c.args.rows.items c.put_all.new.books.state c.consistency.ensures.sound put bills)

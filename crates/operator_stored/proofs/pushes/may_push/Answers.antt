@@ -11,6 +11,7 @@ pub returns-then-gt : goal.returns-then-gt
 returns-then-gt c = push_not_given c.args.books.now.state c.args.number c.args.to.now c.args.push.now (above c.args.number _ _ c.if-gt.ensures c.last_request.ensures)
 
 pub returns : goal.returns
-returns c = push_tells c.args.books.now.state c.args.number c.args.to.now c.args.push.now c.requires c.is_none.result c.replaced.result c.outbox.result.now.rows c.outbox.ensures.rows
+returns c = push_tells c.args.books.now.state c.args.number c.args.to.now c.args.push.now c.requires c.is_none.result c.replaced.result
+    c.outbox.result.now.rows c.outbox.ensures.rows
     (subst (λ (k : List ℕ). HasPeer c.args.books.now.state.providers k) c.key.ensures c.if-not-is_provider.ensures)
     (up_to c.args.number _ _ c.if-gt.ensures c.last_request.ensures) c.replaced.ensures c.is_none.ensures

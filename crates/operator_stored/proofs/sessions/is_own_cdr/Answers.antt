@@ -17,7 +17,8 @@ returns-in-Some c =
     let s = c.args.books.now.state in
     let v = c.args.cdr.now in
     let made = subst (λ (id : List ℕ). IsOwnId own.Cdr s.party id c.in-Some.number) c.as_str.ensures.value c.in-Some.ensures.made in
-    let sole = subst (λ (id : List ℕ). (m : ℕ) → m ≤ max_whole → key (own_id_text own.Cdr s.party m) ≡ key id → m ≡ c.in-Some.number) c.as_str.ensures.value c.in-Some.ensures.sole in
+    let sole = subst (λ (id : List ℕ). (m : ℕ) → m ≤ max_whole → key (own_id_text own.Cdr s.party m) ≡ key id → m ≡ c.in-Some.number)
+    c.as_str.ensures.value c.in-Some.ensures.sole in
     own_cdr s v c.le.result c.in-Some.number c.last_cdr.result c.le.ensures (c.last_cdr.ensures ∙ ap (λ (r : Rows). r.last_cdr) c.charged.ensures)
     (c.is_same.ensures.0 c.if-not-is_same.false ∙ ap key c.party.ensures) made sole
 

@@ -17,7 +17,8 @@ returns-in-Some c =
     let s = c.args.books.now.state in
     let v = c.args.session.now in
     let made = subst (λ (id : List ℕ). IsOwnId own.Session s.party id c.in-Some.number) c.as_str.ensures.value c.in-Some.ensures.made in
-    let sole = subst (λ (id : List ℕ). (m : ℕ) → m ≤ max_whole → key (own_id_text own.Session s.party m) ≡ key id → m ≡ c.in-Some.number) c.as_str.ensures.value c.in-Some.ensures.sole in
+    let sole = subst (λ (id : List ℕ). (m : ℕ) → m ≤ max_whole → key (own_id_text own.Session s.party m) ≡ key id → m ≡ c.in-Some.number)
+    c.as_str.ensures.value c.in-Some.ensures.sole in
     own_session s v c.le.result c.in-Some.number c.last_session.result c.le.ensures (c.last_session.ensures ∙ ap (λ (r : Rows). r.last_session) c.charged.ensures)
     (c.is_same.ensures.0 c.if-not-is_same.false ∙ ap key c.party.ensures) made sole
 

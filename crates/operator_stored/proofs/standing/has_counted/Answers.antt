@@ -12,7 +12,8 @@ returns-in-Serial c = let s = c.args.books.now.state in
 pub returns-in-Request : goal.returns-in-Request
 returns-in-Request c = let s = c.args.books.now.state in
     by_row _ s (row.Count c.args.counter c.args.last) (row.Count counter.Request c.args.last) (ap (λ k. row.Count k c.args.last) c.in-Request.is)
-    (told_number s counter.Request c.args.last s.rows.request c.value-in-Request.result (c.value-in-Request.ensures.value ∙ c.last_request.ensures) (λ h. (refl, h)) (λ n h e. h.1 (sym h.0 ∙ e)))
+    (told_number s counter.Request c.args.last s.rows.request c.value-in-Request.result (c.value-in-Request.ensures.value ∙ c.last_request.ensures)
+    (λ h. (refl, h)) (λ n h e. h.1 (sym h.0 ∙ e)))
 
 pub returns-in-Session : goal.returns-in-Session
 returns-in-Session c = let s = c.args.books.now.state in

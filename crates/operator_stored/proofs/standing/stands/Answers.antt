@@ -36,7 +36,8 @@ returns-in-Mark c = let s = c.args.books.now.state in let at = c.in-Mark in
 pub returns-in-Reservation : goal.returns-in-Reservation
 returns-in-Reservation c = let s = c.args.books.now.state in let at = c.in-Reservation in
     by_row _ s c.args.row.now (row.Reservation at.provider at.reservation_id at.reservation) at.is
-    (told_by c.is_some-in-Reservation.result (get s.rows.booked.reservations (at.provider, at.reservation_id)) s (row.Reservation at.provider at.reservation_id at.reservation) c.requires
+    (told_by c.is_some-in-Reservation.result (get s.rows.booked.reservations (at.provider, at.reservation_id))
+    s (row.Reservation at.provider at.reservation_id at.reservation) c.requires
     (c.is_some-in-Reservation.ensures ∙ ap is_some (c.standing.ensures ∙ ap (λ r. get r.reservations (at.provider, at.reservation_id)) c.booked-in-Reservation.ensures))
     (λ x h. (x, h)) (λ u. u))
 
