@@ -1,16 +1,37 @@
 //! Books that are made of rows.
 
-ghost use Rattle.std.specs.Prelude.{◌≡◌, IfErr, IfOk};
+ghost use Rattle.std.specs.Prelude.{◌≡◌, IfErr, IfOk, OnOk, List, ℕ, Contains};
+ghost use Rattle.std.specs.List.Sorted.{IsNonDecreasingBy, IsPermutation};
+ghost use Rattle.ocpi_types.specs.declared.rows.Row.{Row};
+ghost use Rattle.ocpi_types.specs.declared.site.SiteLine.{SiteLine};
 ghost use Rattle.operator_rows.specs.Sound.{IsConsistent};
-ghost use Rattle.operator_rows.specs.State.{State};
+ghost use Rattle.operator_rows.specs.State.{State, opening};
 ghost use Rattle.operator_rows.specs.Steps.{restarted};
 ghost use Rattle.operator_stored.specs.Bad.{IsBad};
+ghost use Rattle.operator_stored.specs.Bills.{AreBillsOf};
 ghost use Rattle.operator_stored.specs.Making.{IsMadeOf, StartsAgain};
+ghost use Rattle.operator_stored.specs.Placing.{ArePut};
+ghost use Rattle.stored_rows.specs.Turns.{turn_of};
 
+use crate::adding::add_row;
+use crate::bills::are_billed;
 use ocpi_types::{Row, SiteLine};
 use operator_rows::Books;
 use std::alloc::Global;
-use stored_rows::RowsFault;
+use stored_rows::{RowsFault, in_turn};
+
+/// Puts rows that come in turn, one by one, each where it may be. Where one may not the rows are bad, and it is refused.
+fn put_all(books: &mut Books, rows: Vec<Row>) -> Result<(), RowsFault>
+    requires sorted { IsNonDecreasingBy turn_of rows.items }
+    ensures put { (line : SiteLine) → books.old.state ≡ opening line → OnOk result (ArePut line rows.items books.new.state) }
+    ensures bad { (line : SiteLine) (all : List Row) → books.old.state ≡ opening line → IsPermutation all rows.items → IfErr result (λ e. e ≡ RowsFault.BadRows → IsBad line all) }
+{
+    for row in rows {
+        books.consistency();
+        add_row(books, row)?;
+    }
+    Ok(())
+}
 
 /// The books of an operator of a site that has just these rows, in whatever order they come: each push is due at once, and no
 /// authorization is awaited. So of all that an operator stored the very same books are made, as it starts again. Refused (`BadRows`)
@@ -21,5 +42,11 @@ pub fn books_of_rows(alloc: Global, line: SiteLine, rows: Vec<Row>) -> Result<Bo
     ensures again { (s : State) → IsConsistent s → StartsAgain line rows.items s → IfOk result (λ b. b.state ≡ restarted s) }
     ensures good { (s : State) → IsConsistent s → StartsAgain line rows.items s → IfErr result (λ e. e ≡ RowsFault.Memory) }
 {
-    Err(RowsFault::Memory)
+    let billed = are_billed(alloc, rows.as_slice())?;
+    let mut books = Books::new(alloc, line)?;
+    put_all(&mut books, in_turn(rows))?;
+    if !billed {
+        return Err(RowsFault::BadRows);
+    }
+    Ok(books)
 }

@@ -1,0 +1,117 @@
+-- The operator that is made of rows, once they are put and their bills are seen to be right.
+use Rattle.std.proofs.Common.{◌≡◌, ℕ, List, inl, inr, refl, sym, ap, subst, ◌∙◌}
+use Rattle.std.specs.Prelude.{Some, Contains, slice_get}
+use Rattle.std.specs.FinMap.{get}
+use Rattle.std.specs.List.Sorted.{IsPermutation}
+use Rattle.std.proofs.lemmas.List.Sorted.{Contains-permutation, IsPermutation-sym}
+use Rattle.std.proofs.lemmas.Option.{slice_get_within, get_or_from_slice_get}
+use Rattle.ocpi_text.specs.Text.{key}
+use Rattle.tables.specs.Keys.{text_total, text_exact}
+use Rattle.tables.proofs.Maps.{told}
+use Rattle.ocpi_types.specs.declared.cdrs.Cdr.{Cdr}
+use Rattle.ocpi_types.specs.declared.sessions.Session.{Session}
+use Rattle.ocpi_types.specs.declared.site.SiteLine.{SiteLine}
+use Rattle.ocpi_types.specs.declared.rows.Row.{Row}
+use Rattle.ocpi_types.specs.declared.rows.Row.TheVariants as row
+use Rattle.ocpi_types.specs.declared.rows.RowKey.TheVariants as keys
+use Rattle.stored_rows.specs.declared.fault.RowsFault.{RowsFault}
+use Rattle.stored_rows.specs.declared.fault.RowsFault.TheVariants.{BadRows, Memory}
+use Rattle.stored_rows.proofs.Repeated.{apart_permuted}
+use Rattle.operator_rows.specs.Rows.{AreRowsOf}
+use Rattle.operator_rows.specs.Sound.{IsConsistent, IsSound}
+use Rattle.operator_rows.specs.State.{State}
+use Rattle.operator_rows.specs.Steps.{restarted}
+use Rattle.operator_stored.specs.Bad.{IsBad, BilledEarly, BilledTwice, CdrOfOther, Repeated, Unbilled}
+use Rattle.operator_stored.specs.Bills.{AreBillsOf, BillsTwice, IsMisbilled, Early, Never, Twice}
+use Rattle.operator_stored.specs.Making.{IsMadeOf, StartsAgain}
+use Rattle.operator_stored.specs.Placing.{ArePut}
+use Rattle.operator_stored.specs.Whole.{AreBilled, IsWhole}
+use Rattle.operator_stored.proofs.BadRows.{make_again}
+
+-- an element at a place is one of the list
+pub at_place : {X : Type 0} (xs : List X) (k : ℕ) (x : X) → slice_get xs k ≡ Some x → Contains xs x
+at_place xs k x is = (k, slice_get_within xs k x is, get_or_from_slice_get xs k x x is)
+
+-- two charge detail records of one session are bad rows: they are two of one key, or one is of another operator, or their ids differ
+billed_twice : (line : SiteLine) (rows : List Row) → BillsTwice rows → IsBad line rows
+billed_twice line rows t =
+    let first : Contains rows (row.Cdr t.one) = at_place rows t.first (row.Cdr t.one) t.one_is in
+    let second : Contains rows (row.Cdr t.other) = at_place rows t.second (row.Cdr t.other) t.other_is in
+    elim (told text_total text_exact (key t.one.id) (key t.other.id)) [
+      | inr apart ↦ BilledTwice t.one t.other first second apart t.same
+      | inl same ↦ elim (told text_total text_exact (key t.one.party) (key line.parties.operator)) [
+        | inr other ↦ CdrOfOther t.one first other
+        | inl own ↦ elim (told text_total text_exact (key t.other.party) (key line.parties.operator)) [
+          | inr other ↦ CdrOfOther t.other second other
+          | inl also ↦ Repeated (record {
+            first = t.first;
+            second = t.second;
+            one = row.Cdr t.one;
+            other = row.Cdr t.other;
+            apart = t.apart;
+            one_is = t.one_is;
+            other_is = t.other_is;
+            same = λ i. keys.Cdr ((own ∙ sym also) i) (same i);
+          })
+        ]
+      ]
+    ]
+
+-- rows that are billed wrongly are bad
+pub misbilled_is_bad : (line : SiteLine) (rows : List Row) → IsMisbilled rows → IsBad line rows
+misbilled_is_bad line rows (Twice t) = billed_twice line rows t
+misbilled_is_bad line rows (Early x h none) = BilledEarly x h (λ v i same done. none (v, i, same, done))
+misbilled_is_bad line rows (Never v h done none) = Unbilled v h done (λ x i same. none (x, i, same))
+
+module _ (line : SiteLine) (rows : List Row) (s : State) (sound : IsSound s) (put : ArePut line rows s) where
+  session_row : (id : List ℕ) (v : Session) → get s.rows.charged.sessions id ≡ Some v → get s.rows.charged.sessions (key v.id) ≡ Some v
+  session_row id v has = subst (λ k. get s.rows.charged.sessions k ≡ Some v) (sound.charged_keyed.sessions id v has) has
+
+  cdr_row : (id : List ℕ) (x : Cdr) → get s.rows.charged.cdrs id ≡ Some x → get s.rows.charged.cdrs (key x.id) ≡ Some x
+  cdr_row id x has = subst (λ k. get s.rows.charged.cdrs k ≡ Some x) (sound.charged_keyed.cdrs id x has) has
+
+  pub billed_of : AreBillsOf rows → AreBilled s.rows
+  billed_of bills = record {
+    each = λ id v has done.
+        let bill = bills.each v ((put.has_rows.exact (row.Session v)).1 (session_row id v has)) done in
+        (bill.0, (put.has_rows.exact (row.Cdr bill.0)).0 bill.1, bill.2);
+    only = λ id x has.
+        let ended = bills.only x ((put.has_rows.exact (row.Cdr x)).1 (cdr_row id x has)) in
+        (ended.0, subst (λ k. get s.rows.charged.sessions k ≡ Some ended.0) ended.2 ((put.has_rows.exact (row.Session ended.0)).0 ended.1), ended.3);
+    once = λ i j x y hx hy same.
+        let is : x ≡ y = bills.once x y ((put.has_rows.exact (row.Cdr x)).1 (cdr_row i x hx)) ((put.has_rows.exact (row.Cdr y)).1 (cdr_row j y hy)) same in
+        sound.charged_keyed.cdrs i x hx ∙ ap (λ (z : Cdr). key z.id) is ∙ sym (sound.charged_keyed.cdrs j y hy);
+  }
+
+  pub whole_of : AreBillsOf rows → IsWhole s
+  whole_of bills = record {
+    sessions = λ id v has. (put.fit (row.Session v) (session_row id v has)).0;
+    resumable = λ id v has. (put.fit (row.Session v) (session_row id v has)).1;
+    cdrs = λ id x has. put.fit (row.Cdr x) (cdr_row id x has);
+    billed = billed_of bills;
+  }
+
+  pub made_of : AreBillsOf rows → IsMadeOf line rows s
+  made_of bills = record { of_site = put.of_site; has_rows = put.has_rows; whole = whole_of bills }
+
+-- the order of the rows does not matter
+pub rows_in_other_order : (xs ys : List Row) (s : State) → IsPermutation xs ys → AreRowsOf ys s.rows → AreRowsOf xs s.rows
+rows_in_other_order xs ys s h are = record {
+  exact = λ r. (
+    λ i. (are.exact r).0 (Contains-permutation xs ys r h i),
+    λ i. Contains-permutation ys xs r (IsPermutation-sym xs ys h) ((are.exact r).1 i),
+  );
+  apart = apart_permuted xs ys h are.apart;
+}
+
+pub put_in_other_order : (line : SiteLine) (xs ys : List Row) (s : State) → IsPermutation xs ys → ArePut line ys s → ArePut line xs s
+put_in_other_order line xs ys s h put = record { of_site = put.of_site; has_rows = rows_in_other_order xs ys s h put.has_rows; fit = put.fit }
+
+-- what an operator starts again as is all that is made of its rows
+pub same_again : (line : SiteLine) (rows : List Row) (s t : State) → IsConsistent s → StartsAgain line rows s → IsSound t → IsMadeOf line rows t → t ≡ restarted s
+same_again line rows s t consistent again sound made = (make_again line rows s consistent again).same t sound made
+
+-- and a refusal of its rows is want of memory
+pub only_memory : (line : SiteLine) (rows : List Row) (s : State) (e : RowsFault) → IsConsistent s → StartsAgain line rows s → (e ≡ BadRows → IsBad line rows) → e ≡ Memory
+only_memory line rows s BadRows consistent again bad = absurd ((make_again line rows s consistent again).good (bad refl))
+only_memory line rows s Memory consistent again bad = refl

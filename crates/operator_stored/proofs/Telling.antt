@@ -1,0 +1,286 @@
+-- What tells that a row may be put, and what that the rows are bad.
+use Rattle.std.proofs.Common.{◌≡◌, ◌≢◌, ℕ, ◌≤◌, ◌<◌, zero, suc, List, Bool, true, false, not, true≢false, is_gt, nat_eq, MatchBool, ◌⊎◌, inl, inr, refl, sym, ap, subst, ◌∙◌, arith}
+use Rattle.std.specs.Prelude.{Option, Some, None, IsTrue, is_some, Contains}
+use Rattle.std.specs.FinMap.{get, contains_key, get-empty}
+use Rattle.std.specs.Ordering.{nat_cmp}
+use Rattle.ocpi_text.specs.Text.{key}
+use Rattle.ocpi_text.specs.Whole.{max_whole}
+use Rattle.ocpi_text.specs.declared.own_ids.OwnIdKind.TheVariants as own
+use Rattle.ocpi_types.specs.Rows.{key_of}
+use Rattle.ocpi_types.specs.declared.cdrs.Cdr.{Cdr}
+use Rattle.ocpi_types.specs.declared.sessions.Session.{Session}
+use Rattle.ocpi_types.specs.declared.token.Token.{Token}
+use Rattle.ocpi_types.specs.declared.stored.OpenCommand.{OpenCommand}
+use Rattle.ocpi_types.specs.declared.stored.Push.{Push}
+use Rattle.ocpi_types.specs.declared.stored.Reply.{Reply}
+use Rattle.ocpi_types.specs.declared.stored.Reservation.{Reservation}
+use Rattle.ocpi_types.specs.declared.stored.SentCommand.{SentCommand}
+use Rattle.ocpi_types.specs.declared.words.CommandResultType.{CommandResultType}
+use Rattle.ocpi_types.specs.declared.rows.Counter.{Counter}
+use Rattle.ocpi_types.specs.declared.rows.Counter.TheVariants as counter
+use Rattle.ocpi_types.specs.declared.rows.Row.{Row}
+use Rattle.ocpi_types.specs.declared.rows.Row.TheVariants as row
+use Rattle.ocpi_types.specs.declared.rows.RowKey.TheVariants as keys
+use Rattle.ocpi_types.specs.declared.site.Site.{Site}
+use Rattle.ocpi_types.specs.declared.site.SiteLine.{SiteLine}
+use Rattle.std.proofs.lemmas.Bool.Decides.{nat_tests}
+use Rattle.outbox.specs.Outbox.{OutboxRows}
+use Rattle.outbox.proofs.Timing.{has_none}
+use Rattle.outbox.specs.Pushes.{IsAbout, IsReplaced, subject}
+use Rattle.outbox.specs.declared.push_book.Outgoing.{Outgoing}
+use Rattle.outbox.specs.declared.push_book.Subject.{Subject}
+use Rattle.node_steps.specs.Peers.{HasPeer}
+use Rattle.site_book.specs.Sites.{Claims, IsConnectorOf, IsEvse, IsSiteOf}
+use Rattle.site_book.specs.declared.claim.Claim.{Claim}
+use Rattle.site_book.specs.declared.claim.Claim.TheVariants.{OpenStart, Live, Reserved}
+use Rattle.stored_rows.specs.Given.{IsNotGiven, IsOwnId}
+use Rattle.stored_rows.specs.Turns.{turn_of}
+use Rattle.tables.proofs.Options.{none_some, not_both, known, none_else}
+use Rattle.operator_rows.specs.Rows.{HasCount, HasRow}
+use Rattle.operator_rows.specs.Sound.{HasPlace, IsOwnStart, IsSound, MayClaim, with_rows}
+use Rattle.operator_rows.specs.State.{HasClaim, IsFree, IsStart, State, Rows, Takes, as_outbox, opening}
+use Rattle.operator_rows.specs.Claimed.{IsIndexed}
+use Rattle.operator_stored.proofs.StandingRows.{is_other, is_zero, some_of, zero_or_not}
+use Rattle.operator_stored.specs.Bad.{IsBad, MakesClaim}
+use Rattle.operator_stored.specs.Bad.{Foreign, NothingCounted, PushNotGiven, PushToStranger, TokenOfStranger, CommandOfStranger, StartOfOtherToken, ServiceNowhere, ReservationNowhere, StartNowhere, ClaimedTwice, OpenUnanswered, ResultUnanswered, OpenWithResult, PushedTwice}
+use Rattle.operator_stored.specs.Placing.{ComesNext, IsPlaced, MayAdd, ShowsBad, Tells}
+
+-- the answer, told by cases
+pub tells : (b : Bool) (s : State) (r : Row) → (b ≡ true → MayAdd s r) → (b ≡ false → ShowsBad s r) → Tells b s r
+tells true s r may not = may refl
+tells false s r may not = not refl
+
+pub tells_by : {P Q : Type 0} (b : Bool) (s : State) (r : Row) → MatchBool b P Q → (P → MayAdd s r) → (Q → ShowsBad s r) → Tells b s r
+tells_by true s r h may not = may h
+tells_by false s r h may not = not h
+
+module _ (s : State) (r : Row) (line : SiteLine) (rows : List Row) (p : IsPlaced line rows s r) where
+  pub party_of : s.party ≡ line.parties.operator
+  party_of = ap (λ (t : State). t.party) p.of_site
+
+  pub providers_of : s.providers ≡ line.parties.providers
+  providers_of = ap (λ (t : State). t.providers) p.of_site
+
+  pub site_of : s.site ≡ line.site
+  site_of = ap (λ (t : State). t.site) p.of_site
+
+  pub stranger : (party : List ℕ) → ¬ HasPeer s.providers party → ¬ HasPeer line.parties.providers party
+  stranger party not h = not (subst (λ (z : List (List ℕ)). HasPeer z party) (sym providers_of) h)
+
+  -- what a counter gave last is what its row says
+  pub count_of : (c : Counter) (n : ℕ) → 0 < turn_of r → Contains rows (row.Count c n) → HasCount s.rows c n
+  count_of c n later h = p.earlier (row.Count c n) h later
+
+-- ---- counters
+pub no_reference : (s : State) (n : ℕ) → ShowsBad s (row.Count counter.Reference n)
+no_reference s n line rows p = Foreign (row.Count counter.Reference n) p.here tt
+
+pub nothing_counted : (s : State) (c : Counter) (n : ℕ) → n ≡ 0 → ShowsBad s (row.Count c n)
+nothing_counted s c n none line rows p = NothingCounted c (subst (λ (m : ℕ). Contains rows (row.Count c m)) none p.here)
+
+module _ (s : State) (c : Counter) (last : ℕ) (next : ComesNext s (row.Count c last)) where
+  no_push : (n : ℕ) → IsTrue (contains_key s.rows.pushes n) → ⊥
+  no_push n h =
+      let x = some_of (get s.rows.pushes n) h in
+      let late : 2 ≤ 0 = next.in_turn.no_later (row.Push n x.0.to x.0.push) x.1 in
+      absurd (omega arith)
+
+  no_session : (id : List ℕ) → IsTrue (contains_key s.rows.charged.sessions id) → ⊥
+  no_session id h =
+      let x = some_of (get s.rows.charged.sessions id) h in
+      let same = next.in_turn.sound.charged_keyed.sessions id x.0 x.1 in
+      let late : 2 ≤ 0 = next.in_turn.no_later (row.Session x.0) (subst (λ k. get s.rows.charged.sessions k ≡ Some x.0) same x.1) in
+      absurd (omega arith)
+
+  no_cdr : (id : List ℕ) → IsTrue (contains_key s.rows.charged.cdrs id) → ⊥
+  no_cdr id h =
+      let x = some_of (get s.rows.charged.cdrs id) h in
+      let same = next.in_turn.sound.charged_keyed.cdrs id x.0 x.1 in
+      let late : 2 ≤ 0 = next.in_turn.no_later (row.Cdr x.0) (subst (λ k. get s.rows.charged.cdrs k ≡ Some x.0) same x.1) in
+      absurd (omega arith)
+
+no_request : (s : State) (last : ℕ) → ComesNext s (row.Count counter.Request last) → s.rows.request ≡ 0
+no_request s last next = elim (zero_or_not s.rows.request) [
+  | inl none ↦ none
+  | inr some ↦ absurd (next.is_new (row.Count counter.Request s.rows.request) (refl, some) refl)
+]
+
+pub counted_may : (s : State) (c : Counter) (last : ℕ) → c ≢ counter.Reference → last ≢ 0 → ComesNext s (row.Count c last) → MayAdd s (row.Count c last)
+counted_may s counter.Serial last known given next = record { may = given; fit = tt }
+counted_may s counter.Request last known given next =
+    let none : s.rows.request ≡ 0 = no_request s last next in
+    record {
+      may = record {
+        given = given;
+        up_to = record {
+          pushes = λ n h. absurd (no_push s counter.Request last next n h);
+          commands = λ n h. absurd (has_none _ nat_cmp n h);
+        };
+        grows = omega arith;
+      };
+      fit = tt;
+    }
+counted_may s counter.Session last known given next =
+    record {
+      may = record {
+        given = given;
+        numbered = record {
+          sessions = λ n fits h. absurd (no_session s counter.Session last next _ h);
+          cdrs = next.in_turn.sound.numbered.cdrs;
+        };
+      };
+      fit = tt;
+    }
+counted_may s counter.Cdr last known given next =
+    record {
+      may = record {
+        given = given;
+        numbered = record {
+          sessions = next.in_turn.sound.numbered.sessions;
+          cdrs = λ n fits h. absurd (no_cdr s counter.Cdr last next _ h);
+        };
+      };
+      fit = tt;
+    }
+counted_may s counter.Reference last known given next = absurd (known refl)
+
+pub count_tells : (s : State) (c : Counter) (last value : ℕ) → ComesNext s (row.Count c last) → c ≢ counter.Reference → value ≡ last → Tells (not (nat_eq value 0)) s (row.Count c last)
+count_tells s c last value next known same =
+    tells (not (nat_eq value 0)) s (row.Count c last)
+    (λ h. counted_may s c last known (subst (λ (n : ℕ). n ≢ 0) same (is_other value h)) next)
+    (λ h. nothing_counted s c last (sym same ∙ is_zero value h))
+
+-- ---- tokens and pushes
+pub token_tells : (b : Bool) (s : State) (t : Token) → MatchBool b (HasPeer s.providers (key t.party)) (¬ HasPeer s.providers (key t.party)) → Tells b s (row.Token t)
+token_tells b s t h = tells_by b s (row.Token t) h (λ peer. record { may = peer; fit = tt })
+    (λ not line rows p. TokenOfStranger t p.here (stranger s (row.Token t) line rows p (key t.party) not))
+
+module _ (s : State) (n : ℕ) (to : List ℕ) (push : Push) where
+  pub push_of_stranger : ¬ HasPeer s.providers (key to) → ShowsBad s (row.Push n to push)
+  push_of_stranger not line rows p = PushToStranger n to push p.here (stranger s (row.Push n to push) line rows p (key to) not)
+
+  pub push_not_given : s.rows.request < n → ShowsBad s (row.Push n to push)
+  push_not_given above line rows p = PushNotGiven n to push p.here (record {
+    some_number = λ e. absurd (omega arith);
+    above = λ last h. let is = count_of s (row.Push n to push) line rows p counter.Request last (omega arith) h in let same : s.rows.request ≡ last = is.0 in omega arith;
+  })
+
+  pub push_may : HasPeer s.providers (key to) → n ≤ s.rows.request → ((u : Subject) (q : ℕ) → subject to push ≡ Some u → IsAbout s.rows.pushes u q → ⊥) →
+      MayAdd s (row.Push n to push)
+  push_may peer given alone = record {
+    may = record { peer = peer; outbox = record { counted = given; apart = get-empty nat_cmp n; alone = λ u q is h. absurd (alone u q is h) } };
+    fit = tt;
+  }
+
+  pub pushed_twice : (q : ℕ) → ComesNext s (row.Push n to push) → IsReplaced s.rows.pushes (subject to push) (Some q) → ShowsBad s (row.Push n to push)
+  pushed_twice q next h line rows p = elim (known (subject to push)) [
+    | inl none ↦ absurd (none_some q (sym (subst (λ (o : Option Subject). IsReplaced s.rows.pushes o (Some q)) none h)))
+    | inr some ↦
+        let about : IsAbout s.rows.pushes some.0 q = subst (λ (o : Option Subject). IsReplaced s.rows.pushes o (Some q)) some.1 h in
+        PushedTwice q n about.0.to to about.0.push push some.0
+            (λ same. next.is_new (row.Push q about.0.to about.0.push) about.1 (ap keys.Push same))
+            (p.among (row.Push q about.0.to about.0.push) about.1) p.here about.2 some.1
+  ]
+
+  pub not_pushed : (o : Option ℕ) → o ≡ None → IsReplaced s.rows.pushes (subject to push) o → (u : Subject) (q : ℕ) → subject to push ≡ Some u → IsAbout s.rows.pushes u q → ⊥
+  not_pushed o none h u q is about =
+      (subst (λ (r : Option ℕ). IsReplaced s.rows.pushes (Some u) r) none (subst (λ (w : Option Subject). IsReplaced s.rows.pushes w o) is h)) q about
+
+-- ---- places
+pub service_tells : (b : Bool) (s : State) (site : Site) (evse : List ℕ) → site ≡ s.site → (b ≡ true → IsEvse site.locations evse) → (IsEvse site.locations evse → b ≡ true) →
+    Tells b s (row.Service evse)
+service_tells b s site evse same is also =
+    tells b s (row.Service evse) (λ h. record { may = subst (λ (z : Site). IsEvse z.locations evse) same (is h); fit = tt })
+    (λ h line rows p. ServiceNowhere evse p.here
+        (λ e. true≢false (sym (also (subst (λ (z : Site). IsEvse z.locations evse) (sym (site_of s (row.Service evse) line rows p) ∙ sym same) e)) ∙ h)))
+
+-- whether an EVSE is at the location of a reservation
+module _ (b : Bool) (site : Site) (s : State) (r : Reservation) (evse : List ℕ) (same : site ≡ s.site) (is : evse ≡ key r.evse_uid) where
+  taken_over : IsSiteOf site.locations evse (key r.location_id) → IsSiteOf s.site.locations (key r.evse_uid) (key r.location_id)
+  taken_over h = subst (λ (k : List ℕ). IsSiteOf s.site.locations k (key r.location_id)) is (subst (λ (z : Site). IsSiteOf z.locations evse (key r.location_id)) same h)
+
+  taken_back : IsSiteOf s.site.locations (key r.evse_uid) (key r.location_id) → IsSiteOf site.locations evse (key r.location_id)
+  taken_back h = subst (λ (z : Site). IsSiteOf z.locations evse (key r.location_id)) (sym same) (subst (λ (k : List ℕ). IsSiteOf s.site.locations k (key r.location_id)) (sym is) h)
+
+  pub not_at : (IsSiteOf site.locations evse (key r.location_id) → b ≡ true) → IsSiteOf s.site.locations (key r.evse_uid) (key r.location_id) → b ≡ false → ⊥
+  not_at also h e = true≢false (sym (also (taken_back h)) ∙ e)
+
+  pub is_at : (b ≡ true → IsSiteOf site.locations evse (key r.location_id)) → b ≡ true → IsSiteOf s.site.locations (key r.evse_uid) (key r.location_id)
+  is_at may h = taken_over (may h)
+
+-- the row that makes a claim
+pub record ClaimsIt (s : State) (evse : List ℕ) (c : Claim) : Type 0 where
+  pub claiming : Row
+  pub stands : HasRow s.rows claiming
+  pub makes : MakesClaim claiming evse c
+
+pub claims_of : (s : State) (evse : List ℕ) (c : Claim) → IsSound s → HasClaim s.rows evse c → ClaimsIt s evse c
+claims_of s evse (OpenStart p n) sound h = record { claiming = row.Pending p n h.0; stands = h.1; makes = (h.2, refl) }
+claims_of s evse (Reserved p id) sound h = record { claiming = row.Reservation p id h.0; stands = h.1; makes = (h.2, refl) }
+claims_of s evse (Live p id) sound h =
+    let same : id ≡ key h.0.id = sound.charged_keyed.sessions id h.0 h.1 in
+    record {
+      claiming = row.Session h.0;
+      stands = subst (λ k. get s.rows.charged.sessions k ≡ Some h.0) same h.1;
+      makes = (p, h.2, ap (λ (k : List ℕ). Live p k) same);
+    }
+
+pub claimed_twice : (s : State) (r : Row) (evse : List ℕ) (c d : Claim) → ComesNext s r → MakesClaim r evse c → HasClaim s.rows evse d → (HasClaim s.rows evse c → ⊥) → ShowsBad s r
+claimed_twice s r evse c d next makes has other line rows p =
+    let by = claims_of s evse d next.in_turn.sound has in
+    ClaimedTwice r by.claiming evse c d p.here (p.among by.claiming by.stands) makes by.makes (λ same. other (subst (HasClaim s.rows evse) (sym same) has))
+
+pub free_may : (s : State) (evse : List ℕ) (c : Claim) → IsFree s.rows evse → MayClaim s.rows evse c
+free_may s evse c free d h = absurd (free d h)
+
+module _ (s : State) (p id : List ℕ) (r : Reservation) (next : ComesNext s (row.Reservation p id r)) where
+  pub reservation_nowhere : ¬ IsSiteOf s.site.locations (key r.evse_uid) (key r.location_id) → ShowsBad s (row.Reservation p id r)
+  reservation_nowhere not line rows h = ReservationNowhere p id r h.here
+      (λ e. not (subst (λ z. IsSiteOf z.locations (key r.evse_uid) (key r.location_id)) (sym (site_of s (row.Reservation p id r) line rows h)) e))
+
+  not_held : HasClaim s.rows (key r.evse_uid) (Reserved p id) → ⊥
+  not_held h = next.is_new (row.Reservation p id h.0) h.1 refl
+
+  pub reservation_tells : (b : Bool) → IsSiteOf s.site.locations (key r.evse_uid) (key r.location_id) →
+      MatchBool b (IsFree s.rows (key r.evse_uid)) ((c : Claim) × HasClaim s.rows (key r.evse_uid) c) → Tells b s (row.Reservation p id r)
+  reservation_tells b place h = tells_by b s (row.Reservation p id r) h
+      (λ free. record { may = record { place = place; alone = free_may s (key r.evse_uid) (Reserved p id) free }; fit = tt })
+      (λ c. claimed_twice s (row.Reservation p id r) (key r.evse_uid) (Reserved p id) c.0 next (refl, refl) c.1 not_held)
+
+-- whether an EVSE is claimed, by the claims that are kept
+pub unclaimed_tells : (b : Bool) (c : Option Claim) (claims : Claims) (s : Rows) (evse : List ℕ) → IsIndexed claims s → c ≡ get claims evse → is_some c ≡ not b →
+    MatchBool b (IsFree s evse) ((d : Claim) × HasClaim s evse d)
+unclaimed_tells true None claims s evse index is h = λ d has. none_some d (is ∙ (index evse d).1 has)
+unclaimed_tells true (Some d) claims s evse index is h = absurd (true≢false h)
+unclaimed_tells false None claims s evse index is h = absurd (true≢false (sym h))
+unclaimed_tells false (Some d) claims s evse index is h = (d, (index evse d).0 (sym is))
+
+-- the number is above the last that was given
+pub above : (n last request : ℕ) → true ≡ is_gt (nat_cmp n last) → last ≡ request → request < n
+above n last request h same = let e : is_gt (nat_cmp n last) ≡ true = sym h in grind (arith, nat_tests)
+
+pub up_to : (n last request : ℕ) → false ≡ is_gt (nat_cmp n last) → last ≡ request → n ≤ request
+up_to n last request h same = let e : is_gt (nat_cmp n last) ≡ false = sym h in grind (arith, nat_tests)
+
+pub is_none_told : {X : Type 0} (b : Bool) (o : Option X) → is_some o ≡ not b → b ≡ true → o ≡ None
+is_none_told b None h e = refl
+is_none_told b (Some x) h e = absurd (true≢false (h ∙ ap not e))
+
+pub is_some_told : {X : Type 0} (b : Bool) (o : Option X) → is_some o ≡ not b → b ≡ false → (x : X) × (o ≡ Some x)
+is_some_told b o h e = some_of o (h ∙ ap not e)
+
+module _ (s : State) (n : ℕ) (to : List ℕ) (push : Push) (next : ComesNext s (row.Push n to push)) where
+  pub push_tells : (b : Bool) (o : Option ℕ) (rows : OutboxRows) → rows ≡ as_outbox s.rows → HasPeer s.providers (key to) → n ≤ s.rows.request →
+      IsReplaced rows.pushes (subject to push) o → is_some o ≡ not b → Tells b s (row.Push n to push)
+  push_tells b o rows same peer given h is =
+      let at : IsReplaced s.rows.pushes (subject to push) o = subst (λ (r : OutboxRows). IsReplaced r.pushes (subject to push) o) same h in
+      tells b s (row.Push n to push)
+      (λ e. push_may s n to push peer given (not_pushed s n to push o (is_none_told b o is e) at))
+      (λ e. let q = is_some_told b o is e in pushed_twice s n to push q.0 next (subst (λ (w : Option ℕ). IsReplaced s.rows.pushes (subject to push) w) q.1 at))
+
+-- the answer of a row that is known to be another
+pub tells_as : (b : Bool) (s : State) (r q : Row) → r ≡ q → Tells b s q → Tells b s r
+tells_as b s r q same h = subst (λ (x : Row). Tells b s x) (sym same) h
+
+pub command_foreign : (s : State) (r : Row) (n : ℕ) (x : SentCommand) → r ≡ row.Command n x → ShowsBad s r
+command_foreign s r n x is line rows p = Foreign (row.Command n x) (subst (λ (q : Row). Contains rows q) is p.here) tt

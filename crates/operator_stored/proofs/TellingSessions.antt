@@ -1,0 +1,154 @@
+-- What tells that a session or a charge detail record may stand, and what that the rows are bad.
+use Rattle.std.proofs.Common.{◌≡◌, ◌≢◌, ℤ, ℕ, ◌≤◌, ◌<◌, List, Bool, true, false, not, true≢false, MatchBool, ◌⊎◌, inl, inr, refl, sym, ap, subst, ◌∙◌, arith, is_le, nat_cmp}
+use Rattle.std.specs.Prelude.{Option, Some, None, IfSome, IfNone, Ok}
+use Rattle.std.specs.FinMap.{get}
+use Rattle.std.proofs.lemmas.Bool.{cases_lt}
+use Rattle.std.proofs.lemmas.Bool.Decides.{nat_tests}
+use Rattle.ocpi_text.specs.OwnIds.{own_id_text}
+use Rattle.ocpi_text.specs.Party.{party_at}
+use Rattle.ocpi_text.specs.Text.{key}
+use Rattle.ocpi_text.specs.Whole.{max_whole}
+use Rattle.ocpi_text.specs.declared.own_ids.OwnIdKind.{OwnIdKind}
+use Rattle.ocpi_text.specs.declared.own_ids.OwnIdKind.TheVariants as own
+use Rattle.ocpi_types.specs.declared.cdrs.Cdr.{Cdr}
+use Rattle.ocpi_types.specs.declared.rows.Counter.TheVariants as counter
+use Rattle.ocpi_types.specs.declared.rows.Row.TheVariants as row
+use Rattle.ocpi_types.specs.declared.rows.RowKey.TheVariants as keys
+use Rattle.ocpi_types.specs.declared.sessions.Session.{Session}
+use Rattle.ocpi_types.specs.declared.site.Site.{Site}
+use Rattle.node_steps.specs.Peers.{HasPeer}
+use Rattle.session_book.proofs.OwnIds.{ids_differ}
+use Rattle.session_state.specs.Resuming.{CannotResume}
+use Rattle.site_book.specs.Sites.{IsConnectorOf}
+use Rattle.site_book.specs.declared.claim.Claim.{Claim}
+use Rattle.site_book.specs.declared.claim.Claim.TheVariants.{Live}
+use Rattle.stored_rows.specs.Given.{IsNotGiven, IsOwnId}
+use Rattle.operator_rows.specs.State.{HasClaim, IsFree, IsLive, State}
+use Rattle.operator_stored.proofs.Telling.{claimed_twice, count_of, free_may, party_of, site_of, stranger, tells}
+use Rattle.operator_stored.specs.Bad.{CdrIdNotOwn, CdrNotGiven, CdrOfOther, SessionIdNotOwn, SessionNotGiven, SessionNowhere, SessionOfOther, SessionOfStranger, Stuck}
+use Rattle.operator_stored.specs.Placing.{ComesNext, IsOwn, IsPlaced, MayCharge, ShowsBad, Tells}
+
+equal_or_not : (m n : ℕ) → (m ≡ n) ⊎ (m ≢ n)
+equal_or_not m n = elim (cases_lt m n) [
+  | inl below ↦ inr (omega arith)
+  | inr above ↦ elim (cases_lt n m) [
+    | inl below ↦ inr (omega arith)
+    | inr also ↦ inl (omega arith)
+  ]
+]
+
+-- no other number makes the id
+pub sole_number : (o : Option ℕ) (k : OwnIdKind) (p q id : List ℕ) → p ≡ q → party_at q ≡ Ok q → IfSome o (λ n. IsOwnId k p id n) →
+    IfSome o (λ n. (m : ℕ) → m ≤ max_whole → key (own_id_text k q m) ≡ key id → m ≡ n)
+sole_number None k p q id same fine h = tt
+sole_number (Some n) k p q id same fine h = λ m fits is. elim (equal_or_not m n) [
+  | inl e ↦ e
+  | inr apart ↦ absurd (ids_differ k q m n fine fits h.is_number apart (is ∙ ap key h.made ∙ ap (λ (z : List ℕ). key (own_id_text k z n)) same))
+]
+
+pub is_at_most : (n last now : ℕ) (b : Bool) → b ≡ is_le (nat_cmp n last) → last ≡ now → b ≡ true → n ≤ now
+is_at_most n last now b h same e = let t : is_le (nat_cmp n last) ≡ true = sym h ∙ e in grind (arith, nat_tests)
+
+pub is_beyond : (n last now : ℕ) (b : Bool) → b ≡ is_le (nat_cmp n last) → last ≡ now → b ≡ false → now < n
+is_beyond n last now b h same e = let t : is_le (nat_cmp n last) ≡ false = sym h ∙ e in grind (arith, nat_tests)
+
+pub own_of : (s : State) (k : OwnIdKind) (last n : ℕ) (party id : List ℕ) → key party ≡ key s.party → IsOwnId k s.party id n →
+    ((m : ℕ) → m ≤ max_whole → key (own_id_text k s.party m) ≡ key id → m ≡ n) → n ≤ last → IsOwn s k last party id
+own_of s k last n party id of made sole most = record {
+  of_operator = of;
+  number = n;
+  made = made;
+  given = λ m fits same. subst (λ (z : ℕ). z ≤ last) (sym (sole m fits same)) most;
+}
+
+module _ (s : State) (v : Session) where
+  pub session_of_other : (key v.party ≡ key s.party → ⊥) → ShowsBad s (row.Session v)
+  session_of_other other line rows h = SessionOfOther v h.here (λ e. other (e ∙ ap key (sym (party_of s (row.Session v) line rows h))))
+
+  pub session_not_own : ((n : ℕ) → IsOwnId own.Session s.party v.id n → ⊥) → ShowsBad s (row.Session v)
+  session_not_own none line rows h =
+      SessionIdNotOwn v h.here (λ n is. none n (subst (λ (p : List ℕ). IsOwnId own.Session p v.id n) (sym (party_of s (row.Session v) line rows h)) is))
+
+  pub session_not_given : (n : ℕ) → IsOwnId own.Session s.party v.id n → s.rows.charged.last_session < n → ShowsBad s (row.Session v)
+  session_not_given n is beyond line rows h =
+      SessionNotGiven v n h.here (subst (λ (p : List ℕ). IsOwnId own.Session p v.id n) (party_of s (row.Session v) line rows h) is) (record {
+        some_number = λ e. absurd (omega arith);
+        above = λ last there. let c = count_of s (row.Session v) line rows h counter.Session last (omega arith) there in
+            let same : s.rows.charged.last_session ≡ last = c.0 in omega arith;
+      })
+
+  pub own_session : (b : Bool) (n last : ℕ) → b ≡ is_le (nat_cmp n last) → last ≡ s.rows.charged.last_session → key v.party ≡ key s.party → IsOwnId own.Session s.party v.id n →
+      ((m : ℕ) → m ≤ max_whole → key (own_id_text own.Session s.party m) ≡ key v.id → m ≡ n) →
+      MatchBool b (IsOwn s own.Session s.rows.charged.last_session v.party v.id) (ShowsBad s (row.Session v))
+  own_session b n last is same of made sole = cases b refl
+    where
+      cases : (c : Bool) → b ≡ c → MatchBool c (IsOwn s own.Session s.rows.charged.last_session v.party v.id) (ShowsBad s (row.Session v))
+      cases true e = own_of s own.Session s.rows.charged.last_session n v.party v.id of made sole (is_at_most n last s.rows.charged.last_session b is same e)
+      cases false e = session_not_given n made (is_beyond n last s.rows.charged.last_session b is same e)
+
+  pub session_of_stranger : IsLive v.status → ¬ HasPeer s.providers (key v.cdr_token.party) → ShowsBad s (row.Session v)
+  session_of_stranger live not line rows h = SessionOfStranger v h.here live (stranger s (row.Session v) line rows h (key v.cdr_token.party) not)
+
+  pub session_nowhere : IsLive v.status → ¬ IsConnectorOf s.site.locations (key v.evse_uid) (key v.connector_id) → ShowsBad s (row.Session v)
+  session_nowhere live not line rows h =
+      SessionNowhere v h.here live (λ e. not (subst (λ (z : Site). IsConnectorOf z.locations (key v.evse_uid) (key v.connector_id)) (sym (site_of s (row.Session v) line rows h)) e))
+
+  pub stuck : (price : ℤ) → price ≡ s.site.price → CannotResume price v → ShowsBad s (row.Session v)
+  stuck price same cannot line rows h = Stuck v h.here (subst (λ (z : ℤ). CannotResume z v) (same ∙ ap (λ (z : Site). z.price) (site_of s (row.Session v) line rows h)) cannot)
+
+  not_charged : ComesNext s (row.Session v) → key v.party ≡ key s.party → (p evse : List ℕ) → HasClaim s.rows evse (Live p (key v.id)) → ⊥
+  not_charged next of p evse h =
+      let keyed : key v.id ≡ key h.0.id = next.in_turn.sound.charged_keyed.sessions (key v.id) h.0 h.1 in
+      let its = (next.in_turn.sound.sessions (key v.id) h.0 h.1).own in
+      next.is_new (row.Session h.0) (subst (λ k. get s.rows.charged.sessions k ≡ Some h.0) keyed h.1)
+      (ap (λ (k : List ℕ). keys.Session k (key h.0.id)) (its ∙ sym of) ∙ ap (λ (k : List ℕ). keys.Session (key v.party) k) (sym keyed))
+
+  pub charge_tells : (b : Bool) (evse : List ℕ) → evse ≡ key v.evse_uid → ComesNext s (row.Session v) → IsLive v.status → key v.party ≡ key s.party →
+      HasPeer s.providers (key v.cdr_token.party) → IsConnectorOf s.site.locations (key v.evse_uid) (key v.connector_id) →
+      MatchBool b (IsFree s.rows evse) ((d : Claim) × HasClaim s.rows evse d) → MatchBool b (MayCharge s v) (ShowsBad s (row.Session v))
+  charge_tells true evse is next live of peer place h = record {
+    provider = peer;
+    place = place;
+    alone = free_may s (key v.evse_uid) _ (subst (λ (k : List ℕ). IsFree s.rows k) is h);
+  }
+  charge_tells false evse is next live of peer place h =
+      claimed_twice s (row.Session v) (key v.evse_uid) (Live (key v.cdr_token.party) (key v.id)) h.0 next
+      (key v.cdr_token.party, record { live = live; here = refl; of_provider = refl }, refl)
+      (subst (λ (k : List ℕ). HasClaim s.rows k h.0) is h.1) (not_charged next of (key v.cdr_token.party) (key v.evse_uid))
+
+module _ (s : State) (x : Cdr) where
+  pub cdr_of_other : (key x.party ≡ key s.party → ⊥) → ShowsBad s (row.Cdr x)
+  cdr_of_other other line rows h = CdrOfOther x h.here (λ e. other (e ∙ ap key (sym (party_of s (row.Cdr x) line rows h))))
+
+  pub cdr_not_own : ((n : ℕ) → IsOwnId own.Cdr s.party x.id n → ⊥) → ShowsBad s (row.Cdr x)
+  cdr_not_own none line rows h =
+      CdrIdNotOwn x h.here (λ n is. none n (subst (λ (p : List ℕ). IsOwnId own.Cdr p x.id n) (sym (party_of s (row.Cdr x) line rows h)) is))
+
+  pub cdr_not_given : (n : ℕ) → IsOwnId own.Cdr s.party x.id n → s.rows.charged.last_cdr < n → ShowsBad s (row.Cdr x)
+  cdr_not_given n is beyond line rows h =
+      CdrNotGiven x n h.here (subst (λ (p : List ℕ). IsOwnId own.Cdr p x.id n) (party_of s (row.Cdr x) line rows h) is) (record {
+        some_number = λ e. absurd (omega arith);
+        above = λ last there. let c = count_of s (row.Cdr x) line rows h counter.Cdr last (omega arith) there in
+            let same : s.rows.charged.last_cdr ≡ last = c.0 in omega arith;
+      })
+
+  pub own_cdr : (b : Bool) (n last : ℕ) → b ≡ is_le (nat_cmp n last) → last ≡ s.rows.charged.last_cdr → key x.party ≡ key s.party → IsOwnId own.Cdr s.party x.id n →
+      ((m : ℕ) → m ≤ max_whole → key (own_id_text own.Cdr s.party m) ≡ key x.id → m ≡ n) → Tells b s (row.Cdr x)
+  own_cdr b n last is same of made sole = tells b s (row.Cdr x)
+      (λ e. let o = own_of s own.Cdr s.rows.charged.last_cdr n x.party x.id of made sole (is_at_most n last s.rows.charged.last_cdr b is same e) in
+          record { may = record { own = of; number = o.given }; fit = (n, made) })
+      (λ e. cdr_not_given n made (is_beyond n last s.rows.charged.last_cdr b is same e))
+
+-- whether the EVSE of a session has its connector
+module _ (b : Bool) (site : Site) (s : State) (v : Session) (evse : List ℕ) (same : site ≡ s.site) (is : evse ≡ key v.evse_uid) where
+  pub connector_over : (b ≡ true → IsConnectorOf site.locations evse (key v.connector_id)) → b ≡ true → IsConnectorOf s.site.locations (key v.evse_uid) (key v.connector_id)
+  connector_over may h =
+      subst (λ (k : List ℕ). IsConnectorOf s.site.locations k (key v.connector_id)) is (subst (λ (z : Site). IsConnectorOf z.locations evse (key v.connector_id)) same (may h))
+
+  pub connector_back : (IsConnectorOf site.locations evse (key v.connector_id) → b ≡ true) → b ≡ false → ¬ IsConnectorOf s.site.locations (key v.evse_uid) (key v.connector_id)
+  connector_back also e h =
+      true≢false (sym (also (subst (λ (z : Site). IsConnectorOf z.locations evse (key v.connector_id)) (sym same)
+      (subst (λ (k : List ℕ). IsConnectorOf s.site.locations k (key v.connector_id)) (sym is) h))) ∙ e)
+
+pub not_same : (b : Bool) (party operator own : List ℕ) → operator ≡ own → (key party ≡ key operator → b ≡ true) → b ≡ false → key party ≡ key own → ⊥
+not_same b party operator own is also e h = true≢false (sym (also (h ∙ ap key (sym is))) ∙ e)

@@ -1,0 +1,83 @@
+//! Rows of open commands and of results.
+
+ghost use Rattle.std.specs.Prelude.{◌≡◌, MatchBool};
+ghost use Rattle.ocpi_types.specs.declared.rows.Row.TheVariants as row;
+ghost use Rattle.operator_rows.specs.Sound.{IsOwnStart};
+ghost use Rattle.operator_rows.specs.State.{IsStart};
+ghost use Rattle.operator_stored.specs.Placing.{ComesNext, MayTake, ShowsBad, Tells};
+
+use crate::places::{has_place, is_unclaimed};
+use crate::pushes::is_provider;
+use ocpi_text::{PartyKey, Whole};
+use ocpi_types::{Command, CommandResultType, OpenCommand};
+use operator_rows::Books;
+
+/// Whether a command is a start.
+fn is_start(command: &Command) -> bool
+    ensures { MatchBool result (IsStart command.now) (¬ IsStart command.now) }
+{
+    matches!(command, Command::StartSession(_))
+}
+
+/// Whether a command is no start with a token of another provider.
+fn is_own(provider: PartyKey, command: &Command) -> bool
+    ensures { MatchBool result (IsOwnStart provider command.now) (¬ IsOwnStart provider command.now) }
+{
+    match command {
+        Command::StartSession(start) => start.token.party.key() == provider,
+        _ => true,
+    }
+}
+
+/// Whether a command, where it is a start, has its place to itself.
+fn may_take(books: &Books, provider: PartyKey, number: Whole, order: &OpenCommand) -> bool
+    requires { ComesNext books.now.state (row.Pending provider number order.now) }
+    ensures { MatchBool result (MayTake books.now.state provider number order.now) (ShowsBad books.now.state (row.Pending provider number order.now)) }
+{
+    if !is_start(&order.command) {
+        return true;
+    }
+    if !has_place(books, order) {
+        return false;
+    }
+    match order.evse_uid {
+        Some(evse_uid) => is_unclaimed(books, evse_uid.key()),
+        None => false,
+    }
+}
+
+/// Whether a command may be open.
+pub fn may_open(books: &Books, provider: PartyKey, number: Whole, order: &OpenCommand) -> bool
+    requires { ComesNext books.now.state (row.Pending provider number order.now) }
+    ensures { Tells result books.now.state (row.Pending provider number order.now) }
+{
+    if !is_provider(books, provider) {
+        return false;
+    }
+    if books.reply(provider, number).is_none() {
+        return false;
+    }
+    if books.commands().answered(provider, number).is_some() {
+        return false;
+    }
+    if !is_own(provider, &order.command) {
+        return false;
+    }
+    may_take(books, provider, number, order)
+}
+
+/// Whether a command may have a result.
+pub fn may_settle(
+    books: &Books,
+    provider: PartyKey,
+    number: Whole,
+    outcome: CommandResultType,
+) -> bool
+    requires { ComesNext books.now.state (row.Result provider number outcome) }
+    ensures { Tells result books.now.state (row.Result provider number outcome) }
+{
+    if books.reply(provider, number).is_none() {
+        return false;
+    }
+    books.commands().opened(provider, number).is_none()
+}

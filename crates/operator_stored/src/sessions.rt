@@ -1,0 +1,115 @@
+//! Rows of sessions and of charge detail records.
+
+ghost use Rattle.std.specs.Prelude.{◌≡◌, ◌≤◌, ℕ, IfNone, IfSome, MatchBool};
+ghost use Rattle.ocpi_text.specs.OwnIds.{own_id_text};
+ghost use Rattle.ocpi_text.specs.Text.{key};
+ghost use Rattle.ocpi_text.specs.Whole.{max_whole};
+ghost use Rattle.ocpi_text.specs.declared.own_ids.OwnIdKind.TheVariants as own;
+ghost use Rattle.ocpi_types.specs.declared.rows.Row.TheVariants as row;
+ghost use Rattle.operator_rows.specs.State.{IsLive};
+ghost use Rattle.session_state.specs.Resuming.{CannotResume};
+ghost use Rattle.session_state.specs.Versions.{HasCost};
+ghost use Rattle.stored_rows.specs.Given.{IsOwnId};
+ghost use Rattle.operator_stored.specs.Placing.{ComesNext, IsOwn, MayCharge, ShowsBad, Tells};
+
+use crate::places::is_unclaimed;
+use crate::pushes::is_provider;
+use ocpi_text::{OwnIdKind, Whole};
+use ocpi_types::{Cdr, PricePerKwh, Session, SessionStatus};
+use operator_rows::Books;
+use session_state::resume;
+use stored_rows::own_number;
+
+/// Whether a session with that status has not ended.
+fn is_live(status: SessionStatus) -> bool
+    ensures { MatchBool result (IsLive status) (¬ IsLive status) }
+{
+    match status {
+        SessionStatus::Pending | SessionStatus::Active => true,
+        SessionStatus::Completed | SessionStatus::Invalid | SessionStatus::Reservation => false,
+    }
+}
+
+/// Whether a session can go on from that version.
+fn can_go_on(session: &Session, price: PricePerKwh) -> bool
+    ensures { MatchBool result (HasCost price session.now × ¬ CannotResume price session.now) (CannotResume price session.now) }
+{
+    match resume(*session, price) {
+        Ok(_) => true,
+        Err(_) => false,
+    }
+}
+
+/// The number of which the operator made an id, if it did.
+fn number_of(books: &Books, kind: OwnIdKind, id: &str) -> Option<Whole>
+    ensures made { IfSome result (λ n. IsOwnId kind books.now.state.party id.now n) }
+    ensures sole { IfSome result (λ n. (m : ℕ) → m ≤ max_whole → key (own_id_text kind books.now.state.party m) ≡ key id.now → m ≡ n) }
+    ensures none { IfNone result ((n : ℕ) → IsOwnId kind books.now.state.party id.now n → ⊥) }
+{
+    books.consistency();
+    let party = books.party();
+    own_number(kind, &party, id)
+}
+
+/// Whether a session is the operator's own, by its party and its id, whose number was given.
+fn is_own_session(books: &Books, session: &Session) -> bool
+    ensures { MatchBool result (IsOwn books.now.state own.Session books.now.state.rows.charged.last_session session.now.party session.now.id) (ShowsBad books.now.state (row.Session session.now)) }
+{
+    if !session.party.is_same(&books.party()) {
+        return false;
+    }
+    match number_of(books, OwnIdKind::Session, session.id.as_str()) {
+        Some(number) => number <= books.charged().last_session(),
+        None => false,
+    }
+}
+
+/// Whether a session that has not ended has its place to itself.
+fn may_charge(books: &Books, session: &Session) -> bool
+    requires next { ComesNext books.now.state (row.Session session.now) }
+    requires live { IsLive session.now.status }
+    requires own { key session.now.party ≡ key books.now.state.party }
+    ensures { MatchBool result (MayCharge books.now.state session.now) (ShowsBad books.now.state (row.Session session.now)) }
+{
+    let evse = session.evse_uid.key();
+    if !is_provider(books, session.cdr_token.party.key()) {
+        return false;
+    }
+    if !books
+        .site_book()
+        .has_connector(evse, &session.connector_id)
+    {
+        return false;
+    }
+    is_unclaimed(books, evse)
+}
+
+/// Whether a session may stand.
+pub fn may_stand(books: &Books, session: &Session) -> bool
+    requires { ComesNext books.now.state (row.Session session.now) }
+    ensures { Tells result books.now.state (row.Session session.now) }
+{
+    if !is_own_session(books, session) {
+        return false;
+    }
+    if !can_go_on(session, books.site_book().site().price) {
+        return false;
+    }
+    if !is_live(session.status) {
+        return true;
+    }
+    may_charge(books, session)
+}
+
+/// Whether a charge detail record is the operator's own, by its party and its id, whose number was given.
+pub fn is_own_cdr(books: &Books, cdr: &Cdr) -> bool
+    ensures { Tells result books.now.state (row.Cdr cdr.now) }
+{
+    if !cdr.party.is_same(&books.party()) {
+        return false;
+    }
+    match number_of(books, OwnIdKind::Cdr, cdr.id.as_str()) {
+        Some(number) => number <= books.charged().last_cdr(),
+        None => false,
+    }
+}
