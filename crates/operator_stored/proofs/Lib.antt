@@ -5,3 +5,5 @@ pub mod StandingRows
 pub mod Telling
 pub mod TellingCommands
 pub mod TellingSessions
+pub mod Putting
+pub mod Billing

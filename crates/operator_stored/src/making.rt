@@ -23,6 +23,7 @@ use stored_rows::{RowsFault, in_turn};
 /// Puts rows that come in turn, one by one, each where it may be. Where one may not the rows are bad, and it is refused.
 fn put_all(books: &mut Books, rows: Vec<Row>) -> Result<(), RowsFault>
     requires sorted { IsNonDecreasingBy turn_of rows.items }
+    requires first { (line : SiteLine) × (books.old.state ≡ opening line) }
     ensures put { (line : SiteLine) → books.old.state ≡ opening line → OnOk result (ArePut line rows.items books.new.state) }
     ensures bad { (line : SiteLine) (all : List Row) → books.old.state ≡ opening line → IsPermutation all rows.items → IfErr result (λ e. e ≡ RowsFault.BadRows → IsBad line all) }
 {
@@ -42,11 +43,11 @@ pub fn books_of_rows(alloc: Global, line: SiteLine, rows: Vec<Row>) -> Result<Bo
     ensures again { (s : State) → IsConsistent s → StartsAgain line rows.items s → IfOk result (λ b. b.state ≡ restarted s) }
     ensures good { (s : State) → IsConsistent s → StartsAgain line rows.items s → IfErr result (λ e. e ≡ RowsFault.Memory) }
 {
-    let billed = are_billed(alloc, rows.as_slice())?;
-    let mut books = Books::new(alloc, line)?;
-    put_all(&mut books, in_turn(rows))?;
-    if !billed {
+    if !are_billed(alloc, rows.as_slice())? {
         return Err(RowsFault::BadRows);
     }
+    let mut books = Books::new(alloc, line)?;
+    put_all(&mut books, in_turn(rows))?;
+    books.consistency();
     Ok(books)
 }
