@@ -146,8 +146,9 @@ def bill(number=1, of=1, party=OPERATOR, name=None, session_name=None, owner="NL
     period = {"dimensions": [{"type": "ENERGY", "volume": Decimal("0.0000")}], "start_date_time": moment("10:00:05")}
     return own_row("cdr", {
         **halves(party), "auth_method": "WHITELIST", "cdr_location": place(), "cdr_token": named(token(party=owner)),
-        "charging_periods": [period], "currency": "EUR", "end_date_time": moment("10:00:10"), "id": cdr_id(number) if name is None else name,
-        "last_updated": moment("10:00:10"), "session_id": session_id(of) if session_name is None else session_name, "start_date_time": moment("10:00:05"),
+        "charging_periods": [period], "currency": "EUR", "end_date_time": moment("10:00:10"),
+        "id": cdr_id(number) if name is None else name, "last_updated": moment("10:00:10"),
+        "session_id": session_id(of) if session_name is None else session_name, "start_date_time": moment("10:00:05"),
         "total_cost": {"excl_vat": Decimal("0.0000")}, "total_energy": Decimal("0.0000"), "total_time": Decimal("0.0013"),
     })
 
@@ -176,7 +177,8 @@ def open_start(number=1, evse="E1", party="NL/TNM", connector="1", **more):
 
 def open_unlock(number=1, party="NL/TNM", **more):
     body = {"connector_id": "1", "evse_uid": "E1", "location_id": "LOC1", "response_url": url(number, party)}
-    return ("pending", numbered(party, number), {"body": body, "deadline": moment("10:00:30"), "kind": "unlock_connector", **more})
+    tree = {"body": body, "deadline": moment("10:00:30"), "kind": "unlock_connector", **more}
+    return ("pending", numbered(party, number), tree)
 
 
 def settled(number=1, party="NL/TNM", word="ACCEPTED"):

@@ -2,8 +2,9 @@
 
 Each list of rows is told with why it is bad, if it is, and the rules in `stored_rules` find it once more; some lists are drawn, and
 these rules alone tell of them. The lists that are bad, and those beside them, are in `stored_faults`, a charge at nodes that are
-made again behind each event in `stored_charge`. The cases of the parts `operator` and `provider` in which a node starts again are
-here once more, with the node made again of its rows in place of that; and of what each other case there stores a node is made.
+made again behind each event in `stored_charge`. The cases of the parts `operator` and `provider` that begin with rows, or in which
+a node starts again, are here once more, with the node made of its rows in place of that; and of what each other case there stores
+a node is made.
 """
 import json
 import random
@@ -20,6 +21,7 @@ from stored_case import (
     WANTED,
     Operators,
     Providers,
+    acknowledged,
     bill,
     command,
     count,
@@ -90,12 +92,29 @@ def nodes_without_rows():
         line("again", "made")
 
 
+def many_rows():
+    """Some two hundred rows, their counters last, in three orders and in one that is drawn; without a counter they are bad."""
+    told, sent = [], []
+    for at in range(1, 41):
+        told += [mark("R%d" % at, at), settled(at), spent(at), result_push(at), acknowledged(at)]
+        sent += [token_push(2 * at, "T%d" % at), command(2 * at - 1, own_reference(at)), token_row("T%d" % at)]
+    operators = Operators(), [*told, count("serial", 90), count("request", 40)], "PushNotGiven"
+    providers = Providers(), [*sent, count("request", 80), count("reference", 40)], "ReferenceNotGiven"
+    for node, rows, fault in (operators, providers):
+        makes(node, rows)
+        places = list(range(len(rows)))
+        random.Random(1).shuffle(places)
+        make(node, rows, places, ())
+        line("again", "made", *puts(rows))
+        make(node, rows, [at for at in places if at != len(rows) - 1], (fault,))
+
+
 def no_nodes():
     """What is no node, and no row, and what is asked of a node that is not."""
     line("make", "no node")
     line("stored", "no node")
     line("again", "no node")
-    line("operator {}", *[])
+    line("operator {}")
     line("make", "refused 4 Missing(at)")
     line("provider NL/TNM\tBE/BEC\tbe/bec")
     line("make", "no such parties")
@@ -187,16 +206,16 @@ def is_restart(given, gives):
 
 
 def go_on(node, lines):
-    """A case with a restart, in whose place the node is made again. Its first lines may be rows that stand; where others are, or
-    these are bad, it is no such case."""
+    """A case that begins with rows that stand, of which the node is made, or has a restart, in whose place it is made again. There
+    is no more to tell where rows come later, or these are bad."""
     rows = []
     while lines and lines[0][0].startswith("row "):
         kind, key, tree = lines.pop(0)[0].removeprefix("row ").split("\t", 2)
         rows.append((kind, key, json.loads(tree, parse_float=Decimal)))
+    tell(node, rows)
+    make(node, rows, range(len(rows)))
     if any(given.startswith("row ") for given, _ in lines) or node.faults(rows):
         return
-    tell(node, rows)
-    make(node, rows, range(len(rows)), ())
     stand = {row[:2]: row for row in rows}
     for given, gives in lines:
         for change in gives if given != "stored" else []:
@@ -212,9 +231,10 @@ def go_on(node, lines):
 
 
 def add_cases_of(part, node_of, most):
-    """The cases with a restart, and a node made of what each other stores at its end, where that is at most so many rows."""
+    """The cases that begin with rows or have a restart, and a node made of what each other stores at its end, where that is at most
+    so many rows."""
     for opening, lines in told_in(part):
-        if any(is_restart(given, gives) for given, gives in lines):
+        if lines[0][0].startswith("row ") or any(is_restart(given, gives) for given, gives in lines):
             go_on(node_of(opening), list(lines))
         elif lines[-1][0] == "stored" and len(lines[-1][1]) <= most:
             rows = [read_row(gives) for gives in lines[-1][1]]
@@ -273,6 +293,7 @@ def cases():
     no_nodes()
     nodes_without_rows()
     serials_that_are_used_up()
+    many_rows()
     add_faults()
     add_charge()
     drawn_of_operators()
