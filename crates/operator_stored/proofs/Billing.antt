@@ -1,5 +1,5 @@
 -- The sessions that are billed, gathered row by row.
-use Rattle.std.proofs.Common.{◌≡◌, ◌≢◌, ◌↔◌, ◌⊎◌, inl, inr, ℕ, ◌+◌, ◌<◌, ◌≤◌, List, length, get_or, Bool, true, false, true≢false, not, ◌||◌, MatchBool, refl, sym, ap, subst, ◌∙◌, arith}
+use Rattle.std.proofs.Common.{◌≡◌, ◌↔◌, ◌⊎◌, inl, inr, ℕ, ◌+◌, ◌<◌, ◌≤◌, List, length, get_or, Bool, true, false, true≢false, ◌||◌, MatchBool, refl, sym, ap, subst, ◌∙◌, arith}
 use Rattle.std.specs.Prelude.{Some, Contains, IsTrue, slice_get}
 use Rattle.std.specs.Cmp.{eq_by_cmp_equiv}
 use Rattle.std.specs.FinSet.{FinSet, contains, empty, insert, contains-empty, contains-insert}
@@ -15,7 +15,7 @@ use Rattle.ocpi_types.specs.declared.rows.Row.TheVariants as row
 use Rattle.ocpi_types.specs.declared.sessions.Session.{Session}
 use Rattle.ocpi_types.specs.declared.words.SessionStatus.TheVariants.{Completed}
 use Rattle.operator_stored.proofs.MadeOf.{at_place}
-use Rattle.operator_stored.specs.Bills.{Agrees, AreBilledBy, AreBillsOf, AreIdsOf, BillOf, BillsTwice, EndOf, HasBill, HasEnded, HaveAlso, IsEarly, IsMisbilled, IsUnbilled, Early, Never, Twice}
+use Rattle.operator_stored.specs.Bills.{Agrees, AreBilledBy, AreBillsOf, AreIdsOf, BillOf, BillsTwice, EndOf, HasEnded, HaveAlso, IsEarly, IsMisbilled, IsUnbilled, Early, Never}
 
 either_true : (a b : Bool) → (a || b) ≡ true → (a ≡ true) ⊎ (b ≡ true)
 either_true true b h = inl refl
@@ -88,14 +88,14 @@ module _ (P : Row → List ℕ → Type 0) (rows : List Row) (n : ℕ) (r : Row)
       | inr p ↦ (n, r, omega arith, here, p)
     ],
     λ b. let under : b.0 < n + 1 = b.2 in
-      elim (cases_lt b.0 n) [
-        | inl below ↦ (also id).1 (inl ((ids id).1 (b.0, b.1, below, b.3, b.4)))
-        | inr above ↦
-            let at : b.0 ≡ n = omega arith in
-            let e : Some b.1 ≡ Some r = sym b.3 ∙ ap (slice_get rows) at ∙ here in
-            let same : b.1 ≡ r = cc in
-            (also id).1 (inr (subst (λ (q : Row). P q id) same b.4))
-      ],
+        elim (cases_lt b.0 n) [
+          | inl below ↦ (also id).1 (inl ((ids id).1 (b.0, b.1, below, b.3, b.4)))
+          | inr above ↦
+              let at : b.0 ≡ n = omega arith in
+              let e : Some b.1 ≡ Some r = sym b.3 ∙ ap (slice_get rows) at ∙ here in
+              let same : b.1 ≡ r = cc in
+              (also id).1 (inr (subst (λ (q : Row). P q id) same b.4))
+        ],
   )
 
 -- all rows

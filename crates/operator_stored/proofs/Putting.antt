@@ -1,5 +1,5 @@
 -- Rows that are put one after the other, in turn.
-use Rattle.std.proofs.Common.{◌≡◌, ◌≢◌, ℕ, List, [], ◌∷◌, ◌++◌, inl, inr, refl, sym, ap, subst, ◌∙◌}
+use Rattle.std.proofs.Common.{◌≡◌, ℕ, List, [], ◌∷◌, ◌++◌, inl, inr, refl, sym, ap, subst, ◌∙◌}
 use Rattle.std.specs.Prelude.{Option, Some, None, Contains, Result, IfErr}
 use Rattle.std.specs.Result.{IsErrAnd}
 use Rattle.std.proofs.lemmas.Result.{err_from_is_err_and}
@@ -21,16 +21,16 @@ use Rattle.ocpi_types.specs.declared.site.SiteLine.{SiteLine}
 use Rattle.outbox.specs.Outbox.{request_of, without}
 use Rattle.outbox.specs.Resend.{Resend}
 use Rattle.node_steps.specs.Changes.{Each}
-use Rattle.operator_rows.specs.Rows.{AreRowsOf, HasRow}
-use Rattle.operator_rows.specs.Sound.{IsSound, MayPut}
+use Rattle.operator_rows.specs.Rows.{HasRow}
+use Rattle.operator_rows.specs.Sound.{IsSound}
 use Rattle.operator_rows.specs.State.{State, no_rows, opening}
 use Rattle.operator_rows.specs.Steps.{after_change}
 use Rattle.operator_rows.specs.Stored.{put_row}
 use Rattle.operator_rows.proofs.RowChanges.{row_changes}
-use Rattle.operator_stored.specs.Bad.{IsBad, Repeated}
+use Rattle.operator_stored.specs.Bad.{Repeated}
 use Rattle.operator_stored.specs.Placing.{ArePut, IsFit, IsInTurn, IsNew, IsPlaced, MayAdd, ShowsBad, Stands}
 use Rattle.stored_rows.specs.Turns.{turn_of}
-use Rattle.stored_rows.proofs.Growing.{AreExactly, is_no_later, none_stand, one_more, stands_before}
+use Rattle.stored_rows.proofs.Growing.{is_no_later, none_stand, one_more, stands_before}
 use Rattle.stored_rows.proofs.Repeated.{repeats, repeats_in_other_order}
 
 -- no counter gave a number, and nothing else stands

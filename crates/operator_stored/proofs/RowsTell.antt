@@ -12,8 +12,6 @@ use Rattle.ocpi_types.specs.declared.sessions.Session.{Session}
 use Rattle.ocpi_types.specs.declared.rows.Row.{Row}
 use Rattle.ocpi_types.specs.declared.rows.Row.TheVariants as row
 use Rattle.ocpi_types.specs.declared.rows.Counter.TheVariants as counter
-use Rattle.command_book.specs.Stored as commands
-use Rattle.reservation_book.specs.Rows as booked
 use Rattle.session_book.specs.Stored as charged
 use Rattle.token_desk.specs.Tokens as desk
 use Rattle.token_desk.specs.Tokens.{token_key}

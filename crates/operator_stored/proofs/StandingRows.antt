@@ -1,5 +1,5 @@
 -- Whether a row of a kind and key stands, as it is told by what stands under the key.
-use Rattle.std.proofs.Common.{◌≡◌, ◌≢◌, ℕ, ◌≤◌, zero, suc, List, nat_eq, Bool, true, false, not, true≢false, MatchBool, ◌⊎◌, inl, inr, refl, sym, ap, subst, ◌∙◌, arith}
+use Rattle.std.proofs.Common.{◌≡◌, ◌≢◌, ℕ, zero, suc, List, nat_eq, Bool, true, false, not, true≢false, MatchBool, ◌⊎◌, inl, inr, refl, sym, ap, subst, ◌∙◌, arith}
 use Rattle.std.specs.Prelude.{Option, Some, None, is_some, option_copied}
 use Rattle.std.specs.FinMap.{get}
 use denote.Ref.{Bor}
@@ -13,7 +13,6 @@ use Rattle.ocpi_types.specs.declared.stored.Reply.{Reply}
 use Rattle.ocpi_types.specs.declared.stored.Reservation.{Reservation}
 use Rattle.ocpi_types.specs.declared.words.CommandResultType.{CommandResultType}
 use Rattle.ocpi_types.specs.declared.rows.Counter.{Counter}
-use Rattle.ocpi_types.specs.declared.rows.Counter.TheVariants as counter
 use Rattle.ocpi_types.specs.declared.rows.Row.{Row}
 use Rattle.ocpi_types.specs.declared.rows.Row.TheVariants as row
 use Rattle.ocpi_types.specs.declared.rows.RowKey.{RowKey}
@@ -22,7 +21,6 @@ use Rattle.site_book.specs.Sites.{OutOfService, works}
 use Rattle.outbox.specs.declared.push_book.Outgoing.{Outgoing}
 use Rattle.token_desk.specs.Tokens.{token_key}
 use Rattle.std.proofs.lemmas.Bool.Decides.{nat_tests}
-use Rattle.tables.proofs.Options.{none_some, not_both, known}
 use Rattle.operator_rows.specs.Rows.{HasCount, HasRow}
 use Rattle.operator_rows.specs.Sound.{IsSound}
 use Rattle.operator_rows.specs.State.{State, Rows}
@@ -75,13 +73,17 @@ stands_under s (row.Reservation p id r) sound h = (row.Reservation p id h.0, h.1
 stands_under s (row.Pending p n o) sound h = (row.Pending p n h.0, h.1, refl)
 stands_under s (row.Result p n x) sound h = (row.Result p n h.0, h.1, refl)
 stands_under s (row.Session v) sound h =
-    let same : key v.id ≡ key h.0.id = sound.charged_keyed.sessions (key v.id) h.0 h.1 in
-    (row.Session h.0, subst (λ k. get s.rows.charged.sessions k ≡ Some h.0) same h.1,
-     ap (λ k. keys.Session k (key h.0.id)) h.2 ∙ ap (λ k. keys.Session (key v.party) k) (sym same))
+    let same : key v.id ≡ key h.0.id = sound.charged_keyed.sessions (key v.id) h.0 h.1 in (
+      row.Session h.0,
+      subst (λ k. get s.rows.charged.sessions k ≡ Some h.0) same h.1,
+      ap (λ k. keys.Session k (key h.0.id)) h.2 ∙ ap (λ k. keys.Session (key v.party) k) (sym same),
+    )
 stands_under s (row.Cdr x) sound h =
-    let same : key x.id ≡ key h.0.id = sound.charged_keyed.cdrs (key x.id) h.0 h.1 in
-    (row.Cdr h.0, subst (λ k. get s.rows.charged.cdrs k ≡ Some h.0) same h.1,
-     ap (λ k. keys.Cdr k (key h.0.id)) h.2 ∙ ap (λ k. keys.Cdr (key x.party) k) (sym same))
+    let same : key x.id ≡ key h.0.id = sound.charged_keyed.cdrs (key x.id) h.0 h.1 in (
+      row.Cdr h.0,
+      subst (λ k. get s.rows.charged.cdrs k ≡ Some h.0) same h.1,
+      ap (λ k. keys.Cdr k (key h.0.id)) h.2 ∙ ap (λ k. keys.Cdr (key x.party) k) (sym same),
+    )
 stands_under s (row.Command n x) sound h = absurd h
 
 some_same : {X : Type 0} (x y : X) → Some x ≡ Some y → x ≡ y
@@ -146,14 +148,14 @@ pub told_session : (b : Bool) (s : State) (v w : Session) → IsSound s → get 
 told_session b s v w sound has may also =
     told_under b s (row.Session v) sound (λ h. (w, has, may h))
     (λ h u. let same : u.0 ≡ w = some_same u.0 w (sym u.1 ∙ has) in
-        true≢false (sym (also (ap (λ (x : Session). key x.party) (sym same) ∙ u.2)) ∙ h))
+    true≢false (sym (also (ap (λ (x : Session). key x.party) (sym same) ∙ u.2)) ∙ h))
 
 pub told_cdr : (b : Bool) (s : State) (v w : Cdr) → IsSound s → get s.rows.charged.cdrs (key v.id) ≡ Some w → (b ≡ true → key w.party ≡ key v.party) →
     (key w.party ≡ key v.party → b ≡ true) → MatchBool b (Stands s (row.Cdr v)) (IsNew s (row.Cdr v))
 told_cdr b s v w sound has may also =
     told_under b s (row.Cdr v) sound (λ h. (w, has, may h))
     (λ h u. let same : u.0 ≡ w = some_same u.0 w (sym u.1 ∙ has) in
-        true≢false (sym (also (ap (λ (x : Cdr). key x.party) (sym same) ∙ u.2)) ∙ h))
+    true≢false (sym (also (ap (λ (x : Cdr). key x.party) (sym same) ∙ u.2)) ∙ h))
 
 -- a number is 0 where the test says so
 pub is_other : (n : ℕ) → not (nat_eq n 0) ≡ true → n ≢ 0

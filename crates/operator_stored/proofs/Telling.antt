@@ -1,21 +1,13 @@
 -- What tells that a row may be put, and what that the rows are bad.
-use Rattle.std.proofs.Common.{◌≡◌, ◌≢◌, ℕ, ◌≤◌, ◌<◌, zero, suc, List, Bool, true, false, not, true≢false, is_gt, nat_eq, MatchBool, ◌⊎◌, inl, inr, refl, sym, ap, subst, ◌∙◌, arith}
+use Rattle.std.proofs.Common.{◌≡◌, ◌≢◌, ℕ, ◌≤◌, ◌<◌, List, Bool, true, false, not, true≢false, is_gt, nat_eq, MatchBool, inl, inr, refl, sym, ap, subst, ◌∙◌, arith}
 use Rattle.std.specs.Prelude.{Option, Some, None, IsTrue, is_some, Contains}
 use Rattle.std.specs.FinMap.{get, contains_key, get-empty}
 use Rattle.std.specs.Ordering.{nat_cmp}
 use Rattle.ocpi_text.specs.Text.{key}
-use Rattle.ocpi_text.specs.Whole.{max_whole}
-use Rattle.ocpi_text.specs.declared.own_ids.OwnIdKind.TheVariants as own
-use Rattle.ocpi_types.specs.Rows.{key_of}
-use Rattle.ocpi_types.specs.declared.cdrs.Cdr.{Cdr}
-use Rattle.ocpi_types.specs.declared.sessions.Session.{Session}
 use Rattle.ocpi_types.specs.declared.token.Token.{Token}
-use Rattle.ocpi_types.specs.declared.stored.OpenCommand.{OpenCommand}
 use Rattle.ocpi_types.specs.declared.stored.Push.{Push}
-use Rattle.ocpi_types.specs.declared.stored.Reply.{Reply}
 use Rattle.ocpi_types.specs.declared.stored.Reservation.{Reservation}
 use Rattle.ocpi_types.specs.declared.stored.SentCommand.{SentCommand}
-use Rattle.ocpi_types.specs.declared.words.CommandResultType.{CommandResultType}
 use Rattle.ocpi_types.specs.declared.rows.Counter.{Counter}
 use Rattle.ocpi_types.specs.declared.rows.Counter.TheVariants as counter
 use Rattle.ocpi_types.specs.declared.rows.Row.{Row}
@@ -27,22 +19,20 @@ use Rattle.std.proofs.lemmas.Bool.Decides.{nat_tests}
 use Rattle.outbox.specs.Outbox.{OutboxRows}
 use Rattle.outbox.proofs.Timing.{has_none}
 use Rattle.outbox.specs.Pushes.{IsAbout, IsReplaced, subject}
-use Rattle.outbox.specs.declared.push_book.Outgoing.{Outgoing}
 use Rattle.outbox.specs.declared.push_book.Subject.{Subject}
 use Rattle.node_steps.specs.Peers.{HasPeer}
-use Rattle.site_book.specs.Sites.{Claims, IsConnectorOf, IsEvse, IsSiteOf}
+use Rattle.site_book.specs.Sites.{Claims, IsEvse, IsSiteOf}
 use Rattle.site_book.specs.declared.claim.Claim.{Claim}
 use Rattle.site_book.specs.declared.claim.Claim.TheVariants.{OpenStart, Live, Reserved}
-use Rattle.stored_rows.specs.Given.{IsNotGiven, IsOwnId}
 use Rattle.stored_rows.specs.Turns.{turn_of}
-use Rattle.tables.proofs.Options.{none_some, not_both, known, none_else}
+use Rattle.tables.proofs.Options.{none_some, known}
 use Rattle.operator_rows.specs.Rows.{HasCount, HasRow}
-use Rattle.operator_rows.specs.Sound.{HasPlace, IsOwnStart, IsSound, MayClaim, with_rows}
-use Rattle.operator_rows.specs.State.{HasClaim, IsFree, IsStart, State, Rows, Takes, as_outbox, opening}
+use Rattle.operator_rows.specs.Sound.{IsSound, MayClaim}
+use Rattle.operator_rows.specs.State.{HasClaim, IsFree, State, Rows, as_outbox}
 use Rattle.operator_rows.specs.Claimed.{IsIndexed}
 use Rattle.operator_stored.proofs.StandingRows.{is_other, is_zero, some_of, zero_or_not}
-use Rattle.operator_stored.specs.Bad.{IsBad, MakesClaim}
-use Rattle.operator_stored.specs.Bad.{Foreign, NothingCounted, PushNotGiven, PushToStranger, TokenOfStranger, CommandOfStranger, StartOfOtherToken, ServiceNowhere, ReservationNowhere, StartNowhere, ClaimedTwice, OpenUnanswered, ResultUnanswered, OpenWithResult, PushedTwice}
+use Rattle.operator_stored.specs.Bad.{MakesClaim}
+use Rattle.operator_stored.specs.Bad.{Foreign, NothingCounted, PushNotGiven, PushToStranger, TokenOfStranger, ServiceNowhere, ReservationNowhere, ClaimedTwice, PushedTwice}
 use Rattle.operator_stored.specs.Placing.{ComesNext, IsPlaced, MayAdd, ShowsBad, Tells}
 
 -- the answer, told by cases
@@ -178,8 +168,8 @@ module _ (s : State) (n : ℕ) (to : List ℕ) (push : Push) where
     | inr some ↦
         let about : IsAbout s.rows.pushes some.0 q = subst (λ (o : Option Subject). IsReplaced s.rows.pushes o (Some q)) some.1 h in
         PushedTwice q n about.0.to to about.0.push push some.0
-            (λ same. next.is_new (row.Push q about.0.to about.0.push) about.1 (ap keys.Push same))
-            (p.among (row.Push q about.0.to about.0.push) about.1) p.here about.2 some.1
+        (λ same. next.is_new (row.Push q about.0.to about.0.push) about.1 (ap keys.Push same))
+        (p.among (row.Push q about.0.to about.0.push) about.1) p.here about.2 some.1
   ]
 
   pub not_pushed : (o : Option ℕ) → o ≡ None → IsReplaced s.rows.pushes (subject to push) o → (u : Subject) (q : ℕ) → subject to push ≡ Some u → IsAbout s.rows.pushes u q → ⊥
@@ -192,7 +182,7 @@ pub service_tells : (b : Bool) (s : State) (site : Site) (evse : List ℕ) → s
 service_tells b s site evse same is also =
     tells b s (row.Service evse) (λ h. record { may = subst (λ (z : Site). IsEvse z.locations evse) same (is h); fit = tt })
     (λ h line rows p. ServiceNowhere evse p.here
-        (λ e. true≢false (sym (also (subst (λ (z : Site). IsEvse z.locations evse) (sym (site_of s (row.Service evse) line rows p) ∙ sym same) e)) ∙ h)))
+    (λ e. true≢false (sym (also (subst (λ (z : Site). IsEvse z.locations evse) (sym (site_of s (row.Service evse) line rows p) ∙ sym same) e)) ∙ h)))
 
 -- whether an EVSE is at the location of a reservation
 module _ (b : Bool) (site : Site) (s : State) (r : Reservation) (evse : List ℕ) (same : site ≡ s.site) (is : evse ≡ key r.evse_uid) where

@@ -1,5 +1,5 @@
 -- What tells that a command may be open or have a result, and what that the rows are bad.
-use Rattle.std.proofs.Common.{◌≡◌, ◌≢◌, ℕ, List, Bool, true, false, not, true≢false, MatchBool, refl, sym, ap, subst, ◌∙◌, arith}
+use Rattle.std.proofs.Common.{◌≡◌, ℕ, List, Bool, true, false, not, MatchBool, refl, sym, ap, subst, ◌∙◌, arith}
 use Rattle.std.specs.Prelude.{Option, Some, None, is_some, option_copied}
 use Rattle.std.specs.FinMap.{get}
 use denote.Ref.{Bor}
@@ -12,13 +12,13 @@ use Rattle.command_book.specs.Stored as commands
 use Rattle.node_steps.specs.Peers.{HasPeer}
 use Rattle.site_book.specs.declared.claim.Claim.{Claim}
 use Rattle.site_book.specs.declared.claim.Claim.TheVariants.{OpenStart}
-use Rattle.tables.proofs.Options.{none_some, not_both}
+use Rattle.tables.proofs.Options.{not_both}
 use Rattle.operator_rows.specs.Sound.{HasPlace, IsOwnStart}
 use Rattle.operator_rows.specs.State.{HasClaim, IsFree, IsStart, State, Takes}
-use Rattle.operator_stored.proofs.StandingRows.{is_some_copied, some_of}
+use Rattle.operator_stored.proofs.StandingRows.{is_some_copied}
 use Rattle.operator_stored.proofs.Telling.{claimed_twice, free_may, is_none_told, is_some_told, site_of, stranger, tells}
 use Rattle.operator_stored.specs.Bad.{CommandOfStranger, OpenUnanswered, OpenWithResult, ResultUnanswered, StartNowhere, StartOfOtherToken}
-use Rattle.operator_stored.specs.Placing.{ComesNext, IsPlaced, MayTake, ShowsBad, Tells}
+use Rattle.operator_stored.specs.Placing.{ComesNext, MayTake, ShowsBad, Tells}
 
 -- what a look-up by reference found
 module _ {X : Type 0} (b : Bool) (r : Option (Bor X)) (o : Option X) (is : is_some r ≡ not b) (same : option_copied r ≡ o) where
@@ -78,4 +78,4 @@ module _ (s : State) (p : List ℕ) (n : ℕ) (x : CommandResultType) where
       tells b s (row.Result p n x)
       (λ h. record { may = record { answered = has; settled = none_copied b r (get s.rows.commands.pending (p, n)) is at h }; fit = tt })
       (λ h line all q. let o = some_copied b r (get s.rows.commands.pending (p, n)) is at h in
-          OpenWithResult p n o.0 x (q.among (row.Pending p n o.0) o.1) q.here)
+      OpenWithResult p n o.0 x (q.among (row.Pending p n o.0) o.1) q.here)

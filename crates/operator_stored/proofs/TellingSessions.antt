@@ -1,6 +1,6 @@
 -- What tells that a session or a charge detail record may stand, and what that the rows are bad.
 use Rattle.std.proofs.Common.{◌≡◌, ◌≢◌, ℤ, ℕ, ◌≤◌, ◌<◌, List, Bool, true, false, not, true≢false, MatchBool, ◌⊎◌, inl, inr, refl, sym, ap, subst, ◌∙◌, arith, is_le, nat_cmp}
-use Rattle.std.specs.Prelude.{Option, Some, None, IfSome, IfNone, Ok}
+use Rattle.std.specs.Prelude.{Option, Some, None, IfSome, Ok}
 use Rattle.std.specs.FinMap.{get}
 use Rattle.std.proofs.lemmas.Bool.{cases_lt}
 use Rattle.std.proofs.lemmas.Bool.Decides.{nat_tests}
@@ -22,11 +22,11 @@ use Rattle.session_state.specs.Resuming.{CannotResume}
 use Rattle.site_book.specs.Sites.{IsConnectorOf}
 use Rattle.site_book.specs.declared.claim.Claim.{Claim}
 use Rattle.site_book.specs.declared.claim.Claim.TheVariants.{Live}
-use Rattle.stored_rows.specs.Given.{IsNotGiven, IsOwnId}
+use Rattle.stored_rows.specs.Given.{IsOwnId}
 use Rattle.operator_rows.specs.State.{HasClaim, IsFree, IsLive, State}
 use Rattle.operator_stored.proofs.Telling.{claimed_twice, count_of, free_may, party_of, site_of, stranger, tells}
 use Rattle.operator_stored.specs.Bad.{CdrIdNotOwn, CdrNotGiven, CdrOfOther, SessionIdNotOwn, SessionNotGiven, SessionNowhere, SessionOfOther, SessionOfStranger, Stuck}
-use Rattle.operator_stored.specs.Placing.{ComesNext, IsOwn, IsPlaced, MayCharge, ShowsBad, Tells}
+use Rattle.operator_stored.specs.Placing.{ComesNext, IsOwn, MayCharge, ShowsBad, Tells}
 
 equal_or_not : (m n : ℕ) → (m ≡ n) ⊎ (m ≢ n)
 equal_or_not m n = elim (cases_lt m n) [
@@ -136,7 +136,7 @@ module _ (s : State) (x : Cdr) where
       ((m : ℕ) → m ≤ max_whole → key (own_id_text own.Cdr s.party m) ≡ key x.id → m ≡ n) → Tells b s (row.Cdr x)
   own_cdr b n last is same of made sole = tells b s (row.Cdr x)
       (λ e. let o = own_of s own.Cdr s.rows.charged.last_cdr n x.party x.id of made sole (is_at_most n last s.rows.charged.last_cdr b is same e) in
-          record { may = record { own = of; number = o.given }; fit = (n, made) })
+      record { may = record { own = of; number = o.given }; fit = (n, made) })
       (λ e. cdr_not_given n made (is_beyond n last s.rows.charged.last_cdr b is same e))
 
 -- whether the EVSE of a session has its connector

@@ -1,5 +1,6 @@
 -- The operator that is made of rows, and the laws of it.
-use Rattle.std.specs.Prelude.{◌≡◌, List}
+use Rattle.std.specs.Prelude.{◌≡◌, List, Ok}
+use Rattle.ocpi_text.specs.Party.{party_at}
 use Rattle.ocpi_types.specs.declared.rows.Row.{Row}
 use Rattle.ocpi_types.specs.declared.site.SiteLine.{SiteLine}
 use Rattle.operator_rows.specs.Rows.{AreRowsOf}
@@ -18,6 +19,12 @@ pub record IsMadeOf (line : SiteLine) (rows : List Row) (s : State) : Type 0 whe
 -- rows that are bad are those of no operator of the site
 abbrev pub BadRowsAreOfNone : Type 0
 BadRowsAreOfNone = (line : SiteLine) (rows : List Row) → IsBad line rows → (s : State) → IsSound s → IsMadeOf line rows s → ⊥
+
+-- and rows that are those of no operator of the site are bad: no reason is missing
+abbrev pub OtherRowsAreBad : Type 0
+OtherRowsAreBad =
+    (line : SiteLine) (rows : List Row) → party_at line.parties.operator ≡ Ok line.parties.operator → ((s : State) → IsSound s → IsMadeOf line rows s → ⊥) →
+    (IsBad line rows → ⊥) → ⊥
 
 -- and rows tell all that is stored
 abbrev pub RowsTellAll : Type 0

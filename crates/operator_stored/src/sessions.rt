@@ -75,10 +75,7 @@ fn may_charge(books: &Books, session: &Session) -> bool
     if !is_provider(books, session.cdr_token.party.key()) {
         return false;
     }
-    if !books
-        .site_book()
-        .has_connector(evse, &session.connector_id)
-    {
+    if !books.site_book().has_connector(evse, &session.connector_id) {
         return false;
     }
     is_unclaimed(books, evse)

@@ -1,4 +1,3 @@
-use Rattle.std.proofs.Common.{◌≡◌, ◌∙◌}
 use Rattle.operator_stored.proofs.Billing.{bill_added}
 use Rattle.operator_stored.proofs.bills.add_bill.Goals as goal
 

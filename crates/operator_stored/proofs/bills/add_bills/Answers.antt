@@ -1,4 +1,3 @@
-use Rattle.std.proofs.Common.{◌≡◌}
 use Rattle.operator_stored.specs.Bills.{BillOf}
 use Rattle.operator_stored.proofs.Billing.{billed_by, here_of, if_false, if_true, more_below, none_below, once_more, once_none, twice_of}
 use Rattle.operator_stored.proofs.bills.add_bills.Goals as goal

@@ -1,4 +1,3 @@
-use Rattle.std.proofs.Common.{◌≡◌}
 use Rattle.operator_stored.specs.Bills.{AreIdsOf, BillOf}
 use Rattle.operator_stored.proofs.Billing.{Below, OnceBelow}
 use Rattle.operator_stored.proofs.bills.add_bills.Given as goal

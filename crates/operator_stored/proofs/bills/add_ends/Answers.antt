@@ -1,4 +1,3 @@
-use Rattle.std.proofs.Common.{◌≡◌}
 use Rattle.operator_stored.specs.Bills.{EndOf}
 use Rattle.operator_stored.proofs.Billing.{ended_by, here_of, more_below, none_below}
 use Rattle.operator_stored.proofs.bills.add_ends.Goals as goal

@@ -1,4 +1,3 @@
-use Rattle.std.proofs.Common.{◌≡◌}
 use Rattle.operator_stored.specs.Bills.{AreIdsOf, EndOf}
 use Rattle.operator_stored.proofs.Billing.{Below}
 use Rattle.operator_stored.proofs.bills.add_ends.Given as goal

@@ -1,4 +1,3 @@
-use Rattle.std.proofs.Common.{◌≡◌}
 use Rattle.operator_stored.proofs.Billing.{end_added}
 use Rattle.operator_stored.proofs.bills.add_session.Goals as goal
 

@@ -1,4 +1,3 @@
-use Rattle.std.proofs.Common.{◌≡◌}
 use Rattle.operator_stored.proofs.Billing.{agree_more, all_billed, here_of, misbilled}
 use Rattle.operator_stored.proofs.bills.all_agree.Goals as goal
 

@@ -1,4 +1,3 @@
-use Rattle.std.proofs.Common.{◌≡◌}
 use Rattle.operator_stored.proofs.Billing.{AgreeBelow}
 use Rattle.operator_stored.proofs.bills.all_agree.Given as goal
 

@@ -1,4 +1,3 @@
-use Rattle.std.proofs.Common.{◌≡◌}
 use Rattle.operator_stored.proofs.TellingCommands.{start_nowhere, take_tells}
 use Rattle.operator_stored.proofs.commands.may_take.Goals as goal
 

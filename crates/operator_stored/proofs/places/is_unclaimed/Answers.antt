@@ -1,5 +1,3 @@
-use Rattle.std.proofs.Common.{◌≡◌, ap, ◌∙◌}
-use Rattle.std.specs.Prelude.{is_some}
 use Rattle.operator_stored.proofs.Telling.{unclaimed_tells}
 use Rattle.operator_stored.proofs.places.is_unclaimed.Goals as goal
 

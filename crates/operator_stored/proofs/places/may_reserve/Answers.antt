@@ -1,4 +1,4 @@
-use Rattle.std.proofs.Common.{◌≡◌, List, ℕ, sym, ap, subst, ◌∙◌, MatchBool}
+use Rattle.std.proofs.Common.{List, ℕ, subst, MatchBool}
 use Rattle.site_book.specs.declared.claim.Claim.{Claim}
 use Rattle.operator_rows.specs.State.{HasClaim, IsFree}
 use Rattle.operator_stored.proofs.Telling.{not_at, is_at, reservation_nowhere, reservation_tells}

@@ -1,4 +1,3 @@
-use Rattle.std.proofs.Common.{◌≡◌, ℕ, sym, ap, subst, ◌∙◌}
 use Rattle.operator_stored.proofs.Telling.{service_tells}
 use Rattle.operator_stored.proofs.places.may_stop.Goals as goal
 

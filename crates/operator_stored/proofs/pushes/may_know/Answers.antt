@@ -1,4 +1,4 @@
-use Rattle.std.proofs.Common.{◌≡◌, subst, MatchBool}
+use Rattle.std.proofs.Common.{subst, MatchBool}
 use Rattle.node_steps.specs.Peers.{HasPeer}
 use Rattle.operator_stored.proofs.Telling.{token_tells}
 use Rattle.operator_stored.proofs.pushes.may_know.Goals as goal

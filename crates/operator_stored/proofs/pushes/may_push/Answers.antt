@@ -1,4 +1,4 @@
-use Rattle.std.proofs.Common.{◌≡◌, List, ℕ, subst, sym}
+use Rattle.std.proofs.Common.{List, ℕ, subst}
 use Rattle.node_steps.specs.Peers.{HasPeer}
 use Rattle.operator_stored.proofs.Telling.{above, push_not_given, push_of_stranger, push_tells, up_to}
 use Rattle.operator_stored.proofs.pushes.may_push.Goals as goal

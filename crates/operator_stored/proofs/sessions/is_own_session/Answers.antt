@@ -1,4 +1,4 @@
-use Rattle.std.proofs.Common.{◌≡◌, ◌≤◌, ℕ, List, ap, sym, subst, ◌∙◌}
+use Rattle.std.proofs.Common.{◌≡◌, ◌≤◌, ℕ, List, ap, subst, ◌∙◌}
 use Rattle.ocpi_text.specs.OwnIds.{own_id_text}
 use Rattle.ocpi_text.specs.Text.{key}
 use Rattle.ocpi_text.specs.Whole.{max_whole}

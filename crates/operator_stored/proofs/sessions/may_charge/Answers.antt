@@ -1,8 +1,5 @@
-use Rattle.std.proofs.Common.{◌≡◌, List, ℕ, subst}
-use Rattle.ocpi_text.specs.Text.{key}
-use Rattle.ocpi_types.specs.declared.site.Site.{Site}
+use Rattle.std.proofs.Common.{List, ℕ, subst}
 use Rattle.node_steps.specs.Peers.{HasPeer}
-use Rattle.site_book.specs.Sites.{IsConnectorOf}
 use Rattle.operator_stored.proofs.TellingSessions.{charge_tells, connector_back, connector_over, session_nowhere, session_of_stranger}
 use Rattle.operator_stored.proofs.sessions.may_charge.Goals as goal
 
@@ -13,11 +10,11 @@ returns-then-not-is_provider c = session_of_stranger c.args.books.now.state c.ar
 pub returns-then-not-has_connector : goal.returns-then-not-has_connector
 returns-then-not-has_connector c = session_nowhere c.args.books.now.state c.args.session.now c.requires.live
     (connector_back c.has_connector.result c.site_book.result.now.site c.args.books.now.state c.args.session.now c.key-evse.result c.site_book.ensures.site c.key-evse.ensures
-        c.has_connector.ensures.1 c.if-not-has_connector.true)
+    c.has_connector.ensures.1 c.if-not-has_connector.true)
 
 pub returns : goal.returns
 returns c = charge_tells c.args.books.now.state c.args.session.now c.is_unclaimed.result c.key-evse.result c.key-evse.ensures c.requires.next c.requires.live c.requires.own
     (subst (λ (k : List ℕ). HasPeer c.args.books.now.state.providers k) c.key.ensures c.if-not-is_provider.ensures)
     (connector_over c.has_connector.result c.site_book.result.now.site c.args.books.now.state c.args.session.now c.key-evse.result c.site_book.ensures.site c.key-evse.ensures
-        c.has_connector.ensures.0 c.if-not-has_connector.false)
+    c.has_connector.ensures.0 c.if-not-has_connector.false)
     c.is_unclaimed.ensures

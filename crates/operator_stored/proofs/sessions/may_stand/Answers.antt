@@ -1,4 +1,4 @@
-use Rattle.std.proofs.Common.{◌≡◌, ap, ◌∙◌}
+use Rattle.std.proofs.Common.{ap, ◌∙◌}
 use Rattle.ocpi_types.specs.declared.site.Site.{Site}
 use Rattle.operator_stored.proofs.TellingSessions.{stuck}
 use Rattle.operator_stored.proofs.sessions.may_stand.Goals as goal

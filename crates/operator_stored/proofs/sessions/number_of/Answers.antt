@@ -1,4 +1,3 @@
-use Rattle.std.proofs.Common.{◌≡◌}
 use Rattle.operator_stored.proofs.TellingSessions.{sole_number}
 use Rattle.operator_stored.proofs.sessions.number_of.Goals as goal
 

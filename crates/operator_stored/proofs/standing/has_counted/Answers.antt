@@ -1,4 +1,4 @@
-use Rattle.std.proofs.Common.{◌≡◌, ℕ, refl, sym, ap, subst, ◌∙◌, MatchBool}
+use Rattle.std.proofs.Common.{refl, sym, ap, ◌∙◌}
 use Rattle.ocpi_types.specs.declared.rows.Counter.TheVariants as counter
 use Rattle.ocpi_types.specs.declared.rows.Row.TheVariants as row
 use Rattle.operator_stored.proofs.StandingRows.{by_row, told_number}
@@ -18,10 +18,10 @@ pub returns-in-Session : goal.returns-in-Session
 returns-in-Session c = let s = c.args.books.now.state in
     by_row _ s (row.Count c.args.counter c.args.last) (row.Count counter.Session c.args.last) (ap (λ k. row.Count k c.args.last) c.in-Session.is)
     (told_number s counter.Session c.args.last s.rows.charged.last_session c.value-in-Session.result
-        (c.value-in-Session.ensures.value ∙ c.last_session.ensures ∙ ap (λ r. r.last_session) c.charged.ensures) (λ h. (refl, h)) (λ n h e. h.1 (sym h.0 ∙ e)))
+    (c.value-in-Session.ensures.value ∙ c.last_session.ensures ∙ ap (λ r. r.last_session) c.charged.ensures) (λ h. (refl, h)) (λ n h e. h.1 (sym h.0 ∙ e)))
 
 pub returns-in-Cdr : goal.returns-in-Cdr
 returns-in-Cdr c = let s = c.args.books.now.state in
     by_row _ s (row.Count c.args.counter c.args.last) (row.Count counter.Cdr c.args.last) (ap (λ k. row.Count k c.args.last) c.in-Cdr.is)
     (told_number s counter.Cdr c.args.last s.rows.charged.last_cdr c.value-in-Cdr.result
-        (c.value-in-Cdr.ensures.value ∙ c.last_cdr.ensures ∙ ap (λ r. r.last_cdr) c.charged-in-Cdr.ensures) (λ h. (refl, h)) (λ n h e. h.1 (sym h.0 ∙ e)))
+    (c.value-in-Cdr.ensures.value ∙ c.last_cdr.ensures ∙ ap (λ r. r.last_cdr) c.charged-in-Cdr.ensures) (λ h. (refl, h)) (λ n h e. h.1 (sym h.0 ∙ e)))

@@ -1,4 +1,4 @@
-use Rattle.std.proofs.Common.{◌≡◌, List, ℕ, sym, ap, ◌∙◌}
+use Rattle.std.proofs.Common.{List, ℕ, sym, ap, ◌∙◌}
 use Rattle.std.specs.FinMap.{get}
 use Rattle.session_book.specs.Stored.{Rows}
 use Rattle.operator_stored.proofs.StandingRows.{told_session}

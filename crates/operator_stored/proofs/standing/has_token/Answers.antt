@@ -1,8 +1,8 @@
-use Rattle.std.proofs.Common.{◌≡◌, List, ℕ, sym, ap, ◌∙◌}
+use Rattle.std.proofs.Common.{◌≡◌, List, ℕ, ap, ◌∙◌}
 use Rattle.std.specs.Prelude.{is_some}
 use Rattle.ocpi_text.specs.Text.{key}
 use Rattle.std.specs.FinMap.{get}
-use Rattle.token_desk.specs.Tokens.{Tokens, TokenKey, token_key}
+use Rattle.token_desk.specs.Tokens.{Tokens, token_key}
 use Rattle.ocpi_types.specs.declared.rows.Row.TheVariants as row
 use Rattle.operator_stored.proofs.StandingRows.{told_by}
 use Rattle.operator_stored.proofs.standing.has_token.Goals as goal
@@ -16,4 +16,4 @@ returns c =
     ap (λ (k : List ℕ). get s.rows.tokens ((t.token_type, k), c.key.result)) c.key-2.ensures ∙
     ap (λ (k : List ℕ). get s.rows.tokens ((t.token_type, key t.uid), k)) c.key.ensures in
     told_by c.is_some.result (get s.rows.tokens (token_key t)) s (row.Token t) c.requires
-        (c.is_some.ensures ∙ ap is_some (c.find.ensures ∙ keyed)) (λ x h. (x, h)) (λ u. u)
+    (c.is_some.ensures ∙ ap is_some (c.find.ensures ∙ keyed)) (λ x h. (x, h)) (λ u. u)
