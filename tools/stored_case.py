@@ -10,6 +10,8 @@ from stored_rules import operator_faults, provider_faults
 SITE = {"at": moment("10:00:00"), "party": OPERATOR, "providers": PROVIDERS,
         "site": {"currency": "EUR", "locations": [location("LOC1", ["E1", "E2"]), location("LOC2", ["E3"])], "price": 0.25}}
 LINES, WANTED = [], []
+# The faults that some rows had alone, by the crate whose definition names them.
+ALONE = set()
 
 
 def line(given, *gives):
@@ -26,6 +28,8 @@ def puts(rows):
 class Operators:
     """Rows of an operator of a site."""
 
+    crate = "operator_stored"
+
     def __init__(self, site_line=None):
         self.site_line = site_line or SITE
         self.opening = "operator " + text(self.site_line)
@@ -36,6 +40,8 @@ class Operators:
 
 class Providers:
     """Rows of a provider with certain operators."""
+
+    crate = "provider_stored"
 
     def __init__(self, parties=(PROVIDER, *OPERATORS)):
         self.parties = parties
@@ -58,6 +64,8 @@ def make(node, rows, places, wanted=None):
     faults = node.faults(given)
     if wanted is not None and faults != set(wanted):
         sys.exit(f"other faults than {wanted}: {faults}, of rows\n" + "\n".join(puts(given)))
+    if len(faults) == 1:
+        ALONE.update((node.crate, fault) for fault in faults)
     gives = ["refused 7 BadRows"] if faults else ["made", *puts(given)]
     line(" ".join(["make", *map(str, places)]), *gives)
 

@@ -1,8 +1,13 @@
 """The cases of `stored_cases` of rows that are bad: of each reason lists of rows that are bad for it alone, and beside them the
-nearest that are not."""
+nearest that are not. No reason of `IsBad` may be without such a list."""
+import pathlib
+import re
+import sys
+
 from operator_case import own_id, url
 from operator_charge_case import cdr_id, session_id
 from stored_case import (
+    ALONE,
     Operators,
     Providers,
     acknowledged,
@@ -33,6 +38,7 @@ from stored_case import (
 from stored_rules import LAST_NUMBER
 
 STRANGER = "AT/XXX"
+CRATES = pathlib.Path(__file__).resolve().parent.parent / "crates"
 
 
 def charged(number=1, of=None, **more):
@@ -279,3 +285,8 @@ def add_faults():
     providers = Providers()
     for cases in (kinds_of_providers, numbers_of_providers, parties_of_providers):
         cases(providers)
+    for crate in (operators.crate, providers.crate):
+        _, reasons = (CRATES / crate / "specs" / "Bad.antt").read_text(encoding="utf-8").split("pub data IsBad", 1)
+        for reason in re.findall(r"^  ([A-Z]\w*) :", reasons, re.MULTILINE):
+            if (crate, reason) not in ALONE:
+                sys.exit(f"no rows of {crate} are bad for {reason} alone")

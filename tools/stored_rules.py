@@ -1,6 +1,6 @@
 """Of which rows a node is made, by rules of its own: `operator_faults` and `provider_faults` give why rows are those of no
 operator of a site, and of no provider with certain operators (the reasons of `IsBad`, by its names). Written from the rules
-(docs/PROTOCOL.md, the rows that a node is made of), with searches from end to end.
+(docs/STORE.md, "A node made again of its rows"), with searches from end to end.
 
 A row is its kind, its key and the tree of its text.
 """
