@@ -4,8 +4,8 @@ a choice of them into bench/, of which it tells the names.
 
     tools/case_lines.py
 
-What each part holds is told in `packet_cases`, `book_cases`, `operator_cases`, `provider_cases` and `world_cases`. To see where
-the program differs:
+What each part holds is told in `packet_cases`, `book_cases`, `operator_cases`, `provider_cases`, `stored_cases` and `world_cases`.
+To see where the program differs:
 
     tools/try_cases
 """
@@ -16,6 +16,7 @@ import book_cases
 import operator_cases
 import packet_cases
 import provider_cases
+import stored_cases
 import world_cases
 
 TOP = pathlib.Path(__file__).resolve().parent.parent
@@ -24,6 +25,7 @@ PARTS = {
     "books": book_cases,
     "operator": operator_cases,
     "provider": provider_cases,
+    "nodes": stored_cases,
     "worlds": world_cases,
 }
 
@@ -44,7 +46,7 @@ def main():
         write(lines / name, part(name, given))
         write(lines / f"{name}.stdout", gives)
         print(f"{name}: {len(given)} lines")
-    without_memory = [(role, *case) for role in ("operator", "provider") for case in PARTS[role].cases_without_memory()]
+    without_memory = [(role, *case) for role in ("operator", "provider", "nodes") for case in PARTS[role].cases_without_memory()]
     for at, (role, name, given, gives) in enumerate(without_memory, 1):
         write(TOP / "bench" / "fail_allocations" / f"{at}", part(role, given))
         write(TOP / "bench" / "fail_allocations" / f"{at}.stdout", gives)

@@ -149,6 +149,24 @@ def events_of_no_node():
         line("told", *told("told", [], []))
 
 
+def starts_again():
+    """Both nodes start again behind each event of the charge, which sends and changes what it does without that."""
+    packets = iter(PACKETS)
+    opened()
+    nodes = ["BE/BEC", "NL/TNM"]
+    for given, (number, rows) in zip(CHARGE, STEPS):
+        line(given, *told("stepped", [next(packets) for _ in range(number)], rows))
+        for node in nodes:
+            event("stepped", event="restart", node=node)
+        nodes.reverse()
+    past(PAST)
+    owed(30864)
+    goes_on(9)
+    line("run")
+    past(PAST)
+    owed(30864)
+
+
 def add_worlds():
     line("told", "no world")
     opened()
@@ -171,7 +189,7 @@ def add_worlds():
     owed(30864)
     nobody_has_a_past()
     # It goes on from there.
-    goes_on()
+    goes_on(22)
     # Up to a step that sends a packet and changes rows; no event at all.
     opened()
     sent = charge(OWED_AFTER)
@@ -184,14 +202,15 @@ def add_worlds():
     line("told", *told("told", [], []))
     past([])
     owed(0)
+    starts_again()
 
 
-def goes_on():
-    """The session stays as it is, and the kept reply is sent again by the next serial."""
+def goes_on(serial):
+    """The session stays as it is, and the kept reply is sent again, by that serial."""
     at = moment("10:33:00")
     event("stepped", event="stops", node="BE/BEC", at=at, evse_uid="E1")
     packet = text({"body": {"status_code": 1000, "timestamp": moment("10:30:10")}, "from": "NL/TNM", "kind": "ack", "request": 6,
-                   "serial": 22, "to": "BE/BEC"})
+                   "serial": serial, "to": "BE/BEC"})
     event("stepped", [packet], ["put count serial"], event="deliver", node="NL/TNM", at=at, **{"from": "BE/BEC"}, serial=8)
     past(PAST)
     owed(30864)

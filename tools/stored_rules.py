@@ -1,0 +1,229 @@
+"""Of which rows a node is made, by rules of its own: `operator_faults` and `provider_faults` give why rows are those of no
+operator of a site, and of no provider with certain operators (the reasons of `IsBad`, by its names). Written from the rules
+(docs/STORE.md, "A node made again of its rows"), with searches from end to end.
+
+A row is its kind, its key and the tree of its text.
+"""
+import re
+from decimal import Decimal
+
+from operator_case import own_id
+
+LAST_NUMBER = 10**18 - 1
+COMMAND_OF_START = "start_session"
+
+
+def party_of(tree):
+    """The key of the party that a tree names by two members."""
+    return f"{tree['country_code']}/{tree['party_id']}".upper()
+
+
+def number_of(letter, party, name):
+    """The number of which a party made an id, if it did."""
+    if not re.fullmatch("[0-9a-f-]{36}", name):
+        return None
+    number = int(name.replace("-", "")[16:], 16)
+    return number if number <= LAST_NUMBER and own_id(letter, number, party) == name else None
+
+
+def owner_and_rest(key):
+    """The party of a key, and what stands behind it."""
+    return key[:6], key[7:]
+
+
+def of_kind(rows, kind):
+    return [(key, tree) for name, key, tree in rows if name == kind]
+
+
+def is_given(rows, counter, number):
+    """The counter gave a number as high as that one, if it is one."""
+    return number == 0 or any(key == counter and tree["last"] >= number for key, tree in of_kind(rows, "count"))
+
+
+def subject(tree):
+    """What a push is the newest state of."""
+    body = tree["body"]
+    if tree["kind"] == "put_session":
+        return ("session", party_of(body), body["id"].upper())
+    if tree["kind"] == "put_token":
+        return ("token", tree["to"].upper(), party_of(body), body["type"], body["uid"].upper())
+    return None
+
+
+def pairs(values):
+    """Each two of them, in the order in which they stand."""
+    return [(values[i], values[j]) for i in range(len(values)) for j in range(i + 1, len(values))]
+
+
+def shared_faults(rows, peers, foreign):
+    """What is asked of rows of either role."""
+    counts = of_kind(rows, "count")
+    pushes = of_kind(rows, "push")
+    if any(one[:2] == other[:2] for one, other in pairs(rows)):
+        yield "Repeated"
+    if any(foreign(kind, key) for kind, key, _ in rows):
+        yield "Foreign"
+    if any(tree["last"] == 0 for _, tree in counts):
+        yield "NothingCounted"
+    if not all(is_given(rows, "request", int(key)) for key, _ in pushes):
+        yield "PushNotGiven"
+    if any(tree["to"].upper() not in peers for _, tree in pushes):
+        yield "PushToStranger"
+    told = [(key, subject(tree)) for key, tree in pushes if subject(tree)]
+    if any(one[0] != other[0] and one[1] == other[1] for one, other in pairs(told)):
+        yield "PushedTwice"
+
+
+# ---- an operator
+
+
+def is_live(session):
+    return session["status"] in ("PENDING", "ACTIVE")
+
+
+class Site:
+    """The EVSEs of a site line, by their keys: of each the location and the connectors."""
+
+    def __init__(self, line):
+        self.operator = line["party"].upper()
+        self.providers = [name.upper() for name in line["providers"]]
+        self.price = line["site"]["price"]
+        self.evses = {}
+        for location in line["site"]["locations"]:
+            for evse in location["evses"]:
+                connectors = [connector["id"].upper() for connector in evse["connectors"]]
+                self.evses[evse["uid"].upper()] = (location["id"].upper(), connectors)
+
+    def has_connector(self, evse, connector):
+        return connector.upper() in self.evses.get(evse.upper(), ("", []))[1]
+
+    def cost(self, kwh):
+        """In ten-thousandths, rounded down."""
+        return int(Decimal(kwh) * 10**4) * int(Decimal(str(self.price)) * 10**4) // 10**4
+
+
+def claims(kind, key, tree):
+    """The EVSE that a row claims and what it claims it as, in a list, or none."""
+    if kind == "pending" and tree["kind"] == COMMAND_OF_START and "evse_uid" in tree:
+        return [(tree["evse_uid"].upper(), ("start", key))]
+    if kind == "reservation":
+        return [(tree["evse_uid"].upper(), ("reserved", key))]
+    if kind == "session" and is_live(tree):
+        return [(tree["evse_uid"].upper(), ("live", party_of(tree["cdr_token"]), tree["id"].upper()))]
+    return []
+
+
+def is_foreign_to_operator(kind, key):
+    return kind == "command" or (kind, key) == ("count", "reference")
+
+
+def own_faults(rows, site, kind, letter, name):
+    """What is asked of the ids of sessions, and of those of charge detail records."""
+    trees = [tree for _, tree in of_kind(rows, kind)]
+    numbers = [number_of(letter, site.operator, tree["id"]) for tree in trees]
+    if any(party_of(tree) != site.operator for tree in trees):
+        yield f"{name}OfOther"
+    if None in numbers:
+        yield f"{name}IdNotOwn"
+    if not all(is_given(rows, kind, number) for number in numbers if number is not None):
+        yield f"{name}NotGiven"
+
+
+def command_faults(rows, site):
+    replies = {key for key, _ in of_kind(rows, "reply")}
+    results = {key for key, _ in of_kind(rows, "result")}
+    commands = of_kind(rows, "pending")
+    starts = [(key, tree) for key, tree in commands if tree["kind"] == COMMAND_OF_START]
+    if any(owner_and_rest(key)[0] not in site.providers for key, _ in commands):
+        yield "CommandOfStranger"
+    if any(party_of(tree["body"]["token"]) != owner_and_rest(key)[0] for key, tree in starts):
+        yield "StartOfOtherToken"
+    if not all(site.has_connector(tree.get("evse_uid", ""), tree.get("connector_id", "")) for _, tree in starts):
+        yield "StartNowhere"
+    if any(key not in replies for key, _ in commands):
+        yield "OpenUnanswered"
+    if results - replies:
+        yield "ResultUnanswered"
+    if any(key in results for key, _ in commands):
+        yield "OpenWithResult"
+
+
+def place_faults(rows, site):
+    live = [tree for _, tree in of_kind(rows, "session") if is_live(tree)]
+    reserved = [tree for _, tree in of_kind(rows, "reservation")]
+    if any(party_of(tree) not in site.providers for _, tree in of_kind(rows, "token")):
+        yield "TokenOfStranger"
+    if any(party_of(tree["cdr_token"]) not in site.providers for tree in live):
+        yield "SessionOfStranger"
+    if any(key not in site.evses for key, _ in of_kind(rows, "service")):
+        yield "ServiceNowhere"
+    if any(site.evses.get(tree["evse_uid"].upper(), ("?",))[0] != tree["location_id"].upper() for tree in reserved):
+        yield "ReservationNowhere"
+    if not all(site.has_connector(tree["evse_uid"], tree["connector_id"]) for tree in live):
+        yield "SessionNowhere"
+    made = [claim for row in rows for claim in claims(*row)]
+    if any(one[0] == other[0] and one[1] != other[1] for one, other in pairs(made)):
+        yield "ClaimedTwice"
+
+
+def bill_faults(rows, site):
+    sessions = [tree for _, tree in of_kind(rows, "session")]
+    bills = [(tree["id"].upper(), tree["session_id"].upper()) for _, tree in of_kind(rows, "cdr")]
+    ended = [tree["id"].upper() for tree in sessions if tree["status"] == "COMPLETED"]
+    for tree in sessions:
+        cost = tree.get("total_cost", {}).get("excl_vat")
+        if tree["status"] == "RESERVATION" or cost is None or int(Decimal(cost) * 10**4) != site.cost(tree["kwh"]):
+            yield "Stuck"
+    if any(one[0] != other[0] and one[1] == other[1] for one, other in pairs(bills)):
+        yield "BilledTwice"
+    if any(session not in ended for _, session in bills):
+        yield "BilledEarly"
+    if any(session not in [it for _, it in bills] for session in ended):
+        yield "Unbilled"
+
+
+def operator_faults(site_line, rows):
+    site = Site(site_line)
+    return {
+        *shared_faults(rows, site.providers, is_foreign_to_operator),
+        *own_faults(rows, site, "session", b"S", "Session"),
+        *own_faults(rows, site, "cdr", b"C", "Cdr"),
+        *command_faults(rows, site),
+        *place_faults(rows, site),
+        *bill_faults(rows, site),
+    }
+
+
+# ---- a provider
+
+
+OPERATORS_KINDS = ["service", "spent", "mark", "reservation", "pending", "result"]
+
+
+def is_foreign_to_provider(kind, key):
+    return kind in OPERATORS_KINDS or kind == "count" and key in ("session", "cdr")
+
+
+def provider_faults(parties, rows):
+    """Of the parties the first is the provider's."""
+    provider, *operators = [name.upper() for name in parties]
+    commands = of_kind(rows, "command")
+    numbers = {key for key, _ in commands}
+    bodies = [tree["body"] for _, tree in commands]
+    references = [body["authorization_reference"] for body in bodies if "authorization_reference" in body]
+    made = [number_of(b"A", provider, name) for name in references]
+    bills = [(party_of(tree), tree["id"].upper(), tree["session_id"].upper()) for _, tree in of_kind(rows, "cdr")]
+    faults = set(shared_faults(rows, operators, is_foreign_to_provider))
+    if not all(is_given(rows, "request", int(key)) for key, _ in commands):
+        faults.add("CommandNotGiven")
+    if None in made:
+        faults.add("ReferenceNotOwn")
+    if not all(is_given(rows, "reference", number) for number in made if number is not None):
+        faults.add("ReferenceNotGiven")
+    if any(key in numbers for key, _ in of_kind(rows, "push")):
+        faults.add("NumberShared")
+    if any(tree["to"].upper() not in operators for _, tree in commands):
+        faults.add("CommandToStranger")
+    if any(one[0] == other[0] and one[1] != other[1] and one[2] == other[2] for one, other in pairs(bills)):
+        faults.add("BilledTwice")
+    return faults
