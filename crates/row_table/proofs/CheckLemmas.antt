@@ -1,16 +1,12 @@
 -- Rows that are checked in turn.
-use Rattle.std.proofs.Common.{◌≡◌, ◌⊎◌, inl, inr, ℕ, ◌+◌, ◌<◌, ℤ, List, [], ◌∷◌, ◌++◌, map, length, take, get_or, true, false, Some, None, Option, refl, sym, ap, subst, ◌∙◌}
-use Rattle.std.specs.Ordering.{int_cmp, eq_by_cmp, is_eq}
+use Rattle.std.proofs.Common.{◌≡◌, inl, inr, ℕ, ◌+◌, ◌<◌, ℤ, List, [], ◌∷◌, ◌++◌, map, length, take, get_or, true, false, Some, None, Option, sym, ap, subst, ◌∙◌}
+use Rattle.std.specs.Ordering.{int_cmp, is_eq}
 use Rattle.std.specs.Cmp.{int_cmp_total, eq_by_cmp_equiv}
 use Rattle.std.specs.List.Sorted.{IsPermutation}
-use Rattle.std.specs.declared.cmp.Ordering.{Ordering}
-use Rattle.std.specs.declared.cmp.Ordering.TheVariants.{Less, Equal, Greater}
+use Rattle.std.specs.declared.cmp.Ordering.TheVariants.{Less}
 use Rattle.std.proofs.lemmas.List.{take_more}
-use Rattle.std.proofs.lemmas.List.Sorted.{IsPermutation-sym}
-use Rattle.sqlite.specs.declared.types.Value.{Value}
-use Rattle.sqlite.specs.declared.types.Value.TheVariants.{Int, Text}
-use Rattle.sqlite.specs.Order.{Row, column, bytes}
-use Rattle.sqlite.specs.Tree.{Trees}
+use Rattle.sqlite.specs.declared.types.Value.TheVariants.{Int}
+use Rattle.sqlite.specs.Order.{Row, column}
 use Rattle.sqlite_rules.specs.Lists.{Has}
 use Rattle.sqlite_rules.proofs.ListLemmas.{has_either}
 use Rattle.row_table.specs.Texts.{IsTextRow, AreTexts, place_in}
@@ -35,7 +31,8 @@ pub record IsChecked (done : List Row) (last : Option ℤ) : Type 0 where
 pub none_checked : IsChecked [] None
 none_checked = record { whole = record { each = λ r h. absurd h; once = λ a b h i e. absurd h }; up = λ r id h e. absurd h }
 
-pushed : (done : List Row) (last : Option ℤ) (row : Row) (id : ℤ) → IsTextRow row → column row 0 ≡ Int id → IsAbove last id → IsChecked done last → IsChecked (done ++ row ∷ []) (Some id)
+pushed : (done : List Row) (last : Option ℤ) (row : Row) (id : ℤ) → IsTextRow row → column row 0 ≡ Int id → IsAbove last id → IsChecked done last
+    → IsChecked (done ++ row ∷ []) (Some id)
 pushed done last row id is has above was = record {
   whole = record {
     each = λ r h. elim (has_either done (row ∷ []) r h) [
@@ -62,13 +59,16 @@ pushed done last row id is has above was = record {
     the_row : (r : Row) → Has (row ∷ []) r → r ≡ row
     the_row r (inl same) = same
     the_row r (inr none) = absurd none
+
     apart : (r : Row) → Has done r → column r 0 ≡ column row 0 → ⊥
     apart r old e = not_below id (up_to_above last id id (was.up r id old (e ∙ has)) above)
 
-pub one_checked : (rows : List Row) (i : ℕ) (last : Option ℤ) (row : Row) (id : ℤ) → i < length rows → row ≡ get_or rows i row → IsTextRow row → column row 0 ≡ Int id → IsAbove last id
+pub one_checked : (rows : List Row) (i : ℕ) (last : Option ℤ) (row : Row) (id : ℤ) → i < length rows → row ≡ get_or rows i row → IsTextRow row → column row 0 ≡ Int id
+    → IsAbove last id
     → IsChecked (take i rows) last → IsChecked (take (i + 1) rows) (Some id)
 one_checked rows i last row id low at is has above was =
-    subst (λ (l : List Row). IsChecked l (Some id)) (ap (λ (r : Row). take i rows ++ r ∷ []) at ∙ sym (take_more rows i row low)) (pushed (take i rows) last row id is has above was)
+    subst (λ (l : List Row). IsChecked l (Some id)) (ap (λ (r : Row). take i rows ++ r ∷ []) at
+        ∙ sym (take_more rows i row low)) (pushed (take i rows) last row id is has above was)
 
 -- what the query shows is whole, so the rows are texts
 pub are_texts : (rows shown : List Row) → IsPermutation (map row_shown rows) shown → AreWhole shown → AreTexts rows

@@ -1,5 +1,5 @@
 -- The rows that are read in order are the entries.
-use Rattle.std.proofs.Common.{◌≡◌, ℕ, true, List, [], map, T, IfOk, IfErr, OnOk, Ok, Err, Result, Vec, refl, sym, ap, subst, ◌∙◌}
+use Rattle.std.proofs.Common.{◌≡◌, ℕ, true, List, map, T, IfOk, OnOk, Ok, Err, Result, Vec, ap, ◌∙◌}
 use Rattle.std.specs.declared.alloc.Global.{Global}
 use Rattle.std.specs.FinMap.{entries, is_sorted}
 use Rattle.sqlite.specs.Order.{Row}
@@ -15,7 +15,8 @@ use Rattle.row_table.proofs.StatementLemmas.{selects}
 use Rattle.row_table.proofs.ReadLemmas.{answered_open}
 use Rattle.row_table.proofs.SortLemmas.{entries_read}
 
-pub loaded : {S : Type 0} (g : Ghosts S) (old : Held S) (rows given : List Row) (r : Result (Vec (Place × List ℕ) Global) Error) → IsAnswered g old select_text rows → HadTables (state g old) → given ≡ rows
+pub loaded : {S : Type 0} (g : Ghosts S) (old : Held S) (rows given : List Row) (r : Result (Vec (Place × List ℕ) Global) Error) → IsAnswered g old select_text rows
+    → HadTables (state g old) → given ≡ rows
     → IfOk r (λ v. v.items ≡ map entry_shown given) → IfOk r (λ v. T (is_sorted text_pair_cmp v.items)) → IfOk r (λ v. entries (texts_of (state g old).now.trees) ≡ v.items)
 loaded g old rows given (Ok v) answer had same read sorted =
     let has = had (answered_open g old select_text rows answer) in

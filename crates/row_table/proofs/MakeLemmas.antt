@@ -1,21 +1,20 @@
 -- What the statements that make the tables do.
-use Rattle.std.proofs.Common.{◌≡◌, ◌⊎◌, inl, inr, ℕ, ℤ, pos, List, [], ◌∷◌, map, Bool, true, false, cond, not, IsTrue, None, Some, Ok, Err, Result, OnOk, refl, sym, ap, subst, ◌∙◌, arith}
+use Rattle.std.proofs.Common.{◌≡◌, ◌⊎◌, inl, inr, ℕ, pos, [], ◌∷◌, map, Bool, true, false, cond, IsTrue, None, Ok, Err, Result, OnOk, refl, sym, ap, subst, ◌∙◌, arith}
 use Rattle.std.proofs.lemmas.Bool.{cases_Bool}
 use Rattle.std.specs.Fmt.{digits}
 use Rattle.sqlite.specs.declared.types.Value.{Value}
-use Rattle.sqlite.specs.declared.types.Value.TheVariants.{Null, Int, Text}
+use Rattle.sqlite.specs.declared.types.Value.TheVariants.{Null, Int}
 use Rattle.sqlite.specs.declared.error.Error.{Error}
 use Rattle.sqlite.specs.Order.{Row, column}
-use Rattle.sqlite.specs.Term.{Term, lit}
+use Rattle.sqlite.specs.Term.{lit}
 use Rattle.sqlite.specs.Ops.{unary}
 use Rattle.sqlite.specs.Cast.{cast}
 use Rattle.sqlite.specs.Kind.TheVariants.{Integer}
-use Rattle.sqlite.specs.Table.{Table}
 use Rattle.sqlite.specs.Schema.{Schema}
 use Rattle.sqlite.specs.Source.TheVariants.{Values}
 use Rattle.sqlite.specs.Command.TheVariants.{Insert, CreateTable}
 use Rattle.sqlite.specs.Change.{created, next_tree, KeepsRows}
-use Rattle.sqlite.specs.Edit.{Edit, edit_of, edited, next_rowid, put_all}
+use Rattle.sqlite.specs.Edit.{edit_of, next_rowid, put_all}
 use Rattle.sqlite.specs.Rowids.TheVariants.{Chosen}
 use Rattle.sqlite.specs.Does.{Tally, Does, lacks_sequence}
 use Rattle.sqlite.specs.Rows.{Written}
@@ -95,9 +94,11 @@ version_written old new count has h =
     let counted = went written.2 in
     let trees : done.0.trees ≡ written.0 = ap (λ (it : Written). it.trees) (same_value counted.2) ∙ same_value counted.1 in
     let step = one_step both_tables _ db written.0 (edit_of db layout_table [] Chosen 0 given.0) refl written.1 in
-    let news : (edit_of db layout_table [] Chosen 0 given.0).news ≡ (Int (next_rowid (db 0)) ∷ Int (pos 1) ∷ []) ∷ [] = ap (λ all. (edit_of db layout_table [] Chosen 0 all).news) given.1.1 ∙ rw (cast_null, cast_one) refl in
-    let rows : new.now.trees 0 ≡ (Int (next_rowid (db 0)) ∷ Int (pos 1) ∷ []) ∷ [] = ap (λ (d : Database). d.trees 0) now ∙ ap (λ (t : Trees). t 0) trees ∙ step.rows ∙ ap (put_all (db 0)) news
-        ∙ ap (λ l. put_all l ((Int (next_rowid (db 0)) ∷ Int (pos 1) ∷ []) ∷ [])) has.no_version in
+    let news : (edit_of db layout_table [] Chosen 0 given.0).news ≡ (Int (next_rowid (db 0)) ∷ Int (pos 1) ∷ []) ∷ [] = ap
+        (λ all. (edit_of db layout_table [] Chosen 0 all).news) given.1.1 ∙ rw (cast_null, cast_one) refl in
+    let rows : new.now.trees 0 ≡ (Int (next_rowid (db 0)) ∷ Int (pos 1) ∷ []) ∷ [] = ap (λ (d : Database). d.trees 0) now ∙ ap (λ (t : Trees). t 0) trees ∙ step.rows
+        ∙ ap (put_all (db 0)) news
+    ∙ ap (λ l. put_all l ((Int (next_rowid (db 0)) ∷ Int (pos 1) ∷ []) ∷ [])) has.no_version in
     record {
       schema = ap (λ (d : Database). d.schema) now;
       version = ap (map (λ (r : Row). column r 1)) rows;
@@ -112,9 +113,9 @@ module _ (old new : State) (r : Result ℕ Error) (ended : old.in_transaction �
       go (Err e) is = tt
       go (Ok count) is = elim (cases_Bool old.in_transaction) [
         | inl within ↦
-          let ran = subst (λ x. ExecutesInside 0 layout_text [] old new x) is (runs within) in
-          let made = layout_made old new count has ran.0 in
-          record { shown = ran.1; schema = made.0; none = made.1 }
+            let ran = subst (λ x. ExecutesInside 0 layout_text [] old new x) is (runs within) in
+            let made = layout_made old new count has ran.0 in
+            record { shown = ran.1; schema = made.0; none = made.1 }
         | inr outside ↦ absurd (let e = sym is ∙ (ended outside).1 in cc)
       ]
 
@@ -125,8 +126,8 @@ module _ (old new : State) (r : Result ℕ Error) (ended : old.in_transaction �
       go (Err e) is = tt
       go (Ok count) is = elim (cases_Bool old.in_transaction) [
         | inl within ↦
-          let ran = subst (λ x. ExecutesInside 0 row_text [] old new x) is (runs within) in
-          (ran.1, rows_made old new count has none ran.0)
+            let ran = subst (λ x. ExecutesInside 0 row_text [] old new x) is (runs within) in
+            (ran.1, rows_made old new count has none ran.0)
         | inr outside ↦ absurd (let e = sym is ∙ (ended outside).1 in cc)
       ]
 
@@ -137,7 +138,7 @@ module _ (old new : State) (r : Result ℕ Error) (ended : old.in_transaction �
       go (Err e) is = tt
       go (Ok count) is = elim (cases_Bool old.in_transaction) [
         | inl within ↦
-          let ran = subst (λ x. ExecutesInside 0 layout_insert [] old new x) is (runs within) in
-          (ran.1, version_written old new count has ran.0)
+            let ran = subst (λ x. ExecutesInside 0 layout_insert [] old new x) is (runs within) in
+            (ran.1, version_written old new count has ran.0)
         | inr outside ↦ absurd (let e = sym is ∙ (ended outside).1 in cc)
       ]

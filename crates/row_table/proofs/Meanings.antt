@@ -1,18 +1,14 @@
 -- What the texts of the statements mean under the schema.
-use Rattle.std.proofs.Common.{◌≡◌, ℕ, pos, negsuc, List, [], ◌∷◌, map, codes, Bool, true, false, None, Some, Ok, Err, Result, refl, sym, ap, subst, ◌∙◌}
-use Rattle.sqlite.specs.declared.types.Value.TheVariants.{Null, Int, Text}
+use Rattle.std.proofs.Common.{◌≡◌, ℕ, pos, negsuc, List, [], ◌∷◌, codes, false, None, Ok, refl}
+use Rattle.sqlite.specs.declared.types.Value.TheVariants.{Null, Int}
 use Rattle.sqlite_sql.specs.declared.ops.BinaryOp.TheVariants as binary
 use Rattle.sqlite_sql.specs.declared.ops.CompareOp.TheVariants as compare
 use Rattle.sqlite.specs.Collation.TheVariants as collation
 use Rattle.sqlite_value.specs.declared.keys.Key.{Key}
-use Rattle.sqlite.specs.Order.{Row}
 use Rattle.sqlite.specs.Term.{Term, lit, col, op2}
 use Rattle.sqlite.specs.Query.{Query, inner, end}
-use Rattle.sqlite.specs.Source.{Source}
 use Rattle.sqlite.specs.Source.TheVariants.{Values}
-use Rattle.sqlite.specs.Command.{Command}
 use Rattle.sqlite.specs.Command.TheVariants.{Insert, Delete, Select, CreateTable}
-use Rattle.sqlite_schema.specs.declared.program.Program.{Program}
 use Rattle.sqlite.specs.Compile.{table_defined_by}
 use Rattle.sqlite_tied.specs.Compute.{everything}
 use Rattle.sqlite.specs.Listing.{understood, reads_listing}
@@ -42,7 +38,8 @@ insert_terms = lit Null ∷ col 0 0 ∷ col 0 1 ∷ col 0 2 ∷ []
 
 abbrev query_over : ℕ → List Term → List Term → List (Term × Key) → Query
 query_over tree filter shown order =
-    record { from = inner tree end; filter = filter; group = None; project = shown; distinct = false; collations = []; order = order; limit = lit (Int (negsuc 0)); offset = lit (Int (pos 0)) }
+    record { from = inner tree end; filter = filter; group = None; project = shown; distinct = false; collations = []; order = order; limit = lit (Int (negsuc 0)); offset = lit
+        (Int (pos 0)) }
 
 abbrev rising : Key
 rising = record { collation = collation.Binary; descending = false }
@@ -78,7 +75,8 @@ pub delete_plain : IsPlain (understood both_tables delete_text)
 unfolding understood everything
 delete_plain = (refl, refl)
 
-pub select_is : (command_of (understood both_tables select_text) ≡ Select (record { lets = []; body = select_query }) (codes "kind" ∷ codes "name" ∷ codes "body" ∷ [])) × (reads_listing both_tables select_text ≡ false)
+pub select_is : (command_of (understood both_tables select_text) ≡ Select (record { lets = []; body = select_query }) (codes "kind" ∷ codes "name" ∷ codes "body" ∷ []))
+    × (reads_listing both_tables select_text ≡ false)
 unfolding understood everything
 select_is = (refl, refl)
 
@@ -86,7 +84,8 @@ pub select_plain : IsPlain (understood both_tables select_text)
 unfolding understood everything
 select_plain = (refl, refl)
 
-pub whole_is : (command_of (understood both_tables whole_select) ≡ Select (record { lets = []; body = whole_query }) (codes "rowid" ∷ codes "kind" ∷ codes "name" ∷ codes "body" ∷ [])) × (reads_listing both_tables whole_select ≡ false)
+pub whole_is : (command_of (understood both_tables whole_select) ≡ Select (record { lets = []; body = whole_query })
+    (codes "rowid" ∷ codes "kind" ∷ codes "name" ∷ codes "body" ∷ [])) × (reads_listing both_tables whole_select ≡ false)
 unfolding understood everything
 whole_is = (refl, refl)
 
@@ -94,7 +93,8 @@ pub whole_plain : IsPlain (understood both_tables whole_select)
 unfolding understood everything
 whole_plain = (refl, refl)
 
-pub version_is : (command_of (understood both_tables layout_select) ≡ Select (record { lets = []; body = version_query }) (codes "version" ∷ [])) × (reads_listing both_tables layout_select ≡ false)
+pub version_is : (command_of (understood both_tables layout_select) ≡ Select (record { lets = []; body = version_query }) (codes "version" ∷ []))
+    × (reads_listing both_tables layout_select ≡ false)
 unfolding understood everything
 version_is = (refl, refl)
 
@@ -110,7 +110,8 @@ pub first_plain : IsPlain (understood both_tables layout_insert)
 unfolding understood everything
 first_plain = (refl, refl)
 
-pub layout_is : (command_of (understood no_schema layout_text) ≡ CreateTable) × (statement_of layout_text (understood no_schema layout_text) ≡ layout_text) × (table_defined_by layout_text ≡ Ok layout_table)
+pub layout_is : (command_of (understood no_schema layout_text) ≡ CreateTable) × (statement_of layout_text (understood no_schema layout_text) ≡ layout_text)
+    × (table_defined_by layout_text ≡ Ok layout_table)
 unfolding understood everything
 layout_is = (refl, refl, refl)
 
@@ -118,7 +119,8 @@ pub layout_plain : IsPlain (understood no_schema layout_text)
 unfolding understood everything
 layout_plain = (refl, refl)
 
-pub rows_are : (command_of (understood layout_alone row_text) ≡ CreateTable) × (statement_of row_text (understood layout_alone row_text) ≡ row_text) × (table_defined_by row_text ≡ Ok (record row_table { tree = 0 }))
+pub rows_are : (command_of (understood layout_alone row_text) ≡ CreateTable) × (statement_of row_text (understood layout_alone row_text) ≡ row_text)
+    × (table_defined_by row_text ≡ Ok (record row_table { tree = 0 }))
 unfolding understood everything
 rows_are = (refl, refl, refl)
 

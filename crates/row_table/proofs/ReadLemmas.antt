@@ -1,12 +1,12 @@
 -- What a query by itself leaves, and what it shows.
-use Rattle.std.proofs.Common.{◌≡◌, ◌⊎◌, inl, inr, ℕ, List, [], true, false, Bool, cond, IsTrue, IfOk, IfErr, Option, Some, None, Ok, Err, Result, Vec, refl, sym, ap, subst, ◌∙◌}
+use Rattle.std.proofs.Common.{◌≡◌, ◌⊎◌, inl, inr, ℕ, List, [], true, cond, IsTrue, IfOk, IfErr, Option, Some, None, Ok, Err, Result, Vec, refl, ap, ◌∙◌}
 use Rattle.std.specs.declared.alloc.Global.{Global}
 use Rattle.sqlite.specs.Order.{Row}
 use Rattle.sqlite.specs.Store.{Ghosts}
 use Rattle.sqlite.specs.declared.error.Error.{Error}
 use Rattle.sqlite_resolve.specs.declared.compiled.Compiled.{Compiled}
 use Rattle.sqlite_schema.specs.declared.command.Returning.{Returning}
-use Rattle.sqlite.specs.State.{State, IsUnchanged, IsRolledBack, KeepsCommit, IsNotRun, Fails, FailsToQuery, FailsToShow, ShowsRows, Shown, IsTooLate, Writes}
+use Rattle.sqlite.specs.State.{State, IsUnchanged, IsRolledBack, KeepsCommit, IsNotRun, FailsToQuery, FailsToShow, ShowsRows, Shown, IsTooLate}
 use Rattle.sqlite.specs.Held.{Held, state}
 use Rattle.row_table.specs.Effects.{HasUndone}
 use Rattle.row_table.specs.Reading.{IsAnswered}
@@ -34,7 +34,8 @@ module _ (old new : State) where
   fails_keep sql params e (inl (inr h)) = to_show sql h.0 _ e h.0.returning h.2
   fails_keep sql params e (inr h) = unchanged h.5
 
-  rows_keep : (sql : List ℕ) (c : Compiled) (params : Row) (rows : List Row) (r : Option Returning) → old.in_transaction ≡ true → ShowsRows old new sql c params rows r → KeepsCommit old new × IsTrue old.is_open
+  rows_keep : (sql : List ℕ) (c : Compiled) (params : Row) (rows : List Row) (r : Option Returning) → old.in_transaction ≡ true → ShowsRows old new sql c params rows r
+      → KeepsCommit old new × IsTrue old.is_open
   rows_keep sql c params rows None within h = (unchanged h.3, h.3.0.was_open)
   rows_keep sql c params rows (Some what) within h =
       (record { was_open = λ _. h.1.shown.was_open; committed = λ _. h.1.shown.committed_is ∙ ap (λ b. cond b old.committed new.now) within }, h.1.shown.was_open)
@@ -54,7 +55,8 @@ undone_after old last end kept back = record {
   undone = λ h. let same = kept.committed (back.was_open h) in ((back.undone h).0 ∙ same, (back.undone h).1 ∙ same);
 }
 
-pub answered : {S : Type 0} (g : Ghosts S) (old mid : Held S) (sql : List ℕ) (r : Result (Vec Row Global) Error) → IfOk r (λ v. Shown sql [] (state g (record old { in_transaction = true })) (state g mid) v.items) → IfOk r (λ v. IsAnswered g old sql v.items)
+pub answered : {S : Type 0} (g : Ghosts S) (old mid : Held S) (sql : List ℕ) (r : Result (Vec Row Global) Error)
+    → IfOk r (λ v. Shown sql [] (state g (record old { in_transaction = true })) (state g mid) v.items) → IfOk r (λ v. IsAnswered g old sql v.items)
 answered g old mid sql (Ok v) shown = record { mid = mid; shown = shown }
 answered g old mid sql (Err e) shown = tt
 

@@ -1,14 +1,14 @@
 -- Entries in order, and the map that they are of.
-use Rattle.std.proofs.Common.{◌≡◌, ◌⊎◌, inl, inr, ℕ, suc, ◌-◌, List, [], ◌∷◌, ◌++◌, length, map, slice_get, Bool, true, false, cond, T, IsTrue, Option, Some, None, refl, sym, ap, subst, ◌∙◌, arith}
-use Rattle.std.specs.Prelude.{◌&&◌, Contains}
-use Rattle.std.specs.Ordering.{eq_by_cmp, is_eq, is_lt}
+use Rattle.std.proofs.Common.{◌≡◌, inl, inr, ℕ, suc, ◌-◌, List, [], ◌∷◌, ◌++◌, length, map, slice_get, true, false, cond, T, Option, Some, None, refl, sym, ap, subst, ◌∙◌, arith}
+use Rattle.std.specs.Prelude.{Contains}
+use Rattle.std.specs.Ordering.{is_eq, is_lt}
 use Rattle.std.specs.List.Sorted.{IsPermutation}
 use Rattle.std.specs.declared.cmp.Ordering.{Ordering}
 use Rattle.std.specs.declared.cmp.Ordering.TheVariants.{Less, Equal, Greater}
 use Rattle.std.specs.Cmp.{eq_by_cmp_equiv}
-use Rattle.std.specs.FinMap.{FinMap, find, get, entries, from_entries, from_sorted, is_sorted, entries-from_sorted, get-from_entries, same_map}
+use Rattle.std.specs.FinMap.{find, get, entries, from_entries, from_sorted, is_sorted, entries-from_sorted, get-from_entries, same_map}
 use Rattle.std.specs.FinMap.Entries.{below_all}
-use Rattle.std.proofs.lemmas.List.Sorted.{IsPermutation-sym, IsPermutation-map, Contains-permutation}
+use Rattle.std.proofs.lemmas.List.Sorted.{IsPermutation-sym, IsPermutation-map}
 use Rattle.sqlite.specs.Order.{Row}
 use Rattle.sqlite_rules.specs.Lists.{Has}
 use Rattle.sqlite_rules.proofs.ListLemmas.{has_contained, contains_had}
@@ -25,11 +25,12 @@ Entry = Place × List ℕ
 
 find_in : (q : Place) (es : List Entry) (v : List ℕ) → find text_pair_cmp q es ≡ Some v → Has es (q, v)
 find_in q [] v h = absurd (cc)
-find_in q (e ∷ es) v h = elim (is_eq (text_pair_cmp q e.0)) as (λ b. is_eq (text_pair_cmp q e.0) ≡ b → cond b (Some e.1) (find text_pair_cmp q es) ≡ Some v → Has (e ∷ es) (q, v)) [
+find_in q (e ∷ es) v h = elim (is_eq (text_pair_cmp q e.0)) as (λ b. is_eq (text_pair_cmp q e.0) ≡ b → cond b (Some e.1) (find text_pair_cmp q es) ≡ Some v
+    → Has (e ∷ es) (q, v)) [
   | true ↦ λ tied at.
-    let one : q ≡ e.0 = text_pair_exact q e.0 (equal_of_is_eq (text_pair_cmp q e.0) tied) in
-    let text : v ≡ e.1 = cc in
-    inl (λ i. (one i, text i))
+      let one : q ≡ e.0 = text_pair_exact q e.0 (equal_of_is_eq (text_pair_cmp q e.0) tied) in
+      let text : v ≡ e.1 = cc in
+      inl (λ i. (one i, text i))
   | false ↦ λ _ at. inr (find_in q es v at)
 ] refl h
 
@@ -39,9 +40,10 @@ find_there q (e ∷ es) w h none = elim (is_eq (text_pair_cmp q e.0)) as (λ b. 
   | true ↦ λ tied at. cc
   | false ↦ λ apart at. elim h [
     | inl same ↦
-      let tied : is_eq (text_pair_cmp q e.0) ≡ true = subst (λ (z : Place). is_eq (text_pair_cmp q z) ≡ true) (ap (λ (x : Entry). x.0) same) ((eq_by_cmp_equiv text_pair_total).refl q) in
-      let f : true ≡ false = sym tied ∙ apart in
-      cc
+        let tied : is_eq (text_pair_cmp q e.0) ≡ true = subst (λ (z : Place). is_eq (text_pair_cmp q z) ≡ true) (ap (λ (x : Entry). x.0) same)
+            ((eq_by_cmp_equiv text_pair_total).refl q) in
+        let f : true ≡ false = sym tied ∙ apart in
+        cc
     | inr later ↦ find_there q es w later at
   ]
 ] refl none
@@ -58,7 +60,8 @@ module _ (es out : List Entry) (moved : IsPermutation es out) (m : Texts) (is : 
       absurd (find_there q es w (has_permuted out es (q, w) (IsPermutation-sym es out moved) there) ea)
 
   same_texts : from_entries es ≡ m
-  same_texts = same_map text_pair_total text_pair_exact (from_entries es) m (λ q. get-from_entries text_pair_total es q ∙ same_found q (find text_pair_cmp q es) refl (get m q) refl)
+  same_texts = same_map text_pair_total text_pair_exact (from_entries es) m (λ q. get-from_entries text_pair_total es q
+      ∙ same_found q (find text_pair_cmp q es) refl (get m q) refl)
 
 pub sorted_entries : (es out : List Entry) → IsPermutation es out → T (is_sorted text_pair_cmp out) → entries (from_entries {R = text_pair_cmp} es) ≡ out
 sorted_entries es out moved sorted =
@@ -69,9 +72,12 @@ twice : (rows : List Row) → map entry_shown (map texts_shown rows) ≡ map ent
 twice [] = refl
 twice (r ∷ rows) = ap (λ (l : List Entry). entry_in r ∷ l) (twice rows)
 
-pub entries_read : (rows shown : List Row) (out : List Entry) → IsPermutation (map texts_shown rows) shown → out ≡ map entry_shown shown → T (is_sorted text_pair_cmp out) → entries (texts_in rows) ≡ out
+pub entries_read : (rows shown : List Row) (out : List Entry) → IsPermutation (map texts_shown rows) shown → out ≡ map entry_shown shown → T (is_sorted text_pair_cmp out)
+    → entries (texts_in rows) ≡ out
 entries_read rows shown out moved is sorted =
-    sorted_entries (map entry_in rows) out (subst (λ (l : List Entry). IsPermutation l out) (twice rows) (subst (IsPermutation (map entry_shown (map texts_shown rows))) (sym is) (IsPermutation-map entry_shown (map texts_shown rows) shown moved))) sorted
+    sorted_entries (map entry_in rows) out
+        (subst (λ (l : List Entry). IsPermutation l out) (twice rows)
+        (subst (IsPermutation (map entry_shown (map texts_shown rows))) (sym is) (IsPermutation-map entry_shown (map texts_shown rows) shown moved))) sorted
 
 -- ---- one entry more
 
@@ -105,4 +111,5 @@ first_below e (x ∷ es) new sorted last =
 pub sorted_push : (es : List Entry) (new : Entry) → T (is_sorted text_pair_cmp es) → IsBelow (last_of es) new → T (is_sorted text_pair_cmp (es ++ new ∷ []))
 sorted_push [] new sorted last = both true true tt tt
 sorted_push (e ∷ []) new sorted last = both _ _ (below_push e.0 [] new tt last) (both true true tt tt)
-sorted_push (e ∷ x ∷ es) new sorted last = both _ _ (below_push e.0 (x ∷ es) new (former _ _ sorted) (first_below e (x ∷ es) new sorted last)) (sorted_push (x ∷ es) new (latter _ _ sorted) (later_below e x es new last))
+sorted_push (e ∷ x ∷ es) new sorted last = both _ _ (below_push e.0 (x ∷ es) new (former _ _ sorted) (first_below e (x ∷ es) new sorted last))
+    (sorted_push (x ∷ es) new (latter _ _ sorted) (later_below e x es new last))

@@ -1,13 +1,12 @@
 -- What the statements on `row_text` do to its rows.
-use Rattle.std.proofs.Common.{◌≡◌, ◌⊎◌, inl, inr, ℕ, ℤ, pos, negsuc, List, [], ◌∷◌, map, Bool, true, false, cond, not, None, Some, Ok, Err, Result, IfOk, OnOk, refl, sym, ap, subst, ◌∙◌}
-use Rattle.std.specs.Prelude.{◌&&◌, filter, flat_map, ◌++◌}
+use Rattle.std.proofs.Common.{◌≡◌, ◌⊎◌, inl, inr, ℕ, List, [], ◌∷◌, map, Bool, true, false, cond, not, None, Some, Ok, Err, Result, OnOk, refl, sym, ap, subst, ◌∙◌}
+use Rattle.std.specs.Prelude.{◌&&◌, flat_map, ◌++◌}
 use Rattle.std.specs.List.Sorted.{IsPermutation}
 use Rattle.std.specs.List.{list_all}
-use Rattle.std.specs.Ordering.{eq_by_cmp, is_eq, ordering_then}
+use Rattle.std.specs.Ordering.{is_eq, ordering_then}
 use Rattle.std.specs.declared.cmp.Ordering.{Ordering}
 use Rattle.std.specs.declared.cmp.Ordering.TheVariants.{Less, Equal, Greater}
-use Rattle.std.specs.FinMap.{insert, remove}
-use Rattle.std.proofs.lemmas.List.Sorted.{IsPermutation-sym, All-permutation, IsPermutation-map}
+use Rattle.std.proofs.lemmas.List.Sorted.{IsPermutation-sym, IsPermutation-map}
 use Rattle.sqlite.specs.declared.types.Value.{Value}
 use Rattle.sqlite.specs.declared.types.Value.TheVariants.{Null, Int, Text}
 use Rattle.sqlite_sql.specs.declared.ops.BinaryOp.TheVariants as binary
@@ -16,14 +15,12 @@ use Rattle.sqlite.specs.Collation.TheVariants as collation
 use Rattle.sqlite_sql.specs.Ops as ops
 use Rattle.sqlite.specs.Order.{Row, column, bytes, value_cmp}
 use Rattle.sqlite_sql.specs.Term.{Term, holds, Env, op2, col}
-use Rattle.sqlite.specs.Query.{Query, inner, end, IsAnswer, output, page, Output, matches}
+use Rattle.sqlite.specs.Query.{inner, end, IsAnswer, output, Output, matches}
 use Rattle.sqlite.specs.Program.{overlay}
-use Rattle.sqlite.specs.Table.{Table}
-use Rattle.sqlite.specs.Schema.{Schema}
 use Rattle.sqlite.specs.Kind.TheVariants.{Integer}
 use Rattle.sqlite.specs.Source.TheVariants.{Values}
-use Rattle.sqlite.specs.Command.TheVariants.{Insert, Delete, Select}
-use Rattle.sqlite.specs.Edit.{Edit, id_in, put_all, edit_of, edited, next_rowid, without_all, is_taken, are_fresh, left_by}
+use Rattle.sqlite.specs.Command.TheVariants.{Insert, Delete}
+use Rattle.sqlite.specs.Edit.{id_in, put_all, edit_of, next_rowid, without_all, is_taken, are_fresh}
 use Rattle.sqlite.specs.Cast.{cast}
 use Rattle.sqlite.specs.Ops.{unary}
 use Rattle.sqlite.specs.Rowids.TheVariants.{Chosen, Given}
@@ -31,25 +28,26 @@ use Rattle.sqlite.specs.Does.{Tally, Does}
 use Rattle.sqlite.specs.Rows.{Written}
 use Rattle.sqlite.specs.Tree.{Trees, rowid, put_row}
 use Rattle.sqlite.specs.declared.error.Error.{Error}
-use Rattle.sqlite.specs.Listing.{understood, reads_listing}
+use Rattle.sqlite.specs.Listing.{understood}
 use Rattle.sqlite.specs.Effect.{Database}
-use Rattle.sqlite.specs.State.{State, mode_of, Writes, Executes, Shown}
-use Rattle.sqlite.proofs.Callers.{IsPlain, command_of, statement_of, runs_as, reads_as, one_step}
+use Rattle.sqlite.specs.State.{State, mode_of, Executes, Shown}
+use Rattle.sqlite.proofs.Callers.{statement_of, runs_as, reads_as, one_step}
 use Rattle.sqlite_rules.specs.Calls.{ids_of}
 use Rattle.sqlite_rules.specs.Lists.{Has}
-use Rattle.sqlite_rules.proofs.ListLemmas.{all_has, all_from, has_either, has_right, has_contained, contains_had}
+use Rattle.sqlite_rules.proofs.ListLemmas.{has_right, has_contained, contains_had}
 use Rattle.std.proofs.lemmas.List.Sorted.{Contains-permutation}
 use Rattle.std.specs.Cmp.{eq_by_cmp_equiv}
 use Rattle.sqlite_value.proofs.OrderLemmas.{value_cmp-Text}
-use Rattle.tables.specs.Keys.{text_pair_cmp, text_cmp, text_total}
+use Rattle.tables.specs.Keys.{text_cmp, text_total}
 use Rattle.row_table.specs.Layout.{both_tables, row_table}
-use Rattle.row_table.specs.Texts.{Place, Texts, place_in, entry_in, texts_in, texts_of, text_row, IsTextRow, AreTexts}
+use Rattle.row_table.specs.Texts.{text_row, IsTextRow, AreTexts}
 use Rattle.row_table.proofs.Meanings.{insert_text, delete_text, select_text, whole_select, insert_terms, delete_tests, delete_query, select_query, whole_query, insert_is, insert_plain, delete_is, delete_plain, select_is, select_plain, whole_is, whole_plain}
-use Rattle.row_table.proofs.RowLemmas.{is_at, rest, cleared, texts_rest, are_rest, none_at, texts_put, are_put}
+use Rattle.row_table.proofs.RowLemmas.{is_at, rest, cleared}
 
 -- ---- lists
 
-has_matched : {X Y : Type 0} (p : X → Bool) (f : X → Y) (xs : List X) (y : Y) → Has (flat_map (λ x. cond (p x) (f x ∷ []) []) xs) y → (x : X) × Has xs x × (p x ≡ true) × (y ≡ f x)
+has_matched : {X Y : Type 0} (p : X → Bool) (f : X → Y) (xs : List X) (y : Y) → Has (flat_map (λ x. cond (p x) (f x ∷ []) []) xs) y
+    → (x : X) × Has xs x × (p x ≡ true) × (y ≡ f x)
 has_matched p f [] y h = absurd h
 has_matched {X} {Y} p f (x ∷ xs) y h = go (p x) refl h (has_matched p f xs y)
   where
@@ -109,7 +107,6 @@ both_tied Equal Equal = refl
 both_tied Equal Greater = refl
 both_tied Greater b = refl
 
-
 equal_texts : (s t : List ℕ) → ops.is_true (ops.binary (binary.Compare compare.Eq collation.Binary) (Text s) (Text t)) ≡ is_eq (text_cmp t s)
 unfolding ops.binary value_cmp
 equal_texts s t = tied (value_cmp (Text s) (Text t)) ∙ ap is_eq (value_cmp-Text s t) ∙ (eq_by_cmp_equiv text_total).symm s t
@@ -121,7 +118,8 @@ tests_are kind name r is =
     ap (λ (b : Bool). b && (holds ((Text kind ∷ Text name ∷ []) ∷ r ∷ []) (op2 (binary.Compare compare.Eq collation.Binary) (col 1 2) (col 0 1)) && true)) first
     ∙ ap (λ (b : Bool). is_eq (text_cmp kind is.kind) && (b && true)) second
     ∙ both_tied (text_cmp kind is.kind) (text_cmp name is.name)
-    ∙ sym (ap (λ (k : List ℕ). is_eq (ordering_then (text_cmp kind k) (text_cmp name (bytes (column r 2))))) (ap bytes is.has_kind) ∙ ap (λ (n : List ℕ). is_eq (ordering_then (text_cmp kind is.kind) (text_cmp name n))) (ap bytes is.has_name))
+    ∙ sym (ap (λ (k : List ℕ). is_eq (ordering_then (text_cmp kind k) (text_cmp name (bytes (column r 2))))) (ap bytes is.has_kind)
+        ∙ ap (λ (n : List ℕ). is_eq (ordering_then (text_cmp kind is.kind) (text_cmp name n))) (ap bytes is.has_name))
 
 record AreFound (terms : List Term) (rows : List Row) (given : Row) (found : List Row) : Type 0 where
   sound : (x : Row) → Has found x → (r : Row) × Has rows r × (list_all (holds (given ∷ r ∷ [])) terms ≡ true) × (x ≡ rowid r ∷ [])
@@ -146,26 +144,28 @@ found_rowids db given found answer =
           subst (λ l. Has l (rowid r ∷ [])) (sym answer.shown) (mapped_has (λ (k : Output). k.1) answer.ordered o (has_permuted answer.kept answer.ordered o answer.same there));
     }
 
-deleted_ids : (kind name : List ℕ) (db : Trees) (rows : List Row) → IsAnswer delete_query db (Text kind ∷ Text name ∷ []) rows → AreTexts (db 1) → without_all (db 1) (ids_of rows) ≡ rest (kind, name) (db 1)
+deleted_ids : (kind name : List ℕ) (db : Trees) (rows : List Row) → IsAnswer delete_query db (Text kind ∷ Text name ∷ []) rows → AreTexts (db 1)
+    → without_all (db 1) (ids_of rows) ≡ rest (kind, name) (db 1)
 deleted_ids kind name db rows answer texts =
     let found = found_rowids db (Text kind ∷ Text name ∷ []) rows answer in
     cleared (kind, name) (db 1) (ids_of rows) texts
     (λ id i.
-      let x = has_mapped (λ (x : Row). id_in (rowid x)) rows id i in
-      let r = found.sound x.0 x.1 in
-      let is = texts.each r.0 r.1 in
-      let one : id ≡ is.id = x.2 ∙ ap (λ (y : Row). id_in (rowid y)) r.3 ∙ ap id_in is.has_id in
-      (r.0, r.1, sym (tests_are kind name r.0 is) ∙ r.2, is.has_id ∙ ap Int (sym one)))
+    let x = has_mapped (λ (x : Row). id_in (rowid x)) rows id i in
+    let r = found.sound x.0 x.1 in
+    let is = texts.each r.0 r.1 in
+    let one : id ≡ is.id = x.2 ∙ ap (λ (y : Row). id_in (rowid y)) r.3 ∙ ap id_in is.has_id in
+    (r.0, r.1, sym (tests_are kind name r.0 is) ∙ r.2, is.has_id ∙ ap Int (sym one)))
     (λ r id i at same.
-      let there = found.complete r i (tests_are kind name r (texts.each r i) ∙ at) in
-      subst (Has (ids_of rows)) (ap id_in same) (mapped_has (λ (x : Row). id_in (rowid x)) rows (rowid r ∷ []) there))
+    let there = found.complete r i (tests_are kind name r (texts.each r i) ∙ at) in
+    subst (Has (ids_of rows)) (ap id_in same) (mapped_has (λ (x : Row). id_in (rowid x)) rows (rowid r ∷ []) there))
 
 -- the tables stay, and the rows are these
 pub record HasRows (db : Database) (rows : List Row) : Type 0 where
   pub schema : db.schema ≡ both_tables
   pub rows_are : db.trees 1 ≡ rows
 
-pub deletes : (old new : State) (kind name : List ℕ) (r : Result ℕ Error) → old.now.schema ≡ both_tables → AreTexts (old.now.trees 1) → Executes delete_text (Text kind ∷ Text name ∷ []) old new r
+pub deletes : (old new : State) (kind name : List ℕ) (r : Result ℕ Error) → old.now.schema ≡ both_tables → AreTexts (old.now.trees 1)
+    → Executes delete_text (Text kind ∷ Text name ∷ []) old new r
     → OnOk r (HasRows new.now (rest (kind, name) (old.now.trees 1)))
 deletes old new kind name (Err e) has texts h = tt
 deletes old new kind name (Ok count) has texts h =
@@ -187,8 +187,10 @@ deletes old new kind name (Ok count) has texts h =
 
 -- ---- INSERT
 
-pub inserts : (old new : State) (kind name body : List ℕ) (r : Result ℕ Error) → old.now.schema ≡ both_tables → Executes insert_text (Text kind ∷ Text name ∷ Text body ∷ []) old new r
-    → OnOk r (HasRows new.now (put_row (text_row (next_rowid (old.now.trees 1)) kind name body) (old.now.trees 1)) × (is_taken (old.now.trees 1) (text_row (next_rowid (old.now.trees 1)) kind name body) ≡ false))
+pub inserts : (old new : State) (kind name body : List ℕ) (r : Result ℕ Error) → old.now.schema ≡ both_tables
+    → Executes insert_text (Text kind ∷ Text name ∷ Text body ∷ []) old new r
+    → OnOk r (HasRows new.now (put_row (text_row (next_rowid (old.now.trees 1)) kind name body) (old.now.trees 1))
+        × (is_taken (old.now.trees 1) (text_row (next_rowid (old.now.trees 1)) kind name body) ≡ false))
 inserts old new kind name body (Err e) has h = tt
 inserts old new kind name body (Ok count) has h =
     let params = Text kind ∷ Text name ∷ Text body ∷ [] in
@@ -203,22 +205,26 @@ inserts old new kind name body (Ok count) has h =
     let counted = went written.2 in
     let trees : done.0.trees ≡ written.0 = ap (λ (it : Written). it.trees) (same_value counted.2) ∙ same_value counted.1 in
     let step = one_step both_tables _ db written.0 (edit_of db row_table [] Chosen 0 given.0) refl written.1 in
-    let news : (edit_of db row_table [] Chosen 0 given.0).news ≡ text_row (next_rowid (db 1)) kind name body ∷ [] = ap (λ all. (edit_of db row_table [] Chosen 0 all).news) given.1.1 ∙ rw cast_null refl in
-    (record {
+    let news : (edit_of db row_table [] Chosen 0 given.0).news ≡ text_row (next_rowid (db 1)) kind name body ∷ [] = ap
+        (λ all. (edit_of db row_table [] Chosen 0 all).news) given.1.1 ∙ rw cast_null refl in (
+      record {
         schema = ap (λ (d : Database). d.schema) now;
         rows_are = ap (λ (d : Database). d.trees 1) now ∙ ap (λ (t : Trees). t 1) trees ∙ step.rows ∙ ap (put_all (db 1)) news;
       },
-      front_fresh (db 1) (text_row (next_rowid (db 1)) kind name body) (subst (λ (l : List Row). are_fresh (db 1) l ≡ true) news step.fresh))
+      front_fresh (db 1) (text_row (next_rowid (db 1)) kind name body) (subst (λ (l : List Row). are_fresh (db 1) l ≡ true) news step.fresh),
+    )
   where
     turned : (a b : Bool) → (not a && b) ≡ true → a ≡ false
     turned true b e = cc
     turned false b e = refl
+
     front_fresh : (rows : List Row) (row : Row) → are_fresh rows (row ∷ []) ≡ true → is_taken rows row ≡ false
     front_fresh rows row e = turned (is_taken rows row) _ e
 
 -- ---- SELECT
 
-pub every : (given : Row) (f : Env → Output) (rows : List Row) → map (λ (o : Output). o.1) (map f (flat_map (λ r. (given ∷ r ∷ []) ∷ []) rows)) ≡ map (λ r. (f (given ∷ r ∷ [])).1) rows
+pub every : (given : Row) (f : Env → Output) (rows : List Row)
+    → map (λ (o : Output). o.1) (map f (flat_map (λ r. (given ∷ r ∷ []) ∷ []) rows)) ≡ map (λ r. (f (given ∷ r ∷ [])).1) rows
 every given f [] = refl
 every given f (r ∷ rows) = ap (λ l. (f (given ∷ r ∷ [])).1 ∷ l) (every given f rows)
 
@@ -234,7 +240,9 @@ selects old new rows has h =
     let a : IsAnswer select_query (overlay old.now.trees []) [] rows = got.answer Null in
     let kept : a.kept ≡ map (output select_query) (flat_map (λ r. ([] ∷ r ∷ []) ∷ []) (old.now.trees 1)) = a.distinct ∙ ap (map (output select_query)) a.grouped in
     let moved = IsPermutation-map (λ (o : Output). o.1) a.kept a.ordered a.same in
-    subst (IsPermutation (map texts_shown (old.now.trees 1))) (sym a.shown) (subst (λ (l : List Row). IsPermutation l (map (λ (o : Output). o.1) a.ordered)) (ap (map (λ (o : Output). o.1)) kept ∙ every [] (output select_query) (old.now.trees 1)) moved)
+    subst (IsPermutation (map texts_shown (old.now.trees 1))) (sym a.shown)
+        (subst (λ (l : List Row). IsPermutation l (map (λ (o : Output). o.1) a.ordered)) (ap (map (λ (o : Output). o.1)) kept
+        ∙ every [] (output select_query) (old.now.trees 1)) moved)
 
 pub selects_whole : (old new : State) (rows : List Row) → old.now.schema ≡ both_tables → Shown whole_select [] old new rows → IsPermutation (map row_shown (old.now.trees 1)) rows
 selects_whole old new rows has h =
@@ -242,4 +250,6 @@ selects_whole old new rows has h =
     let a : IsAnswer whole_query (overlay old.now.trees []) [] rows = got.answer Null in
     let kept : a.kept ≡ map (output whole_query) (flat_map (λ r. ([] ∷ r ∷ []) ∷ []) (old.now.trees 1)) = a.distinct ∙ ap (map (output whole_query)) a.grouped in
     let moved = IsPermutation-map (λ (o : Output). o.1) a.kept a.ordered a.same in
-    subst (IsPermutation (map row_shown (old.now.trees 1))) (sym a.shown) (subst (λ (l : List Row). IsPermutation l (map (λ (o : Output). o.1) a.ordered)) (ap (map (λ (o : Output). o.1)) kept ∙ every [] (output whole_query) (old.now.trees 1)) moved)
+    subst (IsPermutation (map row_shown (old.now.trees 1))) (sym a.shown)
+        (subst (λ (l : List Row). IsPermutation l (map (λ (o : Output). o.1) a.ordered)) (ap (map (λ (o : Output). o.1)) kept
+        ∙ every [] (output whole_query) (old.now.trees 1)) moved)

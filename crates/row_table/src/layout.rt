@@ -29,10 +29,12 @@ fn has_no_terms(alloc: Global, table: &Table) -> Result<bool, AllocError>
 {
     let checks = table.checks.lend(alloc)?;
     let stamps = table.stamps.terms.lend(alloc)?;
-    Ok(checks.roots.is_empty()
-        && stamps.roots.is_empty()
-        && table.stamps.places.is_empty()
-        && table.stamps.formats.is_empty())
+    Ok(
+        checks.roots.is_empty()
+            && stamps.roots.is_empty()
+            && table.stamps.places.is_empty()
+            && table.stamps.formats.is_empty(),
+    )
 }
 
 /// Whether the table has no rule beside its columns and keys.
@@ -42,10 +44,12 @@ fn is_plain(alloc: Global, table: &Table) -> Result<bool, AllocError>
     if !has_no_terms(alloc, table)? {
         return Ok(false);
     }
-    Ok(table.key.is_none()
-        && table.references.is_empty()
-        && table.computed.is_empty()
-        && !table.is_counted)
+    Ok(
+        table.key.is_none()
+            && table.references.is_empty()
+            && table.computed.is_empty()
+            && !table.is_counted,
+    )
 }
 
 fn are_places(places: &[usize], wanted: &[usize]) -> bool
@@ -93,10 +97,9 @@ fn are_texts(columns: &[Column]) -> bool
     ensures { IsTrue result → columns.now ≡ strict_column (codes "kind") Kind.Text ∷ strict_column (codes "name") Kind.Text ∷ strict_column (codes "body") Kind.Text ∷ [] }
 {
     match columns {
-        [kind, name, body] =>
-            is_column(kind, "kind", Kind::Text)
-                && is_column(name, "name", Kind::Text)
-                && is_column(body, "body", Kind::Text),
+        [kind, name, body] => is_column(kind, "kind", Kind::Text)
+            && is_column(name, "name", Kind::Text)
+            && is_column(body, "body", Kind::Text),
         _ => false,
     }
 }
@@ -104,19 +107,23 @@ fn are_texts(columns: &[Column]) -> bool
 fn is_layout(alloc: Global, table: &Table) -> Result<bool, AllocError>
     ensures { IfOk result (λ b. IsTrue b → table.now ≡ layout_table) }
 {
-    Ok(is_plain(alloc, table)?
-        && has_no_key(table)
-        && is_at(table, "layout", 0)
-        && is_version(table.columns.as_slice()))
+    Ok(
+        is_plain(alloc, table)?
+            && has_no_key(table)
+            && is_at(table, "layout", 0)
+            && is_version(table.columns.as_slice()),
+    )
 }
 
 fn is_row_table(alloc: Global, table: &Table) -> Result<bool, AllocError>
     ensures { IfOk result (λ b. IsTrue b → table.now ≡ row_table) }
 {
-    Ok(is_plain(alloc, table)?
-        && has_key(table)
-        && is_at(table, "row_text", 1)
-        && are_texts(table.columns.as_slice()))
+    Ok(
+        is_plain(alloc, table)?
+            && has_key(table)
+            && is_at(table, "row_text", 1)
+            && are_texts(table.columns.as_slice()),
+    )
 }
 
 fn is_row_index(index: &Index) -> bool
@@ -147,10 +154,12 @@ pub(crate) fn is_ours(alloc: Global, schema: &Schema) -> Result<bool, AllocError
     let [index] = schema.indexes.as_slice() else {
         return Ok(false);
     };
-    Ok(schema.views.is_empty()
-        && is_row_index(index)
-        && is_layout(alloc, layout)?
-        && is_row_table(alloc, rows)?)
+    Ok(
+        schema.views.is_empty()
+            && is_row_index(index)
+            && is_layout(alloc, layout)?
+            && is_row_table(alloc, rows)?,
+    )
 }
 
 fn is_column_named(column: &Column, name: &str) -> bool

@@ -78,10 +78,7 @@ impl TextRow {
 }
 
 /// Runs a query by itself, and changes nothing.
-pub(crate) fn query_alone<S: Alter>(
-    conn: &mut Connection<S>,
-    sql: &str,
-) -> Result<Vec<Row>, Error>
+pub(crate) fn query_alone<S: Alter>(conn: &mut Connection<S>, sql: &str) -> Result<Vec<Row>, Error>
     requires { conn.old.in_transaction ≡ false }
     ensures mode { conn.new.in_transaction ≡ false }
     ensures answer { HasCleanDisk (state S.Store conn.new) → IfOk result (λ v. IsAnswered S.Store conn.old sql.now v.items) }
@@ -119,10 +116,7 @@ fn read_all(alloc: Global, rows: &[Row]) -> Result<Vec<TextRow>, Error>
 }
 
 /// The rows, ordered by kind and name.
-pub(crate) fn load<S: Alter>(
-    alloc: Global,
-    conn: &mut Connection<S>,
-) -> Result<Vec<TextRow>, Error>
+pub(crate) fn load<S: Alter>(alloc: Global, conn: &mut Connection<S>) -> Result<Vec<TextRow>, Error>
     requires { conn.old.in_transaction ≡ false }
     ensures mode { conn.new.in_transaction ≡ false }
     ensures rows { HasCleanDisk (state S.Store conn.new) → HadTables (state S.Store conn.old) → IfOk result (λ v. entries (texts_of (state S.Store conn.old).now.trees) ≡ v.items) }

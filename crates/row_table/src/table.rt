@@ -7,9 +7,9 @@ ghost use Rattle.row_table.specs.Effects.{set_all};
 ghost use Rattle.row_table.specs.Kept.{IsClean, MayLeave, texts};
 
 use crate::edits::{TextEdit, commit_all};
+use crate::opening::{OpenFault, open_tables};
 use crate::past::Past;
 use crate::reading::{TextRow, load};
-use crate::opening::{OpenFault, open_tables};
 use sqlite::{Alter, Connection, Error, ErrorCode};
 use std::alloc::Global;
 use std::marker::Model;

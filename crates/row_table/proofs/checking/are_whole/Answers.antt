@@ -1,6 +1,6 @@
-use Rattle.std.proofs.Common.{◌≡◌, refl, sym, subst, take_all, arith, rules, to_z-of_z, SFits, FitsSigned, w64}
-use Rattle.row_table.specs.Checking.{AreWhole, IsAbove}
-use Rattle.row_table.proofs.CheckLemmas.{none_checked, one_checked, IsChecked}
+use Rattle.std.proofs.Common.{refl, subst, take_all, rules, to_z-of_z, SFits, w64}
+use Rattle.row_table.specs.Checking.{AreWhole}
+use Rattle.row_table.proofs.CheckLemmas.{one_checked}
 use Rattle.row_table.proofs.checking.are_whole.Goals as goal
 
 pub loop-row-preserved : goal.loop-row-preserved
@@ -9,7 +9,7 @@ loop-row-preserved c =
     let id = c.in_ok-id.id in
     let fits : SFits w64 id = search rules in
     simp (to_z-of_z, fits) (one_checked c.args.rows.now at.row-index at.last c.row-item.result id c.loop-row-test.true c.row-item.is c.in_ok-id.ensures.whole c.in_ok-id.ensures.id
-      (simp (to_z-of_z, fits) at (c.if-not-is_above.ensures refl)) at.invariant)
+    (simp (to_z-of_z, fits) at (c.if-not-is_above.ensures refl)) at.invariant)
 
 pub returns : goal.returns
 returns c _ =

@@ -1,4 +1,4 @@
-use Rattle.std.proofs.Common.{◌≡◌, ap, ◌∙◌, arith}
+use Rattle.std.proofs.Common.{ap, ◌∙◌, arith}
 use Rattle.sqlite.specs.State.{HasCleanDisk}
 use Rattle.sqlite.specs.Held.{state}
 use Rattle.sqlite.proofs.StateLemmas.{survives_then}
@@ -21,5 +21,6 @@ loop-edit-preserved g c =
       survives = survives_then old mid new _ _ _ (λ _ db none. none) (λ _ db none. none) was.survives c.make.ensures.survives;
       made = λ clean has.
           let on = was.made (earlier clean) has in
-          one_more old mid new c.args.edits.now at.edit-index c.edit-item.result c.loop-edit-test.true c.edit-item.is on (c.in_ok-make.ensures.made clean on.tables) (λ none. ap (state g.S.Store) (was.first none));
+          one_more old mid new c.args.edits.now at.edit-index c.edit-item.result c.loop-edit-test.true c.edit-item.is on (c.in_ok-make.ensures.made clean on.tables)
+              (λ none. ap (state g.S.Store) (was.first none));
     }

@@ -13,5 +13,6 @@ invariant-loop-edit g l = record {
   kept : HasCleanDisk (state g.S.Store l.tx.conn.now) → KeepsCommit (state g.S.Store l.initial.tx.conn.now) (state g.S.Store l.tx.conn.now);
   survives : Survives (state g.S.Store l.initial.tx.conn.now) (state g.S.Store l.tx.conn.now) (λ _. ⊥);
   made : HasCleanDisk (state g.S.Store l.tx.conn.now) → HadTables (state g.S.Store l.initial.tx.conn.now)
-      → GoesOn (state g.S.Store l.initial.tx.conn.now) (state g.S.Store l.tx.conn.now) l.edit-index (set_all (texts_of (state g.S.Store l.initial.tx.conn.now).now.trees) (take l.edit-index l.edits));
+      → GoesOn (state g.S.Store l.initial.tx.conn.now) (state g.S.Store l.tx.conn.now) l.edit-index
+          (set_all (texts_of (state g.S.Store l.initial.tx.conn.now).now.trees) (take l.edit-index l.edits));
 }
