@@ -81,7 +81,10 @@ impl<S: Start> TableKeep<FileStore<FileFrom<S>>> {
         rt: &HostRuntime,
         path: &str,
         start: S,
-    ) -> Result<TableKeep<FileStore<FileFrom<S>>>, (StoreFault, Option<Connection<FileStore<FileFrom<S>>>>)>
+    ) -> Result<
+        TableKeep<FileStore<FileFrom<S>>>,
+        (StoreFault, Option<Connection<FileStore<FileFrom<S>>>>),
+    >
         ensures content { IfOk result (λ k. IsClean over_files k.0 → FindsInFile (image_at S.Start) k.0.conn (texts over_files k.0)) }
         ensures refusals { IfOk result (λ k. k.1 ≡ 0) }
         ensures stops { IfOk result (λ k. IsClean over_files k.0 → (c : Content) → MayLeave over_files k.0 c → c ≡ texts over_files k.0) }

@@ -68,7 +68,7 @@ pub one_checked : (rows : List Row) (i : ℕ) (last : Option ℤ) (row : Row) (i
     → IsChecked (take i rows) last → IsChecked (take (i + 1) rows) (Some id)
 one_checked rows i last row id low at is has above was =
     subst (λ (l : List Row). IsChecked l (Some id)) (ap (λ (r : Row). take i rows ++ r ∷ []) at
-        ∙ sym (take_more rows i row low)) (pushed (take i rows) last row id is has above was)
+    ∙ sym (take_more rows i row low)) (pushed (take i rows) last row id is has above was)
 
 -- what the query shows is whole, so the rows are texts
 pub are_texts : (rows shown : List Row) → IsPermutation (map row_shown rows) shown → AreWhole shown → AreTexts rows

@@ -43,7 +43,7 @@ none_there p (x ∷ rows) none r h = elim (is_at p x) as (λ b. is_at p x ≡ b 
 pub adds : (old new : State) (kind name body : List ℕ) (r : Result ℕ Error) → HadTables old → get (texts_of old.now.trees) (kind, name) ≡ None
     → (old.in_transaction ≡ false → (e : Error) × (r ≡ Err e))
     → (IsTrue old.in_transaction → ExecutesInside 0 insert_text (Text kind ∷ Text name ∷ Text body ∷ []) old new r)
-        → OnOk r (HasMade old new (insert (texts_of old.now.trees) (kind, name) body))
+    → OnOk r (HasMade old new (insert (texts_of old.now.trees) (kind, name) body))
 adds old new kind name body (Err e) has none ended runs = tt
 adds old new kind name body (Ok count) has none ended runs = elim (cases_Bool old.in_transaction) [
   | inl within ↦

@@ -95,9 +95,9 @@ version_written old new count has h =
     let trees : done.0.trees ≡ written.0 = ap (λ (it : Written). it.trees) (same_value counted.2) ∙ same_value counted.1 in
     let step = one_step both_tables _ db written.0 (edit_of db layout_table [] Chosen 0 given.0) refl written.1 in
     let news : (edit_of db layout_table [] Chosen 0 given.0).news ≡ (Int (next_rowid (db 0)) ∷ Int (pos 1) ∷ []) ∷ [] = ap
-        (λ all. (edit_of db layout_table [] Chosen 0 all).news) given.1.1 ∙ rw (cast_null, cast_one) refl in
+    (λ all. (edit_of db layout_table [] Chosen 0 all).news) given.1.1 ∙ rw (cast_null, cast_one) refl in
     let rows : new.now.trees 0 ≡ (Int (next_rowid (db 0)) ∷ Int (pos 1) ∷ []) ∷ [] = ap (λ (d : Database). d.trees 0) now ∙ ap (λ (t : Trees). t 0) trees ∙ step.rows
-        ∙ ap (put_all (db 0)) news
+    ∙ ap (put_all (db 0)) news
     ∙ ap (λ l. put_all l ((Int (next_rowid (db 0)) ∷ Int (pos 1) ∷ []) ∷ [])) has.no_version in
     record {
       schema = ap (λ (d : Database). d.schema) now;

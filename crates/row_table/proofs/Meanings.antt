@@ -38,8 +38,18 @@ insert_terms = lit Null ∷ col 0 0 ∷ col 0 1 ∷ col 0 2 ∷ []
 
 abbrev query_over : ℕ → List Term → List Term → List (Term × Key) → Query
 query_over tree filter shown order =
-    record { from = inner tree end; filter = filter; group = None; project = shown; distinct = false; collations = []; order = order; limit = lit (Int (negsuc 0)); offset = lit
-        (Int (pos 0)) }
+    record {
+      from = inner tree end;
+      filter = filter;
+      group = None;
+      project = shown;
+      distinct = false;
+      collations = [];
+      order = order;
+      limit = lit (Int (negsuc 0));
+      offset = lit
+          (Int (pos 0));
+    }
 
 abbrev rising : Key
 rising = record { collation = collation.Binary; descending = false }

@@ -33,8 +33,8 @@ selects_version old new rows has h =
     let kept : a.kept ≡ map (output version_query) (flat_map (λ r. ([] ∷ r ∷ []) ∷ []) (old.now.trees 0)) = a.distinct ∙ ap (map (output version_query)) a.grouped in
     let moved = IsPermutation-map (λ (o : Output). o.1) a.kept a.ordered a.same in
     subst (IsPermutation (map (λ r. column r 1 ∷ []) (old.now.trees 0))) (sym a.shown)
-        (subst (λ (l : List Row). IsPermutation l (map (λ (o : Output). o.1) a.ordered)) (ap (map (λ (o : Output). o.1)) kept
-        ∙ every [] (output version_query) (old.now.trees 0)) moved)
+    (subst (λ (l : List Row). IsPermutation l (map (λ (o : Output). o.1) a.ordered)) (ap (map (λ (o : Output). o.1)) kept
+    ∙ every [] (output version_query) (old.now.trees 0)) moved)
 
 as_values : (rows : List Row) → map (λ (r : Row). column r 0) (map (λ (r : Row). column r 1 ∷ []) rows) ≡ map (λ (r : Row). column r 1) rows
 as_values [] = refl

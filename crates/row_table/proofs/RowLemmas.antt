@@ -39,8 +39,8 @@ found_rest : (p q : Place) (rows : List Row) → found q (rest p rows) ≡ cond 
 found_rest p q [] = elim (eq_by_cmp text_pair_cmp q p) as (λ b. ◌≡◌ {A = Option (List ℕ)} None (cond b None None)) [ true ↦ refl | false ↦ refl ]
 found_rest p q (r ∷ rows) =
     elim (is_at p r) as (λ b. is_at p r ≡ b
-        → found q (cond (not b) (r ∷ rest p rows) (rest p rows)) ≡ cond (eq_by_cmp text_pair_cmp q p) None
-        (cond (eq_by_cmp text_pair_cmp q (place_in r)) (Some (entry_in r).1) (found q rows))) [
+    → found q (cond (not b) (r ∷ rest p rows) (rest p rows)) ≡ cond (eq_by_cmp text_pair_cmp q p) None
+    (cond (eq_by_cmp text_pair_cmp q (place_in r)) (Some (entry_in r).1) (found q rows))) [
       | true ↦ λ at. found_rest p q rows
           ∙ gone (eq_by_cmp text_pair_cmp q p) (eq_by_cmp text_pair_cmp q (place_in r)) (ap (eq_by_cmp text_pair_cmp q) (same_place p (place_in r) at))
       | false ↦ λ apart. ap (cond (eq_by_cmp text_pair_cmp q (place_in r)) (Some (entry_in r).1)) (found_rest p q rows)
@@ -88,9 +88,9 @@ filtered_twice : {X : Type 0} (p q : X → Bool) (xs : List X) → filter p (fil
 filtered_twice p q [] = refl
 filtered_twice {X = X} p q (x ∷ xs) = elim (q x) as
     (λ b. filter p (cond b (x ∷ filter q xs) (filter q xs)) ≡ cond (b && p x) (x ∷ filter (λ y. q y && p y) xs) (filter (λ y. q y && p y) xs)) [
-  | true ↦ ap (λ (l : List X). cond (p x) (x ∷ l) l) (filtered_twice p q xs)
-  | false ↦ filtered_twice p q xs
-]
+      | true ↦ ap (λ (l : List X). cond (p x) (x ∷ l) l) (filtered_twice p q xs)
+      | false ↦ filtered_twice p q xs
+    ]
 
 same_filter : {X : Type 0} (p q : X → Bool) (xs : List X) → ((x : X) → Has xs x → p x ≡ q x) → filter p xs ≡ filter q xs
 same_filter p q [] h = refl
@@ -151,18 +151,18 @@ module _ (new : Row) where
   has_put [] r (inr none) = absurd none
   has_put (x ∷ rows) r there = elim (value_cmp (rowid x) (rowid new)) as (λ o. Has (match_ordering o (x ∷ put_row new rows) (new ∷ rows) (new ∷ x ∷ rows)) r
       → (r ≡ new) ⊎ Has (x ∷ rows) r) [
-    | Less ↦ λ h. elim h [ inl same ↦ inr (inl same) | inr later ↦ elim (has_put rows r later) [ inl same ↦ inl same | inr old ↦ inr (inr old) ] ]
-    | Equal ↦ λ h. elim h [ inl same ↦ inl same | inr later ↦ inr (inr later) ]
-    | Greater ↦ λ h. elim h [ inl same ↦ inl same | inr later ↦ inr later ]
-  ] there
+        | Less ↦ λ h. elim h [ inl same ↦ inr (inl same) | inr later ↦ elim (has_put rows r later) [ inl same ↦ inl same | inr old ↦ inr (inr old) ] ]
+        | Equal ↦ λ h. elim h [ inl same ↦ inl same | inr later ↦ inr (inr later) ]
+        | Greater ↦ λ h. elim h [ inl same ↦ inl same | inr later ↦ inr later ]
+      ] there
 
   found_put : (q : Place) (rows : List Row) → ((r : Row) → Has rows r → is_at (place_in new) r ≡ false) → is_taken rows new ≡ false
       → found q (put_row new rows) ≡ cond (eq_by_cmp text_pair_cmp q (place_in new)) (Some (entry_in new).1) (found q rows)
   found_put q [] apart free = refl
   found_put q (x ∷ rows) apart free =
       elim (value_cmp (rowid x) (rowid new)) as (λ o. value_cmp (rowid x) (rowid new) ≡ o
-          → found q (match_ordering o (x ∷ put_row new rows) (new ∷ rows) (new ∷ x ∷ rows)) ≡ cond (eq_by_cmp text_pair_cmp q (place_in new)) (Some (entry_in new).1)
-          (found q (x ∷ rows))) [
+      → found q (match_ordering o (x ∷ put_row new rows) (new ∷ rows) (new ∷ x ∷ rows)) ≡ cond (eq_by_cmp text_pair_cmp q (place_in new)) (Some (entry_in new).1)
+      (found q (x ∷ rows))) [
         | Less ↦ λ o. ap (cond (eq_by_cmp text_pair_cmp q (place_in x)) (Some (entry_in x).1))
             (found_put q rows (λ r i. apart r (inr i)) (later (is_eq (value_cmp (rowid x) (rowid new))) free))
             ∙ swapped (eq_by_cmp text_pair_cmp q (place_in x)) (eq_by_cmp text_pair_cmp q (place_in new)) refl refl
@@ -188,7 +188,7 @@ module _ (new : Row) where
       → texts_in (put_row new rows) ≡ insert (texts_in rows) (place_in new) (entry_in new).1
   texts_put rows apart free = same_map text_pair_total text_pair_exact _ _ (λ q. get-from_entries text_pair_total _ q ∙ found_put q rows apart free
       ∙ sym (get-insert text_pair_total (texts_in rows) (place_in new) (entry_in new).1 q
-          ∙ ap (cond (eq_by_cmp text_pair_cmp q (place_in new)) (Some (entry_in new).1)) (get-from_entries text_pair_total _ q)))
+      ∙ ap (cond (eq_by_cmp text_pair_cmp q (place_in new)) (Some (entry_in new).1)) (get-from_entries text_pair_total _ q)))
 
   pub are_put : (rows : List Row) → AreTexts rows → IsTextRow new → is_taken rows new ≡ false → AreTexts (put_row new rows)
   are_put rows h is free = record {
@@ -209,6 +209,6 @@ module _ (new : Row) where
       apart r i same =
           let tie : has_rowid is.id r ≡ true = rowid_tied r is.id (same ∙ is.has_id) in
           let taken : is_taken rows new ≡ true = some_from (λ x. is_eq (value_cmp (rowid x) (rowid new))) rows r i
-              (subst (λ (v : Value). is_eq (value_cmp (rowid r) v) ≡ true) (sym is.has_id) tie) in
+          (subst (λ (v : Value). is_eq (value_cmp (rowid r) v) ≡ true) (sym is.has_id) tie) in
           let f : true ≡ false = sym taken ∙ free in
           cc

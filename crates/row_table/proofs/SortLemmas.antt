@@ -27,12 +27,12 @@ find_in : (q : Place) (es : List Entry) (v : List ℕ) → find text_pair_cmp q 
 find_in q [] v h = absurd (cc)
 find_in q (e ∷ es) v h = elim (is_eq (text_pair_cmp q e.0)) as (λ b. is_eq (text_pair_cmp q e.0) ≡ b → cond b (Some e.1) (find text_pair_cmp q es) ≡ Some v
     → Has (e ∷ es) (q, v)) [
-  | true ↦ λ tied at.
-      let one : q ≡ e.0 = text_pair_exact q e.0 (equal_of_is_eq (text_pair_cmp q e.0) tied) in
-      let text : v ≡ e.1 = cc in
-      inl (λ i. (one i, text i))
-  | false ↦ λ _ at. inr (find_in q es v at)
-] refl h
+      | true ↦ λ tied at.
+          let one : q ≡ e.0 = text_pair_exact q e.0 (equal_of_is_eq (text_pair_cmp q e.0) tied) in
+          let text : v ≡ e.1 = cc in
+          inl (λ i. (one i, text i))
+      | false ↦ λ _ at. inr (find_in q es v at)
+    ] refl h
 
 find_there : (q : Place) (es : List Entry) (w : List ℕ) → Has es (q, w) → find text_pair_cmp q es ≡ None → ⊥
 find_there q [] w h none = h
@@ -41,7 +41,7 @@ find_there q (e ∷ es) w h none = elim (is_eq (text_pair_cmp q e.0)) as (λ b. 
   | false ↦ λ apart at. elim h [
     | inl same ↦
         let tied : is_eq (text_pair_cmp q e.0) ≡ true = subst (λ (z : Place). is_eq (text_pair_cmp q z) ≡ true) (ap (λ (x : Entry). x.0) same)
-            ((eq_by_cmp_equiv text_pair_total).refl q) in
+        ((eq_by_cmp_equiv text_pair_total).refl q) in
         let f : true ≡ false = sym tied ∙ apart in
         cc
     | inr later ↦ find_there q es w later at
@@ -76,8 +76,8 @@ pub entries_read : (rows shown : List Row) (out : List Entry) → IsPermutation 
     → entries (texts_in rows) ≡ out
 entries_read rows shown out moved is sorted =
     sorted_entries (map entry_in rows) out
-        (subst (λ (l : List Entry). IsPermutation l out) (twice rows)
-        (subst (IsPermutation (map entry_shown (map texts_shown rows))) (sym is) (IsPermutation-map entry_shown (map texts_shown rows) shown moved))) sorted
+    (subst (λ (l : List Entry). IsPermutation l out) (twice rows)
+    (subst (IsPermutation (map entry_shown (map texts_shown rows))) (sym is) (IsPermutation-map entry_shown (map texts_shown rows) shown moved))) sorted
 
 -- ---- one entry more
 

@@ -119,7 +119,7 @@ tests_are kind name r is =
     ∙ ap (λ (b : Bool). is_eq (text_cmp kind is.kind) && (b && true)) second
     ∙ both_tied (text_cmp kind is.kind) (text_cmp name is.name)
     ∙ sym (ap (λ (k : List ℕ). is_eq (ordering_then (text_cmp kind k) (text_cmp name (bytes (column r 2))))) (ap bytes is.has_kind)
-        ∙ ap (λ (n : List ℕ). is_eq (ordering_then (text_cmp kind is.kind) (text_cmp name n))) (ap bytes is.has_name))
+    ∙ ap (λ (n : List ℕ). is_eq (ordering_then (text_cmp kind is.kind) (text_cmp name n))) (ap bytes is.has_name))
 
 record AreFound (terms : List Term) (rows : List Row) (given : Row) (found : List Row) : Type 0 where
   sound : (x : Row) → Has found x → (r : Row) × Has rows r × (list_all (holds (given ∷ r ∷ [])) terms ≡ true) × (x ≡ rowid r ∷ [])
@@ -190,7 +190,7 @@ deletes old new kind name (Ok count) has texts h =
 pub inserts : (old new : State) (kind name body : List ℕ) (r : Result ℕ Error) → old.now.schema ≡ both_tables
     → Executes insert_text (Text kind ∷ Text name ∷ Text body ∷ []) old new r
     → OnOk r (HasRows new.now (put_row (text_row (next_rowid (old.now.trees 1)) kind name body) (old.now.trees 1))
-        × (is_taken (old.now.trees 1) (text_row (next_rowid (old.now.trees 1)) kind name body) ≡ false))
+    × (is_taken (old.now.trees 1) (text_row (next_rowid (old.now.trees 1)) kind name body) ≡ false))
 inserts old new kind name body (Err e) has h = tt
 inserts old new kind name body (Ok count) has h =
     let params = Text kind ∷ Text name ∷ Text body ∷ [] in
@@ -206,7 +206,7 @@ inserts old new kind name body (Ok count) has h =
     let trees : done.0.trees ≡ written.0 = ap (λ (it : Written). it.trees) (same_value counted.2) ∙ same_value counted.1 in
     let step = one_step both_tables _ db written.0 (edit_of db row_table [] Chosen 0 given.0) refl written.1 in
     let news : (edit_of db row_table [] Chosen 0 given.0).news ≡ text_row (next_rowid (db 1)) kind name body ∷ [] = ap
-        (λ all. (edit_of db row_table [] Chosen 0 all).news) given.1.1 ∙ rw cast_null refl in (
+    (λ all. (edit_of db row_table [] Chosen 0 all).news) given.1.1 ∙ rw cast_null refl in (
       record {
         schema = ap (λ (d : Database). d.schema) now;
         rows_are = ap (λ (d : Database). d.trees 1) now ∙ ap (λ (t : Trees). t 1) trees ∙ step.rows ∙ ap (put_all (db 1)) news;
@@ -241,8 +241,8 @@ selects old new rows has h =
     let kept : a.kept ≡ map (output select_query) (flat_map (λ r. ([] ∷ r ∷ []) ∷ []) (old.now.trees 1)) = a.distinct ∙ ap (map (output select_query)) a.grouped in
     let moved = IsPermutation-map (λ (o : Output). o.1) a.kept a.ordered a.same in
     subst (IsPermutation (map texts_shown (old.now.trees 1))) (sym a.shown)
-        (subst (λ (l : List Row). IsPermutation l (map (λ (o : Output). o.1) a.ordered)) (ap (map (λ (o : Output). o.1)) kept
-        ∙ every [] (output select_query) (old.now.trees 1)) moved)
+    (subst (λ (l : List Row). IsPermutation l (map (λ (o : Output). o.1) a.ordered)) (ap (map (λ (o : Output). o.1)) kept
+    ∙ every [] (output select_query) (old.now.trees 1)) moved)
 
 pub selects_whole : (old new : State) (rows : List Row) → old.now.schema ≡ both_tables → Shown whole_select [] old new rows → IsPermutation (map row_shown (old.now.trees 1)) rows
 selects_whole old new rows has h =
@@ -251,5 +251,5 @@ selects_whole old new rows has h =
     let kept : a.kept ≡ map (output whole_query) (flat_map (λ r. ([] ∷ r ∷ []) ∷ []) (old.now.trees 1)) = a.distinct ∙ ap (map (output whole_query)) a.grouped in
     let moved = IsPermutation-map (λ (o : Output). o.1) a.kept a.ordered a.same in
     subst (IsPermutation (map row_shown (old.now.trees 1))) (sym a.shown)
-        (subst (λ (l : List Row). IsPermutation l (map (λ (o : Output). o.1) a.ordered)) (ap (map (λ (o : Output). o.1)) kept
-        ∙ every [] (output whole_query) (old.now.trees 1)) moved)
+    (subst (λ (l : List Row). IsPermutation l (map (λ (o : Output). o.1) a.ordered)) (ap (map (λ (o : Output). o.1)) kept
+    ∙ every [] (output whole_query) (old.now.trees 1)) moved)

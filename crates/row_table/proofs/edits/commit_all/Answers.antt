@@ -21,7 +21,7 @@ returns-clause-none g c clean has some =
     let made = rw begun at (c.in_ok-make_all.ensures.made early) in
     subst (λ h. OnErr c.commit.result (HasUndone (state g.S.Store old) (state g.S.Store h))) same
     (commit_fails (state g.S.Store old) (state g.S.Store last) (state g.S.Store end) c.commit.result (rw begun at (c.make_all.ensures.kept early)) (made has some).shown.mode
-        (c.commit.ensures.err late))
+    (c.commit.ensures.err late))
 
 pub returns-clause-crash : goal.returns-clause-crash
 returns-clause-crash g c =
@@ -30,7 +30,7 @@ returns-clause-crash g c =
     let end = c.commit.new.self.0 in
     let begun = c.transaction-tx.ensures.begun in
     let P = λ (trees : Trees). HadTables (state g.S.Store old) → c.args.edits.now ≢ []
-        → IsTrue (state g.S.Store old).is_open × (texts_of trees ≡ set_all (texts_of (state g.S.Store old).now.trees) c.args.edits.now) in
+    → IsTrue (state g.S.Store old).is_open × (texts_of trees ≡ set_all (texts_of (state g.S.Store old).now.trees) c.args.edits.now) in
     let whole = survives_then (state g.S.Store old) (state g.S.Store last) (state g.S.Store end) _ _ P (λ _ db none. absurd none)
     (λ clean db is has some.
     let made = rw begun at (c.in_ok-make_all.ensures.made (omega (arith, c.commit.ensures.survives.clean))) in

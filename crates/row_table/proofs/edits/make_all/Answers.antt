@@ -22,5 +22,5 @@ loop-edit-preserved g c =
       made = λ clean has.
           let on = was.made (earlier clean) has in
           one_more old mid new c.args.edits.now at.edit-index c.edit-item.result c.loop-edit-test.true c.edit-item.is on (c.in_ok-make.ensures.made clean on.tables)
-              (λ none. ap (state g.S.Store) (was.first none));
+          (λ none. ap (state g.S.Store) (was.first none));
     }

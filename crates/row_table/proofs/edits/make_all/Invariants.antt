@@ -14,5 +14,5 @@ invariant-loop-edit g l = record {
   survives : Survives (state g.S.Store l.initial.tx.conn.now) (state g.S.Store l.tx.conn.now) (λ _. ⊥);
   made : HasCleanDisk (state g.S.Store l.tx.conn.now) → HadTables (state g.S.Store l.initial.tx.conn.now)
       → GoesOn (state g.S.Store l.initial.tx.conn.now) (state g.S.Store l.tx.conn.now) l.edit-index
-          (set_all (texts_of (state g.S.Store l.initial.tx.conn.now).now.trees) (take l.edit-index l.edits));
+      (set_all (texts_of (state g.S.Store l.initial.tx.conn.now).now.trees) (take l.edit-index l.edits));
 }

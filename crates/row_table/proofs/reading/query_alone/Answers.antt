@@ -27,4 +27,4 @@ returns-clause-same g c clean =
     let kept = query_keeps (state g.S.Store (record old { in_transaction = true })) (state g.S.Store mid) c.args.sql.now _ c.query_all.result refl
     (rw begun at (c.query_all.ensures.ok early)) (rw begun at (c.query_all.ensures.err early)) in
     subst (λ h. HasUndone (state g.S.Store old) (state g.S.Store h)) same
-        (undone_after (state g.S.Store old) (state g.S.Store mid) (state g.S.Store end) kept (c.drop-tx.ensures.undone late))
+    (undone_after (state g.S.Store old) (state g.S.Store mid) (state g.S.Store end) kept (c.drop-tx.ensures.undone late))

@@ -12,5 +12,5 @@ invariant_of-self g c =
       still_one items old new one,
       subst (λ h. IsAtRest g.S.Store (record { conn = new; last = h })) (sym (the_one items old old new one))
           (undone_rest g.S.Store old (slice_index_or items 0 old) new c.self.invariant.1 c.load.ensures.mode
-              (λ clean. omega (arith, c.load.ensures.crash.clean)) c.load.ensures.same),
+          (λ clean. omega (arith, c.load.ensures.crash.clean)) c.load.ensures.same),
     )
