@@ -21,7 +21,7 @@ use Rattle.site_book.specs.declared.claim.Claim.{Claim}
 use Rattle.site_book.specs.declared.claim.Claim.TheVariants.{OpenStart, Live, Reserved}
 use Rattle.outbox.specs.Pushes.{subject}
 use Rattle.outbox.specs.declared.push_book.Subject.{Subject}
-use Rattle.session_state.specs.Resumed.{CannotResume}
+use Rattle.session_state.specs.Resuming.{CannotResume}
 use Rattle.node_steps.specs.Peers.{HasPeer}
 use Rattle.operator_rows.specs.Sound.{HasPlace, IsOwnStart}
 use Rattle.operator_rows.specs.State.{IsLive, IsStart, Occupies, Takes}

@@ -6,7 +6,7 @@ use Rattle.ocpi_text.specs.declared.own_ids.OwnIdKind.TheVariants as own
 use Rattle.ocpi_types.specs.declared.cdrs.Cdr.{Cdr}
 use Rattle.ocpi_types.specs.declared.sessions.Session.{Session}
 use Rattle.ocpi_types.specs.declared.words.SessionStatus.TheVariants.{Completed}
-use Rattle.session_state.specs.Resumed.{CannotResume}
+use Rattle.session_state.specs.Resuming.{CannotResume}
 use Rattle.stored_rows.specs.Given.{IsOwnId}
 use Rattle.operator_rows.specs.State.{State, Rows}
 

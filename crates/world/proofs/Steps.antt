@@ -22,9 +22,10 @@ use Rattle.provider_rows.specs.State as provider_state
 use Rattle.provider_rows.specs.Steps as provider_rows
 use Rattle.provider_steps.specs.Events as provider
 use Rattle.provider_steps.specs.Moves as provider_moves
+use Rattle.stored_laws.specs.Laws.{OperatorsAreWhole, ProvidersAreWhole}
 use Rattle.world.specs.Deliveries.{IsPlaceOf}
 use Rattle.world.specs.Seen.{node_seen, packets_sent, place_seen, places_seen, sent_from, told, told_in}
-use Rattle.world.specs.Works.{ComesOf, ComesOfFull, IsIdle, IsPlanned, IsWork, MayDo, changes_by, node_after, packets_by, place_after, versions_by}
+use Rattle.world.specs.Works.{ComesOf, ComesOfFull, IsIdle, IsPlanned, IsWhole, IsWork, MayDo, changes_by, node_after, packets_by, place_after, versions_by}
 use Rattle.world.specs.declared.place.Place as declared
 use Rattle.world.specs.declared.planned.Outcome as outcomes
 use Rattle.world.specs.declared.planned.Outcome.TheVariants as outcome
@@ -75,13 +76,13 @@ provider_planned w party s k i reaches r planned may refused q h =
     if_ok_each (ComesOf r) (IsPlanned w party (Provides s) k) (provider_came w party s k i reaches r planned may refused) q h
 
 -- work that an event asks for may be done
-pub may_do : (w : World) (party : List ℕ) (n : NodeState) (k : EventKind) (x : Work) → IsWork w party n k x → MayDo n x
-may_do w party (Operates s) k (work.Operator x) h = h.may
-may_do w party (Operates s) k (work.Provider x) h = h
-may_do w party (Operates s) k work.Restart h = tt
-may_do w party (Provides s) k (work.Operator x) h = h
-may_do w party (Provides s) k (work.Provider x) h = h.may
-may_do w party (Provides s) k work.Restart h = tt
+pub may_do : (w : World) (party : List ℕ) (n : NodeState) (k : EventKind) (x : Work) → IsWhole n → IsWork w party n k x → MayDo n x
+may_do w party (Operates s) k (work.Operator x) whole h = h.may
+may_do w party (Operates s) k (work.Provider x) whole h = h
+may_do w party (Operates s) k work.Restart whole h = whole
+may_do w party (Provides s) k (work.Operator x) whole h = h
+may_do w party (Provides s) k (work.Provider x) whole h = h.may
+may_do w party (Provides s) k work.Restart whole h = whole
 
 -- what a node does by its work
 record Doing (w : World) (party : List ℕ) (n : NodeState) (k : EventKind) (x : Work) : Type 0 where
@@ -131,6 +132,15 @@ doing w party (Provides s) k work.Restart h = record {
 -- the place of a party, as it is seen
 seen_at : (ps : List declared.Place) (party : List ℕ) (i : ℕ) (x : declared.Place) → IsPlaceOf ps party i x → IsAt (places_seen ps) party i (place_seen x)
 seen_at ps party i x at = record { here = slice_get-map place_seen ps i ∙ ap (option_map place_seen) at.here; same = at.same }
+
+-- each node of a world that is reached is whole
+pub is_whole : OperatorsAreWhole → ProvidersAreWhole → (ps : List declared.Place) (party : List ℕ) (i : ℕ) (x : declared.Place) → IsReached (places_seen ps) → IsPlaceOf ps party i x →
+    IsWhole (node_seen x.node)
+is_whole operators providers ps party i x reached at = by (node_seen x.node) refl
+  where
+    by : (n : NodeState) → node_seen x.node ≡ n → IsWhole n
+    by (Operates s) is = operators (places_seen ps) reached (key x.party) (place_seen x) s (record { number = i; here = (seen_at ps party i x at).here; party = refl; node = is })
+    by (Provides s) is = providers (places_seen ps) reached (key x.party) (place_seen x) s (record { number = i; here = (seen_at ps party i x at).here; party = refl; node = is })
 
 -- there is no node of the party
 pub none_gives : (ps : List declared.Place) (e : Event) → ((i : ℕ) (x : declared.Place) → IsPlaceOf ps e.node i x → ⊥) → Gives (places_seen ps) e steps.Skipped (places_seen ps)

@@ -1,5 +1,5 @@
 -- What a node is to do, and what it leaves.
-use Rattle.std.specs.Prelude.{◌≡◌, ◌≢◌, ⊤, ℕ, List, [], ◌++◌, Result, Ok, Err}
+use Rattle.std.specs.Prelude.{◌≡◌, ◌≢◌, ℕ, List, [], ◌++◌, Result, Ok, Err}
 use Rattle.node_steps.specs.Drafts.{step_of}
 use Rattle.node_steps.specs.declared.fault.NodeFault.{NodeFault}
 use Rattle.node_steps.specs.declared.fault.NodeFault.TheVariants.{Memory}
@@ -13,10 +13,12 @@ use Rattle.operator_rows.specs.FullSteps.{full_step_of}
 use Rattle.operator_rows.specs.State as operator_state
 use Rattle.operator_rows.specs.Steps as operator_rows
 use Rattle.operator_rows.specs.declared.full_plan.FullPlan.{FullPlan}
+use Rattle.operator_stored.specs.Whole as operator_whole
 use Rattle.operator_steps.specs.Events as operator
 use Rattle.operator_steps.specs.Moves as operator_moves
 use Rattle.provider_rows.specs.State as provider_state
 use Rattle.provider_rows.specs.Steps as provider_rows
+use Rattle.provider_stored.specs.Whole as provider_whole
 use Rattle.provider_steps.specs.Events as provider
 use Rattle.provider_steps.specs.Moves as provider_moves
 use Rattle.world.specs.declared.planned.Outcome.{Outcome}
@@ -56,14 +58,19 @@ versions_by work.Restart = []
 abbrev pub place_after : Work → Place → Place
 place_after x p = record { party = p.party; node = node_after x p.node; sent = p.sent ++ packets_by x; versions = p.versions ++ versions_by x }
 
+-- the node is whole: it may be made again of its rows
+abbrev pub IsWhole : NodeState → Type 0
+IsWhole (Operates s) = operator_whole.IsWhole s
+IsWhole (Provides s) = provider_whole.IsWhole s
+
 -- the node may do the work
 abbrev pub MayDo : NodeState → Work → Type 0
 MayDo (Operates s) (work.Operator x) = operator_rows.MayFollowFull s (full_step_of x)
 MayDo (Operates s) (work.Provider x) = ⊥
-MayDo (Operates s) work.Restart = ⊤
+MayDo (Operates s) work.Restart = IsWhole (Operates s)
 MayDo (Provides s) (work.Operator x) = ⊥
 MayDo (Provides s) (work.Provider x) = provider_rows.MayFollow s (step_of x)
-MayDo (Provides s) work.Restart = ⊤
+MayDo (Provides s) work.Restart = IsWhole (Provides s)
 
 -- an operator plans all that reaches it
 pub record OperatorPlans (w : World) (party : List ℕ) (s : operator_state.State) (k : EventKind) (x : FullPlan) : Type 0 where

@@ -3,13 +3,18 @@
 ghost use Rattle.std.specs.Prelude.{◌≡◌, ◌≤◌, ◌+◌, ◌++◌, ◌∷◌, [], IfOk, OnErr, OnOk, length, vec_capacity};
 ghost use Rattle.node_steps.specs.Drafts.{step_of};
 ghost use Rattle.operator_rows.specs.FullSteps.{full_step_of};
+ghost use Rattle.operator_rows.specs.Steps as operator_rows;
 ghost use Rattle.operator_rows.specs.Steps.{MayFollowFull, after_full};
+ghost use Rattle.operator_stored.specs.Whole as operator_whole;
+ghost use Rattle.provider_rows.specs.Steps as provider_rows;
 ghost use Rattle.provider_rows.specs.Steps.{MayFollow, after};
+ghost use Rattle.provider_stored.specs.Whole as provider_whole;
 ghost use Rattle.world.specs.Seen.{node_seen, place_seen};
 ghost use Rattle.world.specs.Works.{MayDo, changes_by, node_after, place_after};
 ghost use Rattle.world.specs.declared.planned.Work.TheVariants as work;
 ghost use Rattle.world_steps.specs.Steps.{all_put, version_put};
 
+use crate::opening::first_moment;
 use crate::place::{Node, Place};
 use crate::planned::Work;
 use node_steps::{Plan, copies};
@@ -18,6 +23,8 @@ use operator_core::Operator;
 use operator_rows::FullPlan;
 use provider_core::Provider;
 use std::alloc::{AllocError, Global};
+use std::mem;
+use stored_rows::RowsFault;
 
 /// Adds a version. What a record is made of is known once a member of it is read.
 fn push_copy(versions: &mut Vec<Session>, version: &Session) -> Result<(), AllocError>
@@ -145,14 +152,70 @@ fn provide(
     Ok(changes)
 }
 
+/// An operator as it starts again, made of its rows. An error is want of memory.
+fn operator_again(alloc: Global, operator: &Operator) -> Result<Operator, AllocError>
+    requires { operator_whole.IsWhole operator.now.state }
+    ensures { IfOk result (λ o. o.state ≡ operator_rows.restarted operator.now.state) }
+{
+    operator.consistency();
+    let line = operator.site_line(first_moment())?;
+    let rows = operator.stored()?;
+    match Operator::from_rows(alloc, line, rows) {
+        Ok(again) => Ok(again),
+        Err(RowsFault::Memory) => Err(AllocError),
+        Err(RowsFault::BadRows) => unreachable!(),
+    }
+}
+
+/// A provider as it starts again, made of its rows. An error is want of memory.
+fn provider_again(alloc: Global, provider: &Provider) -> Result<Provider, AllocError>
+    requires { provider_whole.IsWhole provider.now.state }
+    ensures { IfOk result (λ p. p.state ≡ provider_rows.restarted provider.now.state) }
+{
+    provider.consistency();
+    provider.keys_are_own();
+    let peers = provider.peers()?;
+    let rows = provider.stored()?;
+    match Provider::from_rows(alloc, peers, rows) {
+        Ok(again) => Ok(again),
+        Err(RowsFault::Memory) => Err(AllocError),
+        Err(RowsFault::BadRows) => unreachable!(),
+    }
+}
+
+/// The operator is replaced by the one that is made of its rows. An error is want of memory, and changes nothing.
+fn restart_operator(alloc: Global, operator: &mut Operator) -> Result<(), AllocError>
+    requires { operator_whole.IsWhole operator.old.state }
+    ensures ok { OnOk result (operator.new.state ≡ operator_rows.restarted operator.old.state) }
+    ensures err { OnErr result (operator.new.state ≡ operator.old.state) }
+{
+    let again = operator_again(alloc, operator)?;
+    drop(mem::replace(operator, again));
+    Ok(())
+}
+
+/// The provider is replaced by the one that is made of its rows. An error is want of memory, and changes nothing.
+fn restart_provider(alloc: Global, provider: &mut Provider) -> Result<(), AllocError>
+    requires { provider_whole.IsWhole provider.old.state }
+    ensures ok { OnOk result (provider.new.state ≡ provider_rows.restarted provider.old.state) }
+    ensures err { OnErr result (provider.new.state ≡ provider.old.state) }
+{
+    let again = provider_again(alloc, provider)?;
+    drop(mem::replace(provider, again));
+    Ok(())
+}
+
 impl Node {
-    /// The node starts again from what it stored.
-    fn restart(&mut self)
-        ensures { node_seen self.new ≡ node_after work.Restart (node_seen self.old) }
+    /// The node starts again: it is made of the rows that it stored, and of what it was opened with. An error is want of memory, and
+    /// changes nothing.
+    fn restart(&mut self, alloc: Global) -> Result<(), AllocError>
+        requires { MayDo (node_seen self.old) work.Restart }
+        ensures ok { OnOk result (node_seen self.new ≡ node_after work.Restart (node_seen self.old)) }
+        ensures err { OnErr result (node_seen self.new ≡ node_seen self.old) }
     {
         match self {
-            Node::Operator(operator) => operator.restart(),
-            Node::Provider(provider) => provider.restart(),
+            Node::Operator(operator) => restart_operator(alloc, operator),
+            Node::Provider(provider) => restart_provider(alloc, provider),
         }
     }
 }
@@ -202,7 +265,7 @@ impl Place {
             Work::Operator(plan) => self.operate(alloc, plan),
             Work::Provider(plan) => self.provide(alloc, plan),
             Work::Restart => {
-                self.node.restart();
+                self.node.restart(alloc)?;
                 Ok(Vec::new(alloc))
             }
         }

@@ -68,7 +68,7 @@ fn operators(alloc: Global, nodes: &[SetupNode]) -> Result<Vec<Party>, AllocErro
 }
 
 /// The first moment of all, at which a setup is opened.
-fn first_moment() -> Moment
+pub(crate) fn first_moment() -> Moment
     ensures { result ≡ 0 }
 {
     Moment::read("1970-01-01T00:00:00Z").unwrap()

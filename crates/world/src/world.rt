@@ -20,6 +20,7 @@ use ocpi_text::{CiKey, Party, ShortText};
 use ocpi_types::{Change, Event, Packet, Session, Setup};
 use std::alloc::{AllocError, Global};
 use std::marker::Model;
+use stored_laws::laws::{operators_are_whole, providers_are_whole};
 use world_laws::laws::{worlds_are_right, worlds_go_on};
 
 /// The nodes of a setup, all packets that each ever sent, and all versions that the sessions of each operator ever had.
@@ -61,10 +62,13 @@ impl Model for World {
 
 /// An event comes to the node of its party. An error is want of memory, and changes nothing.
 fn step_places(alloc: Global, places: &mut Vec<Place>, event: &Event) -> Result<Told, AllocError>
+    requires { IsReached (places_seen places.old.items) }
     ensures ok { IfOk result (λ t. Gives (places_seen places.old.items) event.now (told_in (places_seen places.new.items) t) (places_seen places.new.items)) }
     ensures idle { IfOk result (λ t. t.outcome ≢ Outcome.Stepped → (t.sending ≡ None) × (t.changes.items ≡ [])) }
     ensures err { OnErr result (places_seen places.new.items ≡ places_seen places.old.items) }
 {
+    operators_are_whole();
+    providers_are_whole();
     let Some(i) = find(places.as_slice(), &event.node) else {
         return Ok(Told::idle(alloc, Outcome::Skipped));
     };

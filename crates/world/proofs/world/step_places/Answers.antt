@@ -3,7 +3,7 @@ use Rattle.std.specs.Prelude.{slice_set}
 use Rattle.std.proofs.lemmas.Option.{same_Some, slice_get_within}
 use Rattle.ocpi_types.specs.declared.packet.Packet.{Packet}
 use Rattle.ocpi_types.specs.declared.rows.Change.{Change}
-use Rattle.world.proofs.Steps.{idle_gives, may_do, none_gives, on_err_always, place_here, told_idle, told_work, unchanged, work_gives}
+use Rattle.world.proofs.Steps.{idle_gives, is_whole, may_do, none_gives, on_err_always, place_here, told_idle, told_work, unchanged, work_gives}
 use Rattle.world.proofs.world.step_places.Goals as goal
 use Rattle.world.specs.Deliveries.{IsPlaceOf}
 use Rattle.world.specs.Seen.{node_seen, places_seen}
@@ -65,7 +65,8 @@ carry_out-requires c =
     let there = place_here ps e.node i found.0 y found.1 c.index_mut-place.ensures.value in
     let planned = subst (λ (l : List Place). IsPlanned (places_seen l) x.party (node_seen x.node) e.kind c.in_ok-outcome.field-0) c.as_slice-2.ensures.value c.in_ok-outcome.ensures in
     let work = subst (λ (z : Planned). IsPlanned w x.party (node_seen x.node) e.kind z) c.in-Acts.is planned in
-    subst (λ (z : Place). MayDo (node_seen z.node) c.in-Acts.work) (same_Some x y (sym at.here ∙ there.here)) (may_do w x.party (node_seen x.node) e.kind c.in-Acts.work work)
+    let whole = is_whole c.operators_are_whole.ensures c.providers_are_whole.ensures ps e.node i x c.requires at in
+    subst (λ (z : Place). MayDo (node_seen z.node) c.in-Acts.work) (same_Some x y (sym at.here ∙ there.here)) (may_do w x.party (node_seen x.node) e.kind c.in-Acts.work whole work)
 
 pub returns-in_err-changes-in-Acts-clause-err : goal.returns-in_err-changes-in-Acts-clause-err
 returns-in_err-changes-in-Acts-clause-err c =

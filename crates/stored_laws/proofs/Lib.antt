@@ -1,0 +1,3 @@
+pub mod LastVersions
+pub mod Operators
+pub mod Providers
