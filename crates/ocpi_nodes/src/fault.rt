@@ -39,7 +39,7 @@ impl fmt::Display for PlayFault {
 impl std::error::Error for PlayFault {}
 
 /// The exit status of a run: 3 where a store stopped it, and else as of any run.
-pub fn status_after(ran: Result<Ran, PlayFault>) -> u8
+pub fn status_after_play(ran: Result<Ran, PlayFault>) -> u8
     ensures { result ≡ play_status ran }
 {
     match ran {

@@ -3,18 +3,24 @@
 
 ghost use Rattle.std.specs.Prelude.{◌≡◌, ◌≢◌};
 ghost use Rattle.clap.specs.Values.{kind_of};
-ghost use Rattle.line_runs.specs.Outcome.{exit_status};
+ghost use Rattle.ocpi_nodes.specs.Stops.{play_status};
 
 mod answer;
 mod command;
+mod fault;
+mod keeping;
+mod keeps;
 mod play;
+mod settle;
 mod writing;
 
 use answer::run_answer;
 use clap::Error;
 use clap::error::ErrorKind;
 use command::{WRONG_WORDS, Word, status_after, take_words};
-use line_runs::{LineReader, Ran, RunFault, status_of};
+use fault::{PlayFault, status_after_play};
+use keeps::ListKeeps;
+use line_runs::{LineReader, Ran, RunFault};
 use play::run_play;
 use std::io::{self, BufReader, BufWriter};
 use std::process::ExitCode;
@@ -42,13 +48,13 @@ fn run_program(rt: &HostRuntime) -> u8 {
 }
 
 /// Says what stopped a run, and answers its exit status.
-fn report(rt: &HostRuntime, ran: Result<Ran, RunFault>) -> u8
-    ensures { result ≡ exit_status ran }
+fn report(rt: &HostRuntime, ran: Result<Ran, PlayFault>) -> u8
+    ensures { result ≡ play_status ran }
 {
     if let Err(fault) = ran {
         let _ = eprintln!(rt; "{fault}");
     }
-    status_of(ran)
+    status_after_play(ran)
 }
 
 /// The arguments, or what is said where there are none to be had.
@@ -81,16 +87,23 @@ fn say(rt: &HostRuntime, text: &Error) -> u8
 }
 
 /// Runs a program from the standard input to the standard output.
-fn run_standard_input(rt: &HostRuntime, word: Word) -> Result<Ran, RunFault> {
+fn run_standard_input(rt: &HostRuntime, word: Word) -> Result<Ran, PlayFault> {
     let Ok(reader) = BufReader::with_capacity(rt.alloc(), BUFFER_BYTES, rt.reader()) else {
-        return Err(RunFault::ReadFailed);
+        return Err(PlayFault::Run(RunFault::ReadFailed));
     };
     let Ok(mut writer) = BufWriter::with_capacity(rt.alloc(), BUFFER_BYTES, io::writer(rt)) else {
-        return Err(RunFault::WriteFailed);
+        return Err(PlayFault::Run(RunFault::WriteFailed));
     };
     let mut input = LineReader::new(reader);
     match word {
-        Word::Answer => run_answer(rt.alloc(), &mut input, &mut writer),
-        Word::Play => run_play(rt.alloc(), &mut input, &mut writer),
+        Word::Answer => {
+            run_answer(rt.alloc(), &mut input, &mut writer).map_err(PlayFault::Run)
+        }
+        Word::Play => run_play(
+            rt.alloc(),
+            &mut input,
+            &mut writer,
+            ListKeeps::new(rt.alloc()),
+        ),
     }
 }
