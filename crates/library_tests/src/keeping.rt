@@ -13,7 +13,7 @@ fn put(counter: Counter, last: u64) -> Option<Change> {
 }
 
 /// Two rows are put, and then one of them is dropped.
-fn change<K: Keep>(rt: &impl Abort, alloc: Global, keep: &mut K) -> Option<()> {
+pub(crate) fn change<K: Keep>(rt: &impl Abort, alloc: Global, keep: &mut K) -> Option<()> {
     let mut changes = Vec::new(alloc);
     changes.push(put(Counter::Serial, 7)?).ok()?;
     changes.push(put(Counter::Request, 9)?).ok()?;
@@ -26,7 +26,7 @@ fn change<K: Keep>(rt: &impl Abort, alloc: Global, keep: &mut K) -> Option<()> {
 }
 
 /// The last number of each counter that is kept.
-fn numbers<K: Keep>(alloc: Global, keep: &mut K) -> Option<Vec<u64>> {
+pub(crate) fn numbers<K: Keep>(alloc: Global, keep: &mut K) -> Option<Vec<u64>> {
     let mut numbers = Vec::new(alloc);
     for row in keep.load().ok()? {
         match row {

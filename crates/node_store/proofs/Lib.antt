@@ -1,3 +1,5 @@
 pub mod Places
 pub mod Placed
 pub mod KeptRows
+pub mod Edited
+pub mod Opening

@@ -9,13 +9,17 @@ fault_text BadRow = codes "2 BadRow"
 fault_text OldLayout = codes "3 OldLayout"
 fault_text Memory = codes "4 Memory"
 
--- the number of calls that a keeper has refused, after a call that was answered so
+-- the number of calls that a keeper has refused, after a call that failed so
+abbrev pub counted_fault : StoreFault → ℕ → ℕ
+counted_fault (Refused cause) n = suc n
+counted_fault BadRow n = n
+counted_fault OldLayout n = n
+counted_fault Memory n = n
+
+-- the same, after a call that was answered so
 abbrev pub counted : {X : Type 0} → Result X StoreFault → ℕ → ℕ
 counted (Ok x) n = n
-counted (Err (Refused cause)) n = suc n
-counted (Err BadRow) n = n
-counted (Err OldLayout) n = n
-counted (Err Memory) n = n
+counted (Err e) n = counted_fault e n
 
 -- what a commit may refuse
 abbrev pub IsCommitFault : StoreFault → Type 0

@@ -1,3 +1,5 @@
 pub mod Faults
 pub mod Contents
 pub mod Placing
+pub mod Editing
+pub mod Opened

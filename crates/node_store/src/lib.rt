@@ -8,11 +8,15 @@
 #![tactic(auto)]
 
 mod changing;
+mod editing;
 mod fault;
 mod keep;
 mod list_keep;
 mod stored;
+mod table_keep;
+mod table_opening;
 
 pub use fault::{Cause, StoreFault};
 pub use keep::Keep;
 pub use list_keep::ListKeep;
+pub use table_keep::TableKeep;

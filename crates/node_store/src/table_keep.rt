@@ -1,0 +1,165 @@
+//! A keeper in a SQLite database.
+
+ghost use Rattle.std.specs.Prelude.{◌≡◌, ◌≢◌, ◌⊎◌, All, List, ℕ, [], length, IfErr, IfOk, OnErr, OnOk, IsSome, None, Some};
+ghost use Rattle.node_store.specs.Contents.{Content, IsReadAgain, changed_all, rows_after, rows_of};
+ghost use Rattle.node_store.specs.Faults.{IsListFault, IsCommitFault, counted, counted_fault};
+ghost use Rattle.node_store.specs.declared.fault.StoreFault.TheVariants.{BadRow, OldLayout};
+ghost use Rattle.row_table.specs.Kept.{IsClean, MayLeave, texts};
+
+use crate::editing::edits_of;
+use crate::fault::{Cause, StoreFault};
+use crate::keep::Keep;
+use crate::stored::row_of;
+use ocpi_json::Scratch;
+use ocpi_types::{Change, Row};
+use row_table::{Past, TextRow, TextTable};
+use sqlite::{Alter, Error, ErrorCode};
+use std::alloc::Global;
+use std::marker::Model;
+
+/// A keeper in a SQLite database, of a file or of memory.
+pub struct TableKeep<S: Alter> {
+    alloc: Global,
+    pub(crate) table: TextTable<S>,
+    refused: Past<()>,
+}
+
+impl<S: Alter + Drop> Drop for TableKeep<S> {
+    fn drop(self) {
+        let TableKeep {
+            alloc: _,
+            table: _,
+            refused: _,
+        } = self;
+    }
+}
+
+impl<S: Alter> Model for TableKeep<S> {
+    ghost use Rattle.std.specs.Prelude.{ℕ, length};
+    ghost use Rattle.std.specs.Coded.{coded×, coded_ℕ};
+    ghost use Rattle.row_table.specs.Kept.{Kept, kept_code};
+
+    ghost Value = { Kept S × ℕ };
+
+    ghost coded = { coded× (kept_code S.code) coded_ℕ };
+
+    ghost view = { λ k. (k.table, length k.refused.items) };
+}
+
+pub(crate) fn fault_of(error: Error) -> StoreFault
+    ensures { IsCommitFault result }
+{
+    match error {
+        Error::SqliteFailure(ErrorCode::OutOfMemory) => StoreFault::Memory,
+        Error::SqliteFailure(
+            ErrorCode::SystemIoFailure | ErrorCode::DatabaseCorrupt | ErrorCode::DiskFull,
+        ) => StoreFault::Refused(Cause::Disk),
+        Error::SqliteFailure(ErrorCode::TooBig) => StoreFault::Refused(Cause::Size),
+        _ => StoreFault::Refused(Cause::Other),
+    }
+}
+
+/// The rows of texts with their kinds and names.
+fn rows_of(alloc: Global, texts: &[TextRow]) -> Result<Vec<Row>, StoreFault>
+    ensures rows { IfOk result (λ v. rows_after [] texts.now ≡ Some v.items) }
+    ensures bad { IfErr result (λ e. e ≡ BadRow → rows_after [] texts.now ≡ None) }
+    ensures fault { IfErr result IsListFault }
+{
+    let mut scratch = Scratch::new(alloc);
+    let mut rows = Vec::new(alloc);
+    for text in texts {
+        let row = row_of(
+            alloc,
+            &mut scratch,
+            text.kind(),
+            text.name(),
+            text.text().as_bytes(),
+        )?;
+        rows.push(row)?;
+    }
+    Ok(rows)
+}
+
+fn load<S: Alter>(alloc: Global, table: &mut TextTable<S>) -> Result<Vec<Row>, StoreFault>
+    ensures rows { IsClean S.Store table.new → IfOk result (λ v. rows_of (texts S.Store table.old) ≡ Some v.items) }
+    ensures bad { IsClean S.Store table.new → IfErr result (λ e. e ≡ BadRow → rows_of (texts S.Store table.old) ≡ None) }
+    ensures layout { IfErr result (λ e. e ≢ OldLayout) }
+    ensures kept { texts S.Store table.new ≡ texts S.Store table.old }
+    ensures honest { IsClean S.Store table.new → IsClean S.Store table.old }
+    ensures stops { IsClean S.Store table.new → (c : Content) → MayLeave S.Store table.new c → MayLeave S.Store table.old c }
+{
+    match table.rows() {
+        Ok(texts) => rows_of(alloc, texts.as_slice()),
+        Err(error) => Err(fault_of(error)),
+    }
+}
+
+fn change<S: Alter>(
+    alloc: Global,
+    table: &mut TextTable<S>,
+    changes: &[Change],
+) -> Result<(), StoreFault>
+    ensures all { IsClean S.Store table.new → OnOk result (texts S.Store table.new ≡ changed_all (texts S.Store table.old) changes.now) }
+    ensures none { IsClean S.Store table.new → OnErr result (texts S.Store table.new ≡ texts S.Store table.old) }
+    ensures fault { IfErr result IsCommitFault }
+    ensures again { OnOk result (All IsReadAgain changes.now) }
+    ensures honest { IsClean S.Store table.new → IsClean S.Store table.old }
+    ensures settled { IsClean S.Store table.new → OnOk result (changes.now ≢ [] → (c : Content) → MayLeave S.Store table.new c → c ≡ texts S.Store table.new) }
+    ensures stops { IsClean S.Store table.new → (c : Content) → MayLeave S.Store table.new c → MayLeave S.Store table.old c ⊎ (c ≡ changed_all (texts S.Store table.old) changes.now) }
+{
+    let edits = edits_of(alloc, changes)?;
+    match table.change(edits.as_slice()) {
+        Ok(()) => Ok(()),
+        Err(error) => Err(fault_of(error)),
+    }
+}
+
+impl<S: Alter> TableKeep<S> {
+    /// A keeper that has refused nothing.
+    pub(crate) fn over(alloc: Global, table: TextTable<S>) -> TableKeep<S>
+        ensures { (result.0 ≡ table) × (result.1 ≡ 0) }
+    {
+        TableKeep {
+            alloc,
+            table,
+            refused: Past::new(),
+        }
+    }
+
+    /// Counts a refusal, and answers the fault as it is.
+    fn tell(&mut self, fault: StoreFault) -> StoreFault
+        ensures same { (result ≡ fault) × (self.new.0 ≡ self.old.0) }
+        ensures counted { self.new.1 ≡ counted_fault fault self.old.1 }
+    {
+        if matches!(fault, StoreFault::Refused(_)) {
+            self.refused = self.refused.note(&());
+        }
+        fault
+    }
+}
+
+impl<S: Alter> Keep for TableKeep<S> {
+    ghost use Rattle.row_table.specs.Kept.{IsClean, MayLeave, texts};
+
+    ghost content = { λ k. texts S.Store k.0 };
+
+    ghost is_honest = { λ k. IsClean S.Store k.0 };
+
+    ghost refusals = { λ k. k.1 };
+
+    ghost may_leave = { λ k c. MayLeave S.Store k.0 c };
+
+    fn load(&mut self) -> Result<Vec<Row>, StoreFault> {
+        match load(self.alloc, &mut self.table) {
+            Ok(rows) => Ok(rows),
+            Err(fault) => Err(self.tell(fault)),
+        }
+    }
+
+    fn commit(&mut self, changes: &[Change]) -> Result<(), StoreFault> {
+        match change(self.alloc, &mut self.table, changes) {
+            Ok(()) => Ok(()),
+            Err(fault) => Err(self.tell(fault)),
+        }
+    }
+}

@@ -1,0 +1,113 @@
+//! Keepers in SQLite databases are opened.
+
+ghost use Rattle.std.specs.Prelude.{◌≡◌, ◌≢◌, IfErr, IfOk, IfSome, None};
+ghost use Rattle.std.specs.FinMap.{empty};
+ghost use Rattle.sqlite.specs.State.{HasCleanDisk};
+ghost use Rattle.sqlite.specs.Held.{state};
+ghost use Rattle.sqlite.specs.Steps.{over_memory};
+ghost use Rattle.sqlite.specs.Files.{file_state, over_files};
+ghost use Rattle.sqlite.specs.WalFiles.{image_at};
+ghost use Rattle.row_table.specs.Kept.{IsClean, MayLeave, texts};
+ghost use Rattle.row_table.specs.Opening.{FindsTexts, IsOldLayout};
+ghost use Rattle.node_store.specs.Contents.{Content};
+ghost use Rattle.node_store.specs.Opened.{FindsInFile, WasOldInFile};
+
+use crate::fault::StoreFault;
+use crate::table_keep::{TableKeep, fault_of};
+use row_table::{OpenFault, TextTable};
+use sqlite::{Alter, Connection, File, FileFrom, FileStore, MemStore, Start, Unknown};
+use std::alloc::Global;
+
+fn opening_fault(fault: OpenFault) -> StoreFault
+    ensures old { result ≡ StoreFault.OldLayout → fault ≡ OpenFault.OldLayout }
+    ensures bad { result ≢ StoreFault.BadRow }
+{
+    match fault {
+        OpenFault::OldLayout => StoreFault::OldLayout,
+        OpenFault::Refused(error) => fault_of(error),
+    }
+}
+
+impl<S: Alter> TableKeep<S> {
+    /// Takes a connection over, of which a stop leaves just what it holds, as of one that was just opened. A store
+    /// with nothing gets both tables, in one transaction. A refusal hands the connection back.
+    pub fn adopt(
+        alloc: Global,
+        connection: Connection<S>,
+    ) -> Result<TableKeep<S>, (StoreFault, Connection<S>)>
+        // The texts are those of the table, or none where there was no table.
+        ensures content { IfOk result (λ k. IsClean S.Store k.0 → FindsTexts (state S.Store connection).now (texts S.Store k.0)) }
+        ensures refusals { IfOk result (λ k. k.1 ≡ 0) }
+        ensures stops { IfOk result (λ k. IsClean S.Store k.0 → (c : Content) → MayLeave S.Store k.0 c → c ≡ texts S.Store k.0) }
+        ensures honest { IfOk result (λ k. IsClean S.Store k.0 → HasCleanDisk (state S.Store connection)) }
+        ensures unharmed { IfErr result (λ e. HasCleanDisk (state S.Store e.1) → HasCleanDisk (state S.Store connection)) }
+        ensures old { IfErr result (λ e. HasCleanDisk (state S.Store e.1) → e.0 ≡ StoreFault.OldLayout → IsOldLayout (state S.Store connection).now) }
+        ensures bad { IfErr result (λ e. e.0 ≢ StoreFault.BadRow) }
+    {
+        match TextTable::adopt(alloc, connection) {
+            Ok(table) => Ok(TableKeep::over(alloc, table)),
+            Err((fault, connection)) => Err((opening_fault(fault), connection)),
+        }
+    }
+}
+
+impl TableKeep<MemStore> {
+    /// A keeper of no rows in memory.
+    pub fn open_memory(alloc: Global) -> Result<TableKeep<MemStore>, StoreFault>
+        ensures content { IfOk result (λ k. texts over_memory k.0 ≡ empty) }
+        ensures refusals { IfOk result (λ k. k.1 ≡ 0) }
+        ensures stops { IfOk result (λ k. (c : Content) → MayLeave over_memory k.0 c → c ≡ empty) }
+        ensures layout { IfErr result (λ e. e ≢ StoreFault.OldLayout) }
+    {
+        let connection = Connection::open_in_memory(alloc)?;
+        match TableKeep::adopt(alloc, connection) {
+            Ok(keep) => Ok(keep),
+            Err((fault, _connection)) => Err(fault),
+        }
+    }
+
+    /// A keeper in memory is honest at all times.
+    pub fn stays_honest(&self)
+        ensures { IsClean over_memory self.now.0 }
+    {
+        let _table = &self.table;
+    }
+}
+
+impl<S: Start> TableKeep<FileStore<FileFrom<S>>> {
+    /// A keeper in the file at the path, where `S` stands for what the file holds. A file that is missing is made.
+    /// `open_file` names no file, so this is the call of which the content is proved.
+    pub fn open_file_from(
+        rt: &HostRuntime,
+        path: &str,
+        start: S,
+    ) -> Result<TableKeep<FileStore<FileFrom<S>>>, (StoreFault, Option<Connection<FileStore<FileFrom<S>>>>)>
+        ensures content { IfOk result (λ k. IsClean over_files k.0 → FindsInFile (image_at S.Start) k.0.conn (texts over_files k.0)) }
+        ensures refusals { IfOk result (λ k. k.1 ≡ 0) }
+        ensures stops { IfOk result (λ k. IsClean over_files k.0 → (c : Content) → MayLeave over_files k.0 c → c ≡ texts over_files k.0) }
+        ensures old { IfErr result (λ e. IfSome e.1 (λ c. HasCleanDisk (file_state c) → e.0 ≡ StoreFault.OldLayout → WasOldInFile (image_at S.Start) c)) }
+        ensures unopened { IfErr result (λ e. e.1 ≡ None → e.0 ≢ StoreFault.OldLayout) }
+    {
+        let connection = match Connection::open_from(rt, path, false, start) {
+            Ok(connection) => connection,
+            Err((error, _)) => return Err((fault_of(error), None)),
+        };
+        match TableKeep::adopt(rt.alloc(), connection) {
+            Ok(keep) => Ok(keep),
+            Err((fault, connection)) => Err((fault, Some(connection))),
+        }
+    }
+}
+
+impl TableKeep<FileStore<File>> {
+    /// A keeper in the file at the path. A file that is missing is made.
+    pub fn open_file(rt: &HostRuntime, path: &str) -> Result<TableKeep<FileStore<File>>, StoreFault>
+        ensures refusals { IfOk result (λ k. k.1 ≡ 0) }
+        ensures stops { IfOk result (λ k. IsClean over_files k.0 → (c : Content) → MayLeave over_files k.0 c → c ≡ texts over_files k.0) }
+    {
+        match TableKeep::open_file_from(rt, path, Unknown) {
+            Ok(keep) => Ok(keep),
+            Err((fault, _)) => Err(fault),
+        }
+    }
+}

@@ -1,0 +1,60 @@
+-- Edits that are made in turn.
+use Rattle.std.proofs.Common.{◌≡◌, ◌≢◌, ℕ, zero, suc, ◌+◌, ◌<◌, ◌≤◌, List, [], ◌∷◌, ◌++◌, length, take, get_or, true, false, Ok, Err, inl, inr, Result, OnErr, IfErr, refl, sym, ap, subst, ◌∙◌, arith, take_all}
+use Rattle.std.proofs.lemmas.List.{take_more}
+use Rattle.sqlite.specs.declared.error.Error.{Error}
+use Rattle.sqlite.specs.Steps.{FailsToCommit}
+use Rattle.sqlite.specs.State.{State, Shows, KeepsCommit}
+use Rattle.row_table.specs.Texts.{Texts, texts_of}
+use Rattle.row_table.specs.Effects.{Edit, HadTables, HasMade, HasUndone, set, set_all}
+use Rattle.row_table.proofs.EffectLemmas.{shows_then}
+
+pub set_append : (t : Texts) (xs ys : List Edit) → set_all t (xs ++ ys) ≡ set_all (set_all t xs) ys
+set_append t [] ys = refl
+set_append t (x ∷ xs) ys = set_append (set t x) xs ys
+
+-- some edits were made since the loop began
+pub record GoesOn (old new : State) (count : ℕ) (texts : Texts) : Type 0 where
+  pub shown : 0 < count → Shows old new new.now old.committed true
+  pub tables : HadTables new
+  pub texts_are : texts_of new.now.trees ≡ texts
+
+pub none_made : (s : State) → HadTables s → GoesOn s s 0 (texts_of s.now.trees)
+none_made s has = record { shown = λ low. absurd (omega arith); tables = has; texts_are = refl }
+
+pub one_more : (old mid new : State) (edits : List Edit) (i : ℕ) (e : Edit) → i < length edits → e ≡ get_or edits i e
+    → GoesOn old mid i (set_all (texts_of old.now.trees) (take i edits))
+    → HasMade mid new (set (texts_of mid.now.trees) e) → (i ≡ 0 → mid ≡ old) → GoesOn old new (i + 1) (set_all (texts_of old.now.trees) (take (i + 1) edits))
+one_more old mid new edits i e low is before made first = record {
+  shown = λ _. go i refl;
+  tables = λ _. made.tables;
+  texts_are = made.texts_are ∙ ap (λ (t : Texts). set t e) before.texts_are ∙ ap (λ (x : Edit). set (set_all (texts_of old.now.trees) (take i edits)) x) is
+      ∙ sym (ap (set_all (texts_of old.now.trees)) (take_more edits i e low) ∙ set_append (texts_of old.now.trees) (take i edits) (get_or edits i e ∷ []));
+}
+  where
+    go : (n : ℕ) → i ≡ n → Shows old new new.now old.committed true
+    go zero z = subst (λ (s : State). Shows s new new.now s.committed true) (first z) made.shown
+    go (suc n) z = shows_then old mid new (before.shown (omega arith)) made.shown
+
+pub all_made : (old new : State) (edits : List Edit) (i : ℕ) → edits ≢ [] → length edits ≤ i → GoesOn old new i (set_all (texts_of old.now.trees) (take i edits))
+    → HasMade old new (set_all (texts_of old.now.trees) edits)
+all_made old new edits i some past on = record {
+  shown = on.shown (long edits some past);
+  tables = on.tables (on.shown (long edits some past)).is_open;
+  texts_are = on.texts_are ∙ ap (set_all (texts_of old.now.trees)) (take_all i edits past);
+}
+  where
+    long : (es : List Edit) → es ≢ [] → length es ≤ i → 0 < i
+    long [] some p = absurd (some refl)
+    long (e ∷ es) some p = omega arith
+
+-- a commit that failed leaves what the last one left
+pub commit_fails : {A : Type 0} (old last end : State) (r : Result A Error) → KeepsCommit (record old { in_transaction = true }) last → last.in_transaction ≡ true
+    → IfErr r (FailsToCommit last end) → OnErr r (HasUndone old end)
+commit_fails old last end (Ok a) kept within fails = tt
+commit_fails old last end (Err e) kept within (inl failed) =
+    let back = failed.3 in
+    record {
+      was_open = λ h. kept.was_open (back.was_open h);
+      undone = λ h. let same = kept.committed (back.was_open h) in ((back.undone h).0 ∙ same, (back.undone h).1 ∙ same);
+    }
+commit_fails old last end (Err e) kept within (inr ended) = absurd (let f : true ≡ false = sym within ∙ ended.1 in cc)

@@ -1,0 +1,12 @@
+pub mod Meanings
+pub mod RowLemmas
+pub mod StatementLemmas
+pub mod EffectLemmas
+pub mod EditLemmas
+pub mod ReadLemmas
+pub mod SortLemmas
+pub mod LoadLemmas
+pub mod KeptLemmas
+pub mod MakeLemmas
+pub mod CheckLemmas
+pub mod OpenLemmas

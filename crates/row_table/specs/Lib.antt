@@ -1,0 +1,7 @@
+pub mod Layout
+pub mod Texts
+pub mod Effects
+pub mod Reading
+pub mod Kept
+pub mod Opening
+pub mod Checking

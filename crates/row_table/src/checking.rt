@@ -1,0 +1,63 @@
+//! Whether a store that has the two tables keeps what it should.
+
+ghost use Rattle.std.specs.Prelude.{◌≡◌, ◌↔◌, false, pos, [], ◌∷◌, IsTrue, IfOk};
+ghost use Rattle.sqlite.specs.declared.types.Value.TheVariants.{Int};
+ghost use Rattle.sqlite.specs.Order.{column};
+ghost use Rattle.sqlite.specs.State.{HasCleanDisk, Survives};
+ghost use Rattle.sqlite.specs.Held.{state};
+ghost use Rattle.row_table.specs.Layout.{both_tables};
+ghost use Rattle.row_table.specs.Texts.{AreTexts, IsTextRow};
+ghost use Rattle.row_table.specs.Effects.{HasUndone};
+ghost use Rattle.row_table.specs.Opening.{IsVersionOne};
+ghost use Rattle.row_table.specs.Checking.{AreWhole, IsAbove};
+
+use crate::reading::query_alone;
+use sqlite::{Alter, Connection, Error, Row};
+use std::cmp::Ordering;
+
+/// The rowid of a row that also has three texts.
+fn read_id(row: &Row) -> Result<i64, Error>
+    ensures whole { IfOk result (λ id. IsTextRow row.now) }
+    ensures id { IfOk result (λ id. column row.now 0 ≡ Int id) }
+{
+    let id = row.get(0)?;
+    let _kind: String = row.get(1)?;
+    let _name: String = row.get(2)?;
+    let _text: String = row.get(3)?;
+    Ok(id)
+}
+
+fn is_above(last: Option<i64>, id: i64) -> bool
+    ensures { IsTrue result → IsAbove last id }
+{
+    match last {
+        Some(last) => last.cmp(&id) == Ordering::Less,
+        None => true,
+    }
+}
+
+/// Whether the rows have a rowid and three texts each, and the rowids rise.
+pub(crate) fn are_whole(rows: &[Row]) -> Result<bool, Error>
+    ensures { IfOk result (λ b. IsTrue b → AreWhole rows.now) }
+{
+    let mut last = None;
+    for row in rows {
+        let id = read_id(row)?;
+        if !is_above(last, id) {
+            return Ok(false);
+        }
+        last = Some(id);
+    }
+    Ok(true)
+}
+
+/// Whether there is one row, with the number 1 alone.
+pub(crate) fn is_one(rows: &[Row]) -> Result<bool, Error>
+    ensures { IfOk result (λ b. IsTrue b ↔ (rows.now ≡ (Int (pos 1) ∷ []) ∷ [])) }
+{
+    let [row] = rows else {
+        return Ok(false);
+    };
+    let version: i64 = row.get(0)?;
+    Ok(version == 1 && row.column_count() == 1)
+}

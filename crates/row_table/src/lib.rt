@@ -1,0 +1,19 @@
+//! The two tables of a store that keeps a node's rows: `layout`, which tells its version, and `row_text`, which has a
+//! text under each kind and name.
+#![tactic(auto)]
+
+mod checking;
+mod edits;
+mod layout;
+mod making;
+mod opening;
+mod past;
+mod reading;
+mod statements;
+mod table;
+
+pub use edits::TextEdit;
+pub use opening::OpenFault;
+pub use past::Past;
+pub use reading::TextRow;
+pub use table::TextTable;

@@ -1,0 +1,139 @@
+//! A store is opened.
+
+ghost use Rattle.std.specs.Prelude.{◌≡◌, ◌≢◌, ◌↔◌, ◌⊎◌, false, [], ◌∷◌, slice_index_or, IsTrue, IfOk, IfErr, OnOk, OnErr};
+ghost use Rattle.std.specs.FinMap.{empty};
+ghost use Rattle.sqlite.specs.State.{HasCleanDisk, Survives};
+ghost use Rattle.sqlite.specs.Held.{state};
+ghost use Rattle.row_table.specs.Layout.{both_tables, no_schema};
+ghost use Rattle.row_table.specs.Texts.{AreTexts, texts_of};
+ghost use Rattle.row_table.specs.Effects.{HasUndone};
+ghost use Rattle.row_table.specs.Opening.{HoldsAsOpened, IsLayoutOne, IsOldLayout, IsVersionOne};
+ghost use Rattle.row_table.specs.Checking.{HasOurNames};
+
+use crate::checking::{are_whole, is_one};
+use crate::layout::{has_our_names, is_empty, is_ours};
+use crate::making::make_tables;
+use crate::past::Past;
+use crate::reading::query_alone;
+use sqlite::{Alter, Connection, Error, ErrorCode};
+use sqlite_schema::schema::Schema;
+use std::alloc::Global;
+
+/// Why a store is not opened.
+#[derive(Clone, Copy, Debug, PartialEq, Eq)]
+pub enum OpenFault {
+    /// It was laid out for other rows.
+    OldLayout,
+    /// The store refused.
+    Refused(Error),
+}
+
+impl From<Error> for OpenFault {
+    ghost use Rattle.row_table.specs.declared.opening.OpenFault.TheVariants.{Refused};
+
+    ghost from_gives = { λ e f. f ≡ Refused e };
+
+    fn from(e: Error) -> OpenFault {
+        OpenFault::Refused(e)
+    }
+}
+
+/// Whether `layout` has just one row, 1.
+fn is_version_one<S: Alter>(conn: &mut Connection<S>) -> Result<bool, Error>
+    requires { conn.old.in_transaction ≡ false }
+    ensures mode { conn.new.in_transaction ≡ false }
+    ensures one { HasCleanDisk (state S.Store conn.new) → (state S.Store conn.old).now.schema ≡ both_tables → IfOk result (λ b. IsTrue b ↔ IsVersionOne (state S.Store conn.old).now.trees) }
+    ensures was_open { HasCleanDisk (state S.Store conn.new) → OnOk result (IsTrue (state S.Store conn.old).is_open) }
+    ensures same { HasCleanDisk (state S.Store conn.new) → HasUndone (state S.Store conn.old) (state S.Store conn.new) }
+    ensures crash { Survives (state S.Store conn.old) (state S.Store conn.new) (λ _. ⊥) }
+{
+    let rows = query_alone(conn, "SELECT version FROM layout")?;
+    is_one(rows.as_slice())
+}
+
+/// Whether each row of `row_text` has a rowid of its own and three texts.
+fn are_rows_whole<S: Alter>(conn: &mut Connection<S>) -> Result<bool, Error>
+    requires { conn.old.in_transaction ≡ false }
+    ensures mode { conn.new.in_transaction ≡ false }
+    ensures whole { HasCleanDisk (state S.Store conn.new) → (state S.Store conn.old).now.schema ≡ both_tables → IfOk result (λ b. IsTrue b → AreTexts ((state S.Store conn.old).now.trees 1)) }
+    ensures was_open { HasCleanDisk (state S.Store conn.new) → OnOk result (IsTrue (state S.Store conn.old).is_open) }
+    ensures same { HasCleanDisk (state S.Store conn.new) → HasUndone (state S.Store conn.old) (state S.Store conn.new) }
+    ensures crash { Survives (state S.Store conn.old) (state S.Store conn.new) (λ _. ⊥) }
+{
+    let rows = query_alone(
+        conn,
+        "SELECT rowid, kind, name, body FROM row_text ORDER BY rowid",
+    )?;
+    are_whole(rows.as_slice())
+}
+
+/// Whether a schema that has something is that of layout 1.
+fn check_schema(alloc: Global, schema: &Schema) -> Result<(), OpenFault>
+    ensures ours { OnOk result (schema.now ≡ both_tables) }
+    ensures other { IfErr result (λ e. e ≡ OpenFault.OldLayout → ¬ HasOurNames schema.now) }
+{
+    if !has_our_names(schema) {
+        return Err(OpenFault::OldLayout);
+    }
+    match is_ours(alloc, schema) {
+        Ok(true) => Ok(()),
+        Ok(false) => Err(OpenFault::Refused(Error::SqliteFailure(ErrorCode::NotADatabase))),
+        Err(_) => Err(OpenFault::Refused(Error::SqliteFailure(ErrorCode::OutOfMemory))),
+    }
+}
+
+/// Whether a store that has something has layout 1.
+fn check_tables<S: Alter>(alloc: Global, conn: &mut Connection<S>) -> Result<(), OpenFault>
+    requires { conn.old.in_transaction ≡ false }
+    ensures mode { conn.new.in_transaction ≡ false }
+    ensures one { HasCleanDisk (state S.Store conn.new) → OnOk result (IsLayoutOne (state S.Store conn.old)) }
+    ensures other { HasCleanDisk (state S.Store conn.new) → IfErr result (λ e. e ≡ OpenFault.OldLayout → (¬ HasOurNames (state S.Store conn.old).now.schema) ⊎ (¬ IsVersionOne (state S.Store conn.old).now.trees)) }
+    ensures same { HasCleanDisk (state S.Store conn.new) → HasUndone (state S.Store conn.old) (state S.Store conn.new) }
+    ensures crash { Survives (state S.Store conn.old) (state S.Store conn.new) (λ _. ⊥) }
+{
+    let _settled = conn.is_autocommit();
+    check_schema(alloc, conn.schema())?;
+    if !is_version_one(conn)? {
+        return Err(OpenFault::OldLayout);
+    }
+    if !are_rows_whole(conn)? {
+        return Err(OpenFault::Refused(Error::SqliteFailure(ErrorCode::DatabaseCorrupt)));
+    }
+    Ok(())
+}
+
+/// Makes the tables, and notes the connection then.
+fn start<S: Alter>(conn: &mut Connection<S>) -> Result<Past<Connection<S>>, OpenFault>
+    requires { conn.old.in_transaction ≡ false }
+    ensures mode { conn.new.in_transaction ≡ false }
+    ensures once { IfOk result (λ p. p.items ≡ slice_index_or p.items 0 conn.new ∷ []) }
+    ensures opened { HasCleanDisk (state S.Store conn.new) → (state S.Store conn.old).now.schema ≡ no_schema → IfOk result (λ p. HoldsAsOpened S.Store conn.old conn.new (slice_index_or p.items 0 conn.new)) }
+    ensures honest { HasCleanDisk (state S.Store conn.new) → HasCleanDisk (state S.Store conn.old) }
+    ensures fault { IfErr result (λ e. e ≢ OpenFault.OldLayout) }
+{
+    make_tables(conn)?;
+    Ok(Past::new().note(conn))
+}
+
+/// Opens the store that the connection is over, and notes the connection once it has the texts.
+pub(crate) fn open_tables<S: Alter>(
+    alloc: Global,
+    conn: &mut Connection<S>,
+) -> Result<Past<Connection<S>>, OpenFault>
+    requires { conn.old.in_transaction ≡ false }
+    ensures mode { conn.new.in_transaction ≡ false }
+    ensures once { IfOk result (λ p. p.items ≡ slice_index_or p.items 0 conn.new ∷ []) }
+    ensures opened { HasCleanDisk (state S.Store conn.new) → IfOk result (λ p. HoldsAsOpened S.Store conn.old conn.new (slice_index_or p.items 0 conn.new)) }
+    ensures honest { HasCleanDisk (state S.Store conn.new) → HasCleanDisk (state S.Store conn.old) }
+    ensures old { HasCleanDisk (state S.Store conn.new) → IfErr result (λ e. e ≡ OpenFault.OldLayout → IsOldLayout (state S.Store conn.old).now) }
+{
+    let _settled = conn.is_autocommit();
+    if is_empty(conn.schema()) {
+        return start(conn);
+    }
+    let last = Past::new().note(conn);
+    match check_tables(alloc, conn) {
+        Ok(()) => Ok(last),
+        Err(fault) => Err(fault),
+    }
+}

@@ -1,0 +1,64 @@
+//! The statements on `row_text`.
+
+ghost use Rattle.std.specs.Prelude.{◌≡◌, true, IsTrue, IfOk, OnOk, None};
+ghost use Rattle.std.specs.FinMap.{get, insert, remove};
+ghost use Rattle.sqlite.specs.State.{HasCleanDisk, KeepsCommit, Survives};
+ghost use Rattle.sqlite.specs.Held.{state};
+ghost use Rattle.row_table.specs.Texts.{texts_of};
+ghost use Rattle.row_table.specs.Effects.{HadTables, HasMade};
+
+use sqlite::{Alter, Error, Row, Transaction, params};
+
+/// Takes the text of the kind and the name away, if there is one.
+pub(crate) fn clear<S: Alter>(
+    tx: &mut Transaction<'_, S>,
+    kind: &str,
+    name: &str,
+) -> Result<usize, Error>
+    ensures same_reference { tx.new.conn.ghost_name ≡ tx.old.conn.ghost_name }
+    ensures kept { HasCleanDisk (state S.Store tx.new.conn.now) → KeepsCommit (state S.Store tx.old.conn.now) (state S.Store tx.new.conn.now) }
+    ensures made { HasCleanDisk (state S.Store tx.new.conn.now) → HadTables (state S.Store tx.old.conn.now)
+        → OnOk result (HasMade (state S.Store tx.old.conn.now) (state S.Store tx.new.conn.now) (remove (texts_of (state S.Store tx.old.conn.now).now.trees) (kind.now, name.now))) }
+    ensures survives { Survives (state S.Store tx.old.conn.now) (state S.Store tx.new.conn.now) (λ _. ⊥) }
+{
+    tx.execute(
+        "DELETE FROM row_text WHERE kind = ?1 AND name = ?2",
+        params![kind, name],
+    )
+}
+
+/// Puts the text under a kind and a name that have none.
+fn add<S: Alter>(
+    tx: &mut Transaction<'_, S>,
+    kind: &str,
+    name: &str,
+    text: &str,
+) -> Result<usize, Error>
+    ensures same_reference { tx.new.conn.ghost_name ≡ tx.old.conn.ghost_name }
+    ensures kept { HasCleanDisk (state S.Store tx.new.conn.now) → KeepsCommit (state S.Store tx.old.conn.now) (state S.Store tx.new.conn.now) }
+    ensures made { HasCleanDisk (state S.Store tx.new.conn.now) → HadTables (state S.Store tx.old.conn.now) → get (texts_of (state S.Store tx.old.conn.now).now.trees) (kind.now, name.now) ≡ None
+        → OnOk result (HasMade (state S.Store tx.old.conn.now) (state S.Store tx.new.conn.now) (insert (texts_of (state S.Store tx.old.conn.now).now.trees) (kind.now, name.now) text.now)) }
+    ensures survives { Survives (state S.Store tx.old.conn.now) (state S.Store tx.new.conn.now) (λ _. ⊥) }
+{
+    tx.execute(
+        "INSERT INTO row_text(kind, name, body) VALUES (?1, ?2, ?3)",
+        params![kind, name, text],
+    )
+}
+
+/// Puts the text under the kind and the name, in place of any other.
+pub(crate) fn put<S: Alter>(
+    tx: &mut Transaction<'_, S>,
+    kind: &str,
+    name: &str,
+    text: &str,
+) -> Result<usize, Error>
+    ensures same_reference { tx.new.conn.ghost_name ≡ tx.old.conn.ghost_name }
+    ensures kept { HasCleanDisk (state S.Store tx.new.conn.now) → KeepsCommit (state S.Store tx.old.conn.now) (state S.Store tx.new.conn.now) }
+    ensures made { HasCleanDisk (state S.Store tx.new.conn.now) → HadTables (state S.Store tx.old.conn.now)
+        → OnOk result (HasMade (state S.Store tx.old.conn.now) (state S.Store tx.new.conn.now) (insert (texts_of (state S.Store tx.old.conn.now).now.trees) (kind.now, name.now) text.now)) }
+    ensures survives { Survives (state S.Store tx.old.conn.now) (state S.Store tx.new.conn.now) (λ _. ⊥) }
+{
+    clear(tx, kind, name)?;
+    add(tx, kind, name, text)
+}
