@@ -1,13 +1,13 @@
 //! The program `play`: a world of nodes, which the first line sets up and at one of which each other line is an event.
 
 ghost use Rattle.std.specs.Prelude.{◌≡◌, ◌≢◌, ◌++◌, ℕ, List, Option, None, Some, Ok, Err, true};
-ghost use Rattle.std.specs.Prelude.{IfOk, IfErr, OnErr, OnOk, codes, flat_map, string_bytes};
+ghost use Rattle.std.specs.Prelude.{IfOk, IfErr, OnOk, codes, flat_map, string_bytes};
 ghost use Rattle.json_text.specs.Fault.{Fails};
 ghost use Rattle.ocpi_json.specs.EventForms.{event_in};
 ghost use Rattle.ocpi_json.specs.SetupForms.{setup_in};
 ghost use Rattle.ocpi_types.specs.declared.rows.Change.{Change as ChangeOf};
 ghost use Rattle.ocpi_types.specs.declared.setup.Node.{Node as NodeOf};
-ghost use Rattle.ocpi_nodes.specs.Keeping.{AreOpened, KeeperTakes};
+ghost use Rattle.ocpi_nodes.specs.Keeping.{AreOpened};
 ghost use Rattle.ocpi_nodes.specs.Play.{EventTurn, PlayEndGives, PlayLineGives, SetupTurn, Stage, debt_line, debt_lines, debts_of, opening, outcome_lines, owed_lines, played_from, turn_of};
 ghost use Rattle.ocpi_text.specs.Text.{key};
 ghost use Rattle.world.specs.Seen.{told};
@@ -228,15 +228,6 @@ fn write_outcome(
     }
 }
 
-impl<K: Keep> Played<K> {
-    /// Gives the rows that the last step changed to the keeper of that party's node.
-    fn commit(&mut self, party: &Party) -> Result<(), StoreFault>
-        ensures same { (self.new.setup ≡ self.old.setup) × (self.new.world ≡ self.old.world) }
-    {
-        commit(&mut self.kept, party, self.world.changes())
-    }
-}
-
 /// Lets an event that was read happen, has its changes kept, and then writes what comes of it. Where memory runs out for it, it is
 /// refused. Where they are not kept, nothing is written, and the run ends.
 fn play_read<K: Keep>(
@@ -254,7 +245,7 @@ fn play_read<K: Keep>(
         refuse(output, NodeFault::Memory)?;
         return Ok(Turn::Refused);
     };
-    match played.commit(&event.node) {
+    match commit(&mut played.kept, &event.node, played.world.changes()) {
         Ok(()) => write_outcome(alloc, outcome, played.world.packets(), output),
         Err(fault) => {
             *stop = Some(fault);
