@@ -1,2 +1,3 @@
 mod KeeperLemmas
 mod PlayLemmas
+mod EndLemmas
