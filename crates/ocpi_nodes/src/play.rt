@@ -246,12 +246,13 @@ fn play_read<K: Keep>(
         return Ok(Turn::Refused);
     };
     match commit(&mut played.kept, &event.node, played.world.changes()) {
-        Ok(()) => write_outcome(alloc, outcome, played.world.packets(), output),
+        Ok(()) => {}
         Err(fault) => {
             *stop = Some(fault);
-            Ok(Turn::Ended)
+            return Ok(Turn::Ended);
         }
     }
+    write_outcome(alloc, outcome, played.world.packets(), output)
 }
 
 /// Reads a line's event and lets it happen.
