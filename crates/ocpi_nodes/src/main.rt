@@ -96,9 +96,7 @@ fn run_standard_input(rt: &HostRuntime, word: Word) -> Result<Ran, PlayFault> {
     };
     let mut input = LineReader::new(reader);
     match word {
-        Word::Answer => {
-            run_answer(rt.alloc(), &mut input, &mut writer).map_err(PlayFault::Run)
-        }
+        Word::Answer => { run_answer(rt.alloc(), &mut input, &mut writer).map_err(PlayFault::Run) }
         Word::Play => run_play(
             rt.alloc(),
             &mut input,
