@@ -73,7 +73,6 @@ pub none_at_all : {K : Type 0} (kept : List (KeptNode K)) (party : List ℕ) (i 
     (k : ℕ) (n : KeptNode K) → IsKeeperOf kept party k n → ⊥
 none_at_all kept party i all none k n at = none k n (omega (arith, slice_get_within kept k n at.here)) at
 
-
 on_ok : {X H : Type 0} {A B : Type 0} (r : Result X StoreFault) → (H → OnOk r A) → ((H → A) → B) → OnOk r B
 on_ok (Ok x) h f = f h
 on_ok (Err e) h f = tt

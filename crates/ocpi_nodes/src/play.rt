@@ -239,7 +239,7 @@ fn play_read<K: Keep>(
 ) -> Result<Turn, AllocError>
     ensures { IfOk result (λ turn. (out : List ℕ) × (string_bytes output.new ≡ string_bytes output.old ++ out)
         × ((line : List ℕ) → event_in line ≡ Ok event.now
-            → EventTurn K.content K.is_honest stop.old played.old line turn out (record { playing = Some played.new; stop = stop.new }))) }
+        → EventTurn K.content K.is_honest stop.old played.old line turn out (record { playing = Some played.new; stop = stop.new }))) }
 {
     let Ok(outcome) = played.world.step(event) else {
         refuse(output, NodeFault::Memory)?;
@@ -382,11 +382,7 @@ fn write_all_debts(
 }
 
 /// Adds a line for each provider and each operator: what is owed.
-fn write_owed<K>(
-    alloc: Global,
-    played: &Played<K>,
-    output: &mut String,
-) -> Result<(), AllocError>
+fn write_owed<K>(alloc: Global, played: &Played<K>, output: &mut String) -> Result<(), AllocError>
     ensures { OnOk result (string_bytes output.new ≡ string_bytes output.old ++ owed_lines played.now) }
 {
     write_all_debts(alloc, &played.world, played.setup.as_slice(), output)

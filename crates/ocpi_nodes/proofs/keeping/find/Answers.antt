@@ -7,10 +7,13 @@ pub loop-i-init : goal.loop-i-init
 loop-i-init g c = none_yet c.args.kept.now c.args.party.now
 
 pub returns-then-is_same-clause-found : goal.returns-then-is_same-clause-found
-returns-then-is_same-clause-found g c = (c.index-kept-i.result, record {
-  here = is_here c.args.kept.now c.loop-i.i c.index-kept-i.result (omega arith) c.index-kept-i.is;
-  same = ap (λ z. key z.party) c.index-kept-i.is ∙ c.is_same.ensures.0 c.if-is_same.true;
-})
+returns-then-is_same-clause-found g c = (
+  c.index-kept-i.result,
+  record {
+    here = is_here c.args.kept.now c.loop-i.i c.index-kept-i.result (omega arith) c.index-kept-i.is;
+    same = ap (λ z. key z.party) c.index-kept-i.is ∙ c.is_same.ensures.0 c.if-is_same.true;
+  },
+)
 
 pub loop-i-preserved : goal.loop-i-preserved
 loop-i-preserved g c =

@@ -39,9 +39,11 @@ returns g c =
 pub returns-in_default : goal.returns-in_default
 returns-in_default g c =
     let playing : WorldState → Playing g.row.K.Denot = λ world. record { setup = c.played.inside.setup; world = world.places; kept = c.played.inside.kept.items } in
-    let unchanged = ap playing c.in_default.ensures.err ∙ c.played.view_is in
-    (refusal_line (fault_text Memory), c.in_ok-refuse.ensures,
-      λ line is. Starved c.args.event.now is refl refl (ap (λ q. record { playing = Some q; stop = c.args.stop.now }) unchanged))
+    let unchanged = ap playing c.in_default.ensures.err ∙ c.played.view_is in (
+      refusal_line (fault_text Memory),
+      c.in_ok-refuse.ensures,
+      λ line is. Starved c.args.event.now is refl refl (ap (λ q. record { playing = Some q; stop = c.args.stop.now }) unchanged),
+    )
 
 pub returns-in-Err : goal.returns-in-Err
 returns-in-Err g c =
@@ -53,7 +55,9 @@ returns-in-Err g c =
     let o = told c.in-Ok.outcome after.packets after.changes in
     let fault = c.in-Err.fault in
     let kept = c.commit.new.kept.items in
-    let next : Stage g.row.K.Denot = record { playing = Some (record { setup = c.played.inside.setup; world = after.places; kept = kept }); stop = Some fault } in
-    ([], sym (append-nil (string_bytes c.args.output.now)),
+    let next : Stage g.row.K.Denot = record { playing = Some (record { setup = c.played.inside.setup; world = after.places; kept = kept }); stop = Some fault } in (
+      [],
+      sym (append-nil (string_bytes c.args.output.now)),
       λ line is. subst (λ (now : Playing g.row.K.Denot). EventTurn content is_honest c.args.stop.now now line Ended [] next) c.played.view_is
-          (Lost event is o after.places c.in-Ok.ensures.ok kept c.in-Err.ensures.err fault refl refl refl))
+          (Lost event is o after.places c.in-Ok.ensures.ok kept c.in-Err.ensures.err fault refl refl refl),
+    )

@@ -9,9 +9,11 @@ use Rattle.ocpi_nodes.proofs.play.play_setup.Goals as goal
 pub returns-in-Ok-keep_world : goal.returns-in-Ok-keep_world
 returns-in-Ok-keep_world g c =
     let read = c.in-Ok.ensures.ok in
-    let kept = c.in-Ok-keep_world.ensures in
-    ([], sym (append-nil (string_bytes c.args.output.now)),
-      opens g.K.Keep.content g.K.Keep.is_honest c.args.stop.now c.args.line.now _ _ c.in-Ok-keep_world.kept read.0 read.1 kept.0 kept.1 kept.2)
+    let kept = c.in-Ok-keep_world.ensures in (
+      [],
+      sym (append-nil (string_bytes c.args.output.now)),
+      opens g.K.Keep.content g.K.Keep.is_honest c.args.stop.now c.args.line.now _ _ c.in-Ok-keep_world.kept read.0 read.1 kept.0 kept.1 kept.2,
+    )
 
 pub returns-in-Err-keep_world : goal.returns-in-Err-keep_world
 returns-in-Err-keep_world g c =
@@ -21,6 +23,8 @@ returns-in-Err-keep_world g c =
 
 pub returns-in-Err : goal.returns-in-Err
 returns-in-Err g c =
-    let fault = c.in-Err.fault in
-    (refusal_line (fault_text fault), c.in_ok-refuse-in-Err.ensures,
-      NoSetup fault c.in-Err.ensures.err refl refl (ap (λ q. record { playing = q; stop = c.args.stop.now }) c.requires))
+    let fault = c.in-Err.fault in (
+      refusal_line (fault_text fault),
+      c.in_ok-refuse-in-Err.ensures,
+      NoSetup fault c.in-Err.ensures.err refl refl (ap (λ q. record { playing = q; stop = c.args.stop.now }) c.requires),
+    )
