@@ -93,7 +93,6 @@ fn run_word(rt: &HostRuntime, word: Word<'_>) -> Result<Ran, PlayFault> {
         return Err(PlayFault::Run(RunFault::WriteFailed));
     };
     match word {
-<<<<<<< HEAD
         Word::Answer => answer_input(rt, &mut writer),
         Word::Play(None) => play_input(rt, &mut writer, ListKeeps::new(rt.alloc())),
         Word::Play(Some(folder)) => play_input(rt, &mut writer, FileKeeps::new(rt, folder)),
@@ -132,14 +131,5 @@ fn settle_file<W: Write>(rt: &HostRuntime, writer: &mut W, file: &str) -> Result
     match run_settle(rt.alloc(), rows.as_slice(), writer) {
         Ok(()) => Ok(Ran::Whole),
         Err(fault) => Err(PlayFault::Run(fault)),
-=======
-        Word::Answer => { run_answer(rt.alloc(), &mut input, &mut writer).map_err(PlayFault::Run) }
-        Word::Play => run_play(
-            rt.alloc(),
-            &mut input,
-            &mut writer,
-            ListKeeps::new(rt.alloc()),
-        ),
->>>>>>> 9be34cd19bfb19fca6666decac3f9af48005a596
     }
 }
