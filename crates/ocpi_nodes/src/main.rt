@@ -3,20 +3,27 @@
 
 ghost use Rattle.std.specs.Prelude.{◌≡◌, ◌≢◌};
 ghost use Rattle.clap.specs.Values.{kind_of};
-ghost use Rattle.line_runs.specs.Outcome.{exit_status};
+ghost use Rattle.ocpi_nodes.specs.Stops.{play_status};
 
 mod answer;
 mod command;
+mod fault;
+mod keeping;
+mod keeps;
 mod play;
+mod settle;
 mod writing;
 
 use answer::run_answer;
 use clap::Error;
 use clap::error::ErrorKind;
 use command::{WRONG_WORDS, Word, status_after, take_words};
-use line_runs::{LineReader, Ran, RunFault, status_of};
+use fault::{PlayFault, status_after_play};
+use keeps::{FileKeeps, Keeps, ListKeeps, rows_in};
+use line_runs::{LineReader, Ran, RunFault};
 use play::run_play;
-use std::io::{self, BufReader, BufWriter};
+use settle::run_settle;
+use std::io::{self, BufReader, BufWriter, Write};
 use std::process::ExitCode;
 
 /// What one read asks for, and what is written at once, in bytes.
@@ -36,19 +43,19 @@ fn run_program(rt: &HostRuntime) -> u8 {
         }
     };
     match take_words(rt.alloc(), words.as_slice()) {
-        Ok(word) => report(rt, run_standard_input(rt, word)),
+        Ok(word) => report(rt, run_word(rt, word)),
         Err(text) => say(rt, &text),
     }
 }
 
 /// Says what stopped a run, and answers its exit status.
-fn report(rt: &HostRuntime, ran: Result<Ran, RunFault>) -> u8
-    ensures { result ≡ exit_status ran }
+fn report(rt: &HostRuntime, ran: Result<Ran, PlayFault>) -> u8
+    ensures { result ≡ play_status ran }
 {
     if let Err(fault) = ran {
         let _ = eprintln!(rt; "{fault}");
     }
-    status_of(ran)
+    status_after_play(ran)
 }
 
 /// The arguments, or what is said where there are none to be had.
@@ -80,17 +87,49 @@ fn say(rt: &HostRuntime, text: &Error) -> u8
     status_after(text, is_printed)
 }
 
-/// Runs a program from the standard input to the standard output.
-fn run_standard_input(rt: &HostRuntime, word: Word) -> Result<Ran, RunFault> {
-    let Ok(reader) = BufReader::with_capacity(rt.alloc(), BUFFER_BYTES, rt.reader()) else {
-        return Err(RunFault::ReadFailed);
-    };
+/// Runs a program to the standard output.
+fn run_word(rt: &HostRuntime, word: Word<'_>) -> Result<Ran, PlayFault> {
     let Ok(mut writer) = BufWriter::with_capacity(rt.alloc(), BUFFER_BYTES, io::writer(rt)) else {
-        return Err(RunFault::WriteFailed);
+        return Err(PlayFault::Run(RunFault::WriteFailed));
+    };
+    match word {
+        Word::Answer => answer_input(rt, &mut writer),
+        Word::Play(None) => play_input(rt, &mut writer, ListKeeps::new(rt.alloc())),
+        Word::Play(Some(folder)) => play_input(rt, &mut writer, FileKeeps::new(rt, folder)),
+        Word::Settle(file) => settle_file(rt, &mut writer, file),
+    }
+}
+
+/// Answers the standard input.
+fn answer_input<W: Write>(rt: &HostRuntime, writer: &mut W) -> Result<Ran, PlayFault> {
+    let Ok(reader) = BufReader::with_capacity(rt.alloc(), BUFFER_BYTES, rt.reader()) else {
+        return Err(PlayFault::Run(RunFault::ReadFailed));
     };
     let mut input = LineReader::new(reader);
-    match word {
-        Word::Answer => run_answer(rt.alloc(), &mut input, &mut writer),
-        Word::Play => run_play(rt.alloc(), &mut input, &mut writer),
+    run_answer(rt.alloc(), &mut input, writer).map_err(PlayFault::Run)
+}
+
+/// Plays the standard input with these keepers.
+fn play_input<W: Write, S: Keeps + Drop>(
+    rt: &HostRuntime,
+    writer: &mut W,
+    keeps: S,
+) -> Result<Ran, PlayFault> {
+    let Ok(reader) = BufReader::with_capacity(rt.alloc(), BUFFER_BYTES, rt.reader()) else {
+        return Err(PlayFault::Run(RunFault::ReadFailed));
+    };
+    let mut input = LineReader::new(reader);
+    run_play(rt.alloc(), &mut input, writer, keeps)
+}
+
+/// Writes what is owed by the rows of a file.
+fn settle_file<W: Write>(rt: &HostRuntime, writer: &mut W, file: &str) -> Result<Ran, PlayFault> {
+    let rows = match rows_in(rt, file) {
+        Ok(rows) => rows,
+        Err(fault) => return Err(PlayFault::Store(fault)),
+    };
+    match run_settle(rt.alloc(), rows.as_slice(), writer) {
+        Ok(()) => Ok(Ran::Whole),
+        Err(fault) => Err(PlayFault::Run(fault)),
     }
 }

@@ -7,15 +7,23 @@ ghost use Rattle.ocpi_json.specs.EventForms.{event_in};
 ghost use Rattle.ocpi_json.specs.SetupForms.{setup_in};
 ghost use Rattle.ocpi_types.specs.declared.rows.Change.{Change as ChangeOf};
 ghost use Rattle.ocpi_types.specs.declared.setup.Node.{Node as NodeOf};
-ghost use Rattle.ocpi_nodes.specs.Play.{EventTurn, PlayEndGives, PlayLineGives, SetupTurn, debt_line, debt_lines, debts_of, outcome_lines, owed_lines, played_from, turn_of};
+ghost use Rattle.ocpi_nodes.specs.Keeping.{AreOpened};
+ghost use Rattle.ocpi_nodes.specs.Play.{EventTurn, PlayEndGives, PlayLineGives, SetupTurn, Stage, debt_line, debt_lines, debts_of, opening, outcome_lines, owed_lines, played_from, turn_of};
 ghost use Rattle.ocpi_text.specs.Text.{key};
 ghost use Rattle.world.specs.Seen.{told};
 ghost use Rattle.world.specs.State.{owed_by};
+ghost use Rattle.world_steps.specs.World.{opened};
 ghost use Rattle.line_runs.specs.Run.{Begins, Outputs, ReadsFewLines, StopsReading};
+ghost use Rattle.line_runs.specs.declared.outcome.Ran.TheVariants.{WithRefusals};
+ghost use Rattle.ocpi_nodes.specs.Stops.{IfRun, IfStore};
 
+use crate::fault::PlayFault;
+use crate::keeping::{KeptNode, commit, open_all};
+use crate::keeps::Keeps;
 use crate::writing::{refuse, write_packets};
 use line_runs::{AnswerLines, LineReader, Ran, RunFault, Turn, run_whole};
 use node_steps::NodeFault;
+use node_store::{Keep, StoreFault};
 use ocpi_json::{JsonFault, Scratch, read_event, read_setup};
 use ocpi_text::{FreeText, Party, ShortText, write_sum};
 use ocpi_types::{Event, Node, Packet, Setup};
@@ -24,68 +32,76 @@ use std::io::{BufRead, Write};
 use std::marker::Model;
 use world::{Outcome, World};
 
-/// The world, and the setup that it was opened from.
-pub struct Played {
+/// The world, the setup that it was opened from, and the keepers of its nodes.
+pub struct Played<K> {
     setup: Setup,
     world: World,
+    kept: Vec<KeptNode<K>>,
 }
 
 /// What a derive would do, in a function of its own: so it is proved once, and not in each function that drops a world.
-impl Drop for Played {
+impl<K: Drop> Drop for Played<K> {
     fn drop(self) {
-        let Played { setup: _, world: _ } = self;
+        let Played {
+            setup: _,
+            world: _,
+            kept: _,
+        } = self;
     }
 }
 
-impl Model for Played {
+impl<K> Model for Played<K> {
     ghost use Rattle.std.specs.Coded.{codes};
     ghost use Rattle.std.specs.FinMap as map;
     ghost use Rattle.ocpi_nodes.specs.Play.{Playing};
 
-    ghost Value = { Playing };
+    ghost Value = { Playing K };
 
-    ghost coded = { Prim.hlevel (codes, map.code) };
+    ghost coded = { Prim.hlevel (codes, map.code, K.code) };
 
-    ghost view = { λ p. record { setup = p.setup; world = p.world.places } };
+    ghost view = { λ p. record { setup = p.setup; world = p.world.places; kept = p.kept.items } };
 }
 
-/// What the lines so far have made: a world, from the first on.
+/// What the lines so far have made: a world, from the first on; and why a store stopped the run, where one did.
 #[derive(Drop)]
-struct Program {
+struct Program<K, S> {
     alloc: Global,
     scratch: Scratch,
-    played: Option<Played>,
+    keeps: S,
+    played: Option<Played<K>>,
+    stop: Option<StoreFault>,
 }
 
-impl Model for Program {
+impl<K, S> Model for Program<K, S> {
     ghost use Rattle.std.specs.Coded.{codes};
     ghost use Rattle.std.specs.FinMap as map;
-    ghost use Rattle.std.specs.Prelude.{Option};
-    ghost use Rattle.ocpi_nodes.specs.Play.{Playing};
+    ghost use Rattle.ocpi_nodes.specs.Play.{Stage};
 
-    ghost Value = { Option Playing };
+    ghost Value = { Stage K };
 
-    ghost coded = { Prim.hlevel (codes, map.code) };
+    ghost coded = { Prim.hlevel (codes, map.code, K.code) };
 
-    ghost view = { λ p. p.played };
+    ghost view = { λ p. record { playing = p.played; stop = p.stop } };
 }
 
-impl Program {
-    fn new(alloc: Global) -> Program
-        ensures { result ≡ None }
+impl<K, S> Program<K, S> {
+    fn new(alloc: Global, keeps: S) -> Program<K, S>
+        ensures { result ≡ opening }
     {
         Program {
             alloc,
             scratch: Scratch::new(alloc),
+            keeps,
             played: None,
+            stop: None,
         }
     }
 }
 
-impl AnswerLines for Program {
+impl<K: Keep + Drop, S: Keeps<Kept = K>> AnswerLines for Program<K, S> {
     ghost use Rattle.ocpi_nodes.specs.PlayCut.{play_cut_alike};
 
-    ghost line_gives = { PlayLineGives };
+    ghost line_gives = { PlayLineGives K.content K.is_honest };
 
     ghost end_gives = { PlayEndGives };
 
@@ -93,13 +109,22 @@ impl AnswerLines for Program {
         match &mut self.played {
             None => {}
             Some(played) => {
-                return play_event(self.alloc, &mut self.scratch, played, line, output);
+                return play_event(
+                    self.alloc,
+                    &mut self.scratch,
+                    played,
+                    &mut self.stop,
+                    line,
+                    output,
+                );
             }
         }
         play_setup(
             self.alloc,
             &mut self.scratch,
+            &mut self.keeps,
             &mut self.played,
+            &mut self.stop,
             line,
             output,
         )
@@ -118,38 +143,60 @@ impl AnswerLines for Program {
         }
     }
 
-    ghost cut_alike = { play_cut_alike };
+    ghost cut_alike = { play_cut_alike K.content K.is_honest };
 }
 
-/// The world of a setup line.
-fn open(alloc: Global, scratch: &mut Scratch, line: &[u8]) -> Result<Played, JsonFault>
-    ensures ok { IfOk result (λ p. (setup : List NodeOf) × (setup_in line.now ≡ Ok setup) × (p ≡ played_from setup)) }
+/// The setup of a line, and its world, in which nothing has happened.
+fn open(alloc: Global, scratch: &mut Scratch, line: &[u8]) -> Result<(Setup, World), JsonFault>
+    ensures ok { IfOk result (λ p. (setup_in line.now ≡ Ok p.0) × (p.1.places ≡ opened p.0)) }
     ensures err { IfErr result (λ fault. Fails fault (setup_in line.now)) }
 {
     let setup = read_setup(alloc, scratch, line)?;
     let world = World::open(alloc, &setup)?;
-    Ok(Played { setup, world })
+    Ok((setup, world))
+}
+
+/// Opens the keepers of a world that was opened.
+fn keep_world<S: Keeps>(
+    alloc: Global,
+    keeps: &mut S,
+    setup: Setup,
+    world: World,
+) -> Result<Played<S::Kept>, StoreFault>
+    ensures { IfOk result (λ p. (p.setup ≡ setup) × (p.world ≡ world.places) × AreOpened S.Kept.content S.Kept.is_honest setup p.kept) }
+{
+    let kept = open_all(alloc, keeps, setup.as_slice())?;
+    Ok(Played { setup, world, kept })
 }
 
 /// Opens the world of a setup line, where there is none.
-fn play_setup(
+fn play_setup<K: Keep + Drop, S: Keeps<Kept = K>>(
     alloc: Global,
     scratch: &mut Scratch,
-    played: &mut Option<Played>,
+    keeps: &mut S,
+    played: &mut Option<Played<K>>,
+    stop: &mut Option<StoreFault>,
     line: &[u8],
     output: &mut String,
 ) -> Result<Turn, AllocError>
     requires { played.old ≡ None }
     ensures { IfOk result (λ turn. (out : List ℕ) × (string_bytes output.new ≡ string_bytes output.old ++ out)
-        × SetupTurn line.now turn out played.new) }
+        × SetupTurn K.content K.is_honest stop.old line.now turn out (record { playing = played.new; stop = stop.new })) }
 {
-    match open(alloc, scratch, line) {
-        Ok(opened) => {
-            *played = Some(opened);
+    let (setup, world) = match open(alloc, scratch, line) {
+        Ok(opened) => opened,
+        Err(fault) => {
+            refuse(output, fault)?;
+            return Ok(Turn::Ended);
+        }
+    };
+    match keep_world(alloc, keeps, setup, world) {
+        Ok(kept) => {
+            *played = Some(kept);
             Ok(Turn::Taken)
         }
         Err(fault) => {
-            refuse(output, fault)?;
+            *stop = Some(fault);
             Ok(Turn::Ended)
         }
     }
@@ -181,36 +228,47 @@ fn write_outcome(
     }
 }
 
-/// Lets an event that was read happen, and writes what comes of it. Where memory runs out for it, it is refused.
-fn play_read(
+/// Lets an event that was read happen, has its changes kept, and then writes what comes of it. Where memory runs out for it, it is
+/// refused. Where they are not kept, nothing is written, and the run ends.
+fn play_read<K: Keep>(
     alloc: Global,
-    played: &mut Played,
+    played: &mut Played<K>,
+    stop: &mut Option<StoreFault>,
     event: &Event,
     output: &mut String,
 ) -> Result<Turn, AllocError>
     ensures { IfOk result (λ turn. (out : List ℕ) × (string_bytes output.new ≡ string_bytes output.old ++ out)
-        × ((line : List ℕ) → event_in line ≡ Ok event.now → EventTurn played.old line turn out (Some played.new))) }
+        × ((line : List ℕ) → event_in line ≡ Ok event.now
+        → EventTurn K.content K.is_honest stop.old played.old line turn out (record { playing = Some played.new; stop = stop.new }))) }
 {
     let Ok(outcome) = played.world.step(event) else {
         refuse(output, NodeFault::Memory)?;
         return Ok(Turn::Refused);
     };
+    match commit(&mut played.kept, &event.node, played.world.changes()) {
+        Ok(()) => {}
+        Err(fault) => {
+            *stop = Some(fault);
+            return Ok(Turn::Ended);
+        }
+    }
     write_outcome(alloc, outcome, played.world.packets(), output)
 }
 
 /// Reads a line's event and lets it happen.
-fn play_event(
+fn play_event<K: Keep>(
     alloc: Global,
     scratch: &mut Scratch,
-    played: &mut Played,
+    played: &mut Played<K>,
+    stop: &mut Option<StoreFault>,
     line: &[u8],
     output: &mut String,
 ) -> Result<Turn, AllocError>
     ensures { IfOk result (λ turn. (out : List ℕ) × (string_bytes output.new ≡ string_bytes output.old ++ out)
-        × EventTurn played.old line.now turn out (Some played.new)) }
+        × EventTurn K.content K.is_honest stop.old played.old line.now turn out (record { playing = Some played.new; stop = stop.new })) }
 {
     match read_event(alloc, scratch, line) {
-        Ok(event) => play_read(alloc, played, &event, output),
+        Ok(event) => play_read(alloc, played, stop, &event, output),
         Err(fault) => {
             refuse(output, fault)?;
             Ok(Turn::Refused)
@@ -324,10 +382,26 @@ fn write_all_debts(
 }
 
 /// Adds a line for each provider and each operator: what is owed.
-fn write_owed(alloc: Global, played: &Played, output: &mut String) -> Result<(), AllocError>
+fn write_owed<K>(alloc: Global, played: &Played<K>, output: &mut String) -> Result<(), AllocError>
     ensures { OnOk result (string_bytes output.new ≡ string_bytes output.old ++ owed_lines played.now) }
 {
     write_all_debts(alloc, &played.world, played.setup.as_slice(), output)
+}
+
+/// How a run went that a keeper may have stopped: then a line ended it.
+fn ended(ran: Result<Ran, RunFault>, stop: Option<StoreFault>) -> Result<Ran, PlayFault>
+    ensures ok { IfOk result (λ r. (ran ≡ Ok r) × (r ≡ WithRefusals → stop ≡ None)) }
+    ensures run { IfErr result (IfRun (λ fault. ran ≡ Err fault)) }
+    ensures store { IfErr result (IfStore (λ fault. (ran ≡ Ok WithRefusals) × (stop ≡ Some fault))) }
+{
+    match ran {
+        Ok(Ran::Whole) => Ok(Ran::Whole),
+        Ok(Ran::WithRefusals) => match stop {
+            Some(fault) => Err(PlayFault::Store(fault)),
+            None => Ok(Ran::WithRefusals),
+        },
+        Err(fault) => Err(PlayFault::Run(fault)),
+    }
 }
 
 /// Plays the events of an input in a world of nodes. The first line that holds something is the setup, and each other an
@@ -335,25 +409,33 @@ fn write_owed(alloc: Global, played: &Played, output: &mut String) -> Result<(),
 /// `skipped`. A line that is refused is written as `refused`, its number and its name, changes nothing, and the next
 /// follows; a refused or absent setup ends the run. At the end what each provider owes each operator is one line.
 ///
+/// Each node has a keeper of its rows, opened once the setup was read, in its order, and the rows that an event changes are
+/// committed to it before the packets of the event are written. Where one of these is refused the run ends, and of that line nothing
+/// is written.
+///
 /// Where the run was not stopped, what is written is the output of the input. Where it was stopped, what is written is a
-/// beginning of that: by a failed read or too many reads, what exactly the lines that were read whole give. At most
-/// 1,000,000,000 lines are read.
+/// beginning of that: by a failed read or too many reads, what exactly the lines that were read whole give; by a keeper, what the
+/// lines before give. At most 1,000,000,000 lines are read.
 /// What was answered is flushed before each read that may wait, and at the end.
-pub fn run_play<R: BufRead, W: Write>(
+pub fn run_play<R: BufRead, W: Write, S: Keeps + Drop>(
     alloc: Global,
     input: &mut LineReader<R>,
     writer: &mut W,
-) -> Result<Ran, RunFault>
-    ensures output { IfOk result (λ ran. Outputs PlayLineGives PlayEndGives None (R.Read.remaining input.old.reader) ran
+    keeps: S,
+) -> Result<Ran, PlayFault>
+    ensures output { IfOk result (λ ran. Outputs (PlayLineGives S.Kept.content S.Kept.is_honest) PlayEndGives opening (R.Read.remaining input.old.reader) ran
         (W.contents writer.old) (W.contents writer.new)) }
-    ensures begun { IfErr result (λ fault. Begins PlayLineGives PlayEndGives None (R.Read.remaining input.old.reader)
-        (W.contents writer.old) (W.contents writer.new)) }
-    ensures stopped { IfErr result (λ fault. fault ≢ RunFault.WriteFailed → StopsReading PlayLineGives None fault
+    ensures begun { IfErr result (IfRun (λ fault. Begins (PlayLineGives S.Kept.content S.Kept.is_honest) PlayEndGives opening (R.Read.remaining input.old.reader)
+        (W.contents writer.old) (W.contents writer.new))) }
+    ensures stopped { IfErr result (IfRun (λ fault. fault ≢ RunFault.WriteFailed → StopsReading (PlayLineGives S.Kept.content S.Kept.is_honest) opening fault
         (R.Read.remaining input.old.reader) (R.Read.remaining input.new.reader)
-        (W.contents writer.old) (W.contents writer.new)) }
-    ensures failed { result ≡ Err RunFault.ReadFailed → input.new.failed ≡ true }
+        (W.contents writer.old) (W.contents writer.new))) }
+    ensures store { IfErr result (IfStore (λ fault. Outputs (PlayLineGives S.Kept.content S.Kept.is_honest) PlayEndGives opening (R.Read.remaining input.old.reader) WithRefusals
+        (W.contents writer.old) (W.contents writer.new))) }
+    ensures failed { result ≡ Err (PlayFault.Run RunFault.ReadFailed) → input.new.failed ≡ true }
     ensures reads { ReadsFewLines (R.Read.remaining input.old.reader) (R.Read.remaining input.new.reader) }
 {
-    let mut playing = Program::new(alloc);
-    run_whole(alloc, &mut playing, input, writer)
+    let mut playing: Program<S::Kept, S> = Program::new(alloc, keeps);
+    let ran = run_whole(alloc, &mut playing, input, writer);
+    ended(ran, playing.stop)
 }

@@ -1,0 +1,3 @@
+mod KeeperLemmas
+mod PlayLemmas
+mod EndLemmas

@@ -1,0 +1,80 @@
+//! Where the keepers of a world's nodes come from.
+
+use node_store::{Cause, Keep, ListKeep, StoreFault, TableKeep};
+use ocpi_types::Row;
+use sqlite::{File, FileStore};
+use std::alloc::Global;
+use std::fs;
+
+/// What opens a keeper for each node of a world.
+pub trait Keeps {
+    /// The keeper of a node's rows.
+    type Kept: Keep + Drop;
+
+    /// Opens the keeper of the node at that place of the setup, the first of which is 1.
+    fn open(&mut self, place: usize) -> Result<Self::Kept, StoreFault>;
+}
+
+/// Keepers in memory, which end with the run.
+#[derive(Drop)]
+pub struct ListKeeps {
+    alloc: Global,
+}
+
+impl ListKeeps {
+    pub fn new(alloc: Global) -> ListKeeps {
+        ListKeeps { alloc }
+    }
+}
+
+impl Keeps for ListKeeps {
+    type Kept = ListKeep;
+
+    fn open(&mut self, _place: usize) -> Result<ListKeep, StoreFault> {
+        Ok(ListKeep::new(self.alloc))
+    }
+}
+
+/// Keepers in new files of a folder: `node1.db` of the first node, and so on.
+#[derive(Drop)]
+pub struct FileKeeps<'a> {
+    rt: &'a HostRuntime,
+    folder: &'a str,
+}
+
+impl<'a> FileKeeps<'a> {
+    pub fn new(rt: &'a HostRuntime, folder: &'a str) -> FileKeeps<'a> {
+        FileKeeps { rt, folder }
+    }
+}
+
+impl Keeps for FileKeeps<'_> {
+    type Kept = TableKeep<FileStore<File>>;
+
+    /// The folder must exist, and the file must not.
+    fn open(&mut self, place: usize) -> Result<TableKeep<FileStore<File>>, StoreFault> {
+        let path = format!(in self.rt.alloc(); "{}/node{place}.db", self.folder)?;
+        if stands(self.rt, self.folder)? && !stands(self.rt, path.as_str())? {
+            TableKeep::open_file(self.rt, path.as_str())
+        } else {
+            Err(StoreFault::Refused(Cause::Other))
+        }
+    }
+}
+
+/// Whether there is a file or a folder of that name.
+fn stands(rt: &HostRuntime, path: &str) -> Result<bool, StoreFault> {
+    match fs::exists(rt, path) {
+        Ok(stands) => Ok(stands),
+        Err(_) => Err(StoreFault::Refused(Cause::Disk)),
+    }
+}
+
+/// The rows of a file that exists.
+pub fn rows_in(rt: &HostRuntime, path: &str) -> Result<Vec<Row>, StoreFault> {
+    if !stands(rt, path)? {
+        return Err(StoreFault::Refused(Cause::Other));
+    }
+    let mut keep = TableKeep::open_file(rt, path)?;
+    keep.load()
+}
