@@ -15,6 +15,7 @@ The rows that are wanted come from runs that end there by themselves. The last l
 """
 
 import argparse
+import contextlib
 import json
 import os
 import random
@@ -145,7 +146,7 @@ def rows_in(store):
             continue
         path = os.path.join(store, name)
         try:
-            with sqlite3.connect(f"file:{path}?mode=ro", uri=True) as file:
+            with contextlib.closing(sqlite3.connect(f"file:{path}?mode=ro", uri=True)) as file:
                 said = file.execute("PRAGMA integrity_check").fetchall()
                 if said != [("ok",)]:
                     wrong.append(f"{name}: {said}")
