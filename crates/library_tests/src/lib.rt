@@ -8,8 +8,8 @@ mod keeping;
 #[cfg(test)]
 mod quoting;
 #[cfg(test)]
-mod table_keeping;
-#[cfg(test)]
 mod table_calls;
+#[cfg(test)]
+mod table_keeping;
 #[cfg(test)]
 mod texts;

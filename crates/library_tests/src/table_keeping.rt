@@ -72,14 +72,44 @@ fn in_a_file(rt: HostRuntime) -> Result<(), Fail> {
 fn files_of_other_layouts(rt: HostRuntime) -> Result<(), Fail> {
     let cases: [([&str; 3], Option<StoreFault>); 9] = [
         ([LAYOUT, TEXTS, "INSERT INTO layout VALUES (1)"], None),
-        ([LAYOUT, TEXTS, "INSERT INTO layout VALUES (2)"], Some(StoreFault::OldLayout)),
-        ([LAYOUT, TEXTS, "INSERT INTO layout VALUES (1), (1)"], Some(StoreFault::OldLayout)),
+        (
+            [LAYOUT, TEXTS, "INSERT INTO layout VALUES (2)"],
+            Some(StoreFault::OldLayout),
+        ),
+        (
+            [LAYOUT, TEXTS, "INSERT INTO layout VALUES (1), (1)"],
+            Some(StoreFault::OldLayout),
+        ),
         ([LAYOUT, TEXTS, "SELECT 1"], Some(StoreFault::OldLayout)),
-        ([LAYOUT, "INSERT INTO layout VALUES (1)", ""], Some(StoreFault::OldLayout)),
+        (
+            [LAYOUT, "INSERT INTO layout VALUES (1)", ""],
+            Some(StoreFault::OldLayout),
+        ),
         ([TEXTS, "", ""], Some(StoreFault::OldLayout)),
-        ([LAYOUT, TEXTS, "INSERT INTO layout VALUES (1); CREATE TABLE more(a)"], Some(StoreFault::OldLayout)),
-        ([LAYOUT, "CREATE TABLE row_text(kind, name, text)", "INSERT INTO layout VALUES (1)"], Some(StoreFault::OldLayout)),
-        ([LAYOUT, "CREATE TABLE row_text(kind, name, body)", "INSERT INTO layout VALUES (1)"], Some(StoreFault::Refused(Cause::Other))),
+        (
+            [
+                LAYOUT,
+                TEXTS,
+                "INSERT INTO layout VALUES (1); CREATE TABLE more(a)",
+            ],
+            Some(StoreFault::OldLayout),
+        ),
+        (
+            [
+                LAYOUT,
+                "CREATE TABLE row_text(kind, name, text)",
+                "INSERT INTO layout VALUES (1)",
+            ],
+            Some(StoreFault::OldLayout),
+        ),
+        (
+            [
+                LAYOUT,
+                "CREATE TABLE row_text(kind, name, body)",
+                "INSERT INTO layout VALUES (1)",
+            ],
+            Some(StoreFault::Refused(Cause::Other)),
+        ),
     ];
     for (statements, wanted) in cases {
         let _ = make(&rt, statements.as_slice());
