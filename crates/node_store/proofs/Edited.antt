@@ -1,5 +1,5 @@
 -- Edits make the changes.
-use Rattle.std.proofs.Common.{◌≡◌, ℕ, ◌+◌, ◌<◌, ◌≤◌, List, [], ◌∷◌, ◌++◌, get_or, length, map, take, drop, refl, sym, ap, subst, ◌∙◌}
+use Rattle.std.proofs.Common.{◌≡◌, ℕ, ◌+◌, ◌<◌, List, [], ◌∷◌, ◌++◌, get_or, length, map, take, refl, sym, ap, ◌∙◌}
 use Rattle.std.proofs.lemmas.List.{map-append, take_more}
 use Rattle.ocpi_types.specs.declared.rows.Change.{Change}
 use Rattle.ocpi_types.specs.declared.rows.Change.TheVariants as change

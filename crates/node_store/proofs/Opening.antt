@@ -1,8 +1,7 @@
 -- What a keeper has that was just opened.
-use Rattle.std.proofs.Common.{◌≡◌, ◌⊎◌, inl, inr, List, [], ◌∷◌, length, refl, sym, ap, subst, ◌∙◌}
+use Rattle.std.proofs.Common.{◌≡◌, inl, inr, [], sym, ap, ◌∙◌}
 use Rattle.std.specs.FinMap.{empty}
 use Rattle.sqlite.specs.Schema.{Schema}
-use Rattle.sqlite.specs.Table.{Table}
 use Rattle.sqlite.specs.Effect.{Database}
 use Rattle.row_table.specs.Layout.{both_tables, no_schema}
 use Rattle.row_table.specs.Opening.{FindsTexts}

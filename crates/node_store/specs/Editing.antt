@@ -1,5 +1,5 @@
 -- Changes of rows as edits of texts.
-use Rattle.std.specs.Prelude.{List, ℕ, Some, None}
+use Rattle.std.specs.Prelude.{Some, None}
 use Rattle.ocpi_types.specs.Rows.{key_of}
 use Rattle.ocpi_types.specs.declared.rows.Change.{Change}
 use Rattle.ocpi_types.specs.declared.rows.Change.TheVariants as change

@@ -1,5 +1,5 @@
 -- Changes of a table of texts.
-use Rattle.std.specs.Prelude.{ℕ, List, [], ◌∷◌, Option, Some, None, IsTrue}
+use Rattle.std.specs.Prelude.{ℕ, List, [], ◌∷◌, Option, Some, None, IsSome, IsTrue}
 use Rattle.std.specs.FinMap.{FinMap, insert, remove, contains_key}
 use Rattle.tables.specs.Keys.{text_pair_cmp}
 use Rattle.tables.specs.Tables.{shown_of, rooms_of}
@@ -32,6 +32,6 @@ abbrev pub placed_all : Content → List Placed → Content
 placed_all c [] = c
 placed_all c (x ∷ xs) = placed_all (set_text c x.place x.text) xs
 
--- the table has room for what is to stand there
+-- the table has room for the text that is to stand there, where one is
 abbrev pub HasRoom : Slots → Placed → Type 0
-HasRoom slots x = IsTrue (contains_key (room slots) x.place)
+HasRoom slots x = IsSome x.text → IsTrue (contains_key (room slots) x.place)

@@ -1,8 +1,9 @@
 //! Changes of a table of texts, made all together or not at all.
 
-ghost use Rattle.std.specs.Prelude.{◌≡◌, All, IfOk, map};
+ghost use Rattle.std.specs.Prelude.{◌≡◌, All, IfOk, OnOk, map};
 ghost use Rattle.node_store.specs.Contents.{IsReadAgain};
 ghost use Rattle.node_store.specs.Placing.{HasRoom, kept, placed_all, placed_of, room, set_text};
+ghost use Rattle.node_store.specs.declared.stored.Placed.{Placed as PlacedOf};
 
 use crate::stored::{Place, Placed, StoredText, placed_of};
 use ocpi_types::Change;
@@ -22,7 +23,27 @@ pub(crate) fn placed_all(alloc: Global, changes: &[Change]) -> Result<Vec<Placed
     Ok(placed)
 }
 
-/// Takes room for all of them, and answers their places. Where memory runs out, some room may stay.
+/// Takes the room that a text needs, or lists the place where none is to stand.
+fn reserve_one(
+    texts: &mut Table<Place, StoredText>,
+    next: &Placed,
+    cleared: &mut Vec<Place>,
+) -> Result<(), AllocError>
+    ensures same { kept texts.new ≡ kept texts.old }
+    ensures ready { OnOk result (HasRoom texts.new next.now) }
+    ensures stay { (x : PlacedOf) → HasRoom texts.old x → HasRoom texts.new x }
+{
+    match &next.text {
+        Some(_) => texts.reserve(next.place),
+        None => {
+            cleared.push(next.place)?;
+            Ok(())
+        }
+    }
+}
+
+/// Takes the room that all of them need, and answers the places where no text is to stand. Where memory runs out, some room may
+/// stay.
 pub(crate) fn reserve_all(
     alloc: Global,
     texts: &mut Table<Place, StoredText>,
@@ -31,12 +52,11 @@ pub(crate) fn reserve_all(
     ensures same { kept texts.new ≡ kept texts.old }
     ensures ready { IfOk result (λ _. All (HasRoom texts.new) placed.now) }
 {
-    let mut places = Vec::new(alloc);
+    let mut cleared = Vec::new(alloc);
     for next in placed {
-        texts.reserve(next.place)?;
-        places.push(next.place)?;
+        reserve_one(texts, next, &mut cleared)?;
     }
-    Ok(places)
+    Ok(cleared)
 }
 
 /// Puts one text in its place, or takes it away.

@@ -89,9 +89,9 @@ fn change_all(
     ensures again { OnOk result (All IsReadAgain changes.now) }
 {
     let placed = placed_all(alloc, changes)?;
-    let places = reserve_all(alloc, texts, placed.as_slice())?;
+    let cleared = reserve_all(alloc, texts, placed.as_slice())?;
     put_all(texts, placed);
-    release_all(texts, places.as_slice());
+    release_all(texts, cleared.as_slice());
     Ok(())
 }
 

@@ -15,7 +15,7 @@ loop-next-preserved c =
     let ready = All-tail (HasRoom at.texts) one rest (subst (All (HasRoom at.texts)) steps at.invariant.ready) in
     record {
       rest = ap (λ (s : Content). placed_all s rest) c.put_one.ensures.shown ∙ sym (ap (placed_all (kept at.texts)) steps) ∙ at.invariant.rest;
-      ready = λ k d low. subst (λ r. IsTrue (contains_key r (slice_index_or rest k d).place)) (sym c.put_one.ensures.room) (ready k d low);
+      ready = λ k d low some. subst (λ r. IsTrue (contains_key r (slice_index_or rest k d).place)) (sym c.put_one.ensures.room) (ready k d low some);
       long =
           let was = at.invariant.long in
           let gone = c.in-Some.ensures.steps.1 in

@@ -8,10 +8,10 @@ loop-next-preserved c =
     let at = c.loop-next in
     let i = at.next-index in
     let placed = c.args.placed.now in
-    let kept_rooms = All-weaker (HasRoom at.texts) (HasRoom c.reserve.new.self) (λ x had. c.reserve.ensures.keeps x.place had) (take i placed) at.invariant.1 in
+    let kept_rooms = All-weaker (HasRoom at.texts) (HasRoom c.reserve_one.new.texts) c.reserve_one.ensures.stay (take i placed) at.invariant.1 in
     let one = c.next-item.result in (
-      c.reserve.ensures.shown ∙ at.invariant.0,
-      All-more (HasRoom c.reserve.new.self) placed i one c.loop-next-test.true kept_rooms (subst (HasRoom c.reserve.new.self) c.next-item.is c.in_ok-reserve.ensures.ready),
+      c.reserve_one.ensures.same ∙ at.invariant.0,
+      All-more (HasRoom c.reserve_one.new.texts) placed i one c.loop-next-test.true kept_rooms (subst (HasRoom c.reserve_one.new.texts) c.next-item.is c.in_ok-reserve_one.ensures.ready),
     )
 
 pub returns-clause-ready : goal.returns-clause-ready

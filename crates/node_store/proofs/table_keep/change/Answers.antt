@@ -1,7 +1,7 @@
-use Rattle.std.proofs.Common.{◌≡◌, ◌⊎◌, [], sym, ap, subst, ◌∙◌}
+use Rattle.std.proofs.Common.{◌≡◌, ◌⊎◌, sym, ap, subst, ◌∙◌}
 use Rattle.row_table.specs.Kept.{MayLeave, texts}
 use Rattle.row_table.specs.Effects.{set_all}
-use Rattle.node_store.specs.Contents.{Content, changed_all}
+use Rattle.node_store.specs.Contents.{Content}
 use Rattle.node_store.proofs.Edited.{all_edited, some_edits}
 use Rattle.node_store.proofs.table_keep.change.Goals as goal
 
