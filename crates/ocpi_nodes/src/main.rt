@@ -3,26 +3,16 @@
 
 ghost use Rattle.std.specs.Prelude.{◌≡◌, ◌≢◌};
 ghost use Rattle.clap.specs.Values.{kind_of};
-ghost use Rattle.ocpi_nodes.specs.Stops.{play_status};
+ghost use Rattle.node_programs.specs.Stops.{play_status};
 
-mod answer;
 mod command;
-mod fault;
-mod keeping;
-mod keeps;
-mod play;
-mod settle;
-mod writing;
 
-use answer::run_answer;
 use clap::Error;
 use clap::error::ErrorKind;
 use command::{WRONG_WORDS, Word, status_after, take_words};
-use fault::{PlayFault, status_after_play};
-use keeps::{FileKeeps, Keeps, ListKeeps, rows_in};
 use line_runs::{LineReader, Ran, RunFault};
-use play::run_play;
-use settle::run_settle;
+use node_keepers::{FileKeeps, Keeps, ListKeeps, rows_in};
+use node_programs::{PlayFault, run_answer, run_play, run_settle, status_after_play};
 use std::io::{self, BufReader, BufWriter, Write};
 use std::process::ExitCode;
 

@@ -1,0 +1,120 @@
+-- Keepers that were just opened, and the keeper of a party.
+use Rattle.std.proofs.Common.{◌≡◌, ◌<◌, ◌≤◌, ◌+◌, ◌++◌, ◌∙◌, ℕ, List, [], ◌∷◌, Option, Some, None, Ok, Err, refl, sym, ap, subst, arith, get_or, length, slice_get, slice_set, OnOk, OnErr, Result, inl, inr, length-append, take}
+use Rattle.std.proofs.lemmas.Bool.{cases_lt}
+use Rattle.std.proofs.lemmas.List.{take_more}
+use Rattle.std.proofs.lemmas.Option.{slice_get_read, slice_get_within}
+use Rattle.std.specs.FinMap.{empty, entries}
+use Rattle.tables.proofs.Ordered.{no_first}
+use Rattle.tables.specs.Keys.{text_pair_cmp}
+use Rattle.json_text.specs.Fault.{Read}
+use Rattle.ocpi_text.specs.Text.{key}
+use Rattle.ocpi_json.specs.RowForms.{row_in}
+use Rattle.ocpi_types.specs.declared.rows.Change.{Change}
+use Rattle.ocpi_types.specs.declared.rows.Row.{Row}
+use Rattle.ocpi_types.specs.declared.setup.Node.{Node}
+use Rattle.node_store.specs.Contents.{Content, RowPlace, after_row, changed_all, rows_after, rows_of}
+use Rattle.node_store.specs.declared.fault.StoreFault.{StoreFault}
+use Rattle.node_keepers.specs.Keeping.{AreOpened, IsKeeperOf, IsOpened, KeeperTakes, Made, Takes}
+use Rattle.node_keepers.specs.declared.keeping.KeptNode.{KeptNode}
+
+read_on : (read : Read Row) (f : Row → Option (List Row)) (v : List Row) (n : ℕ) → after_row read f ≡ Some v → ((r : Row) → f r ≡ Some v → n ≤ length v) → n ≤ length v
+read_on (Ok r) f v n is on = on r is
+read_on (Err e) f v n is on = absurd cc
+
+-- no fewer rows come out than stand before
+as_many : (before v : List Row) (es : List (RowPlace × List ℕ)) → rows_after before es ≡ Some v → length before ≤ length v
+as_many before v [] is = let same : before ≡ v = cc in omega (arith, ap length same)
+as_many before v (e ∷ es) is =
+    read_on (row_in e.0.0 e.0.1 e.1) (λ r. rows_after (before ++ r ∷ []) es) v (length before) is
+    (λ r h. let more = as_many (before ++ r ∷ []) v es h in omega (arith, more, length-append before (r ∷ [])))
+
+no_entries : (es : List (RowPlace × List ℕ)) → rows_after [] es ≡ Some [] → es ≡ []
+no_entries [] is = refl
+no_entries (e ∷ es) is =
+    let some : 1 ≤ 0 = read_on (row_in e.0.0 e.0.1 e.1) (λ r. rows_after (r ∷ []) es) [] 1 is (λ r h. as_many (r ∷ []) [] es h) in
+    absurd (omega (arith, some))
+
+-- a content of no rows is empty
+pub keeps_nothing : (c : Content) (v : List Row) → rows_of c ≡ Some v → v ≡ [] → c ≡ empty
+keeps_nothing c v is none = no_first text_pair_cmp c (no_entries (entries c) (is ∙ ap Some none))
+
+-- one more keeper
+pub one_more : {K : Type 0} (content : K → Content) (is_honest : K → Type 0) (xs : List Node) (ns : List (KeptNode K)) (x : Node) (n : KeptNode K) →
+    AreOpened content is_honest xs ns → IsOpened content is_honest x n → AreOpened content is_honest (xs ++ x ∷ []) (ns ++ n ∷ [])
+one_more c h [] [] x n are is = (is, tt)
+one_more c h [] (m ∷ ns) x n are is = absurd are
+one_more c h (y ∷ xs) [] x n are is = absurd are
+one_more c h (y ∷ xs) (m ∷ ns) x n are is = (are.0, one_more c h xs ns x n are.1 is)
+
+same_Some : {X : Type 0} (x y : X) → Some x ≡ Some y → x ≡ y
+same_Some x y is = cc
+
+pub is_here : {X : Type 0} (xs : List X) (i : ℕ) (x : X) → i < length xs → x ≡ get_or xs i x → slice_get xs i ≡ Some x
+is_here xs i x within is = slice_get_read xs (length xs) i x refl within is
+
+-- no keeper before that place is the party's
+abbrev pub NoneBefore : {K : Type 0} → List (KeptNode K) → List ℕ → ℕ → Type 0
+NoneBefore {K} kept party i = (k : ℕ) (n : KeptNode K) → k < i → IsKeeperOf kept party k n → ⊥
+
+pub none_yet : {K : Type 0} (kept : List (KeptNode K)) (party : List ℕ) → NoneBefore kept party 0
+none_yet kept party k n below at = absurd (omega (arith, below))
+
+pub none_more : {K : Type 0} (kept : List (KeptNode K)) (party : List ℕ) (i : ℕ) (x : KeptNode K) → slice_get kept i ≡ Some x →
+    NoneBefore kept party i → (key x.party ≡ key party → ⊥) → NoneBefore kept party (i + 1)
+none_more {K} kept party i x here earlier not k n below at = elim (cases_lt k i) [
+  | inl before ↦ earlier k n before at
+  | inr later ↦
+      let same : k ≡ i = omega arith in
+      let is : n ≡ x = same_Some n x (sym at.here ∙ ap (slice_get kept) same ∙ here) in
+      not (ap (λ (z : KeptNode K). key z.party) (sym is) ∙ at.same)
+]
+
+pub none_at_all : {K : Type 0} (kept : List (KeptNode K)) (party : List ℕ) (i : ℕ) → length kept ≤ i → NoneBefore kept party i →
+    (k : ℕ) (n : KeptNode K) → IsKeeperOf kept party k n → ⊥
+none_at_all kept party i all none k n at = none k n (omega (arith, slice_get_within kept k n at.here)) at
+
+on_ok : {X H : Type 0} {A B : Type 0} (r : Result X StoreFault) → (H → OnOk r A) → ((H → A) → B) → OnOk r B
+on_ok (Ok x) h f = f h
+on_ok (Err e) h f = tt
+
+on_err : {X H : Type 0} {A B : Type 0} (r : Result X StoreFault) → (H → OnErr r A) → ((H → A) → B) → OnErr r B
+on_err (Ok x) h f = tt
+on_err (Err e) h f = f h
+
+-- what a keeper of the party became
+takes : {K : Type 0} (content : K → Content) (is_honest : K → Type 0) (party : List ℕ) (changes : List Change) (kept : List (KeptNode K)) (i : ℕ) (n : KeptNode K) (k : K) →
+    ((m : KeptNode K) × IsKeeperOf kept party i m) → n ≡ get_or kept i n → (is_honest k → is_honest n.keep) → (is_honest k → content k ≡ changed_all (content n.keep) changes) →
+    KeeperTakes content is_honest party changes kept (slice_set kept i (record { party = n.party; keep = k }))
+takes {K} content is_honest party changes kept i n k found is earlier makes =
+    let here = is_here kept i n (slice_get_within kept i found.0 found.1.here) is in
+    let same : found.0 ≡ n = same_Some found.0 n (sym found.1.here ∙ here) in
+    Made i n (record { here = here; same = ap (λ (z : KeptNode K). key z.party) (sym same) ∙ found.1.same }) k (record { earlier = earlier; makes = makes }) refl
+
+pub committed : {X K : Type 0} (r : Result X StoreFault) (content : K → Content) (is_honest : K → Type 0) (party : List ℕ) (changes : List Change) (kept : List (KeptNode K)) (i : ℕ) (n : KeptNode K) (k : K) →
+    ((m : KeptNode K) × IsKeeperOf kept party i m) → n ≡ get_or kept i n → (is_honest k → is_honest n.keep) → (is_honest k → OnOk r (content k ≡ changed_all (content n.keep) changes)) →
+    OnOk r (KeeperTakes content is_honest party changes kept (slice_set kept i (record { party = n.party; keep = k })))
+committed r content is_honest party changes kept i n k found here earlier makes =
+    on_ok r makes (takes content is_honest party changes kept i n k found here earlier)
+
+pub not_committed : {X K : Type 0} (r : Result X StoreFault) (content : K → Content) (is_honest : K → Type 0) (party : List ℕ) (kept : List (KeptNode K)) (i : ℕ) (n : KeptNode K) (k : K) →
+    ((m : KeptNode K) × IsKeeperOf kept party i m) → n ≡ get_or kept i n → (is_honest k → is_honest n.keep) → (is_honest k → OnErr r (content k ≡ content n.keep)) →
+    OnErr r (KeeperTakes content is_honest party [] kept (slice_set kept i (record { party = n.party; keep = k })))
+not_committed r content is_honest party kept i n k found here earlier keeps =
+    on_err r keeps (takes content is_honest party [] kept i n k found here earlier)
+
+pub none_of : {X : Type 0} (xs : List X) → length xs ≡ 0 → xs ≡ []
+none_of [] is = refl
+none_of (x ∷ xs) is = absurd (omega (arith, is))
+
+-- the keeper was found in a list that is this one
+pub found_in : {K : Type 0} (kept shown : List (KeptNode K)) (party : List ℕ) (i : ℕ) → shown ≡ kept → ((m : KeptNode K) × IsKeeperOf shown party i m) → (m : KeptNode K) × IsKeeperOf kept party i m
+found_in {K} kept shown party i is found = subst (λ (l : List (KeptNode K)). (m : KeptNode K) × IsKeeperOf l party i m) is found
+
+-- the next of a setup's nodes has its keeper
+pub one_opened : {K : Type 0} (content : K → Content) (is_honest : K → Type 0) (setup : List Node) (kept more : List (KeptNode K)) (i : ℕ) (x : Node) (n : KeptNode K) →
+    i < length setup → AreOpened content is_honest (take i setup) kept → x ≡ get_or setup i x → more ≡ kept ++ n ∷ [] → IsOpened content is_honest x n →
+    AreOpened content is_honest (take (i + 1) setup) more
+one_opened {K} content is_honest setup kept more i x n within are is grown opened =
+    let front : take i setup ++ x ∷ [] ≡ take (i + 1) setup = ap (λ (y : Node). take i setup ++ y ∷ []) is ∙ sym (take_more setup i x within) in
+    let all = one_more content is_honest (take i setup) kept x n are opened in
+    subst (AreOpened content is_honest (take (i + 1) setup)) (sym grown) (subst (λ (nodes : List Node). AreOpened content is_honest nodes (kept ++ n ∷ [])) front all)

@@ -1,0 +1,21 @@
+use Rattle.std.proofs.Common.{◌≡◌, ◌++◌, ◌∙◌, ℕ, List, IfOk, Some, None, sym, ap, subst, string_bytes}
+use Rattle.node_programs.specs.Play.{PlayLineGives, Stage}
+use Rattle.node_programs.proofs.play.ProgramAnswerLines.answer_line.Goals as goal
+
+pub returns-in-Some : goal.returns-in-Some
+returns-in-Some g c =
+    let next : Stage g.row.K.Denot = record { playing = Some c.play_event.new.played; stop = c.play_event.new.stop } in
+    let before = string_bytes c.args.output.now in
+    let after = string_bytes c.play_event.new.output in
+    let gives = λ (s : Stage g.row.K.Denot). IfOk c.play_event.result (λ turn. (out : List ℕ) × (after ≡ before ++ out)
+    × PlayLineGives g.K.Keep.content g.K.Keep.is_honest s c.args.line.now turn out next) in
+    subst gives (ap (λ q. record { playing = q; stop = c.self.inside.stop }) (sym c.in-Some.is) ∙ c.self.view_is) c.play_event.ensures
+
+pub returns : goal.returns
+returns g c =
+    let next : Stage g.row.K.Denot = record { playing = c.play_setup.new.played; stop = c.play_setup.new.stop } in
+    let before = string_bytes c.args.output.now in
+    let after = string_bytes c.play_setup.new.output in
+    let gives = λ (s : Stage g.row.K.Denot). IfOk c.play_setup.result (λ turn. (out : List ℕ) × (after ≡ before ++ out)
+    × PlayLineGives g.K.Keep.content g.K.Keep.is_honest s c.args.line.now turn out next) in
+    subst gives (ap (λ q. record { playing = q; stop = c.self.inside.stop }) (sym c.in-None.is) ∙ c.self.view_is) c.play_setup.ensures

@@ -1,0 +1,8 @@
+pub mod Writing
+pub mod Stops
+pub mod Cut
+pub mod Answer
+pub mod AnswerCut
+pub mod Play
+pub mod PlayCut
+pub mod Settle

@@ -1,0 +1,131 @@
+-- What the program `play` writes for what it reads: a setup line, then events at its nodes, and at the end what is owed.
+use Rattle.std.specs.Prelude.{◌≡◌, ℕ, ℤ, List, [], ◌∷◌, ◌++◌, Option, None, Some, Ok, codes, flat_map}
+use Rattle.ocpi_text.specs.Decimal.{sum_text}
+use Rattle.ocpi_text.specs.Text.{key}
+use Rattle.ocpi_types.specs.declared.events.Event.{Event}
+use Rattle.ocpi_types.specs.declared.rows.Change.{Change}
+use Rattle.ocpi_types.specs.declared.setup.Node.{Node}
+use Rattle.ocpi_types.specs.declared.setup.Node.TheVariants as node
+use Rattle.json_text.specs.declared.fault.JsonFault.{JsonFault}
+use Rattle.json_text.specs.declared.fault.JsonFault.TheVariants.{Syntax}
+use Rattle.json_text.specs.Fault.{Fails, fault_text as json_fault_text}
+use Rattle.ocpi_json.specs.EventForms.{event_in}
+use Rattle.ocpi_json.specs.SetupForms.{setup_in}
+use Rattle.node_steps.specs.declared.fault.NodeFault.TheVariants.{Memory}
+use Rattle.node_steps.specs.FaultText.{fault_text as node_fault_text}
+use Rattle.world_steps.specs.Steps.{Gives, Outcome}
+use Rattle.world_steps.specs.Steps as outcome
+use Rattle.world_steps.specs.World.{World, opened}
+use Rattle.world.specs.State.{owed_by}
+use Rattle.line_runs.specs.declared.outcome.Ran.{Ran}
+use Rattle.line_runs.specs.declared.outcome.Ran.TheVariants.{Whole, WithRefusals}
+use Rattle.line_runs.specs.declared.run.Turn.{Turn}
+use Rattle.line_runs.specs.declared.run.Turn.TheVariants.{Taken, Refused, Ended}
+use Rattle.node_store.specs.Contents.{Content}
+use Rattle.node_store.specs.declared.fault.StoreFault.{StoreFault}
+use Rattle.node_keepers.specs.Keeping.{AreOpened, KeeperTakes}
+use Rattle.node_programs.specs.Writing.{packet_lines, refusal_line}
+use Rattle.node_keepers.specs.declared.keeping.KeptNode.{KeptNode}
+
+-- a world, the setup that it was opened from, and the keepers of its nodes, which are of type K
+pub record Playing (K : Type 0) : Type 0 where
+  pub setup : List Node
+  pub world : World
+  pub kept : List (KeptNode K)
+
+-- what a setup line makes: its world, in which nothing has happened, and these keepers
+abbrev pub played_from : {K : Type 0} → List Node → List (KeptNode K) → Playing K
+played_from setup kept = record { setup = setup; world = opened setup; kept = kept }
+
+-- what the lines so far have made, and why a store stopped the run, where one did
+pub record Stage (K : Type 0) : Type 0 where
+  pub playing : Option (Playing K)
+  pub stop : Option StoreFault
+
+-- before the first line
+abbrev pub opening : {K : Type 0} → Stage K
+opening = record { playing = None; stop = None }
+
+-- what is written of an event: the packets that the node sent, that it was of no node, or why it was refused
+abbrev pub outcome_lines : Outcome → List ℕ
+outcome_lines (outcome.Stepped packets changes) = packet_lines packets
+outcome_lines outcome.Skipped = codes "skipped\n"
+outcome_lines (outcome.Refused fault) = refusal_line (node_fault_text fault)
+
+-- an event that was of no node is no refused line
+abbrev pub turn_of : Outcome → Turn
+turn_of (outcome.Stepped packets changes) = Taken
+turn_of outcome.Skipped = Taken
+turn_of (outcome.Refused fault) = Refused
+
+-- the rows that an event changed
+abbrev pub changes_told : Outcome → List Change
+changes_told (outcome.Stepped packets changes) = changes
+changes_told outcome.Skipped = []
+changes_told (outcome.Refused fault) = []
+
+-- The first line opens the world and a keeper for each node. Where it is no setup, or a keeper is refused, that is all.
+pub data SetupTurn {K : Type 0} (content : K → Content) (is_honest : K → Type 0) (stop : Option StoreFault) (line : List ℕ) (turn : Turn) (out : List ℕ) (next : Stage K) : Type 0 where
+  Opened : (setup : List Node) → setup_in line ≡ Ok setup → (kept : List (KeptNode K)) → AreOpened content is_honest setup kept
+      → turn ≡ Taken → out ≡ [] → next ≡ record { playing = Some (played_from setup kept); stop = stop }
+      → SetupTurn content is_honest stop line turn out next
+  Unkept : (setup : List Node) → setup_in line ≡ Ok setup → (fault : StoreFault)
+      → turn ≡ Ended → out ≡ [] → next ≡ record { playing = None; stop = Some fault }
+      → SetupTurn content is_honest stop line turn out next
+  NoSetup : (fault : JsonFault) → Fails fault (setup_in line)
+      → turn ≡ Ended → out ≡ refusal_line (json_fault_text fault) → next ≡ record { playing = None; stop = stop }
+      → SetupTurn content is_honest stop line turn out next
+
+-- Each other line is an event of the world, and the rows that it changes are kept. A line that is no event changes nothing, and neither
+-- does an event that is refused, by the node or for want of memory. Where the keeper of the node refuses the changes, nothing is written,
+-- the run ends, and no keeper has anything of them.
+pub data EventTurn {K : Type 0} (content : K → Content) (is_honest : K → Type 0) (stop : Option StoreFault) (now : Playing K) (line : List ℕ) (turn : Turn) (out : List ℕ) (next : Stage K) : Type 0 where
+  Happened : (event : Event) → event_in line ≡ Ok event → (o : Outcome) → (v : World) → Gives now.world event o v
+      → (kept : List (KeptNode K)) → KeeperTakes content is_honest event.node (changes_told o) now.kept kept
+      → turn ≡ turn_of o → out ≡ outcome_lines o → next ≡ record { playing = Some (record { setup = now.setup; world = v; kept = kept }); stop = stop }
+      → EventTurn content is_honest stop now line turn out next
+  Lost : (event : Event) → event_in line ≡ Ok event → (o : Outcome) → (v : World) → Gives now.world event o v
+      → (kept : List (KeptNode K)) → KeeperTakes content is_honest event.node [] now.kept kept → (fault : StoreFault)
+      → turn ≡ Ended → out ≡ [] → next ≡ record { playing = Some (record { setup = now.setup; world = v; kept = kept }); stop = Some fault }
+      → EventTurn content is_honest stop now line turn out next
+  Starved : (event : Event) → event_in line ≡ Ok event
+      → turn ≡ Refused → out ≡ refusal_line (node_fault_text Memory) → next ≡ record { playing = Some now; stop = stop }
+      → EventTurn content is_honest stop now line turn out next
+  Unread : (fault : JsonFault) → Fails fault (event_in line)
+      → turn ≡ Refused → out ≡ refusal_line (json_fault_text fault) → next ≡ record { playing = Some now; stop = stop }
+      → EventTurn content is_honest stop now line turn out next
+
+-- one line, with no world before the first
+abbrev pub PlayTurn : {K : Type 0} → (K → Content) → (K → Type 0) → Option (Playing K) → Option StoreFault → List ℕ → Turn → List ℕ → Stage K → Type 0
+PlayTurn content is_honest None stop line turn out next = SetupTurn content is_honest stop line turn out next
+PlayTurn content is_honest (Some now) stop line turn out next = EventTurn content is_honest stop now line turn out next
+
+abbrev pub PlayLineGives : {K : Type 0} → (K → Content) → (K → Type 0) → Stage K → List ℕ → Turn → List ℕ → Stage K → Type 0
+PlayLineGives content is_honest s line turn out next = PlayTurn content is_honest s.playing s.stop line turn out next
+
+-- what a provider owes an operator in a currency
+abbrev pub debt_line : List ℕ → List ℕ → List ℕ → ℤ → List ℕ
+debt_line provider operator currency sum =
+    codes "owed " ++ provider ++ codes " " ++ operator ++ codes " " ++ currency ++ codes " " ++ sum_text sum ++ 10 ∷ []
+
+-- what a provider owes a node, in its currency: a line where that is an operator, and none where it is a provider
+abbrev pub debt_lines : World → List ℕ → Node → List ℕ
+debt_lines w provider (node.Operator party site) = debt_line provider party site.currency (owed_by w provider (key party, site.currency))
+debt_lines w provider (node.Provider party) = []
+
+-- what a node owes all nodes, in their order, where it is a provider
+abbrev pub debts_of : World → List Node → Node → List ℕ
+debts_of w setup (node.Operator party site) = []
+debts_of w setup (node.Provider party) = flat_map (debt_lines w party) setup
+
+-- what all nodes owe, in their order
+abbrev pub owed_lines : {K : Type 0} → Playing K → List ℕ
+owed_lines now = flat_map (debts_of now.world now.setup) now.setup
+
+-- An input with no line is refused as one with a line that is no JSON. Otherwise what is owed is written at the end.
+abbrev pub PlayEnd : {K : Type 0} → Option (Playing K) → Ran → List ℕ → Type 0
+PlayEnd None ran out = (ran ≡ WithRefusals) × (out ≡ refusal_line (json_fault_text Syntax))
+PlayEnd (Some now) ran out = (ran ≡ Whole) × (out ≡ owed_lines now)
+
+abbrev pub PlayEndGives : {K : Type 0} → Stage K → Ran → List ℕ → Type 0
+PlayEndGives s ran out = PlayEnd s.playing ran out

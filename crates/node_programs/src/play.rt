@@ -1,0 +1,440 @@
+//! The program `play`: a world of nodes, which the first line sets up and at one of which each other line is an event.
+
+ghost use Rattle.std.specs.Prelude.{◌≡◌, ◌≢◌, ◌++◌, ℕ, List, Option, None, Some, Ok, Err, true};
+ghost use Rattle.std.specs.Prelude.{IfOk, IfErr, OnOk, codes, flat_map, string_bytes};
+ghost use Rattle.json_text.specs.Fault.{Fails};
+ghost use Rattle.ocpi_json.specs.EventForms.{event_in};
+ghost use Rattle.ocpi_json.specs.SetupForms.{setup_in};
+ghost use Rattle.ocpi_types.specs.declared.rows.Change.{Change as ChangeOf};
+ghost use Rattle.ocpi_types.specs.declared.setup.Node.{Node as NodeOf};
+ghost use Rattle.node_keepers.specs.Keeping.{AreOpened};
+ghost use Rattle.node_programs.specs.Play.{EventTurn, PlayEndGives, PlayLineGives, SetupTurn, Stage, debt_line, debt_lines, debts_of, opening, outcome_lines, owed_lines, played_from, turn_of};
+ghost use Rattle.ocpi_text.specs.Text.{key};
+ghost use Rattle.world.specs.Seen.{told};
+ghost use Rattle.world.specs.State.{owed_by};
+ghost use Rattle.world_steps.specs.World.{opened};
+ghost use Rattle.line_runs.specs.Run.{Begins, Outputs, ReadsFewLines, StopsReading};
+ghost use Rattle.line_runs.specs.declared.outcome.Ran.TheVariants.{WithRefusals};
+ghost use Rattle.node_programs.specs.Stops.{IfRun, IfStore};
+
+use crate::fault::PlayFault;
+use crate::writing::{refuse, write_packets};
+use line_runs::{AnswerLines, LineReader, Ran, RunFault, Turn, run_whole};
+use node_keepers::{Keeps, KeptNode, commit, open_all};
+use node_steps::NodeFault;
+use node_store::{Keep, StoreFault};
+use ocpi_json::{JsonFault, Scratch, read_event, read_setup};
+use ocpi_text::{FreeText, Party, ShortText, write_sum};
+use ocpi_types::{Event, Node, Packet, Setup};
+use std::alloc::{AllocError, Global};
+use std::io::{BufRead, Write};
+use std::marker::Model;
+use world::{Outcome, World};
+
+/// The world, the setup that it was opened from, and the keepers of its nodes.
+pub struct Played<K> {
+    setup: Setup,
+    world: World,
+    kept: Vec<KeptNode<K>>,
+}
+
+/// What a derive would do, in a function of its own: so it is proved once, and not in each function that drops a world.
+impl<K: Drop> Drop for Played<K> {
+    fn drop(self) {
+        let Played {
+            setup: _,
+            world: _,
+            kept: _,
+        } = self;
+    }
+}
+
+impl<K> Model for Played<K> {
+    ghost use Rattle.std.specs.Coded.{codes};
+    ghost use Rattle.std.specs.FinMap as map;
+    ghost use Rattle.node_programs.specs.Play.{Playing};
+
+    ghost Value = { Playing K };
+
+    ghost coded = { Prim.hlevel (codes, map.code, K.code) };
+
+    ghost view = { λ p. record { setup = p.setup; world = p.world.places; kept = p.kept.items } };
+}
+
+/// What the lines so far have made: a world, from the first on; and why a store stopped the run, where one did.
+#[derive(Drop)]
+struct Program<K, S> {
+    alloc: Global,
+    scratch: Scratch,
+    keeps: S,
+    played: Option<Played<K>>,
+    stop: Option<StoreFault>,
+}
+
+impl<K, S> Model for Program<K, S> {
+    ghost use Rattle.std.specs.Coded.{codes};
+    ghost use Rattle.std.specs.FinMap as map;
+    ghost use Rattle.node_programs.specs.Play.{Stage};
+
+    ghost Value = { Stage K };
+
+    ghost coded = { Prim.hlevel (codes, map.code, K.code) };
+
+    ghost view = { λ p. record { playing = p.played; stop = p.stop } };
+}
+
+impl<K, S> Program<K, S> {
+    fn new(alloc: Global, keeps: S) -> Program<K, S>
+        ensures { result ≡ opening }
+    {
+        Program {
+            alloc,
+            scratch: Scratch::new(alloc),
+            keeps,
+            played: None,
+            stop: None,
+        }
+    }
+}
+
+impl<K: Keep + Drop, S: Keeps<Kept = K>> AnswerLines for Program<K, S> {
+    ghost use Rattle.node_programs.specs.PlayCut.{play_cut_alike};
+
+    ghost line_gives = { PlayLineGives K.content K.is_honest };
+
+    ghost end_gives = { PlayEndGives };
+
+    fn answer_line(&mut self, line: &[u8], output: &mut String) -> Result<Turn, AllocError> {
+        match &mut self.played {
+            None => {}
+            Some(played) => {
+                return play_event(
+                    self.alloc,
+                    &mut self.scratch,
+                    played,
+                    &mut self.stop,
+                    line,
+                    output,
+                );
+            }
+        }
+        play_setup(
+            self.alloc,
+            &mut self.scratch,
+            &mut self.keeps,
+            &mut self.played,
+            &mut self.stop,
+            line,
+            output,
+        )
+    }
+
+    fn answer_end(&mut self, output: &mut String) -> Result<Ran, AllocError> {
+        match &self.played {
+            None => {
+                refuse(output, JsonFault::Syntax)?;
+                Ok(Ran::WithRefusals)
+            }
+            Some(played) => {
+                write_owed(self.alloc, played, output)?;
+                Ok(Ran::Whole)
+            }
+        }
+    }
+
+    ghost cut_alike = { play_cut_alike K.content K.is_honest };
+}
+
+/// The setup of a line, and its world, in which nothing has happened.
+fn open(alloc: Global, scratch: &mut Scratch, line: &[u8]) -> Result<(Setup, World), JsonFault>
+    ensures ok { IfOk result (λ p. (setup_in line.now ≡ Ok p.0) × (p.1.places ≡ opened p.0)) }
+    ensures err { IfErr result (λ fault. Fails fault (setup_in line.now)) }
+{
+    let setup = read_setup(alloc, scratch, line)?;
+    let world = World::open(alloc, &setup)?;
+    Ok((setup, world))
+}
+
+/// Opens the keepers of a world that was opened.
+fn keep_world<S: Keeps>(
+    alloc: Global,
+    keeps: &mut S,
+    setup: Setup,
+    world: World,
+) -> Result<Played<S::Kept>, StoreFault>
+    ensures { IfOk result (λ p. (p.setup ≡ setup) × (p.world ≡ world.places) × AreOpened S.Kept.content S.Kept.is_honest setup p.kept) }
+{
+    let kept = open_all(alloc, keeps, setup.as_slice())?;
+    Ok(Played { setup, world, kept })
+}
+
+/// Opens the world of a setup line, where there is none.
+fn play_setup<K: Keep + Drop, S: Keeps<Kept = K>>(
+    alloc: Global,
+    scratch: &mut Scratch,
+    keeps: &mut S,
+    played: &mut Option<Played<K>>,
+    stop: &mut Option<StoreFault>,
+    line: &[u8],
+    output: &mut String,
+) -> Result<Turn, AllocError>
+    requires { played.old ≡ None }
+    ensures { IfOk result (λ turn. (out : List ℕ) × (string_bytes output.new ≡ string_bytes output.old ++ out)
+        × SetupTurn K.content K.is_honest stop.old line.now turn out (record { playing = played.new; stop = stop.new })) }
+{
+    let (setup, world) = match open(alloc, scratch, line) {
+        Ok(opened) => opened,
+        Err(fault) => {
+            refuse(output, fault)?;
+            return Ok(Turn::Ended);
+        }
+    };
+    match keep_world(alloc, keeps, setup, world) {
+        Ok(kept) => {
+            *played = Some(kept);
+            Ok(Turn::Taken)
+        }
+        Err(fault) => {
+            *stop = Some(fault);
+            Ok(Turn::Ended)
+        }
+    }
+}
+
+/// Writes what came of an event: the packets that the node sent, that the event was of no node, or why it was refused.
+fn write_outcome(
+    alloc: Global,
+    outcome: Outcome,
+    packets: &[Packet],
+    output: &mut String,
+) -> Result<Turn, AllocError>
+    ensures { IfOk result (λ turn. (changes : List ChangeOf) → (turn ≡ turn_of (told outcome packets.now changes))
+        × (string_bytes output.new ≡ string_bytes output.old ++ outcome_lines (told outcome packets.now changes))) }
+{
+    match outcome {
+        Outcome::Stepped => {
+            write_packets(alloc, packets, output)?;
+            Ok(Turn::Taken)
+        }
+        Outcome::Skipped => {
+            output.push_str("skipped\n")?;
+            Ok(Turn::Taken)
+        }
+        Outcome::Refused(fault) => {
+            refuse(output, fault)?;
+            Ok(Turn::Refused)
+        }
+    }
+}
+
+/// Lets an event that was read happen, has its changes kept, and then writes what comes of it. Where memory runs out for it, it is
+/// refused. Where they are not kept, nothing is written, and the run ends.
+fn play_read<K: Keep>(
+    alloc: Global,
+    played: &mut Played<K>,
+    stop: &mut Option<StoreFault>,
+    event: &Event,
+    output: &mut String,
+) -> Result<Turn, AllocError>
+    ensures { IfOk result (λ turn. (out : List ℕ) × (string_bytes output.new ≡ string_bytes output.old ++ out)
+        × ((line : List ℕ) → event_in line ≡ Ok event.now
+        → EventTurn K.content K.is_honest stop.old played.old line turn out (record { playing = Some played.new; stop = stop.new }))) }
+{
+    let Ok(outcome) = played.world.step(event) else {
+        refuse(output, NodeFault::Memory)?;
+        return Ok(Turn::Refused);
+    };
+    match commit(&mut played.kept, &event.node, played.world.changes()) {
+        Ok(()) => {}
+        Err(fault) => {
+            *stop = Some(fault);
+            return Ok(Turn::Ended);
+        }
+    }
+    write_outcome(alloc, outcome, played.world.packets(), output)
+}
+
+/// Reads a line's event and lets it happen.
+fn play_event<K: Keep>(
+    alloc: Global,
+    scratch: &mut Scratch,
+    played: &mut Played<K>,
+    stop: &mut Option<StoreFault>,
+    line: &[u8],
+    output: &mut String,
+) -> Result<Turn, AllocError>
+    ensures { IfOk result (λ turn. (out : List ℕ) × (string_bytes output.new ≡ string_bytes output.old ++ out)
+        × EventTurn K.content K.is_honest stop.old played.old line.now turn out (record { playing = Some played.new; stop = stop.new })) }
+{
+    match read_event(alloc, scratch, line) {
+        Ok(event) => play_read(alloc, played, stop, &event, output),
+        Err(fault) => {
+            refuse(output, fault)?;
+            Ok(Turn::Refused)
+        }
+    }
+}
+
+/// A currency without memory of its own: three characters take at most twelve bytes.
+fn short_currency(currency: &FreeText<3>) -> ShortText<3, 12>
+    ensures { result ≡ currency.now }
+{
+    let Ok(text) = ShortText::new(currency.as_str()) else {
+        unreachable!()
+    };
+    text
+}
+
+/// Adds the line of what a provider owes an operator in a currency.
+fn write_debt(
+    alloc: Global,
+    world: &World,
+    provider: &Party,
+    operator: &Party,
+    currency: ShortText<3, 12>,
+    output: &mut String,
+) -> Result<(), AllocError>
+    ensures { OnOk result (string_bytes output.new ≡ string_bytes output.old
+        ++ debt_line provider.now operator.now currency (owed_by world.now.places provider.now (key operator.now, currency))) }
+{
+    let sum = write_sum(alloc, world.settlement(provider, operator, currency))?;
+    writeln!(
+        output,
+        "owed {} {} {} {}",
+        provider.as_str(),
+        operator.as_str(),
+        currency.as_str(),
+        sum.as_str()
+    )
+}
+
+/// Adds the line of what a provider owes a node, where that is an operator.
+fn write_debt_to(
+    alloc: Global,
+    world: &World,
+    provider: &Party,
+    node: &Node,
+    output: &mut String,
+) -> Result<(), AllocError>
+    ensures { OnOk result (string_bytes output.new ≡ string_bytes output.old ++ debt_lines world.now.places provider.now node.now) }
+{
+    match node {
+        Node::Operator { party, site } => {
+            write_debt(
+                alloc,
+                world,
+                provider,
+                party,
+                short_currency(&site.currency),
+                output,
+            )
+        }
+        Node::Provider { .. } => Ok(()),
+    }
+}
+
+/// Adds the lines of what a node owes, where it is a provider.
+fn write_debts_of(
+    alloc: Global,
+    world: &World,
+    setup: &[Node],
+    node: &Node,
+    output: &mut String,
+) -> Result<(), AllocError>
+    ensures { OnOk result (string_bytes output.new ≡ string_bytes output.old ++ debts_of world.now.places setup.now node.now) }
+{
+    match node {
+        Node::Operator { .. } => Ok(()),
+        Node::Provider { party } => write_debts(alloc, world, setup, party, output),
+    }
+}
+
+/// Adds a line for each operator: what a provider owes it.
+fn write_debts(
+    alloc: Global,
+    world: &World,
+    setup: &[Node],
+    provider: &Party,
+    output: &mut String,
+) -> Result<(), AllocError>
+    ensures { OnOk result (string_bytes output.new ≡ string_bytes output.old ++ flat_map (debt_lines world.now.places provider.now) setup.now) }
+{
+    for node in setup {
+        write_debt_to(alloc, world, provider, node, output)?;
+    }
+    Ok(())
+}
+
+/// Adds a line for each provider and each operator of a setup: what is owed in its world.
+fn write_all_debts(
+    alloc: Global,
+    world: &World,
+    setup: &[Node],
+    output: &mut String,
+) -> Result<(), AllocError>
+    ensures { OnOk result (string_bytes output.new ≡ string_bytes output.old ++ flat_map (debts_of world.now.places setup.now) setup.now) }
+{
+    for node in setup {
+        write_debts_of(alloc, world, setup, node, output)?;
+    }
+    Ok(())
+}
+
+/// Adds a line for each provider and each operator: what is owed.
+fn write_owed<K>(alloc: Global, played: &Played<K>, output: &mut String) -> Result<(), AllocError>
+    ensures { OnOk result (string_bytes output.new ≡ string_bytes output.old ++ owed_lines played.now) }
+{
+    write_all_debts(alloc, &played.world, played.setup.as_slice(), output)
+}
+
+/// How a run went that a keeper may have stopped: then a line ended it.
+fn ended(ran: Result<Ran, RunFault>, stop: Option<StoreFault>) -> Result<Ran, PlayFault>
+    ensures ok { IfOk result (λ r. (ran ≡ Ok r) × (r ≡ WithRefusals → stop ≡ None)) }
+    ensures run { IfErr result (IfRun (λ fault. ran ≡ Err fault)) }
+    ensures store { IfErr result (IfStore (λ fault. (ran ≡ Ok WithRefusals) × (stop ≡ Some fault))) }
+{
+    match ran {
+        Ok(Ran::Whole) => Ok(Ran::Whole),
+        Ok(Ran::WithRefusals) => match stop {
+            Some(fault) => Err(PlayFault::Store(fault)),
+            None => Ok(Ran::WithRefusals),
+        },
+        Err(fault) => Err(PlayFault::Run(fault)),
+    }
+}
+
+/// Plays the events of an input in a world of nodes. The first line that holds something is the setup, and each other an
+/// event at one of its nodes; each packet that the node sends is one line. An event that is of no node is written as
+/// `skipped`. A line that is refused is written as `refused`, its number and its name, changes nothing, and the next
+/// follows; a refused or absent setup ends the run. At the end what each provider owes each operator is one line.
+///
+/// Each node has a keeper of its rows, opened once the setup was read, in its order, and the rows that an event changes are
+/// committed to it before the packets of the event are written. Where one of these is refused the run ends, and of that line nothing
+/// is written.
+///
+/// Where the run was not stopped, what is written is the output of the input. Where it was stopped, what is written is a
+/// beginning of that: by a failed read or too many reads, what exactly the lines that were read whole give; by a keeper, what the
+/// lines before give. At most 1,000,000,000 lines are read.
+/// What was answered is flushed before each read that may wait, and at the end.
+pub fn run_play<R: BufRead, W: Write, S: Keeps + Drop>(
+    alloc: Global,
+    input: &mut LineReader<R>,
+    writer: &mut W,
+    keeps: S,
+) -> Result<Ran, PlayFault>
+    ensures output { IfOk result (λ ran. Outputs (PlayLineGives S.Kept.content S.Kept.is_honest) PlayEndGives opening (R.Read.remaining input.old.reader) ran
+        (W.contents writer.old) (W.contents writer.new)) }
+    ensures begun { IfErr result (IfRun (λ fault. Begins (PlayLineGives S.Kept.content S.Kept.is_honest) PlayEndGives opening (R.Read.remaining input.old.reader)
+        (W.contents writer.old) (W.contents writer.new))) }
+    ensures stopped { IfErr result (IfRun (λ fault. fault ≢ RunFault.WriteFailed → StopsReading (PlayLineGives S.Kept.content S.Kept.is_honest) opening fault
+        (R.Read.remaining input.old.reader) (R.Read.remaining input.new.reader)
+        (W.contents writer.old) (W.contents writer.new))) }
+    ensures store { IfErr result (IfStore (λ fault. Outputs (PlayLineGives S.Kept.content S.Kept.is_honest) PlayEndGives opening (R.Read.remaining input.old.reader) WithRefusals
+        (W.contents writer.old) (W.contents writer.new))) }
+    ensures failed { result ≡ Err (PlayFault.Run RunFault.ReadFailed) → input.new.failed ≡ true }
+    ensures reads { ReadsFewLines (R.Read.remaining input.old.reader) (R.Read.remaining input.new.reader) }
+{
+    let mut playing: Program<S::Kept, S> = Program::new(alloc, keeps);
+    let ran = run_whole(alloc, &mut playing, input, writer);
+    ended(ran, playing.stop)
+}

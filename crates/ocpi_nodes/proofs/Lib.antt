@@ -1,3 +1,0 @@
-mod KeeperLemmas
-mod PlayLemmas
-mod EndLemmas

@@ -1,7 +1,0 @@
-use Rattle.std.proofs.Common.{take}
-use Rattle.ocpi_nodes.specs.Keeping.{AreOpened}
-use Rattle.ocpi_nodes.proofs.keeping.open_all.Given as goal
-
--- each node before this one has its keeper
-abbrev pub invariant-loop-node : goal.invariant-loop-node
-invariant-loop-node g l = AreOpened g.S.Kept.Keep.content g.S.Kept.Keep.is_honest (take l.node-index l.setup) l.kept.items

@@ -1,8 +1,0 @@
-use Rattle.std.proofs.Common.{◌≡◌, ◌++◌, flat_map, take, string_bytes}
-use Rattle.ocpi_nodes.specs.Play.{debts_of}
-use Rattle.ocpi_nodes.proofs.play.write_all_debts.Given as goal
-
--- what the nodes before this one owe is written
-abbrev pub invariant-loop-node : goal.invariant-loop-node
-invariant-loop-node l =
-    string_bytes l.output ≡ string_bytes l.fn.output ++ flat_map (debts_of l.world.places l.setup) (take l.node-index l.setup)

@@ -1,9 +1,0 @@
-pub mod Writing
-pub mod Stops
-pub mod Keeping
-pub mod Cut
-pub mod Answer
-pub mod AnswerCut
-pub mod Play
-pub mod PlayCut
-pub mod Settle
