@@ -7,21 +7,20 @@ use Rattle.ocpi_types.specs.declared.events.Event.{Event}
 use Rattle.ocpi_types.specs.declared.packet.Packet.{Packet}
 use Rattle.ocpi_types.specs.declared.rows.Change.{Change}
 use Rattle.ocpi_types.specs.declared.setup.Node.{Node}
-use Rattle.node_store.specs.Contents.{Content}
 use Rattle.node_store.specs.declared.fault.StoreFault.{StoreFault}
 use Rattle.line_runs.specs.declared.run.Turn.TheVariants.{Taken, Ended}
 use Rattle.world.specs.Seen.{told}
 use Rattle.world.specs.declared.planned.Outcome.{Outcome}
 use Rattle.world.specs.declared.planned.Outcome.TheVariants.{Stepped, Skipped, Refused}
 use Rattle.world_steps.specs.World.{World, opened}
-use Rattle.node_keepers.specs.Keeping.{AreOpened}
+use Rattle.node_keepers.specs.Keeping.{AreOpened, Keeping}
 use Rattle.node_programs.specs.Play.{Opened, Playing, SetupTurn, Stage, changes_told, played_from}
 
 -- a world was opened, and its keepers
-pub opens : {K : Type 0} (content : K → Content) (is_honest : K → Type 0) (stop : Option StoreFault) (line : List ℕ) (setup : List Node) (w : World) (p : Playing K) →
-    setup_in line ≡ Ok setup → w ≡ opened setup → p.setup ≡ setup → p.world ≡ w → AreOpened content is_honest setup p.kept →
-    SetupTurn content is_honest stop line Taken [] (record { playing = Some p; stop = stop })
-opens {K} content is_honest stop line setup w p read is same world are =
+pub opens : {K : Type 0} (keeping : Keeping K) (may_refuse : ℕ → StoreFault → Type 0) (stop : Option StoreFault) (line : List ℕ) (setup : List Node) (w : World) (p : Playing K) →
+    setup_in line ≡ Ok setup → w ≡ opened setup → p.setup ≡ setup → p.world ≡ w → AreOpened keeping setup p.kept →
+    SetupTurn keeping may_refuse stop line Taken [] (record { playing = Some p; stop = stop })
+opens {K} keeping may_refuse stop line setup w p read is same world are =
     let from : p ≡ played_from setup p.kept = λ i. record { setup = same i; world = (world ∙ is) i; kept = p.kept } in
     Opened setup read p.kept are refl refl (ap (λ (q : Playing K). record { playing = Some q; stop = stop }) from)
 

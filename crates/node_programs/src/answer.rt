@@ -117,7 +117,7 @@ impl AnswerLines for Program {
         )
     }
 
-    fn answer_end(&mut self, output: &mut String) -> Result<Ran, AllocError> {
+    fn answer_end(&self, output: &mut String) -> Result<Ran, AllocError> {
         match &self.running {
             None => {
                 refuse(output, JsonFault::Syntax)?;
