@@ -3,8 +3,10 @@ use Rattle.std.proofs.Common.{◌≡◌, ◌≢◌, ◌<◌, ◌≤◌, ◌+◌,
 use Rattle.std.proofs.lemmas.Bool.{cases_lt}
 use Rattle.std.proofs.lemmas.List.{length-take, take_more}
 use Rattle.std.proofs.lemmas.Option.{slice_get_read, slice_get_within}
+use Rattle.std.proofs.lemmas.Result.{err_from_is_err_and}
 use Rattle.std.specs.FinMap.{empty, entries}
 use Rattle.std.specs.Prelude.{IsSome}
+use Rattle.std.specs.Result.{IsErrAnd}
 use Rattle.tables.proofs.Ordered.{no_first}
 use Rattle.tables.specs.Keys.{text_pair_cmp}
 use Rattle.json_text.specs.Fault.{Read}
@@ -97,6 +99,10 @@ module _ {K : Type 0} (keeping : Keeping K) (party : List ℕ) (changes : List C
   not_committed (Ok x) keeps due count = tt
   not_committed (Err e) keeps due count =
       Not_made i n (the_keeper party kept i n found is) k (record { counted = count; is_of_commit = due; earlier = earlier; keeps = keeps }) refl
+
+-- what a `?` returns is the fault that it passes on
+pub err_one : {T E : Type 0} (P : E → Type 0) (r : Result T E) (f : E) → IsErrAnd r (λ e. e ≡ f) → P f → IfErr r P
+err_one P r f is h = let p = err_from_is_err_and r is in rw (p.1, p.2) h
 
 -- what is known in any case is known of each fault
 pub of_each : {X E P : Type 0} (r : Result X E) → P → IfErr r (λ e. P)

@@ -1,6 +1,5 @@
 use Rattle.std.proofs.Common.{arith, inr, refl}
-use Rattle.operator_core.proofs.Parts.{err_one}
-use Rattle.node_keepers.proofs.KeeperLemmas.{one_opened, one_unopened}
+use Rattle.node_keepers.proofs.KeeperLemmas.{err_one, one_opened, one_unopened}
 use Rattle.node_keepers.specs.Keeping.{AreUnopened, keeping_of}
 use Rattle.node_keepers.proofs.keeping.open_all.Goals as goal
 

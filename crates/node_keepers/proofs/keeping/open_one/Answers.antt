@@ -1,8 +1,7 @@
 use Rattle.std.proofs.Common.{◌≡◌, ℕ, [], rules, refl, sym, ap, ◌∙◌}
-use Rattle.operator_core.proofs.Parts.{err_one}
 use Rattle.node_store.specs.Contents.{rows_of}
 use Rattle.node_keepers.specs.Keeping.{IsUnopened, Not_loaded, Not_new, Not_opened, keeping_of}
-use Rattle.node_keepers.proofs.KeeperLemmas.{keeps_nothing, none_of, some_of}
+use Rattle.node_keepers.proofs.KeeperLemmas.{err_one, keeps_nothing, none_of, some_of}
 use Rattle.node_keepers.proofs.keeping.open_one.Goals as goal
 
 pub returns-then-is_empty-clause-ok : goal.returns-then-is_empty-clause-ok
