@@ -114,6 +114,9 @@ pub some_of : {X : Type 0} (xs : List X) (b : Bool) → b ≡ eqb (length xs) 0 
 some_of [] b is not e = let yes : b ≡ true = is in absurd (cc (yes, not))
 some_of (x ∷ xs) b is not e = absurd (cc e)
 
+pub not_empty : {X : Type 0} (xs : List X) → length xs ≢ 0 → xs ≢ []
+not_empty xs some is = some (ap length is)
+
 pub none_of : {X : Type 0} (xs : List X) → length xs ≡ 0 → xs ≡ []
 none_of [] is = refl
 none_of (x ∷ xs) is = absurd (omega (arith, is))
@@ -150,7 +153,7 @@ as_many_nodes k (x ∷ xs) [] are = absurd are
 as_many_nodes k (x ∷ xs) (n ∷ ns) are = omega (arith, as_many_nodes k xs ns are.1)
 
 -- the next of a setup's nodes has none
-pub one_unopened : {K : Type 0} (keeping : Keeping K) (may_refuse : ℕ → StoreFault → Type 0) (setup : List Node) (kept : List (KeptNode K)) (i : ℕ) (fault : StoreFault) →
-    i < length setup → AreOpened keeping (take i setup) kept → IsUnopened keeping may_refuse (length kept + 1) fault → AreUnopened keeping may_refuse setup fault
-one_unopened keeping may_refuse setup kept i fault within are unopened =
-    inl (length kept + 1, omega arith, omega (arith, within, as_many_nodes keeping (take i setup) kept are, length-take i setup), unopened)
+pub one_unopened : {K : Type 0} (keeping : Keeping K) (may_refuse : ℕ → StoreFault → Type 0) (setup : List Node) (kept : List (KeptNode K)) (i place : ℕ) (fault : StoreFault) →
+    i < length setup → AreOpened keeping (take i setup) kept → place ≡ length kept + 1 → IsUnopened keeping may_refuse place fault → AreUnopened keeping may_refuse setup fault
+one_unopened keeping may_refuse setup kept i place fault within are next unopened =
+    inl (place, omega (arith, next), omega (arith, next, within, as_many_nodes keeping (take i setup) kept are, length-take i setup), unopened)

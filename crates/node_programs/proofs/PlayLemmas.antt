@@ -1,5 +1,7 @@
 -- What a line of `play` gives, from what its parts give.
-use Rattle.std.proofs.Common.{◌≡◌, ◌≢◌, ◌∙◌, ℕ, List, [], Option, Some, None, Ok, refl, sym, ap, subst}
+use Rattle.std.proofs.Common.{◌≡◌, ◌≢◌, ◌∙◌, ℕ, List, [], Option, Some, None, Result, Ok, IfErr, refl, sym, ap, subst}
+use Rattle.std.proofs.lemmas.Result.{err_from_is_err_and}
+use Rattle.std.specs.Result.{IsErrAnd}
 use Rattle.json_text.specs.declared.fault.JsonFault.{JsonFault}
 use Rattle.ocpi_json.specs.EventForms.{event_in}
 use Rattle.ocpi_json.specs.SetupForms.{setup_in}
@@ -29,3 +31,7 @@ pub told_changes : (o : Outcome) (packets : List Packet) (changes : List Change)
 told_changes Stepped packets changes idle = refl
 told_changes Skipped packets changes idle = idle (λ e. absurd cc)
 told_changes (Refused fault) packets changes idle = idle (λ e. absurd cc)
+
+-- what a `?` returns is the fault that it passes on
+pub err_one : {T E : Type 0} (P : E → Type 0) (r : Result T E) (f : E) → IsErrAnd r (λ e. e ≡ f) → P f → IfErr r P
+err_one P r f is h = let p = err_from_is_err_and r is in rw (p.1, p.2) h

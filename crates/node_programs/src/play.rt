@@ -415,7 +415,8 @@ fn ended(ran: Result<Ran, RunFault>, stop: Option<StoreFault>) -> Result<Ran, Pl
 ///
 /// Each node has a keeper of its rows, opened once the setup was read, in its order, and the rows that an event changes are
 /// committed to it before the packets of the event are written. Where one of these is refused the run ends, of that line nothing
-/// is written, and `Store` tells the fault of the refusal, unless the last flush fails too.
+/// is written, and `Store` tells the fault of the refusal, unless the last flush fails too. A keeper counts the calls that it
+/// refuses, but not want of memory, so that no clause ties `StoreFault::Memory` to a refusal.
 ///
 /// Where the run was not stopped, what is written is the output of the input. Where it was stopped, what is written is a
 /// beginning of that: by a failed read or too many reads, what exactly the lines that were read whole give; by a store, what the

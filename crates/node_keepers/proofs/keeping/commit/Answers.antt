@@ -1,4 +1,4 @@
-use Rattle.std.proofs.Common.{refl}
+use Rattle.std.proofs.Common.{arith, refl}
 use Rattle.node_keepers.specs.Keeping.{No_keeper, keeping_of}
 use Rattle.node_keepers.proofs.KeeperLemmas.{committed, found_in, never_none, none_in, not_committed, of_each, some_of}
 use Rattle.node_keepers.proofs.keeping.commit.Goals as goal
@@ -31,4 +31,6 @@ returns-in-None-clause-some g c = some_of c.args.changes.now _ c.is_empty.ensure
 
 pub returns-in-None-clause-err : goal.returns-in-None-clause-err
 returns-in-None-clause-err g c =
-    absurd (never_none c.get_mut.result c.args.kept.now.items c.args.party.now c.in-Some.i (found_in _ _ _ _ c.as_slice.ensures.value c.in-Some.ensures.found) c.get_mut.ensures.variant.1 c.in-None.is)
+    let long = c.args.kept.now.ok.0 in
+    absurd (never_none c.get_mut.result c.args.kept.now.items c.args.party.now c.in-Some.i (found_in _ _ _ _ c.as_slice.ensures.value c.in-Some.ensures.found)
+    (λ within. c.get_mut.ensures.variant.1 (omega (arith, within, long))) c.in-None.is)

@@ -1,4 +1,4 @@
-use Rattle.std.proofs.Common.{arith, inr, refl}
+use Rattle.std.proofs.Common.{◌+◌, arith, inr, refl}
 use Rattle.node_keepers.proofs.KeeperLemmas.{err_one, one_opened, one_unopened}
 use Rattle.node_keepers.specs.Keeping.{AreUnopened, keeping_of}
 use Rattle.node_keepers.proofs.keeping.open_all.Goals as goal
@@ -13,8 +13,9 @@ pub returns-in_err-keep-clause-err : goal.returns-in_err-keep-clause-err
 returns-in_err-keep-clause-err g c =
     let keeping = keeping_of g.S.Kept.Keep.content g.S.Kept.Keep.is_honest g.S.Kept.Keep.refusals in
     let may_refuse = g.S.Keeps.may_refuse in
+    let long = c.loop-node.kept.ok.0 in
     err_one (AreUnopened keeping may_refuse c.args.setup.now) c.from_residual.result _ c.from_residual.ensures.1
-    (one_unopened keeping may_refuse c.args.setup.now c.loop-node.kept.items c.loop-node.node-index _ (omega arith) c.loop-node.invariant c.in_err-keep.ensures.err)
+    (one_unopened keeping may_refuse c.args.setup.now c.loop-node.kept.items c.loop-node.node-index (c.len.result + 1) _ (omega arith) c.loop-node.invariant (omega (arith, c.len.ensures, long)) c.in_err-keep.ensures.err)
 
 pub returns-in_err-push-clause-err : goal.returns-in_err-push-clause-err
 returns-in_err-push-clause-err g c =
