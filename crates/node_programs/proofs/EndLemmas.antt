@@ -57,21 +57,22 @@ module _ {K : Type 0} (keeping : Keeping K) (may_refuse : ℕ → StoreFault →
   ended_writes (Some t) (Some before) new last ran fault is wrote =
       (wrote.0, subst (λ r. IsRun (PlayLineGives keeping may_refuse) PlayEndGives opening (lines_of t) r wrote.0 last) (was_ended wrote.1 fault is) wrote.1, wrote.2)
 
-  -- of a run from a stage that is the opening
-  module _ (text old new : Option (List ℕ)) (first last : Stage K) (begun : first ≡ opening) where
-    pub went : (result : Result Ran PlayFault) (ran : Result Ran RunFault) → IfOk result (λ r. (ran ≡ Ok r) × (last.stop ≡ None)) → IfOk ran (Writes first text old new last)
+  -- of a run from a stage that is the opening, and of the stop that it left
+  module _ (text old new : Option (List ℕ)) (first last : Stage K) (begun : first ≡ opening) (stop : Option StoreFault) (left : stop ≡ last.stop) where
+    pub went : (result : Result Ran PlayFault) (ran : Result Ran RunFault) → IfOk result (λ r. (ran ≡ Ok r) × (stop ≡ None)) → IfOk ran (Writes first text old new last)
         → IfOk result (λ r. PlayOutputs keeping may_refuse text r None old new)
     went (Ok r) ran is wrote =
         let writes = subst (λ (x : Result Ran RunFault). IfOk x (Writes first text old new last)) is.0 wrote in
-        record { last = last; outputs = subst (λ (s : Stage K). Writes s text old new last r) begun writes; stopped_by = is.1 }
+        record { last = last; outputs = subst (λ (s : Stage K). Writes s text old new last r) begun writes; stopped_by = sym left ∙ is.1 }
     went (Err e) ran is wrote = tt
 
     pub kept_off : (result : Result Ran PlayFault) (ran : Result Ran RunFault)
-        → IfErr result (IfStore (λ fault. IsOk ran × (last.stop ≡ Some fault))) → IfOk ran (Writes first text old new last)
+        → IfErr result (IfStore (λ fault. IsOk ran × (stop ≡ Some fault))) → IfOk ran (Writes first text old new last)
         → IfErr result (IfStore (λ fault. PlayOutputs keeping may_refuse text WithRefusals (Some fault) old new))
     kept_off (Ok r) ran is wrote = tt
     kept_off (Err (Run e)) ran is wrote = tt
     kept_off (Err (Store fault)) (Err e) is wrote = let ok : false ≡ true = is.0 in absurd cc
     kept_off (Err (Store fault)) (Ok r) is wrote =
         let writes = subst (λ (s : Stage K). Writes s text old new last r) begun wrote in
-        record { last = last; outputs = ended_writes text old new last r fault is.1 writes; stopped_by = is.1 }
+        let stopped_by = sym left ∙ is.1 in
+        record { last = last; outputs = ended_writes text old new last r fault stopped_by writes; stopped_by = stopped_by }

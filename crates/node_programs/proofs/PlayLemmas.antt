@@ -15,7 +15,7 @@ use Rattle.world.specs.Seen.{told}
 use Rattle.world.specs.declared.planned.Outcome.{Outcome}
 use Rattle.world.specs.declared.planned.Outcome.TheVariants.{Stepped, Skipped, Refused}
 use Rattle.world_steps.specs.World.{World, opened}
-use Rattle.node_keepers.specs.Keeping.{AreOpened, Keeping}
+use Rattle.node_keepers.specs.Keeping.{AreOpened, AreUnopened, Keeping}
 use Rattle.node_programs.specs.Play.{Opened, Playing, SetupTurn, Stage, changes_told, played_from}
 
 -- a world was opened, and its keepers
@@ -35,3 +35,8 @@ told_changes (Refused fault) packets changes idle = idle (λ e. absurd cc)
 -- what a `?` returns is the fault that it passes on
 pub err_one : {T E : Type 0} (P : E → Type 0) (r : Result T E) (f : E) → IsErrAnd r (λ e. e ≡ f) → P f → IfErr r P
 err_one P r f is h = let p = err_from_is_err_and r is in rw (p.1, p.2) h
+
+-- the nodes of a setup that is this one got no keepers
+pub unopened_in : {K : Type 0} (keeping : Keeping K) (may_refuse : ℕ → StoreFault → Type 0) (setup shown : List Node) (fault : StoreFault) →
+    shown ≡ setup → AreUnopened keeping may_refuse shown fault → AreUnopened keeping may_refuse setup fault
+unopened_in keeping may_refuse setup shown fault is = subst (λ (nodes : List Node). AreUnopened keeping may_refuse nodes fault) is
