@@ -111,3 +111,13 @@ wait_for_turn() {
     say "another process builds the program: waiting for it"
     flock 9
 }
+
+# How many checks run side by side, each with one job: as many as there are processors, and as memory holds at 5 GB each. (`rt` by
+# itself gives a check the processors that nothing waits for, but a second job saves a tenth of the time and costs a third.)
+count_lanes() {
+    local processors memory
+    processors=$(nproc)
+    memory=$(awk '/^MemAvailable:/ { print int($2 / 5000000) }' /proc/meminfo)
+    ((memory > 0)) || memory=1
+    printf '%s\n' "$((memory < processors ? memory : processors))"
+}

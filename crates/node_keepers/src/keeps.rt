@@ -81,11 +81,17 @@ fn stands(rt: &HostRuntime, path: &str) -> Result<bool, StoreFault> {
     }
 }
 
+/// The rows of a keeper that was opened, which ends here. It stands for any keeper, since a body that holds one in a file is dear to
+/// prove.
+fn rows_of<K: Keep + Drop>(opened: Result<K, StoreFault>) -> Result<Vec<Row>, StoreFault> {
+    let mut keep = opened?;
+    keep.load()
+}
+
 /// The rows of a file that exists.
 pub fn rows_in(rt: &HostRuntime, path: &str) -> Result<Vec<Row>, StoreFault> {
     if !stands(rt, path)? {
         return Err(StoreFault::Refused(Cause::Other));
     }
-    let mut keep = TableKeep::open_file(rt, path)?;
-    keep.load()
+    rows_of(TableKeep::open_file(rt, path))
 }
