@@ -146,37 +146,39 @@ module _ {S : Type 0} (line_gives : S → List ℕ → Turn → List ℕ → S �
       )
 
   -- what was written so far, and then more, where a line ends the run or the input ends
-  abbrev pub Closes : Ran → S → Ran → List ℕ → List (List ℕ) → Type 0
-  Closes ran now all out later = (before : List (List ℕ)) (sofar : List ℕ) → AreAnswered line_gives first before ran sofar now → IsRun line_gives end_gives first (before ++ later) all (sofar ++ out)
+  abbrev pub Closes : Ran → S → Ran → S → List ℕ → List (List ℕ) → Type 0
+  Closes ran now all next out later = (before : List (List ℕ)) (sofar : List ℕ) → AreAnswered line_gives first before ran sofar now
+      → IsRun line_gives end_gives first (before ++ later) all (sofar ++ out) next
 
-  closes_written : (text : List ℕ) (before : Option (List ℕ)) (done later : List (List ℕ)) (ran all : Ran) (now : S) (written more : Option (List ℕ)) (out : List ℕ) → WrittenOf before done ran now written
-      → Appends written more out → lines_of text ≡ held done ++ later → Closes ran now all out later → Outputs line_gives end_gives first (Some text) all before more
-  closes_written text None done later ran all now written more out h w e f = tt
-  closes_written text (Some b) done later ran all now None more out h w e f = absurd h
-  closes_written text (Some b) done later ran all now (Some v) None out h w e f = absurd w
-  closes_written text (Some b) done later ran all now (Some v) (Some u) out h w e f = (
+  closes_written : (text : List ℕ) (before : Option (List ℕ)) (done later : List (List ℕ)) (ran all : Ran) (now next : S) (written more : Option (List ℕ)) (out : List ℕ)
+      → WrittenOf before done ran now written → Appends written more out → lines_of text ≡ held done ++ later → Closes ran now all next out later
+      → Outputs line_gives end_gives first (Some text) all before more next
+  closes_written text None done later ran all now next written more out h w e f = tt
+  closes_written text (Some b) done later ran all now next None more out h w e f = absurd h
+  closes_written text (Some b) done later ran all now next (Some v) None out h w e f = absurd w
+  closes_written text (Some b) done later ran all now next (Some v) (Some u) out h w e f = (
     h.out ++ out,
-    subst (λ ls. IsRun line_gives end_gives first ls all (h.out ++ out)) (sym e) (f (held done) h.out h.answered),
+    subst (λ ls. IsRun line_gives end_gives first ls all (h.out ++ out) next) (sym e) (f (held done) h.out h.answered),
     ap Some (w ∙ ap (λ l. l ++ out) h.is ∙ append_assoc b h.out out),
   )
 
   -- what is written at the end of the input
   pub ends : (text before : Option (List ℕ)) (reads : ℕ) (ran last all : Ran) (now : S) (left written same more : Option (List ℕ)) (out : List ℕ)
       → Progress text before reads ran now left written → IfSome left (λ l. l ≡ []) → Keeps written same → Appends same more out → end_gives now last out → all ≡ both_ran ran last
-      → Outputs line_gives end_gives first text all before more
+      → Outputs line_gives end_gives first text all before more now
   ends None before reads ran last all now left written same more out h none k w gives is = tt
   ends (Some text) before reads ran last all now None written same more out h none k w gives is = absurd h
   ends (Some text) before reads ran last all now (Some left) written same more out h none k w gives is =
-      closes_written text before h.0 [] ran all now same more out (still_written before h.0 ran now written same h.2 k) w
+      closes_written text before h.0 [] ran all now now same more out (still_written before h.0 ran now written same h.2 k) w
       (held_all text left reads h.0 h.1 ∙ ap (λ l. held h.0 ++ lines_of l) none)
-      (λ lines sofar a. subst (λ ls. IsRun line_gives end_gives first ls all (sofar ++ out)) (sym (append-nil lines))
-      (subst (λ r. IsRun line_gives end_gives first lines r (sofar ++ out)) (sym is) (at_end a gives)))
+      (λ lines sofar a. subst (λ ls. IsRun line_gives end_gives first ls all (sofar ++ out) now) (sym (append-nil lines))
+      (subst (λ r. IsRun line_gives end_gives first lines r (sofar ++ out) now) (sym is) (at_end a gives)))
 
   -- the same of what was answered at the end, or of a refusal
   pub ends_of : (result : Result Ran RunFault) (text before : Option (List ℕ)) (reads : ℕ) (ran : Ran) (now : S) (left written same more : Option (List ℕ))
       → Progress text before reads ran now left written → IfSome left (λ l. l ≡ []) → Keeps written same
       → IfOk result (λ all. (last : Ran) × (out : List ℕ) × (all ≡ both_ran ran last) × Appends same more out × end_gives now last out)
-      → IfOk result (λ all. Outputs line_gives end_gives first text all before more)
+      → IfOk result (λ all. Outputs line_gives end_gives first text all before more now)
   ends_of (Ok all) text before reads ran now left written same more h none k w = ends text before reads ran w.0 all now left written same more w.1 h none k w.3 w.4 w.2
   ends_of (Err fault) text before reads ran now left written same more h none k w = tt
 
@@ -314,17 +316,17 @@ module _ {S : Type 0} (line_gives : S → List ℕ → Turn → List ℕ → S �
   whole_line s t line before later turn ran out more a gives =
       subst (λ l. IsBegun line_gives end_gives first (before ++ line ∷ later) (out ++ l)) (take_all (length more) more (omega arith)) (in_line a gives later (length more))
 
-  run_begun : {all : List (List ℕ)} {ran : Ran} {out : List ℕ} → IsRun line_gives end_gives first all ran out → IsBegun line_gives end_gives first all out
+  run_begun : {all : List (List ℕ)} {ran : Ran} {out : List ℕ} {next : S} → IsRun line_gives end_gives first all ran out next → IsBegun line_gives end_gives first all out
   run_begun (at_end a gives) = whole_end _ _ _ _ _ _ a gives
   run_begun (stopped a gives later) = whole_line _ _ _ _ later Ended _ _ _ a gives
 
   -- what a run wrote is a beginning, also after a flush that failed
-  pub begun_either : (result : Result Ran RunFault) (text before written more : Option (List ℕ)) → IfOk result (λ ran. Outputs line_gives end_gives first text ran before written)
+  pub begun_either : (result : Result Ran RunFault) (text before written more : Option (List ℕ)) (next : S) → IfOk result (λ ran. Outputs line_gives end_gives first text ran before written next)
       → IfErr result (λ fault. Begins line_gives end_gives first text before written) → Keeps written more → Begins line_gives end_gives first text before more
-  begun_either result None before written more h b k = tt
-  begun_either result (Some text) None written more h b k = tt
-  begun_either (Ok ran) (Some text) (Some start) written more h b k = (h.0, run_begun h.1, kept written more (start ++ h.0) h.2 k)
-  begun_either (Err fault) (Some text) (Some start) written more h b k = (b.0, b.1, kept written more (start ++ b.0) b.2 k)
+  begun_either result None before written more next h b k = tt
+  begun_either result (Some text) None written more next h b k = tt
+  begun_either (Ok ran) (Some text) (Some start) written more next h b k = (h.0, run_begun h.1, kept written more (start ++ h.0) h.2 k)
+  begun_either (Err fault) (Some text) (Some start) written more next h b k = (b.0, b.1, kept written more (start ++ b.0) b.2 k)
 
   module _ (most : ℕ) (cut_alike : (s t : S) (line : List ℕ) (turn : Turn) (out : List ℕ) → line_gives s (take most line) turn out t → line_gives s line turn out t) where
     -- the whole of a line is answered as its front
@@ -350,13 +352,13 @@ module _ {S : Type 0} (line_gives : S → List ℕ → Turn → List ℕ → S �
     -- a line was refused, and the run ends
     pub stops : (text before : Option (List ℕ)) (reads : ℕ) (ran : Ran) (now next : S) (left rest written same more : Option (List ℕ)) (line out : List ℕ)
         → Progress text before reads ran now left written → ReadsLineOf most left true line rest → Keeps written same → 0 < length line → Appends same more out
-        → line_gives now line Ended out next → Outputs line_gives end_gives first text WithRefusals before more
+        → line_gives now line Ended out next → Outputs line_gives end_gives first text WithRefusals before more next
     stops None before reads ran now next left rest written same more line out h r k some w gives = tt
     stops (Some text) before reads ran now next None rest written same more line out h r k some w gives = absurd h
     stops (Some text) before reads ran now next (Some left) None written same more line out h r k some w gives = absurd r
     stops (Some text) before reads ran now next (Some left) (Some rest) written same more line out h r k some w gives =
         let whole = first_line left in
-        closes_written text before h.0 (whole ∷ lines_of rest) ran WithRefusals now same more out (still_written before h.0 ran now written same h.2 k) w
+        closes_written text before h.0 (whole ∷ lines_of rest) ran WithRefusals now next same more out (still_written before h.0 ran now written same h.2 k) w
         (held_all text left reads h.0 h.1 ∙ ap (λ ls. held h.0 ++ ls) (next_held left rest r.0 r.2 (front_holds most whole line r.1 some)))
         (λ lines sofar a. stopped a (whole_gives now next Ended whole line out r.1 gives) (lines_of rest))
 

@@ -25,12 +25,14 @@ pub data AreAnswered {S : Type 0} (line_gives : S → List ℕ → Turn → List
   refused : {s t : S} {line : List ℕ} {before : List (List ℕ)} {ran : Ran} {out more : List ℕ} → AreAnswered line_gives first before ran out s
       → line_gives s line Refused more t → AreAnswered line_gives first (before ++ line ∷ []) WithRefusals (out ++ more) t
 
--- The lines of an input may give these bytes: all are answered, and then its end; or those up to a line that ends the run.
-pub data IsRun {S : Type 0} (line_gives : S → List ℕ → Turn → List ℕ → S → Type 0) (end_gives : S → Ran → List ℕ → Type 0) (first : S) : List (List ℕ) → Ran → List ℕ → Type 0 where
+-- The lines of an input may give these bytes and leave this state: all are answered, and then its end, which changes no state; or those
+-- up to a line that ends the run.
+pub data IsRun {S : Type 0} (line_gives : S → List ℕ → Turn → List ℕ → S → Type 0) (end_gives : S → Ran → List ℕ → Type 0) (first : S)
+    : List (List ℕ) → Ran → List ℕ → S → Type 0 where
   at_end : {s : S} {all : List (List ℕ)} {ran last : Ran} {out more : List ℕ} → AreAnswered line_gives first all ran out s
-      → end_gives s last more → IsRun line_gives end_gives first all (both_ran ran last) (out ++ more)
+      → end_gives s last more → IsRun line_gives end_gives first all (both_ran ran last) (out ++ more) s
   stopped : {s t : S} {line : List ℕ} {before : List (List ℕ)} {ran : Ran} {out more : List ℕ} → AreAnswered line_gives first before ran out s
-      → line_gives s line Ended more t → (later : List (List ℕ)) → IsRun line_gives end_gives first (before ++ line ∷ later) WithRefusals (out ++ more)
+      → line_gives s line Ended more t → (later : List (List ℕ)) → IsRun line_gives end_gives first (before ++ line ∷ later) WithRefusals (out ++ more) t
 
 -- These bytes may be a beginning of what the lines give: what the first of them give, and then the first bytes of what the next gives,
 -- or of what the end gives.
@@ -50,10 +52,11 @@ pub record StopsAfter (fault : RunFault) (text whole part left : List ℕ) : Typ
   pub within : All (λ b. b ≢ 10) part
   pub limit : fault ≡ TooManyReads → (length (lines whole) ≡ most_reads) × (part ≡ []) × (left ≢ [])
 
--- Where a reader tells its bytes, and a writer what it holds: what was written is an output of the input.
-abbrev pub Outputs : {S : Type 0} → (S → List ℕ → Turn → List ℕ → S → Type 0) → (S → Ran → List ℕ → Type 0) → S → Option (List ℕ) → Ran → Option (List ℕ) → Option (List ℕ) → Type 0
-Outputs line_gives end_gives first text ran old new = IfSome text (λ t. IfSome old (λ before.
-    (out : List ℕ) × IsRun line_gives end_gives first (lines_of t) ran out × (new ≡ Some (before ++ out))))
+-- Where a reader tells its bytes, and a writer what it holds: what was written is an output of the input, which leaves the state `last`.
+abbrev pub Outputs : {S : Type 0} → (S → List ℕ → Turn → List ℕ → S → Type 0) → (S → Ran → List ℕ → Type 0)
+    → S → Option (List ℕ) → Ran → Option (List ℕ) → Option (List ℕ) → S → Type 0
+Outputs line_gives end_gives first text ran old new last = IfSome text (λ t. IfSome old (λ before.
+    (out : List ℕ) × IsRun line_gives end_gives first (lines_of t) ran out last × (new ≡ Some (before ++ out))))
 
 -- the same: what was written is a beginning of an output
 abbrev pub Begins : {S : Type 0} → (S → List ℕ → Turn → List ℕ → S → Type 0) → (S → Ran → List ℕ → Type 0) → S → Option (List ℕ) → Option (List ℕ) → Option (List ℕ) → Type 0

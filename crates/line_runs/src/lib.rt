@@ -3,7 +3,7 @@
 //! ```
 //! impl AnswerLines for Program {
 //!     fn answer_line(&mut self, line: &[u8], output: &mut String) -> Result<Turn, AllocError> { .. }
-//!     fn answer_end(&mut self, output: &mut String) -> Result<Ran, AllocError> { .. }
+//!     fn answer_end(&self, output: &mut String) -> Result<Ran, AllocError> { .. }
 //! }
 //!
 //! let mut input = LineReader::new(reader);

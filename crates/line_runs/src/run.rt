@@ -40,9 +40,9 @@ pub trait AnswerLines {
             × line_gives self.old line.now turn out self.new) };
 
     /// Adds to `output` what is written at the end of the input.
-    fn answer_end(&mut self, output: &mut String) -> Result<Ran, AllocError>
+    fn answer_end(&self, output: &mut String) -> Result<Ran, AllocError>
         ensures { IfOk result (λ ran. (out : List ℕ) × (string_bytes output.new ≡ string_bytes output.old ++ out)
-            × end_gives self.old ran out) };
+            × end_gives self.now ran out) };
 
     /// A line is answered as its first bytes are.
     ghost cut_alike: { (s t : Self) (line : List ℕ) (turn : TurnOf) (out : List ℕ) → line_gives s (take KEPT_BYTES line) turn out t → line_gives s line turn out t };
@@ -50,16 +50,17 @@ pub trait AnswerLines {
 
 /// Answers each line of the input that holds something, writes what it gives, and flushes the writer at the end.
 ///
-/// Where the run was not stopped, what is written is what the lines of the input give. Where it was stopped, what is written is a
-/// beginning of that: by a failed read or too many reads, what exactly the lines that were read whole give. At most 1,000,000,000 lines
-/// are read. What was answered is flushed before each read that may wait.
+/// Where the run was not stopped, what is written is what the lines of the input give, and the machine is in the state that they left.
+/// Where it was stopped, what is written is a beginning of that: by a failed read or too many reads, what exactly the lines that were
+/// read whole give. At most 1,000,000,000 lines are read. What was answered is flushed before each read that may wait.
 pub fn run_whole<M: AnswerLines, R: BufRead, W: Write>(
     alloc: Global,
     machine: &mut M,
     input: &mut LineReader<R>,
     writer: &mut W,
 ) -> Result<Ran, RunFault>
-    ensures output { IfOk result (λ ran. Outputs M.line_gives M.end_gives machine.old (R.Read.remaining input.old.reader) ran (W.contents writer.old) (W.contents writer.new)) }
+    ensures output { IfOk result (λ ran. Outputs M.line_gives M.end_gives machine.old (R.Read.remaining input.old.reader) ran
+        (W.contents writer.old) (W.contents writer.new) machine.new) }
     ensures begun { IfErr result (λ fault. Begins M.line_gives M.end_gives machine.old (R.Read.remaining input.old.reader) (W.contents writer.old) (W.contents writer.new)) }
     ensures stopped { IfErr result (λ fault. fault ≢ RunFault.WriteFailed → StopsReading M.line_gives machine.old fault (R.Read.remaining input.old.reader) (R.Read.remaining input.new.reader)
         (W.contents writer.old) (W.contents writer.new)) }
@@ -83,7 +84,8 @@ fn run_lines<M: AnswerLines, R: BufRead, W: Write>(
     output: &mut String,
     writer: &mut W,
 ) -> Result<Ran, RunFault>
-    ensures output { IfOk result (λ ran. Outputs M.line_gives M.end_gives machine.old (R.Read.remaining input.old.reader) ran (W.contents writer.old) (W.contents writer.new)) }
+    ensures output { IfOk result (λ ran. Outputs M.line_gives M.end_gives machine.old (R.Read.remaining input.old.reader) ran
+        (W.contents writer.old) (W.contents writer.new) machine.new) }
     ensures begun { IfErr result (λ fault. Begins M.line_gives M.end_gives machine.old (R.Read.remaining input.old.reader) (W.contents writer.old) (W.contents writer.new)) }
     ensures stopped { IfErr result (λ fault. fault ≢ RunFault.WriteFailed → StopsReading M.line_gives machine.old fault (R.Read.remaining input.old.reader) (R.Read.remaining input.new.reader)
         (W.contents writer.old) (W.contents writer.new)) }
@@ -141,15 +143,15 @@ fn write_answer<M: AnswerLines, W: Write>(
 
 /// Writes what the end of the input gives, and answers how the whole run went.
 fn write_end<M: AnswerLines, W: Write>(
-    machine: &mut M,
+    machine: &M,
     ran: Ran,
     output: &mut String,
     writer: &mut W,
 ) -> Result<Ran, RunFault>
     ensures ok { IfOk result (λ all. (last : RanOf) × (out : List ℕ) × (all ≡ both_ran ran last) × Appends (W.contents writer.old) (W.contents writer.new) out
-        × M.end_gives machine.old last out) }
+        × M.end_gives machine.now last out) }
     ensures err { IfErr result (λ fault. (fault ≡ RunFault.WriteFailed)
-        × gives_beginning (λ out. (last : RanOf) × M.end_gives machine.old last out) (W.contents writer.old) (W.contents writer.new)) }
+        × gives_beginning (λ out. (last : RanOf) × M.end_gives machine.now last out) (W.contents writer.old) (W.contents writer.new)) }
 {
     output.clear();
     match machine.answer_end(output) {

@@ -1,7 +1,7 @@
 //! The keepers of a world's nodes: they are opened, and then given what each event changes.
 
-ghost use Rattle.std.specs.Prelude.{◌≡◌, ℕ, [], IfErr, IfNone, IfOk, IfSome, OnErr, OnOk};
-ghost use Rattle.node_keepers.specs.Keeping.{AreOpened, IsEmpty, IsOpened, IsKeeperOf, KeeperTakes};
+ghost use Rattle.std.specs.Prelude.{◌≡◌, ◌≢◌, ℕ, [], IfErr, IfNone, IfOk, IfSome, OnOk};
+ghost use Rattle.node_keepers.specs.Keeping.{AreOpened, AreUnopened, IsEmpty, IsKeeperOf, IsUnopened, KeeperRefuses, KeeperTakes, keeping_of};
 ghost use Rattle.node_keepers.specs.declared.keeping.KeptNode.{KeptNode as KeptNodeOf};
 ghost use Rattle.ocpi_types.specs.Setups.{party_of};
 
@@ -20,7 +20,8 @@ pub struct KeptNode<K> {
 
 /// Opens the keeper of the node at a place of the setup. One that keeps a row already is refused.
 fn open_one<S: Keeps>(keeps: &mut S, place: usize) -> Result<S::Kept, StoreFault>
-    ensures { IfOk result (IsEmpty S.Kept.content S.Kept.is_honest) }
+    ensures ok { IfOk result (IsEmpty (keeping_of S.Kept.content S.Kept.is_honest S.Kept.refusals)) }
+    ensures err { IfErr result (IsUnopened (keeping_of S.Kept.content S.Kept.is_honest S.Kept.refusals) S.may_refuse place) }
 {
     let mut keep = keeps.open(place)?;
     let rows = keep.load()?;
@@ -37,7 +38,8 @@ pub fn open_all<S: Keeps>(
     keeps: &mut S,
     setup: &[Node],
 ) -> Result<Vec<KeptNode<S::Kept>>, StoreFault>
-    ensures { IfOk result (λ v. AreOpened S.Kept.content S.Kept.is_honest setup.now v.items) }
+    ensures ok { IfOk result (λ v. AreOpened (keeping_of S.Kept.content S.Kept.is_honest S.Kept.refusals) setup.now v.items) }
+    ensures err { IfErr result (AreUnopened (keeping_of S.Kept.content S.Kept.is_honest S.Kept.refusals) S.may_refuse setup.now) }
 {
     let mut kept = Vec::new(alloc);
     for node in setup {
@@ -63,15 +65,16 @@ fn find<K>(kept: &[KeptNode<K>], party: &Party) -> Option<usize>
     None
 }
 
-/// Gives the changes of an event to the keeper of that party's node. A refusal changes nothing; one comes too where there are
-/// changes and no keeper for them.
+/// Gives the changes of an event to the keeper of that party's node, where there are any. A refusal is that of the keeper, and
+/// changes nothing; one comes too where there are changes and no keeper for them.
 pub fn commit<K: Keep>(
     kept: &mut Vec<KeptNode<K>>,
     party: &Party,
     changes: &[Change],
 ) -> Result<(), StoreFault>
-    ensures ok { OnOk result (KeeperTakes K.content K.is_honest party.now changes.now kept.old.items kept.new.items) }
-    ensures err { OnErr result (KeeperTakes K.content K.is_honest party.now [] kept.old.items kept.new.items) }
+    ensures ok { OnOk result (KeeperTakes (keeping_of K.content K.is_honest K.refusals) party.now changes.now kept.old.items kept.new.items) }
+    ensures some { IfErr result (λ fault. changes.now ≢ []) }
+    ensures err { IfErr result (λ fault. KeeperRefuses (keeping_of K.content K.is_honest K.refusals) party.now fault kept.old.items kept.new.items) }
 {
     if changes.is_empty() {
         return Ok(());

@@ -1,5 +1,8 @@
 //! Where the keepers of a world's nodes come from.
 
+ghost use Rattle.std.specs.Prelude.{ℕ, IfErr, ⊤};
+ghost use Rattle.node_store.specs.declared.fault.StoreFault.{StoreFault as StoreFaultOf};
+
 use node_store::{Cause, Keep, ListKeep, StoreFault, TableKeep};
 use ocpi_types::Row;
 use sqlite::{File, FileStore};
@@ -11,8 +14,12 @@ pub trait Keeps {
     /// The keeper of a node's rows.
     type Kept: Keep + Drop;
 
+    /// `may_refuse place fault`: no keeper of the node at that place may be had for this fault.
+    ghost may_refuse: { ℕ → StoreFaultOf → Type 0 };
+
     /// Opens the keeper of the node at that place of the setup, the first of which is 1.
-    fn open(&mut self, place: usize) -> Result<Self::Kept, StoreFault>;
+    fn open(&mut self, place: usize) -> Result<Self::Kept, StoreFault>
+        ensures { IfErr result (λ fault. may_refuse place fault) };
 }
 
 /// Keepers in memory, which end with the run.
@@ -29,6 +36,8 @@ impl ListKeeps {
 
 impl Keeps for ListKeeps {
     type Kept = ListKeep;
+
+    ghost may_refuse = { λ place fault. ⊥ };
 
     fn open(&mut self, _place: usize) -> Result<ListKeep, StoreFault> {
         Ok(ListKeep::new(self.alloc))
@@ -50,6 +59,8 @@ impl<'a> FileKeeps<'a> {
 
 impl Keeps for FileKeeps<'_> {
     type Kept = TableKeep<FileStore<File>>;
+
+    ghost may_refuse = { λ place fault. ⊤ };
 
     /// The folder must exist, and the file must not.
     fn open(&mut self, place: usize) -> Result<TableKeep<FileStore<File>>, StoreFault> {

@@ -1,5 +1,5 @@
 -- What the program `play` writes for what it reads: a setup line, then events at its nodes, and at the end what is owed.
-use Rattle.std.specs.Prelude.{◌≡◌, ℕ, ℤ, List, [], ◌∷◌, ◌++◌, Option, None, Some, Ok, codes, flat_map}
+use Rattle.std.specs.Prelude.{◌≡◌, ◌≢◌, ℕ, ℤ, List, [], ◌∷◌, ◌++◌, Option, None, Some, Ok, codes, flat_map}
 use Rattle.ocpi_text.specs.Decimal.{sum_text}
 use Rattle.ocpi_text.specs.Text.{key}
 use Rattle.ocpi_types.specs.declared.events.Event.{Event}
@@ -17,13 +17,13 @@ use Rattle.world_steps.specs.Steps.{Gives, Outcome}
 use Rattle.world_steps.specs.Steps as outcome
 use Rattle.world_steps.specs.World.{World, opened}
 use Rattle.world.specs.State.{owed_by}
+use Rattle.line_runs.specs.Run.{Outputs}
 use Rattle.line_runs.specs.declared.outcome.Ran.{Ran}
 use Rattle.line_runs.specs.declared.outcome.Ran.TheVariants.{Whole, WithRefusals}
 use Rattle.line_runs.specs.declared.run.Turn.{Turn}
 use Rattle.line_runs.specs.declared.run.Turn.TheVariants.{Taken, Refused, Ended}
-use Rattle.node_store.specs.Contents.{Content}
 use Rattle.node_store.specs.declared.fault.StoreFault.{StoreFault}
-use Rattle.node_keepers.specs.Keeping.{AreOpened, KeeperTakes}
+use Rattle.node_keepers.specs.Keeping.{AreOpened, AreUnopened, KeeperRefuses, KeeperTakes, Keeping}
 use Rattle.node_programs.specs.Writing.{packet_lines, refusal_line}
 use Rattle.node_keepers.specs.declared.keeping.KeptNode.{KeptNode}
 
@@ -64,44 +64,46 @@ changes_told (outcome.Stepped packets changes) = changes
 changes_told outcome.Skipped = []
 changes_told (outcome.Refused fault) = []
 
--- The first line opens the world and a keeper for each node. Where it is no setup, or a keeper is refused, that is all.
-pub data SetupTurn {K : Type 0} (content : K → Content) (is_honest : K → Type 0) (stop : Option StoreFault) (line : List ℕ) (turn : Turn) (out : List ℕ) (next : Stage K) : Type 0 where
-  Opened : (setup : List Node) → setup_in line ≡ Ok setup → (kept : List (KeptNode K)) → AreOpened content is_honest setup kept
+-- The first line opens the world and a keeper for each node. Where it is no setup, or a node gets no keeper, that is all; of the latter
+-- the fault is told.
+pub data SetupTurn {K : Type 0} (keeping : Keeping K) (may_refuse : ℕ → StoreFault → Type 0) (stop : Option StoreFault)
+    (line : List ℕ) (turn : Turn) (out : List ℕ) (next : Stage K) : Type 0 where
+  Opened : (setup : List Node) → setup_in line ≡ Ok setup → (kept : List (KeptNode K)) → AreOpened keeping setup kept
       → turn ≡ Taken → out ≡ [] → next ≡ record { playing = Some (played_from setup kept); stop = stop }
-      → SetupTurn content is_honest stop line turn out next
-  Unkept : (setup : List Node) → setup_in line ≡ Ok setup → (fault : StoreFault)
+      → SetupTurn keeping may_refuse stop line turn out next
+  Unkept : (setup : List Node) → setup_in line ≡ Ok setup → (fault : StoreFault) → AreUnopened keeping may_refuse setup fault
       → turn ≡ Ended → out ≡ [] → next ≡ record { playing = None; stop = Some fault }
-      → SetupTurn content is_honest stop line turn out next
+      → SetupTurn keeping may_refuse stop line turn out next
   NoSetup : (fault : JsonFault) → Fails fault (setup_in line)
       → turn ≡ Ended → out ≡ refusal_line (json_fault_text fault) → next ≡ record { playing = None; stop = stop }
-      → SetupTurn content is_honest stop line turn out next
+      → SetupTurn keeping may_refuse stop line turn out next
 
 -- Each other line is an event of the world, and the rows that it changes are kept. A line that is no event changes nothing, and neither
--- does an event that is refused, by the node or for want of memory. Where the keeper of the node refuses the changes, nothing is written,
--- the run ends, and no keeper has anything of them.
-pub data EventTurn {K : Type 0} (content : K → Content) (is_honest : K → Type 0) (stop : Option StoreFault) (now : Playing K) (line : List ℕ) (turn : Turn) (out : List ℕ) (next : Stage K) : Type 0 where
+-- does an event that is refused, by the node or for want of memory. Where there are changes, and the keeper of the node refuses them,
+-- nothing is written, the run ends, no keeper has anything of them, and the keeper's fault is told.
+pub data EventTurn {K : Type 0} (keeping : Keeping K) (stop : Option StoreFault) (now : Playing K) (line : List ℕ) (turn : Turn) (out : List ℕ) (next : Stage K) : Type 0 where
   Happened : (event : Event) → event_in line ≡ Ok event → (o : Outcome) → (v : World) → Gives now.world event o v
-      → (kept : List (KeptNode K)) → KeeperTakes content is_honest event.node (changes_told o) now.kept kept
+      → (kept : List (KeptNode K)) → KeeperTakes keeping event.node (changes_told o) now.kept kept
       → turn ≡ turn_of o → out ≡ outcome_lines o → next ≡ record { playing = Some (record { setup = now.setup; world = v; kept = kept }); stop = stop }
-      → EventTurn content is_honest stop now line turn out next
-  Lost : (event : Event) → event_in line ≡ Ok event → (o : Outcome) → (v : World) → Gives now.world event o v
-      → (kept : List (KeptNode K)) → KeeperTakes content is_honest event.node [] now.kept kept → (fault : StoreFault)
+      → EventTurn keeping stop now line turn out next
+  Lost : (event : Event) → event_in line ≡ Ok event → (o : Outcome) → (v : World) → Gives now.world event o v → changes_told o ≢ []
+      → (fault : StoreFault) → (kept : List (KeptNode K)) → KeeperRefuses keeping event.node fault now.kept kept
       → turn ≡ Ended → out ≡ [] → next ≡ record { playing = Some (record { setup = now.setup; world = v; kept = kept }); stop = Some fault }
-      → EventTurn content is_honest stop now line turn out next
+      → EventTurn keeping stop now line turn out next
   Starved : (event : Event) → event_in line ≡ Ok event
       → turn ≡ Refused → out ≡ refusal_line (node_fault_text Memory) → next ≡ record { playing = Some now; stop = stop }
-      → EventTurn content is_honest stop now line turn out next
+      → EventTurn keeping stop now line turn out next
   Unread : (fault : JsonFault) → Fails fault (event_in line)
       → turn ≡ Refused → out ≡ refusal_line (json_fault_text fault) → next ≡ record { playing = Some now; stop = stop }
-      → EventTurn content is_honest stop now line turn out next
+      → EventTurn keeping stop now line turn out next
 
 -- one line, with no world before the first
-abbrev pub PlayTurn : {K : Type 0} → (K → Content) → (K → Type 0) → Option (Playing K) → Option StoreFault → List ℕ → Turn → List ℕ → Stage K → Type 0
-PlayTurn content is_honest None stop line turn out next = SetupTurn content is_honest stop line turn out next
-PlayTurn content is_honest (Some now) stop line turn out next = EventTurn content is_honest stop now line turn out next
+abbrev pub PlayTurn : {K : Type 0} → Keeping K → (ℕ → StoreFault → Type 0) → Option (Playing K) → Option StoreFault → List ℕ → Turn → List ℕ → Stage K → Type 0
+PlayTurn keeping may_refuse None stop line turn out next = SetupTurn keeping may_refuse stop line turn out next
+PlayTurn keeping may_refuse (Some now) stop line turn out next = EventTurn keeping stop now line turn out next
 
-abbrev pub PlayLineGives : {K : Type 0} → (K → Content) → (K → Type 0) → Stage K → List ℕ → Turn → List ℕ → Stage K → Type 0
-PlayLineGives content is_honest s line turn out next = PlayTurn content is_honest s.playing s.stop line turn out next
+abbrev pub PlayLineGives : {K : Type 0} → Keeping K → (ℕ → StoreFault → Type 0) → Stage K → List ℕ → Turn → List ℕ → Stage K → Type 0
+PlayLineGives keeping may_refuse s line turn out next = PlayTurn keeping may_refuse s.playing s.stop line turn out next
 
 -- what a provider owes an operator in a currency
 abbrev pub debt_line : List ℕ → List ℕ → List ℕ → ℤ → List ℕ
@@ -129,3 +131,11 @@ PlayEnd (Some now) ran out = (ran ≡ Whole) × (out ≡ owed_lines now)
 
 abbrev pub PlayEndGives : {K : Type 0} → Stage K → Ran → List ℕ → Type 0
 PlayEndGives s ran out = PlayEnd s.playing ran out
+
+-- Where a reader tells its bytes, and a writer what it holds: what was written is an output of the input. At its end `stop` is why a store
+-- stopped the run, where one did: it is set by the line that ended the run alone (`Unkept`, `Lost`).
+pub record PlayOutputs {K : Type 0} (keeping : Keeping K) (may_refuse : ℕ → StoreFault → Type 0)
+    (text : Option (List ℕ)) (ran : Ran) (stop : Option StoreFault) (old new : Option (List ℕ)) : Type 0 where
+  pub last : Stage K
+  pub outputs : Outputs (PlayLineGives keeping may_refuse) PlayEndGives opening text ran old new last
+  pub stopped_by : last.stop ≡ stop

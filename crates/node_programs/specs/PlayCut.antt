@@ -6,9 +6,9 @@ use Rattle.ocpi_json.specs.EventForms.{event_in, event_of_line}
 use Rattle.ocpi_json.specs.SetupForms.{setup_in, setup_of_line}
 use Rattle.line_runs.specs.declared.run.Turn.{Turn}
 use Rattle.line_runs.specs.declared.lines.TheConstants.{KEPT_BYTES}
-use Rattle.node_store.specs.Contents.{Content}
 use Rattle.node_store.specs.declared.fault.StoreFault.{StoreFault}
 use Rattle.node_programs.specs.Cut.{tree-cut}
+use Rattle.node_keepers.specs.Keeping.{Keeping}
 use Rattle.node_programs.specs.Play.{Playing, Stage, PlayLineGives, PlayTurn, Opened, Unkept, NoSetup, Happened, Lost, Starved, Unread}
 
 setup-cut : (line : List ℕ) → setup_in (take KEPT_BYTES line) ≡ setup_in line
@@ -19,23 +19,23 @@ event-cut : (line : List ℕ) → event_in (take KEPT_BYTES line) ≡ event_in l
 unfolding event_in
 event-cut line = ap (λ t. t >>= event_of_line) (tree-cut line)
 
-turn-cut : {K : Type 0} (content : K → Content) (is_honest : K → Type 0) (now : Option (Playing K)) (stop : Option StoreFault) (t : Stage K) (line : List ℕ) (turn : Turn) (out : List ℕ)
-    → PlayTurn content is_honest now stop (take KEPT_BYTES line) turn out t → PlayTurn content is_honest now stop line turn out t
-turn-cut c h None stop t line turn out (Opened setup read kept are taken none next) =
+turn-cut : {K : Type 0} (keeping : Keeping K) (may_refuse : ℕ → StoreFault → Type 0) (now : Option (Playing K)) (stop : Option StoreFault) (t : Stage K)
+    (line : List ℕ) (turn : Turn) (out : List ℕ) → PlayTurn keeping may_refuse now stop (take KEPT_BYTES line) turn out t → PlayTurn keeping may_refuse now stop line turn out t
+turn-cut k m None stop t line turn out (Opened setup read kept are taken none next) =
     Opened setup (sym (setup-cut line) ∙ read) kept are taken none next
-turn-cut c h None stop t line turn out (Unkept setup read fault ended none next) =
-    Unkept setup (sym (setup-cut line) ∙ read) fault ended none next
-turn-cut c h None stop t line turn out (NoSetup fault fails ended refused next) =
+turn-cut k m None stop t line turn out (Unkept setup read fault unopened ended none next) =
+    Unkept setup (sym (setup-cut line) ∙ read) fault unopened ended none next
+turn-cut k m None stop t line turn out (NoSetup fault fails ended refused next) =
     NoSetup fault (subst (Fails fault) (setup-cut line) fails) ended refused next
-turn-cut c h (Some now) stop t line turn out (Happened event read o v gives kept takes taken lines next) =
+turn-cut k m (Some now) stop t line turn out (Happened event read o v gives kept takes taken lines next) =
     Happened event (sym (event-cut line) ∙ read) o v gives kept takes taken lines next
-turn-cut c h (Some now) stop t line turn out (Lost event read o v gives kept takes fault ended none next) =
-    Lost event (sym (event-cut line) ∙ read) o v gives kept takes fault ended none next
-turn-cut c h (Some now) stop t line turn out (Starved event read refused written next) =
+turn-cut k m (Some now) stop t line turn out (Lost event read o v gives some fault kept refuses ended none next) =
+    Lost event (sym (event-cut line) ∙ read) o v gives some fault kept refuses ended none next
+turn-cut k m (Some now) stop t line turn out (Starved event read refused written next) =
     Starved event (sym (event-cut line) ∙ read) refused written next
-turn-cut c h (Some now) stop t line turn out (Unread fault fails refused written next) =
+turn-cut k m (Some now) stop t line turn out (Unread fault fails refused written next) =
     Unread fault (subst (Fails fault) (event-cut line) fails) refused written next
 
-pub play_cut_alike : {K : Type 0} (content : K → Content) (is_honest : K → Type 0) (s t : Stage K) (line : List ℕ) (turn : Turn) (out : List ℕ)
-    → PlayLineGives content is_honest s (take KEPT_BYTES line) turn out t → PlayLineGives content is_honest s line turn out t
-play_cut_alike content is_honest s t line turn out gives = turn-cut content is_honest s.playing s.stop t line turn out gives
+pub play_cut_alike : {K : Type 0} (keeping : Keeping K) (may_refuse : ℕ → StoreFault → Type 0) (s t : Stage K) (line : List ℕ) (turn : Turn) (out : List ℕ)
+    → PlayLineGives keeping may_refuse s (take KEPT_BYTES line) turn out t → PlayLineGives keeping may_refuse s line turn out t
+play_cut_alike keeping may_refuse s t line turn out gives = turn-cut keeping may_refuse s.playing s.stop t line turn out gives

@@ -6,7 +6,7 @@ ghost use Rattle.json_text.specs.Fault.{Fails};
 ghost use Rattle.ocpi_json.specs.Packets.{packet_in};
 ghost use Rattle.ocpi_json.specs.SiteLines.{site_in};
 ghost use Rattle.ocpi_types.specs.declared.site.SiteLine.{SiteLine as SiteLineOf};
-ghost use Rattle.node_programs.specs.Answer.{EndGives, LineGives, PacketTurn, SiteTurn, made_by};
+ghost use Rattle.node_programs.specs.Answer.{Answering, EndGives, LineGives, PacketTurn, SiteTurn, made_by};
 ghost use Rattle.line_runs.specs.Run.{Begins, Outputs, ReadsFewLines, StopsReading};
 
 use crate::writing::{refuse, write_packets};
@@ -117,7 +117,7 @@ impl AnswerLines for Program {
         )
     }
 
-    fn answer_end(&mut self, output: &mut String) -> Result<Ran, AllocError> {
+    fn answer_end(&self, output: &mut String) -> Result<Ran, AllocError> {
         match &self.running {
             None => {
                 refuse(output, JsonFault::Syntax)?;
@@ -220,8 +220,8 @@ pub fn run_answer<R: BufRead, W: Write>(
     input: &mut LineReader<R>,
     writer: &mut W,
 ) -> Result<Ran, RunFault>
-    ensures output { IfOk result (λ ran. Outputs LineGives EndGives None (R.Read.remaining input.old.reader) ran
-        (W.contents writer.old) (W.contents writer.new)) }
+    ensures output { IfOk result (λ ran. (last : Option Answering) × Outputs LineGives EndGives None (R.Read.remaining input.old.reader) ran
+        (W.contents writer.old) (W.contents writer.new) last) }
     ensures begun { IfErr result (λ fault. Begins LineGives EndGives None (R.Read.remaining input.old.reader)
         (W.contents writer.old) (W.contents writer.new)) }
     ensures stopped { IfErr result (λ fault. fault ≢ RunFault.WriteFailed → StopsReading LineGives None fault

@@ -1,19 +1,20 @@
 //! The program `play`: a world of nodes, which the first line sets up and at one of which each other line is an event.
 
 ghost use Rattle.std.specs.Prelude.{◌≡◌, ◌≢◌, ◌++◌, ℕ, List, Option, None, Some, Ok, Err, true};
-ghost use Rattle.std.specs.Prelude.{IfOk, IfErr, OnOk, codes, flat_map, string_bytes};
+ghost use Rattle.std.specs.Prelude.{IfOk, IfErr, IsOk, OnOk, codes, flat_map, string_bytes};
 ghost use Rattle.json_text.specs.Fault.{Fails};
 ghost use Rattle.ocpi_json.specs.EventForms.{event_in};
 ghost use Rattle.ocpi_json.specs.SetupForms.{setup_in};
 ghost use Rattle.ocpi_types.specs.declared.rows.Change.{Change as ChangeOf};
 ghost use Rattle.ocpi_types.specs.declared.setup.Node.{Node as NodeOf};
-ghost use Rattle.node_keepers.specs.Keeping.{AreOpened};
-ghost use Rattle.node_programs.specs.Play.{EventTurn, PlayEndGives, PlayLineGives, SetupTurn, Stage, debt_line, debt_lines, debts_of, opening, outcome_lines, owed_lines, played_from, turn_of};
+ghost use Rattle.node_keepers.specs.Keeping.{AreOpened, AreUnopened, keeping_of};
+ghost use Rattle.node_programs.specs.Play.{EventTurn, PlayEndGives, PlayLineGives, PlayOutputs, SetupTurn, Stage};
+ghost use Rattle.node_programs.specs.Play.{debt_line, debt_lines, debts_of, opening, outcome_lines, owed_lines, played_from, turn_of};
 ghost use Rattle.ocpi_text.specs.Text.{key};
 ghost use Rattle.world.specs.Seen.{told};
 ghost use Rattle.world.specs.State.{owed_by};
 ghost use Rattle.world_steps.specs.World.{opened};
-ghost use Rattle.line_runs.specs.Run.{Begins, Outputs, ReadsFewLines, StopsReading};
+ghost use Rattle.line_runs.specs.Run.{Begins, ReadsFewLines, StopsReading};
 ghost use Rattle.line_runs.specs.declared.outcome.Ran.TheVariants.{WithRefusals};
 ghost use Rattle.node_programs.specs.Stops.{IfRun, IfStore};
 
@@ -100,7 +101,7 @@ impl<K, S> Program<K, S> {
 impl<K: Keep + Drop, S: Keeps<Kept = K>> AnswerLines for Program<K, S> {
     ghost use Rattle.node_programs.specs.PlayCut.{play_cut_alike};
 
-    ghost line_gives = { PlayLineGives K.content K.is_honest };
+    ghost line_gives = { PlayLineGives (keeping_of K.content K.is_honest K.refusals) S.may_refuse };
 
     ghost end_gives = { PlayEndGives };
 
@@ -129,7 +130,7 @@ impl<K: Keep + Drop, S: Keeps<Kept = K>> AnswerLines for Program<K, S> {
         )
     }
 
-    fn answer_end(&mut self, output: &mut String) -> Result<Ran, AllocError> {
+    fn answer_end(&self, output: &mut String) -> Result<Ran, AllocError> {
         match &self.played {
             None => {
                 refuse(output, JsonFault::Syntax)?;
@@ -142,7 +143,7 @@ impl<K: Keep + Drop, S: Keeps<Kept = K>> AnswerLines for Program<K, S> {
         }
     }
 
-    ghost cut_alike = { play_cut_alike K.content K.is_honest };
+    ghost cut_alike = { play_cut_alike (keeping_of K.content K.is_honest K.refusals) S.may_refuse };
 }
 
 /// The setup of a line, and its world, in which nothing has happened.
@@ -162,7 +163,9 @@ fn keep_world<S: Keeps>(
     setup: Setup,
     world: World,
 ) -> Result<Played<S::Kept>, StoreFault>
-    ensures { IfOk result (λ p. (p.setup ≡ setup) × (p.world ≡ world.places) × AreOpened S.Kept.content S.Kept.is_honest setup p.kept) }
+    ensures ok { IfOk result (λ p. (p.setup ≡ setup) × (p.world ≡ world.places)
+        × AreOpened (keeping_of S.Kept.content S.Kept.is_honest S.Kept.refusals) setup p.kept) }
+    ensures err { IfErr result (AreUnopened (keeping_of S.Kept.content S.Kept.is_honest S.Kept.refusals) S.may_refuse setup) }
 {
     let kept = open_all(alloc, keeps, setup.as_slice())?;
     Ok(Played { setup, world, kept })
@@ -180,7 +183,8 @@ fn play_setup<K: Keep + Drop, S: Keeps<Kept = K>>(
 ) -> Result<Turn, AllocError>
     requires { played.old ≡ None }
     ensures { IfOk result (λ turn. (out : List ℕ) × (string_bytes output.new ≡ string_bytes output.old ++ out)
-        × SetupTurn K.content K.is_honest stop.old line.now turn out (record { playing = played.new; stop = stop.new })) }
+        × SetupTurn (keeping_of K.content K.is_honest K.refusals) S.may_refuse stop.old line.now turn out
+        (record { playing = played.new; stop = stop.new })) }
 {
     let (setup, world) = match open(alloc, scratch, line) {
         Ok(opened) => opened,
@@ -238,7 +242,8 @@ fn play_read<K: Keep>(
 ) -> Result<Turn, AllocError>
     ensures { IfOk result (λ turn. (out : List ℕ) × (string_bytes output.new ≡ string_bytes output.old ++ out)
         × ((line : List ℕ) → event_in line ≡ Ok event.now
-        → EventTurn K.content K.is_honest stop.old played.old line turn out (record { playing = Some played.new; stop = stop.new }))) }
+        → EventTurn (keeping_of K.content K.is_honest K.refusals) stop.old played.old line turn out
+        (record { playing = Some played.new; stop = stop.new }))) }
 {
     let Ok(outcome) = played.world.step(event) else {
         refuse(output, NodeFault::Memory)?;
@@ -264,7 +269,8 @@ fn play_event<K: Keep>(
     output: &mut String,
 ) -> Result<Turn, AllocError>
     ensures { IfOk result (λ turn. (out : List ℕ) × (string_bytes output.new ≡ string_bytes output.old ++ out)
-        × EventTurn K.content K.is_honest stop.old played.old line.now turn out (record { playing = Some played.new; stop = stop.new })) }
+        × EventTurn (keeping_of K.content K.is_honest K.refusals) stop.old played.old line.now turn out
+        (record { playing = Some played.new; stop = stop.new })) }
 {
     match read_event(alloc, scratch, line) {
         Ok(event) => play_read(alloc, played, stop, &event, output),
@@ -387,17 +393,16 @@ fn write_owed<K>(alloc: Global, played: &Played<K>, output: &mut String) -> Resu
     write_all_debts(alloc, &played.world, played.setup.as_slice(), output)
 }
 
-/// How a run went that a keeper may have stopped: then a line ended it.
+/// How a run went that a store may have stopped.
 fn ended(ran: Result<Ran, RunFault>, stop: Option<StoreFault>) -> Result<Ran, PlayFault>
-    ensures ok { IfOk result (λ r. (ran ≡ Ok r) × (r ≡ WithRefusals → stop ≡ None)) }
+    ensures ok { IfOk result (λ r. (ran ≡ Ok r) × (stop ≡ None)) }
     ensures run { IfErr result (IfRun (λ fault. ran ≡ Err fault)) }
-    ensures store { IfErr result (IfStore (λ fault. (ran ≡ Ok WithRefusals) × (stop ≡ Some fault))) }
+    ensures store { IfErr result (IfStore (λ fault. IsOk ran × (stop ≡ Some fault))) }
 {
     match ran {
-        Ok(Ran::Whole) => Ok(Ran::Whole),
-        Ok(Ran::WithRefusals) => match stop {
+        Ok(ran) => match stop {
             Some(fault) => Err(PlayFault::Store(fault)),
-            None => Ok(Ran::WithRefusals),
+            None => Ok(ran),
         },
         Err(fault) => Err(PlayFault::Run(fault)),
     }
@@ -409,11 +414,12 @@ fn ended(ran: Result<Ran, RunFault>, stop: Option<StoreFault>) -> Result<Ran, Pl
 /// follows; a refused or absent setup ends the run. At the end what each provider owes each operator is one line.
 ///
 /// Each node has a keeper of its rows, opened once the setup was read, in its order, and the rows that an event changes are
-/// committed to it before the packets of the event are written. Where one of these is refused the run ends, and of that line nothing
-/// is written.
+/// committed to it before the packets of the event are written. Where one of these is refused the run ends, of that line nothing
+/// is written, and `Store` tells the fault of the refusal, unless the last flush fails too. A keeper counts the calls that it
+/// refuses, but not want of memory, so that no clause ties `StoreFault::Memory` to a refusal.
 ///
 /// Where the run was not stopped, what is written is the output of the input. Where it was stopped, what is written is a
-/// beginning of that: by a failed read or too many reads, what exactly the lines that were read whole give; by a keeper, what the
+/// beginning of that: by a failed read or too many reads, what exactly the lines that were read whole give; by a store, what the
 /// lines before give. At most 1,000,000,000 lines are read.
 /// What was answered is flushed before each read that may wait, and at the end.
 pub fn run_play<R: BufRead, W: Write, S: Keeps + Drop>(
@@ -422,15 +428,16 @@ pub fn run_play<R: BufRead, W: Write, S: Keeps + Drop>(
     writer: &mut W,
     keeps: S,
 ) -> Result<Ran, PlayFault>
-    ensures output { IfOk result (λ ran. Outputs (PlayLineGives S.Kept.content S.Kept.is_honest) PlayEndGives opening (R.Read.remaining input.old.reader) ran
-        (W.contents writer.old) (W.contents writer.new)) }
-    ensures begun { IfErr result (IfRun (λ fault. Begins (PlayLineGives S.Kept.content S.Kept.is_honest) PlayEndGives opening (R.Read.remaining input.old.reader)
-        (W.contents writer.old) (W.contents writer.new))) }
-    ensures stopped { IfErr result (IfRun (λ fault. fault ≢ RunFault.WriteFailed → StopsReading (PlayLineGives S.Kept.content S.Kept.is_honest) opening fault
+    ensures output { IfOk result (λ ran. PlayOutputs (keeping_of S.Kept.content S.Kept.is_honest S.Kept.refusals) S.may_refuse
+        (R.Read.remaining input.old.reader) ran None (W.contents writer.old) (W.contents writer.new)) }
+    ensures begun { IfErr result (IfRun (λ fault. Begins (PlayLineGives (keeping_of S.Kept.content S.Kept.is_honest S.Kept.refusals) S.may_refuse)
+        PlayEndGives opening (R.Read.remaining input.old.reader) (W.contents writer.old) (W.contents writer.new))) }
+    ensures stopped { IfErr result (IfRun (λ fault. fault ≢ RunFault.WriteFailed
+        → StopsReading (PlayLineGives (keeping_of S.Kept.content S.Kept.is_honest S.Kept.refusals) S.may_refuse) opening fault
         (R.Read.remaining input.old.reader) (R.Read.remaining input.new.reader)
         (W.contents writer.old) (W.contents writer.new))) }
-    ensures store { IfErr result (IfStore (λ fault. Outputs (PlayLineGives S.Kept.content S.Kept.is_honest) PlayEndGives opening (R.Read.remaining input.old.reader) WithRefusals
-        (W.contents writer.old) (W.contents writer.new))) }
+    ensures store { IfErr result (IfStore (λ fault. PlayOutputs (keeping_of S.Kept.content S.Kept.is_honest S.Kept.refusals) S.may_refuse
+        (R.Read.remaining input.old.reader) WithRefusals (Some fault) (W.contents writer.old) (W.contents writer.new))) }
     ensures failed { result ≡ Err (PlayFault.Run RunFault.ReadFailed) → input.new.failed ≡ true }
     ensures reads { ReadsFewLines (R.Read.remaining input.old.reader) (R.Read.remaining input.new.reader) }
 {

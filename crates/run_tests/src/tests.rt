@@ -21,7 +21,7 @@ impl AnswerLines for Answers {
         Ok(Turn::Taken)
     }
 
-    fn answer_end(&mut self, _output: &mut String) -> Result<Ran, AllocError> {
+    fn answer_end(&self, _output: &mut String) -> Result<Ran, AllocError> {
         Ok(Ran::Whole)
     }
 

@@ -1,4 +1,4 @@
-use Rattle.std.proofs.Common.{ℕ, ◌∙◌, refl, sym, ap, subst, List, [], Some, string_bytes}
+use Rattle.std.proofs.Common.{◌≡◌, ℕ, ◌∙◌, refl, sym, ap, subst, List, [], Some, string_bytes}
 use Rattle.std.proofs.lemmas.List.{append-nil}
 use Rattle.std.proofs.lemmas.Result.{IfOk-weaker}
 use Rattle.ocpi_types.specs.declared.packet.Packet.{Packet}
@@ -10,15 +10,14 @@ use Rattle.world.specs.State.{WorldState}
 use Rattle.world_steps.specs.Steps.{Gives}
 use Rattle.line_runs.specs.declared.run.Turn.TheVariants.{Ended}
 use Rattle.node_programs.proofs.PlayLemmas.{told_changes}
-use Rattle.node_keepers.specs.Keeping.{KeeperTakes}
-use Rattle.node_programs.specs.Play.{EventTurn, Happened, Lost, Playing, Stage, Starved, outcome_lines}
+use Rattle.node_keepers.specs.Keeping.{KeeperTakes, keeping_of}
+use Rattle.node_programs.specs.Play.{EventTurn, Happened, Lost, Playing, Stage, Starved, changes_told, outcome_lines}
 use Rattle.node_programs.specs.Writing.{refusal_line}
 use Rattle.node_programs.proofs.play.play_read.Goals as goal
 
 pub returns : goal.returns
 returns g c =
-    let content = g.K.Keep.content in
-    let is_honest = g.K.Keep.is_honest in
+    let keeping = keeping_of g.K.Keep.content g.K.Keep.is_honest g.K.Keep.refusals in
     let before = c.played.inside.world.places in
     let after = c.step.new.self in
     let event = c.args.event.now in
@@ -27,12 +26,12 @@ returns g c =
     let gives = subst (λ (packets : List Packet). Gives before event (told_of packets) after.places) (sym c.packets.ensures) c.in-Ok.ensures.ok in
     let kept = c.commit.new.kept.items in
     let told_is = told_changes c.in-Ok.outcome c.packets.result.now after.changes (λ not. (c.in-Ok.ensures.idle not).1) in
-    let takes = subst (λ (changes : List Change). KeeperTakes content is_honest event.node changes c.played.inside.kept.items kept) (c.changes.ensures ∙ told_is) c.in-Ok-commit.ensures.ok in
+    let takes = subst (λ (changes : List Change). KeeperTakes keeping event.node changes c.played.inside.kept.items kept) (c.changes.ensures ∙ told_is) c.in-Ok-commit.ensures.ok in
     let next : Stage g.row.K.Denot = record { playing = Some (record { setup = c.played.inside.setup; world = after.places; kept = kept }); stop = c.args.stop.now } in
     IfOk-weaker c.write_outcome.result _ _ (λ turn r. (
       outcome_lines o,
       (r after.changes).1,
-      λ line is. subst (λ (now : Playing g.row.K.Denot). EventTurn content is_honest c.args.stop.now now line turn (outcome_lines o) next) c.played.view_is
+      λ line is. subst (λ (now : Playing g.row.K.Denot). EventTurn keeping c.args.stop.now now line turn (outcome_lines o) next) c.played.view_is
           (Happened event is o after.places gives kept takes (r after.changes).0 refl refl),
     )) c.write_outcome.ensures
 
@@ -47,17 +46,18 @@ returns-in_default g c =
 
 pub returns-in-Err : goal.returns-in-Err
 returns-in-Err g c =
-    let content = g.K.Keep.content in
-    let is_honest = g.K.Keep.is_honest in
+    let keeping = keeping_of g.K.Keep.content g.K.Keep.is_honest g.K.Keep.refusals in
     let before = c.played.inside.world.places in
     let after = c.step.new.self in
     let event = c.args.event.now in
     let o = told c.in-Ok.outcome after.packets after.changes in
+    let told_is = told_changes c.in-Ok.outcome after.packets after.changes (λ not. (c.in-Ok.ensures.idle not).1) in
+    let some = λ (none : changes_told o ≡ []). c.in-Err.ensures.some (c.changes.ensures ∙ told_is ∙ none) in
     let fault = c.in-Err.fault in
     let kept = c.commit.new.kept.items in
     let next : Stage g.row.K.Denot = record { playing = Some (record { setup = c.played.inside.setup; world = after.places; kept = kept }); stop = Some fault } in (
       [],
       sym (append-nil (string_bytes c.args.output.now)),
-      λ line is. subst (λ (now : Playing g.row.K.Denot). EventTurn content is_honest c.args.stop.now now line Ended [] next) c.played.view_is
-          (Lost event is o after.places c.in-Ok.ensures.ok kept c.in-Err.ensures.err fault refl refl refl),
+      λ line is. subst (λ (now : Playing g.row.K.Denot). EventTurn keeping c.args.stop.now now line Ended [] next) c.played.view_is
+          (Lost event is o after.places c.in-Ok.ensures.ok some fault kept c.in-Err.ensures.err refl refl refl),
     )

@@ -2,6 +2,7 @@ use Rattle.std.proofs.Common.{[], Some, refl, sym, ap, string_bytes}
 use Rattle.std.proofs.lemmas.List.{append-nil}
 use Rattle.json_text.specs.Fault.{fault_text}
 use Rattle.node_programs.proofs.PlayLemmas.{opens}
+use Rattle.node_keepers.specs.Keeping.{keeping_of}
 use Rattle.node_programs.specs.Play.{NoSetup, Unkept}
 use Rattle.node_programs.specs.Writing.{refusal_line}
 use Rattle.node_programs.proofs.play.play_setup.Goals as goal
@@ -9,17 +10,17 @@ use Rattle.node_programs.proofs.play.play_setup.Goals as goal
 pub returns-in-Ok-keep_world : goal.returns-in-Ok-keep_world
 returns-in-Ok-keep_world g c =
     let read = c.in-Ok.ensures.ok in
-    let kept = c.in-Ok-keep_world.ensures in (
+    let kept = c.in-Ok-keep_world.ensures.ok in (
       [],
       sym (append-nil (string_bytes c.args.output.now)),
-      opens g.K.Keep.content g.K.Keep.is_honest c.args.stop.now c.args.line.now _ _ c.in-Ok-keep_world.kept read.0 read.1 kept.0 kept.1 kept.2,
+      opens (keeping_of g.K.Keep.content g.K.Keep.is_honest g.K.Keep.refusals) g.S.Keeps.may_refuse c.args.stop.now c.args.line.now _ _ c.in-Ok-keep_world.kept read.0 read.1 kept.0 kept.1 kept.2,
     )
 
 pub returns-in-Err-keep_world : goal.returns-in-Err-keep_world
 returns-in-Err-keep_world g c =
     let read = c.in-Ok.ensures.ok in
     let fault = c.in-Err-keep_world.fault in
-    ([], sym (append-nil (string_bytes c.args.output.now)), Unkept _ read.0 fault refl refl (ap (λ q. record { playing = q; stop = Some fault }) c.requires))
+    ([], sym (append-nil (string_bytes c.args.output.now)), Unkept _ read.0 fault c.in-Err-keep_world.ensures.err refl refl (ap (λ q. record { playing = q; stop = Some fault }) c.requires))
 
 pub returns-in-Err : goal.returns-in-Err
 returns-in-Err g c =

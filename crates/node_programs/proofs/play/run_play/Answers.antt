@@ -1,8 +1,13 @@
+use Rattle.std.proofs.Common.{ap}
+use Rattle.node_programs.specs.Play.{Stage}
 use Rattle.node_programs.proofs.EndLemmas.{kept_off, same_fault, stopped, went}
+use Rattle.node_keepers.specs.Keeping.{keeping_of}
 use Rattle.node_programs.proofs.play.run_play.Goals as goal
 
 pub returns-clause-output : goal.returns-clause-output
-returns-clause-output g c = rw (← c.new-playing.ensures) (went c.ended.result c.run_whole-ran.result _ _ c.ended.ensures.ok c.run_whole-ran.ensures.output)
+returns-clause-output g c =
+    went (keeping_of g.S.Kept.Keep.content g.S.Kept.Keep.is_honest g.S.Kept.Keep.refusals) g.S.Keeps.may_refuse _ _ _ c.new-playing.result c.run_whole-ran.new.machine c.new-playing.ensures
+    c.playing.inside.stop (ap (λ (s : Stage g.row.S-Kept.Denot). s.stop) c.playing.view_is) c.ended.result c.run_whole-ran.result c.ended.ensures.ok c.run_whole-ran.ensures.output
 
 pub returns-clause-begun : goal.returns-clause-begun
 returns-clause-begun g c = rw (← c.new-playing.ensures) (stopped c.ended.result c.run_whole-ran.result _ c.ended.ensures.run c.run_whole-ran.ensures.begun)
@@ -11,7 +16,9 @@ pub returns-clause-stopped : goal.returns-clause-stopped
 returns-clause-stopped g c = rw (← c.new-playing.ensures) (stopped c.ended.result c.run_whole-ran.result _ c.ended.ensures.run c.run_whole-ran.ensures.stopped)
 
 pub returns-clause-store : goal.returns-clause-store
-returns-clause-store g c = rw (← c.new-playing.ensures) (kept_off c.ended.result c.run_whole-ran.result _ _ c.ended.ensures.store c.run_whole-ran.ensures.output)
+returns-clause-store g c =
+    kept_off (keeping_of g.S.Kept.Keep.content g.S.Kept.Keep.is_honest g.S.Kept.Keep.refusals) g.S.Keeps.may_refuse _ _ _ c.new-playing.result c.run_whole-ran.new.machine c.new-playing.ensures
+    c.playing.inside.stop (ap (λ (s : Stage g.row.S-Kept.Denot). s.stop) c.playing.view_is) c.ended.result c.run_whole-ran.result c.ended.ensures.store c.run_whole-ran.ensures.output
 
 pub returns-clause-failed : goal.returns-clause-failed
 returns-clause-failed g c = λ e. c.run_whole-ran.ensures.failed (same_fault c.ended.result c.run_whole-ran.result _ c.ended.ensures.run e)

@@ -1,4 +1,5 @@
 use Rattle.std.proofs.Common.{◌≡◌, ◌++◌, ◌∙◌, ℕ, List, IfOk, Some, None, sym, ap, subst, string_bytes}
+use Rattle.node_keepers.specs.Keeping.{keeping_of}
 use Rattle.node_programs.specs.Play.{PlayLineGives, Stage}
 use Rattle.node_programs.proofs.play.ProgramAnswerLines.answer_line.Goals as goal
 
@@ -8,7 +9,7 @@ returns-in-Some g c =
     let before = string_bytes c.args.output.now in
     let after = string_bytes c.play_event.new.output in
     let gives = λ (s : Stage g.row.K.Denot). IfOk c.play_event.result (λ turn. (out : List ℕ) × (after ≡ before ++ out)
-    × PlayLineGives g.K.Keep.content g.K.Keep.is_honest s c.args.line.now turn out next) in
+    × PlayLineGives (keeping_of g.K.Keep.content g.K.Keep.is_honest g.K.Keep.refusals) g.S.Keeps.may_refuse s c.args.line.now turn out next) in
     subst gives (ap (λ q. record { playing = q; stop = c.self.inside.stop }) (sym c.in-Some.is) ∙ c.self.view_is) c.play_event.ensures
 
 pub returns : goal.returns
@@ -17,5 +18,5 @@ returns g c =
     let before = string_bytes c.args.output.now in
     let after = string_bytes c.play_setup.new.output in
     let gives = λ (s : Stage g.row.K.Denot). IfOk c.play_setup.result (λ turn. (out : List ℕ) × (after ≡ before ++ out)
-    × PlayLineGives g.K.Keep.content g.K.Keep.is_honest s c.args.line.now turn out next) in
+    × PlayLineGives (keeping_of g.K.Keep.content g.K.Keep.is_honest g.K.Keep.refusals) g.S.Keeps.may_refuse s c.args.line.now turn out next) in
     subst gives (ap (λ q. record { playing = q; stop = c.self.inside.stop }) (sym c.in-None.is) ∙ c.self.view_is) c.play_setup.ensures
