@@ -1,7 +1,8 @@
 //! Changes of a table of texts, made all together or not at all.
 
-ghost use Rattle.std.specs.Prelude.{◌≡◌, All, IfOk, OnOk, map};
-ghost use Rattle.node_store.specs.Contents.{IsReadAgain};
+ghost use Rattle.std.specs.Prelude.{◌≡◌, All, IfOk, IsTrue, OnOk, map};
+ghost use Rattle.std.specs.FinMap.{contains_key};
+ghost use Rattle.node_store.specs.Contents.{IsReadAgain, RowPlace};
 ghost use Rattle.node_store.specs.Placing.{HasRoom, kept, placed_all, placed_of, room, set_text};
 ghost use Rattle.node_store.specs.declared.stored.Placed.{Placed as PlacedOf};
 
@@ -23,6 +24,24 @@ pub(crate) fn placed_all(alloc: Global, changes: &[Change]) -> Result<Vec<Placed
     Ok(placed)
 }
 
+/// Whether a place is of a kind of row of which nearly every change is of one that stands, as a counter.
+fn stands_mostly(place: &Place) -> bool {
+    matches!(place.0.as_str(), "command" | "count" | "session")
+}
+
+/// Takes the room that a text needs, where it is not there.
+fn reserve_text(texts: &mut Table<Place, StoredText>, place: Place) -> Result<(), AllocError>
+    ensures same { kept texts.new ≡ kept texts.old }
+    ensures ready { OnOk result (IsTrue (contains_key (room texts.new) place)) }
+    ensures stay { (p : RowPlace) → IsTrue (contains_key (room texts.old) p) → IsTrue (contains_key (room texts.new) p) }
+{
+    // Room that stands is found by one descent, and taken again by two.
+    if stands_mostly(&place) && texts.has_room(place) {
+        return Ok(());
+    }
+    texts.reserve(place)
+}
+
 /// Takes the room that a text needs, or lists the place where none is to stand.
 fn reserve_one(
     texts: &mut Table<Place, StoredText>,
@@ -34,7 +53,7 @@ fn reserve_one(
     ensures stay { (x : PlacedOf) → HasRoom texts.old x → HasRoom texts.new x }
 {
     match &next.text {
-        Some(_) => texts.reserve(next.place),
+        Some(_) => reserve_text(texts, next.place),
         None => {
             cleared.push(next.place)?;
             Ok(())

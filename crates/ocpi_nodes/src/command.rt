@@ -56,11 +56,26 @@ pub fn take_words<'a>(alloc: Global, words: &'a [String]) -> Result<Word<'a>, Er
         .about("OCPI 2.2.1 nodes for remote start and reservation")
         .after_help(AFTER_HELP)
         .disable_help_subcommand(true)
-        .subcommand(answer(alloc))?
-        .subcommand(play(alloc)?)?
-        .subcommand(settle(alloc)?)?;
+        .subcommand(answer(alloc))?;
+    let command = with_word(command, play(alloc))?;
+    let command = with_word(command, settle(alloc))?;
     let matches = command.try_get_matches_from(words)?;
     Ok(word_of(&matches))
+}
+
+/// The command with one word more. It lets the command go by a call where there is no such word, since a `?` would have its whole drop
+/// proved here.
+fn with_word<'a>(
+    command: Command<'a>,
+    word: Result<Command<'a>, Error>,
+) -> Result<Command<'a>, Error> {
+    match word {
+        Ok(word) => Ok(command.subcommand(word)?),
+        Err(error) => {
+            drop(command);
+            Err(error)
+        }
+    }
 }
 
 fn answer<'a>(alloc: Global) -> Command<'a> {

@@ -84,8 +84,8 @@ fn run_word(rt: &HostRuntime, word: Word<'_>) -> Result<Ran, PlayFault> {
     };
     match word {
         Word::Answer => answer_input(rt, &mut writer),
-        Word::Play(None) => play_input(rt, &mut writer, ListKeeps::new(rt.alloc())),
-        Word::Play(Some(folder)) => play_input(rt, &mut writer, FileKeeps::new(rt, folder)),
+        Word::Play(None) => play_in_memory(rt, &mut writer),
+        Word::Play(Some(folder)) => play_in_files(rt, &mut writer, folder),
         Word::Settle(file) => settle_file(rt, &mut writer, file),
     }
 }
@@ -97,6 +97,20 @@ fn answer_input<W: Write>(rt: &HostRuntime, writer: &mut W) -> Result<Ran, PlayF
     };
     let mut input = LineReader::new(reader);
     run_answer(rt.alloc(), &mut input, writer).map_err(PlayFault::Run)
+}
+
+/// Plays the standard input with keepers in memory.
+fn play_in_memory<W: Write>(rt: &HostRuntime, writer: &mut W) -> Result<Ran, PlayFault> {
+    play_input(rt, writer, ListKeeps::new(rt.alloc()))
+}
+
+/// Plays the standard input with keepers in new files of a folder.
+fn play_in_files<W: Write>(
+    rt: &HostRuntime,
+    writer: &mut W,
+    folder: &str,
+) -> Result<Ran, PlayFault> {
+    play_input(rt, writer, FileKeeps::new(rt, folder))
 }
 
 /// Plays the standard input with these keepers.

@@ -5,7 +5,8 @@ use Rattle.std.proofs.lemmas.Bool.{cases_lt}
 use Rattle.std.proofs.lemmas.Option.{same_Some, slice_get-map, slice_get_read, slice_get_within}
 use Rattle.ocpi_text.specs.Text.{key}
 use Rattle.ocpi_types.specs.declared.packet.Packet.{Packet}
-use Rattle.world.specs.Deliveries.{IsPlaceOf, IsSentTo}
+use Rattle.world.specs.Deliveries.{IsPlaceOf}
+use Rattle.world_steps.specs.Deliveries.{IsSentTo}
 use Rattle.world.specs.Seen.{place_seen, places_seen}
 use Rattle.world.specs.declared.place.Place.{Place}
 use Rattle.world_steps.specs.Network.{MayArrive}

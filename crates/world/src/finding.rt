@@ -2,7 +2,7 @@
 
 ghost use Rattle.std.specs.Prelude.{◌≡◌, ℕ, IfNone, IfSome, None, Some};
 ghost use Rattle.ocpi_types.specs.declared.packet.Packet.{Packet as PacketOf};
-ghost use Rattle.world.specs.Deliveries.{IsPlaceOf, IsSentTo, first_of};
+ghost use Rattle.world.specs.Deliveries.{IsPlaceOf, first_of};
 ghost use Rattle.world.specs.Seen.{places_seen};
 ghost use Rattle.world.specs.declared.place.Place.{Place as PlaceOf};
 ghost use Rattle.world_steps.specs.Network.{MayArrive};
@@ -10,6 +10,7 @@ ghost use Rattle.world_steps.specs.Network.{MayArrive};
 use crate::place::Place;
 use ocpi_text::{Party, Whole};
 use ocpi_types::Packet;
+use world_steps::delivering::sent_to;
 
 /// The place of a party, which is compared without case.
 pub(crate) fn find(places: &[Place], party: &Party) -> Option<usize>
@@ -35,23 +36,6 @@ pub(crate) fn of_party<'w>(places: &'w [Place], party: &Party) -> Option<&'w Pla
         }
     }
     None
-}
-
-/// The packet of a list at a serial, which begin at 1, where it was sent to that party.
-fn sent_to<'w>(sent: &'w [Packet], to: &Party, serial: Whole) -> Option<&'w Packet>
-    ensures found { IfSome result (λ q. IsSentTo sent.now to.now serial q.now) }
-    ensures none { IfNone result ((q : PacketOf) → IsSentTo sent.now to.now serial q → ⊥) }
-{
-    let number = serial.value();
-    if number == 0 || number > sent.len() as u64 {
-        return None;
-    }
-    let packet = &sent[number as usize - 1];
-    if packet.to.is_same(to) {
-        Some(packet)
-    } else {
-        None
-    }
 }
 
 /// The packet of that serial that a party sent to the other.

@@ -3,3 +3,4 @@ pub mod Network
 pub mod Steps
 pub mod Traces
 pub mod Laws
+pub mod Deliveries

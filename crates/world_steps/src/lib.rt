@@ -5,4 +5,5 @@
 //! of an operator and of a provider, and from the packets that link them.
 #![tactic(auto)]
 
+pub mod delivering;
 pub mod laws;
