@@ -4,13 +4,13 @@ ghost use Rattle.std.specs.Prelude.{◌≡◌, ◌≢◌, ◌⊎◌, All, List, 
 ghost use Rattle.std.specs.FinMap.{empty};
 ghost use Rattle.node_store.specs.Contents.{Content, IsReadAgain, changed_all, rows_of};
 ghost use Rattle.node_store.specs.Faults.{IsListFault, IsCommitFault, counted};
-ghost use Rattle.node_store.specs.Placing.{kept};
+ghost use Rattle.node_store.specs.Placing.{kept, placed_of, set_text};
 ghost use Rattle.node_store.specs.declared.fault.StoreFault.TheVariants.{BadRow};
 
 use crate::changing::{placed_all, put_all, release_all, reserve_all};
 use crate::fault::StoreFault;
 use crate::keep::Keep;
-use crate::stored::{Place, StoredText, row_of};
+use crate::stored::{Place, Placed, StoredText, placed_of, row_of};
 use ocpi_json::Scratch;
 use ocpi_types::{Change, Row};
 use std::alloc::{AllocError, Global};
@@ -79,7 +79,28 @@ fn rows_of(alloc: Global, texts: &Table<Place, StoredText>) -> Result<Vec<Row>, 
     Ok(rows)
 }
 
-fn change_all(
+/// Makes the one change of a commit, which needs no room ahead.
+fn change_one(
+    alloc: Global,
+    texts: &mut Table<Place, StoredText>,
+    change: &Change,
+) -> Result<(), AllocError>
+    ensures all { OnOk result (kept texts.new ≡ set_text (kept texts.old) (placed_of change.now).place (placed_of change.now).text) }
+    ensures none { OnErr result (kept texts.new ≡ kept texts.old) }
+    ensures again { OnOk result (IsReadAgain change.now) }
+{
+    let Placed { place, text } = placed_of(alloc, change)?;
+    match text {
+        Some(text) => texts.insert(place, text),
+        None => {
+            drop(texts.remove(place));
+            Ok(())
+        }
+    }
+}
+
+/// Makes changes, which may be of one place again and again: room first, for all of them.
+fn change_several(
     alloc: Global,
     texts: &mut Table<Place, StoredText>,
     changes: &[Change],
@@ -93,6 +114,22 @@ fn change_all(
     put_all(texts, placed);
     release_all(texts, cleared.as_slice());
     Ok(())
+}
+
+/// Makes changes, all of them or none.
+fn change_all(
+    alloc: Global,
+    texts: &mut Table<Place, StoredText>,
+    changes: &[Change],
+) -> Result<(), AllocError>
+    ensures all { OnOk result (kept texts.new ≡ changed_all (kept texts.old) changes.now) }
+    ensures none { OnErr result (kept texts.new ≡ kept texts.old) }
+    ensures again { OnOk result (All IsReadAgain changes.now) }
+{
+    match changes {
+        [change] => change_one(alloc, texts, change),
+        _ => change_several(alloc, texts, changes),
+    }
 }
 
 impl Keep for ListKeep {

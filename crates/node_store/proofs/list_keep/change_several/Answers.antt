@@ -2,7 +2,7 @@ use Rattle.std.proofs.Common.{ap, ◌∙◌}
 use Rattle.node_store.specs.Contents.{Content}
 use Rattle.node_store.specs.Placing.{kept, placed_all}
 use Rattle.node_store.proofs.Placed.{all_placed}
-use Rattle.node_store.proofs.list_keep.change_all.Goals as goal
+use Rattle.node_store.proofs.list_keep.change_several.Goals as goal
 
 pub returns-clause-all : goal.returns-clause-all
 returns-clause-all c =
