@@ -4,7 +4,7 @@ a choice of them into bench/, of which it tells the names.
 
     tools/case_lines.py
 
-What each part holds is told in `packet_cases`, `book_cases`, `operator_cases`, `provider_cases`, `stored_cases` and `world_cases`.
+What each part holds is told in `call_cases`, `packet_cases`, `book_cases`, `operator_cases`, `provider_cases`, `stored_cases` and `world_cases`.
 To see where the program differs:
 
     tools/try_cases
@@ -13,6 +13,7 @@ To see where the program differs:
 import pathlib
 
 import book_cases
+import call_cases
 import operator_cases
 import packet_cases
 import provider_cases
@@ -21,6 +22,7 @@ import world_cases
 
 TOP = pathlib.Path(__file__).resolve().parent.parent
 PARTS = {
+    "calls": call_cases,
     "packets": packet_cases,
     "books": book_cases,
     "operator": operator_cases,

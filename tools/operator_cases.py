@@ -3,7 +3,7 @@
 Each case is told in short words here and spelled out by `operator_case`, which knows the rules apart from the code: what is
 sent and which rows are put or dropped are written behind each event by hand, and an event behind which nothing stands gives
 nothing.
-The cases of what charge points report, of time and of new starts are in `operator_time_cases`, those of sessions in
+The cases of what charge points report, of time and of restarts are in `operator_time_cases`, those of sessions in
 `operator_charge_cases` and `operator_session_cases`, those of tokens and authorizations in `operator_token_cases` and
 `operator_deadline_cases`, those of the last numbers and of a tick that does much in `operator_limit_cases` and
 `operator_charge_limit_cases`.

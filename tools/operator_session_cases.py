@@ -210,7 +210,7 @@ def add_pushes():
     c.tick("10:00:56")
     c.finished(14, again=[1, 3, 10, 11])
     c.stored()
-    c = Charging("after a new start a session goes on, and its bill is the one that was made")
+    c = Charging("after a restart a session goes on, and its bill is the one that was made")
     c.charging()
     c.restart()
     c.starts()

@@ -1,4 +1,4 @@
-"""The cases of `operator_cases` that are about what charge points report, about time, and about new starts of the operator.
+"""The cases of `operator_cases` that are about what charge points report, about time, and about restarts of the operator.
 
 A report or a tick beside which nothing is told gives neither a packet nor a row. What sessions do is in `operator_charge_cases`, and
 what tokens do that are shown in `operator_token_cases`.
@@ -322,7 +322,7 @@ def add_resends():
     c.tick("10:00:10")
     c.finished(4, again=[1])
     c.stored()
-    c = Case("after a new start each push is due at once, whatever the moment, and has the body that it had")
+    c = Case("after a restart each push is due at once, whatever the moment, and has the body that it had")
     c.unknown(1, 1, 5)
     c.unknown(3, 2, 6, at="10:00:01", party="DE/EMP")
     c.restart()
@@ -345,7 +345,7 @@ def add_resends():
     c.tick("08:00:12")
     c.finished(14, again=[3])
     c.stored()
-    c = Case("a new start changes no row and no claim")
+    c = Case("a restart changes no row and no claim")
     c.start(1)
     c.started(1, 1, "E1")
     c.reservation(2, 1, 2, "R1", "E2", "11:00:00")
@@ -362,7 +362,7 @@ def add_resends():
     c.tick("10:00:30")
     c.finished(9, [(4, 1, "TIMEOUT", "NL/TNM")], again=[1, 2, 3])
     c.stored()
-    c = Case("after a new start an EVSE is reserved and taken as before, and a cancelled reservation is known")
+    c = Case("after a restart an EVSE is reserved and taken as before, and a cancelled reservation is known")
     c.reservation(1, 1, 1, "R1", "E1", "11:00:00")
     c.reservation(3, 2, 3, "R2", "E2", "11:00:00")
     c.cancel(4, "R2")
@@ -413,7 +413,7 @@ def add_resends():
 
 
 def add_event_lines():
-    c = Case("event lines that are refused, and a new start whose moment is read past")
+    c = Case("event lines that are refused, and a restart whose moment is read past")
     c.unknown(1, 1, 5)
     c.event(event="tick", node=OPERATOR)
     refused("4 Missing(at)")

@@ -354,7 +354,7 @@ def add_late_answers():
     c.swipe("AA03", at="10:00:11")
     c.asked(3, 2)
     c.stored()
-    c = Charging("after a new start nothing is awaited")
+    c = Charging("after a restart nothing is awaited")
     asked_about(c)
     c.restart()
     c.authorization(1, ref=1)

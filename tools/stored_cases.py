@@ -186,12 +186,13 @@ def told_in(part):
     opening, found = "", []
     for at, given in enumerate(part.LINES, 1):
         if at in part.OPENED:
-            opening = given
+            opening = opening if given.startswith("kept ") else given
         elif not given.startswith("\f"):
             gives = next(blocks)
             if given == "fresh":
                 found.append((opening, []))
-            else:
+            # (that part makes a provider again in its own way)
+            elif given != "again":
                 found[-1][1].append((given, gives))
     return found
 
@@ -232,8 +233,10 @@ def go_on(node, lines):
 
 def add_cases_of(part, node_of, most):
     """The cases that begin with rows or have a restart, and a node made of what each other stores at its end, where that is at most
-    so many rows."""
+    so many rows. Cases in which a provider is made of rows there need not be here too."""
     for opening, lines in told_in(part):
+        if any(given == "made" for given, _ in lines):
+            continue
         if lines[0][0].startswith("row ") or any(is_restart(given, gives) for given, gives in lines):
             go_on(node_of(opening), list(lines))
         elif lines[-1][0] == "stored" and len(lines[-1][1]) <= most:

@@ -84,7 +84,7 @@ impl AuthorizationBook {
         Some(found.0)
     }
 
-    /// A new start: nothing is awaited, and all room is given back. It takes no memory.
+    /// A restart: nothing is awaited, and all room is given back. It takes no memory.
     pub fn clear(&mut self, alloc: Global)
         ensures waits { self.new.waits ≡ map.empty }
         ensures rooms { self.new.rooms ≡ no_rooms }

@@ -56,7 +56,7 @@ pub fn as_record<'t, 'a>(value: &'t Tree<'a>, field: Field) -> Result<&'t Tree<'
     }
 }
 
-/// A text.
+/// The text of a required member. `Missing` where there is none, and `WrongForm` where it is no text.
 #[tactic(auto, unfolding(crate::specs::Fields::text_in))]
 pub fn text_in<'a>(object: &Tree<'a>, field: Field) -> Result<&'a str, JsonFault>
     ensures { IsBy (λ s. s.now) result (text_in field (view object.now)) }
@@ -162,7 +162,8 @@ pub fn short_in<const MAX: usize, const BYTES: usize>(
     }
 }
 
-/// A moment.
+/// The moment of a required member (OCPI 2.2.1, Types: DateTime). `Missing` where there is none, and `WrongForm` where it is no text
+/// that is read as a moment.
 #[tactic(auto, unfolding(crate::specs::Fields::moment_in))]
 pub fn moment_in(object: &Tree<'_>, field: Field) -> Result<Moment, JsonFault>
     ensures { result ≡ moment_in field (view object.now) }

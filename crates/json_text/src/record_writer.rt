@@ -86,7 +86,7 @@ impl RecordWriter {
         self.out.key(field.name())
     }
 
-    /// A text.
+    /// A member that is a text, of any characters.
     #[tactic(auto, unfolding(crate::specs::Members::and_member))]
     pub fn text(&mut self, field: Field, text: &str) -> Result<(), AllocError>
         ensures { OnOk result (self.new ≡ and_member self.old (member.text field text.now)) }
@@ -206,7 +206,7 @@ impl RecordWriter {
         self.out.u64(number)
     }
 
-    /// A whole number.
+    /// A member that is a whole number, written as a number without a point.
     pub fn whole(&mut self, field: Field, number: Whole) -> Result<(), AllocError>
         ensures member { OnOk result (self.new ≡ and_member self.old (member.whole field number)) }
         ensures fits { number ≤ max_whole }
@@ -214,7 +214,7 @@ impl RecordWriter {
         self.number(field, number.value())
     }
 
-    /// A moment.
+    /// A member that is a moment, written as a text (OCPI 2.2.1, Types: DateTime).
     pub fn moment(&mut self, field: Field, moment: Moment) -> Result<(), AllocError>
         ensures member { OnOk result (self.new ≡ and_member self.old (member.moment field moment)) }
         ensures fits { moment ≤ last_moment }

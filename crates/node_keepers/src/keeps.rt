@@ -29,6 +29,7 @@ pub struct ListKeeps {
 }
 
 impl ListKeeps {
+    /// Keepers that take their memory from there.
     pub fn new(alloc: Global) -> ListKeeps {
         ListKeeps { alloc }
     }
@@ -52,6 +53,7 @@ pub struct FileKeeps<'a> {
 }
 
 impl<'a> FileKeeps<'a> {
+    /// Keepers whose files are to be in that folder, which must exist once the first is opened.
     pub fn new(rt: &'a HostRuntime, folder: &'a str) -> FileKeeps<'a> {
         FileKeeps { rt, folder }
     }

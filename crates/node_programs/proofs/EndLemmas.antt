@@ -10,7 +10,8 @@ use Rattle.line_runs.specs.declared.run.Turn.{Turn}
 use Rattle.line_runs.specs.declared.run.Turn.TheVariants.{Taken, Refused, Ended}
 use Rattle.node_store.specs.declared.fault.StoreFault.{StoreFault}
 use Rattle.node_keepers.specs.Keeping.{Keeping}
-use Rattle.node_programs.specs.Play.{Happened, Lost, NoSetup, Opened, PlayEndGives, PlayLineGives, PlayOutputs, PlayTurn, Playing, Stage, Starved, Unkept, Unread, opening}
+use Rattle.node_keepers.specs.declared.keeping.KeptNode.{KeptNode}
+use Rattle.node_programs.specs.Play.{Happened, Lost, NoSetup, Opened, PlayEndGives, PlayLineGives, PlayOutputs, PlayTurn, Playing, Stage, Starved, Unkept, Unread, kept_in, opening}
 use Rattle.node_programs.specs.Stops.{IfRun, IfStore}
 use Rattle.node_programs.specs.declared.fault.PlayFault.{PlayFault}
 use Rattle.node_programs.specs.declared.fault.PlayFault.TheVariants.{Run, Store}
@@ -58,21 +59,22 @@ module _ {K : Type 0} (keeping : Keeping K) (may_refuse : ℕ → StoreFault →
       (wrote.0, subst (λ r. IsRun (PlayLineGives keeping may_refuse) PlayEndGives opening (lines_of t) r wrote.0 last) (was_ended wrote.1 fault is) wrote.1, wrote.2)
 
   -- of a run from a stage that is the opening, and of the stop that it left
-  module _ (text old new : Option (List ℕ)) (first last : Stage K) (begun : first ≡ opening) (stop : Option StoreFault) (left : stop ≡ last.stop) where
+  module _ (text old new : Option (List ℕ)) (first last : Stage K) (begun : first ≡ opening) (stop : Option StoreFault) (left : stop ≡ last.stop)
+      (kept : List (KeptNode K)) (kept_is : kept_in last.playing ≡ kept) where
     pub went : (result : Result Ran PlayFault) (ran : Result Ran RunFault) → IfOk result (λ r. (ran ≡ Ok r) × (stop ≡ None)) → IfOk ran (Writes first text old new last)
-        → IfOk result (λ r. PlayOutputs keeping may_refuse text r None old new)
+        → IfOk result (λ r. PlayOutputs keeping may_refuse text r None old new kept)
     went (Ok r) ran is wrote =
         let writes = subst (λ (x : Result Ran RunFault). IfOk x (Writes first text old new last)) is.0 wrote in
-        record { last = last; outputs = subst (λ (s : Stage K). Writes s text old new last r) begun writes; stopped_by = sym left ∙ is.1 }
+        record { last = last; outputs = subst (λ (s : Stage K). Writes s text old new last r) begun writes; stopped_by = sym left ∙ is.1; left = kept_is }
     went (Err e) ran is wrote = tt
 
     pub kept_off : (result : Result Ran PlayFault) (ran : Result Ran RunFault)
         → IfErr result (IfStore (λ fault. IsOk ran × (stop ≡ Some fault))) → IfOk ran (Writes first text old new last)
-        → IfErr result (IfStore (λ fault. PlayOutputs keeping may_refuse text WithRefusals (Some fault) old new))
+        → IfErr result (IfStore (λ fault. PlayOutputs keeping may_refuse text WithRefusals (Some fault) old new kept))
     kept_off (Ok r) ran is wrote = tt
     kept_off (Err (Run e)) ran is wrote = tt
     kept_off (Err (Store fault)) (Err e) is wrote = let ok : false ≡ true = is.0 in absurd cc
     kept_off (Err (Store fault)) (Ok r) is wrote =
         let writes = subst (λ (s : Stage K). Writes s text old new last r) begun wrote in
         let stopped_by = sym left ∙ is.1 in
-        record { last = last; outputs = ended_writes text old new last r fault stopped_by writes; stopped_by = stopped_by }
+        record { last = last; outputs = ended_writes text old new last r fault stopped_by writes; stopped_by = stopped_by; left = kept_is }

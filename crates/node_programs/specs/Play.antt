@@ -42,6 +42,11 @@ pub record Stage (K : Type 0) : Type 0 where
   pub playing : Option (Playing K)
   pub stop : Option StoreFault
 
+-- the keepers that the nodes have then
+abbrev pub kept_in : {K : Type 0} → Option (Playing K) → List (KeptNode K)
+kept_in None = []
+kept_in (Some now) = now.kept
+
 -- before the first line
 abbrev pub opening : {K : Type 0} → Stage K
 opening = record { playing = None; stop = None }
@@ -133,9 +138,11 @@ abbrev pub PlayEndGives : {K : Type 0} → Stage K → Ran → List ℕ → Type
 PlayEndGives s ran out = PlayEnd s.playing ran out
 
 -- Where a reader tells its bytes, and a writer what it holds: what was written is an output of the input. At its end `stop` is why a store
--- stopped the run, where one did: it is set by the line that ended the run alone (`Unkept`, `Lost`).
+-- stopped the run, where one did: it is set by the line that ended the run alone (`Unkept`, `Lost`). `kept` are the keepers as the lines that
+-- were answered left them, so that each keeps what they made it keep and nothing else.
 pub record PlayOutputs {K : Type 0} (keeping : Keeping K) (may_refuse : ℕ → StoreFault → Type 0)
-    (text : Option (List ℕ)) (ran : Ran) (stop : Option StoreFault) (old new : Option (List ℕ)) : Type 0 where
+    (text : Option (List ℕ)) (ran : Ran) (stop : Option StoreFault) (old new : Option (List ℕ)) (kept : List (KeptNode K)) : Type 0 where
   pub last : Stage K
   pub outputs : Outputs (PlayLineGives keeping may_refuse) PlayEndGives opening text ran old new last
   pub stopped_by : last.stop ≡ stop
+  pub left : kept_in last.playing ≡ kept

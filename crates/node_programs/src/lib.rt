@@ -3,7 +3,8 @@
 //!
 //! ```
 //! let mut input = LineReader::new(reader);
-//! let ran = run_play(alloc, &mut input, &mut writer, ListKeeps::new(alloc));
+//! let mut kept = Vec::new(alloc);
+//! let ran = run_play(alloc, &mut input, &mut writer, ListKeeps::new(alloc), &mut kept);
 //! let status = status_after_play(ran);
 //! ```
 #![tactic(auto)]

@@ -9,7 +9,7 @@ ghost use Rattle.ocpi_types.specs.declared.rows.Change.{Change as ChangeOf};
 ghost use Rattle.ocpi_types.specs.declared.setup.Node.{Node as NodeOf};
 ghost use Rattle.node_keepers.specs.Keeping.{AreOpened, AreUnopened, keeping_of};
 ghost use Rattle.node_programs.specs.Play.{EventTurn, PlayEndGives, PlayLineGives, PlayOutputs, SetupTurn, Stage};
-ghost use Rattle.node_programs.specs.Play.{debt_line, debt_lines, debts_of, opening, outcome_lines, owed_lines, played_from, turn_of};
+ghost use Rattle.node_programs.specs.Play.{debt_line, debt_lines, debts_of, kept_in, opening, outcome_lines, owed_lines, played_from, turn_of};
 ghost use Rattle.ocpi_text.specs.Text.{key};
 ghost use Rattle.world.specs.Seen.{told};
 ghost use Rattle.world.specs.State.{owed_by};
@@ -62,6 +62,17 @@ impl<K> Model for Played<K> {
     ghost view = { λ p. record { setup = p.setup; world = p.world.places; kept = p.kept.items } };
 }
 
+impl<K> Played<K> {
+    fn into_kept(self) -> Vec<KeptNode<K>>
+        ensures { result.items ≡ self.kept }
+    {
+        let Played { setup, world, kept } = self;
+        drop(setup);
+        drop(world);
+        kept
+    }
+}
+
 /// What the lines so far have made: a world, from the first on; and why a store stopped the run, where one did.
 #[derive(Drop)]
 struct Program<K, S> {
@@ -94,6 +105,28 @@ impl<K, S> Program<K, S> {
             keeps,
             played: None,
             stop: None,
+        }
+    }
+}
+
+impl<K, S: Drop> Program<K, S> {
+    /// The keepers as the lines left them, and why a store stopped the run.
+    fn close(self) -> (Vec<KeptNode<K>>, Option<StoreFault>)
+        ensures kept { result.0.items ≡ kept_in self.playing }
+        ensures stop { result.1 ≡ self.stop }
+    {
+        let Program {
+            alloc,
+            scratch,
+            keeps,
+            played,
+            stop,
+        } = self;
+        drop(scratch);
+        drop(keeps);
+        match played {
+            Some(played) => (played.into_kept(), stop),
+            None => (Vec::new(alloc), stop),
         }
     }
 }
@@ -414,9 +447,10 @@ fn ended(ran: Result<Ran, RunFault>, stop: Option<StoreFault>) -> Result<Ran, Pl
 /// follows; a refused or absent setup ends the run. At the end what each provider owes each operator is one line.
 ///
 /// Each node has a keeper of its rows, opened once the setup was read, in its order, and the rows that an event changes are
-/// committed to it before the packets of the event are written. Where one of these is refused the run ends, of that line nothing
-/// is written, and `Store` tells the fault of the refusal, unless the last flush fails too. A keeper counts the calls that it
-/// refuses, but not want of memory, so that no clause ties `StoreFault::Memory` to a refusal.
+/// committed to it before the packets of the event are written (no clause says when). Where one of these is refused the run
+/// ends, of that line nothing is written, and `Store` tells the fault of the refusal, unless the last flush fails too. A keeper
+/// counts the calls that it refuses, but not want of memory, so that no clause ties `StoreFault::Memory` to a refusal. `kept`
+/// gets the keepers as the run left them, in the order of the setup; none, where the nodes of no setup got any.
 ///
 /// Where the run was not stopped, what is written is the output of the input. Where it was stopped, what is written is a
 /// beginning of that: by a failed read or too many reads, what exactly the lines that were read whole give; by a store, what the
@@ -427,9 +461,10 @@ pub fn run_play<R: BufRead, W: Write, S: Keeps + Drop>(
     input: &mut LineReader<R>,
     writer: &mut W,
     keeps: S,
+    kept: &mut Vec<KeptNode<S::Kept>>,
 ) -> Result<Ran, PlayFault>
     ensures output { IfOk result (λ ran. PlayOutputs (keeping_of S.Kept.content S.Kept.is_honest S.Kept.refusals) S.may_refuse
-        (R.Read.remaining input.old.reader) ran None (W.contents writer.old) (W.contents writer.new)) }
+        (R.Read.remaining input.old.reader) ran None (W.contents writer.old) (W.contents writer.new) kept.new.items) }
     ensures begun { IfErr result (IfRun (λ fault. Begins (PlayLineGives (keeping_of S.Kept.content S.Kept.is_honest S.Kept.refusals) S.may_refuse)
         PlayEndGives opening (R.Read.remaining input.old.reader) (W.contents writer.old) (W.contents writer.new))) }
     ensures stopped { IfErr result (IfRun (λ fault. fault ≢ RunFault.WriteFailed
@@ -437,11 +472,13 @@ pub fn run_play<R: BufRead, W: Write, S: Keeps + Drop>(
         (R.Read.remaining input.old.reader) (R.Read.remaining input.new.reader)
         (W.contents writer.old) (W.contents writer.new))) }
     ensures store { IfErr result (IfStore (λ fault. PlayOutputs (keeping_of S.Kept.content S.Kept.is_honest S.Kept.refusals) S.may_refuse
-        (R.Read.remaining input.old.reader) WithRefusals (Some fault) (W.contents writer.old) (W.contents writer.new))) }
+        (R.Read.remaining input.old.reader) WithRefusals (Some fault) (W.contents writer.old) (W.contents writer.new) kept.new.items)) }
     ensures failed { result ≡ Err (PlayFault.Run RunFault.ReadFailed) → input.new.failed ≡ true }
     ensures reads { ReadsFewLines (R.Read.remaining input.old.reader) (R.Read.remaining input.new.reader) }
 {
     let mut playing: Program<S::Kept, S> = Program::new(alloc, keeps);
     let ran = run_whole(alloc, &mut playing, input, writer);
-    ended(ran, playing.stop)
+    let (left, stop) = playing.close();
+    *kept = left;
+    ended(ran, stop)
 }

@@ -58,7 +58,7 @@ pub fn write_whole<W: Write>(writer: &mut W, bytes: &[u8]) -> Result<(), RunFaul
     Err(RunFault::WriteFailed)
 }
 
-/// Flushes a writer.
+/// Has a writer pass on what it holds. A refusal is `WriteFailed`.
 pub fn flush<W: Write>(writer: &mut W) -> Result<(), RunFault>
     ensures err { IfErr result (λ fault. fault ≡ RunFault.WriteFailed) }
     ensures writer { Keeps (W.contents writer.old) (W.contents writer.new) }

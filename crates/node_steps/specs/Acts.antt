@@ -19,7 +19,7 @@ use Rattle.node_steps.specs.declared.plan.Volatile.TheVariants.{Sent}
 pub record Act : Type 0 where
   pub changes : List Change
   pub messages : List Message
-  -- what becomes of what a new start empties, and stands in no row
+  -- what becomes of what a restart empties, and stands in no row
   pub volatile : List Volatile
   -- how many requests of its own the node makes by it, each under the next number
   pub requests : ℕ

@@ -1,5 +1,5 @@
 //! What steps of a node are made of, of an operator or a provider: the rows that change, the packets that are sent, and what
-//! becomes of what a new start empties.
+//! becomes of what a restart empties.
 //!
 //! ```
 //! let needs = Needs { packets: 2, requests: 1, changes: 3 };

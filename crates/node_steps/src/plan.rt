@@ -7,7 +7,7 @@ use ocpi_text::{Moment, Whole};
 use ocpi_types::{Change, Packet};
 use std::alloc::{AllocError, Global};
 
-/// A change of what a new start empties, and that stands in no row.
+/// A change of what a restart empties, and that stands in no row.
 #[derive(Clone, Copy)]
 pub enum Volatile {
     /// The request of that number is sent at that moment, and due again ten seconds later.

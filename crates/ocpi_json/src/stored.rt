@@ -376,7 +376,7 @@ pub fn write_push(to: &Party, push: &Push, out: &mut RecordWriter) -> Result<(),
     out.end()
 }
 
-/// Writes a reservation.
+/// Adds the members of a reservation that is stored, in the order of their names. An error is want of memory.
 #[tactic(auto, unfolding(crate::specs::StoredForms::reservation_members))]
 pub fn write_reservation(
     reservation: &Reservation,
@@ -393,7 +393,8 @@ pub fn write_reservation(
     out.end()
 }
 
-/// Writes an open command.
+/// Adds the members of an open command that is stored: its body beside its kind, its place and its deadline. An error is want of
+/// memory.
 #[tactic(auto, unfolding(crate::specs::StoredForms::open_command_members))]
 pub fn write_open_command(command: &OpenCommand, out: &mut RecordWriter) -> Result<(), AllocError>
     ensures tokens { OnOk result (out.new ≡ said out.old (open_command_members command.now)) }
@@ -408,7 +409,7 @@ pub fn write_open_command(command: &OpenCommand, out: &mut RecordWriter) -> Resu
     out.end()
 }
 
-/// Writes a sent command.
+/// Adds the members of a sent command that is stored: its body beside its kind, and what it got so far. An error is want of memory.
 #[tactic(auto, unfolding(crate::specs::StoredForms::sent_command_members))]
 pub fn write_sent_command(sent: &SentCommand, out: &mut RecordWriter) -> Result<(), AllocError>
     ensures tokens { OnOk result (out.new ≡ said out.old (sent_command_members sent.now)) }

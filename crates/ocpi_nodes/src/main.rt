@@ -123,7 +123,8 @@ fn play_input<W: Write, S: Keeps + Drop>(
         return Err(PlayFault::Run(RunFault::ReadFailed));
     };
     let mut input = LineReader::new(reader);
-    run_play(rt.alloc(), &mut input, writer, keeps)
+    let mut kept = Vec::new(rt.alloc());
+    run_play(rt.alloc(), &mut input, writer, keeps, &mut kept)
 }
 
 /// Writes what is owed by the rows of a file.

@@ -128,7 +128,7 @@ impl ChargingPeriod {
     }
 }
 
-/// A charge detail record.
+/// A charge detail record: what an operator bills for one session that ended (OCPI 2.2.1, CDRs: CDR object).
 #[derive(PartialEq, Drop)]
 pub struct Cdr {
     /// The operator: `country_code` and `party_id`.

@@ -121,7 +121,7 @@ pub enum EventKind {
     Refused,
 }
 
-/// An event at a node.
+/// What happens, and at which node, by its party. A node serves the events of its own role.
 #[derive(Clone, Copy)]
 pub struct Event {
     pub node: Party,

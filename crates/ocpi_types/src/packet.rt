@@ -34,7 +34,7 @@ pub enum Body {
 }
 
 impl Body {
-    /// Its kind.
+    /// Which of the thirteen kinds of packet carries it.
     pub fn kind(&self) -> PacketKind
         ensures { result ≡ kind_of self.now }
     {

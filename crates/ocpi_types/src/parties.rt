@@ -56,7 +56,7 @@ impl Parties {
         }
     }
 
-    /// The operator.
+    /// The operator whose site it is, as the site line spells it.
     pub fn operator(&self) -> &Party
         ensures value { result.now ≡ self.now.operator }
         ensures apart { AreParties self.now }

@@ -1,6 +1,6 @@
 //! The operator.
 
-ghost use Rattle.std.specs.Prelude.{◌≡◌, IfOk, IfErr, OnErr, OnOk};
+ghost use Rattle.std.specs.Prelude.{◌≡◌, IfOk, IfErr, IsOk, OnErr, OnOk};
 ghost use Rattle.operator_rows.specs.State.{opening};
 
 use node_steps::{NodeFault, Stepped, copies};
@@ -80,6 +80,7 @@ impl Operator {
     pub fn make_room(&mut self, plan: &FullPlan) -> Result<(), AllocError>
         ensures state { self.new.state ≡ self.old.state }
         ensures room { OnOk result (HasFullRoomFor self.new (full_step_of plan.now)) }
+        ensures again { HasFullRoomFor self.old (full_step_of plan.now) → IsOk result }
     {
         self.books.make_full_room(plan)
     }

@@ -16,7 +16,7 @@ RowsChange = (s : State) (changes : List Change) → IsSound s → AreApart chan
 abbrev pub StepsStaySound : Type 0
 StepsStaySound = (s : State) (x : Step) → MayFollow s x → IsSound s → IsSound (after x s)
 
--- from the opening on, over steps and new starts
+-- from the opening on, over steps and restarts
 pub record StaysConsistent : Type 0 where
   pub at_first : (line : SiteLine) → party_at line.parties.operator ≡ Ok line.parties.operator → IsConsistent (opening line)
   pub by_steps : (s : State) (x : FullStep) → MayFollowFull s x → IsConsistent s → IsConsistent (after_full x s)

@@ -20,7 +20,7 @@ pub data Input : Type 0 where
   Ticks : ℕ → Input
   Restarts : Input
 
--- what an input comes to, were there no last number. A new start is no list of acts
+-- what an input comes to, were there no last number. A restart is no list of acts
 abbrev pub Asks : State → Input → Work → Type 0
 Asks s (Arrives at q) work = Comes s at q work
 Asks s (Serves evse in_service) work = Quietly (ServiceLine s evse in_service) work

@@ -46,7 +46,7 @@ fn may_take(books: &Books, provider: PartyKey, number: Whole, order: &OpenComman
     }
 }
 
-/// Whether a command may be open.
+/// Whether an open command that was stored may stand beside the rows that were put so far.
 pub fn may_open(books: &Books, provider: PartyKey, number: Whole, order: &OpenCommand) -> bool
     requires { ComesNext books.now.state (row.Pending provider number order.now) }
     ensures { Tells result books.now.state (row.Pending provider number order.now) }
@@ -66,7 +66,7 @@ pub fn may_open(books: &Books, provider: PartyKey, number: Whole, order: &OpenCo
     may_take(books, provider, number, order)
 }
 
-/// Whether a command may have a result.
+/// Whether the result of a command that was stored may stand beside the rows that were put so far.
 pub fn may_settle(
     books: &Books,
     provider: PartyKey,

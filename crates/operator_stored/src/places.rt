@@ -26,7 +26,7 @@ pub fn may_stop(books: &Books, evse: CiKey<36>) -> bool
     books.site_book().has_evse(evse)
 }
 
-/// Whether a reservation may stand.
+/// Whether a reservation that was stored may stand beside the rows that were put so far.
 pub fn may_reserve(
     books: &Books,
     provider: PartyKey,

@@ -28,7 +28,7 @@ pub fn may_count(books: &Books, counter: Counter, last: Whole) -> bool
     }
 }
 
-/// Whether a token may be known.
+/// Whether a token that was stored may stand beside the rows that were put so far: its party is a provider of the site.
 pub fn may_know(books: &Books, token: &Token) -> bool
     requires { ComesNext books.now.state (row.Token token.now) }
     ensures { Tells result books.now.state (row.Token token.now) }
@@ -36,7 +36,7 @@ pub fn may_know(books: &Books, token: &Token) -> bool
     is_provider(books, token.party.key())
 }
 
-/// Whether a push may be sent.
+/// Whether a push that was stored may stand beside the rows that were put so far.
 pub fn may_push(books: &Books, number: Whole, to: &Party, push: &Push) -> bool
     requires { ComesNext books.now.state (row.Push number to.now push.now) }
     ensures { Tells result books.now.state (row.Push number to.now push.now) }

@@ -81,7 +81,7 @@ fn may_charge(books: &Books, session: &Session) -> bool
     is_unclaimed(books, evse)
 }
 
-/// Whether a session may stand.
+/// Whether the newest version of a session that was stored may stand beside the rows that were put so far.
 pub fn may_stand(books: &Books, session: &Session) -> bool
     requires { ComesNext books.now.state (row.Session session.now) }
     ensures { Tells result books.now.state (row.Session session.now) }

@@ -12,7 +12,7 @@
 //! ```
 //!
 //! The push is among those that are `due`, since it was sent ten seconds before; once it is acknowledged it stands no more.
-//! After a new start all that waits for an answer is due.
+//! After a restart all that waits for an answer is due.
 #![tactic(auto)]
 
 mod fault;

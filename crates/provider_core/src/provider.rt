@@ -1,6 +1,6 @@
 //! The provider.
 
-ghost use Rattle.std.specs.Prelude.{◌≡◌, IfOk, IfErr, OnErr, OnOk};
+ghost use Rattle.std.specs.Prelude.{◌≡◌, IfOk, IfErr, IsOk, OnErr, OnOk};
 ghost use Rattle.ocpi_text.specs.Text.{key};
 ghost use Rattle.handover.specs.Owed.{owed};
 ghost use Rattle.provider_rows.specs.State.{opening};
@@ -101,6 +101,7 @@ impl Provider {
     pub fn make_room(&mut self, plan: &Plan) -> Result<(), AllocError>
         ensures state { self.new.state ≡ self.old.state }
         ensures room { OnOk result (HasRoomFor self.new (step_of plan.now)) }
+        ensures again { HasRoomFor self.old (step_of plan.now) → IsOk result }
     {
         self.books.make_room(plan)
     }

@@ -1,5 +1,5 @@
 -- The laws of a provider over every list of events from its opening: packets that come, in any order and any number of times, orders
--- that are submitted, tokens that are given, time that passes, at moments that may go back, and new starts of the provider from what it
+-- that are submitted, tokens that are given, time that passes, at moments that may go back, and restarts of the provider from what it
 -- stored; events that are refused among them.
 use Rattle.std.specs.Prelude.{◌≡◌, ◌⊎◌, ℕ, ◌+◌, List, Some, None, Contains, slice_get, ◌++◌, ◌∷◌}
 use Rattle.std.specs.List.{flat_map}

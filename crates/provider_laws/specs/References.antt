@@ -14,7 +14,7 @@ use Rattle.provider_rows.specs.State.{ArePeers, Peering, Rows, State, opening, r
 use Rattle.provider_steps.specs.Events.{Event}
 use Rattle.provider_laws.specs.Laws.{Run}
 
--- the counter of references never falls, over new starts too
+-- the counter of references never falls, over restarts too
 abbrev pub ReferencesNeverFall : Type 0
 ReferencesNeverFall = (s t : State) (es : List Event) → Run s es t → s.rows.desk.references ≤ t.rows.desk.references
 

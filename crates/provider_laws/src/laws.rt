@@ -111,7 +111,7 @@ pub fn urls_have_one_number()
     ensures { UrlsHaveOneNumber }
 {}
 
-/// The counter of references never falls, over new starts too.
+/// The counter of references never falls, over restarts too.
 pub fn references_never_fall()
     ensures { ReferencesNeverFall }
 {}

@@ -14,7 +14,7 @@ RowsChange = (s : State) (changes : List Change) → AreApart changes → MayCha
 abbrev pub StepsStaySound : Type 0
 StepsStaySound = (s : State) (x : Step) → MayFollow s x → IsSound s → IsSound (after x s)
 
--- from the opening on, over steps and new starts
+-- from the opening on, over steps and restarts
 pub record StaysConsistent : Type 0 where
   pub at_first : (p : Peering) → ArePeers p → IsConsistent (opening p)
   pub by_steps : (s : State) (x : Step) → MayFollow s x → IsConsistent s → IsConsistent (after x s)

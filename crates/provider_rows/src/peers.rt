@@ -35,7 +35,7 @@ impl Peers {
         Some(Peers { parties })
     }
 
-    /// The provider.
+    /// The provider whose node it is, as it spells itself.
     pub fn provider(&self) -> &Party
         ensures value { result.now ≡ self.now.provider }
         ensures peers { ArePeers self.now }

@@ -13,7 +13,7 @@ pub fn steps_stay_sound()
     ensures { StepsStaySound }
 {}
 
-/// A provider is consistent at first, and a step or a new start leaves it so.
+/// A provider is consistent at first, and a step or a restart leaves it so.
 pub fn stays_consistent()
     ensures { StaysConsistent }
 {}

@@ -22,7 +22,7 @@ pub data Input : Type 0 where
   Ticks : ℕ → Input
   Restarts : Input
 
--- what an input comes to, were there no last number. A new start is no list of acts
+-- what an input comes to, were there no last number. A restart is no list of acts
 abbrev pub Asks : State → Input → List Act → Type 0
 Asks s (Arrives at q) acts = Comes s at q acts
 Asks s (Submits at operator order) acts = OrderLine s at operator order acts

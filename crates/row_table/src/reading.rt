@@ -45,21 +45,21 @@ impl TextRow {
         Ok(TextRow { kind, name, text })
     }
 
-    /// Its kind.
+    /// The kind of the row: the first half of the key by which its text stands.
     pub fn kind(&self) -> &str
         ensures { result.now ≡ self.now.0.0 }
     {
         self.kind.as_str()
     }
 
-    /// Its name.
+    /// The name of the row among those of its kind: the second half of that key.
     pub fn name(&self) -> &str
         ensures { result.now ≡ self.now.0.1 }
     {
         self.name.as_str()
     }
 
-    /// The text.
+    /// The text that stands under kind and name.
     pub fn text(&self) -> &str
         ensures { result.now ≡ self.now.1 }
     {

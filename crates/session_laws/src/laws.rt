@@ -15,7 +15,7 @@ pub fn pasts_are_orderly()
 {}
 
 /// From any state to any later one, what events put of a session may follow the version that is stored, and the last of them is stored
-/// then. A version that is sent but not stored, or one that is lost by a new start, would break this.
+/// then. A version that is sent but not stored, or one that is lost by a restart, would break this.
 pub fn pasts_go_on()
     ensures { PastsGoOn }
 {}

@@ -60,7 +60,7 @@ impl SiteBook {
         Ok(SiteBook { site, indexes })
     }
 
-    /// The site itself.
+    /// The site that the book was made with: its locations, its price and its currency.
     pub fn site(&self) -> &Site
         ensures { result.now ≡ self.now.site }
     {

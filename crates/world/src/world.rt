@@ -208,9 +208,19 @@ impl World {
         worlds_go_on();
     }
 
-    /// The world of a setup after events. An error is want of memory.
+    /// Nothing is told of the last step any more: neither its packets nor its changes.
+    fn forget(&mut self)
+        ensures { self.new ≡ record self.old { changes = []; packets = [] } }
+    {
+        self.changes.clear();
+        self.sending = None;
+    }
+
+    /// The world of a setup after events. Of these neither packets nor changes are told: what they sent was sent when they happened. An
+    /// error is want of memory.
     pub fn run(alloc: Global, setup: &Setup, events: &[Event]) -> Result<World, AllocError>
         ensures legal { IfOk result (λ w. WorldRun (opened setup.now) events.now w.places) }
+        ensures told { IfOk result (λ w. (w.packets ≡ []) × (w.changes ≡ [])) }
         ensures right { IfOk result (λ w. IsRight w.places) }
         ensures goes_on { IfOk result (λ w. (es : List EventOf) (v : WorldOf) → WorldRun w.places es v → IsRight v × IsLater w.places v) }
     {
@@ -218,18 +228,20 @@ impl World {
         for event in events {
             let _outcome = world.step(event)?;
         }
+        world.forget();
         world.consistency();
         Ok(world)
     }
 
-    /// The packets that the last step sent, in order. None, where the event of it was not stepped. It takes no memory.
+    /// The packets that the last step sent, in order. None, where the event of it was not stepped, and where no step was made since the
+    /// world was opened or run. A step that memory ran out for leaves those of the one before. It takes no memory.
     pub fn packets(&self) -> &[Packet]
         ensures { result.now ≡ self.now.packets }
     {
         packets_of(self.places.as_slice(), self.sending)
     }
 
-    /// The rows that the last step changed, in order. None, where the event of it was not stepped.
+    /// The rows that the last step changed, in order, where [`World::packets`] are those that it sent.
     pub fn changes(&self) -> &[Change]
         ensures { result.now ≡ self.now.changes }
     {
