@@ -124,7 +124,9 @@ fn play_input<W: Write, S: Keeps + Drop>(
     };
     let mut input = LineReader::new(reader);
     let mut kept = Vec::new(rt.alloc());
-    run_play(rt.alloc(), &mut input, writer, keeps, &mut kept)
+    let ran = run_play(rt.alloc(), &mut input, writer, keeps, &mut kept);
+    drop(kept);
+    ran
 }
 
 /// Writes what is owed by the rows of a file.

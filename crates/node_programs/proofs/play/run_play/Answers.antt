@@ -5,8 +5,10 @@ use Rattle.node_programs.proofs.play.run_play.Goals as goal
 
 pub returns-clause-output : goal.returns-clause-output
 returns-clause-output g c =
-    went (keeping_of g.S.Kept.Keep.content g.S.Kept.Keep.is_honest g.S.Kept.Keep.refusals) g.S.Keeps.may_refuse _ _ _ c.new-playing.result c.run_whole-ran.new.machine c.new-playing.ensures
-    c.close-left.result.1 c.close-left.ensures.stop _ (sym c.close-left.ensures.kept) c.ended.result c.run_whole-ran.result c.ended.ensures.ok c.run_whole-ran.ensures.output
+    went (keeping_of g.S.Kept.Keep.content g.S.Kept.Keep.is_honest g.S.Kept.Keep.refusals) g.S.Keeps.may_refuse
+    (g.R.Read.remaining c.args.input.now.reader) (g.W.Write.contents c.args.writer.now) (g.W.Write.contents c.run_whole-ran.new.writer)
+    c.new-playing.result c.run_whole-ran.new.machine c.new-playing.ensures
+    c.close-left.result.1 c.close-left.ensures.stop c.close-left.result.0.items (sym c.close-left.ensures.kept) c.ended.result c.run_whole-ran.result c.ended.ensures.ok c.run_whole-ran.ensures.output
 
 pub returns-clause-begun : goal.returns-clause-begun
 returns-clause-begun g c = rw (← c.new-playing.ensures) (stopped c.ended.result c.run_whole-ran.result _ c.ended.ensures.run c.run_whole-ran.ensures.begun)
@@ -16,8 +18,10 @@ returns-clause-stopped g c = rw (← c.new-playing.ensures) (stopped c.ended.res
 
 pub returns-clause-store : goal.returns-clause-store
 returns-clause-store g c =
-    kept_off (keeping_of g.S.Kept.Keep.content g.S.Kept.Keep.is_honest g.S.Kept.Keep.refusals) g.S.Keeps.may_refuse _ _ _ c.new-playing.result c.run_whole-ran.new.machine c.new-playing.ensures
-    c.close-left.result.1 c.close-left.ensures.stop _ (sym c.close-left.ensures.kept) c.ended.result c.run_whole-ran.result c.ended.ensures.store c.run_whole-ran.ensures.output
+    kept_off (keeping_of g.S.Kept.Keep.content g.S.Kept.Keep.is_honest g.S.Kept.Keep.refusals) g.S.Keeps.may_refuse
+    (g.R.Read.remaining c.args.input.now.reader) (g.W.Write.contents c.args.writer.now) (g.W.Write.contents c.run_whole-ran.new.writer)
+    c.new-playing.result c.run_whole-ran.new.machine c.new-playing.ensures
+    c.close-left.result.1 c.close-left.ensures.stop c.close-left.result.0.items (sym c.close-left.ensures.kept) c.ended.result c.run_whole-ran.result c.ended.ensures.store c.run_whole-ran.ensures.output
 
 pub returns-clause-failed : goal.returns-clause-failed
 returns-clause-failed g c = λ e. c.run_whole-ran.ensures.failed (same_fault c.ended.result c.run_whole-ran.result _ c.ended.ensures.run e)
