@@ -1,5 +1,22 @@
 //! A run that answers each line of an input.
-ghost use Rattle.std.specs.Prelude.{◌≡◌, ◌≢◌, ℕ, ◌++◌, ◌≤◌, List, [], Ok, Err, true, length, take, IfOk, IfErr, OnOk, string_bytes};
+ghost use Rattle.std.specs.Prelude.{
+  ◌≡◌,
+  ◌≢◌,
+  ℕ,
+  ◌++◌,
+  ◌≤◌,
+  List,
+  [],
+  Ok,
+  Err,
+  true,
+  length,
+  take,
+  IfOk,
+  IfErr,
+  OnOk,
+  string_bytes,
+};
 ghost use Rattle.std.specs.Io.KnownBytes.{Appends};
 ghost use Rattle.line_runs.specs.Run.{Begins, Outputs, StopsReading, ReadsFewLines, gives_beginning};
 ghost use Rattle.line_runs.specs.Outcome.{both_ran};
@@ -28,7 +45,8 @@ const MOST_READS: u32 = 1_000_000_000;
 
 /// What answers the lines of an input one after another.
 pub trait AnswerLines {
-    /// `line_gives s line turn output t`: at the state s a line may be answered by these bytes, and t is the state after it.
+    /// `line_gives s line turn output t`: at the state s a line may be answered by these bytes, and t is the state
+    /// after it.
     ghost line_gives: { Self → List ℕ → TurnOf → List ℕ → Self → Type 0 };
 
     /// `end_gives s ran output`: where the input ends at the state s, these bytes may be the last.
@@ -50,9 +68,10 @@ pub trait AnswerLines {
 
 /// Answers each line of the input that holds something, writes what it gives, and flushes the writer at the end.
 ///
-/// Where the run was not stopped, what is written is what the lines of the input give, and the machine is in the state that they left.
-/// Where it was stopped, what is written is a beginning of that: by a failed read or too many reads, what exactly the lines that were
-/// read whole give. At most 1,000,000,000 lines are read. What was answered is flushed before each read that may wait.
+/// Where the run was not stopped, what is written is what the lines of the input give, and the machine is in the state
+/// that they left. Where it was stopped, what is written is a beginning of that: by a failed read or too many reads,
+/// what exactly the lines that were read whole give. At most 1,000,000,000 lines are read. What was answered is
+/// flushed before each read that may wait.
 pub fn run_whole<M: AnswerLines, R: BufRead, W: Write>(
     alloc: Global,
     machine: &mut M,

@@ -1,7 +1,16 @@
 //! The keepers of a world's nodes: they are opened, and then given what each event changes.
 
 ghost use Rattle.std.specs.Prelude.{◌≡◌, ◌≢◌, ℕ, [], IfErr, IfNone, IfOk, IfSome, OnOk};
-ghost use Rattle.node_keepers.specs.Keeping.{AreOpened, AreUnopened, IsEmpty, IsKeeperOf, IsUnopened, KeeperRefuses, KeeperTakes, keeping_of};
+ghost use Rattle.node_keepers.specs.Keeping.{
+  AreOpened,
+  AreUnopened,
+  IsEmpty,
+  IsKeeperOf,
+  IsUnopened,
+  KeeperRefuses,
+  KeeperTakes,
+  keeping_of,
+};
 ghost use Rattle.node_keepers.specs.declared.keeping.KeptNode.{KeptNode as KeptNodeOf};
 ghost use Rattle.ocpi_types.specs.Setups.{party_of};
 
@@ -65,8 +74,8 @@ fn find<K>(kept: &[KeptNode<K>], party: &Party) -> Option<usize>
     None
 }
 
-/// Gives the changes of an event to the keeper of that party's node, where there are any. A refusal is that of the keeper, and
-/// changes nothing; one comes too where there are changes and no keeper for them.
+/// Gives the changes of an event to the keeper of that party's node, where there are any. A refusal is that of the
+/// keeper, and changes nothing; one comes too where there are changes and no keeper for them.
 pub fn commit<K: Keep>(
     kept: &mut Vec<KeptNode<K>>,
     party: &Party,

@@ -83,8 +83,8 @@ fn stands(rt: &HostRuntime, path: &str) -> Result<bool, StoreFault> {
     }
 }
 
-/// The rows of a keeper that was opened, which ends here. It stands for any keeper, since a body that holds one in a file is dear to
-/// prove.
+/// The rows of a keeper that was opened, which ends here. It stands for any keeper, since a body that holds one in a
+/// file is dear to prove.
 fn rows_of<K: Keep + Drop>(opened: Result<K, StoreFault>) -> Result<Vec<Row>, StoreFault> {
     let mut keep = opened?;
     keep.load()

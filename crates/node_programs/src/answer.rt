@@ -26,8 +26,8 @@ pub struct Running {
     operator: Operator,
 }
 
-/// What a derive would do, in a function of its own: so it is proved once, and not in each function that drops an operator. A call of
-/// `drop` is proved in a fortieth of the time that a field takes which a pattern passes over.
+/// What a derive would do, in a function of its own: so it is proved once, and not in each function that drops an
+/// operator. A call of `drop` is proved in a fortieth of the time that a field takes which a pattern passes over.
 impl Drop for Running {
     fn drop(self) {
         let Running { at: _, operator } = self;
@@ -209,14 +209,14 @@ fn answer_packet(
     }
 }
 
-/// Answers the packets of an input as one operator. The first line that holds something is a site line, and each
-/// other a packet at its moment; each packet that the operator sends is one line. A line that is refused is written as
-/// `refused`, its number and its name, changes nothing, and the next follows; a refused or absent site line ends the run.
+/// Answers the packets of an input as one operator. The first line that holds something is a site line, and each other
+/// a packet at its moment; each packet that the operator sends is one line. A line that is refused is written as
+/// `refused`, its number and its name, changes nothing, and the next follows; a refused or absent site line ends the
+/// run.
 ///
-/// Where the run was not stopped, what is written is the output of the input. Where it was stopped, what is written is a
-/// beginning of that: by a failed read or too many reads, what exactly the lines that were read whole give. At most
-/// 1,000,000,000 lines are read.
-/// What was answered is flushed before each read that may wait, and at the end.
+/// Where the run was not stopped, what is written is the output of the input. Where it was stopped, what is written is
+/// a beginning of that: by a failed read or too many reads, what exactly the lines that were read whole give. At most
+/// 1,000,000,000 lines are read. What was answered is flushed before each read that may wait, and at the end.
 pub fn run_answer<R: BufRead, W: Write>(
     alloc: Global,
     input: &mut LineReader<R>,

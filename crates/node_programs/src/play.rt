@@ -9,7 +9,17 @@ ghost use Rattle.ocpi_types.specs.declared.rows.Change.{Change as ChangeOf};
 ghost use Rattle.ocpi_types.specs.declared.setup.Node.{Node as NodeOf};
 ghost use Rattle.node_keepers.specs.Keeping.{AreOpened, AreUnopened, keeping_of};
 ghost use Rattle.node_programs.specs.Play.{EventTurn, PlayEndGives, PlayLineGives, PlayOutputs, SetupTurn, Stage};
-ghost use Rattle.node_programs.specs.Play.{debt_line, debt_lines, debts_of, kept_in, opening, outcome_lines, owed_lines, played_from, turn_of};
+ghost use Rattle.node_programs.specs.Play.{
+  debt_line,
+  debt_lines,
+  debts_of,
+  kept_in,
+  opening,
+  outcome_lines,
+  owed_lines,
+  played_from,
+  turn_of,
+};
 ghost use Rattle.ocpi_text.specs.Text.{key};
 ghost use Rattle.world.specs.Seen.{told};
 ghost use Rattle.world.specs.State.{owed_by};
@@ -264,8 +274,8 @@ fn write_outcome(
     }
 }
 
-/// Lets an event that was read happen, has its changes kept, and then writes what comes of it. Where memory runs out for it, it is
-/// refused. Where they are not kept, nothing is written, and the run ends.
+/// Lets an event that was read happen, has its changes kept, and then writes what comes of it. Where memory runs out
+/// for it, it is refused. Where they are not kept, nothing is written, and the run ends.
 fn play_read<K: Keep>(
     alloc: Global,
     played: &mut Played<K>,
@@ -441,21 +451,22 @@ fn ended(ran: Result<Ran, RunFault>, stop: Option<StoreFault>) -> Result<Ran, Pl
     }
 }
 
-/// Plays the events of an input in a world of nodes. The first line that holds something is the setup, and each other an
-/// event at one of its nodes; each packet that the node sends is one line. An event that is of no node is written as
-/// `skipped`. A line that is refused is written as `refused`, its number and its name, changes nothing, and the next
-/// follows; a refused or absent setup ends the run. At the end what each provider owes each operator is one line.
+/// Plays the events of an input in a world of nodes. The first line that holds something is the setup, and each other
+/// an event at one of its nodes; each packet that the node sends is one line. An event that is of no node is written
+/// as `skipped`. A line that is refused is written as `refused`, its number and its name, changes nothing, and the
+/// next follows; a refused or absent setup ends the run. At the end what each provider owes each operator is one line.
 ///
-/// Each node has a keeper of its rows, opened once the setup was read, in its order, and the rows that an event changes are
-/// committed to it before the packets of the event are written (no clause says when). Where one of these is refused the run
-/// ends, of that line nothing is written, and `Store` tells the fault of the refusal, unless the last flush fails too. A keeper
-/// counts the calls that it refuses, but not want of memory, so that no clause ties `StoreFault::Memory` to a refusal. `kept`
-/// gets the keepers as the run left them, in the order of the setup; none, where the nodes of no setup got any.
+/// Each node has a keeper of its rows, opened once the setup was read, in its order, and the rows that an event
+/// changes are committed to it before the packets of the event are written (no clause says when). Where one of these
+/// is refused the run ends, of that line nothing is written, and `Store` tells the fault of the refusal, unless the
+/// last flush fails too. A keeper counts the calls that it refuses, but not want of memory, so that no clause ties
+/// `StoreFault::Memory` to a refusal. `kept` gets the keepers as the run left them, in the order of the setup; none,
+/// where the nodes of no setup got any.
 ///
-/// Where the run was not stopped, what is written is the output of the input. Where it was stopped, what is written is a
-/// beginning of that: by a failed read or too many reads, what exactly the lines that were read whole give; by a store, what the
-/// lines before give. At most 1,000,000,000 lines are read.
-/// What was answered is flushed before each read that may wait, and at the end.
+/// Where the run was not stopped, what is written is the output of the input. Where it was stopped, what is written is
+/// a beginning of that: by a failed read or too many reads, what exactly the lines that were read whole give; by a
+/// store, what the lines before give. At most 1,000,000,000 lines are read. What was answered is flushed before each
+/// read that may wait, and at the end.
 pub fn run_play<R: BufRead, W: Write, S: Keeps + Drop>(
     alloc: Global,
     input: &mut LineReader<R>,

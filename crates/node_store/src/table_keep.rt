@@ -1,6 +1,22 @@
 //! A keeper in a SQLite database.
 
-ghost use Rattle.std.specs.Prelude.{◌≡◌, ◌≢◌, ◌⊎◌, All, List, ℕ, [], length, IfErr, IfOk, OnErr, OnOk, IsSome, None, Some};
+ghost use Rattle.std.specs.Prelude.{
+  ◌≡◌,
+  ◌≢◌,
+  ◌⊎◌,
+  All,
+  List,
+  ℕ,
+  [],
+  length,
+  IfErr,
+  IfOk,
+  OnErr,
+  OnOk,
+  IsSome,
+  None,
+  Some,
+};
 ghost use Rattle.node_store.specs.Contents.{Content, IsReadAgain, changed_all, rows_after, rows_of};
 ghost use Rattle.node_store.specs.Faults.{IsListFault, IsCommitFault, counted, counted_fault};
 ghost use Rattle.node_store.specs.declared.fault.StoreFault.TheVariants.{BadRow, OldLayout};

@@ -48,8 +48,8 @@ Exit status:
   3  a store refused: standard error says `store: `, the number and the name of the refusal. That ends a run of
      play, and nothing of that line is written"#;
 
-/// Takes the command line `ocpi_nodes [answer | play [--store DIR] | settle FILE]`, or gives clap's text: the help or the version
-/// that was asked for, or what is wrong.
+/// Takes the command line `ocpi_nodes [answer | play [--store DIR] | settle FILE]`, or gives clap's text: the help or
+/// the version that was asked for, or what is wrong.
 pub fn take_words<'a>(alloc: Global, words: &'a [String]) -> Result<Word<'a>, Error> {
     let command = Command::new(alloc, "ocpi_nodes")
         .version("0.1.0")
@@ -63,8 +63,8 @@ pub fn take_words<'a>(alloc: Global, words: &'a [String]) -> Result<Word<'a>, Er
     Ok(word_of(&matches))
 }
 
-/// The command with one word more. It lets the command go by a call where there is no such word, since a `?` would have its whole drop
-/// proved here.
+/// The command with one word more. It lets the command go by a call where there is no such word, since a `?` would
+/// have its whole drop proved here.
 fn with_word<'a>(
     command: Command<'a>,
     word: Result<Command<'a>, Error>,
@@ -119,8 +119,8 @@ fn word_of<'a>(matches: &ArgMatches<'a>) -> Word<'a> {
     }
 }
 
-/// The exit status after clap's text: 2 where the command line is wrong, whether or not that could be printed; else 0 where the
-/// help or the version was printed, and 1 where it was not.
+/// The exit status after clap's text: 2 where the command line is wrong, whether or not that could be printed; else 0
+/// where the help or the version was printed, and 1 where it was not.
 pub fn status_after(text: &Error, is_printed: bool) -> u8
     ensures wrong { kind_of text.now ≢ ErrorKind.DisplayHelp → kind_of text.now ≢ ErrorKind.DisplayVersion → result ≡ 2 }
     ensures printed { (kind_of text.now ≡ ErrorKind.DisplayHelp) ⊎ (kind_of text.now ≡ ErrorKind.DisplayVersion)

@@ -1,4 +1,5 @@
--- Charge detail records, and the versions of sessions that are completed: what is gathered of them, and the acts that a line asks for.
+-- Charge detail records, and the versions of sessions that are completed: what is gathered of them, and the acts that
+-- a line asks for.
 use Rattle.std.proofs.Common.{◌≡◌, ◌≢◌, ◌≤◌, ◌+◌, ◌++◌, ℕ, List, [], ◌∷◌, refl, sym, ap, subst, ◌∙◌, arith}
 use Rattle.std.specs.Prelude.{Contains}
 use Rattle.std.proofs.lemmas.List.{append-nil}

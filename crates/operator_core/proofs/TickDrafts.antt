@@ -1,4 +1,5 @@
--- What happens at a moment: its acts are what the moment comes to, they take so many numbers, and they are gathered in turn.
+-- What happens at a moment: its acts are what the moment comes to, they take so many numbers, and they are gathered in
+-- turn.
 use Rattle.std.proofs.Common.{◌≡◌, ◌<◌, ◌≤◌, ◌+◌, ◌++◌, ℕ, Bool, true, false, cond, nat_eq, List, [], ◌∷◌, length, map, inl, inr, refl, sym, ap, subst, ◌∙◌, arith}
 use Rattle.std.specs.Prelude.{Contains, Result, Ok, Err, IfOk, IfErr, IsTrue}
 use Rattle.std.specs.Result.{IsErrAnd}

@@ -1,5 +1,5 @@
--- Charge detail records, and the versions of sessions that are completed, as an operator sends them (OCPI 2.2.1, CDRs: Sender
--- interface).
+-- Charge detail records, and the versions of sessions that are completed, as an operator sends them (OCPI 2.2.1, CDRs:
+-- Sender interface).
 use Rattle.std.specs.Prelude.{◌≡◌, ◌≤◌, ℕ, ◌+◌, List, [], ◌∷◌, ◌++◌, ⊤}
 use Rattle.ocpi_text.specs.Text.{key}
 use Rattle.ocpi_text.specs.Whole.{max_whole}

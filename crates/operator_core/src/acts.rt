@@ -202,8 +202,8 @@ fn add_settled(
     }))
 }
 
-/// Adds a decision on the command that a body carries: it is answered, what was decided is done, and its result follows, where there
-/// is one.
+/// Adds a decision on the command that a body carries: it is answered, what was decided is done, and its result
+/// follows, where there is one.
 pub fn add_decided(
     alloc: Global,
     draft: &mut Draft,

@@ -37,7 +37,8 @@ impl Operator {
         Some(awaited)
     }
 
-    /// The step of an answer to what is awaited, without the end of the waiting: a session begins by it where it allows one.
+    /// The step of an answer to what is awaited, without the end of the waiting: a session begins by it where it
+    /// allows one.
     fn plan_by_answer(
         &self,
         request: &Request,
@@ -58,7 +59,8 @@ impl Operator {
         }
     }
 
-    /// What becomes of an answer: it ends the waiting that it is for, and a session begins by it where it allows one; or it is idle.
+    /// What becomes of an answer: it ends the waiting that it is for, and a session begins by it where it allows one;
+    /// or it is idle.
     pub(crate) fn plan_answer(
         &self,
         request: &Request,

@@ -18,9 +18,9 @@ use operator_steps::Ending;
 use session_tables::Beginning;
 use std::alloc::AllocError;
 
-/// The most rows that the beginning of a session changes, beside the counters of packets and requests: an open command, its push
-/// and its result, a reference; the counter of sessions, a reservation, the push of an older version, the push of the first one,
-/// and this version.
+/// The most rows that the beginning of a session changes, beside the counters of packets and requests: an open
+/// command, its push and its result, a reference; the counter of sessions, a reservation, the push of an older
+/// version, the push of the first one, and this version.
 const MOST_CHANGES: usize = 9;
 
 impl Operator {

@@ -70,7 +70,8 @@ pub(crate) fn add_bill(
     add_recorded(alloc, draft, cdr)
 }
 
-/// The charge detail record of a draft, under the id of a number of a party. The draft is spent. An error is want of memory.
+/// The charge detail record of a draft, under the id of a number of a party. The draft is spent. An error is want of
+/// memory.
 fn issued(
     alloc: Global,
     party: &Party,

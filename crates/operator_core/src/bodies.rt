@@ -66,7 +66,8 @@ pub fn reference_of(body: &Body) -> Option<CiText<36>>
     }
 }
 
-/// How the command that a body carries ended, as its provider is told. None, where it carries none. An error is want of memory.
+/// How the command that a body carries ended, as its provider is told. None, where it carries none. An error is want
+/// of memory.
 pub fn told(body: &Body, outcome: CommandResultType) -> Result<Option<CommandResult>, AllocError>
     ensures { IfOk result (λ o. IfCommand body.now (λ c. o ≡ Some (told (url_of c) outcome))) }
 {

@@ -7,7 +7,17 @@ ghost use Rattle.node_steps.specs.Drafts.{step_of};
 ghost use Rattle.operator_rows.specs.FullSteps.{full_step_of};
 ghost use Rattle.operator_rows.specs.State.{HasClaim};
 ghost use Rattle.operator_rows.specs.Steps.{MayFollowFull};
-ghost use Rattle.operator_steps.specs.Charger.{ChargerLine, EndsNone, IsAbout, IsEnded, IsStarted, StartsNone, accepted, outcome, unlocked};
+ghost use Rattle.operator_steps.specs.Charger.{
+  ChargerLine,
+  EndsNone,
+  IsAbout,
+  IsEnded,
+  IsStarted,
+  StartsNone,
+  accepted,
+  outcome,
+  unlocked,
+};
 ghost use Rattle.operator_steps.specs.Ends.{IsOpen};
 ghost use Rattle.operator_steps.specs.Faults.{IsReportFault};
 ghost use Rattle.operator_steps.specs.Moves.{AreInRange, PlannedBy, step_of_acts};
@@ -43,7 +53,8 @@ fn accepted_by(report: &ChargerEvent) -> Option<(Party, Whole)>
     }
 }
 
-/// How a command ends that the charge point carries out. None, where its end makes a session or is told by another report.
+/// How a command ends that the charge point carries out. None, where its end makes a session or is told by another
+/// report.
 fn accepted(command: &Command) -> Option<CommandResultType>
     ensures { result ≡ accepted command.now }
 {

@@ -19,7 +19,8 @@ use ocpi_text::Moment;
 use ocpi_types::Session;
 use session_state::CdrDraft;
 
-/// The most rows that a version of a session changes, beside the counters: the push of an older version, its own push, and itself.
+/// The most rows that a version of a session changes, beside the counters: the push of an older version, its own push,
+/// and itself.
 const CHANGES_OF_A_VERSION: usize = 3;
 
 /// The rows that a charge detail record changes: its counter, its push, and itself.
@@ -74,8 +75,9 @@ impl Operator {
         self.plan_version(at, &versioned)
     }
 
-    /// The step in which a session is completed: its last version and its charge detail record are pushed and stored. The draft is
-    /// spent. Refused (`NumbersUsedUp`) where a counter would pass its last number, and else for want of memory (`Memory`).
+    /// The step in which a session is completed: its last version and its charge detail record are pushed and stored.
+    /// The draft is spent. Refused (`NumbersUsedUp`) where a counter would pass its last number, and else for want of
+    /// memory (`Memory`).
     pub(crate) fn plan_completed(
         &self,
         at: Moment,

@@ -81,7 +81,8 @@ impl Operator {
         begins_without_answer(&self.books, at, awaited)
     }
 
-    /// The sessions that begin where these authorizations get no answer by a moment, in this order. An error is want of memory.
+    /// The sessions that begin where these authorizations get no answer by a moment, in this order. An error is want
+    /// of memory.
     pub(crate) fn beginnings(
         &self,
         at: Moment,

@@ -6,7 +6,15 @@ ghost use Rattle.ocpi_text.specs.Text.{key};
 ghost use Rattle.node_steps.specs.Drafts.{HasNumbers, HasNumbersOf, with_acts};
 ghost use Rattle.operator_steps.specs.declared.ending.Ending.{Ending as EndingOf};
 ghost use Rattle.operator_steps.specs.Acts.{url_of};
-ghost use Rattle.operator_steps.specs.Ends.{IsOpen, IsOfSite, all_resent, end_acts, ends_acts, expired_acts, resent_acts};
+ghost use Rattle.operator_steps.specs.Ends.{
+  IsOpen,
+  IsOfSite,
+  all_resent,
+  end_acts,
+  ends_acts,
+  expired_acts,
+  resent_acts,
+};
 ghost use Rattle.operator_core.specs.Requests.{told_of_end};
 
 use crate::operator::Operator;

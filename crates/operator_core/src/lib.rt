@@ -1,5 +1,5 @@
-//! The operator: it owns charge points at a site, answers the commands of the site's providers, and lets their drivers charge (OCPI
-//! 2.2.1, Commands, Sessions, CDRs, Tokens).
+//! The operator: it owns charge points at a site, answers the commands of the site's providers, and lets their drivers
+//! charge (OCPI 2.2.1, Commands, Sessions, CDRs, Tokens).
 //!
 //! ```
 //! let mut operator = Operator::new(alloc, site_line)?;
@@ -12,8 +12,8 @@
 //! operator.restart();
 //! ```
 //!
-//! A step may be taken in one call, as that of the packet here, or in three. Then a keeper of the rows stores their changes
-//! before the last, which cannot fail.
+//! A step may be taken in one call, as that of the packet here, or in three. Then a keeper of the rows stores their
+//! changes before the last, which cannot fail.
 #![tactic(auto)]
 
 mod acts;

@@ -25,8 +25,8 @@ use operator_rows::FullPlan;
 use operator_tables::{Decision, Request, decide};
 use std::alloc::AllocError;
 
-/// The most rows that a decision changes, beside the counters: a reply, a mark, a reservation, a push and a result; or a reply, a
-/// reservation, an open command and a reference.
+/// The most rows that a decision changes, beside the counters: a reply, a mark, a reservation, a push and a result; or
+/// a reply, a reservation, an open command and a reference.
 const MOST_CHANGES: usize = 5;
 
 /// How many results there are: one, or none.
@@ -135,8 +135,8 @@ impl Operator {
         }
     }
 
-    /// Whether an acknowledgement is for a push of this operator: it has status 1000, and comes from the addressee under the
-    /// push's number.
+    /// Whether an acknowledgement is for a push of this operator: it has status 1000, and comes from the addressee
+    /// under the push's number.
     fn acknowledges(&self, packet: &Packet, ack: &Ack) -> bool
         ensures { IsTrue result ↔ Acknowledges self.now.state packet.now ack.now }
     {

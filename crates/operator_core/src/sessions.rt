@@ -104,7 +104,8 @@ pub(crate) fn add_version(
     add_stored(alloc, draft, &versioned.version)
 }
 
-/// Adds that a session begins: the reservation that it uses, where it uses one, ends, and its first version is pushed and stored.
+/// Adds that a session begins: the reservation that it uses, where it uses one, ends, and its first version is pushed
+/// and stored.
 pub(crate) fn add_begun(
     alloc: Global,
     draft: &mut Draft,

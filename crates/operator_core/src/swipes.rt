@@ -70,8 +70,8 @@ impl Operator {
         draft.ask(to, Body::Authorize(question))
     }
 
-    /// The step in which the provider of a token is asked, once, and its answer is awaited. Refused (`NumbersUsedUp`) where a
-    /// counter would pass its last number, and else for want of memory (`Memory`).
+    /// The step in which the provider of a token is asked, once, and its answer is awaited. Refused (`NumbersUsedUp`)
+    /// where a counter would pass its last number, and else for want of memory (`Memory`).
     pub(crate) fn plan_asked(
         &self,
         at: Moment,

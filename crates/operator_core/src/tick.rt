@@ -34,8 +34,8 @@ use std::alloc::AllocError;
 /// The rows that the end of a command changes: the open command, its push and its result.
 const CHANGES_OF_AN_END: usize = 3;
 
-/// The most rows that the beginning of a session changes: a reservation, the push of an older version, the push of the first one,
-/// and this version.
+/// The most rows that the beginning of a session changes: a reservation, the push of an older version, the push of the
+/// first one, and this version.
 const CHANGES_OF_A_BEGINNING: usize = 4;
 
 /// What is due at a moment, as it stands before it.
@@ -61,7 +61,8 @@ struct Happening {
     resent: Vec<Whole>,
 }
 
-/// What the acts of a moment take: the ends of commands and reservations, sessions that begin, and pushes that are sent again.
+/// What the acts of a moment take: the ends of commands and reservations, sessions that begin, and pushes that are
+/// sent again.
 fn needs(ends: &[Ending], expired: &[Standing], begun: &[Begun], resent: &[Whole]) -> Needs
     ensures packets { result.packets ≡ (length ends.now + length begun.now) + length resent.now }
     ensures requests { result.requests ≡ length ends.now + length begun.now }

@@ -71,8 +71,8 @@ fn add_put(
 }
 
 impl Operator {
-    /// What becomes of a token that a provider sends, for a request that was not answered before: it is kept where it is the
-    /// provider's own, and newer than the one that stands.
+    /// What becomes of a token that a provider sends, for a request that was not answered before: it is kept where it
+    /// is the provider's own, and newer than the one that stands.
     pub(crate) fn plan_put(&self, request: &Request, token: &Token) -> Result<Plan, NodeFault>
         ensures ok { IfOk result (λ x. PlansActs (TokenLine self.now.state request.now.at request.now.from request.now.provider request.now.number token.now) self.now.state (step_of x)) }
         ensures err { IfErr result (StopsLine (TokenLine self.now.state request.now.at request.now.from request.now.provider request.now.number token.now) self.now.state) }

@@ -32,14 +32,15 @@ pub record IsAnsweredIn (s : State) (es : List Event) (t : State) (q : Packet) (
   pub all : es ≡ earlier ++ event ∷ later
   pub answers : AnswersIt before event after q r
 
--- each kept reply was given by an event of the run, to a request that it answers: a command, or a token, of that party under that number
+-- each kept reply was given by an event of the run, to a request that it answers: a command, or a token, of that party
+-- under that number
 abbrev pub RepliesWereGiven : Type 0
 RepliesWereGiven = (line : SiteLine) (es : List Event) (t : State) → Run (opening line) es t → (p : List ℕ) (n : ℕ) (r : Reply) →
     get t.rows.commands.replies (p, n) ≡ Some r →
     (q : Packet) × IsAnsweredIn (opening line) es t q r × (key q.from ≡ p) × (q.request ≡ n) × IsReplyTo r q.body
 
--- a RESERVE_NOW of that provider about that id was answered in the events from s to t, under a number above that of every
--- CANCEL_RESERVATION about it that was answered in those from r to s
+-- a RESERVE_NOW of that provider about that id was answered in the events from s to t, under a number above that of
+-- every CANCEL_RESERVATION about it that was answered in those from r to s
 pub record IsReserved (r : State) (es : List Event) (s : State) (fs : List Event) (t : State) (p id : List ℕ) : Type 0 where
   pub packet : Packet
   pub asked : ReserveNow
@@ -51,8 +52,8 @@ pub record IsReserved (r : State) (es : List Event) (s : State) (fs : List Event
   pub newer : (x : Packet) (c : CancelReservation) (w : Reply) → IsAnsweredIn r es s x w → x.body ≡ body.CancelReservation c → key x.from ≡ p → key c.reservation_id ≡ id →
       x.request < packet.request
 
--- a reservation that stands, and did not at an earlier state, was made in between by a RESERVE_NOW that came, and not by one
--- that a cancellation overtook
+-- a reservation that stands, and did not at an earlier state, was made in between by a RESERVE_NOW that came, and not
+-- by one that a cancellation overtook
 abbrev pub ReservationsAreMade : Type 0
 ReservationsAreMade = (r s t : State) (es fs : List Event) → Run r es s → Run s fs t → (p id : List ℕ) → get s.rows.booked.reservations (p, id) ≡ None → (x : Reservation) →
     get t.rows.booked.reservations (p, id) ≡ Some x →
@@ -67,8 +68,8 @@ pub record IsCommandOf (s : State) (es : List Event) (t : State) (p : List ℕ) 
   pub by : key packet.from ≡ p
   pub number : packet.request ≡ n
 
--- an open command was open before, or is the command that came under its number. So is an open start with its authorization
--- reference, which is spent and is carried by no other open start (`HoldsAlways`)
+-- an open command was open before, or is the command that came under its number. So is an open start with its
+-- authorization reference, which is spent and is carried by no other open start (`HoldsAlways`)
 abbrev pub OpenCommandsCame : Type 0
 OpenCommandsCame = (s t : State) (es : List Event) → Run s es t → (p : List ℕ) (n : ℕ) (o : OpenCommand) → get t.rows.commands.pending (p, n) ≡ Some o →
     (get s.rows.commands.pending (p, n) ≡ Some o) ⊎ IsCommandOf s es t p n o.command

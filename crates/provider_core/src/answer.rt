@@ -7,7 +7,8 @@ use token_desk::Reference;
 /// How a request of an operator is answered, and what is done beside that.
 #[derive(Clone, Copy)]
 pub enum Answer {
-    /// It is acknowledged with status 2001: it is for no command, not the operator's to send, or in conflict with what is held.
+    /// It is acknowledged with status 2001: it is for no command, not the operator's to send, or in conflict with what
+    /// is held.
     Refused,
     /// It is acknowledged with status 1000, and what is stored stays as it is.
     Kept,

@@ -13,8 +13,8 @@ use ocpi_types::{Authorize, Body, Cdr, CommandResult, Packet, Session};
 use token_desk::{Authorized, TokenFault};
 
 impl Provider {
-    /// How the result of a command is answered: it is kept with the command that it is for, where that has none yet (OCPI
-    /// 2.2.1, Commands: CommandResult object).
+    /// How the result of a command is answered: it is kept with the command that it is for, where that has none yet
+    /// (OCPI 2.2.1, Commands: CommandResult object).
     fn result_answer(&self, packet: &Packet, outcome: &CommandResult) -> Answer
         requires { packet.now.body ≡ body.CommandResult outcome.now }
         ensures decides { Decides self.now.state packet.now result }
@@ -68,8 +68,8 @@ impl Provider {
         }
     }
 
-    /// How the question whether a token may be used is answered (OCPI 2.2.1, Tokens: Real-time authorization). None, where the
-    /// last reference was given.
+    /// How the question whether a token may be used is answered (OCPI 2.2.1, Tokens: Real-time authorization). None,
+    /// where the last reference was given.
     fn authorize_answer(&self, packet: &Packet, authorize: &Authorize) -> Option<Answer>
         requires { packet.now.body ≡ body.Authorize authorize.now }
         ensures decides { IfSome result (Decides self.now.state packet.now) }
@@ -93,7 +93,8 @@ impl Provider {
         }
     }
 
-    /// How a request that has no reply yet is answered. None, where it would be with a reference and the last one was given.
+    /// How a request that has no reply yet is answered. None, where it would be with a reference and the last one was
+    /// given.
     pub(crate) fn answer(&self, packet: &Packet) -> Option<Answer>
         requires { IsRequest packet.now.body }
         ensures decides { IfSome result (Decides self.now.state packet.now) }

@@ -1,5 +1,5 @@
-//! The provider: it has the tokens of its drivers, orders commands of operators, and holds the sessions and the charge detail
-//! records that these hand over (OCPI 2.2.1, Commands, Sessions, CDRs, Tokens).
+//! The provider: it has the tokens of its drivers, orders commands of operators, and holds the sessions and the charge
+//! detail records that these hand over (OCPI 2.2.1, Commands, Sessions, CDRs, Tokens).
 #![tactic(auto)]
 
 mod answer;

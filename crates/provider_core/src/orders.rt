@@ -23,7 +23,8 @@ use ocpi_types::{
 use provider_steps::facts;
 use std::alloc::{AllocError, Global};
 
-/// The rows that an order changes beside the counters of packets and requests: the counter of references, and the command.
+/// The rows that an order changes beside the counters of packets and requests: the counter of references, and the
+/// command.
 const MOST_CHANGES: usize = 2;
 
 /// The start, whose result is posted to a url. An error is want of memory.

@@ -82,8 +82,8 @@ impl Provider {
         })
     }
 
-    /// An order with what the provider adds to it. Refused where it does not hold the token (`UnknownToken`), and where the last
-    /// reference was given (`NumbersUsedUp`).
+    /// An order with what the provider adds to it. Refused where it does not hold the token (`UnknownToken`), and
+    /// where the last reference was given (`NumbersUsedUp`).
     pub(crate) fn prepare(&self, order: &Order) -> Result<Prepared, NodeFault>
         ensures prepared { IfOk result (IsPrepared self.now.state order.now) }
         ensures within { IfOk result (λ p. ReferWithin (before_of p)) }

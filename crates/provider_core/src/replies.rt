@@ -47,7 +47,8 @@ fn said(token: &Token, reference: Option<CiText<36>>) -> AuthorizationInfo
     }
 }
 
-/// The reply to the question whether a token may be used; none is known where nothing is said. An error is want of memory.
+/// The reply to the question whether a token may be used; none is known where nothing is said. An error is want of
+/// memory.
 fn authorization(
     alloc: Global,
     at: Moment,

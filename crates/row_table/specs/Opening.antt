@@ -57,7 +57,8 @@ pub record IsNewStore (old new : State) : Type 0 where
 abbrev pub FindsTexts : Database → Texts → Type 0
 FindsTexts db t = ((db.schema ≡ both_tables) × IsVersionOne db.trees × (t ≡ texts_of db.trees)) ⊎ ((db.schema ≡ no_schema) × (t ≡ empty))
 
--- the store was laid out for other rows: it has something, and either not just the two tables with their columns, or not just the version 1
+-- the store was laid out for other rows: it has something, and either not just the two tables with their columns, or
+-- not just the version 1
 abbrev pub IsOldLayout : Database → Type 0
 IsOldLayout db = (db.schema ≢ no_schema) × ((¬ HasOurNames db.schema) ⊎ (¬ IsVersionOne db.trees))
 

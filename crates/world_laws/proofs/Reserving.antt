@@ -1,4 +1,5 @@
--- A reservation that stands in a later world, and did not in the earlier, was asked for in between, and not before its cancellation.
+-- A reservation that stands in a later world, and did not in the earlier, was asked for in between, and not before its
+-- cancellation.
 use Rattle.std.proofs.Common.{◌≡◌, ◌<◌, ℕ, List, ◌∷◌, ◌++◌, refl, sym, subst, ◌∙◌, arith}
 use Rattle.std.specs.Prelude.{Some, None, Contains}
 use Rattle.std.specs.FinMap.{get}

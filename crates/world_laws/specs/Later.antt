@@ -1,4 +1,5 @@
--- A world is later than another: pasts have gone on, what providers hold has not gone back, and what stands for good stands.
+-- A world is later than another: pasts have gone on, what providers hold has not gone back, and what stands for good
+-- stands.
 use Rattle.std.specs.Prelude.{◌≡◌, ◌⊎◌, ◌<◌, ◌++◌, ℕ, List, ◌∷◌, Some, None, Contains}
 use Rattle.std.specs.FinMap.{get}
 use Rattle.ocpi_text.specs.Text.{key}
@@ -61,8 +62,9 @@ pub record HasSent (w : World) (p o : List ℕ) (n : ℕ) (b : Body) : Type 0 wh
   pub number : packet.request ≡ n
   pub carries : packet.body ≡ b
 
--- the reservation of that id of a provider was made by a RESERVE_NOW that the operator decided in between, under a number above that of
--- each CANCEL_RESERVATION about it that had been decided before (OCPI 2.2.1, Commands: ReserveNow, CancelReservation)
+-- the reservation of that id of a provider was made by a RESERVE_NOW that the operator decided in between, under a
+-- number above that of each CANCEL_RESERVATION about it that had been decided before (OCPI 2.2.1, Commands:
+-- ReserveNow, CancelReservation)
 pub record IsNewlyMade (v : World) (s t : operator.State) (p o id : List ℕ) : Type 0 where
   pub number : ℕ
   pub asked : ReserveNow

@@ -1,5 +1,5 @@
--- Why an event changes a row, kind by kind of row. Each act of each line has such a cause for each row that it changes; a law asks
--- for the cause of a row, and need not know which acts there are.
+-- Why an event changes a row, kind by kind of row. Each act of each line has such a cause for each row that it
+-- changes; a law asks for the cause of a row, and need not know which acts there are.
 use Rattle.std.specs.Prelude.{◌≡◌, ◌≢◌, ℕ, List, Some, None, Contains, ⊤}
 use Rattle.std.specs.FinMap.{get}
 use Rattle.ocpi_text.specs.Text.{key}
@@ -117,8 +117,8 @@ IsOwnCounter counter.Session = ⊤
 IsOwnCounter counter.Cdr = ⊤
 IsOwnCounter counter.Reference = ⊥
 
--- the cause of each change, whatever state it is made in; no event has another. Of pushes, sessions, charge detail records and their
--- counters more is said where what holds at all times holds (`Reason`)
+-- the cause of each change, whatever state it is made in; no event has another. Of pushes, sessions, charge detail
+-- records and their counters more is said where what holds at all times holds (`Reason`)
 abbrev pub Cause : State → Input → List Act → Change → Type 0
 Cause s i acts (Put (row.Count c n)) = IsOwnCounter c
 Cause s i acts (Put (row.Reply p n r)) = Answering s i acts p n r

@@ -32,7 +32,8 @@ use Rattle.operator_laws.proofs.events.Keeping.{orderly_of, mark_rises, new_for,
 use Rattle.operator_laws.proofs.replies.Answering.{command_is, no_word, replied_now, same_word, told_of, was_decided}
 use Rattle.operator_laws.proofs.standing.AtAllTimes.{stays_marked}
 
--- a mark that is put stands, and was not above that number before. The request of that number is answered now, and was not before
+-- a mark that is put stands, and was not above that number before. The request of that number is answered now, and was
+-- not before
 record Marked (s t : State) (p id : List ℕ) (n : ℕ) : Type 0 where
   stands : get t.rows.booked.marks (p, id) ≡ Some n
   above : (x : ℕ) → get s.rows.booked.marks (p, id) ≡ Some x → x ≤ n
