@@ -16,24 +16,14 @@
 //! changes before the last, which cannot fail.
 #![tactic(auto)]
 
-mod acts;
-mod answers;
-mod beginning;
-mod bills;
-mod bodies;
-mod charger;
-mod charges;
-mod deadlines;
-mod ends;
+mod command_ends;
 mod from_rows;
 mod operator;
 mod packets;
 mod plans;
-mod respond;
+mod reports;
 mod service;
 mod sessions;
-mod swipes;
-mod tick;
-mod tokens;
+mod ticks;
 
 pub use operator::Operator;

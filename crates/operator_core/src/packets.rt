@@ -14,9 +14,15 @@ ghost use Rattle.operator_steps.specs.Steps.{Acknowledges, Comes, IsForMe, IsReq
 ghost use Rattle.operator_core.specs.Planned.{StopsActs, quiet_step};
 ghost use Rattle.operator_core.specs.Requests.{IfCommand, IsCommand, IsRequest, decided_by, repeated_by, result_count};
 
-use crate::acts::add_decided;
-use crate::bodies::is_taken;
+mod authorizations;
+mod bodies;
+pub(crate) mod command_acts;
+mod command_responses;
+mod tokens;
+
 use crate::operator::Operator;
+use crate::packets::bodies::is_taken;
+use crate::packets::command_acts::add_decided;
 use crate::plans::quiet;
 use node_steps::{Needs, NodeFault, Plan, find_peer};
 use ocpi_text::{Moment, Party};

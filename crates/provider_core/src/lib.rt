@@ -2,20 +2,12 @@
 //! detail records that these hand over (OCPI 2.2.1, Commands, Sessions, CDRs, Tokens).
 #![tactic(auto)]
 
-mod answer;
-mod answers;
-mod bodies;
+mod authorization_references;
 mod from_rows;
 mod orders;
 mod packets;
-mod prepared;
-mod preparing;
 mod provider;
-mod references;
-mod replies;
-mod sent;
-mod tick;
+mod ticks;
 mod tokens;
-mod urls;
 
 pub use provider::Provider;

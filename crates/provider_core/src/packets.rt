@@ -15,12 +15,18 @@ ghost use Rattle.provider_steps.specs.Packets.{Acknowledges, Comes, IsAwaited, I
 ghost use Rattle.provider_core.specs.Answering.{answer_acts, own_acts, result_acts};
 ghost use Rattle.provider_core.specs.Planned.{IsLineFault};
 
-use crate::answer::Answer;
-use crate::bodies::{add_taken, is_taken};
+mod answer_kinds;
+mod bodies;
+mod decisions;
+mod replies;
+mod sent_commands;
+
+use crate::authorization_references::add_reference;
+use crate::packets::answer_kinds::Answer;
+use crate::packets::bodies::{add_taken, is_taken};
+use crate::packets::replies::reply;
+use crate::packets::sent_commands::{with_answer, with_result};
 use crate::provider::Provider;
-use crate::references::add_reference;
-use crate::replies::reply;
-use crate::sent::{with_answer, with_result};
 use node_steps::{Draft, Needs, NodeFault, Plan, find_peer};
 use ocpi_text::{Moment, Party, Whole};
 use ocpi_types::{
