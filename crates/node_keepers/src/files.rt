@@ -1,6 +1,6 @@
 //! Keepers in files: those of new nodes, and the rows of one that stands.
 
-ghost use Rattle.std.specs.Prelude.{⊤};
+ghost use Rattle.std.specs.Prelude.{◌≡◌, IfSome, None, string_bytes, ⊤};
 
 use crate::keeps::Keeps;
 use node_store::{Cause, Keep, StoreFault, TableKeep};
@@ -19,7 +19,10 @@ pub struct FileKeeps<'a> {
 
 impl<'a> FileKeeps<'a> {
     /// Keepers whose files are to be in that folder, which must exist once the first is opened.
-    pub fn new(rt: &'a HostRuntime, folder: &'a str) -> FileKeeps<'a> {
+    pub fn new(rt: &'a HostRuntime, folder: &'a str) -> FileKeeps<'a>
+        ensures folder { result.folder ≡ folder.entry }
+        ensures path { result.path ≡ None }
+    {
         FileKeeps {
             rt,
             folder,
@@ -28,7 +31,10 @@ impl<'a> FileKeeps<'a> {
     }
 
     /// The path of the file that was opened last, or refused; before that, the folder.
-    pub fn path(&self) -> &str {
+    pub fn path(&self) -> &str
+        ensures none { self.now.path ≡ None → result.now ≡ self.now.folder.now }
+        ensures last { IfSome self.now.path (λ path. result.now ≡ string_bytes path) }
+    {
         match &self.path {
             Some(path) => path.as_str(),
             None => self.folder,
@@ -41,7 +47,7 @@ impl Keeps for FileKeeps<'_> {
 
     ghost may_refuse = { λ place fault. ⊤ };
 
-    /// The folder must exist, and the file must not.
+    /// The folder must exist, and nothing may have the file's name. The path is noted first.
     fn open(&mut self, place: usize) -> Result<TableKeep<FileStore<File>>, StoreFault> {
         let path = format!(in self.rt.alloc(); "{}/node{place}.db", self.folder)?;
         self.path = Some(path);
@@ -98,7 +104,8 @@ fn rows_of<K: Keep + Drop>(opened: Result<K, StoreFault>) -> Result<Vec<Row>, St
     keep.load()
 }
 
-/// The rows of a file that exists.
+/// The rows of a file that exists, or why there are none: `NotFound`, `NotAFile` and `PermissionDenied` are told of the
+/// path before the file is opened as a database.
 pub fn rows_in(rt: &HostRuntime, path: &str) -> Result<Vec<Row>, StoreFault> {
     try_file(rt, path)?;
     rows_of(TableKeep::open_file(rt, path))
