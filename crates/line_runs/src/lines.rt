@@ -29,6 +29,7 @@ ghost use Rattle.std.specs.Io.KnownBytes.{Keeps};
 ghost use Rattle.line_runs.specs.Lines.{IsInLine, ReadsLineOf, TakesPart};
 
 use crate::outcome::RunFault;
+use crate::writing::flush;
 use memchr::memchr;
 use std::io::{self, BufRead, ErrorKind, Write};
 
@@ -173,17 +174,6 @@ impl<R: BufRead> LineReader<R> {
             return flush(writer);
         }
         Ok(())
-    }
-}
-
-/// Flushes a writer.
-pub(crate) fn flush<W: Write>(writer: &mut W) -> Result<(), RunFault>
-    ensures err { IfErr result (λ fault. fault ≡ RunFault.WriteFailed) }
-    ensures writer { Keeps (W.contents writer.old) (W.contents writer.new) }
-{
-    match writer.flush() {
-        Ok(()) => Ok(()),
-        Err(_) => Err(RunFault::WriteFailed),
     }
 }
 

@@ -24,10 +24,11 @@ ghost use Rattle.line_runs.specs.declared.outcome.Ran.{Ran as RanOf};
 ghost use Rattle.line_runs.specs.declared.run.Turn.{Turn as TurnOf};
 ghost use Rattle.line_runs.specs.declared.lines.TheConstants.{KEPT_BYTES};
 
-use crate::lines::{KEPT_BYTES, LineReader, flush};
+use crate::lines::{KEPT_BYTES, LineReader};
 use crate::outcome::{Ran, RunFault};
+use crate::writing::{flush, write_whole};
 use std::alloc::{AllocError, Global};
-use std::io::{BufRead, ErrorKind, Write};
+use std::io::{BufRead, Write};
 
 /// How one line was answered.
 #[derive(Clone, Copy, Debug, PartialEq, Eq)]
@@ -180,27 +181,4 @@ fn write_end<M: AnswerLines, W: Write>(
         },
         Err(_) => Err(RunFault::WriteFailed),
     }
-}
-
-/// Writes all of these bytes. After a refusal a beginning of them is written.
-fn write_whole<W: Write>(writer: &mut W, bytes: &[u8]) -> Result<(), RunFault>
-    ensures ok { OnOk result (Appends (W.contents writer.old) (W.contents writer.new) bytes.now) }
-    ensures err { IfErr result (λ fault. (fault ≡ RunFault.WriteFailed) × (n : ℕ) × Appends (W.contents writer.old) (W.contents writer.new) (take n bytes.now)) }
-{
-    let mut at = 0;
-    for _turn in 0..u64::MAX {
-        if at >= bytes.len() {
-            return Ok(());
-        }
-        match writer.write(&bytes[at..]) {
-            Ok(0) => return Err(RunFault::WriteFailed),
-            Ok(taken) => at += taken,
-            Err(error) => {
-                if error.kind() != ErrorKind::Interrupted {
-                    return Err(RunFault::WriteFailed);
-                }
-            }
-        }
-    }
-    Err(RunFault::WriteFailed)
 }

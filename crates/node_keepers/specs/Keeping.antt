@@ -9,7 +9,7 @@ use Rattle.ocpi_types.specs.declared.rows.Row.{Row}
 use Rattle.ocpi_types.specs.declared.setup.Node.{Node}
 use Rattle.node_store.specs.Contents.{Content, changed_all, rows_of}
 use Rattle.node_store.specs.Faults.{IsCommitFault, counted_fault}
-use Rattle.node_store.specs.declared.fault.Cause.TheVariants.{Other}
+use Rattle.node_store.specs.declared.fault.Cause.TheVariants.{NoKeeper, NotEmpty}
 use Rattle.node_store.specs.declared.fault.StoreFault.{StoreFault}
 use Rattle.node_store.specs.declared.fault.StoreFault.TheVariants.{Refused, BadRow, OldLayout, Memory}
 use Rattle.node_keepers.specs.declared.keeping.KeptNode.{KeptNode}
@@ -59,7 +59,7 @@ pub record KeepsRows {K : Type 0} (keeping : Keeping K) (k : K) : Type 0 where
 pub data IsUnopened {K : Type 0} (keeping : Keeping K) (may_refuse : ℕ → StoreFault → Type 0) (place : ℕ) (fault : StoreFault) : Type 0 where
   Not_opened : may_refuse place fault → IsUnopened keeping may_refuse place fault
   Not_loaded : (before after : K) → CannotLoad keeping fault before after → IsUnopened keeping may_refuse place fault
-  Not_new : (k : K) → KeepsRows keeping k → fault ≡ Refused Other → IsUnopened keeping may_refuse place fault
+  Not_new : (k : K) → KeepsRows keeping k → fault ≡ Refused NotEmpty → IsUnopened keeping may_refuse place fault
 
 -- one of a setup's nodes, whose places are counted from 1, got no keeper, or memory ran out for the list of them
 abbrev pub AreUnopened : {K : Type 0} → Keeping K → (ℕ → StoreFault → Type 0) → List Node → StoreFault → Type 0
@@ -99,5 +99,5 @@ pub record Refuses {K : Type 0} (keeping : Keeping K) (fault : StoreFault) (befo
 pub data KeeperRefuses {K : Type 0} (keeping : Keeping K) (party : List ℕ) (fault : StoreFault) (kept next : List (KeptNode K)) : Type 0 where
   Not_made : (i : ℕ) (n : KeptNode K) → IsKeeperOf kept party i n → (k : K) → Refuses keeping fault n.keep k
       → next ≡ slice_set kept i (record { party = n.party; keep = k }) → KeeperRefuses keeping party fault kept next
-  No_keeper : ((i : ℕ) (n : KeptNode K) → IsKeeperOf kept party i n → ⊥) → fault ≡ Refused Other
+  No_keeper : ((i : ℕ) (n : KeptNode K) → IsKeeperOf kept party i n → ⊥) → fault ≡ Refused NoKeeper
       → next ≡ kept → KeeperRefuses keeping party fault kept next

@@ -27,7 +27,7 @@ pub struct KeptNode<K> {
     keep: K,
 }
 
-/// Opens the keeper of the node at a place of the setup. One that keeps a row already is refused.
+/// Opens the keeper of the node at a place of the setup. One that keeps a row already is refused as `NotEmpty`.
 fn open_one<S: Keeps>(keeps: &mut S, place: usize) -> Result<S::Kept, StoreFault>
     ensures ok { IfOk result (IsEmpty (keeping_of S.Kept.content S.Kept.is_honest S.Kept.refusals)) }
     ensures err { IfErr result (IsUnopened (keeping_of S.Kept.content S.Kept.is_honest S.Kept.refusals) S.may_refuse place) }
@@ -37,7 +37,7 @@ fn open_one<S: Keeps>(keeps: &mut S, place: usize) -> Result<S::Kept, StoreFault
     if rows.is_empty() {
         Ok(keep)
     } else {
-        Err(StoreFault::Refused(Cause::Other))
+        Err(StoreFault::Refused(Cause::NotEmpty))
     }
 }
 
@@ -75,7 +75,7 @@ fn find<K>(kept: &[KeptNode<K>], party: &Party) -> Option<usize>
 }
 
 /// Gives the changes of an event to the keeper of that party's node, where there are any. A refusal is that of the
-/// keeper, and changes nothing; one comes too where there are changes and no keeper for them.
+/// keeper, and changes nothing; `NoKeeper` comes where there are changes and no keeper for them.
 pub fn commit<K: Keep>(
     kept: &mut Vec<KeptNode<K>>,
     party: &Party,
@@ -89,10 +89,10 @@ pub fn commit<K: Keep>(
         return Ok(());
     }
     let Some(i) = find(kept.as_slice(), party) else {
-        return Err(StoreFault::Refused(Cause::Other));
+        return Err(StoreFault::Refused(Cause::NoKeeper));
     };
     match kept.get_mut(i) {
         Some(node) => node.keep.commit(changes),
-        None => Err(StoreFault::Refused(Cause::Other)),
+        None => Err(StoreFault::Refused(Cause::NoKeeper)),
     }
 }

@@ -7,8 +7,10 @@
 //! ```
 #![tactic(auto)]
 
+mod files;
 mod keeping;
 mod keeps;
 
+pub use files::{FileKeeps, rows_in};
 pub use keeping::{KeptNode, commit, open_all};
-pub use keeps::{FileKeeps, Keeps, ListKeeps, rows_in};
+pub use keeps::{Keeps, ListKeeps};

@@ -8,9 +8,8 @@ ghost use Rattle.std.specs.Io.KnownBytes.{Appends};
 ghost use Rattle.tables.specs.Keys.{text_pair_cmp};
 ghost use Rattle.tables.specs.Tables.{shown_of};
 
-use crate::writing::{flush, write_whole};
 use handover::{Currency, Sums, settle_all};
-use line_runs::RunFault;
+use line_runs::{RunFault, flush, write_whole};
 use ocpi_text::{PartyKey, write_sum};
 use ocpi_types::{Cdr, Row};
 use std::alloc::{AllocError, Global};

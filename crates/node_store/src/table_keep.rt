@@ -18,7 +18,7 @@ ghost use Rattle.std.specs.Prelude.{
   Some,
 };
 ghost use Rattle.node_store.specs.Contents.{Content, IsReadAgain, changed_all, rows_after, rows_of};
-ghost use Rattle.node_store.specs.Faults.{IsListFault, IsCommitFault, counted, counted_fault};
+ghost use Rattle.node_store.specs.Faults.{IsListFault, IsCommitFault, counted, counted_fault, fault_for};
 ghost use Rattle.node_store.specs.declared.fault.StoreFault.TheVariants.{BadRow, OldLayout};
 ghost use Rattle.row_table.specs.Kept.{IsClean, MayLeave, texts};
 
@@ -62,15 +62,24 @@ impl<S: Alter> Model for TableKeep<S> {
     ghost view = { λ k. (k.table, length k.refused.items) };
 }
 
+/// What is told of an error of the database.
 pub(crate) fn fault_of(error: Error) -> StoreFault
-    ensures { IsCommitFault result }
+    ensures value { result ≡ fault_for error }
+    ensures fault { IsCommitFault result }
 {
-    match error {
-        Error::SqliteFailure(ErrorCode::OutOfMemory) => StoreFault::Memory,
-        Error::SqliteFailure(
-            ErrorCode::SystemIoFailure | ErrorCode::DatabaseCorrupt | ErrorCode::DiskFull,
-        ) => StoreFault::Refused(Cause::Disk),
-        Error::SqliteFailure(ErrorCode::TooBig) => StoreFault::Refused(Cause::Size),
+    let Error::SqliteFailure(code) = error else {
+        return StoreFault::Refused(Cause::Other);
+    };
+    match code {
+        ErrorCode::OutOfMemory => StoreFault::Memory,
+        ErrorCode::CannotOpen => StoreFault::Refused(Cause::CannotOpen),
+        ErrorCode::DatabaseBusy => StoreFault::Refused(Cause::DatabaseBusy),
+        ErrorCode::NotADatabase | ErrorCode::DatabaseCorrupt => {
+            StoreFault::Refused(Cause::NotADatabase)
+        }
+        ErrorCode::DiskFull => StoreFault::Refused(Cause::StorageFull),
+        ErrorCode::SystemIoFailure | ErrorCode::Closed => StoreFault::Refused(Cause::Disk),
+        ErrorCode::TooBig => StoreFault::Refused(Cause::Size),
         _ => StoreFault::Refused(Cause::Other),
     }
 }

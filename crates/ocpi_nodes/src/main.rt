@@ -6,6 +6,8 @@ ghost use Rattle.clap.specs.Values.{kind_of};
 ghost use Rattle.node_programs.specs.Stops.{play_status};
 
 mod command;
+mod help;
+mod refusal;
 
 use clap::Error;
 use clap::error::ErrorKind;
@@ -13,7 +15,8 @@ use command::{WRONG_WORDS, Word, status_after, take_words};
 use line_runs::{LineReader, Ran, RunFault};
 use node_keepers::{FileKeeps, Keeps, ListKeeps, rows_in};
 use node_programs::{PlayFault, run_answer, run_play, run_settle, status_after_play};
-use std::io::{self, BufReader, BufWriter, Write};
+use refusal::words_for;
+use std::io::{self, BufReader, BufWriter, IsTerminal, Write};
 use std::process::ExitCode;
 
 /// What one read asks for, and what is written at once, in bytes.
@@ -33,19 +36,37 @@ fn run_program(rt: &HostRuntime) -> u8 {
         }
     };
     match take_words(rt.alloc(), words.as_slice()) {
-        Ok(word) => report(rt, run_word(rt, word)),
+        Ok(word) => {
+            let mut place = String::new(rt.alloc());
+            let ran = run_word(rt, word, &mut place);
+            report(rt, ran, place.as_str())
+        }
         Err(text) => say(rt, &text),
     }
 }
 
-/// Says what stopped a run, and answers its exit status.
-fn report(rt: &HostRuntime, ran: Result<Ran, PlayFault>) -> u8
+/// Says what stopped a run, of a store also which it was and why, and answers the exit status.
+fn report(rt: &HostRuntime, ran: Result<Ran, PlayFault>, place: &str) -> u8
     ensures { result ≡ play_status ran }
 {
     if let Err(fault) = ran {
         let _ = eprintln!(rt; "{fault}");
+        explain(rt, fault, place);
     }
     status_after_play(ran)
+}
+
+/// Says why a store refused: the one at that place, where there is a name for it.
+fn explain(rt: &HostRuntime, fault: PlayFault, place: &str) {
+    let PlayFault::Store(refusal) = fault else {
+        return;
+    };
+    let words = words_for(refusal);
+    if place.is_empty() {
+        let _ = eprintln!(rt; "{words}");
+    } else {
+        let _ = eprintln!(rt; "{place}: {words}");
+    }
 }
 
 /// The arguments, or what is said where there are none to be had.
@@ -77,21 +98,33 @@ fn say(rt: &HostRuntime, text: &Error) -> u8
     status_after(text, is_printed)
 }
 
-/// Runs a program to the standard output.
-fn run_word(rt: &HostRuntime, word: Word<'_>) -> Result<Ran, PlayFault> {
+/// Runs a program to the standard output. Where a store refused, `place` gets the name of its file, or of the folder of
+/// the files.
+fn run_word(rt: &HostRuntime, word: Word<'_>, place: &mut String) -> Result<Ran, PlayFault> {
     let Ok(mut writer) = BufWriter::with_capacity(rt.alloc(), BUFFER_BYTES, io::writer(rt)) else {
         return Err(PlayFault::Run(RunFault::WriteFailed));
     };
     match word {
         Word::Answer => answer_input(rt, &mut writer),
         Word::Play(None) => play_in_memory(rt, &mut writer),
-        Word::Play(Some(folder)) => play_in_files(rt, &mut writer, folder),
-        Word::Settle(file) => settle_file(rt, &mut writer, file),
+        Word::Play(Some(folder)) => play_in_files(rt, &mut writer, folder, place),
+        Word::Settle(file) => settle_file(rt, &mut writer, file, place),
+    }
+}
+
+/// Says what the program waits for, where a person is to type it.
+fn tell_wait(rt: &HostRuntime, wanted: &str) {
+    if rt.stdin().is_terminal() {
+        let _ = eprintln!(rt; "ocpi_nodes: waiting for lines of JSON on standard input: {wanted}");
     }
 }
 
 /// Answers the standard input.
 fn answer_input<W: Write>(rt: &HostRuntime, writer: &mut W) -> Result<Ran, PlayFault> {
+    tell_wait(
+        rt,
+        "the site line, then packets. `ocpi_nodes help answer` says more",
+    );
     let Ok(reader) = BufReader::with_capacity(rt.alloc(), BUFFER_BYTES, rt.reader()) else {
         return Err(PlayFault::Run(RunFault::ReadFailed));
     };
@@ -101,36 +134,54 @@ fn answer_input<W: Write>(rt: &HostRuntime, writer: &mut W) -> Result<Ran, PlayF
 
 /// Plays the standard input with keepers in memory.
 fn play_in_memory<W: Write>(rt: &HostRuntime, writer: &mut W) -> Result<Ran, PlayFault> {
-    play_input(rt, writer, ListKeeps::new(rt.alloc()))
+    let (ran, _) = play_input(rt, writer, ListKeeps::new(rt.alloc()));
+    ran
 }
 
-/// Plays the standard input with keepers in new files of a folder.
+/// Plays the standard input with keepers in new files of a folder. Where one of these could not be opened, `place` gets
+/// its path; else the folder, since any of them may have refused a commit.
 fn play_in_files<W: Write>(
     rt: &HostRuntime,
     writer: &mut W,
     folder: &str,
+    place: &mut String,
 ) -> Result<Ran, PlayFault> {
-    play_input(rt, writer, FileKeeps::new(rt, folder))
+    let mut keeps = FileKeeps::new(rt, folder);
+    let (ran, are_open) = play_input(rt, writer, &mut keeps);
+    let _ = place.push_str(if are_open { folder } else { keeps.path() });
+    ran
 }
 
-/// Plays the standard input with these keepers.
+/// Plays the standard input with these keepers, and answers also whether the nodes got theirs.
 fn play_input<W: Write, S: Keeps + Drop>(
     rt: &HostRuntime,
     writer: &mut W,
     keeps: S,
-) -> Result<Ran, PlayFault> {
+) -> (Result<Ran, PlayFault>, bool) {
+    tell_wait(
+        rt,
+        "the setup, then events. `ocpi_nodes help play` says more",
+    );
     let Ok(reader) = BufReader::with_capacity(rt.alloc(), BUFFER_BYTES, rt.reader()) else {
-        return Err(PlayFault::Run(RunFault::ReadFailed));
+        drop(keeps);
+        return (Err(PlayFault::Run(RunFault::ReadFailed)), false);
     };
     let mut input = LineReader::new(reader);
     let mut kept = Vec::new(rt.alloc());
     let ran = run_play(rt.alloc(), &mut input, writer, keeps, &mut kept);
+    let are_open = !kept.is_empty();
     drop(kept);
-    ran
+    (ran, are_open)
 }
 
-/// Writes what is owed by the rows of a file.
-fn settle_file<W: Write>(rt: &HostRuntime, writer: &mut W, file: &str) -> Result<Ran, PlayFault> {
+/// Writes what is owed by the rows of a file. `place` gets its name.
+fn settle_file<W: Write>(
+    rt: &HostRuntime,
+    writer: &mut W,
+    file: &str,
+    place: &mut String,
+) -> Result<Ran, PlayFault> {
+    let _ = place.push_str(file);
     let rows = match rows_in(rt, file) {
         Ok(rows) => rows,
         Err(fault) => return Err(PlayFault::Store(fault)),

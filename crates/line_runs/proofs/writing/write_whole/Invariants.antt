@@ -1,6 +1,6 @@
 use Rattle.std.proofs.Common.{◌≤◌, length, take}
 use Rattle.std.specs.Io.KnownBytes.{Appends}
-use Rattle.node_programs.proofs.writing.write_whole.Given as goal
+use Rattle.line_runs.proofs.writing.write_whole.Given as goal
 
 -- so many of the bytes are written
 abbrev pub invariant-loop-turn : goal.invariant-loop-turn

@@ -3,8 +3,8 @@ use Rattle.std.proofs.Math.Seq.{take-add}
 use Rattle.std.proofs.lemmas.List.{take_rest}
 use Rattle.std.specs.Io.KnownBytes.{Appends}
 use Rattle.std.proofs.KnownBytes.{Appends-trans, Appends-kept}
-use Rattle.line_runs.proofs.run.write_whole.Goals.{in-Ok, in-Err+else-ne}
-use Rattle.line_runs.proofs.run.write_whole.Goals as goal
+use Rattle.line_runs.proofs.writing.write_whole.Goals.{in-Ok, in-Err+else-ne}
+use Rattle.line_runs.proofs.writing.write_whole.Goals as goal
 
 -- a further part of the bytes
 more : (old now new : Option (List ℕ)) (bytes : List ℕ) (at n : ℕ) → Appends old now (take at bytes) → Appends now new (take n (take (length bytes - at) (drop at bytes))) → Appends old new (take (at + n) bytes)
