@@ -51,8 +51,23 @@ impl Keeps for FileKeeps<'_> {
     fn open(&mut self, place: usize) -> Result<TableKeep<FileStore<File>>, StoreFault> {
         let path = format!(in self.rt.alloc(); "{}/node{place}.db", self.folder)?;
         self.path = Some(path);
+        find_folder(self.rt, self.folder)?;
         make_file(self.rt, self.path())?;
         TableKeep::open_file(self.rt, self.path())
+    }
+}
+
+/// Refuses a name that is none of a folder, the empty one too.
+fn find_folder(rt: &HostRuntime, path: &str) -> Result<(), StoreFault> {
+    match fs::metadata(rt, path) {
+        Ok(found) => {
+            if found.is_dir() {
+                Ok(())
+            } else {
+                Err(StoreFault::Refused(Cause::FolderNotFound))
+            }
+        }
+        Err(error) => Err(fault_from(error.kind(), Cause::FolderNotFound)),
     }
 }
 

@@ -39,7 +39,7 @@ IsListFault BadRow = Unit {0}
 IsListFault OldLayout = ⊥
 IsListFault Memory = Unit {0}
 
--- what is told of an error of the database: a file that could not be opened, or is in use, or is none; a disk that is
+-- what is told of an error of the database: a file that could not be opened, is in use, or is no store; a disk that is
 -- full, that failed now, or that failed before; a text that is too large; want of memory; and any other as such
 abbrev pub fault_for : Error → StoreFault
 fault_for (SqliteFailure code.OutOfMemory) = Memory

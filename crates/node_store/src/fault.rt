@@ -23,7 +23,7 @@ pub enum Cause {
     DatabaseBusy,
     /// The file cannot be opened as a database, for none of the reasons before.
     CannotOpen,
-    /// The file is no database, or a damaged one.
+    /// The file is no database, a damaged one, or one with tables that no store has.
     NotADatabase,
     /// The disk is full.
     StorageFull,
@@ -35,7 +35,7 @@ pub enum Cause {
     NotEmpty,
     /// The party whose rows were changed has no keeper.
     NoKeeper,
-    /// Anything else: the tables or their values are none that a store has.
+    /// Anything else.
     Other,
 }
 

@@ -33,14 +33,13 @@ fn words_for_cause(cause: Cause) -> &'static str {
             "it cannot be opened: its folder must be writable, the file may have one name alone and no -journal"
         }
         Cause::NotADatabase =>
-            "it is no SQLite database, or a damaged one: name the file of a store",
+            "it is no store: no SQLite database, a damaged one, or one of another program; name the file of a store",
         Cause::StorageFull => "the disk is full: make room on it",
         Cause::Disk => "the disk failed: the system's log says more",
         Cause::Size => "a row is larger than a store takes",
         Cause::NotEmpty =>
             "it has rows already, and a run begins without: remove it, and the -wal file beside it",
         Cause::NoKeeper => "no file is that of the node whose rows changed",
-        Cause::Other =>
-            "its tables or their values are none of a store: another program wrote them",
+        Cause::Other => "the database refused it: keep a copy of the file, and report this",
     }
 }
