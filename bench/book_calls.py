@@ -3,7 +3,7 @@
 
 usage: book_calls.py PROGRAM [N ..]
 
-PROGRAM is `case_lines`, as `tools/build_unproved --optimized` builds it of a copy that `cases/copy_cases` made. For each book
+PROGRAM is `case_lines`, as `tools/build_unproved` builds it of a copy that `cases/copy_cases` made. For each book
 and each N, 1,000 and 100,000 where none is given, the lines fill a book with N entries and then make 1,000 calls of each kind,
 spread over the entries. A site has at most 10,000 EVSEs here, as many as a line holds. Valgrind counts the instructions of each
 kind; those of reading the line and writing the answer are among them, and are the same for each N but for the digits of numbers.
