@@ -1,16 +1,17 @@
 #!/usr/bin/env python3
-"""Writes the cases of the program `case_lines`, a file and what it must give for each part, in the folder cases/lines, and
-a choice of them into bench/, of which it tells the names.
+"""Writes the cases of the program `case_lines`, a file and what it must give for each part, into the folder cases/lines, and a
+choice of them into bench/fail_allocations, of which it tells the names.
 
-    tools/case_lines.py
+    cases/makers/make_lines.py [FOLDER]
 
-What each part holds is told in `call_cases`, `packet_cases`, `book_cases`, `operator_cases`, `provider_cases`, `stored_cases` and `world_cases`.
-To see where the program differs:
+Both folders are those of this repository, or of FOLDER where it is given. What each part holds is told in `call_cases`,
+`packet_cases`, `book_cases`, `operator_cases`, `provider_cases`, `stored_cases` and `world_cases`. To see where the program differs:
 
     tools/try_cases
 """
 
 import pathlib
+import sys
 
 import book_cases
 import call_cases
@@ -20,7 +21,7 @@ import provider_cases
 import stored_cases
 import world_cases
 
-TOP = pathlib.Path(__file__).resolve().parent.parent
+TOP = pathlib.Path(__file__).resolve().parents[2]
 PARTS = {
     "calls": call_cases,
     "packets": packet_cases,
@@ -42,7 +43,12 @@ def write(file, lines):
 
 
 def main():
-    lines = TOP / "cases" / "lines"
+    if len(sys.argv) > 2:
+        sys.exit("usage: make_lines.py [FOLDER]")
+    top = pathlib.Path(sys.argv[1]) if sys.argv[1:] else TOP
+    lines, failing = top / "cases" / "lines", top / "bench" / "fail_allocations"
+    for folder in (lines, failing):
+        folder.mkdir(parents=True, exist_ok=True)
     for name, told in PARTS.items():
         given, gives = told.cases()
         write(lines / name, part(name, given))
@@ -50,8 +56,8 @@ def main():
         print(f"{name}: {len(given)} lines")
     without_memory = [(role, *case) for role in ("operator", "provider", "nodes") for case in PARTS[role].cases_without_memory()]
     for at, (role, name, given, gives) in enumerate(without_memory, 1):
-        write(TOP / "bench" / "fail_allocations" / f"{at}", part(role, given))
-        write(TOP / "bench" / "fail_allocations" / f"{at}.stdout", gives)
+        write(failing / f"{at}", part(role, given))
+        write(failing / f"{at}.stdout", gives)
         print(f"bench/fail_allocations/{at}: {name}")
 
 

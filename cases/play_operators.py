@@ -3,7 +3,7 @@
 
 usage: play_operators.py PROGRAM FOLDER [NAME..]
 
-PROGRAM is `case_lines`, as `tools/build_unproved --optimized` builds it of a copy that `tools/copy_cases` made. What a script in
+PROGRAM is `case_lines`, as `tools/build_unproved --optimized` builds it of a copy that `cases/copy_cases` made. What a script in
 FOLDER is stands in `play_steps`. What does not agree is written, the first of each operator; the last line says how many scripts
 and operators agree. A script whose setup is refused has no steps, and agrees.
 """

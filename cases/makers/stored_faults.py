@@ -38,7 +38,7 @@ from stored_case import (
 from stored_rules import LAST_NUMBER
 
 STRANGER = "AT/XXX"
-CRATES = pathlib.Path(__file__).resolve().parent.parent / "crates"
+CRATES = pathlib.Path(__file__).resolve().parents[2] / "crates"
 
 
 def charged(number=1, of=None, **more):

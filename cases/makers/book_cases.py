@@ -4,7 +4,7 @@ Each case says what it must answer, by the rules of docs/PROTOCOL.md. Behind the
 the answers of the plain models of `book_models`. Each answer is one line, but for rows, whose number comes first.
 """
 
-from book_calls import CASES, case, fresh, with_row
+from book_case import CASES, case, fresh, with_row
 from book_life_cases import SITE, add_lives_and_sites
 from book_models import add_drawn
 from book_values import (

@@ -3,7 +3,7 @@
 
 usage: play_providers.py PROGRAM FOLDER [NAME..]
 
-PROGRAM is `case_lines`, as `tools/build_unproved --optimized` builds it of a copy that `tools/copy_cases` made. What a script in
+PROGRAM is `case_lines`, as `tools/build_unproved --optimized` builds it of a copy that `cases/copy_cases` made. What a script in
 FOLDER is stands in `play_steps`; here its NAME.out ends with what is owed, as `owed PROVIDER OPERATOR CURRENCY SUM`. What does not
 agree is written, the first of each provider; the last line says how many scripts and providers agree. A script whose setup is
 refused has no steps, and agrees.

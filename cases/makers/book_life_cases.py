@@ -1,6 +1,6 @@
 """The cases of the books that are calls on a session and on the places of a site."""
 
-from book_calls import case, fresh, with_row
+from book_case import case, fresh, with_row
 from book_values import (
     LAST_MOMENT,
     LOCATION,

@@ -8,7 +8,7 @@ import pathlib
 
 from operator_case import moment, own_id, reference, text, token
 
-EXAMPLES = pathlib.Path(__file__).resolve().parent.parent / "examples"
+EXAMPLES = pathlib.Path(__file__).resolve().parents[2] / "examples"
 SETUP, *CHARGE = EXAMPLES.joinpath("charge.jsonl").read_text(encoding="utf-8").splitlines()
 PACKETS = [line for line in EXAMPLES.joinpath("charge.out").read_text(encoding="utf-8").splitlines() if line.startswith("{")]
 SESSION = own_id(b"S", 1, "BE/BEC")

@@ -1,8 +1,8 @@
 #!/usr/bin/env python3
 """Draws a run of `ocpi_nodes play` as a sequence picture in SVG, or tells it in words.
 
-    tools/draw_run.py INPUT OUTPUT > PICTURE.svg
-    tools/draw_run.py --text INPUT OUTPUT
+    examples/draw_run.py INPUT OUTPUT > PICTURE.svg
+    examples/draw_run.py --text INPUT OUTPUT
 
 INPUT is what the program read: a setup, and an event a line. OUTPUT is what it wrote. A column is a node, and time goes
 down. An arrow is a packet, from where it was sent to where it was delivered, with its serial, its request number, its kind

@@ -38,10 +38,10 @@ from packet_forms import (
 from packet_values import GREATEST, LEAST, USUAL, other_kinds, right_values, sample, wrong_values
 from row_cases import CASES as ROW_CASES
 
-TOOLS = pathlib.Path(__file__).resolve().parent
+HERE = pathlib.Path(__file__).resolve().parent
 
 # A packet of each kind, as it is written: a start, what is answered to it, the session that it opens, and so on.
-EXAMPLES = (TOOLS / "packet_examples.jsonl").read_text(encoding="utf-8").splitlines()
+EXAMPLES = (HERE / "packet_examples.jsonl").read_text(encoding="utf-8").splitlines()
 START, RESPONSE, SESSION, CDR, ACK = (
     next(line for line in EXAMPLES if f'"kind":"{kind}"' in line)
     for kind in ("start_session", "command_response", "put_session", "post_cdr", "ack")
