@@ -39,7 +39,7 @@ class Node:
 
 
 class World:
-    """The events of a world so far: of each its line, its packets and its rows. Parties are spelled there by `spell`."""
+    """The events of a world so far: of each its line, its packets and its rows. Parties are spelled by `spell`."""
 
     def __init__(self, *nodes, spell=str):
         self.nodes = {party: Node(party, its_site) for party, its_site in nodes}
@@ -207,6 +207,6 @@ class World:
         self.take_all(provider, operator, clock, [pushed])
 
     def take_all(self, provider, operator, clock, pushes):
-        """A provider takes these pushes, each told by its serial, its number and the row that it puts; then they end."""
+        """A provider takes these pushes, each told by serial, number and the row that it puts; then they end."""
         for end in [self.acknowledge(provider, operator, *push[:2], clock, push[2]) for push in pushes]:
             end()
