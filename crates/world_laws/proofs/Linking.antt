@@ -1,5 +1,5 @@
 -- Each node of a world deals with all of the other role, and a delivery brings the packet that it names.
-use Rattle.std.proofs.Common.{zero, suc, ◌≡◌, ◌⊎◌, ℕ, List, [], ◌∷◌, map, inl, inr, refl, sym, ap, subst, ◌∙◌}
+use Rattle.std.proofs.Common.{zero, suc, ◌≡◌, ◌⊎◌, ℕ, ◌+◌, List, [], ◌∷◌, map, inl, inr, sym, ap, subst, ◌∙◌}
 use Rattle.std.specs.Prelude.{Some, Contains, slice_get}
 use Rattle.std.proofs.lemmas.List.Elements.{Contains-append_right}
 use Rattle.node_laws.proofs.NodeRuns.{runs_are_steps}
@@ -22,10 +22,10 @@ use Rattle.world_laws.specs.Linked.{IsLinked}
 use Rattle.world_laws.specs.Nodes.{OperatorOf, ProviderOf}
 use Rattle.world_laws.proofs.NodeRuns.{OperatorAt, OperatorTrace, ProviderAt, ProviderTrace, line_of, operator_at, peering_of, provider_at, trace}
 use Rattle.world_laws.proofs.Senders.{run_of_operator, run_of_provider}
-use Rattle.world_steps.specs.Network.{MayArrive, WasSent}
+use Rattle.world_steps.specs.Network.{MayArrive}
 use Rattle.world_steps.specs.Traces.{Histories, Traces}
 use Rattle.world_steps.specs.World.{Place, World, operators_of, providers_of}
-use Rattle.world_steps.proofs.Places.{is_in, some_same}
+use Rattle.world_steps.proofs.Places.{is_in}
 
 -- a node of a setup is among those of its role
 is_operator : (ns : List Node) (i : ℕ) (party : List ℕ) (site : Site) → slice_get ns i ≡ Some (node.Operator party site) → Contains (operators_of ns) party
