@@ -164,6 +164,32 @@ def orders_of_starts():
     c.stored()
 
 
+def refusals_of_starts():
+    c = Case("of a start what gives 2001 is told before an unknown location, and that before what is REJECTED")
+    c.start(1)
+    c.started(1, 1, "E1")
+    # The token is not valid, or the reference is spent, or both.
+    c.start(2, place="LOC7", valid=False)
+    c.answered(2, 2, 2003)
+    c.start(3, place="LOC7", ref=1)
+    c.answered(3, 3, 2003)
+    c.start(4, place="LOC7", evse=None, ref=1, valid=False)
+    c.answered(4, 4, 2003)
+    # The token is another provider's, or a connector is named without an EVSE.
+    theirs = token("DD01", "DE/EMP", valid=False)
+    wrong = [
+        {"location_id": "LOC7", "token": theirs},
+        {"location_id": "LOC1", "token": theirs, "evse_uid": "E2", "connector_id": "1"},
+        {"location_id": "LOC1", "token": theirs, "evse_uid": "E9"},
+        {"location_id": "LOC7", "token": token(valid=False), "connector_id": "1"},
+        {"location_id": "LOC1", "token": token(valid=False), "connector_id": "9"},
+    ]
+    for number, members in enumerate(wrong, 5):
+        c.command("10:00:00", "start_session", number, authorization_reference=reference(1), **members)
+        c.answered(number, number, 2001)
+    c.stored()
+
+
 def starts_and_reservations():
     c = Case("a reservation at another location serves no start, and stands")
     c.reservation(1, 1, 1, "R1", "E3", "11:00:00", place="LOC2")
@@ -338,6 +364,32 @@ def orders_of_reservations():
     c.stored()
 
 
+def refusals_of_reservations():
+    c = Case("of a reservation a foreign token is told before an unknown location, and that before what is REJECTED")
+    c.unknown(1, 1, 5)
+    # The token is not valid, the reservation would be over, the number is below the mark, or all of these.
+    c.reserve(10, "R1", "E1", "11:00:00", place="LOC9", valid=False)
+    c.answered(3, 10, 2003)
+    c.reserve(11, "R1", None, "10:00:00", place="LOC9")
+    c.answered(4, 11, 2003)
+    c.reserve(4, "R1", "E1", "11:00:00", place="LOC9")
+    c.answered(5, 4, 2003)
+    c.reserve(3, "R1", None, "09:00:00", place="LOC9", valid=False)
+    c.answered(6, 3, 2003)
+    # The token is another provider's.
+    c.reserve(12, "R1", "E1", "11:00:00", place="LOC9", uid="DD01", owner="DE/EMP")
+    c.answered(7, 12, 2001)
+    c.reserve(2, "R1", "E1", "09:00:00", place="LOC9", uid="DD01", owner="DE/EMP", valid=False)
+    c.answered(8, 2, 2001)
+    c.reserve(1, "R1", "E9", "09:00:00", uid="DD01", owner="DE/EMP", valid=False)
+    c.answered(9, 1, 2001)
+    # None of them set the mark, nor does one that is REJECTED.
+    c.reserve(13, "R1", "E1", "10:00:00")
+    c.answered(10, 13, "REJECTED")
+    c.reservation(11, 2, 6, "R1", "E1", "11:00:00")
+    c.stored()
+
+
 def others():
     c = Case("an unlock beside another provider's claim")
     c.unlock(1)
@@ -409,9 +461,11 @@ def cases():
     open_site(text({"at": moment("10:00:00"), "party": OPERATOR, "providers": PROVIDERS, "site": site}))
     starts()
     orders_of_starts()
+    refusals_of_starts()
     starts_and_reservations()
     reservations()
     orders_of_reservations()
+    refusals_of_reservations()
     others()
     add_time_cases()
     add_charge_cases()

@@ -442,6 +442,29 @@ def add_taken_places():
     c.stored()
 
 
+def add_answers_to_reserved_places():
+    c = Charging("until a tick comes a reservation past its expiry holds its EVSE, for an answer too")
+    asked_about(c)
+    c.reservation(3, 2, 2, "R1", "E1", "10:00:01", user="AA03")
+    c.authorization(1)
+    c.began(5, 3, 1, NEVER, at="10:00:02", how="AUTH_REQUEST", used="NL/TNM/R1")
+    # One for another token, and one of another provider.
+    for evse, party, user, number, request, serial in [("E2", "NL/TNM", "AA01", 3, 4, 6), ("E3", "DE/EMP", "AA03", 1, 6, 9)]:
+        there = "LOC1" if evse == "E2" else "LOC2"
+        c.swipe("AA03", evse, "10:00:03")
+        c.asked(serial, request, evse=evse, location=there)
+        c.reservation(serial + 1, request + 1, number, "R2", evse, "10:00:04", "10:00:03", party, user, there)
+        c.authorization(request, ref=1, at="10:00:05")
+    c.tick("10:00:06")
+    c.finished(12, expired=["NL/TNM/R2", "DE/EMP/R2"])
+    c.swipe("AA03", "E3", "10:00:07")
+    c.asked(12, 8, evse="E3", location="LOC2")
+    c.authorization(8, ref=1, at="10:00:08")
+    c.spent(1)
+    c.began(13, 9, 2, NEVER, "E3", "10:00:08", "AUTH_REQUEST", reference(1), "LOC2")
+    c.stored()
+
+
 def add_token_cases():
     add_stored_tokens()
     add_shown_tokens()
@@ -452,3 +475,4 @@ def add_token_cases():
     add_other_answers()
     add_late_answers()
     add_taken_places()
+    add_answers_to_reserved_places()

@@ -7,6 +7,7 @@ that example.
 import pathlib
 
 from operator_case import moment, own_id, reference, text, token
+from world_case import World, site
 
 EXAMPLES = pathlib.Path(__file__).resolve().parents[2] / "examples"
 SETUP, *CHARGE = EXAMPLES.joinpath("charge.jsonl").read_text(encoding="utf-8").splitlines()
@@ -165,6 +166,66 @@ def starts_again():
     owed(30864)
 
 
+def play(world):
+    """Opens a world, and lets its events happen."""
+    opened(world.setup)
+    for given, packets, rows in world.events:
+        line(given, *told("stepped", packets, rows))
+
+
+BELGIAN = ("BE/BEC", site("BE/BEC", "EUR", 0.25, LOC1=["E1", "E2"]))
+FRENCH = ("FR/FRC", site("FR/FRC", "CHF", 0.3, LOC9=["F1"]))
+DUTCH, GERMAN = ("NL/TNM", None), ("DE/EMP", None)
+
+
+def charges_at_two_operators(**members):
+    """Two operators and two providers, of which none stands beside its like in the setup: each token goes to both
+    operators, in the order of the setup, and one provider charges at both."""
+    world = World(FRENCH, DUTCH, BELGIAN, GERMAN, **members)
+    dutch = world.token("NL/TNM", "AA01", "09:00:00")
+    german = world.token("DE/EMP", "DD01", "09:00:01")
+    world.charge("NL/TNM", "BE/BEC", dutch, "LOC1", "E1", 10, "12.3456", "3.0864")
+    world.charge("DE/EMP", "FR/FRC", german, "LOC9", "F1", 11, "10.0000", "3.0000")
+    world.charge("NL/TNM", "FR/FRC", dutch, "LOC9", "F1", 12, "0.0005", "0.0001")
+    return world
+
+
+def two_operators():
+    play(charges_at_two_operators())
+    past(PAST)
+    for number, hour, kwh in [(1, "T11:", "10.0000"), (2, "T12:", "0.0005")]:
+        versions = [version.replace("T10:", hour).replace("12.3456", kwh) for version in PAST]
+        past(versions, "FR/FRC", own_id(b"S", number, "FR/FRC"))
+    debts = [("NL/TNM", "FR/FRC", "CHF", 1), ("NL/TNM", "BE/BEC", "EUR", 30864), ("DE/EMP", "FR/FRC", "CHF", 30000),
+             ("DE/EMP", "BE/BEC", "EUR", 0), ("NL/TNM", "FR/FRC", "EUR", 0), ("NL/TNM", "BE/BEC", "CHF", 0)]
+    for provider, operator, currency, amount in debts:
+        owed(amount, provider, operator, currency)
+    line("run")
+    for provider, operator, currency, amount in debts:
+        owed(amount, provider, operator, currency)
+
+
+def service_of_an_evse():
+    """An EVSE goes out of service, at which a start finds it inoperative, and comes back, at which one takes it."""
+    world = World(BELGIAN, DUTCH)
+    served(world, world.token("NL/TNM", "AA01", "09:00:00"), 10)
+    play(world)
+
+
+def served(world, stored, hour):
+    dutch, belgian = world.nodes["NL/TNM"], world.nodes["BE/BEC"]
+    world.service("BE/BEC", "e2", False)
+    world.inoperative(dutch, belgian, stored, "LOC1", "E2", "%d:00:00" % hour)
+    world.service("BE/BEC", "E2", True)
+    world.started(dutch, belgian, stored, "LOC1", "E2", "%d:00:10" % hour)
+
+
+def other_spellings():
+    """Nothing is other where events spell their parties in another case: packets and rows are as the setup has them."""
+    play(charges_at_two_operators(spell=str.lower))
+    owed(30864, "nl/tnm", "be/bec", "EUR")
+
+
 def add_worlds():
     line("told", "no world")
     opened()
@@ -201,6 +262,9 @@ def add_worlds():
     past([])
     owed(0)
     starts_again()
+    two_operators()
+    service_of_an_evse()
+    other_spellings()
 
 
 def goes_on(serial):

@@ -133,13 +133,22 @@ abbrev pub MarksNeverFall : Type 0
 MarksNeverFall = (s t : State) (es : List Event) → Run s es t → (k : List ℕ × List ℕ) (m : ℕ) → get s.rows.booked.marks k ≡ Some m →
     (n : ℕ) × (get t.rows.booked.marks k ≡ Some n) × (m ≤ n)
 
--- the event makes or replaces the reservation of that id of a provider, under that number
-abbrev pub Reserves : Event → List ℕ → List ℕ → ℕ → Type 0
-Reserves e p id n = ((r : Reservation) × Contains e.changes (Put (row.Reservation p id r))) × Contains e.changes (Put (row.Mark p id n))
+-- the event makes or replaces the reservation of that id of a provider
+abbrev pub Reserves : Event → List ℕ → List ℕ → Type 0
+Reserves e p id = (r : Reservation) × Contains e.changes (Put (row.Reservation p id r))
 
--- a reservation is made only under a number above that of every request about it that was decided before: so one that
--- was cancelled, whether or not it was known, is not made by a request that the cancellation overtook
+-- the request of that number, which comes in the event, sets the mark of the reservation of that id of its sender
+pub record SetsMark (e : Event) (p id : List ℕ) (n : ℕ) : Type 0 where
+  pub at : ℕ
+  pub packet : Packet
+  pub comes : e.input ≡ Arrives at packet
+  pub by : key packet.from ≡ p
+  pub number : packet.request ≡ n
+  pub puts : Contains e.changes (Put (row.Mark p id n))
+
+-- a reservation is made only by a request that sets its mark, under a number above that of every request that set it
+-- before: so one that was cancelled, whether or not it was known, is not made by a request that the cancellation overtook
 abbrev pub ReservationsAreNewer : Type 0
 ReservationsAreNewer = (line : SiteLine) (es : List Event) (t : State) → Run (opening line) es t → (i j : ℕ) (e f : Event) → slice_get es i ≡ Some e →
     slice_get es j ≡ Some f → i < j →
-    (p id : List ℕ) (m n : ℕ) → Contains e.changes (Put (row.Mark p id m)) → Reserves f p id n → m < n
+    (p id : List ℕ) (m : ℕ) → Contains e.changes (Put (row.Mark p id m)) → Reserves f p id → (n : ℕ) × SetsMark f p id n × (m < n)

@@ -100,7 +100,8 @@ pub fn marks_never_fall()
     ensures { MarksNeverFall }
 {}
 
-/// A reservation is made only under a number above that of every request about it that was decided before.
+/// A reservation is made only by a request that sets its mark, under a number above that of every request that set the
+/// mark before: each CANCEL_RESERVATION and each accepted RESERVE_NOW about it that was not overtaken.
 pub fn reservations_are_newer()
     ensures { ReservationsAreNewer }
 {}
@@ -136,8 +137,9 @@ pub fn results_are_posted()
     ensures { ResultsArePosted }
 {}
 
-/// A reservation that stands, and did not at an earlier state, was made in between by a RESERVE_NOW that came, under a
-/// number above that of every CANCEL_RESERVATION about it that was answered before.
+/// A reservation that stands, and did not stand so at an earlier state, was made in between by a RESERVE_NOW that came,
+/// asked for this very reservation and has the result ACCEPTED, under a number above that of every CANCEL_RESERVATION
+/// about it that was answered before.
 pub fn reservations_are_made()
     ensures { ReservationsAreMade }
 {}
