@@ -1,39 +1,24 @@
 #!/usr/bin/env python3
 """Draws a run of `ocpi_nodes play` as a sequence picture in SVG, or tells it in words.
 
-    examples/draw_run.py INPUT OUTPUT > PICTURE.svg
-    examples/draw_run.py --text INPUT OUTPUT
+    examples/draw_run.py examples/charge.jsonl examples/charge.out > charge.svg
+    ./ocpi_nodes play < examples/charge.jsonl | examples/draw_run.py --text examples/charge.jsonl
 
-INPUT is what the program read: a setup, and an event a line. OUTPUT is what it wrote. A column is a node, and time goes
-down. An arrow is a packet, from where it was sent to where it was delivered, with its serial, its request number, its kind
-and what it says. A packet that is delivered again has an arrow for each delivery, the later ones dashed; one that no line
-delivers ends in a cross. Beside each node stands what happened there, with the number of the input line.
+The first file is what the program read: a setup, and an event a line. The second, or else the standard input, is what
+it wrote. In the picture a vertical line is a node, and time goes down. Beside its node stands what happened there, with
+the number and the moment of the input line at the left. An arrow is a packet, from where it was sent to where it was
+delivered. Where it was sent stands its name (its serial and its request, as 3/2), its kind and what it says. The arrow
+of a delivery that is not the first is dashed. A packet that no line delivers ends in a cross.
 """
 
 import argparse
-import json
+import signal
 import sys
-from dataclasses import dataclass, field
-from datetime import datetime, timedelta
 from xml.sax.saxutils import escape
 
-RESEND_AFTER = timedelta(seconds=10)
-LAST_MOMENT = datetime.max
+sys.dont_write_bytecode = True
 
-COMMANDS = ("start_session", "stop_session", "reserve_now", "cancel_reservation", "unlock_connector")
-REQUESTS = COMMANDS + ("put_token", "command_result", "put_session", "post_cdr", "authorize")
-REPLIES = ("command_response", "ack", "authorization")
-
-# The result of a command that a charge point's report ends.
-RESULTS = {"accepts": "ACCEPTED", "unlocked": "ACCEPTED", "refuses": "FAILED", "fault": "EVSE_INOPERATIVE"}
-
-# Which events a node may refuse so; a counter may end at any.
-NODE_FAULTS = {
-    "refused 1 NotForMe": ("token", "deliver"),
-    "refused 5 UnknownOperator": ("submit",),
-    "refused 6 UnknownToken": ("submit",),
-    "refused 3 StampEnd": ("token", "starts", "meter", "stops", "fault"),
-}
+from played_run import Mismatch, Run, spelled
 
 # Why a line is refused, by the name that the program writes.
 REASONS = {
@@ -53,257 +38,41 @@ REASONS = {
 }
 
 
-class Mismatch(Exception):
-    """The output is not that of the input."""
-
-
-@dataclass
-class Packet:
-    sender: str
-    to: str
-    serial: int
-    request: int
-    kind: str
-    body: dict
-    sent: int
-    deliveries: list = field(default_factory=list)
-
-    def says(self):
-        """What the packet says, in a word or two."""
-        body = self.body
-        if self.kind == "command_response":
-            return body["data"]["result"] if "data" in body else str(body["status_code"])
-        if self.kind == "command_result":
-            return body["result"]
-        if self.kind == "put_session":
-            return f"{body['status']} {body['kwh']} kWh"
-        if self.kind == "post_cdr":
-            return f"{body['total_energy']} kWh, {body['total_cost']['excl_vat']}"
-        if self.kind == "put_token":
-            return body["uid"]
-        if self.kind == "authorize":
-            return body["token_uid"]
-        if self.kind == "authorization":
-            return body["data"]["allowed"] if "data" in body else str(body["status_code"])
-        if self.kind == "ack":
-            return str(body["status_code"])
-        return ""
-
-    def label(self):
-        return f"{self.serial}/{self.request} {self.kind} {self.says()}".rstrip()
-
-
-@dataclass
-class Step:
-    number: int
-    event: dict
-    node: str = ""
-    at: datetime = None
-    packets: list = field(default_factory=list)
-    delivered: Packet = None
-    told: str = ""
-
-
-def moment(text):
-    """A moment of a line, as far as milliseconds; None where there is none."""
-    try:
-        day, _, rest = text.upper().partition("T")
-        clock, _, fraction = rest.rstrip("Z").removesuffix("+00:00").removesuffix("-00:00").partition(".")
-        return datetime.fromisoformat(f"{day}T{clock}") + timedelta(milliseconds=int((fraction + "000")[:3]))
-    except (AttributeError, ValueError):
-        return None
-
-
-def later(at, delay):
-    return at + delay if at <= LAST_MOMENT - delay else LAST_MOMENT
-
-
-def may_be_refused(line, event, told):
-    """Whether the line may be what was refused so: by its node, or since it cannot be read."""
-    name, _, member = told.split(" ", 2)[2].rstrip(")").partition("(")
-    if told in NODE_FAULTS:
-        return event.get("event") in NODE_FAULTS[told]
-    if name == "Syntax":
-        return not event or len(line.encode()) > 1_048_576
-    if name == "Missing":
-        return member not in event and member not in (event.get("token") or {})
-    return not member or f'"{member}"' in line
-
-
-class Run:
-    """The steps of a run: which line of the output belongs to which line of the input."""
-
-    def __init__(self, inputs, outputs):
-        self.outputs = outputs
-        self.next = 0
-        self.sent = {}
-        self.due = {}
-        self.steps = []
-        lines = [(n, line) for n, line in enumerate(inputs, 1) if line]
-        if not lines:
-            raise Mismatch("the input has no line")
-        self.setup_line = lines[0][0]
-        self.refusal, self.owed = "", []
-        try:
-            nodes = json.loads(lines[0][1])["nodes"]
-            self.nodes = [node["party"] for node in nodes]
-            self.operators = {node["party"].upper() for node in nodes if node.get("site")}
-        except (ValueError, KeyError, TypeError):
-            self.nodes, self.operators = [], set()
-        self.spelled = {party.upper(): party for party in self.nodes}
-        if len(outputs) == 1 and outputs[0].startswith("refused "):
-            self.refusal = self.take()
-            return
-        for number, line in lines[1:]:
-            self.steps.append(self.step(number, line))
-        self.owed = outputs[self.next:]
-        if any(not line.startswith("owed ") for line in self.owed):
-            raise Mismatch(f"no event gives the output's line {self.next + 1}: {self.peek()}")
-
-    def peek(self):
-        return self.outputs[self.next] if self.next < len(self.outputs) else None
-
-    def take(self):
-        self.next += 1
-        return self.outputs[self.next - 1]
-
-    def step(self, number, line):
-        try:
-            event = json.loads(line)
-            step = Step(number, event if isinstance(event, dict) else {})
-        except ValueError:
-            step = Step(number, {})
-        node = step.event.get("node")
-        step.node = self.spelled.get(str(node).upper(), str(node or ""))
-        step.at = moment(step.event.get("at"))
-        told = self.peek() or ""
-        if told.startswith("refused ") and may_be_refused(line, step.event, told) or told == "skipped" and self.is_skipped(step):
-            step.told = self.take()
-            return step
-        self.deliver(step)
-        if step.event.get("event") == "restart":
-            self.due.update((key, None) for key in self.due if key[0] == step.node)
-        while self.belongs(step):
-            self.send(step)
-        return step
-
-    def is_skipped(self, step):
-        """Whether the event is of no node of the setup: unknown, of the other role, or a packet that was not sent to it."""
-        kind, event = step.event.get("event"), step.event
-        if step.node not in self.nodes:
-            return True
-        is_operator = step.node.upper() in self.operators
-        if kind in ("submit", "token"):
-            return is_operator
-        if kind in ("service", "swipe", "accepts", "refuses", "unlocked", "starts", "stops", "fault", "meter"):
-            return not is_operator
-        return kind == "deliver" and self.named(event, step.node) is None
-
-    def named(self, event, node):
-        """The packet that a delivery names, where it was sent to that node."""
-        sender = self.spelled.get(str(event.get("from")).upper())
-        packet = self.sent.get((sender, event.get("serial")))
-        return packet if packet and packet.to.upper() == node.upper() else None
-
-    def deliver(self, step):
-        if step.event.get("event") == "deliver":
-            step.delivered = self.named(step.event, step.node)
-            if step.delivered:
-                step.delivered.deliveries.append(len(self.steps))
-
-    def belongs(self, step):
-        """Whether the next line of the output is a packet that this event sends."""
-        line = self.peek()
-        if not line or not line.startswith("{"):
-            return False
-        packet = json.loads(line)
-        if packet["from"] != step.node:
-            return False
-        kind, event, body = packet["kind"], step.event.get("event"), packet["body"]
-        was_sent = (step.node, packet["request"]) in self.due
-        first = not step.packets
-        if kind in REPLIES:
-            asked = step.delivered
-            return bool(first and asked and asked.kind in REQUESTS and asked.request == packet["request"])
-        if event == "submit":
-            return first and kind == step.event.get("order") and not was_sent
-        if event == "token":
-            return kind == "put_token" and not was_sent and body["uid"].upper() == str(step.event["token"]["uid"]).upper()
-        if event == "tick":
-            return self.ticks(step, packet, was_sent)
-        if was_sent or step.node.upper() not in self.operators:
-            return False
-        if event == "deliver":
-            return bool(step.delivered) and self.brings(step, kind, body)
-        if kind == "command_result":
-            return first and body["result"] == RESULTS.get(event)
-        if kind == "put_session":
-            return self.follows(step, body)
-        if kind == "post_cdr":
-            return event in ("stops", "fault") and len(step.packets) == 1
-        return event == "swipe" and kind == "authorize" and first
-
-    @staticmethod
-    def brings(step, kind, body):
-        """Whether a packet that came makes the operator send a result behind its response, or a session."""
-        came = step.delivered
-        if kind == "command_result":
-            at_once = came.kind in ("reserve_now", "cancel_reservation") or \
-                came.kind == "start_session" and body["result"] in ("EVSE_OCCUPIED", "EVSE_INOPERATIVE")
-            return at_once and len(step.packets) == 1 and body["response_url"] == came.body["response_url"]
-        return kind == "put_session" and came.kind == "authorization" and not step.packets
-
-    @staticmethod
-    def follows(step, body):
-        """Whether a version of a session is what such a report makes: the one packet of it, or behind the result of a start."""
-        statuses = {"accepts": ("PENDING",), "swipe": ("PENDING",), "starts": ("ACTIVE",), "meter": ("ACTIVE",),
-                    "stops": ("COMPLETED", "INVALID"), "fault": ("COMPLETED", "INVALID")}
-        event = step.event.get("event")
-        if body["status"] not in statuses.get(event, ()) or len(step.packets) != (event == "accepts"):
-            return False
-        return event != "meter" or abs(float(body["kwh"]) - float(step.event["kwh"])) < 0.0001
-
-    def ticks(self, step, packet, was_sent):
-        """Whether the time sends the packet: again where it is due, or for the first time."""
-        if was_sent:
-            due = self.due[step.node, packet["request"]]
-            return due is None or due <= step.at
-        body = packet["body"]
-        return packet["kind"] == "command_result" and body["result"] == "TIMEOUT" or \
-            packet["kind"] == "put_session" and body["status"] == "PENDING"
-
-    def send(self, step):
-        line = json.loads(self.take())
-        packet = Packet(line["from"], line["to"], line["serial"], line["request"], line["kind"], line["body"], len(self.steps))
-        self.sent[packet.sender, packet.serial] = packet
-        step.packets.append(packet)
-        if packet.kind not in REPLIES and packet.kind != "authorize":
-            self.due[packet.sender, packet.request] = later(step.at, RESEND_AFTER)
+def ordered(event):
+    """What a driver's order is for, in words."""
+    place = event.get("evse_uid") or event.get("location_id")
+    return {
+        "start_session": f"a session at {place} with token {event.get('token_uid')}",
+        "stop_session": "the end of a session",
+        "reserve_now": f"reservation {event.get('reservation_id')} of {place}",
+        "cancel_reservation": f"the end of reservation {event.get('reservation_id')}",
+        "unlock_connector": f"{place} unlocked",
+    }[event["order"]]
 
 
 def happening(step):
-    """What an event is, in words."""
+    """What an event is, in words that stand behind the node's name."""
     event = step.event
-    kind = event.get("event")
+    asked = f"request {event.get('number')} of {event.get('provider')}"
     texts = {
-        "submit": lambda: f"orders {event['order']} of {event['operator']}",
+        "submit": lambda: f"orders {ordered(event)}",
         "token": lambda: f"stores token {event['token']['uid']}",
-        "service": lambda: f"puts {event['evse_uid']} {'in' if event['in_service'] else 'out of'} service",
+        "service": lambda: f"{event['evse_uid']} is {'in' if event['in_service'] else 'out of'} service",
         "swipe": lambda: f"token {event['token_uid']} is shown at {event['evse_uid']}",
-        "accepts": lambda: f"carries out request {event['number']} of {event['provider']}",
-        "refuses": lambda: f"cannot carry out request {event['number']} of {event['provider']}",
-        "unlocked": lambda: f"unlocked, for request {event['number']} of {event['provider']}",
+        "accepts": lambda: f"{asked} is carried out",
+        "refuses": lambda: f"{asked} cannot be carried out",
+        "unlocked": lambda: f"{asked} has unlocked",
         "starts": lambda: f"energy flows at {event['evse_uid']}",
         "stops": lambda: f"{event['evse_uid']} stops",
-        "fault": lambda: f"{event['evse_uid']} fails",
-        "meter": lambda: f"the meter of {event['evse_uid']} reads {event['kwh']} kWh",
-        "deliver": lambda: f"packet {event['serial']} of {event['from']} arrives",
+        "fault": lambda: f"{event['evse_uid']} has a fault",
+        "meter": lambda: f"the meter of {event['evse_uid']} reads {spelled(event['kwh'])} kWh",
+        "deliver": lambda: f"packet {event['serial']} of {event['from']} comes",
         "tick": lambda: "time passes",
         "restart": lambda: "starts again",
         "refused": lambda: "could not store an event",
     }
     try:
-        return texts[kind]()
+        return texts[event.get("event")]()
     except (KeyError, TypeError):
         return "no event"
 
@@ -320,33 +89,65 @@ def clock(at):
     return at.strftime("%H:%M:%S") + (f".{at.microsecond // 1000:03}" if at.microsecond else "") if at else ""
 
 
+def owing(line):
+    """A line that says what is owed, in words."""
+    _, provider, operator, rest = line.split(" ", 3)
+    return f"{provider} owes {operator} {rest}"
+
+
 def tell(run):
     """The run, line by line in words."""
     if run.refusal:
         return [f"line {run.setup_line}: {why(run.refusal)}"]
-    lines = []
-    for step in run.steps:
-        head = ": ".join(part for part in (f"line {step.number}", f"{clock(step.at)} {step.node}".strip()) if part)
+    lines = ["line  time      node    what happens (a packet's kind, and its serial/request)"]
+    for place, step in enumerate(run.steps):
+        head = f"{step.number:>4}  {clock(step.at):8}  "
         if step.told:
-            lines.append(f"{head}: {why(step.told)}")
+            lines.append(f"{head}{step.node:6}  {why(step.told)}")
             continue
         what = happening(step)
         if step.delivered:
             packet = step.delivered
-            again = ", again" if packet.deliveries.index(run.steps.index(step)) else ""
-            what = f"{packet.label()} of {packet.sender} arrives{again}"
-        lines.append(f"{head}: {what}")
+            again = " again" if packet.deliveries[0] != place else ""
+            what = f"gets{again} from {packet.sender} {packet.means()} ({packet.kind} {packet.name()})"
+        lines.append(f"{head}{step.node:6}  {what}")
         for packet in step.packets:
-            lost = "" if packet.deliveries else ", and no line delivers it"
-            lines.append(f"    sends {packet.label()} to {packet.to}{lost}")
-    return lines + run.owed
+            again = " again" if packet.is_again else ""
+            lost = "" if packet.deliveries else ", which no line delivers"
+            what = f"{packet.means()} ({packet.kind} {packet.name()})"
+            lines.append(f"{'':24}sends{again} to {packet.to} {what}{lost}")
+    return lines + [owing(line) for line in run.owed]
 
 
-COLUMN, ROW, TOP, LEFT = 420, 34, 70, 400
-STYLE = """text { font: 12px sans-serif; paint-order: stroke; stroke: white; stroke-width: 3px; } .head { font-weight: bold; font-size: 14px; } .node { stroke: #888; }
-.time { fill: #666; } .own { fill: #1a4f8a; } .told { fill: #b00020; } .label { fill: #222; }
-.sent { stroke: #222; fill: none; } .again { stroke: #222; fill: none; stroke-dasharray: 5 4; }
-.lost { stroke: #b00020; fill: none; stroke-dasharray: 2 3; } .dot { fill: #1a4f8a; }"""
+# Lengths of the picture: the numbers and moments at its left, what stands beside a node, the space between two nodes, a
+# line of text, and what is left blank between two events. Then the size of letters.
+LEFT, BESIDE, BETWEEN, LINE, GAP = 66, 164, 112, 15, 7
+SIZE = 12
+STYLE = """text { font: 12px Helvetica, Arial, "DejaVu Sans", sans-serif; fill: #1f2328; }
+.small { font-size: 11px; fill: #59636e; } .head { font-size: 13px; font-weight: bold; } .own { fill: #0550ae; }
+.told { fill: #b00020; } .owed { font-weight: bold; } .dot { fill: #0550ae; }
+line { stroke: #1f2328; stroke-width: 1.2; } .node { stroke: #8c959f; stroke-width: 2; }
+.again { stroke-dasharray: 6 4; } .lost { stroke: #b00020; stroke-dasharray: 2 3; }"""
+MARKER = """<marker id="arrow" viewBox="0 0 8 8" refX="8" refY="4" markerWidth="8" markerHeight="8" orient="auto">
+<path d="M0,0 L8,4 L0,8 z" fill="#1f2328"/></marker>"""
+
+
+def width_of(text):
+    """How wide a text is, in the widest of the fonts."""
+    parts = [0.37 if it in " .,:/ijlft'|" else 0.96 if it in "mwMW" else 0.72 if it.isupper() else 0.63 for it in text]
+    return SIZE * sum(parts)
+
+
+def wrapped(parts):
+    """The parts of a text, in lines that fit beside a node."""
+    lines = [parts[0]]
+    for part in parts[1:]:
+        longer = f"{lines[-1]} {part}"
+        if width_of(longer) > BESIDE:
+            lines.append(part)
+        else:
+            lines[-1] = longer
+    return lines
 
 
 class Picture:
@@ -354,84 +155,131 @@ class Picture:
 
     def __init__(self, run):
         self.run = run
-        self.parts = []
-        self.rows = {}
-        row = 0
-        for place, step in enumerate(run.steps):
-            self.rows[place] = TOP + ROW * row
-            row += max(1, len(step.packets))
-        self.height = TOP + ROW * (row + 1) + 18 * len(run.owed)
-        self.width = LEFT + COLUMN * max(1, len(run.nodes) - 1) + 180
+        self.lines, self.texts = [], []
+        self.arrivals = {}
+        self.width = LEFT + BESIDE + 8 + (BETWEEN + 8 + BESIDE + 8) * max(1, len(run.nodes) - 1)
+        self.y = 0
 
     def x(self, node):
-        return LEFT + COLUMN * self.run.nodes.index(node)
+        """Where a node's line is: what happens at the first stands at its left, and at the right of the others."""
+        place = self.run.nodes.index(node)
+        return LEFT + BESIDE + 8 + BETWEEN * place + (BESIDE + 16) * max(0, place - 1)
 
     def text(self, x, y, text, kind, anchor="start"):
-        self.parts.append(f'<text x="{x}" y="{y}" class="{kind}" text-anchor="{anchor}">{escape(text)}</text>')
+        self.texts.append(f'<text x="{x}" y="{y}" class="{kind}" text-anchor="{anchor}">{escape(text)}</text>')
 
     def line(self, x1, y1, x2, y2, kind, ends=True):
         marker = ' marker-end="url(#arrow)"' if ends else ""
-        self.parts.append(f'<line x1="{x1}" y1="{y1}" x2="{x2}" y2="{y2}" class="{kind}"{marker}/>')
+        self.lines.append(f'<line x1="{x1}" y1="{y1}" x2="{x2}" y2="{y2}" class="{kind}"{marker}/>')
 
-    def columns(self):
+    def beside(self, node, parts, kind):
+        """Writes the parts of a text beside a node, from the next line on, and answers the height of its first line."""
+        first = self.y
+        is_first = node == self.run.nodes[0]
+        for line in wrapped(parts):
+            self.text(self.x(node) + (-8 if is_first else 8), self.y + 4, line, kind, "end" if is_first else "start")
+            self.y += LINE
+        return first
+
+    def legend(self):
+        """What the lines and the numbers mean."""
+        drawn = ("sent", "a packet, delivered"), ("again", "delivered again"), ("lost", "never delivered")
+        named = ("3/2", "its sender's packet 3, request 2"), ("8", "a line of the input, with its moment"), \
+            ("●", "an event that no packet brings")
+        for at, ((kind, text), (name, meaning)) in enumerate(zip(drawn, named), 1):
+            y = 16 * at
+            self.line(10, y, 54, y, kind, ends=kind != "lost")
+            self.text(62, y + 4, text, "small")
+            self.text(self.width // 2 - 40, y + 4, name, "own" if name == "●" else "small", "end")
+            self.text(self.width // 2 - 32, y + 4, meaning, "small")
+        self.text(54, 16 * 3 + 4, "×", "told", "middle")
+        self.y = 16 * 4 + 14
+
+    def columns(self, top):
         for node in self.run.nodes:
             role = "operator" if node.upper() in self.run.operators else "provider"
-            self.text(self.x(node), 24, f"{node}, {role}", "head", "middle")
-            self.line(self.x(node), 36, self.x(node), self.height - 10, "node", ends=False)
+            anchor = "end" if node == self.run.nodes[0] else "start"
+            side = 12 if anchor == "end" else -12
+            self.text(self.x(node) + side, top, f"{node}, {role}", "head", anchor)
+            self.line(self.x(node), top + 8, self.x(node), self.y, "node", ends=False)
 
-    def packet(self, packet, y):
-        start, end = self.x(packet.sender), self.x(packet.to)
-        side = 1 if end > start else -1
-        self.text(start + side * 12, y - 5, packet.label(), "label", "start" if side > 0 else "end")
+    def send(self, packet):
+        """Writes what a packet says where it is sent, and keeps where that is."""
+        start = self.x(packet.sender)
+        y = self.beside(packet.sender, [f"{packet.name()} {packet.kind}", *filter(None, [packet.says()])], "label")
+        side = 1 if self.x(packet.to) > start else -1
         if not packet.deliveries:
-            stop = start + side * 150
-            self.line(start, y, stop, y + 4, "lost", ends=False)
-            self.text(stop, y + 8, "×", "told", "middle")
-        for count, place in enumerate(packet.deliveries):
-            self.line(start, y, end, self.rows[place], "again" if count else "sent")
+            self.line(start, y, start + side * 44, y, "lost", ends=False)
+            self.text(start + side * 44, y + 4, "×", "told", "middle")
+        packet.height = y
 
     def happens(self, place, step):
-        y = self.rows[place]
-        self.text(8, y + 4, f"{step.number:>3}  {clock(step.at)}", "time")
-        if step.told or step.node not in self.run.nodes:
-            self.text(96, y + 4, step.told or happening(step), "told")
-            return
-        if not step.delivered:
-            self.parts.append(f'<circle cx="{self.x(step.node)}" cy="{y}" r="4" class="dot"/>')
-            self.text(96, y + 4, f"{step.node} {happening(step)}", "own")
-        for count, packet in enumerate(step.packets):
-            self.packet(packet, y + 6 + ROW * count)
+        self.text(18, self.y + 4, str(step.number), "small", "end")
+        self.text(24, self.y + 4, clock(step.at), "small")
+        if step.node not in self.run.nodes:
+            self.text(LEFT + 16, self.y + 4, step.told or happening(step), "told")
+            self.y += LINE
+        elif step.told:
+            self.beside(step.node, step.told.split(), "told")
+        elif step.delivered:
+            again = " again" if step.delivered.deliveries[0] != place else ""
+            self.arrivals[place] = self.beside(step.node, [f"gets {step.delivered.name()}{again}"], "small")
+        else:
+            y = self.beside(step.node, happening(step).replace(" kWh", "\u00a0kWh").split(" "), "own")
+            self.texts.append(f'<circle cx="{self.x(step.node)}" cy="{y}" r="4" class="dot"/>')
+        for packet in step.packets:
+            self.send(packet)
+        self.y += GAP
 
     def draw(self):
-        self.columns()
+        self.legend()
+        top = self.y
+        self.y += 28
         for place, step in enumerate(self.run.steps):
             self.happens(place, step)
-        for count, line in enumerate(reversed(self.run.owed)):
-            self.text(8, self.height - 14 - 18 * count, line, "own")
-        if self.run.refusal:
-            self.text(8, TOP, why(self.run.refusal), "told")
-        marker = ('<marker id="arrow" viewBox="0 0 8 8" refX="8" refY="4" markerWidth="8" markerHeight="8" orient="auto">'
-                  '<path d="M0,0 L8,4 L0,8 z"/></marker>')
-        return (f'<svg xmlns="http://www.w3.org/2000/svg" width="{self.width}" height="{self.height}">\n'
-                f"<style>{STYLE}</style>\n<defs>{marker}</defs>\n"
-                '<rect width="100%" height="100%" fill="white"/>\n' + "\n".join(self.parts) + "\n</svg>")
+        self.columns(top)
+        for packet in self.run.sent.values():
+            for count, place in enumerate(packet.deliveries):
+                kind = "again" if count else "sent"
+                self.line(self.x(packet.sender), packet.height, self.x(packet.to), self.arrivals[place], kind)
+        self.y += 10
+        for line in [owing(it) for it in self.run.owed] + ([why(self.run.refusal)] if self.run.refusal else []):
+            self.y += LINE
+            self.text(10, self.y, line, "told" if self.run.refusal else "owed")
+        size = f'width="{self.width}" height="{self.y + 14}"'
+        box = f'viewBox="0 0 {self.width} {self.y + 14}"'
+        return "\n".join([f'<svg xmlns="http://www.w3.org/2000/svg" {box} {size}>', f"<style>{STYLE}</style>",
+                          f'<defs>{MARKER}</defs>', f'<rect {size} fill="white"/>', *self.lines, *self.texts, "</svg>"])
+
+
+def lines_of(file):
+    return [line.rstrip("\n").removesuffix("\r") for line in file]
 
 
 def read_lines(path):
-    with open(path, encoding="utf-8", errors="replace", newline="\n") as lines:
-        return [line.rstrip("\n").removesuffix("\r") for line in lines]
+    with open(path, encoding="utf-8", errors="replace", newline="\n") as file:
+        return lines_of(file)
 
 
 def main():
+    # A reader that has enough, as `head`, ends the script without a word.
+    signal.signal(signal.SIGPIPE, signal.SIG_DFL)
     parser = argparse.ArgumentParser(description=__doc__, formatter_class=argparse.RawDescriptionHelpFormatter)
     parser.add_argument("--text", action="store_true", help="tell the run in words, line by line")
     parser.add_argument("input", metavar="INPUT")
-    parser.add_argument("output", metavar="OUTPUT")
+    parser.add_argument("output", metavar="OUTPUT", nargs="?", help="what the program wrote; else the standard input")
     words = parser.parse_args()
+    if words.output is None and sys.stdin.isatty():
+        parser.error("name the file with what the program wrote, or pipe it in")
     try:
-        run = Run(read_lines(words.input), read_lines(words.output))
+        sys.stdin.reconfigure(encoding="utf-8", errors="replace", newline="\n")
+        outputs = read_lines(words.output) if words.output is not None else lines_of(sys.stdin)
+        run = Run(read_lines(words.input), outputs)
     except (Mismatch, OSError) as fault:
         print(f"draw_run: {fault}", file=sys.stderr)
+        return 1
+    except (KeyError, ValueError):
+        print("draw_run: the output has a line that the program does not write", file=sys.stderr)
         return 1
     print("\n".join(tell(run)) if words.text else Picture(run).draw())
     return 0
