@@ -1,6 +1,7 @@
 pub mod Meanings
 pub mod RowLemmas
 pub mod StatementLemmas
+pub mod VersionLemmas
 pub mod EffectLemmas
 pub mod EditLemmas
 pub mod ReadLemmas

@@ -110,7 +110,7 @@ rowid_is r id is h =
     let compared : is_eq (int_cmp is.id id) ≡ true = ap is_eq (sym (value_cmp-Int is.id id)) ∙ subst (λ (v : Value). is_eq (value_cmp v (Int id)) ≡ true) is.has_id h in
     is.has_id ∙ ap Int (int_cmp-IsAntisymmetric is.id id (equal_of_is_eq (int_cmp is.id id) compared))
 
-rowid_tied : (r : Row) (id : ℤ) → rowid r ≡ Int id → has_rowid id r ≡ true
+pub rowid_tied : (r : Row) (id : ℤ) → rowid r ≡ Int id → has_rowid id r ≡ true
 rowid_tied r id same = subst (λ (v : Value). is_eq (value_cmp v (Int id)) ≡ true) (sym same) (ap is_eq (value_cmp-Int id id) ∙ (eq_by_cmp_equiv int_cmp_total).refl id)
 
 -- The rowids are those of the rows at a place.
@@ -136,6 +136,10 @@ cleared p rows ids texts sound complete = without_each rows ids ∙ same_filter 
             | false ↦ λ _. refl
           ] refl
         ] refl
+
+-- the one row of a table is taken away by its rowid
+pub cleared_one : (r : Row) (id : ℤ) → rowid r ≡ Int id → without_all (r ∷ []) (id ∷ []) ≡ []
+cleared_one r id same = ap (λ (b : Bool). cond (not b) (r ∷ []) []) (rowid_tied r id same)
 
 -- ---- a row is put in
 

@@ -1,5 +1,6 @@
 pub mod Layout
 pub mod Texts
+pub mod Contents
 pub mod Effects
 pub mod Reading
 pub mod Kept

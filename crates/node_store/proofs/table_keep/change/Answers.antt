@@ -1,7 +1,6 @@
-use Rattle.std.proofs.Common.{◌≡◌, ◌⊎◌, sym, ap, subst, ◌∙◌}
-use Rattle.row_table.specs.Kept.{MayLeave, texts}
+use Rattle.std.proofs.Common.{◌≡◌, inl, inr, sym, ap, ◌∙◌}
+use Rattle.row_table.specs.Kept.{texts}
 use Rattle.row_table.specs.Effects.{set_all}
-use Rattle.node_store.specs.Contents.{Content}
 use Rattle.node_store.proofs.Edited.{all_edited, some_edits}
 use Rattle.node_store.proofs.table_keep.change.Goals as goal
 
@@ -18,10 +17,10 @@ pub returns-in-Ok-clause-stops : goal.returns-in-Ok-clause-stops
 returns-in-Ok-clause-stops g c clean d may =
     let old = texts g.S.Store c.args.table.now in
     let same = ap (set_all old) (c.as_slice.ensures.value ∙ c.in_ok-edits.ensures.edits) ∙ all_edited old c.args.changes.now in
-    subst (λ (e : Content). MayLeave g.S.Store c.args.table.now d ⊎ (d ≡ e)) same (c.change.ensures.stops clean d may)
+    elim (c.change.ensures.stops clean d may) [ inl before ↦ inl before | inr is ↦ inr (is ∙ same, c.in_ok-edits.ensures.again) ]
 
 pub returns-clause-stops : goal.returns-clause-stops
 returns-clause-stops g c clean d may =
     let old = texts g.S.Store c.args.table.now in
     let same = ap (set_all old) (c.as_slice.ensures.value ∙ c.in_ok-edits.ensures.edits) ∙ all_edited old c.args.changes.now in
-    subst (λ (e : Content). MayLeave g.S.Store c.args.table.now d ⊎ (d ≡ e)) same (c.change.ensures.stops clean d may)
+    elim (c.change.ensures.stops clean d may) [ inl before ↦ inl before | inr is ↦ inr (is ∙ same, c.in_ok-edits.ensures.again) ]
