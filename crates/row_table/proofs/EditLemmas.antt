@@ -1,13 +1,12 @@
 -- Edits that are made in turn.
-use Rattle.std.proofs.Common.{◌≡◌, ◌≢◌, ℕ, zero, suc, ◌+◌, ◌<◌, ◌≤◌, List, [], ◌∷◌, ◌++◌, length, take, get_or, true, false, Ok, Err, inl, inr, ℤ, Result, OnOk, OnErr, IfErr, refl, sym, ap, subst, ◌∙◌, arith, take_all}
+use Rattle.std.proofs.Common.{◌≡◌, ◌≢◌, ℕ, zero, suc, ◌+◌, ◌<◌, ◌≤◌, List, [], ◌∷◌, ◌++◌, length, take, get_or, true, false, Ok, Err, inl, inr, Result, OnOk, OnErr, IfErr, refl, sym, ap, subst, ◌∙◌, arith, take_all}
 use Rattle.std.proofs.lemmas.List.{take_more}
 use Rattle.sqlite.specs.declared.error.Error.{Error}
-use Rattle.sqlite.specs.Tree.{Trees}
 use Rattle.sqlite.specs.Steps.{FailsToCommit}
 use Rattle.sqlite.specs.State.{State, Shows, KeepsCommit}
 use Rattle.row_table.specs.Texts.{Texts, texts_of}
-use Rattle.row_table.specs.Contents.{Content, IsWhole, at_version, content_of, with_texts}
-use Rattle.row_table.specs.Effects.{Edit, HasTables, HadTables, HasMade, HasUndone, MayCommit, set, set_all}
+use Rattle.row_table.specs.Contents.{Content, at_version, content_of, with_texts}
+use Rattle.row_table.specs.Effects.{Edit, HadTables, HasMade, HasUndone, set, set_all}
 use Rattle.row_table.proofs.EffectLemmas.{shows_then}
 
 pub set_append : (t : Texts) (xs ys : List Edit) → set_all t (xs ++ ys) ≡ set_all (set_all t xs) ys
@@ -50,7 +49,7 @@ all_made old new edits i some past on = record {
     long (e ∷ es) some p = omega arith
 
 -- the edits are made behind a new version
-pub made_to : (old mid new : State) (version : ℤ) (edits : List Edit) → HasMade old mid (at_version version (texts_of old.now.trees))
+pub made_to : (old mid new : State) (version : ℕ) (edits : List Edit) → HasMade old mid (at_version version (texts_of old.now.trees))
     → (edits ≢ [] → HasMade mid new (with_texts (content_of mid.now.trees) (set_all (texts_of mid.now.trees) edits))) → (edits ≡ [] → new ≡ mid)
     → HasMade old new (at_version version (set_all (texts_of old.now.trees) edits))
 made_to old mid new version [] first then idle = subst (λ (s : State). HasMade old s (at_version version (texts_of old.now.trees))) (sym (idle refl)) first
@@ -62,15 +61,11 @@ made_to old mid new version (e ∷ es) first then idle =
       holds = second.holds ∙ ap (λ (c : Content). with_texts c (set_all c.texts (e ∷ es))) first.holds;
     }
 
-pub all_made_to : {A E : Type 0} (old mid new : State) (version : ℤ) (edits : List Edit) (r : Result A E) → HasMade old mid (at_version version (texts_of old.now.trees))
+pub all_made_to : {A E : Type 0} (old mid new : State) (version : ℕ) (edits : List Edit) (r : Result A E) → HasMade old mid (at_version version (texts_of old.now.trees))
     → (edits ≢ [] → OnOk r (HasMade mid new (with_texts (content_of mid.now.trees) (set_all (texts_of mid.now.trees) edits)))) → (edits ≡ [] → new ≡ mid)
     → OnOk r (HasMade old new (at_version version (set_all (texts_of old.now.trees) edits)))
 all_made_to old mid new version edits (Ok a) first then idle = made_to old mid new version edits first then idle
 all_made_to old mid new version edits (Err e) first then idle = tt
-
--- a commit may leave what was made
-pub may_commit : (old last : State) (c : Content) (trees : Trees) → HasMade old last c → trees ≡ last.now.trees → MayCommit old c trees
-may_commit old last c trees made is = record { was_open = made.shown.was_open; whole = subst IsWhole (sym is) made.tables.whole; holds = ap content_of is ∙ made.holds }
 
 -- a commit that failed leaves what the last one left
 pub commit_fails : {A : Type 0} (old last end : State) (r : Result A Error) → KeepsCommit (record old { in_transaction = true }) last → last.in_transaction ≡ true → IfErr r (FailsToCommit last end) → OnErr r (HasUndone old end)

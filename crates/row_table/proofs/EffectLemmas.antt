@@ -1,5 +1,5 @@
 -- From what a statement does to what is then held.
-use Rattle.std.proofs.Common.{◌≡◌, ◌⊎◌, inl, inr, ℕ, ℤ, List, [], ◌∷◌, map, Bool, true, false, cond, IsTrue, Option, Some, None, Ok, Err, Result, OnOk, refl, sym, ap, subst, ◌∙◌}
+use Rattle.std.proofs.Common.{◌≡◌, inl, inr, ℕ, pos, List, [], ◌∷◌, map, Bool, true, false, cond, IsTrue, Option, Some, None, Ok, Err, Result, OnOk, refl, sym, ap, subst, ◌∙◌}
 use Rattle.std.proofs.lemmas.Bool.{cases_Bool}
 use Rattle.std.specs.FinMap.{find, get, insert, remove, get-from_entries, get-insert, get-remove, same_map}
 use Rattle.std.specs.Ordering.{eq_by_cmp}
@@ -10,7 +10,7 @@ use Rattle.sqlite.specs.declared.types.Value.TheVariants.{Int, Text}
 use Rattle.sqlite.specs.declared.error.Error.{Error}
 use Rattle.sqlite.specs.Edit.{next_rowid}
 use Rattle.sqlite.specs.Order.{Row, column}
-use Rattle.sqlite.specs.Tree.{Trees, put_row}
+use Rattle.sqlite.specs.Tree.{Trees}
 use Rattle.sqlite_catalog.specs.Listing.{IsSound}
 use Rattle.sqlite_rules.specs.Lists.{Has}
 use Rattle.sqlite.specs.State.{State, Shows, KeepsCommit, ExecutesInside}
@@ -19,7 +19,7 @@ use Rattle.row_table.specs.Layout.{both_tables}
 use Rattle.row_table.specs.Contents.{Content, IsNumbered, at_version, content_of, versions, with_texts}
 use Rattle.row_table.specs.Effects.{HasTables, HadTables, HasMade, HasNoVersion, HasNumbered}
 use Rattle.row_table.proofs.Meanings.{insert_text, delete_text, layout_delete, layout_insert}
-use Rattle.row_table.proofs.RowLemmas.{is_at, rest, texts_rest, are_rest, none_at, texts_put, are_put}
+use Rattle.row_table.proofs.RowLemmas.{is_at, texts_rest, are_rest, texts_put, are_put}
 use Rattle.row_table.proofs.StatementLemmas.{deletes, inserts}
 use Rattle.row_table.proofs.VersionLemmas.{deletes_version, inserts_version}
 
@@ -119,8 +119,8 @@ clears_version old new (Ok count) has ended runs = elim (cases_Bool old.in_trans
   | inr outside ↦ absurd (let e = (ended outside).1 in cc)
 ]
 
-pub adds_version : (old new : State) (version : ℤ) (r : Result ℕ Error) → old.now.schema ≡ both_tables → old.now.trees 0 ≡ [] → (old.in_transaction ≡ false → (e : Error) × (r ≡ Err e))
-    → (IsTrue old.in_transaction → ExecutesInside 0 layout_insert (Int version ∷ []) old new r) → OnOk r (HasNumbered version old new)
+pub adds_version : (old new : State) (version : ℕ) (r : Result ℕ Error) → old.now.schema ≡ both_tables → old.now.trees 0 ≡ [] → (old.in_transaction ≡ false → (e : Error) × (r ≡ Err e))
+    → (IsTrue old.in_transaction → ExecutesInside 0 layout_insert (Int (pos version) ∷ []) old new r) → OnOk r (HasNumbered version old new)
 adds_version old new version (Err e) schema none ended runs = tt
 adds_version old new version (Ok count) schema none ended runs = elim (cases_Bool old.in_transaction) [
   | inl within ↦
@@ -130,7 +130,7 @@ adds_version old new version (Ok count) schema none ended runs = elim (cases_Boo
   | inr outside ↦ absurd (let e = (ended outside).1 in cc)
 ]
 
-pub puts_version : (old mid new : State) (version : ℤ) → HadTables old → HasNoVersion old mid → HasNumbered version mid new → HasMade old new (at_version version (texts_of old.now.trees))
+pub puts_version : (old mid new : State) (version : ℕ) → HadTables old → HasNoVersion old mid → HasNumbered version mid new → HasMade old new (at_version version (texts_of old.now.trees))
 puts_version old mid new version had first second =
     let it = had first.shown.was_open in
     let texts : new.now.trees 1 ≡ old.now.trees 1 = second.texts ∙ first.texts in
@@ -142,7 +142,7 @@ puts_version old mid new version had first second =
         whole = record { listed = second.listed; version = version; has_version = v; are_texts = subst AreTexts (sym texts) it.whole.are_texts };
       };
       holds = ap (λ (rows : List Row). content (map (λ (r : Row). column r 1) rows) (texts_of new.now.trees)) v.only
-          ∙ ap (λ (x : Value). content (x ∷ []) (texts_of new.now.trees)) v.has_version ∙ ap (λ (rows : List Row). content (Int version ∷ []) (texts_in rows)) texts;
+          ∙ ap (λ (x : Value). content (x ∷ []) (texts_of new.now.trees)) v.has_version ∙ ap (λ (rows : List Row). content (Int (pos version) ∷ []) (texts_in rows)) texts;
     }
 
 pub ok_then : {A E : Type 0} (r : Result A E) (P Q : Type 0) → (P → Q) → OnOk r P → OnOk r Q

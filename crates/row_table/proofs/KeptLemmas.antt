@@ -1,12 +1,12 @@
 -- What calls leave of a table of texts.
-use Rattle.std.proofs.Common.{◌≡◌, ◌≢◌, ◌⊎◌, inl, inr, ℕ, List, [], ◌∷◌, true, false, IsTrue, slice_index_or, Ok, Err, Result, OnOk, OnErr, refl, sym, ap, subst, ◌∙◌}
+use Rattle.std.proofs.Common.{◌≡◌, ◌⊎◌, inl, inr, List, [], ◌∷◌, false, IsTrue, slice_index_or, refl, sym, ap, subst, ◌∙◌}
 use Rattle.sqlite.specs.Tree.{Trees}
 use Rattle.sqlite.specs.Store.{Ghosts}
 use Rattle.sqlite.specs.Effect.{Database}
 use Rattle.sqlite.specs.State.{State, HasCleanDisk}
 use Rattle.sqlite.specs.Held.{Held, state}
 use Rattle.row_table.specs.Contents.{Content, IsWhole, content_of}
-use Rattle.row_table.specs.Effects.{HasTables, HadTables, HasCommitted, HasUndone}
+use Rattle.row_table.specs.Effects.{HasTables, HasCommitted, HasUndone}
 use Rattle.row_table.specs.Kept.{IsAtRest}
 
 -- the one item is found, whatever stands for it past the end

@@ -11,3 +11,4 @@ pub mod KeptLemmas
 pub mod MakeLemmas
 pub mod CheckLemmas
 pub mod OpenLemmas
+pub mod HistoryLemmas

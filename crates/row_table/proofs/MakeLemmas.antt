@@ -1,32 +1,20 @@
 -- What the statements that make the tables do.
-use Rattle.std.proofs.Common.{◌≡◌, ◌⊎◌, inl, inr, ℕ, ℤ, pos, List, [], ◌∷◌, map, Bool, true, false, cond, not, IsTrue, None, Some, Ok, Err, Result, OnOk, refl, sym, ap, subst, ◌∙◌, arith}
+use Rattle.std.proofs.Common.{◌≡◌, ◌⊎◌, inl, inr, ℕ, pos, List, [], ◌∷◌, map, false, IsTrue, None, Ok, Err, Result, OnOk, refl, sym, ap, subst, ◌∙◌}
 use Rattle.std.proofs.lemmas.Bool.{cases_Bool}
 use Rattle.std.specs.Fmt.{digits}
 use Rattle.sqlite.specs.declared.types.Value.{Value}
-use Rattle.sqlite.specs.declared.types.Value.TheVariants.{Null, Int, Text}
+use Rattle.sqlite.specs.declared.types.Value.TheVariants.{Int}
 use Rattle.sqlite.specs.declared.error.Error.{Error}
 use Rattle.sqlite.specs.Order.{Row, column}
-use Rattle.sqlite.specs.Term.{Term, lit}
-use Rattle.sqlite.specs.Ops.{unary}
-use Rattle.sqlite.specs.Cast.{cast}
-use Rattle.sqlite.specs.Kind.TheVariants.{Integer}
-use Rattle.sqlite.specs.Table.{Table}
 use Rattle.sqlite.specs.Schema.{Schema}
-use Rattle.sqlite.specs.Source.TheVariants.{Values}
-use Rattle.sqlite.specs.Command.TheVariants.{Insert, CreateTable}
+use Rattle.sqlite.specs.Command.TheVariants.{CreateTable}
 use Rattle.sqlite.specs.Change.{created, next_tree, KeepsRows}
-use Rattle.sqlite.specs.Edit.{Edit, edit_of, edited, next_rowid, put_all}
-use Rattle.sqlite.specs.Rowids.TheVariants.{Chosen}
-use Rattle.sqlite.specs.Does.{Tally, Does, lacks_sequence}
-use Rattle.sqlite.specs.Rows.{Written}
-use Rattle.sqlite.specs.Tree.{Trees}
-use Rattle.sqlite.specs.Listing.{understood}
+use Rattle.sqlite.specs.Does.{Tally, lacks_sequence}
 use Rattle.sqlite.specs.Effect.{Database}
-use Rattle.sqlite.specs.State.{State, mode_of, Writes, Executes, ExecutesInside}
-use Rattle.sqlite.proofs.Callers.{statement_of, runs_as, one_step}
+use Rattle.sqlite.specs.State.{State, Writes, Executes, ExecutesInside}
+use Rattle.sqlite.proofs.Callers.{runs_as}
 use Rattle.row_table.specs.Layout.{layout_text, row_text, layout_table, row_table, both_tables, no_schema, layout_alone}
 use Rattle.row_table.specs.Texts.{AreTexts, texts_in, texts_of}
-use Rattle.row_table.specs.Contents.{at_version, content_of}
 use Rattle.row_table.specs.Effects.{HasNumbered}
 use Rattle.row_table.specs.Opening.{HasLayout, HasBoth, HasNothing, HasFirst}
 use Rattle.row_table.proofs.EffectLemmas.{content}
@@ -104,7 +92,7 @@ no_texts : AreTexts []
 no_texts = record { each = λ r h. absurd h; keyed = λ a b h i e. absurd h }
 
 -- with its version the store is a new one
-pub first_version : (old new : State) (version : ℤ) → HasNothing old → HasNumbered version old new → HasFirst version old new
+pub first_version : (old new : State) (version : ℕ) → HasNothing old → HasNumbered version old new → HasFirst version old new
 first_version old new version none made =
     let empty_rows : new.now.trees 1 ≡ [] = made.texts ∙ none.no_text in
     let v = made.has_version in
@@ -114,6 +102,6 @@ first_version old new version none made =
       one = record {
         whole = record { listed = made.listed; version = version; has_version = v; are_texts = subst AreTexts (sym empty_rows) no_texts };
         holds = ap (λ (rows : List Row). content (map (λ (r : Row). column r 1) rows) (texts_of new.now.trees)) v.only
-            ∙ ap (λ (x : Value). content (x ∷ []) (texts_of new.now.trees)) v.has_version ∙ ap (λ (rows : List Row). content (Int version ∷ []) (texts_in rows)) empty_rows;
+            ∙ ap (λ (x : Value). content (x ∷ []) (texts_of new.now.trees)) v.has_version ∙ ap (λ (rows : List Row). content (Int (pos version) ∷ []) (texts_in rows)) empty_rows;
       };
     }

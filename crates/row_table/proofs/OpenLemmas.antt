@@ -1,6 +1,5 @@
 -- What the queries at an open show.
-use Rattle.std.proofs.Common.{◌≡◌, ◌↔◌, ◌≢◌, ◌⊎◌, inl, inr, ℕ, ℤ, pos, List, [], ◌∷◌, map, Bool, true, false, IsTrue, IfOk, IfErr, OnOk, OnErr, Ok, Err, Result, refl, sym, ap, subst, ◌∙◌}
-use Rattle.std.specs.FinMap.{empty}
+use Rattle.std.proofs.Common.{◌≡◌, ◌⊎◌, inl, inr, ℕ, pos, List, [], ◌∷◌, map, Bool, true, false, IsTrue, IfOk, Ok, Err, Result, refl, sym, ap, subst, ◌∙◌}
 use Rattle.std.specs.List.Sorted.{IsPermutation}
 use Rattle.std.specs.Prelude.{flat_map}
 use Rattle.std.proofs.lemmas.List.Sorted.{IsPermutation-sym, IsPermutation-map}
@@ -11,7 +10,6 @@ use Rattle.sqlite.specs.Store.{Ghosts}
 use Rattle.sqlite.specs.Tree.{Trees}
 use Rattle.sqlite.specs.Query.{IsAnswer, output, Output}
 use Rattle.sqlite.specs.Program.{overlay}
-use Rattle.sqlite_sql.specs.Term.{Env}
 use Rattle.sqlite.specs.declared.error.Error.{Error}
 use Rattle.sqlite.specs.Effect.{Database, IsDatabase}
 use Rattle.sqlite.specs.State.{State, HasCleanDisk, Shown}
@@ -23,7 +21,7 @@ use Rattle.row_table.specs.Contents.{HasVersion, IsNewStore, IsNumbered, IsWhole
 use Rattle.row_table.specs.Effects.{HasTables, HasUndone}
 use Rattle.row_table.specs.Reading.{IsAnswered}
 use Rattle.row_table.specs.Checking.{AreWhole}
-use Rattle.row_table.specs.Opening.{Finds, HoldsAsOpened, IsMade, IsOfVersion, IsSpared}
+use Rattle.row_table.specs.Opening.{HoldsAsOpened, IsMade, IsOfVersion, IsSpared}
 use Rattle.row_table.proofs.Meanings.{layout_select, whole_select, version_query, version_is, version_plain}
 use Rattle.row_table.proofs.StatementLemmas.{every, listed_as, selects_whole}
 use Rattle.row_table.proofs.KeptLemmas.{LeavesCommit}
@@ -47,19 +45,19 @@ one_of f (x ∷ []) y e = (x, refl, let g = e in cc)
 one_of f (x ∷ z ∷ xs) y e = absurd (let g = e in cc)
 
 -- the row that is shown is that of the table
-one_stands : (version : ℤ) (trees : Trees) (rows : List Row) → IsPermutation (map version_shown (trees 0)) rows → IsNumbered version rows → HasVersion version trees
+one_stands : (version : ℕ) (trees : Trees) (rows : List Row) → IsPermutation (map version_shown (trees 0)) rows → IsNumbered version rows → HasVersion version trees
 one_stands version trees rows moved h =
     let shown = one_permutation h.row _ (subst (λ (l : List Row). IsPermutation l (map version_shown (trees 0))) h.only (IsPermutation-sym _ _ moved)) in
     let it = one_of version_shown (trees 0) h.row shown in
     record { row = it.0; only = it.1; id = h.id; has_id = ap (λ (r : Row). column r 0) it.2 ∙ h.has_id; has_version = ap (λ (r : Row). column r 1) it.2 ∙ h.has_version }
 
-one_shown : (version : ℤ) (trees : Trees) (rows : List Row) → IsPermutation (map version_shown (trees 0)) rows → versions trees ≡ Int version ∷ [] → map (λ (r : Row). column r 1) rows ≡ Int version ∷ []
+one_shown : (version : ℕ) (trees : Trees) (rows : List Row) → IsPermutation (map version_shown (trees 0)) rows → versions trees ≡ Int (pos version) ∷ [] → map (λ (r : Row). column r 1) rows ≡ Int (pos version) ∷ []
 one_shown version trees rows moved is =
-    let it = one_of (λ (r : Row). column r 1) (trees 0) (Int version) is in
+    let it = one_of (λ (r : Row). column r 1) (trees 0) (Int (pos version)) is in
     let shown = one_permutation (version_shown it.0) rows (subst (λ (l : List Row). IsPermutation (map version_shown l) rows) it.1 moved) in
     ap (map (λ (r : Row). column r 1)) shown ∙ ap (λ (x : Value). x ∷ []) it.2
 
-module _ {S : Type 0} (g : Ghosts S) (old : Held S) (version : ℤ) (rows given : List Row) (answer : IsAnswered g old layout_select rows) (has : (state g old).now.schema ≡ both_tables) (same : given ≡ rows) where
+module _ {S : Type 0} (g : Ghosts S) (old : Held S) (version : ℕ) (rows given : List Row) (answer : IsAnswered g old layout_select rows) (has : (state g old).now.schema ≡ both_tables) (same : given ≡ rows) where
   shows_one : IsPermutation (map version_shown ((state g old).now.trees 0)) rows
   shows_one = selects_version (state g (record old { in_transaction = true })) (state g answer.mid) rows has answer.shown
 
@@ -67,7 +65,7 @@ module _ {S : Type 0} (g : Ghosts S) (old : Held S) (version : ℤ) (rows given 
   version_found (Ok b) told = λ passed. one_stands version (state g old).now.trees rows shows_one (subst (IsNumbered version) same (told passed))
   version_found (Err e) told = tt
 
-  pub version_missed : (r : Result Bool Error) → IfOk r (λ b. map (λ (r : Row). column r 1) given ≡ Int version ∷ [] → IsTrue b) → IfOk r (λ b. versions (state g old).now.trees ≡ Int version ∷ [] → IsTrue b)
+  pub version_missed : (r : Result Bool Error) → IfOk r (λ b. map (λ (r : Row). column r 1) given ≡ Int (pos version) ∷ [] → IsTrue b) → IfOk r (λ b. versions (state g old).now.trees ≡ Int (pos version) ∷ [] → IsTrue b)
   version_missed (Ok b) told = λ is. told (ap (map (λ (r : Row). column r 1)) same ∙ one_shown version (state g old).now.trees rows shows_one is)
   version_missed (Err e) told = tt
 
@@ -78,7 +76,7 @@ wholes_read g old rows given (Ok b) answer has same told =
     λ passed. are_texts ((state g old).now.trees 1) rows moved (subst AreWhole same (told passed))
 wholes_read g old rows given (Err e) answer has same told = tt
 
-pub of_version : (old mid : State) (version : ℤ) → IsTrue old.is_open → IsTrue mid.is_open → IsDatabase old.now → old.now ≡ old.committed → HasUndone old mid → old.now.schema ≡ both_tables → HasVersion version old.now.trees
+pub of_version : (old mid : State) (version : ℕ) → IsTrue old.is_open → IsTrue mid.is_open → IsDatabase old.now → old.now ≡ old.committed → HasUndone old mid → old.now.schema ≡ both_tables → HasVersion version old.now.trees
     → (mid.now.schema ≡ both_tables → AreTexts (mid.now.trees 1)) → IsOfVersion version old
 of_version old mid version was still sound settled undone has numbered whole =
     let same : mid.now ≡ old.now = (undone.undone still).0 ∙ sym settled in
@@ -96,7 +94,7 @@ of_version old mid version was still sound settled undone has numbered whole =
       has_version = numbered;
     }
 
-module _ {S : Type 0} (g : Ghosts S) (version : ℤ) (old new : Held S) where
+module _ {S : Type 0} (g : Ghosts S) (version : ℕ) (old new : Held S) where
   pub started : new.in_transaction ≡ false → (state g old).now.schema ≡ no_schema → IsMade version (state g old) (state g new) → LeavesCommit (state g new) → HoldsAsOpened g version old new new
   started idle none made law = record {
     rest = record {
@@ -136,7 +134,7 @@ module _ {S : Type 0} (g : Ghosts S) (version : ℤ) (old new : Held S) where
 -- ---- an opening that was refused
 
 -- the connection was settled, and shows the last commit
-pub spared : (version : ℤ) (old new : State) → (IsTrue old.is_open → old.now ≡ old.committed) → HasUndone old new
+pub spared : (version : ℕ) (old new : State) → (IsTrue old.is_open → old.now ≡ old.committed) → HasUndone old new
     → ((trees : Trees) → new.may_leave trees → old.may_leave trees ⊎ ((old.now.schema ≡ no_schema) × IsNewStore version trees)) → IsSpared version old new
 spared version old new settled undone stops = record {
   was_open = undone.was_open;

@@ -1,13 +1,12 @@
 -- What the statements on `row_text` do to its rows.
-use Rattle.std.proofs.Common.{◌≡◌, ◌⊎◌, inl, inr, ℕ, ℤ, pos, negsuc, List, [], ◌∷◌, map, Bool, true, false, cond, not, None, Some, Ok, Err, Result, IfOk, OnOk, refl, sym, ap, subst, ◌∙◌, arith}
-use Rattle.std.specs.Prelude.{◌&&◌, filter, flat_map, ◌++◌}
+use Rattle.std.proofs.Common.{◌≡◌, ◌⊎◌, inl, inr, ℕ, List, [], ◌∷◌, map, Bool, true, false, cond, not, None, Some, Ok, Err, Result, OnOk, refl, sym, ap, subst, ◌∙◌, arith}
+use Rattle.std.specs.Prelude.{◌&&◌, flat_map, ◌++◌}
 use Rattle.std.specs.List.Sorted.{IsPermutation}
 use Rattle.std.specs.List.{list_all}
-use Rattle.std.specs.Ordering.{eq_by_cmp, is_eq, ordering_then}
+use Rattle.std.specs.Ordering.{is_eq, ordering_then}
 use Rattle.std.specs.declared.cmp.Ordering.{Ordering}
 use Rattle.std.specs.declared.cmp.Ordering.TheVariants.{Less, Equal, Greater}
-use Rattle.std.specs.FinMap.{insert, remove}
-use Rattle.std.proofs.lemmas.List.Sorted.{IsPermutation-sym, All-permutation, IsPermutation-map}
+use Rattle.std.proofs.lemmas.List.Sorted.{IsPermutation-sym, IsPermutation-map}
 use Rattle.sqlite.specs.declared.types.Value.{Value}
 use Rattle.sqlite.specs.declared.types.Value.TheVariants.{Null, Int, Text}
 use Rattle.sqlite_sql.specs.declared.ops.BinaryOp.TheVariants as binary
@@ -16,14 +15,13 @@ use Rattle.sqlite.specs.Collation.TheVariants as collation
 use Rattle.sqlite_sql.specs.Ops as ops
 use Rattle.sqlite.specs.Order.{Row, column, bytes, value_cmp}
 use Rattle.sqlite_sql.specs.Term.{Term, holds, Env, op2, col}
-use Rattle.sqlite.specs.Query.{Query, inner, end, IsAnswer, output, page, Output, matches}
+use Rattle.sqlite.specs.Query.{inner, end, IsAnswer, output, Output, matches}
 use Rattle.sqlite.specs.Program.{overlay}
-use Rattle.sqlite.specs.Table.{Table}
 use Rattle.sqlite.specs.Schema.{Schema}
 use Rattle.sqlite.specs.Kind.TheVariants.{Integer}
 use Rattle.sqlite.specs.Source.TheVariants.{Values}
-use Rattle.sqlite.specs.Command.TheVariants.{Insert, Delete, Select}
-use Rattle.sqlite.specs.Edit.{Edit, id_in, put_all, edit_of, edited, next_rowid, without_all, is_taken, are_fresh, left_by}
+use Rattle.sqlite.specs.Command.TheVariants.{Insert, Delete}
+use Rattle.sqlite.specs.Edit.{id_in, put_all, edit_of, next_rowid, without_all, is_taken, are_fresh}
 use Rattle.sqlite.specs.Cast.{cast}
 use Rattle.sqlite.specs.Ops.{unary}
 use Rattle.sqlite.specs.Rowids.TheVariants.{Chosen, Given}
@@ -31,22 +29,22 @@ use Rattle.sqlite.specs.Does.{Tally, Does}
 use Rattle.sqlite.specs.Rows.{Written}
 use Rattle.sqlite.specs.Tree.{Trees, rowid, put_row}
 use Rattle.sqlite.specs.declared.error.Error.{Error}
-use Rattle.sqlite.specs.Listing.{understood, reads_listing}
+use Rattle.sqlite.specs.Listing.{understood}
 use Rattle.sqlite.specs.Effect.{Database, IsDatabase}
-use Rattle.sqlite.specs.State.{State, mode_of, Writes, Executes, Shown}
-use Rattle.sqlite.proofs.Callers.{IsPlain, command_of, statement_of, runs_as, reads_as, one_step}
+use Rattle.sqlite.specs.State.{State, mode_of, Executes, Shown}
+use Rattle.sqlite.proofs.Callers.{statement_of, runs_as, reads_as, one_step}
 use Rattle.sqlite_rules.specs.Calls.{ids_of}
 use Rattle.sqlite_rules.specs.Lists.{Has}
-use Rattle.sqlite_rules.proofs.ListLemmas.{all_has, all_from, has_either, has_right, has_contained, contains_had}
+use Rattle.sqlite_rules.proofs.ListLemmas.{has_right, has_contained, contains_had}
 use Rattle.std.proofs.lemmas.List.Sorted.{Contains-permutation}
 use Rattle.std.specs.Cmp.{eq_by_cmp_equiv}
 use Rattle.sqlite_value.proofs.OrderLemmas.{value_cmp-Text}
 use Rattle.sqlite_catalog.specs.Listing.{IsSound}
-use Rattle.tables.specs.Keys.{text_pair_cmp, text_cmp, text_total}
+use Rattle.tables.specs.Keys.{text_cmp, text_total}
 use Rattle.row_table.specs.Layout.{both_tables, row_table}
-use Rattle.row_table.specs.Texts.{Place, Texts, place_in, entry_in, texts_in, texts_of, text_row, IsTextRow, AreTexts}
+use Rattle.row_table.specs.Texts.{text_row, IsTextRow, AreTexts}
 use Rattle.row_table.proofs.Meanings.{insert_text, delete_text, select_text, whole_select, insert_terms, delete_tests, delete_query, select_query, whole_query, insert_is, insert_plain, delete_is, delete_plain, select_is, select_plain, whole_is, whole_plain}
-use Rattle.row_table.proofs.RowLemmas.{is_at, rest, cleared, texts_rest, are_rest, none_at, texts_put, are_put}
+use Rattle.row_table.proofs.RowLemmas.{is_at, rest, cleared}
 
 -- ---- lists
 

@@ -1,26 +1,25 @@
 -- What the statements on `layout` do to its rows.
-use Rattle.std.proofs.Common.{◌≡◌, ◌⊎◌, inl, inr, ℕ, ℤ, pos, List, [], ◌∷◌, map, Bool, true, false, cond, None, Some, Ok, Err, Result, refl, sym, ap, subst, ◌∙◌, arith}
+use Rattle.std.proofs.Common.{◌≡◌, ◌⊎◌, inl, inr, ℕ, ℤ, pos, List, [], ◌∷◌, map, Bool, true, false, cond, None, Ok, Err, Result, refl, sym, ap, subst, ◌∙◌, arith}
 use Rattle.std.specs.Prelude.{flat_map}
 use Rattle.std.specs.List.Sorted.{IsPermutation}
 use Rattle.std.proofs.lemmas.List.Sorted.{IsPermutation-map}
 use Rattle.sqlite.specs.declared.types.Value.{Value}
 use Rattle.sqlite.specs.declared.types.Value.TheVariants.{Null, Int}
 use Rattle.sqlite.specs.Order.{Row, column}
-use Rattle.sqlite.specs.Term.{Term, lit}
+use Rattle.sqlite.specs.Term.{lit}
 use Rattle.sqlite_sql.specs.Term.{col}
 use Rattle.sqlite.specs.Ops.{unary}
 use Rattle.sqlite.specs.Cast.{cast}
 use Rattle.sqlite.specs.Kind.TheVariants.{Integer}
-use Rattle.sqlite.specs.Query.{Query, IsAnswer, output, Output}
+use Rattle.sqlite.specs.Query.{IsAnswer, output, Output}
 use Rattle.sqlite.specs.Program.{overlay}
 use Rattle.sqlite.specs.Source.TheVariants.{Values}
 use Rattle.sqlite.specs.Command.TheVariants.{Insert, Delete}
-use Rattle.sqlite.specs.Edit.{Edit, id_in, edit_of, edited, next_rowid, put_all, without_all}
+use Rattle.sqlite.specs.Edit.{edit_of, next_rowid, put_all, without_all}
 use Rattle.sqlite.specs.Rowids.TheVariants.{Chosen, Given}
 use Rattle.sqlite.specs.Does.{Tally, Does}
 use Rattle.sqlite.specs.Rows.{Written}
-use Rattle.sqlite.specs.Schema.{Schema}
-use Rattle.sqlite.specs.Tree.{Trees, rowid}
+use Rattle.sqlite.specs.Tree.{Trees}
 use Rattle.sqlite.specs.Listing.{understood}
 use Rattle.sqlite.specs.Effect.{Database}
 use Rattle.sqlite.specs.State.{State, mode_of, Executes}
@@ -56,16 +55,16 @@ cast_whole n = either _ (Int n)
 -- ---- DELETE
 
 -- the one row is found by its rowid
-one_found : (db : Trees) (version : ℤ) (found : List Row) (v : IsNumbered version (db 0)) → IsAnswer layout_query db [] found → found ≡ (Int v.id ∷ []) ∷ []
+one_found : (db : Trees) (version : ℕ) (found : List Row) (v : IsNumbered version (db 0)) → IsAnswer layout_query db [] found → found ≡ (Int v.id ∷ []) ∷ []
 one_found db version found v a =
     let kept : a.kept ≡ map (output layout_query) (flat_map (λ r. ([] ∷ r ∷ []) ∷ []) (db 0)) = a.distinct ∙ ap (map (output layout_query)) a.grouped in
     let moved = IsPermutation-map (λ (o : Output). o.1) a.kept a.ordered a.same in
     let shown : IsPermutation (map (λ r. column r 0 ∷ []) (db 0)) found =
-      subst (IsPermutation (map (λ r. column r 0 ∷ []) (db 0))) (sym a.shown) (subst (λ (l : List Row). IsPermutation l (map (λ (o : Output). o.1) a.ordered)) (ap (map (λ (o : Output). o.1)) kept ∙ every [] (output layout_query) (db 0)) moved) in
+    subst (IsPermutation (map (λ r. column r 0 ∷ []) (db 0))) (sym a.shown) (subst (λ (l : List Row). IsPermutation l (map (λ (o : Output). o.1) a.ordered)) (ap (map (λ (o : Output). o.1)) kept ∙ every [] (output layout_query) (db 0)) moved) in
     one_permutation (Int v.id ∷ []) found
     (subst (λ (x : Value). IsPermutation ((x ∷ []) ∷ []) found) v.has_id (subst (λ (rows : List Row). IsPermutation (map (λ r. column r 0 ∷ []) rows) found) v.only shown))
 
-one_gone : (rows found : List Row) (version : ℤ) (v : IsNumbered version rows) → found ≡ (Int v.id ∷ []) ∷ [] → without_all rows (ids_of found) ≡ []
+one_gone : (rows found : List Row) (version : ℕ) (v : IsNumbered version rows) → found ≡ (Int v.id ∷ []) ∷ [] → without_all rows (ids_of found) ≡ []
 one_gone rows found version v is =
     ap (λ (l : List Row). without_all rows (ids_of l)) is ∙ ap (λ (l : List Row). without_all l (v.id ∷ [])) v.only ∙ cleared_one v.row v.id v.has_id
 
@@ -89,15 +88,15 @@ deletes_version old new count has h =
 
 -- ---- INSERT
 
-pub record IsWritten (version : ℤ) (old : Trees) (db : Database) : Type 0 where
+pub record IsWritten (version : ℕ) (old : Trees) (db : Database) : Type 0 where
   pub schema : db.schema ≡ both_tables
   pub listed : IsSound both_tables db.trees
   pub has_version : HasVersion version db.trees
   pub texts : db.trees 1 ≡ old 1
 
-pub inserts_version : (old new : State) (version : ℤ) (count : ℕ) → old.now.schema ≡ both_tables → old.now.trees 0 ≡ [] → Executes layout_insert (Int version ∷ []) old new (Ok count) → IsWritten version old.now.trees new.now
+pub inserts_version : (old new : State) (version : ℕ) (count : ℕ) → old.now.schema ≡ both_tables → old.now.trees 0 ≡ [] → Executes layout_insert (Int (pos version) ∷ []) old new (Ok count) → IsWritten version old.now.trees new.now
 inserts_version old new version count has none h =
-    let params = Int version ∷ [] in
+    let params = Int (pos version) ∷ [] in
     let db = old.now.trees in
     let command = Insert 0 (Values (lit Null ∷ col 0 0 ∷ []) 2) in
     let w = runs_as layout_insert params old new both_tables has command first_is first_plain count h in
@@ -109,8 +108,8 @@ inserts_version old new version count has none h =
     let counted = went written.2 in
     let trees : done.0.trees ≡ written.0 = ap (λ (it : Written). it.trees) (same_value counted.2) ∙ same_value counted.1 in
     let step = one_step both_tables _ db written.0 (edit_of db layout_table [] Chosen 0 given.0) refl written.1 in
-    let row : Row = Int (next_rowid (db 0)) ∷ Int version ∷ [] in
-    let news : (edit_of db layout_table [] Chosen 0 given.0).news ≡ row ∷ [] = ap (λ all. (edit_of db layout_table [] Chosen 0 all).news) given.1.1 ∙ rw (cast_null, cast_whole version) refl in
+    let row : Row = Int (next_rowid (db 0)) ∷ Int (pos version) ∷ [] in
+    let news : (edit_of db layout_table [] Chosen 0 given.0).news ≡ row ∷ [] = ap (λ all. (edit_of db layout_table [] Chosen 0 all).news) given.1.1 ∙ rw (cast_null, cast_whole (pos version)) refl in
     let rows : new.now.trees 0 ≡ row ∷ [] = ap (λ (d : Database). d.trees 0) now ∙ ap (λ (t : Trees). t 0) trees ∙ step.rows ∙ ap (put_all (db 0)) news ∙ ap (λ l. put_all l (row ∷ [])) none in
     let schema : new.now.schema ≡ both_tables = ap (λ (d : Database). d.schema) now in
     record {

@@ -1,5 +1,5 @@
 -- What a store with the two tables holds: the version of its layout, and a text under each kind and name.
-use Rattle.std.specs.Prelude.{◌≡◌, ℤ, List, [], ◌∷◌, map}
+use Rattle.std.specs.Prelude.{◌≡◌, ℕ, ℤ, pos, List, [], ◌∷◌, map}
 use Rattle.std.specs.FinMap.{empty}
 use Rattle.sqlite.specs.declared.types.Value.{Value}
 use Rattle.sqlite.specs.declared.types.Value.TheVariants.{Int}
@@ -22,32 +22,32 @@ abbrev pub content_of : Trees → Content
 content_of trees = record { versions = versions trees; texts = texts_of trees }
 
 -- just one version, and these texts
-abbrev pub at_version : ℤ → Texts → Content
-at_version version texts = record { versions = Int version ∷ []; texts = texts }
+abbrev pub at_version : ℕ → Texts → Content
+at_version version texts = record { versions = Int (pos version) ∷ []; texts = texts }
 
 -- the same version, and these texts
 abbrev pub with_texts : Content → Texts → Content
 with_texts c texts = record { versions = c.versions; texts = texts }
 
 -- just one row, with a rowid and this number
-pub record IsNumbered (version : ℤ) (rows : List Row) : Type 0 where
+pub record IsNumbered (version : ℕ) (rows : List Row) : Type 0 where
   pub row : Row
   pub only : rows ≡ row ∷ []
   pub id : ℤ
   pub has_id : column row 0 ≡ Int id
-  pub has_version : column row 1 ≡ Int version
+  pub has_version : column row 1 ≡ Int (pos version)
 
-abbrev pub HasVersion : ℤ → Trees → Type 0
+abbrev pub HasVersion : ℕ → Trees → Type 0
 HasVersion version trees = IsNumbered version (trees 0)
 
 -- The trees of a whole store. They list the two tables and nothing else, with one version, and rows that are texts.
 pub record IsWhole (trees : Trees) : Type 0 where
   pub listed : IsSound both_tables trees
-  pub version : ℤ
+  pub version : ℕ
   pub has_version : HasVersion version trees
   pub are_texts : AreTexts (trees 1)
 
 -- a whole store of this version, without a text
-pub record IsNewStore (version : ℤ) (trees : Trees) : Type 0 where
+pub record IsNewStore (version : ℕ) (trees : Trees) : Type 0 where
   pub whole : IsWhole trees
   pub holds : content_of trees ≡ at_version version empty

@@ -1,5 +1,5 @@
 -- What the statements on the tables do to a connection.
-use Rattle.std.specs.Prelude.{◌≡◌, ℕ, ℤ, true, List, [], ◌∷◌, Option, Some, None, IsTrue}
+use Rattle.std.specs.Prelude.{◌≡◌, ℕ, true, List, [], ◌∷◌, Option, Some, None, IsTrue}
 use Rattle.std.specs.FinMap.{insert, remove}
 use Rattle.sqlite.specs.Tree.{Trees}
 use Rattle.sqlite.specs.Effect.{Database}
@@ -32,7 +32,7 @@ pub record HasNoVersion (old new : State) : Type 0 where
   pub texts : new.now.trees 1 ≡ old.now.trees 1
 
 -- the transaction goes on, with this version
-pub record HasNumbered (version : ℤ) (old new : State) : Type 0 where
+pub record HasNumbered (version : ℕ) (old new : State) : Type 0 where
   pub shown : Shows old new new.now old.committed true
   pub schema : new.now.schema ≡ both_tables
   pub listed : IsSound both_tables new.now.trees

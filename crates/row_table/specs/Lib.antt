@@ -6,3 +6,4 @@ pub mod Reading
 pub mod Kept
 pub mod Opening
 pub mod Checking
+pub mod History

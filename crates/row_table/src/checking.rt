@@ -1,6 +1,6 @@
 //! Whether a store that has the two tables keeps what it should.
 
-ghost use Rattle.std.specs.Prelude.{◌≡◌, false, [], ◌∷◌, IsTrue, IfOk, map};
+ghost use Rattle.std.specs.Prelude.{◌≡◌, false, pos, [], ◌∷◌, IsTrue, IfOk, map};
 ghost use Rattle.sqlite.specs.declared.types.Value.TheVariants.{Int};
 ghost use Rattle.sqlite.specs.Order.{column};
 ghost use Rattle.row_table.specs.Texts.{IsTextRow};
@@ -47,14 +47,14 @@ pub(crate) fn are_whole(rows: &[Row]) -> Result<bool, Error>
 }
 
 /// Whether there is one row, which has a rowid and that number.
-pub(crate) fn is_numbered(rows: &[Row], version: i64) -> Result<bool, Error>
+pub(crate) fn is_numbered(rows: &[Row], version: u32) -> Result<bool, Error>
     ensures one { IfOk result (λ b. IsTrue b → IsNumbered version rows.now) }
-    ensures all { IfOk result (λ b. map (λ r. column r 1) rows.now ≡ Int version ∷ [] → IsTrue b) }
+    ensures all { IfOk result (λ b. map (λ r. column r 1) rows.now ≡ Int (pos version) ∷ [] → IsTrue b) }
 {
     let [row] = rows else {
         return Ok(false);
     };
     let _id: i64 = row.get(0)?;
     let found: i64 = row.get(1)?;
-    Ok(found == version)
+    Ok(found == i64::from(version))
 }

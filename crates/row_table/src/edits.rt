@@ -99,7 +99,7 @@ pub(crate) fn commit_all<S: Alter>(
 /// Writes the version, and makes the edits in turn, up to the first that fails.
 fn make_to<S: Alter>(
     tx: &mut Transaction<'_, S>,
-    version: i64,
+    version: u32,
     edits: &[TextEdit],
 ) -> Result<(), Error>
     ensures same_reference { tx.new.conn.ghost_name ≡ tx.old.conn.ghost_name }
@@ -115,7 +115,7 @@ fn make_to<S: Alter>(
 /// Writes the version and makes the edits in one transaction, all of it or nothing.
 pub(crate) fn commit_to<S: Alter>(
     conn: &mut Connection<S>,
-    version: i64,
+    version: u32,
     edits: &[TextEdit],
 ) -> Result<(), Error>
     requires { conn.old.in_transaction ≡ false }

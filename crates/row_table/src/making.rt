@@ -34,7 +34,7 @@ fn make_rows<S: Alter>(tx: &mut Transaction<'_, S>) -> Result<usize, Error>
 }
 
 /// Writes the version into a `layout` that has no row.
-fn write_version<S: Alter>(tx: &mut Transaction<'_, S>, version: i64) -> Result<usize, Error>
+fn write_version<S: Alter>(tx: &mut Transaction<'_, S>, version: u32) -> Result<usize, Error>
     ensures same_reference { tx.new.conn.ghost_name ≡ tx.old.conn.ghost_name }
     ensures kept { HasCleanDisk (state S.Store tx.new.conn.now) → KeepsCommit (state S.Store tx.old.conn.now) (state S.Store tx.new.conn.now) }
     ensures made { HasCleanDisk (state S.Store tx.new.conn.now) → HasNothing (state S.Store tx.old.conn.now) → OnOk result (HasFirst version (state S.Store tx.old.conn.now) (state S.Store tx.new.conn.now)) }
@@ -43,7 +43,7 @@ fn write_version<S: Alter>(tx: &mut Transaction<'_, S>, version: i64) -> Result<
     add_version(tx, version)
 }
 
-fn make_all<S: Alter>(tx: &mut Transaction<'_, S>, version: i64) -> Result<usize, Error>
+fn make_all<S: Alter>(tx: &mut Transaction<'_, S>, version: u32) -> Result<usize, Error>
     ensures same_reference { tx.new.conn.ghost_name ≡ tx.old.conn.ghost_name }
     ensures kept { HasCleanDisk (state S.Store tx.new.conn.now) → KeepsCommit (state S.Store tx.old.conn.now) (state S.Store tx.new.conn.now) }
     ensures made { HasCleanDisk (state S.Store tx.new.conn.now) → (state S.Store tx.old.conn.now).now.schema ≡ no_schema → OnOk result (HasFirst version (state S.Store tx.old.conn.now) (state S.Store tx.new.conn.now)) }
@@ -55,7 +55,7 @@ fn make_all<S: Alter>(tx: &mut Transaction<'_, S>, version: i64) -> Result<usize
 }
 
 /// Makes both tables in one transaction, with the version and no text.
-pub(crate) fn make_tables<S: Alter>(conn: &mut Connection<S>, version: i64) -> Result<(), Error>
+pub(crate) fn make_tables<S: Alter>(conn: &mut Connection<S>, version: u32) -> Result<(), Error>
     requires { conn.old.in_transaction ≡ false }
     ensures mode { conn.new.in_transaction ≡ false }
     ensures made { HasCleanDisk (state S.Store conn.new) → (state S.Store conn.old).now.schema ≡ no_schema → OnOk result (IsMade version (state S.Store conn.old) (state S.Store conn.new)) }

@@ -5,6 +5,7 @@ ghost use Rattle.std.specs.Prelude.{
   ◌≢◌,
   ◌⊎◌,
   false,
+  pos,
   [],
   ◌∷◌,
   slice_index_or,
@@ -53,11 +54,11 @@ impl From<Error> for OpenFault {
 }
 
 /// Whether `layout` has just one row, with that version.
-fn has_version<S: Alter>(conn: &mut Connection<S>, version: i64) -> Result<bool, Error>
+fn has_version<S: Alter>(conn: &mut Connection<S>, version: u32) -> Result<bool, Error>
     requires { conn.old.in_transaction ≡ false }
     ensures mode { conn.new.in_transaction ≡ false }
     ensures one { HasCleanDisk (state S.Store conn.new) → (state S.Store conn.old).now.schema ≡ both_tables → IfOk result (λ b. IsTrue b → HasVersion version (state S.Store conn.old).now.trees) }
-    ensures all { HasCleanDisk (state S.Store conn.new) → (state S.Store conn.old).now.schema ≡ both_tables → IfOk result (λ b. versions (state S.Store conn.old).now.trees ≡ Int version ∷ [] → IsTrue b) }
+    ensures all { HasCleanDisk (state S.Store conn.new) → (state S.Store conn.old).now.schema ≡ both_tables → IfOk result (λ b. versions (state S.Store conn.old).now.trees ≡ Int (pos version) ∷ [] → IsTrue b) }
     ensures was_open { HasCleanDisk (state S.Store conn.new) → OnOk result (IsTrue (state S.Store conn.old).is_open) }
     ensures same { HasCleanDisk (state S.Store conn.new) → HasUndone (state S.Store conn.old) (state S.Store conn.new) }
     ensures crash { Survives (state S.Store conn.old) (state S.Store conn.new) (λ _. ⊥) }
@@ -101,12 +102,12 @@ fn check_schema(alloc: Global, schema: &Schema) -> Result<(), OpenFault>
 fn check_tables<S: Alter>(
     alloc: Global,
     conn: &mut Connection<S>,
-    version: i64,
+    version: u32,
 ) -> Result<(), OpenFault>
     requires { conn.old.in_transaction ≡ false }
     ensures mode { conn.new.in_transaction ≡ false }
     ensures one { HasCleanDisk (state S.Store conn.new) → OnOk result (IsOfVersion version (state S.Store conn.old)) }
-    ensures other { HasCleanDisk (state S.Store conn.new) → IfErr result (λ e. e ≡ OpenFault.OldLayout → (¬ HasOurNames (state S.Store conn.old).now.schema) ⊎ (versions (state S.Store conn.old).now.trees ≢ Int version ∷ [])) }
+    ensures other { HasCleanDisk (state S.Store conn.new) → IfErr result (λ e. e ≡ OpenFault.OldLayout → (¬ HasOurNames (state S.Store conn.old).now.schema) ⊎ (versions (state S.Store conn.old).now.trees ≢ Int (pos version) ∷ [])) }
     ensures same { HasCleanDisk (state S.Store conn.new) → HasUndone (state S.Store conn.old) (state S.Store conn.new) }
     ensures crash { Survives (state S.Store conn.old) (state S.Store conn.new) (λ _. ⊥) }
 {
@@ -122,10 +123,7 @@ fn check_tables<S: Alter>(
 }
 
 /// Makes the tables, and notes the connection then.
-fn start<S: Alter>(
-    conn: &mut Connection<S>,
-    version: i64,
-) -> Result<Past<Connection<S>>, OpenFault>
+fn start<S: Alter>(conn: &mut Connection<S>, version: u32) -> Result<Past<Connection<S>>, OpenFault>
     requires idle { conn.old.in_transaction ≡ false }
     requires nothing { (state S.Store conn.old).now.schema ≡ no_schema }
     requires settled { IsTrue (state S.Store conn.old).is_open → (state S.Store conn.old).now ≡ (state S.Store conn.old).committed }
@@ -144,7 +142,7 @@ fn start<S: Alter>(
 pub(crate) fn open_tables<S: Alter>(
     alloc: Global,
     conn: &mut Connection<S>,
-    version: i64,
+    version: u32,
 ) -> Result<Past<Connection<S>>, OpenFault>
     requires { conn.old.in_transaction ≡ false }
     ensures mode { conn.new.in_transaction ≡ false }

@@ -78,23 +78,20 @@ fn clear_version<S: Alter>(tx: &mut Transaction<'_, S>) -> Result<usize, Error>
 /// Writes the version where none stands.
 pub(crate) fn add_version<S: Alter>(
     tx: &mut Transaction<'_, S>,
-    version: i64,
+    version: u32,
 ) -> Result<usize, Error>
     ensures same_reference { tx.new.conn.ghost_name ≡ tx.old.conn.ghost_name }
     ensures kept { HasCleanDisk (state S.Store tx.new.conn.now) → KeepsCommit (state S.Store tx.old.conn.now) (state S.Store tx.new.conn.now) }
     ensures made { HasCleanDisk (state S.Store tx.new.conn.now) → (state S.Store tx.old.conn.now).now.schema ≡ both_tables → (state S.Store tx.old.conn.now).now.trees 0 ≡ [] → OnOk result (HasNumbered version (state S.Store tx.old.conn.now) (state S.Store tx.new.conn.now)) }
     ensures survives { Survives (state S.Store tx.old.conn.now) (state S.Store tx.new.conn.now) (λ _. ⊥) }
 {
-    tx.execute(
-        "INSERT INTO layout(version) VALUES (?1)",
-        params![version],
-    )
+    tx.execute("INSERT INTO layout(version) VALUES (?1)", params![version])
 }
 
 /// Writes the version in place of the one that stands.
 pub(crate) fn put_version<S: Alter>(
     tx: &mut Transaction<'_, S>,
-    version: i64,
+    version: u32,
 ) -> Result<usize, Error>
     ensures same_reference { tx.new.conn.ghost_name ≡ tx.old.conn.ghost_name }
     ensures kept { HasCleanDisk (state S.Store tx.new.conn.now) → KeepsCommit (state S.Store tx.old.conn.now) (state S.Store tx.new.conn.now) }

@@ -66,8 +66,11 @@ impl<S: Alter> TextTable<S> {
         // A stop at any other time leaves what it could leave before, or what the edits make of what is kept.
         ensures stops { IsClean S.Store self.new → (trees : Trees) → Leaves S.Store self.new trees
             → Leaves S.Store self.old trees ⊎ (content_of trees ≡ with_texts (content S.Store self.old) (set_all (texts S.Store self.old) edits.now)) }
+        // Whatever a stop leaves is a whole store: the two tables and no other, with one version.
+        ensures whole { IsClean S.Store self.new → LeavesWhole S.Store self.new }
     {
         if edits.is_empty() {
+            self.leaves_whole();
             return Ok(());
         }
         commit_all(&mut self.conn, edits)?;
@@ -76,7 +79,7 @@ impl<S: Alter> TextTable<S> {
     }
 
     /// Writes the version and makes the edits in turn, all of it or nothing.
-    pub fn change_to(&mut self, version: i64, edits: &[TextEdit]) -> Result<(), Error>
+    pub fn change_to(&mut self, version: u32, edits: &[TextEdit]) -> Result<(), Error>
         ensures all { IsClean S.Store self.new → OnOk result (content S.Store self.new ≡ at_version version (set_all (texts S.Store self.old) edits.now)) }
         ensures none { IsClean S.Store self.new → OnErr result (content S.Store self.new ≡ content S.Store self.old) }
         ensures honest { IsClean S.Store self.new → IsClean S.Store self.old }
@@ -85,14 +88,18 @@ impl<S: Alter> TextTable<S> {
         // A stop at any other time leaves what it could leave before, or the new version with what the edits make.
         ensures stops { IsClean S.Store self.new → (trees : Trees) → Leaves S.Store self.new trees
             → Leaves S.Store self.old trees ⊎ (content_of trees ≡ at_version version (set_all (texts S.Store self.old) edits.now)) }
+        // Whatever a stop leaves is a whole store: the two tables and no other, with one version.
+        ensures whole { IsClean S.Store self.new → LeavesWhole S.Store self.new }
     {
         commit_to(&mut self.conn, version, edits)?;
         self.last = Past::new().note(&self.conn);
         Ok(())
     }
+}
 
-    /// Whatever a stop leaves is a whole store: the two tables and no other, with one version.
-    pub fn leaves_whole(&self)
+impl<S: Alter> TextTable<S> {
+    /// What the type keeps of a stop between two calls.
+    fn leaves_whole(&self)
         ensures { IsClean S.Store self.now → LeavesWhole S.Store self.now }
     {
         let _conn = &self.conn;
@@ -110,11 +117,12 @@ impl<S: Alter> TextTable<S> {
     pub fn adopt(
         alloc: Global,
         mut conn: Connection<S>,
-        version: i64,
+        version: u32,
     ) -> Result<TextTable<S>, (OpenFault, Connection<S>)>
         ensures finds { IfOk result (λ t. IsClean S.Store t → Finds version (state S.Store conn).now (content S.Store t)) }
         ensures honest { IfOk result (λ t. IsClean S.Store t → HasCleanDisk (state S.Store conn)) }
         ensures stops { IfOk result (λ t. IsClean S.Store t → (trees : Trees) → Leaves S.Store t trees → content_of trees ≡ content S.Store t) }
+        ensures whole { IfOk result (λ t. IsClean S.Store t → LeavesWhole S.Store t) }
         ensures unharmed { IfErr result (λ e. HasCleanDisk (state S.Store e.1) → HasCleanDisk (state S.Store conn)) }
         // The store is as it was, or a whole new one where there was none, and a stop leaves one of these.
         ensures spared { IfErr result (λ e. HasCleanDisk (state S.Store e.1) → IsSpared version (state S.Store conn) (state S.Store e.1)) }

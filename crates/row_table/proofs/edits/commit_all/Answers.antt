@@ -1,13 +1,13 @@
-use Rattle.std.proofs.Common.{◌≡◌, ◌≢◌, OnErr, [], refl, sym, subst, ◌∙◌, arith, rules}
+use Rattle.std.proofs.Common.{◌≡◌, ◌≢◌, OnErr, [], sym, ap, subst, ◌∙◌, arith, rules}
 use Rattle.sqlite.specs.Tree.{Trees}
 use Rattle.sqlite.specs.State.{HasCleanDisk, Survives}
 use Rattle.sqlite.specs.Held.{state}
 use Rattle.sqlite.proofs.StateLemmas.{survives_then}
 use Rattle.sqlite.proofs.Callers.{survives_begin}
 use Rattle.row_table.specs.Texts.{texts_of}
-use Rattle.row_table.specs.Contents.{content_of, with_texts}
+use Rattle.row_table.specs.Contents.{IsWhole, content_of, with_texts}
 use Rattle.row_table.specs.Effects.{HadTables, HasUndone, MayCommit, set_all}
-use Rattle.row_table.proofs.EditLemmas.{commit_fails, may_commit}
+use Rattle.row_table.proofs.EditLemmas.{commit_fails}
 use Rattle.row_table.proofs.edits.commit_all.Goals as goal
 
 pub returns-clause-none : goal.returns-clause-none
@@ -34,7 +34,7 @@ returns-clause-crash g c =
     let whole = survives_then (state g.S.Store old) (state g.S.Store last) (state g.S.Store end) _ _ P (λ _ db none. absurd none)
     (λ clean left is has some.
     let made = rw begun at (c.in_ok-make_all.ensures.made (omega (arith, c.commit.ensures.survives.clean))) in
-    may_commit (state g.S.Store old) (state g.S.Store last) _ left (made has some) is)
+    record { was_open = (made has some).shown.was_open; whole = subst IsWhole (sym is) (made has some).tables.whole; holds = ap content_of is ∙ (made has some).holds })
     (survives_begin g.S.Store old (state g.S.Store last) _ (rw begun at c.make_all.ensures.survives)) c.commit.ensures.survives in
     let same : end ≡ c.conn-2-1.given.0 = search rules in
     subst (λ h. Survives (state g.S.Store old) (state g.S.Store h) P) same whole

@@ -1,4 +1,4 @@
-use Rattle.std.proofs.Common.{◌≢◌, [], OnOk, arith, ap}
+use Rattle.std.proofs.Common.{arith, ap}
 use Rattle.sqlite.specs.State.{HasCleanDisk}
 use Rattle.sqlite.specs.Held.{state}
 use Rattle.row_table.proofs.EditLemmas.{all_made_to}

@@ -1,7 +1,6 @@
-use Rattle.std.proofs.Common.{ap, sym, subst, ◌∙◌, arith, slice_index_or}
-use Rattle.sqlite.specs.State.{HasCleanDisk}
+use Rattle.std.proofs.Common.{sym, subst, arith, slice_index_or}
 use Rattle.sqlite.specs.Held.{state}
-use Rattle.row_table.specs.Kept.{IsAtRest, texts}
+use Rattle.row_table.specs.Kept.{IsAtRest}
 use Rattle.row_table.proofs.KeptLemmas.{left_whole, the_one, still_one, undone_rest}
 use Rattle.row_table.proofs.table.TextTable.rows.Goals as goal
 
