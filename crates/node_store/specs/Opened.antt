@@ -1,5 +1,4 @@
 -- What a keeper finds in a file.
-use Rattle.std.specs.Prelude.{pos}
 use Rattle.sqlite_disk.specs.declared.Disk.{Ghosts}
 use Rattle.sqlite.specs.declared.FileStore.{FileStore}
 use Rattle.sqlite.specs.Recovery.{Image}
@@ -14,7 +13,7 @@ pub record FindsInFile {D : Type 0} {g : Ghosts D} (image : Image) (now : Held (
   pub was : Held (FileStore D g)
   pub opened : IsOpened was
   pub found : FindsIn image (file_state was)
-  pub finds : Finds (pos 1) (file_state was).now content
+  pub finds : Finds 1 (file_state was).now content
 
 -- An open found the database that the file holds, and was refused. The connection shows what was found, if it is still
 -- open, and a stop leaves that, or a whole new store where there was nothing.
@@ -22,11 +21,11 @@ pub record SparesFile {D : Type 0} {g : Ghosts D} (image : Image) (now : Held (F
   pub was : Held (FileStore D g)
   pub opened : IsOpened was
   pub found : FindsIn image (file_state was)
-  pub spared : IsSpared (pos 1) (file_state was) (file_state now)
+  pub spared : IsSpared 1 (file_state was) (file_state now)
 
 -- an open found the database that the file holds, laid out for other rows
 pub record WasOldInFile {D : Type 0} {g : Ghosts D} (image : Image) (now : Held (FileStore D g)) : Type 0 where
   pub was : Held (FileStore D g)
   pub opened : IsOpened was
   pub found : FindsIn image (file_state was)
-  pub old : IsOldLayout (pos 1) (file_state was).now
+  pub old : IsOldLayout 1 (file_state was).now

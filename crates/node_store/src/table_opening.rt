@@ -19,7 +19,7 @@ use sqlite::{Alter, Connection, File, FileFrom, FileStore, MemStore, Start, Unkn
 use std::alloc::Global;
 
 /// The layout of the tables: the version that stands in them.
-const LAYOUT: i64 = 1;
+const LAYOUT: u32 = 1;
 
 fn opening_fault(fault: OpenFault) -> StoreFault
     ensures old { result ≡ StoreFault.OldLayout → fault ≡ OpenFault.OldLayout }
