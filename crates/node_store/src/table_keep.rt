@@ -55,7 +55,6 @@ impl<S: Alter> Model for TableKeep<S> {
     ghost use Rattle.std.specs.Prelude.{ℕ, length};
     ghost use Rattle.std.specs.Coded.{coded×, coded_ℕ};
     ghost use Rattle.row_table.specs.Kept.{Kept, kept_code};
-
     ghost use Rattle.node_store.specs.Layout.{KeepsLayout};
 
     ghost Value = { Kept S × ℕ };
