@@ -47,5 +47,6 @@ pub trait Keep {
         ensures settled { Self.is_honest self.new → OnOk result (changes.now ≢ [] → (c : Content) → Self.may_leave self.new c → c ≡ Self.content self.new) }
         // A stop at any other time leaves what it could leave before, or what the changes make of the content, and then
         // what they put can be read again.
-        ensures stops { Self.is_honest self.new → (c : Content) → Self.may_leave self.new c → Self.may_leave self.old c ⊎ ((c ≡ changed_all (Self.content self.old) changes.now) × All IsReadAgain changes.now) };
+        ensures stops { Self.is_honest self.new → (c : Content) → Self.may_leave self.new c
+            → Self.may_leave self.old c ⊎ ((c ≡ changed_all (Self.content self.old) changes.now) × All IsReadAgain changes.now) };
 }

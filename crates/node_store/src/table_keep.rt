@@ -127,7 +127,8 @@ fn change<S: Alter>(
     ensures layout { KeepsLayout S.Store table.old → KeepsLayout S.Store table.new }
     ensures honest { IsClean S.Store table.new → IsClean S.Store table.old }
     ensures settled { IsClean S.Store table.new → OnOk result (changes.now ≢ [] → (c : Content) → MayLeave S.Store table.new c → c ≡ texts S.Store table.new) }
-    ensures stops { IsClean S.Store table.new → (c : Content) → MayLeave S.Store table.new c → MayLeave S.Store table.old c ⊎ ((c ≡ changed_all (texts S.Store table.old) changes.now) × All IsReadAgain changes.now) }
+    ensures stops { IsClean S.Store table.new → (c : Content) → MayLeave S.Store table.new c
+        → MayLeave S.Store table.old c ⊎ ((c ≡ changed_all (texts S.Store table.old) changes.now) × All IsReadAgain changes.now) }
 {
     let edits = edits_of(alloc, changes)?;
     match table.change(edits.as_slice()) {

@@ -41,7 +41,7 @@ party_fits d p h =
     let country = h.country_code in
     let id = h.party_id in
     let whole : party_at p ≡ Ok p =
-      subst (λ (q : List ℕ). party_at q ≡ Ok q) (sym h.joined) (party_passes h.country h.id (exact_again 2 country.2.0 h.country country.2.2) (exact_again 3 id.2.0 h.id id.2.2)) in
+    subst (λ (q : List ℕ). party_at q ≡ Ok q) (sym h.joined) (party_passes h.country h.id (exact_again 2 country.2.0 h.country country.2.2) (exact_again 3 id.2.0 h.id id.2.2)) in
     record { party = key_party p whole; own = key_key p }
 
 id_fits : (max : ℕ) (f : Field) (d : Data) (s : List ℕ) → Required (IsCi max) f d s → IsCiKey max (key s)

@@ -88,8 +88,10 @@ pub(crate) fn commit_all<S: Alter>(
     ensures mode { conn.new.in_transaction ≡ false }
     ensures all { HasCleanDisk (state S.Store conn.new) → HadTables (state S.Store conn.old) → edits.now ≢ []
         → OnOk result (HasCommitted (state S.Store conn.old) (state S.Store conn.new) (with_texts (content_of (state S.Store conn.old).now.trees) (set_all (texts_of (state S.Store conn.old).now.trees) edits.now))) }
-    ensures none { HasCleanDisk (state S.Store conn.new) → HadTables (state S.Store conn.old) → edits.now ≢ [] → OnErr result (HasUndone (state S.Store conn.old) (state S.Store conn.new)) }
-    ensures crash { Survives (state S.Store conn.old) (state S.Store conn.new) (λ trees. HadTables (state S.Store conn.old) → edits.now ≢ [] → MayCommit (state S.Store conn.old) (with_texts (content_of (state S.Store conn.old).now.trees) (set_all (texts_of (state S.Store conn.old).now.trees) edits.now)) trees) }
+    ensures none { HasCleanDisk (state S.Store conn.new) → HadTables (state S.Store conn.old) → edits.now ≢ []
+        → OnErr result (HasUndone (state S.Store conn.old) (state S.Store conn.new)) }
+    ensures crash { Survives (state S.Store conn.old) (state S.Store conn.new)
+        (λ trees. HadTables (state S.Store conn.old) → edits.now ≢ [] → MayCommit (state S.Store conn.old) (with_texts (content_of (state S.Store conn.old).now.trees) (set_all (texts_of (state S.Store conn.old).now.trees) edits.now)) trees) }
 {
     let mut tx = conn.transaction();
     make_all(&mut tx, edits)?;
@@ -123,7 +125,8 @@ pub(crate) fn commit_to<S: Alter>(
     ensures all { HasCleanDisk (state S.Store conn.new) → HadTables (state S.Store conn.old)
         → OnOk result (HasCommitted (state S.Store conn.old) (state S.Store conn.new) (at_version version (set_all (texts_of (state S.Store conn.old).now.trees) edits.now))) }
     ensures none { HasCleanDisk (state S.Store conn.new) → HadTables (state S.Store conn.old) → OnErr result (HasUndone (state S.Store conn.old) (state S.Store conn.new)) }
-    ensures crash { Survives (state S.Store conn.old) (state S.Store conn.new) (λ trees. HadTables (state S.Store conn.old) → MayCommit (state S.Store conn.old) (at_version version (set_all (texts_of (state S.Store conn.old).now.trees) edits.now)) trees) }
+    ensures crash { Survives (state S.Store conn.old) (state S.Store conn.new)
+        (λ trees. HadTables (state S.Store conn.old) → MayCommit (state S.Store conn.old) (at_version version (set_all (texts_of (state S.Store conn.old).now.trees) edits.now)) trees) }
 {
     let mut tx = conn.transaction();
     make_to(&mut tx, version, edits)?;

@@ -57,8 +57,10 @@ impl From<Error> for OpenFault {
 fn has_version<S: Alter>(conn: &mut Connection<S>, version: u32) -> Result<bool, Error>
     requires { conn.old.in_transaction ≡ false }
     ensures mode { conn.new.in_transaction ≡ false }
-    ensures one { HasCleanDisk (state S.Store conn.new) → (state S.Store conn.old).now.schema ≡ both_tables → IfOk result (λ b. IsTrue b → HasVersion version (state S.Store conn.old).now.trees) }
-    ensures all { HasCleanDisk (state S.Store conn.new) → (state S.Store conn.old).now.schema ≡ both_tables → IfOk result (λ b. versions (state S.Store conn.old).now.trees ≡ Int (pos version) ∷ [] → IsTrue b) }
+    ensures one { HasCleanDisk (state S.Store conn.new) → (state S.Store conn.old).now.schema ≡ both_tables → IfOk result
+        (λ b. IsTrue b → HasVersion version (state S.Store conn.old).now.trees) }
+    ensures all { HasCleanDisk (state S.Store conn.new) → (state S.Store conn.old).now.schema ≡ both_tables → IfOk result
+        (λ b. versions (state S.Store conn.old).now.trees ≡ Int (pos version) ∷ [] → IsTrue b) }
     ensures was_open { HasCleanDisk (state S.Store conn.new) → OnOk result (IsTrue (state S.Store conn.old).is_open) }
     ensures same { HasCleanDisk (state S.Store conn.new) → HasUndone (state S.Store conn.old) (state S.Store conn.new) }
     ensures crash { Survives (state S.Store conn.old) (state S.Store conn.new) (λ _. ⊥) }
@@ -71,7 +73,8 @@ fn has_version<S: Alter>(conn: &mut Connection<S>, version: u32) -> Result<bool,
 fn are_rows_whole<S: Alter>(conn: &mut Connection<S>) -> Result<bool, Error>
     requires { conn.old.in_transaction ≡ false }
     ensures mode { conn.new.in_transaction ≡ false }
-    ensures whole { HasCleanDisk (state S.Store conn.new) → (state S.Store conn.old).now.schema ≡ both_tables → IfOk result (λ b. IsTrue b → AreTexts ((state S.Store conn.old).now.trees 1)) }
+    ensures whole { HasCleanDisk (state S.Store conn.new) → (state S.Store conn.old).now.schema ≡ both_tables → IfOk result
+        (λ b. IsTrue b → AreTexts ((state S.Store conn.old).now.trees 1)) }
     ensures was_open { HasCleanDisk (state S.Store conn.new) → OnOk result (IsTrue (state S.Store conn.old).is_open) }
     ensures same { HasCleanDisk (state S.Store conn.new) → HasUndone (state S.Store conn.old) (state S.Store conn.new) }
     ensures crash { Survives (state S.Store conn.old) (state S.Store conn.new) (λ _. ⊥) }
@@ -107,7 +110,8 @@ fn check_tables<S: Alter>(
     requires { conn.old.in_transaction ≡ false }
     ensures mode { conn.new.in_transaction ≡ false }
     ensures one { HasCleanDisk (state S.Store conn.new) → OnOk result (IsOfVersion version (state S.Store conn.old)) }
-    ensures other { HasCleanDisk (state S.Store conn.new) → IfErr result (λ e. e ≡ OpenFault.OldLayout → (¬ HasOurNames (state S.Store conn.old).now.schema) ⊎ (versions (state S.Store conn.old).now.trees ≢ Int (pos version) ∷ [])) }
+    ensures other { HasCleanDisk (state S.Store conn.new) → IfErr result
+        (λ e. e ≡ OpenFault.OldLayout → (¬ HasOurNames (state S.Store conn.old).now.schema) ⊎ (versions (state S.Store conn.old).now.trees ≢ Int (pos version) ∷ [])) }
     ensures same { HasCleanDisk (state S.Store conn.new) → HasUndone (state S.Store conn.old) (state S.Store conn.new) }
     ensures crash { Survives (state S.Store conn.old) (state S.Store conn.new) (λ _. ⊥) }
 {

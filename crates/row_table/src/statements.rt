@@ -38,7 +38,8 @@ fn add<S: Alter>(
 ) -> Result<usize, Error>
     ensures same_reference { tx.new.conn.ghost_name ≡ tx.old.conn.ghost_name }
     ensures kept { HasCleanDisk (state S.Store tx.new.conn.now) → KeepsCommit (state S.Store tx.old.conn.now) (state S.Store tx.new.conn.now) }
-    ensures made { HasCleanDisk (state S.Store tx.new.conn.now) → HadTables (state S.Store tx.old.conn.now) → get (texts_of (state S.Store tx.old.conn.now).now.trees) (kind.now, name.now) ≡ None
+    ensures made { HasCleanDisk (state S.Store tx.new.conn.now) → HadTables (state S.Store tx.old.conn.now)
+        → get (texts_of (state S.Store tx.old.conn.now).now.trees) (kind.now, name.now) ≡ None
         → OnOk result (HasMade (state S.Store tx.old.conn.now) (state S.Store tx.new.conn.now) (with_texts (content_of (state S.Store tx.old.conn.now).now.trees) (insert (texts_of (state S.Store tx.old.conn.now).now.trees) (kind.now, name.now) text.now))) }
     ensures survives { Survives (state S.Store tx.old.conn.now) (state S.Store tx.new.conn.now) (λ _. ⊥) }
 {
@@ -69,7 +70,8 @@ pub(crate) fn put<S: Alter>(
 fn clear_version<S: Alter>(tx: &mut Transaction<'_, S>) -> Result<usize, Error>
     ensures same_reference { tx.new.conn.ghost_name ≡ tx.old.conn.ghost_name }
     ensures kept { HasCleanDisk (state S.Store tx.new.conn.now) → KeepsCommit (state S.Store tx.old.conn.now) (state S.Store tx.new.conn.now) }
-    ensures made { HasCleanDisk (state S.Store tx.new.conn.now) → HadTables (state S.Store tx.old.conn.now) → OnOk result (HasNoVersion (state S.Store tx.old.conn.now) (state S.Store tx.new.conn.now)) }
+    ensures made { HasCleanDisk (state S.Store tx.new.conn.now) → HadTables (state S.Store tx.old.conn.now)
+        → OnOk result (HasNoVersion (state S.Store tx.old.conn.now) (state S.Store tx.new.conn.now)) }
     ensures survives { Survives (state S.Store tx.old.conn.now) (state S.Store tx.new.conn.now) (λ _. ⊥) }
 {
     tx.execute("DELETE FROM layout", &[])
@@ -82,7 +84,8 @@ pub(crate) fn add_version<S: Alter>(
 ) -> Result<usize, Error>
     ensures same_reference { tx.new.conn.ghost_name ≡ tx.old.conn.ghost_name }
     ensures kept { HasCleanDisk (state S.Store tx.new.conn.now) → KeepsCommit (state S.Store tx.old.conn.now) (state S.Store tx.new.conn.now) }
-    ensures made { HasCleanDisk (state S.Store tx.new.conn.now) → (state S.Store tx.old.conn.now).now.schema ≡ both_tables → (state S.Store tx.old.conn.now).now.trees 0 ≡ [] → OnOk result (HasNumbered version (state S.Store tx.old.conn.now) (state S.Store tx.new.conn.now)) }
+    ensures made { HasCleanDisk (state S.Store tx.new.conn.now) → (state S.Store tx.old.conn.now).now.schema ≡ both_tables → (state S.Store tx.old.conn.now).now.trees 0 ≡ []
+        → OnOk result (HasNumbered version (state S.Store tx.old.conn.now) (state S.Store tx.new.conn.now)) }
     ensures survives { Survives (state S.Store tx.old.conn.now) (state S.Store tx.new.conn.now) (λ _. ⊥) }
 {
     tx.execute("INSERT INTO layout(version) VALUES (?1)", params![version])
