@@ -1,13 +1,15 @@
 //! Keepers in files: those of new nodes, and the rows of one that stands.
 
-ghost use Rattle.std.specs.Prelude.{◌≡◌, IfSome, None, string_bytes, ⊤};
+ghost use Rattle.std.specs.Prelude.{◌≡◌, IfErr, IfSome, None, string_bytes, ⊤};
+ghost use Rattle.node_store.specs.Faults.{IsCommitFault};
 
 use crate::keeps::Keeps;
 use node_store::{Cause, Keep, StoreFault, TableKeep};
 use ocpi_types::Row;
 use sqlite::{File, FileStore};
+use std::alloc::AllocError;
 use std::fs::{self, OpenOptions};
-use std::io::ErrorKind;
+use std::io::{self, ErrorKind};
 
 /// Keepers in new files of a folder: `node1.db` of the first node, and so on.
 #[derive(Drop)]
@@ -15,6 +17,7 @@ pub struct FileKeeps<'a> {
     rt: &'a HostRuntime,
     folder: &'a str,
     path: Option<String>,
+    unclosed: Option<String>,
 }
 
 impl<'a> FileKeeps<'a> {
@@ -22,11 +25,13 @@ impl<'a> FileKeeps<'a> {
     pub fn new(rt: &'a HostRuntime, folder: &'a str) -> FileKeeps<'a>
         ensures folder { result.folder ≡ folder.entry }
         ensures path { result.path ≡ None }
+        ensures unclosed { result.unclosed ≡ None }
     {
         FileKeeps {
             rt,
             folder,
             path: None,
+            unclosed: None,
         }
     }
 
@@ -40,6 +45,22 @@ impl<'a> FileKeeps<'a> {
             None => self.folder,
         }
     }
+
+    /// The path of the first file whose closing was refused; where none was, the folder.
+    pub fn unclosed(&self) -> &str
+        ensures none { self.now.unclosed ≡ None → result.now ≡ self.now.folder.now }
+        ensures first { IfSome self.now.unclosed (λ path. result.now ≡ string_bytes path) }
+    {
+        match &self.unclosed {
+            Some(path) => path.as_str(),
+            None => self.folder,
+        }
+    }
+
+    /// The path of the file of the node at a place.
+    fn path_of(&self, place: usize) -> Result<String, AllocError> {
+        format!(in self.rt.alloc(); "{}/node{place}.db", self.folder)
+    }
 }
 
 impl Keeps for FileKeeps<'_> {
@@ -49,12 +70,108 @@ impl Keeps for FileKeeps<'_> {
 
     /// The folder must exist, and nothing may have the file's name. The path is noted first.
     fn open(&mut self, place: usize) -> Result<TableKeep<FileStore<File>>, StoreFault> {
-        let path = format!(in self.rt.alloc(); "{}/node{place}.db", self.folder)?;
+        let path = self.path_of(place)?;
         self.path = Some(path);
         find_folder(self.rt, self.folder)?;
         make_file(self.rt, self.path())?;
-        TableKeep::open_file(self.rt, self.path())
+        open_file(self.rt, self.path())
     }
+
+    /// The file holds all rows then, and no other stands beside it. The path is noted where that was refused.
+    fn close(&mut self, place: usize, keep: TableKeep<FileStore<File>>) -> Result<(), StoreFault> {
+        let path = self.path_of(place);
+        let closed = close_at(self.rt, &path, keep);
+        if closed.is_err() && self.unclosed.is_none() {
+            self.unclosed = path.ok();
+        }
+        closed
+    }
+}
+
+/// A keeper whose rows are in a file.
+trait InFile: Keep {
+    /// Ends it, so that the file at that path holds all rows, and no log stands beside it. After a refusal they are in
+    /// the file and its log together, as before.
+    fn end(self, rt: &HostRuntime, path: &str) -> Result<(), StoreFault>
+        ensures { IfErr result IsCommitFault };
+}
+
+impl InFile for TableKeep<FileStore<File>> {
+    fn end(self, rt: &HostRuntime, path: &str) -> Result<(), StoreFault> {
+        match self.close_files() {
+            Ok(files) => {
+                // Both are locked until they are dropped.
+                remove_empty_log(rt, path);
+                drop(files);
+                Ok(())
+            }
+            Err(fault) => Err(fault),
+        }
+    }
+}
+
+/// Ends a keeper of the file at a path, or lets it go where there was no memory for that. It stands for any keeper,
+/// since a body that holds one in a file is dear to prove.
+fn close_at<K: InFile + Drop>(
+    rt: &HostRuntime,
+    path: &Result<String, AllocError>,
+    keep: K,
+) -> Result<(), StoreFault>
+    ensures { IfErr result IsCommitFault }
+{
+    match path {
+        Ok(path) => keep.end(rt, path.as_str()),
+        Err(_) => {
+            drop(keep);
+            Err(StoreFault::Memory)
+        }
+    }
+}
+
+/// The path of the log that the database keeps for the file at a path, which stands.
+fn log_of(rt: &HostRuntime, path: &str) -> io::Result<String> {
+    let file = fs::canonicalize(rt, path)?;
+    Ok(format!(in rt.alloc(); "{}-wal", file.as_str())?)
+}
+
+/// Whether something has the name of the log of the file at a path.
+fn has_log(rt: &HostRuntime, path: &str) -> bool {
+    match log_of(rt, path) {
+        Ok(log) => fs::symlink_metadata(rt, log.as_str()).is_ok(),
+        Err(_) => false,
+    }
+}
+
+/// Removes the log of the file at a path, where it is empty. One that cannot be removed does no harm, and stays.
+fn remove_empty_log(rt: &HostRuntime, path: &str) {
+    let Ok(log) = log_of(rt, path) else {
+        return;
+    };
+    if let Ok(found) = fs::symlink_metadata(rt, log.as_str()) {
+        if found.is_file() && found.len() == 0 {
+            let _ = fs::remove_file(rt, log.as_str());
+        }
+    }
+}
+
+/// A keeper of the file at a path, as it was opened. Where that was refused, an empty log beside the file goes which
+/// had not been there.
+fn without_log<K: Drop>(
+    rt: &HostRuntime,
+    path: &str,
+    had_log: bool,
+    opened: Result<K, StoreFault>,
+) -> Result<K, StoreFault> {
+    if opened.is_err() && !had_log {
+        remove_empty_log(rt, path);
+    }
+    opened
+}
+
+/// Opens the file at a path, which stands. A refusal leaves no file beside it that was not there before.
+fn open_file(rt: &HostRuntime, path: &str) -> Result<TableKeep<FileStore<File>>, StoreFault> {
+    let had_log = has_log(rt, path);
+    without_log(rt, path, had_log, TableKeep::open_file(rt, path))
 }
 
 /// Refuses a name that is none of a folder, the empty one too.
@@ -112,16 +229,35 @@ fn fault_from(kind: ErrorKind, missing: Cause) -> StoreFault {
     }
 }
 
+/// What was found in a file.
+#[derive(Drop)]
+pub struct Found {
+    /// Its rows, ordered by kind and key.
+    pub rows: Vec<Row>,
+    /// Whether the file was closed, once these were read, so that it holds all rows alone.
+    pub closed: Result<(), StoreFault>,
+}
+
 /// The rows of a keeper that was opened, which ends here. It stands for any keeper, since a body that holds one in a
 /// file is dear to prove.
-fn rows_of<K: Keep + Drop>(opened: Result<K, StoreFault>) -> Result<Vec<Row>, StoreFault> {
+fn rows_of<K: InFile>(
+    rt: &HostRuntime,
+    path: &str,
+    opened: Result<K, StoreFault>,
+) -> Result<Found, StoreFault> {
     let mut keep = opened?;
-    keep.load()
+    let loaded = keep.load();
+    let closed = keep.end(rt, path);
+    match loaded {
+        Ok(rows) => Ok(Found { rows, closed }),
+        Err(fault) => Err(fault),
+    }
 }
 
 /// The rows of a file that exists, or why there are none: `NotFound`, `NotAFile` and `PermissionDenied` are told of the
-/// path before the file is opened as a database.
-pub fn rows_in(rt: &HostRuntime, path: &str) -> Result<Vec<Row>, StoreFault> {
+/// path before the file is opened as a database. The file is closed again; a refusal leaves no file beside it that was
+/// not there before.
+pub fn rows_in(rt: &HostRuntime, path: &str) -> Result<Found, StoreFault> {
     try_file(rt, path)?;
-    rows_of(TableKeep::open_file(rt, path))
+    rows_of(rt, path, open_file(rt, path))
 }

@@ -1,9 +1,10 @@
-//! The keepers of a world's nodes: where they come from, and what the events at their nodes give them.
+//! The keepers of a world's nodes: where they come from, what the events at their nodes give them, and what ends them.
 //!
 //! ```
 //! let mut keeps = ListKeeps::new(alloc);
 //! let mut kept = open_all(alloc, &mut keeps, setup.as_slice())?;
 //! commit(&mut kept, &event.node, world.changes())?;
+//! close_all(&mut keeps, kept)?;
 //! ```
 #![tactic(auto)]
 
@@ -11,6 +12,6 @@ mod files;
 mod keeping;
 mod keeps;
 
-pub use files::{FileKeeps, rows_in};
-pub use keeping::{KeptNode, commit, open_all};
+pub use files::{FileKeeps, Found, rows_in};
+pub use keeping::{KeptNode, close_all, commit, open_all};
 pub use keeps::{Keeps, ListKeeps};

@@ -18,9 +18,10 @@ use Rattle.world_steps.specs.Steps.{Gives, Outcome}
 use Rattle.world_steps.specs.Steps as outcome
 use Rattle.world_steps.specs.World.{World, opened}
 use Rattle.world.specs.State.{owed_by}
-use Rattle.line_runs.specs.Run.{Outputs}
+use Rattle.line_runs.specs.Run.{Begins, Outputs, StopsReading}
 use Rattle.line_runs.specs.declared.outcome.Ran.{Ran}
 use Rattle.line_runs.specs.declared.outcome.Ran.TheVariants.{Whole, WithRefusals}
+use Rattle.line_runs.specs.declared.outcome.RunFault.{RunFault}
 use Rattle.line_runs.specs.declared.run.Turn.{Turn}
 use Rattle.line_runs.specs.declared.run.Turn.TheVariants.{Taken, Refused, Ended}
 use Rattle.node_store.specs.declared.fault.StoreFault.{StoreFault}
@@ -148,4 +149,20 @@ pub record PlayOutputs {K : Type 0} (keeping : Keeping K) (may_refuse : ℕ → 
   pub last : Stage K
   pub outputs : Outputs (PlayLineGives keeping may_refuse) PlayEndGives opening text ran old new last
   pub stopped_by : last.stop ≡ stop
+  pub left : kept_in last.playing ≡ kept
+
+-- The same of a run that reading or writing stopped: what was written is a beginning of an output. The keepers are as
+-- the lines that were answered left them; where the answer to one was not written whole, as that one left them.
+pub record PlayBegins {K : Type 0} (keeping : Keeping K) (may_refuse : ℕ → StoreFault → Type 0)
+    (text old new : Option (List ℕ)) (kept : List (KeptNode K)) : Type 0 where
+  pub last : Stage K
+  pub begins : Begins (PlayLineGives keeping may_refuse) PlayEndGives opening text old new last
+  pub left : kept_in last.playing ≡ kept
+
+-- the same of one that reading stopped: what was written, and what the keepers keep, is what exactly the lines that
+-- were read whole give
+pub record PlayStops {K : Type 0} (keeping : Keeping K) (may_refuse : ℕ → StoreFault → Type 0) (fault : RunFault)
+    (text rest old new : Option (List ℕ)) (kept : List (KeptNode K)) : Type 0 where
+  pub last : Stage K
+  pub stops : StopsReading (PlayLineGives keeping may_refuse) opening fault text rest old new last
   pub left : kept_in last.playing ≡ kept

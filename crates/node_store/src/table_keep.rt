@@ -51,6 +51,20 @@ impl<S: Alter + Drop> Drop for TableKeep<S> {
     }
 }
 
+impl<S: Alter> TableKeep<S> {
+    /// The table, as the last call left it.
+    pub(crate) fn into_table(self) -> TextTable<S>
+        ensures { result ≡ self.0 }
+    {
+        let TableKeep {
+            alloc: _,
+            table,
+            refused: _,
+        } = self;
+        table
+    }
+}
+
 impl<S: Alter> Model for TableKeep<S> {
     ghost use Rattle.std.specs.Prelude.{ℕ, length};
     ghost use Rattle.std.specs.Coded.{coded×, coded_ℕ};

@@ -59,14 +59,16 @@ Output, on standard output:
 
 Stores: with --store DIR the rows of the i-th node, from 1, are kept in the file DIR/node<i>.db. The
   folder must exist, and the files must not. The rows that an event changes are there before its
-  packets are written. docs/STORE.md has the tables, and what to ask them.
+  packets are written. Until the end of the run DIR/node<i>.db-wal is part of it. docs/STORE.md has
+  the tables, and what to ask them.
 
 Exit status:
   0  no line was refused
   1  a line was refused, or reading or writing failed, which standard error says
   2  the command line is wrong
   3  a store refused: standard error has `store: N Name`, and then which file, why, and what to do.
-     That ends the run, and nothing of that line is written
+     That ends the run, and nothing of that line is written; where it could not be closed at the
+     end, all is written
 
 Examples, in the folder of the repository:
   ./ocpi_nodes play < examples/charge.jsonl

@@ -1,7 +1,7 @@
 //! OCPI nodes as programs over lines of JSON.
 #![tactic(auto)]
 
-ghost use Rattle.std.specs.Prelude.{◌≡◌, ◌≢◌};
+ghost use Rattle.std.specs.Prelude.{◌≡◌, ◌≢◌, IfErr, IfOk, OnOk, Err, Ok};
 ghost use Rattle.clap.specs.Values.{kind_of};
 ghost use Rattle.node_programs.specs.Stops.{play_status};
 
@@ -13,8 +13,9 @@ use clap::Error;
 use clap::error::ErrorKind;
 use command::{WRONG_WORDS, Word, status_after, take_words};
 use line_runs::{LineReader, Ran, RunFault};
-use node_keepers::{FileKeeps, Keeps, ListKeeps, rows_in};
+use node_keepers::{FileKeeps, Keeps, ListKeeps, close_all, rows_in};
 use node_programs::{PlayFault, run_answer, run_play, run_settle, status_after_play};
+use node_store::StoreFault;
 use refusal::words_for;
 use std::io::{self, BufReader, BufWriter, IsTerminal, Write};
 use std::process::ExitCode;
@@ -101,13 +102,16 @@ fn say(rt: &HostRuntime, text: &Error) -> u8
 /// Runs a program to the standard output. Where a store refused, `place` gets the name of its file, or of the folder of
 /// the files.
 fn run_word(rt: &HostRuntime, word: Word<'_>, place: &mut String) -> Result<Ran, PlayFault> {
+    if let Word::Play(Some(folder)) = word {
+        // With no buffer, what an event gives is written before the next event is carried out.
+        return play_in_files(rt, &mut io::writer(rt), folder, place);
+    }
     let Ok(mut writer) = BufWriter::with_capacity(rt.alloc(), BUFFER_BYTES, io::writer(rt)) else {
         return Err(PlayFault::Run(RunFault::WriteFailed));
     };
     match word {
         Word::Answer => answer_input(rt, &mut writer),
-        Word::Play(None) => play_in_memory(rt, &mut writer),
-        Word::Play(Some(folder)) => play_in_files(rt, &mut writer, folder, place),
+        Word::Play(_) => play_in_memory(rt, &mut writer),
         Word::Settle(file) => settle_file(rt, &mut writer, file, place),
     }
 }
@@ -134,12 +138,12 @@ fn answer_input<W: Write>(rt: &HostRuntime, writer: &mut W) -> Result<Ran, PlayF
 
 /// Plays the standard input with keepers in memory.
 fn play_in_memory<W: Write>(rt: &HostRuntime, writer: &mut W) -> Result<Ran, PlayFault> {
-    let (ran, _) = play_input(rt, writer, ListKeeps::new(rt.alloc()));
+    let (ran, _) = play_input(rt, writer, &mut ListKeeps::new(rt.alloc()));
     ran
 }
 
-/// Plays the standard input with keepers in new files of a folder. Where one of these could not be opened, `place` gets
-/// its path; else the folder, since any of them may have refused a commit.
+/// Plays the standard input with keepers in new files of a folder. Where one of these could not be opened or closed,
+/// `place` gets its path; else the folder, since any of them may have refused a commit.
 fn play_in_files<W: Write>(
     rt: &HostRuntime,
     writer: &mut W,
@@ -148,30 +152,48 @@ fn play_in_files<W: Write>(
 ) -> Result<Ran, PlayFault> {
     let mut keeps = FileKeeps::new(rt, folder);
     let (ran, are_open) = play_input(rt, writer, &mut keeps);
-    let _ = place.push_str(if are_open { folder } else { keeps.path() });
+    let _ = place.push_str(if are_open {
+        keeps.unclosed()
+    } else {
+        keeps.path()
+    });
     ran
 }
 
-/// Plays the standard input with these keepers, and answers also whether the nodes got theirs.
-fn play_input<W: Write, S: Keeps + Drop>(
+/// Plays the standard input with these keepers, closes them, and answers also whether the nodes got theirs.
+fn play_input<W: Write, S: Keeps>(
     rt: &HostRuntime,
     writer: &mut W,
-    keeps: S,
+    keeps: &mut S,
 ) -> (Result<Ran, PlayFault>, bool) {
     tell_wait(
         rt,
         "the setup, then events. `ocpi_nodes help play` says more",
     );
     let Ok(reader) = BufReader::with_capacity(rt.alloc(), BUFFER_BYTES, rt.reader()) else {
-        drop(keeps);
         return (Err(PlayFault::Run(RunFault::ReadFailed)), false);
     };
     let mut input = LineReader::new(reader);
     let mut kept = Vec::new(rt.alloc());
-    let ran = run_play(rt.alloc(), &mut input, writer, keeps, &mut kept);
+    let ran = run_play(rt.alloc(), &mut input, writer, &mut *keeps, &mut kept);
     let are_open = !kept.is_empty();
-    drop(kept);
-    (ran, are_open)
+    let closed = close_all(keeps, kept);
+    (and_closed(ran, closed), are_open)
+}
+
+/// How a run went, and then the closing of its stores. What stopped the run is told before what a closing refused.
+fn and_closed(ran: Result<Ran, PlayFault>, closed: Result<(), StoreFault>) -> Result<Ran, PlayFault>
+    ensures ran { IfErr ran (λ fault. result ≡ Err fault) }
+    ensures closed { IfOk ran (λ r. OnOk closed (result ≡ Ok r)) }
+    ensures refused { IfOk ran (λ r. IfErr closed (λ fault. result ≡ Err (PlayFault.Store fault))) }
+{
+    match ran {
+        Ok(ran) => match closed {
+            Ok(()) => Ok(ran),
+            Err(fault) => Err(PlayFault::Store(fault)),
+        },
+        Err(fault) => Err(fault),
+    }
 }
 
 /// Writes what is owed by the rows of a file. `place` gets its name.
@@ -182,12 +204,13 @@ fn settle_file<W: Write>(
     place: &mut String,
 ) -> Result<Ran, PlayFault> {
     let _ = place.push_str(file);
-    let rows = match rows_in(rt, file) {
-        Ok(rows) => rows,
+    let found = match rows_in(rt, file) {
+        Ok(found) => found,
         Err(fault) => return Err(PlayFault::Store(fault)),
     };
-    match run_settle(rt.alloc(), rows.as_slice(), writer) {
+    let ran = match run_settle(rt.alloc(), found.rows.as_slice(), writer) {
         Ok(()) => Ok(Ran::Whole),
         Err(fault) => Err(PlayFault::Run(fault)),
-    }
+    };
+    and_closed(ran, found.closed)
 }

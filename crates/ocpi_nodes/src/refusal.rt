@@ -38,7 +38,7 @@ fn words_for_cause(cause: Cause) -> &'static str {
         Cause::Disk => "the disk failed: the system's log says more",
         Cause::Size => "a row is larger than a store takes",
         Cause::NotEmpty =>
-            "it has rows already, and a run begins without: remove it, and the -wal file beside it",
+            "it has rows already, which a -wal file held that lay there: move it away, or name another folder",
         Cause::NoKeeper => "no file is that of the node whose rows changed",
         Cause::Other => "the database refused it: keep a copy of the file, and report this",
     }

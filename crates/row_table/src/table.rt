@@ -32,6 +32,20 @@ impl<S: Alter + Drop> Drop for TextTable<S> {
     }
 }
 
+impl<S: Alter> TextTable<S> {
+    /// The connection, as the last call left it.
+    pub fn into_connection(self) -> Connection<S>
+        ensures { result ≡ self.conn }
+    {
+        let TextTable {
+            conn,
+            last: _,
+            alloc: _,
+        } = self;
+        conn
+    }
+}
+
 impl<S: Alter> Model for TextTable<S> {
     ghost use Rattle.std.specs.Prelude.{◌≡◌, [], ◌∷◌, slice_index_or};
     ghost use Rattle.row_table.specs.Kept.{Kept, kept_code, IsAtRest};

@@ -1,6 +1,6 @@
 use Rattle.std.proofs.Common.{take}
 use Rattle.node_keepers.specs.Keeping.{AreOpened, keeping_of}
-use Rattle.node_keepers.proofs.keeping.open_all.Given as goal
+use Rattle.node_keepers.proofs.keeping.open_each.Given as goal
 
 -- each node before this one has its keeper
 abbrev pub invariant-loop-node : goal.invariant-loop-node
