@@ -42,7 +42,7 @@ def ordered(event):
     """What a driver's order is for, in words."""
     place = event.get("evse_uid") or event.get("location_id")
     return {
-        "start_session": f"a session at {place}",
+        "start_session": f"a session at {place} with token {event.get('token_uid')}",
         "stop_session": "the end of a session",
         "reserve_now": f"reservation {event.get('reservation_id')} of {place}",
         "cancel_reservation": f"the end of reservation {event.get('reservation_id')}",

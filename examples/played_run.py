@@ -68,7 +68,7 @@ class Packet:
         body, says = self.body, self.says()
         place = body.get("evse_uid") or body.get("location_id")
         texts = {
-            "start_session": lambda: f"the request for a session at {says} with token {body['token']['uid']}",
+            "start_session": lambda: f"the request for a session at {says}",
             "stop_session": lambda: "the request to end a session",
             "reserve_now": lambda: f"the request for reservation {says} of {place}",
             "cancel_reservation": lambda: f"the request to cancel reservation {says}",

@@ -3,13 +3,14 @@
 # repository's folder, and has a function `say`, and a function `fail` that says what is wrong and ends it.
 
 crate=$top/crates/ocpi_nodes
-# The program that was proved, and the same built without proofs.
+# The program that was proved, and the same built without proofs. (Both have the name that their help shows.)
 program=$crate/out/ocpi_nodes
-quick=$crate/out/ocpi_nodes.quick
+quick=$crate/out/quick/ocpi_nodes
 
-# Beside each of the two stand its listing and its sums, written once it stands, and removed before it is made anew. The
-# listing (each file's name, inode, size and times) is compared at each start, in a few milliseconds. Where it differs, as in a
-# copy of the repository or after a checkout that comes back, the sums (the kit's identity and each file's SHA-256) decide.
+# Beside each of the two stand its listing and its sums, written once it stands, and removed before it is made anew.
+# The listing (each file's name, inode, size and times) is compared at each start, in a few milliseconds. Where it
+# differs, as in a copy of the repository or after a checkout that comes back, the sums (the kit's identity and each
+# file's SHA-256) decide.
 
 # Sets `crates` to the crates that the program stands on by crates.txt, lowest first, and the program's own last.
 find_crates() {
@@ -94,8 +95,8 @@ forget_program() {
     rm -f "$1.listing" "$1.sums"
 }
 
-# After the program $1 was made from sources that were listed as $2: writes its listing and its sums. Fails where a source
-# has changed meanwhile, since nothing then tells which text was built.
+# After the program $1 was made from sources that were listed as $2: writes its listing and its sums. Fails where a
+# source has changed meanwhile, since nothing then tells which text was built.
 remember_program() {
     local now_sums now
     now_sums=$(sum_files "$1")
@@ -108,7 +109,7 @@ remember_program() {
 build_quick() {
     local before started=$SECONDS
     hash rt 2> /dev/null || fail "the command rt is not on the PATH: the program cannot be built"
-    mkdir -p "$crate/out" || fail "cannot write to $crate"
+    mkdir -p "${quick%/*}" || fail "cannot write to $crate"
     for _ in 1 2 3; do
         find_sources
         before=$(list_sources)

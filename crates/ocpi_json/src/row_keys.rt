@@ -4,6 +4,7 @@
 
 ghost use Rattle.std.specs.Prelude.{◌≡◌, ◌==◌, ◌++◌, ◌∷◌, true, IfOk, IfSome, decimal, drop, slice_index, string_bytes};
 ghost use Rattle.ocpi_types.specs.Words.{token_type_word};
+ghost use Rattle.ocpi_json.specs.RowForms.{ReadKeysFit};
 ghost use Rattle.ocpi_json.specs.RowKeys.{
   IsCiKey,
   IsPartyKey,
@@ -273,4 +274,10 @@ pub fn write_key(alloc: Global, key: &RowKey) -> Result<String, AllocError>
 /// a store is one for its node.
 pub fn row_keys_are_apart()
     ensures { KeysAreApart }
+{}
+
+/// A row that is read has a key that its types can hold, whatever its text came from: so what `row_keys_are_apart` says
+/// holds of the keys of any rows that are read.
+pub fn read_keys_fit()
+    ensures { ReadKeysFit }
 {}
