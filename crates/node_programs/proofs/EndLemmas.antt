@@ -73,7 +73,7 @@ module _ {K : Type 0} (keeping : Keeping K) (may_refuse : ℕ → StoreFault →
     pub broken_off : (result : Result Ran PlayFault) (ran : Result Ran RunFault) → IfErr result (IfRun (λ fault. ran ≡ Err fault))
         → IfErr ran (λ fault. Begins (PlayLineGives keeping may_refuse) PlayEndGives first text old new last)
         → IfErr result (IfRun (λ fault. PlayBegins keeping may_refuse text old new kept))
-    broken_off result ran is begins = stopped result ran _ (λ fault. PlayBegins keeping may_refuse text old new kept) begins_so is begins
+    broken_off result ran is begins = stopped result ran (λ fault. Begins (PlayLineGives keeping may_refuse) PlayEndGives first text old new last) (λ fault. PlayBegins keeping may_refuse text old new kept) begins_so is begins
 
     stops_so : (rest : Option (List ℕ)) (fault : RunFault) → (fault ≢ WriteFailed → StopsReading (PlayLineGives keeping may_refuse) first fault text rest old new last)
         → fault ≢ WriteFailed → PlayStops keeping may_refuse fault text rest old new kept
@@ -87,7 +87,8 @@ module _ {K : Type 0} (keeping : Keeping K) (may_refuse : ℕ → StoreFault →
         → IfErr ran (λ fault. fault ≢ WriteFailed → StopsReading (PlayLineGives keeping may_refuse) first fault text rest old new last)
         → IfErr result (IfRun (λ fault. fault ≢ WriteFailed → PlayStops keeping may_refuse fault text rest old new kept))
     read_to rest result ran is stops =
-        stopped result ran _ (λ fault. fault ≢ WriteFailed → PlayStops keeping may_refuse fault text rest old new kept) (stops_so rest) is stops
+        stopped result ran (λ fault. fault ≢ WriteFailed → StopsReading (PlayLineGives keeping may_refuse) first fault text rest old new last)
+        (λ fault. fault ≢ WriteFailed → PlayStops keeping may_refuse fault text rest old new kept) (stops_so rest) is stops
 
   -- of a run from a stage that is the opening, and of the stop that it left
   module _ (text old new : Option (List ℕ)) (first last : Stage K) (begun : first ≡ opening) (stop : Option StoreFault) (left : stop ≡ last.stop)

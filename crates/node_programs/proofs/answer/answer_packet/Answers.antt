@@ -1,6 +1,7 @@
 use Rattle.std.proofs.Common.{refl}
 use Rattle.std.proofs.lemmas.Result.{IfOk-weaker}
 use Rattle.json_text.specs.Fault.{fault_text}
+use Rattle.line_runs.specs.declared.run.Turn.TheVariants.{Refused}
 use Rattle.node_programs.specs.Answer.{Unread}
 use Rattle.node_programs.specs.Writing.{refusal_line}
 use Rattle.node_programs.proofs.PlayLemmas.{if_err_then, of_each}
@@ -15,7 +16,7 @@ returns-in_ok-refuse-in-Err-clause-ok c =
 pub returns-in_err-refuse-in-Err-clause-err : goal.returns-in_err-refuse-in-Err-clause-err
 returns-in_err-refuse-in-Err-clause-err c =
     let fault = c.in-Err.fault in
-    of_each c.from_residual.result (_, refusal_line (fault_text fault), Unread fault c.in-Err.ensures.exact refl refl refl)
+    of_each c.from_residual.result (Refused, refusal_line (fault_text fault), Unread fault c.in-Err.ensures.exact refl refl refl)
 
 pub returns-in-Ok-clause-ok : goal.returns-in-Ok-clause-ok
 returns-in-Ok-clause-ok c =

@@ -1,6 +1,7 @@
 use Rattle.std.proofs.Common.{[], Some, refl, sym, ap, string_bytes}
 use Rattle.std.proofs.lemmas.List.{append-nil}
 use Rattle.json_text.specs.Fault.{fault_text}
+use Rattle.line_runs.specs.declared.run.Turn.TheVariants.{Ended}
 use Rattle.node_programs.specs.Answer.{Opened, NoSite}
 use Rattle.node_programs.specs.Writing.{refusal_line}
 use Rattle.node_programs.proofs.PlayLemmas.{of_each}
@@ -20,4 +21,4 @@ returns-in_ok-refuse-in-Err-clause-ok c =
 pub returns-in_err-refuse-in-Err-clause-err : goal.returns-in_err-refuse-in-Err-clause-err
 returns-in_err-refuse-in-Err-clause-err c =
     let fault = c.in-Err.fault in
-    of_each c.from_residual.result (_, refusal_line (fault_text fault), NoSite fault c.in-Err.ensures.err refl refl c.requires)
+    of_each c.from_residual.result (Ended, refusal_line (fault_text fault), NoSite fault c.in-Err.ensures.err refl refl c.requires)

@@ -8,7 +8,7 @@ use Rattle.node_steps.specs.declared.fault.NodeFault.TheVariants.{Memory}
 use Rattle.world.specs.Seen.{told}
 use Rattle.world.specs.State.{WorldState}
 use Rattle.world_steps.specs.Steps.{Gives}
-use Rattle.line_runs.specs.declared.run.Turn.TheVariants.{Ended}
+use Rattle.line_runs.specs.declared.run.Turn.TheVariants.{Ended, Refused}
 use Rattle.node_programs.proofs.PlayLemmas.{of_each, told_changes}
 use Rattle.node_keepers.specs.Keeping.{KeeperTakes, keeping_of}
 use Rattle.node_programs.specs.Play.{EventTurn, Happened, Lost, Playing, Stage, Starved, changes_told, outcome_lines, turn_of}
@@ -56,8 +56,8 @@ returns-clause-err g c =
           (Happened event is o after.places gives kept takes refl refl refl),
     )
 
-pub returns-in_ok-refuse-clause-ok : goal.returns-in_ok-refuse-clause-ok
-returns-in_ok-refuse-clause-ok g c =
+pub returns-in_default-clause-ok : goal.returns-in_default-clause-ok
+returns-in_default-clause-ok g c =
     let playing : WorldState → Playing g.row.K.Denot = λ world. record { setup = c.played.inside.setup; world = world.places; kept = c.played.inside.kept.items } in
     let unchanged = ap playing c.in_default.ensures.err ∙ c.played.view_is in (
       refusal_line (fault_text Memory),
@@ -71,7 +71,7 @@ returns-in_err-refuse-clause-err g c =
     let playing : WorldState → Playing g.row.K.Denot = λ world. record { setup = c.played.inside.setup; world = world.places; kept = c.played.inside.kept.items } in
     let unchanged = ap playing c.in_default.ensures.err ∙ c.played.view_is in
     of_each c.from_residual.result (
-      _,
+      Refused,
       refusal_line (fault_text Memory),
       λ line is. Starved c.args.event.now is refl refl (ap (λ q. record { playing = Some q; stop = c.args.stop.now }) unchanged),
     )

@@ -1,6 +1,7 @@
 use Rattle.std.proofs.Common.{[], Some, refl, sym, ap, string_bytes}
 use Rattle.std.proofs.lemmas.List.{append-nil}
 use Rattle.json_text.specs.Fault.{fault_text}
+use Rattle.line_runs.specs.declared.run.Turn.TheVariants.{Ended}
 use Rattle.node_programs.proofs.PlayLemmas.{of_each, opens}
 use Rattle.node_keepers.specs.Keeping.{keeping_of}
 use Rattle.node_programs.specs.Play.{NoSetup, Unkept}
@@ -22,8 +23,8 @@ returns-in-Err-keep_world-clause-ok g c =
     let fault = c.in-Err-keep_world.fault in
     ([], sym (append-nil (string_bytes c.args.output.now)), Unkept _ read.0 fault c.in-Err-keep_world.ensures.err refl refl (ap (λ q. record { playing = q; stop = Some fault }) c.requires))
 
-pub returns-in_ok-refuse-in-Err-clause-ok : goal.returns-in_ok-refuse-in-Err-clause-ok
-returns-in_ok-refuse-in-Err-clause-ok g c =
+pub returns-in-Err-clause-ok : goal.returns-in-Err-clause-ok
+returns-in-Err-clause-ok g c =
     let fault = c.in-Err.fault in (
       refusal_line (fault_text fault),
       c.in_ok-refuse-in-Err.ensures,
@@ -35,7 +36,7 @@ pub returns-in_err-refuse-in-Err-clause-err : goal.returns-in_err-refuse-in-Err-
 returns-in_err-refuse-in-Err-clause-err g c =
     let fault = c.in-Err.fault in
     of_each c.from_residual.result (
-      _,
+      Ended,
       refusal_line (fault_text fault),
       NoSetup fault c.in-Err.ensures.err refl refl (ap (λ q. record { playing = q; stop = c.args.stop.now }) c.requires),
     )
