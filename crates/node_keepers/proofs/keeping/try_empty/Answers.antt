@@ -20,8 +20,8 @@ returns-in_err-rows-clause-err g c =
     err_one (λ fault. CannotLoad keeping fault before after ⊎ (KeepsRows keeping after × (fault ≡ Refused NotEmpty))) c.from_residual.result _ c.from_residual.ensures.1
     (inl (record { counted = c.in_err-rows.ensures.counted; bad = c.in_err-rows.ensures.bad; layout = c.in_err-rows.ensures.layout }))
 
-pub returns-else-is_empty-clause-err : goal.returns-else-is_empty-clause-err
-returns-else-is_empty-clause-err g c =
+pub returns-clause-err : goal.returns-clause-err
+returns-clause-err g c =
     let are = λ (honest : g.K.Keep.is_honest c.load.new.self). ap rows_of (c.in_ok-rows.ensures.kept honest) ∙ c.in_ok-rows.ensures.rows honest in
     let held = eqb-false _ _ (sym c.is_empty.ensures ∙ c.if-is_empty.false) in
     let long = c.in_ok-rows.rows.ok.0 in
