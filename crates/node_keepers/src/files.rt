@@ -142,13 +142,16 @@ fn has_log(rt: &HostRuntime, path: &str) -> bool {
     }
 }
 
-/// Removes the log of the file at a path, where it is empty. One that cannot be removed does no harm, and stays.
+/// The least bytes of a log that holds a page: it begins with 32, and a page of at least 512 stands behind 24.
+const LOG_OF_A_PAGE: u64 = 568;
+
+/// Removes the log of the file at a path, where it holds no page. One that cannot be removed does no harm, and stays.
 fn remove_empty_log(rt: &HostRuntime, path: &str) {
     let Ok(log) = log_of(rt, path) else {
         return;
     };
     if let Ok(found) = fs::symlink_metadata(rt, log.as_str()) {
-        if found.is_file() && found.len() == 0 {
+        if found.is_file() && found.len() < LOG_OF_A_PAGE {
             let _ = fs::remove_file(rt, log.as_str());
         }
     }
