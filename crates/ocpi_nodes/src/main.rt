@@ -111,7 +111,7 @@ fn run_word(rt: &HostRuntime, word: Word<'_>, place: &mut String) -> Result<Ran,
     };
     match word {
         Word::Answer => answer_input(rt, &mut writer),
-        Word::Play(_) => play_in_memory(rt, &mut writer),
+        Word::Play(_) => play_in_memory(rt, &mut writer, place),
         Word::Settle(file) => settle_file(rt, &mut writer, file, place),
     }
 }
@@ -136,49 +136,72 @@ fn answer_input<W: Write>(rt: &HostRuntime, writer: &mut W) -> Result<Ran, PlayF
     run_answer(rt.alloc(), &mut input, writer).map_err(PlayFault::Run)
 }
 
-/// Plays the standard input with keepers in memory.
-fn play_in_memory<W: Write>(rt: &HostRuntime, writer: &mut W) -> Result<Ran, PlayFault> {
-    let (ran, _) = play_input(rt, writer, &mut ListKeeps::new(rt.alloc()));
-    ran
+/// Keepers that say where they are, for what is told of a refusal.
+trait Located {
+    /// The file that was refused, or else the folder, since any of its files may have refused a commit; no text for
+    /// keepers in memory. `are_open`: whether the nodes got their keepers.
+    fn place(&self, are_open: bool) -> &str;
 }
 
-/// Plays the standard input with keepers in new files of a folder. Where one of these could not be opened or closed,
-/// `place` gets its path; else the folder, since any of them may have refused a commit.
+impl Located for ListKeeps {
+    fn place(&self, _are_open: bool) -> &str {
+        ""
+    }
+}
+
+impl Located for FileKeeps<'_> {
+    fn place(&self, are_open: bool) -> &str {
+        if are_open {
+            self.unclosed()
+        } else {
+            self.path()
+        }
+    }
+}
+
+/// Plays the standard input with keepers in memory.
+fn play_in_memory<W: Write>(
+    rt: &HostRuntime,
+    writer: &mut W,
+    place: &mut String,
+) -> Result<Ran, PlayFault> {
+    play_input(rt, writer, ListKeeps::new(rt.alloc()), place)
+}
+
+/// Plays the standard input with keepers in new files of a folder.
 fn play_in_files<W: Write>(
     rt: &HostRuntime,
     writer: &mut W,
     folder: &str,
     place: &mut String,
 ) -> Result<Ran, PlayFault> {
-    let mut keeps = FileKeeps::new(rt, folder);
-    let (ran, are_open) = play_input(rt, writer, &mut keeps);
-    let _ = place.push_str(if are_open {
-        keeps.unclosed()
-    } else {
-        keeps.path()
-    });
-    ran
+    play_input(rt, writer, FileKeeps::new(rt, folder), place)
 }
 
-/// Plays the standard input with these keepers, closes them, and answers also whether the nodes got theirs.
-fn play_input<W: Write, S: Keeps>(
+/// Plays the standard input with these keepers, closes them, and adds to `place` where a refusal may have come from.
+fn play_input<W: Write, S: Keeps + Located + Drop>(
     rt: &HostRuntime,
     writer: &mut W,
-    keeps: &mut S,
-) -> (Result<Ran, PlayFault>, bool) {
+    keeps: S,
+    place: &mut String,
+) -> Result<Ran, PlayFault> {
     tell_wait(
         rt,
         "the setup, then events. `ocpi_nodes help play` says more",
     );
     let Ok(reader) = BufReader::with_capacity(rt.alloc(), BUFFER_BYTES, rt.reader()) else {
-        return (Err(PlayFault::Run(RunFault::ReadFailed)), false);
+        drop(keeps);
+        return Err(PlayFault::Run(RunFault::ReadFailed));
     };
     let mut input = LineReader::new(reader);
     let mut kept = Vec::new(rt.alloc());
-    let ran = run_play(rt.alloc(), &mut input, writer, &mut *keeps, &mut kept);
+    let mut keeps = keeps;
+    let ran = run_play(rt.alloc(), &mut input, writer, &mut keeps, &mut kept);
     let are_open = !kept.is_empty();
-    let closed = close_all(keeps, kept);
-    (and_closed(ran, closed), are_open)
+    let closed = close_all(&mut keeps, kept);
+    let _ = place.push_str(keeps.place(are_open));
+    drop(keeps);
+    and_closed(ran, closed)
 }
 
 /// How a run went, and then the closing of its stores. What stopped the run is told before what a closing refused.
