@@ -3,10 +3,11 @@
 
 usage: book_calls.py PROGRAM [N ..]
 
-PROGRAM is `case_lines`, as `tools/build_unproved --optimized` builds it of a copy that `tools/copy_cases` made. For each book
+PROGRAM is `case_lines`, as `tools/build_unproved` builds it of a copy that `cases/copy_cases` made. For each book
 and each N, 1,000 and 100,000 where none is given, the lines fill a book with N entries and then make 1,000 calls of each kind,
-spread over the entries. A site has at most 10,000 EVSEs here, as many as a line holds. Valgrind counts the instructions of each kind; those of reading the line and
-writing the answer are among them, and are the same for each N but for the digits of numbers. It wants valgrind.
+spread over the entries. A site has at most 10,000 EVSEs here, as many as a line holds. Valgrind counts the instructions of each
+kind; those of reading the line and writing the answer are among them, and are the same for each N but for the digits of numbers.
+It wants valgrind.
 """
 
 import pathlib
@@ -15,7 +16,7 @@ import subprocess
 import sys
 import tempfile
 
-sys.path.insert(0, str(pathlib.Path(__file__).resolve().parent.parent / "tools"))
+sys.path.insert(0, str(pathlib.Path(__file__).resolve().parent.parent / "cases" / "makers"))
 
 from book_values import cdr, location, moment, own_key, pending, push, reply, reservation, site_line, stop, text, token
 
@@ -149,6 +150,8 @@ def count(program, parts):
 
 
 def main():
+    if len(sys.argv) < 2:
+        sys.exit("usage: book_calls.py PROGRAM [N ..]")
     program, sizes = sys.argv[1], [int(word) for word in sys.argv[2:]] or [1_000, 100_000]
     for book, (fill, calls) in BOOKS.items():
         found = []

@@ -4,14 +4,16 @@
     bench/stop_in_store.py PROGRAM [--events 2000] [--moments 200] [--seed 1] [--folder FOLDER]
 
 PROGRAM is `ocpi_nodes`. First a run without a store draws the events: drivers charge at four EVSEs, packets are delivered late,
-twice or never, nodes start again. Then the run is made with a store, event by event, and killed (SIGKILL) at a moment that is
-drawn; each event has one behind it that is of no node, so that its end can be seen. After each kill
+twice or never, nodes start again. Then the run is made with a store and killed (SIGKILL) at a moment that is drawn; each event has
+one behind it that is of no node, so that its end can be seen. So many runs are given their lines one by one, each once the one
+before was answered, and as many again read them all from a file and write to one. After each kill
 
 - stock SQLite opens each file, and `PRAGMA integrity_check` is ok;
 - `settle` reads each file, with status 0;
 - the rows of all files are those after the events whose packets were written, or after one event more.
 
-The rows that are wanted come from runs that end there by themselves. The last line says how many moments passed.
+The rows that are wanted come from runs that end there by themselves. The last two lines say how many moments passed, of the runs
+event by event and of those with a file. The status is 0 where all did.
 """
 
 import argparse
@@ -188,6 +190,54 @@ def killed_run(program, lines, store, after, pause):
     return answered
 
 
+def killed_run_of_file(program, lines, store, after, pause):
+    """The same of a run that reads all events from a file and writes to one. It is killed that long after the event of that number
+    was answered, and has gone on meanwhile."""
+    with tempfile.TemporaryFile() as given, tempfile.NamedTemporaryFile() as written, open(written.name, "rb") as shown:
+        given.write(setup_line() + MARK + b"".join(line + MARK for line in lines))
+        given.seek(0)
+        run, output = subprocess.Popen([program, "play", "--store", store], stdin=given, stdout=written), b""
+        while run.poll() is None and output.count(SKIPPED) <= after:
+            output += shown.read()
+        time.sleep(pause)
+        run.kill()
+        run.wait()
+        return max((output + shown.read()).count(SKIPPED) - 1, 0)
+
+
+def looked_at(program, lines, store, answered):
+    """What the stores hold after a run of which so many events were answered: how many more were stored, and what is wrong."""
+    rows, wrong = rows_in(store)
+    for name in rows:
+        settled = subprocess.run([program, "settle", os.path.join(store, name)], capture_output=True, check=False)
+        if settled.returncode != 0:
+            wrong.append(f"settle {name}: status {settled.returncode}, {settled.stderr.decode().strip()}")
+    for more in (0, 1):
+        if rows == rows_after(program, lines, answered + more):
+            return more, wrong
+    return 0, [*wrong, f"the rows are those neither of {answered} events nor of {answered + 1}"]
+
+
+def tried(given, lines, draw, killed, name):
+    """Kills so many runs, and says how many passed."""
+    passed = 0
+    stored = [0, 0]
+    for moment in range(given.moments):
+        store = tempfile.mkdtemp(dir=given.folder)
+        after, pause = draw.randrange(given.events), draw.choice([0, draw.random() / 1000, draw.random() / 100])
+        answered = killed(given.program, lines, store, after, pause)
+        more, wrong = looked_at(given.program, lines, store, answered)
+        shutil.rmtree(store)
+        if wrong:
+            print(f"{name}, moment {moment}, killed after event {after}: " + "; ".join(wrong))
+        else:
+            passed += 1
+            stored[more] += 1
+    print(f"{name}: {passed} of {given.moments} moments as wanted: {stored[0]} with the rows of the events that were answered, "
+          f"{stored[1]} with those of one more")
+    return passed == given.moments
+
+
 def main():
     options = argparse.ArgumentParser(description=__doc__.split("\n", maxsplit=1)[0])
     options.add_argument("program")
@@ -198,29 +248,9 @@ def main():
     given = options.parse_args()
     draw = random.Random(given.seed)
     lines = draw_events(given.program, given.events, draw)
-    passed = before = behind = 0
-    for moment in range(given.moments):
-        store = tempfile.mkdtemp(dir=given.folder)
-        after, pause = draw.randrange(given.events), draw.choice([0, draw.random() / 1000, draw.random() / 100])
-        answered = killed_run(given.program, lines, store, after, pause)
-        rows, wrong = rows_in(store)
-        for name in rows:
-            settled = subprocess.run([given.program, "settle", os.path.join(store, name)], capture_output=True, check=False)
-            if settled.returncode != 0:
-                wrong.append(f"settle {name}: status {settled.returncode}, {settled.stderr.decode().strip()}")
-        if rows == rows_after(given.program, lines, answered):
-            before += 1
-        elif rows == rows_after(given.program, lines, answered + 1):
-            behind += 1
-        else:
-            wrong.append(f"the rows are those neither of {answered} events nor of {answered + 1}")
-        shutil.rmtree(store)
-        if wrong:
-            print(f"moment {moment}, killed after event {after} was given: " + "; ".join(wrong))
-        else:
-            passed += 1
-    print(f"{passed} of {given.moments} moments as wanted: {before} with the rows of the events that were answered, {behind} with those of one more")
-    return 0 if passed == given.moments else 1
+    by_event = tried(given, lines, draw, killed_run, "event by event")
+    by_file = tried(given, lines, draw, killed_run_of_file, "from a file")
+    return 0 if by_event and by_file else 1
 
 
 if __name__ == "__main__":

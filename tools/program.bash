@@ -1,15 +1,16 @@
-# What ./ocpi_nodes and ./check share: which files the program is made from, and whether the program that stands was
-# made from these files as they are now. The script that reads this file has set `top`, the repository's folder, and
-# has a function `say`.
+# What ./ocpi_nodes and ./check share: which files the program is made from, whether a program that stands was made from
+# these files as they are now, and how it is built without proofs. The script that reads this file has set `top`, the
+# repository's folder, and has a function `say`, and a function `fail` that says what is wrong and ends it.
 
 crate=$top/crates/ocpi_nodes
+# The program that was proved, and the same built without proofs. (Both have the name that their help shows.)
 program=$crate/out/ocpi_nodes
+quick=$crate/out/quick/ocpi_nodes
 
-# Written once the program stands, and removed before it is made anew. The listing (each file's name, inode, size and
-# times) is compared at each start, in a few milliseconds. Where it differs, as in a copy of the repository or after a
-# checkout that comes back, the sums (the kit's identity and each file's SHA-256) decide.
-listing=$crate/out/ocpi_nodes.listing
-sums=$crate/out/ocpi_nodes.sums
+# Beside each of the two stand its listing and its sums, written once it stands, and removed before it is made anew.
+# The listing (each file's name, inode, size and times) is compared at each start, in a few milliseconds. Where it
+# differs, as in a copy of the repository or after a checkout that comes back, the sums (the kit's identity and each
+# file's SHA-256) decide.
 
 # Sets `crates` to the crates that the program stands on by crates.txt, lowest first, and the program's own last.
 find_crates() {
@@ -45,23 +46,23 @@ find_sources() {
     done
 }
 
-# Writes a line for each source, and then one for the program: its name, inode, size, and times of the last writing and
-# of the last change of any kind. (The second time tells a writing that sets the first one back.) The first line is
+# Writes a line for each source, and then one for the program $1: its name, inode, size, and times of the last writing
+# and of the last change of any kind. (The second time tells a writing that sets the first one back.) The first line is
 # that of the command `rt`, which stands for the kit. It ends the process, so it is called in one of its own.
 list_files() {
     hash rt 2> /dev/null
-    cd "$top" && exec find -H "${BASH_CMDS[rt]:-rt}" "${sources[@]}" "${program#"$top/"}" ! -type d \
+    cd "$top" && exec find -H "${BASH_CMDS[rt]:-rt}" "${sources[@]}" "${1#"$top/"}" ! -type d \
         -printf '%p %i %s %T@ %C@\n' 2> /dev/null
 }
 
-# Writes the same without the program.
+# Writes the same without a program.
 list_sources() {
-    list_files | grep -v '^crates/ocpi_nodes/out/'
+    list_files "$program" | grep -v '^crates/ocpi_nodes/out/'
 }
 
-# Writes the kit's identity and the SHA-256 of each source and of the program, in the order of their names.
+# Writes the kit's identity and the SHA-256 of each source and of the program $1, in the order of their names.
 sum_files() {
-    rt version 2> /dev/null && cd "$top" && find "${sources[@]}" "${program#"$top/"}" -type f -print0 2> /dev/null |
+    rt version 2> /dev/null && cd "$top" && find "${sources[@]}" "${1#"$top/"}" -type f -print0 2> /dev/null |
         LC_ALL=C sort -z | xargs -0 sha256sum
 }
 
@@ -71,16 +72,17 @@ holds() {
     [[ -f $1 && $2 ]] && text=$(< "$1") && [ "$text" = "$2" ]
 }
 
-# Whether the program was made from the sources as they are, by the listing alone.
+# Whether the program $1 was made from the sources as they are, by the listing alone.
 is_listed() {
-    [[ -x $program ]] && holds "$listing" "$(list_files)"
+    [[ -x $1 ]] && holds "$1.listing" "$(list_files "$1")"
 }
 
-# Whether the program was made from the sources as they are, by the sums. Then the listing is written anew.
+# Whether the program $1 was made from the sources as they are, by the sums. Then the listing is written anew.
 is_summed() {
     local now
-    now=$(list_files)
-    [[ -x $program && -f $sums ]] && holds "$sums" "$(sum_files)" && keep "$listing" "$now"
+    [[ -x $1 && -f $1.sums ]] || return
+    now=$(list_files "$1")
+    holds "$1.sums" "$(sum_files "$1")" && keep "$1.listing" "$now"
 }
 
 # Writes the text $2 to the file $1, whole or not at all.
@@ -88,19 +90,37 @@ keep() {
     printf '%s\n' "$2" > "$1.new" && mv -f "$1.new" "$1"
 }
 
-# Before the program is made: forgets what stands.
+# Before the program $1 is made: forgets what stands.
 forget_program() {
-    rm -f "$listing" "$sums"
+    rm -f "$1.listing" "$1.sums"
 }
 
-# After the program was made from sources that were listed as $1: writes its listing and its sums. Fails where a source
-# has changed meanwhile, since nothing then tells which text was built.
+# After the program $1 was made from sources that were listed as $2: writes its listing and its sums. Fails where a
+# source has changed meanwhile, since nothing then tells which text was built.
 remember_program() {
     local now_sums now
-    now_sums=$(sum_files)
-    now=$(list_files)
-    [[ -x $program && $(list_sources) == "$1" ]] || return
-    keep "$sums" "$now_sums" && keep "$listing" "$now"
+    now_sums=$(sum_files "$1")
+    now=$(list_files "$1")
+    [[ -x $1 && $(list_sources) == "$2" ]] || return
+    keep "$1.sums" "$now_sums" && keep "$1.listing" "$now"
+}
+
+# Builds the program without proofs, from sources that stay as they are meanwhile.
+build_quick() {
+    local before started=$SECONDS
+    hash rt 2> /dev/null || fail "the command rt is not on the PATH: the program cannot be built"
+    mkdir -p "${quick%/*}" || fail "cannot write to $crate"
+    for _ in 1 2 3; do
+        find_sources
+        before=$(list_sources)
+        forget_program "$quick"
+        say "building the program without proofs: ${#crates[@]} crates and what they use of the kit"
+        "$top/tools/build_unproved" --news "${0##*/}" "$crate" "$quick" < /dev/null ||
+            fail "the build failed after $((SECONDS - started)) s, and nothing was run"
+        remember_program "$quick" "$before" && say "built after $((SECONDS - started)) s" && return
+        say "a source changed during the build: once more"
+    done
+    fail "the sources changed during each of three builds, and nothing was run"
 }
 
 # Waits until no other of the two scripts builds the program of this repository. The lock ends with this process and

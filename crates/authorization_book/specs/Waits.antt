@@ -1,5 +1,5 @@
--- The authorizations that an operator waits for, their changes, and the room that these need (OCPI 2.2.1, Tokens: Real-time
--- authorization).
+-- The authorizations that an operator waits for, their changes, and the room that these need (OCPI 2.2.1, Tokens:
+-- Real-time authorization).
 use Rattle.std.specs.Prelude.{◌≡◌, ◌≤◌, ℕ, List, [], ◌∷◌, Option, Some, None, IsTrue, Contains, ⊤}
 use Rattle.std.specs.declared.cmp.Ordering.{Ordering}
 use Rattle.std.specs.Ordering.{nat_cmp}

@@ -10,8 +10,8 @@ use std::alloc::Global;
 use std::marker::Model;
 use tables::Table;
 
-/// The authorizations that are awaited, by the numbers of the requests that ask for them; at an EVSE at most one. A lookup and
-/// a change cost the logarithm of what is awaited or has room.
+/// The authorizations that are awaited, by the numbers of the requests that ask for them; at an EVSE at most one. A
+/// lookup and a change cost the logarithm of what is awaited or has room.
 #[derive(Drop)]
 pub struct AuthorizationBook {
     pub(crate) waits: Table<Whole, Awaited>,

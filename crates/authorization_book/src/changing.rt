@@ -2,7 +2,19 @@
 
 ghost use Rattle.std.specs.Prelude.{◌≡◌};
 ghost use Rattle.std.specs.FinMap as map;
-ghost use Rattle.authorization_book.specs.Waits.{HasRoomFor, HasRoomToBegin, HaveRoomForAll, MayBegin, MayChange, MayWait, released, room_left, room_left_all, waited, waited_all};
+ghost use Rattle.authorization_book.specs.Waits.{
+  HasRoomFor,
+  HasRoomToBegin,
+  HaveRoomForAll,
+  MayBegin,
+  MayChange,
+  MayWait,
+  released,
+  room_left,
+  room_left_all,
+  waited,
+  waited_all,
+};
 
 use crate::awaited::Awaited;
 use crate::book::AuthorizationBook;
@@ -34,8 +46,8 @@ impl AuthorizationBook {
         }
     }
 
-    /// Makes a change for which there is room. What ends gives its room back, and where nothing ends or begins all stays as it
-    /// is. It takes no memory.
+    /// Makes a change for which there is room. What ends gives its room back, and where nothing ends or begins all
+    /// stays as it is. It takes no memory.
     pub fn change(&mut self, waiting: &Waiting)
         requires room { HasRoomFor self.old.rooms waiting.now }
         requires may { MayChange self.old.waits waiting.now }

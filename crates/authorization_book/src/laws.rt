@@ -2,8 +2,8 @@
 
 ghost use Rattle.authorization_book.specs.Laws.{OneEachStays, WaitsChange};
 
-/// Once changes are made, that is awaited which was before or began by one of them, and which none of them ends, over every
-/// list of changes that may be made.
+/// Once changes are made, that is awaited which was before or began by one of them, and which none of them ends, over
+/// every list of changes that may be made.
 pub fn waits_change()
     ensures { WaitsChange }
 {}

@@ -1,6 +1,6 @@
-//! The authorizations that an operator waits for (OCPI 2.2.1, Tokens: Real-time authorization). A driver shows a token at an
-//! EVSE; where its provider must be asked, the operator sends one request and waits for the answer until a deadline. None of
-//! this is stored in a row: after a restart nothing is awaited.
+//! The authorizations that an operator waits for (OCPI 2.2.1, Tokens: Real-time authorization). A driver shows a token
+//! at an EVSE; where its provider must be asked, the operator sends one request and waits for the answer until a
+//! deadline. None of this is stored in a row: after a restart nothing is awaited.
 //!
 //! ```
 //! let mut book = AuthorizationBook::new(alloc);

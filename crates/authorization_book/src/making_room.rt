@@ -22,8 +22,8 @@ impl AuthorizationBook {
         self.waits.reserve(number)
     }
 
-    /// Takes the memory that a change needs; an end needs none. What is awaited stays as it is, whether there is enough or not.
-    /// An error is want of memory, for a change that has no room. What has room keeps it.
+    /// Takes the memory that a change needs; an end needs none. What is awaited stays as it is, whether there is
+    /// enough or not. An error is want of memory, for a change that has no room. What has room keeps it.
     pub fn reserve(&mut self, waiting: &Waiting) -> Result<(), AllocError>
         ensures waits { self.new.waits ≡ self.old.waits }
         ensures keeps { KeepsRoom self.old.rooms self.new.rooms }
@@ -36,8 +36,8 @@ impl AuthorizationBook {
         }
     }
 
-    /// Takes the memory that changes need. What is awaited stays as it is, whether there is enough or not. An error is want of
-    /// memory, for changes of which one has no room. What has room keeps it.
+    /// Takes the memory that changes need. What is awaited stays as it is, whether there is enough or not. An error is
+    /// want of memory, for changes of which one has no room. What has room keeps it.
     pub fn reserve_all(&mut self, waitings: &[Waiting]) -> Result<(), AllocError>
         ensures waits { self.new.waits ≡ self.old.waits }
         ensures keeps { KeepsRoom self.old.rooms self.new.rooms }

@@ -4,7 +4,17 @@ ghost use Rattle.std.specs.Prelude.{◌≡◌, ◌↔◌, ◌≢◌, ℕ, IfErr,
 ghost use Rattle.std.specs.FinMap as map;
 ghost use Rattle.tables.specs.Tables.{shown_of, rooms_of};
 ghost use Rattle.ocpi_types.specs.Rows.{key_of};
-ghost use Rattle.command_book.specs.Calls.{BarsOpening, BarsSettling, IsStart, MayOpen, MaySettle, Leaves, KeepReply, Open, Settle};
+ghost use Rattle.command_book.specs.Calls.{
+  BarsOpening,
+  BarsSettling,
+  IsStart,
+  MayOpen,
+  MaySettle,
+  Leaves,
+  KeepReply,
+  Open,
+  Settle,
+};
 ghost use Rattle.command_book.specs.Queue.{deadline_cmp, deadline_of, unqueued};
 ghost use Rattle.command_book.specs.Room.{HasRoomOf, HasRoomUntil, KeepsRoom, KeepsOtherRoom, GivesBack};
 ghost use Rattle.command_book.specs.Stored.{no_rows, open_command, put_row, drop_row};
@@ -20,8 +30,8 @@ use tables::Table;
 /// A request: its sender and its number.
 pub(crate) type Request = (PartyKey, Whole);
 
-/// The replies to requests, the commands that are open, and the results of commands, each by sender and number. A lookup
-/// and a change cost the logarithm of what is stored.
+/// The replies to requests, the commands that are open, and the results of commands, each by sender and number. A
+/// lookup and a change cost the logarithm of what is stored.
 #[derive(Drop)]
 pub struct CommandBook {
     pub(crate) replies: Table<Request, Reply>,
@@ -166,8 +176,8 @@ impl CommandBook {
         Ok(())
     }
 
-    /// Takes the memory that a row needs, where it is a reply, an open command or a result. No row changes, whether there is
-    /// enough or not. An error is want of memory, for a row that has no room.
+    /// Takes the memory that a row needs, where it is a reply, an open command or a result. No row changes, whether
+    /// there is enough or not. An error is want of memory, for a row that has no room.
     pub fn reserve_row(&mut self, row: &Row) -> Result<(), AllocError>
         ensures rows { self.new.rows ≡ self.old.rows }
         ensures keeps { KeepsRoom self.old.rooms self.new.rooms }
@@ -351,8 +361,9 @@ impl CommandBook {
         Ok(())
     }
 
-    /// Ends the command of that number, if it is open, whose room is given back, and keeps its result for good. Refused is a
-    /// command that has its result (`Settled`), and then want of memory (`Memory`); either leaves everything as it was.
+    /// Ends the command of that number, if it is open, whose room is given back, and keeps its result for good.
+    /// Refused is a command that has its result (`Settled`), and then want of memory (`Memory`); either leaves
+    /// everything as it was.
     pub fn settle(
         &mut self,
         provider: PartyKey,

@@ -1,12 +1,34 @@
 //! The charge detail records that are held, with what finds them by their sessions, and what is owed by them.
 
-ghost use Rattle.std.specs.Prelude.{◌≡◌, ◌≢◌, ◌↔◌, ◌++◌, ◌<◌, unsigned_abs, None, IsOk, IsTrue, OnOk, false, option_copied};
+ghost use Rattle.std.specs.Prelude.{
+  ◌≡◌,
+  ◌≢◌,
+  ◌↔◌,
+  ◌++◌,
+  ◌<◌,
+  unsigned_abs,
+  None,
+  IsOk,
+  IsTrue,
+  OnOk,
+  false,
+  option_copied,
+};
 ghost use Rattle.std.specs.FinMap as map;
 ghost use Rattle.ocpi_text.specs.Text.{key};
 ghost use Rattle.ocpi_text.specs.Decimal.{e4_limit};
 ghost use Rattle.ocpi_types.specs.declared.cdrs.Cdr.{Cdr};
 ghost use Rattle.handover.specs.Owed.{owed};
-ghost use Rattle.handover.specs.Cdrs.{AreOwnCdrs, HasRoomOfCdr, KeepsCdrRoom, GivesCdrBack, HasOther, HasLaterId, cdr_key, cdr_rows};
+ghost use Rattle.handover.specs.Cdrs.{
+  AreOwnCdrs,
+  HasRoomOfCdr,
+  KeepsCdrRoom,
+  GivesCdrBack,
+  HasOther,
+  HasLaterId,
+  cdr_key,
+  cdr_rows,
+};
 
 use crate::sums::{Currency, Sums, add_to, sum_in};
 use ocpi_text::{CiKey, PartyKey};

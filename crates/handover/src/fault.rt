@@ -6,8 +6,8 @@ use std::alloc::AllocError;
 use std::error::Error;
 use std::fmt;
 
-/// Why what is handed over was refused: the first of these that applies, in this order. Its numbers and those of an outbox
-/// (`OutboxFault` of `outbox`) are of one list.
+/// Why what is handed over was refused: the first of these that applies, in this order. Its numbers and those of an
+/// outbox (`OutboxFault` of `outbox`) are of one list.
 #[derive(Clone, Copy, Debug, PartialEq, Eq)]
 pub enum HandoverFault {
     /// It is not about a token of this node's party, or it is another operator's than the one that sent it.

@@ -5,7 +5,22 @@ ghost use Rattle.std.specs.FinMap as map;
 ghost use Rattle.ocpi_text.specs.Text.{key};
 ghost use Rattle.handover.specs.Owed.{owed};
 ghost use Rattle.handover.specs.Cdrs.{HasOnePerSession, cdr_key};
-ghost use Rattle.handover.specs.Inbox.{IsOfParties, IsFinal, IsNews, IsInConflict, HasRoomOf, KeepsRoom, KeepsOtherRoom, GivesBack, no_rows, session_key, with_session, with_cdr, put_row, drop_row};
+ghost use Rattle.handover.specs.Inbox.{
+  IsOfParties,
+  IsFinal,
+  IsNews,
+  IsInConflict,
+  HasRoomOf,
+  KeepsRoom,
+  KeepsOtherRoom,
+  GivesBack,
+  no_rows,
+  session_key,
+  with_session,
+  with_cdr,
+  put_row,
+  drop_row,
+};
 ghost use Rattle.handover.specs.declared.fault.HandoverFault.TheVariants.{WrongParty, Memory};
 ghost use Rattle.handover.specs.declared.takings.SessionTaking.TheVariants as session_taking;
 ghost use Rattle.handover.specs.declared.takings.CdrTaking.TheVariants as cdr_taking;
@@ -22,8 +37,8 @@ use std::marker::Model;
 use tables::Table;
 
 /// The newest versions of sessions and the charge detail records that a node holds, each by its operator and its id
-/// without case (OCPI 2.2.1, Sessions and CDRs: Receiver Interface). Each call but `rows` and `copy` costs the logarithm
-/// of what is held.
+/// without case (OCPI 2.2.1, Sessions and CDRs: Receiver Interface). Each call but `rows` and `copy` costs the
+/// logarithm of what is held.
 #[derive(Drop)]
 pub struct Inbox {
     pub(crate) sessions: Table<(PartyKey, CiKey<36>), Session>,
@@ -120,10 +135,10 @@ impl Inbox {
         }
     }
 
-    /// What becomes of a charge detail record that a sender hands over to the party `own`. It is in conflict where one of
-    /// the same id or session of that operator is held and differs in any field as spelled; it is kept where an equal one
-    /// is held, and else taken. Refused is one whose token is of another party than `own`, or that is of another party
-    /// than the sender (`WrongParty`).
+    /// What becomes of a charge detail record that a sender hands over to the party `own`. It is in conflict where one
+    /// of the same id or session of that operator is held and differs in any field as spelled; it is kept where an
+    /// equal one is held, and else taken. Refused is one whose token is of another party than `own`, or that is of
+    /// another party than the sender (`WrongParty`).
     pub fn cdr_taking(
         &self,
         own: &Party,
@@ -185,8 +200,8 @@ impl Inbox {
             .put((session.party.key(), session.id.key()), *session);
     }
 
-    /// Puts a session, in place of the one of its key. An error is want of memory, for one that has no room, and leaves the
-    /// rows as they were.
+    /// Puts a session, in place of the one of its key. An error is want of memory, for one that has no room, and
+    /// leaves the rows as they were.
     fn add_session(&mut self, session: &Session) -> Result<(), AllocError>
         ensures ok { OnOk result (self.new.rows ≡ put_row (Row.Session session.now) self.old.rows) }
         ensures err { OnErr result (self.new.rows ≡ self.old.rows) }
@@ -198,8 +213,8 @@ impl Inbox {
         Ok(())
     }
 
-    /// Puts a charge detail record, in place of the one of its key. An error is want of memory, for one that has no room, and
-    /// leaves the rows as they were.
+    /// Puts a charge detail record, in place of the one of its key. An error is want of memory, for one that has no
+    /// room, and leaves the rows as they were.
     fn add_cdr(&mut self, cdr: Cdr) -> Result<(), AllocError>
         ensures ok { OnOk result (self.new.rows ≡ put_row (Row.Cdr cdr) self.old.rows) }
         ensures err { OnErr result (self.new.rows ≡ self.old.rows) }
@@ -211,8 +226,9 @@ impl Inbox {
         Ok(())
     }
 
-    /// Takes a version of a session that a sender hands over to the party `own`, where `session_taking` says so. Refused
-    /// are what it refuses (`WrongParty`), and want of memory for one that is to be taken and has no room (`Memory`).
+    /// Takes a version of a session that a sender hands over to the party `own`, where `session_taking` says so.
+    /// Refused are what it refuses (`WrongParty`), and want of memory for one that is to be taken and has no room
+    /// (`Memory`).
     pub fn take_session(
         &mut self,
         own: &Party,
@@ -236,9 +252,9 @@ impl Inbox {
         }
     }
 
-    /// Takes a charge detail record that a sender hands over to the party `own`, where `cdr_taking` says so. Refused are
-    /// what it refuses (`WrongParty`), and want of memory for one that is to be taken and has no room (`Memory`). Where no two
-    /// records that are held are of one session of an operator, it stays so: no session is billed twice.
+    /// Takes a charge detail record that a sender hands over to the party `own`, where `cdr_taking` says so. Refused
+    /// are what it refuses (`WrongParty`), and want of memory for one that is to be taken and has no room (`Memory`).
+    /// Where no two records that are held are of one session of an operator, it stays so: no session is billed twice.
     pub fn take_cdr(
         &mut self,
         own: &Party,
@@ -264,9 +280,9 @@ impl Inbox {
         Ok(taking)
     }
 
-    /// What is owed to an operator in a currency, in ten-thousandths: the sum of the costs of its charge detail records in that
-    /// currency that are held, and 0 where none is. The operator is compared without case, the currency as spelled. It takes no
-    /// memory.
+    /// What is owed to an operator in a currency, in ten-thousandths: the sum of the costs of its charge detail
+    /// records in that currency that are held, and 0 where none is. The operator is compared without case, the
+    /// currency as spelled. It takes no memory.
     pub fn settlement(&self, operator: &Party, currency: Currency) -> i128
         ensures { result ≡ owed (key operator.now, currency) (map.values self.now.rows.cdrs) }
     {
@@ -321,8 +337,8 @@ impl Inbox {
         }
     }
 
-    /// Drops a session or a charge detail record, and gives its room back; keys of other kinds change nothing. It takes no
-    /// memory.
+    /// Drops a session or a charge detail record, and gives its room back; keys of other kinds change nothing. It
+    /// takes no memory.
     pub fn drop_row(&mut self, key: RowKey)
         ensures rows { self.new.rows ≡ drop_row key self.old.rows }
         ensures keeps { KeepsOtherRoom key self.old.rooms self.new.rooms }

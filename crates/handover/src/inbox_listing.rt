@@ -35,7 +35,8 @@ impl Inbox {
         self.cdrs.consistency();
     }
 
-    /// Two inboxes with the same rows are equal in all that is stored. The contract is a law, and the method does nothing.
+    /// Two inboxes with the same rows are equal in all that is stored. The contract is a law, and the method does
+    /// nothing.
     pub fn same_rows(&self, other: &Inbox)
         ensures { RowsAreAll self.now.rows other.now.rows }
     {

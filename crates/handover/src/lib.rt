@@ -11,8 +11,8 @@
 //! let owed = inbox.settlement(&sender, currency);
 //! ```
 //!
-//! What is `owed` is the sum of the costs of the records that are held, each once, in ten-thousandths, however often each
-//! came.
+//! What is `owed` is the sum of the costs of the records that are held, each once, in ten-thousandths, however often
+//! each came.
 #![tactic(auto)]
 
 mod cdr_book;

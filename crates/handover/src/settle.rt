@@ -18,9 +18,9 @@ fn number_of(cdrs: &[Cdr]) -> usize
     cdrs.len()
 }
 
-/// What is owed to each operator in each currency of which there is a record, in ten-thousandths: the sum of the costs of the
-/// records of both, each as often as it stands in the list, by operator and then by currency. Operators are compared without
-/// case, currencies as spelled. An error is want of memory; an empty list needs none.
+/// What is owed to each operator in each currency of which there is a record, in ten-thousandths: the sum of the costs
+/// of the records of both, each as often as it stands in the list, by operator and then by currency. Operators are
+/// compared without case, currencies as spelled. An error is want of memory; an empty list needs none.
 pub fn settle_all(alloc: Global, cdrs: &[Cdr]) -> Result<Sums, AllocError>
     ensures ok { IfOk result (λ t. AreOwed cdrs.now (shown_of text_pair_cmp t)) }
     ensures err { OnErr result (cdrs.now ≢ []) }

@@ -1,4 +1,5 @@
--- JSON values that can be written and read again: which they are, and that records are such from facts on their members.
+-- JSON values that can be written and read again: which they are, and that records are such from facts on their
+-- members.
 use Rattle.std.proofs.Common.{◌≡◌, ℕ, ℤ, suc, max, ◌≤◌, ◌<◌, Bool, true, false, List, [], ◌∷◌, Option, Some, None, option_map, map, decimal, Greater, refl, arith}
 use Rattle.std.specs.List.{All}
 use Rattle.std.specs.Prelude.{unsigned_abs, IfSome}

@@ -1,4 +1,5 @@
--- What a tree has to do with what it spells, member by member. Numbers stand as texts behind U+0001, which no other text begins with.
+-- What a tree has to do with what it spells, member by member. Numbers stand as texts behind U+0001, which no other
+-- text begins with.
 use Rattle.std.specs.Prelude.{◌≡◌, ◌≢◌, ◌⊎◌, ◌≤◌, ◌≤ℤ◌, ℕ, ℤ, pos, List, [], ◌∷◌, length, Bool, false, Option, Some, None, Result, Ok}
 use Rattle.serde_json.specs.Data.{Data, null, boolean, string, array, object, Items, no_items, item, Members}
 use Rattle.serde_json.specs.Find.{get}

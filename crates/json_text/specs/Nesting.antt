@@ -1,5 +1,5 @@
--- How deep the arrays and objects of a JSON text nest, to which RFC 8259 (section 9) lets a reader set a limit; and which
--- member counts where several have one name, which it leaves open (under Objects).
+-- How deep the arrays and objects of a JSON text nest, to which RFC 8259 (section 9) lets a reader set a limit; and
+-- which member counts where several have one name, which it leaves open (under Objects).
 use Rattle.std.specs.Prelude.{◌≡◌, ℕ, suc, max, List, Option, Some, None, if◌then◌else◌}
 use Rattle.std.specs.Str.{bytes_eq}
 use Rattle.json.specs.Json.{Json, null, boolean, number, string, array, object, Items, no_items, item, Members, no_members, member}

@@ -19,8 +19,8 @@ text_tree text = do
   quoted ← quote utf8
   tree_of quoted
 
--- a text of UTF-8, whose numbers are those of JSON, whose names are none of them, and that is JSON of depth 127 at most:
--- with its tree
+-- a text of UTF-8, whose numbers are those of JSON, whose names are none of them, and that is JSON of depth 127 at
+-- most: with its tree
 pub record HasTextTree (text : List ℕ) (tree : Data) : Type 0 where
   pub utf8 : IsUtf8 text
   pub quoted : List ℕ

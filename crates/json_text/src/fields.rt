@@ -4,7 +4,28 @@ ghost use Rattle.std.specs.Prelude.{◌≡◌, ◌≤◌, ◌*◌, IfOk, Ok};
 ghost use Rattle.json_text.specs.Trees.{view, items_view};
 ghost use Rattle.ocpi_text.specs.Party.{country_at, party_id_at};
 ghost use Rattle.json_text.specs.Fault.{Gives, IsBy};
-ghost use Rattle.json_text.specs.Fields.{as_record, as_text, is_absent, optional, required, text_in, number_in, truth_in, record_in, list_in, ci_in, free_in, moment_in, word_in, whole_in, e4_in, quantity_in, party_in, country_in, party_id_in};
+ghost use Rattle.json_text.specs.Fields.{
+  as_record,
+  as_text,
+  is_absent,
+  optional,
+  required,
+  text_in,
+  number_in,
+  truth_in,
+  record_in,
+  list_in,
+  ci_in,
+  free_in,
+  moment_in,
+  word_in,
+  whole_in,
+  e4_in,
+  quantity_in,
+  party_in,
+  country_in,
+  party_id_in,
+};
 
 use crate::fault::JsonFault;
 use crate::tag::{behind_tag, is_tagged};
@@ -162,8 +183,8 @@ pub fn short_in<const MAX: usize, const BYTES: usize>(
     }
 }
 
-/// The moment of a required member (OCPI 2.2.1, Types: DateTime). `Missing` where there is none, and `WrongForm` where it is no text
-/// that is read as a moment.
+/// The moment of a required member (OCPI 2.2.1, Types: DateTime). `Missing` where there is none, and `WrongForm` where
+/// it is no text that is read as a moment.
 #[tactic(auto, unfolding(crate::specs::Fields::moment_in))]
 pub fn moment_in(object: &Tree<'_>, field: Field) -> Result<Moment, JsonFault>
     ensures { result ≡ moment_in field (view object.now) }

@@ -11,8 +11,8 @@ ghost use Rattle.json_text.specs.Names.{has_number_name};
 ghost use Rattle.json_text.specs.Nesting.{HasJson, nesting, max_nesting, last_of};
 ghost use Rattle.json_text.specs.Quote.{quote};
 
-/// A line in which more than 127 arrays and objects stand within one another is refused as `Syntax`. One of fewer is read
-/// as its tree, where no name is a number; and what is read is such a line.
+/// A line in which more than 127 arrays and objects stand within one another is refused as `Syntax`. One of fewer is
+/// read as its tree, where no name is a number; and what is read is such a line.
 pub fn lines_nest_no_deeper_than_127()
     ensures deeper { (line quoted : List ℕ) (j : Json) → text_of line ≡ Ok line → quote line ≡ Ok quoted → HasJson quoted j → max_nesting < nesting j → tree_at line ≡ Err Syntax }
     ensures others { (line quoted : List ℕ) (j : Json) (d : Data) → text_of line ≡ Ok line → quote line ≡ Ok quoted → has_number_name quoted ≡ false → HasJson quoted j → nesting j ≤ max_nesting → of_json j ≡ Some d → tree_at line ≡ Ok d }

@@ -1,9 +1,42 @@
 //! Number tokens as tagged strings.
 
-ghost use Rattle.std.specs.Prelude.{◌≡◌, ◌↔◌, ℕ, List, ◌∷◌, ◌||◌, ◌==◌, ◌++◌, ◌≤◌, length, true, Ok, OnOk, string_bytes};
+ghost use Rattle.std.specs.Prelude.{
+  ◌≡◌,
+  ◌↔◌,
+  ℕ,
+  List,
+  ◌∷◌,
+  ◌||◌,
+  ◌==◌,
+  ◌++◌,
+  ◌≤◌,
+  length,
+  true,
+  Ok,
+  OnOk,
+  string_bytes,
+};
 ghost use Rattle.std.specs.List.{prefix_len};
 ghost use Rattle.json_text.specs.Fault.{Read, GivesBy};
-ghost use Rattle.json_text.specs.Quote.{is_digit, is_number_char, first_place, next_place, place_after, is_whole, outside, tag_char, in_string, opened, next_mode, is_plain, skipped, in_number, mark, ending, quote};
+ghost use Rattle.json_text.specs.Quote.{
+  is_digit,
+  is_number_char,
+  first_place,
+  next_place,
+  place_after,
+  is_whole,
+  outside,
+  tag_char,
+  in_string,
+  opened,
+  next_mode,
+  is_plain,
+  skipped,
+  in_number,
+  mark,
+  ending,
+  quote,
+};
 ghost use Rattle.json_text.specs.Numbers.{IsJsonNumber};
 ghost use Rattle.json_text.specs.Pieces.{Quotes};
 

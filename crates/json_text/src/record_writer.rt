@@ -1,6 +1,25 @@
 //! Records as JSON, written member by member.
 
-ghost use Rattle.std.specs.Prelude.{◌≡◌, ◌≤◌, ◌<◌, ◌++◌, ◌∷◌, [], map, option_map, unsigned_abs, All, IfOk, IfSome, IsUtf8, Ok, OnOk, string_bytes, ℕ, List};
+ghost use Rattle.std.specs.Prelude.{
+  ◌≡◌,
+  ◌≤◌,
+  ◌<◌,
+  ◌++◌,
+  ◌∷◌,
+  [],
+  map,
+  option_map,
+  unsigned_abs,
+  All,
+  IfOk,
+  IfSome,
+  IsUtf8,
+  Ok,
+  OnOk,
+  string_bytes,
+  ℕ,
+  List,
+};
 ghost use Rattle.json.specs.Lex.{tokens};
 ghost use Rattle.json.specs.Print.{print};
 ghost use Rattle.json.specs.Token.{key, string, number, boolean, begin_array, end_array};

@@ -9,7 +9,7 @@ use Rattle.std.specs.Io.KnownBytes.{Appends, Keeps}
 use Rattle.std.specs.Io.BufRead.{first_line, drop_through}
 use Rattle.line_runs.specs.Lines.{lines_of, IsInLine, ReadsLineOf}
 use Rattle.line_runs.specs.Outcome.{both_ran}
-use Rattle.line_runs.specs.Run.{AreAnswered, none_yet, taken, refused, IsRun, at_end, stopped, IsBegun, between, in_line, in_end, StopsAfter, Outputs, Begins, StopsReading, ReadsFewLines, gives_beginning, most_reads}
+use Rattle.line_runs.specs.Run.{AreAnswered, none_yet, taken, refused, IsRun, at_end, stopped, IsBegun, between, in_line, in_end, StopsAfter, Outputs, Begins, StopsReading, ReadsFewLines, gives_beginning, gives_front, most_reads}
 use Rattle.line_runs.specs.declared.outcome.Ran.{Ran}
 use Rattle.line_runs.specs.declared.outcome.Ran.TheVariants.{Whole, WithRefusals}
 use Rattle.line_runs.specs.declared.outcome.RunFault.{RunFault}
@@ -189,17 +189,17 @@ module _ {S : Type 0} (line_gives : S → List ℕ → Turn → List ℕ → S �
       held_all left rest 1 (first_line left ∷ []) read ∙ ap (λ ls. ls ++ lines_of rest) (held_one (first_line left) holds)
 
   -- what was written so far is a beginning
-  abbrev pub Starts : Ran → S → List ℕ → List (List ℕ) → Type 0
-  Starts ran now out later = (before : List (List ℕ)) (sofar : List ℕ) → AreAnswered line_gives first before ran sofar now → IsBegun line_gives end_gives first (before ++ later) (sofar ++ out)
+  abbrev pub Starts : Ran → S → S → List ℕ → List (List ℕ) → Type 0
+  Starts ran now next out later = (before : List (List ℕ)) (sofar : List ℕ) → AreAnswered line_gives first before ran sofar now → IsBegun line_gives end_gives first (before ++ later) (sofar ++ out) next
 
-  starts_written : (text : List ℕ) (before : Option (List ℕ)) (done later : List (List ℕ)) (ran : Ran) (now : S) (written more : Option (List ℕ)) (out : List ℕ) → WrittenOf before done ran now written
-      → Appends written more out → lines_of text ≡ held done ++ later → Starts ran now out later → Begins line_gives end_gives first (Some text) before more
-  starts_written text None done later ran now written more out h w e f = tt
-  starts_written text (Some b) done later ran now None more out h w e f = absurd h
-  starts_written text (Some b) done later ran now (Some v) None out h w e f = absurd w
-  starts_written text (Some b) done later ran now (Some v) (Some u) out h w e f = (
+  starts_written : (text : List ℕ) (before : Option (List ℕ)) (done later : List (List ℕ)) (ran : Ran) (now next : S) (written more : Option (List ℕ)) (out : List ℕ) → WrittenOf before done ran now written
+      → Appends written more out → lines_of text ≡ held done ++ later → Starts ran now next out later → Begins line_gives end_gives first (Some text) before more next
+  starts_written text None done later ran now next written more out h w e f = tt
+  starts_written text (Some b) done later ran now next None more out h w e f = absurd h
+  starts_written text (Some b) done later ran now next (Some v) None out h w e f = absurd w
+  starts_written text (Some b) done later ran now next (Some v) (Some u) out h w e f = (
     h.out ++ out,
-    subst (λ ls. IsBegun line_gives end_gives first ls (h.out ++ out)) (sym e) (f (held done) h.out h.answered),
+    subst (λ ls. IsBegun line_gives end_gives first ls (h.out ++ out) next) (sym e) (f (held done) h.out h.answered),
     ap Some (w ∙ ap (λ l. l ++ out) h.is ∙ append_assoc b h.out out),
   )
 
@@ -208,46 +208,46 @@ module _ {S : Type 0} (line_gives : S → List ℕ → Turn → List ℕ → S �
   nothing_more (Some x) None k = absurd k
   nothing_more (Some x) (Some y) k = k ∙ sym (append-nil x)
 
-  begun_between : (ran : Ran) (now : S) (later : List (List ℕ)) → Starts ran now [] later
-  begun_between ran now later before sofar a = subst (IsBegun line_gives end_gives first (before ++ later)) (sym (append-nil sofar)) (between a later)
+  begun_between : (ran : Ran) (now : S) (later : List (List ℕ)) → Starts ran now now [] later
+  begun_between ran now later before sofar a = subst (λ out. IsBegun line_gives end_gives first (before ++ later) out now) (sym (append-nil sofar)) (between a later)
 
   pub begun : (text before : Option (List ℕ)) (reads : ℕ) (ran : Ran) (now : S) (left written more : Option (List ℕ)) → Progress text before reads ran now left written → Keeps written more
-      → Begins line_gives end_gives first text before more
+      → Begins line_gives end_gives first text before more now
   begun None before reads ran now left written more h k = tt
   begun (Some text) before reads ran now None written more h k = absurd h
   begun (Some text) before reads ran now (Some left) written more h k =
-      starts_written text before h.0 (lines_of left) ran now written more [] h.2 (nothing_more written more k) (held_all text left reads h.0 h.1) (begun_between ran now (lines_of left))
+      starts_written text before h.0 (lines_of left) ran now now written more [] h.2 (nothing_more written more k) (held_all text left reads h.0 h.1) (begun_between ran now (lines_of left))
 
   pub begun_in_end : (text before : Option (List ℕ)) (reads : ℕ) (ran : Ran) (now : S) (left written same more : Option (List ℕ)) → Progress text before reads ran now left written
-      → IfSome left (λ l. l ≡ []) → Keeps written same → gives_beginning (λ out. (last : Ran) × end_gives now last out) same more → Begins line_gives end_gives first text before more
+      → IfSome left (λ l. l ≡ []) → Keeps written same → gives_beginning (λ out. (last : Ran) × end_gives now last out) same more → Begins line_gives end_gives first text before more now
   begun_in_end None before reads ran now left written same more h none k g = tt
   begun_in_end (Some text) before reads ran now None written same more h none k g = absurd h
   begun_in_end (Some text) before reads ran now (Some left) written same more h none k (inl kept) =
       let still = still_written before h.0 ran now written same h.2 k in
-      starts_written text before h.0 (lines_of left) ran now same more [] still (nothing_more same more kept) (held_all text left reads h.0 h.1) (begun_between ran now (lines_of left))
+      starts_written text before h.0 (lines_of left) ran now now same more [] still (nothing_more same more kept) (held_all text left reads h.0 h.1) (begun_between ran now (lines_of left))
   begun_in_end (Some text) before reads ran now (Some left) written same more h none k (inr g) =
       let still = still_written before h.0 ran now written same h.2 k in
-      starts_written text before h.0 [] ran now same more (take g.2 g.0) still g.3
+      starts_written text before h.0 [] ran now now same more (take g.2 g.0) still g.3
       (held_all text left reads h.0 h.1 ∙ ap (λ l. held h.0 ++ lines_of l) none)
-      (λ lines sofar a. subst (λ ls. IsBegun line_gives end_gives first ls (sofar ++ take g.2 g.0)) (sym (append-nil lines)) (in_end a g.1.1 g.2))
+      (λ lines sofar a. subst (λ ls. IsBegun line_gives end_gives first ls (sofar ++ take g.2 g.0) now) (sym (append-nil lines)) (in_end a g.1.1 g.2))
 
   pub end_begun_of : (result : Result Ran RunFault) (text before : Option (List ℕ)) (reads : ℕ) (ran : Ran) (now : S) (left written same more : Option (List ℕ))
       → Progress text before reads ran now left written → IfSome left (λ l. l ≡ []) → Keeps written same
       → IfErr result (λ fault. (fault ≡ WriteFailed) × gives_beginning (λ out. (last : Ran) × end_gives now last out) same more)
-      → IfErr result (λ fault. Begins line_gives end_gives first text before more)
+      → IfErr result (λ fault. Begins line_gives end_gives first text before more now)
   end_begun_of (Ok all) text before reads ran now left written same more h none k w = tt
   end_begun_of (Err fault) text before reads ran now left written same more h none k w = begun_in_end text before reads ran now left written same more h none k w.1
 
   -- what stopped the reading
   stops_written : (fault : RunFault) (text : List ℕ) (before : Option (List ℕ)) (done : List (List ℕ)) (ran : Ran) (now : S) (written : Option (List ℕ)) (whole part left : List ℕ) → WrittenOf before done ran now written
-      → StopsAfter fault text whole part left → lines whole ≡ done → StopsReading line_gives first fault (Some text) (Some left) before written
+      → StopsAfter fault text whole part left → lines whole ≡ done → StopsReading line_gives first fault (Some text) (Some left) before written now
   stops_written fault text None done ran now written whole part left h s e = tt
   stops_written fault text (Some b) done ran now None whole part left h s e = absurd h
   stops_written fault text (Some b) done ran now (Some w) whole part left h s e =
-      (whole, part, left, h.out, ran, now, s, refl, subst (λ ls. AreAnswered line_gives first ls ran h.out now) (sym (ap held e)) h.answered, ap Some h.is)
+      (whole, part, left, h.out, ran, s, refl, subst (λ ls. AreAnswered line_gives first ls ran h.out now) (sym (ap held e)) h.answered, ap Some h.is)
 
   pub read_stops : (fault : RunFault) (text before : Option (List ℕ)) (reads : ℕ) (ran : Ran) (now : S) (left rest written more : Option (List ℕ)) → Progress text before reads ran now left written
-      → IsInLine left rest → Keeps written more → fault ≢ TooManyReads → StopsReading line_gives first fault text rest before more
+      → IsInLine left rest → Keeps written more → fault ≢ TooManyReads → StopsReading line_gives first fault text rest before more now
   read_stops fault None before reads ran now left rest written more h r k other = tt
   read_stops fault (Some text) before reads ran now None rest written more h r k other = absurd h
   read_stops fault (Some text) before reads ran now (Some left) None written more h r k other = absurd r.1
@@ -259,7 +259,7 @@ module _ {S : Type 0} (line_gives : S → List ℕ → Turn → List ℕ → S �
       (front_lines text left reads h.0 read)
 
   pub too_many : (text before : Option (List ℕ)) (reads : ℕ) (ran : Ran) (now : S) (left rest written more : Option (List ℕ)) → Progress text before reads ran now left written
-      → Keeps left rest → IfSome left (λ l. l ≢ []) → Keeps written more → reads ≡ most_reads → StopsReading line_gives first TooManyReads text rest before more
+      → Keeps left rest → IfSome left (λ l. l ≢ []) → Keeps written more → reads ≡ most_reads → StopsReading line_gives first TooManyReads text rest before more now
   too_many None before reads ran now left rest written more h r some k all = tt
   too_many (Some text) before reads ran now None rest written more h r some k all = absurd h
   too_many (Some text) before reads ran now (Some left) None written more h r some k all = absurd r
@@ -308,21 +308,21 @@ module _ {S : Type 0} (line_gives : S → List ℕ → Turn → List ℕ → S �
       (read.front, read.cut, omega (arith, within, read.count, ap length (front_lines text rest (reads + 1) (h.0 ++ first_line left ∷ []) read)))
 
   -- a run that was not stopped has a beginning too
-  whole_end : (s : S) (all : List (List ℕ)) (ran last : Ran) (out more : List ℕ) → AreAnswered line_gives first all ran out s → end_gives s last more → IsBegun line_gives end_gives first all (out ++ more)
-  whole_end s all ran last out more a gives = subst (λ l. IsBegun line_gives end_gives first all (out ++ l)) (take_all (length more) more (omega arith)) (in_end a gives (length more))
+  whole_end : (s : S) (all : List (List ℕ)) (ran last : Ran) (out more : List ℕ) → AreAnswered line_gives first all ran out s → end_gives s last more → IsBegun line_gives end_gives first all (out ++ more) s
+  whole_end s all ran last out more a gives = subst (λ l. IsBegun line_gives end_gives first all (out ++ l) s) (take_all (length more) more (omega arith)) (in_end a gives (length more))
 
   whole_line : (s t : S) (line : List ℕ) (before later : List (List ℕ)) (turn : Turn) (ran : Ran) (out more : List ℕ) → AreAnswered line_gives first before ran out s → line_gives s line turn more t
-      → IsBegun line_gives end_gives first (before ++ line ∷ later) (out ++ more)
+      → IsBegun line_gives end_gives first (before ++ line ∷ later) (out ++ more) t
   whole_line s t line before later turn ran out more a gives =
-      subst (λ l. IsBegun line_gives end_gives first (before ++ line ∷ later) (out ++ l)) (take_all (length more) more (omega arith)) (in_line a gives later (length more))
+      subst (λ l. IsBegun line_gives end_gives first (before ++ line ∷ later) (out ++ l) t) (take_all (length more) more (omega arith)) (in_line a gives later (length more))
 
-  run_begun : {all : List (List ℕ)} {ran : Ran} {out : List ℕ} {next : S} → IsRun line_gives end_gives first all ran out next → IsBegun line_gives end_gives first all out
+  run_begun : {all : List (List ℕ)} {ran : Ran} {out : List ℕ} {next : S} → IsRun line_gives end_gives first all ran out next → IsBegun line_gives end_gives first all out next
   run_begun (at_end a gives) = whole_end _ _ _ _ _ _ a gives
   run_begun (stopped a gives later) = whole_line _ _ _ _ later Ended _ _ _ a gives
 
   -- what a run wrote is a beginning, also after a flush that failed
   pub begun_either : (result : Result Ran RunFault) (text before written more : Option (List ℕ)) (next : S) → IfOk result (λ ran. Outputs line_gives end_gives first text ran before written next)
-      → IfErr result (λ fault. Begins line_gives end_gives first text before written) → Keeps written more → Begins line_gives end_gives first text before more
+      → IfErr result (λ fault. Begins line_gives end_gives first text before written next) → Keeps written more → Begins line_gives end_gives first text before more next
   begun_either result None before written more next h b k = tt
   begun_either result (Some text) None written more next h b k = tt
   begun_either (Ok ran) (Some text) (Some start) written more next h b k = (h.0, run_begun h.1, kept written more (start ++ h.0) h.2 k)
@@ -364,16 +364,13 @@ module _ {S : Type 0} (line_gives : S → List ℕ → Turn → List ℕ → S �
 
     pub begun_in_line : (text before : Option (List ℕ)) (reads : ℕ) (ran : Ran) (now next : S) (left rest written same more : Option (List ℕ)) (line : List ℕ)
         → Progress text before reads ran now left written → ReadsLineOf most left true line rest → Keeps written same → 0 < length line
-        → gives_beginning (λ out. (turn : Turn) × line_gives now line turn out next) same more → Begins line_gives end_gives first text before more
+        → gives_front (λ out. (turn : Turn) × line_gives now line turn out next) same more → Begins line_gives end_gives first text before more next
     begun_in_line None before reads ran now next left rest written same more line h r k some g = tt
     begun_in_line (Some text) before reads ran now next None rest written same more line h r k some g = absurd h
     begun_in_line (Some text) before reads ran now next (Some left) None written same more line h r k some g = absurd r
-    begun_in_line (Some text) before reads ran now next (Some left) (Some rest) written same more line h r k some (inl kept) =
-        let still = still_written before h.0 ran now written same h.2 k in
-        starts_written text before h.0 (lines_of left) ran now same more [] still (nothing_more same more kept) (held_all text left reads h.0 h.1) (begun_between ran now (lines_of left))
-    begun_in_line (Some text) before reads ran now next (Some left) (Some rest) written same more line h r k some (inr g) =
+    begun_in_line (Some text) before reads ran now next (Some left) (Some rest) written same more line h r k some g =
         let still = still_written before h.0 ran now written same h.2 k in
         let whole = first_line left in
-        starts_written text before h.0 (whole ∷ lines_of rest) ran now same more (take g.2 g.0) still g.3
+        starts_written text before h.0 (whole ∷ lines_of rest) ran now next same more (take g.2 g.0) still g.3
         (held_all text left reads h.0 h.1 ∙ ap (λ ls. held h.0 ++ ls) (next_held left rest r.0 r.2 (front_holds most whole line r.1 some)))
         (λ lines sofar a. in_line a (whole_gives now next g.1.0 whole line g.0 r.1 g.1.1) (lines_of rest) g.2)

@@ -5,12 +5,13 @@ use Rattle.std.specs.Io.{StopsAt, IsEmptyOrEndsWith}
 use Rattle.std.specs.Io.KnownBytes.{Consumes, IsAtEnd}
 use Rattle.std.specs.Io.BufRead.{first_line, drop_through}
 
--- the lines that hold something: the parts between line feeds, each part before a line feed without a carriage return at its end
+-- the lines that hold something: the parts between line feeds, each part before a line feed without a carriage return
+-- at its end
 abbrev pub lines_of : List ℕ → List (List ℕ)
 lines_of text = filter (λ line. nat_lt 0 (length line)) (lines text)
 
--- the bytes of a line that one look at a reader's buffer takes: no line feed but at their end. The line is done where they end
--- with one, or where the input ended before them.
+-- the bytes of a line that one look at a reader's buffer takes: no line feed but at their end. The line is done where
+-- they end with one, or where the input ended before them.
 pub record TakesPart (old : Option (List ℕ)) (done : Bool) (bytes : List ℕ) (new : Option (List ℕ)) : Type 0 where
   pub consumed : Consumes old new bytes
   pub stops : StopsAt bytes 10

@@ -18,7 +18,9 @@
 mod lines;
 mod outcome;
 mod run;
+mod writing;
 
 pub use lines::{KEPT_BYTES, LineReader};
 pub use outcome::{Ran, RunFault, status_of};
 pub use run::{AnswerLines, Turn, run_whole};
+pub use writing::{flush, write_whole};

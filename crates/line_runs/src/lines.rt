@@ -1,10 +1,35 @@
 //! Lines of any reader, for a writer that answers them.
-ghost use Rattle.std.specs.Prelude.{◌≡◌, ◌≢◌, ℕ, ◌+◌, ◌-◌, ◌<◌, ◌≤◌, ◌++◌, List, [], All, Ok, Err, true, false, length, take, min, IfOk, OnOk, OnErr, IfErr, IfSome};
+ghost use Rattle.std.specs.Prelude.{
+  ◌≡◌,
+  ◌≢◌,
+  ℕ,
+  ◌+◌,
+  ◌-◌,
+  ◌<◌,
+  ◌≤◌,
+  ◌++◌,
+  List,
+  [],
+  All,
+  Ok,
+  Err,
+  true,
+  false,
+  length,
+  take,
+  min,
+  IfOk,
+  OnOk,
+  OnErr,
+  IfErr,
+  IfSome,
+};
 ghost use Rattle.std.specs.Io.BufRead.{DropsThrough, ends_with_byte, strip_last, take_through};
 ghost use Rattle.std.specs.Io.KnownBytes.{Keeps};
 ghost use Rattle.line_runs.specs.Lines.{IsInLine, ReadsLineOf, TakesPart};
 
 use crate::outcome::RunFault;
+use crate::writing::flush;
 use memchr::memchr;
 use std::io::{self, BufRead, ErrorKind, Write};
 
@@ -42,11 +67,12 @@ impl<R: BufRead> LineReader<R> {
 
     /// Reads the next line into `line`, in place of what that holds, and answers whether there was one.
     ///
-    /// A line ends at its line feed, which is dropped, and so is a carriage return before it. The last line may lack its line feed, and
-    /// then keeps a carriage return. Of a longer line just the first `KEPT_BYTES` bytes are kept, and the others take no memory.
+    /// A line ends at its line feed, which is dropped, and so is a carriage return before it. The last line may lack
+    /// its line feed, and then keeps a carriage return. Of a longer line just the first `KEPT_BYTES` bytes are kept,
+    /// and the others take no memory.
     ///
-    /// A refusal comes where a read failed, where memory ran out for the line, or where the flush before a read failed. Then at most a
-    /// part of a line was read.
+    /// A refusal comes where a read failed, where memory ran out for the line, or where the flush before a read
+    /// failed. Then at most a part of a line was read.
     pub fn next_line<W: Write>(
         &mut self,
         line: &mut Vec<u8>,
@@ -148,17 +174,6 @@ impl<R: BufRead> LineReader<R> {
             return flush(writer);
         }
         Ok(())
-    }
-}
-
-/// Flushes a writer.
-pub(crate) fn flush<W: Write>(writer: &mut W) -> Result<(), RunFault>
-    ensures err { IfErr result (λ fault. fault ≡ RunFault.WriteFailed) }
-    ensures writer { Keeps (W.contents writer.old) (W.contents writer.new) }
-{
-    match writer.flush() {
-        Ok(()) => Ok(()),
-        Err(_) => Err(RunFault::WriteFailed),
     }
 }
 

@@ -1,16 +1,34 @@
 //! A run that answers each line of an input.
-ghost use Rattle.std.specs.Prelude.{◌≡◌, ◌≢◌, ℕ, ◌++◌, ◌≤◌, List, [], Ok, Err, true, length, take, IfOk, IfErr, OnOk, string_bytes};
+ghost use Rattle.std.specs.Prelude.{
+  ◌≡◌,
+  ◌≢◌,
+  ℕ,
+  ◌++◌,
+  ◌≤◌,
+  List,
+  [],
+  Ok,
+  Err,
+  true,
+  length,
+  take,
+  IfOk,
+  IfErr,
+  OnOk,
+  string_bytes,
+};
 ghost use Rattle.std.specs.Io.KnownBytes.{Appends};
-ghost use Rattle.line_runs.specs.Run.{Begins, Outputs, StopsReading, ReadsFewLines, gives_beginning};
+ghost use Rattle.line_runs.specs.Run.{Begins, Outputs, StopsReading, ReadsFewLines, gives_beginning, gives_front};
 ghost use Rattle.line_runs.specs.Outcome.{both_ran};
 ghost use Rattle.line_runs.specs.declared.outcome.Ran.{Ran as RanOf};
 ghost use Rattle.line_runs.specs.declared.run.Turn.{Turn as TurnOf};
 ghost use Rattle.line_runs.specs.declared.lines.TheConstants.{KEPT_BYTES};
 
-use crate::lines::{KEPT_BYTES, LineReader, flush};
+use crate::lines::{KEPT_BYTES, LineReader};
 use crate::outcome::{Ran, RunFault};
+use crate::writing::{flush, write_whole};
 use std::alloc::{AllocError, Global};
-use std::io::{BufRead, ErrorKind, Write};
+use std::io::{BufRead, Write};
 
 /// How one line was answered.
 #[derive(Clone, Copy, Debug, PartialEq, Eq)]
@@ -28,16 +46,19 @@ const MOST_READS: u32 = 1_000_000_000;
 
 /// What answers the lines of an input one after another.
 pub trait AnswerLines {
-    /// `line_gives s line turn output t`: at the state s a line may be answered by these bytes, and t is the state after it.
+    /// `line_gives s line turn output t`: at the state s a line may be answered by these bytes, and t is the state
+    /// after it.
     ghost line_gives: { Self → List ℕ → TurnOf → List ℕ → Self → Type 0 };
 
     /// `end_gives s ran output`: where the input ends at the state s, these bytes may be the last.
     ghost end_gives: { Self → RanOf → List ℕ → Type 0 };
 
-    /// Answers one line at the end of `output`. An error means that memory ran out for the answer.
+    /// Answers one line at the end of `output`. An error means that memory ran out for the answer: then `output` may
+    /// hold anything, and the state is after the line nevertheless.
     fn answer_line(&mut self, line: &[u8], output: &mut String) -> Result<Turn, AllocError>
-        ensures { IfOk result (λ turn. (out : List ℕ) × (string_bytes output.new ≡ string_bytes output.old ++ out)
-            × line_gives self.old line.now turn out self.new) };
+        ensures ok { IfOk result (λ turn. (out : List ℕ) × (string_bytes output.new ≡ string_bytes output.old ++ out)
+            × line_gives self.old line.now turn out self.new) }
+        ensures err { IfErr result (λ _. (turn : TurnOf) × (out : List ℕ) × line_gives self.old line.now turn out self.new) };
 
     /// Adds to `output` what is written at the end of the input.
     fn answer_end(&self, output: &mut String) -> Result<Ran, AllocError>
@@ -50,9 +71,11 @@ pub trait AnswerLines {
 
 /// Answers each line of the input that holds something, writes what it gives, and flushes the writer at the end.
 ///
-/// Where the run was not stopped, what is written is what the lines of the input give, and the machine is in the state that they left.
-/// Where it was stopped, what is written is a beginning of that: by a failed read or too many reads, what exactly the lines that were
-/// read whole give. At most 1,000,000,000 lines are read. What was answered is flushed before each read that may wait.
+/// Where the run was not stopped, what is written is what the lines of the input give, and the machine is in the state
+/// that they left. Where it was stopped, what is written is a beginning of that: by a failed read or too many reads,
+/// what exactly the lines that were read whole give. The machine is in the state that the lines left which it answered,
+/// the one too whose answer was not written whole. At most 1,000,000,000 lines are read. What was answered is flushed
+/// before each read that may wait.
 pub fn run_whole<M: AnswerLines, R: BufRead, W: Write>(
     alloc: Global,
     machine: &mut M,
@@ -61,9 +84,9 @@ pub fn run_whole<M: AnswerLines, R: BufRead, W: Write>(
 ) -> Result<Ran, RunFault>
     ensures output { IfOk result (λ ran. Outputs M.line_gives M.end_gives machine.old (R.Read.remaining input.old.reader) ran
         (W.contents writer.old) (W.contents writer.new) machine.new) }
-    ensures begun { IfErr result (λ fault. Begins M.line_gives M.end_gives machine.old (R.Read.remaining input.old.reader) (W.contents writer.old) (W.contents writer.new)) }
+    ensures begun { IfErr result (λ fault. Begins M.line_gives M.end_gives machine.old (R.Read.remaining input.old.reader) (W.contents writer.old) (W.contents writer.new) machine.new) }
     ensures stopped { IfErr result (λ fault. fault ≢ RunFault.WriteFailed → StopsReading M.line_gives machine.old fault (R.Read.remaining input.old.reader) (R.Read.remaining input.new.reader)
-        (W.contents writer.old) (W.contents writer.new)) }
+        (W.contents writer.old) (W.contents writer.new) machine.new) }
     ensures failed { result ≡ Err RunFault.ReadFailed → input.new.failed ≡ true }
     ensures reads { ReadsFewLines (R.Read.remaining input.old.reader) (R.Read.remaining input.new.reader) }
 {
@@ -86,9 +109,9 @@ fn run_lines<M: AnswerLines, R: BufRead, W: Write>(
 ) -> Result<Ran, RunFault>
     ensures output { IfOk result (λ ran. Outputs M.line_gives M.end_gives machine.old (R.Read.remaining input.old.reader) ran
         (W.contents writer.old) (W.contents writer.new) machine.new) }
-    ensures begun { IfErr result (λ fault. Begins M.line_gives M.end_gives machine.old (R.Read.remaining input.old.reader) (W.contents writer.old) (W.contents writer.new)) }
+    ensures begun { IfErr result (λ fault. Begins M.line_gives M.end_gives machine.old (R.Read.remaining input.old.reader) (W.contents writer.old) (W.contents writer.new) machine.new) }
     ensures stopped { IfErr result (λ fault. fault ≢ RunFault.WriteFailed → StopsReading M.line_gives machine.old fault (R.Read.remaining input.old.reader) (R.Read.remaining input.new.reader)
-        (W.contents writer.old) (W.contents writer.new)) }
+        (W.contents writer.old) (W.contents writer.new) machine.new) }
     ensures failed { result ≡ Err RunFault.ReadFailed → input.new.failed ≡ true }
     ensures reads { ReadsFewLines (R.Read.remaining input.old.reader) (R.Read.remaining input.new.reader) }
 {
@@ -129,7 +152,7 @@ fn write_answer<M: AnswerLines, W: Write>(
     ensures ok { IfOk result (λ turn. (out : List ℕ) × Appends (W.contents writer.old) (W.contents writer.new) out
         × M.line_gives machine.old line.now turn out machine.new) }
     ensures err { IfErr result (λ fault. (fault ≡ RunFault.WriteFailed)
-        × gives_beginning (λ out. (turn : TurnOf) × M.line_gives machine.old line.now turn out machine.new) (W.contents writer.old) (W.contents writer.new)) }
+        × gives_front (λ out. (turn : TurnOf) × M.line_gives machine.old line.now turn out machine.new) (W.contents writer.old) (W.contents writer.new)) }
 {
     output.clear();
     match machine.answer_line(line, output) {
@@ -161,27 +184,4 @@ fn write_end<M: AnswerLines, W: Write>(
         },
         Err(_) => Err(RunFault::WriteFailed),
     }
-}
-
-/// Writes all of these bytes. After a refusal a beginning of them is written.
-fn write_whole<W: Write>(writer: &mut W, bytes: &[u8]) -> Result<(), RunFault>
-    ensures ok { OnOk result (Appends (W.contents writer.old) (W.contents writer.new) bytes.now) }
-    ensures err { IfErr result (λ fault. (fault ≡ RunFault.WriteFailed) × (n : ℕ) × Appends (W.contents writer.old) (W.contents writer.new) (take n bytes.now)) }
-{
-    let mut at = 0;
-    for _turn in 0..u64::MAX {
-        if at >= bytes.len() {
-            return Ok(());
-        }
-        match writer.write(&bytes[at..]) {
-            Ok(0) => return Err(RunFault::WriteFailed),
-            Ok(taken) => at += taken,
-            Err(error) => {
-                if error.kind() != ErrorKind::Interrupted {
-                    return Err(RunFault::WriteFailed);
-                }
-            }
-        }
-    }
-    Err(RunFault::WriteFailed)
 }

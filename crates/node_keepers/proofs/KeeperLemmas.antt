@@ -1,5 +1,5 @@
 -- Keepers that were just opened, and the keeper of a party.
-use Rattle.std.proofs.Common.{◌≡◌, ◌≢◌, ◌<◌, ◌≤◌, ◌+◌, ◌++◌, ◌∙◌, ℕ, Bool, false, true, List, [], ◌∷◌, Option, Some, None, Ok, Err, refl, sym, ap, subst, arith, eqb, get_or, length, slice_get, slice_set, IfErr, OnOk, OnErr, Result, inl, inr, length-append, take}
+use Rattle.std.proofs.Common.{◌≡◌, ◌≢◌, ◌<◌, ◌≤◌, ◌+◌, ◌++◌, ◌∙◌, ℕ, Bool, false, true, List, [], ◌∷◌, Option, Some, None, Ok, Err, refl, sym, ap, subst, arith, eqb, get_or, length, slice_get, slice_set, IfErr, OnOk, OnErr, Result, ◌⊎◌, inl, inr, length-append, take}
 use Rattle.std.proofs.lemmas.Bool.{cases_lt}
 use Rattle.std.proofs.lemmas.List.{length-take, take_more}
 use Rattle.std.proofs.lemmas.Option.{slice_get_read, slice_get_within}
@@ -17,8 +17,10 @@ use Rattle.ocpi_types.specs.declared.rows.Row.{Row}
 use Rattle.ocpi_types.specs.declared.setup.Node.{Node}
 use Rattle.node_store.specs.Contents.{Content, RowPlace, after_row, changed_all, rows_after, rows_of}
 use Rattle.node_store.specs.Faults.{IsCommitFault, counted}
+use Rattle.node_store.specs.declared.fault.Cause.TheVariants.{NotEmpty}
 use Rattle.node_store.specs.declared.fault.StoreFault.{StoreFault}
-use Rattle.node_keepers.specs.Keeping.{AreOpened, AreUnopened, IsKeeperOf, IsOpened, IsUnopened, KeeperRefuses, KeeperTakes, Keeping, Made, Not_made}
+use Rattle.node_store.specs.declared.fault.StoreFault.TheVariants.{Refused}
+use Rattle.node_keepers.specs.Keeping.{AreOpened, AreUnopened, IsKeeperOf, IsOpened, CannotLoad, IsUnopened, KeeperRefuses, KeeperTakes, Keeping, KeepsRows, Made, Not_loaded, Not_made, Not_new}
 use Rattle.node_keepers.specs.declared.keeping.KeptNode.{KeptNode}
 
 read_on : (read : Read Row) (f : Row → Option (List Row)) (v : List Row) (n : ℕ) → after_row read f ≡ Some v → ((r : Row) → f r ≡ Some v → n ≤ length v) → n ≤ length v
@@ -157,3 +159,9 @@ pub one_unopened : {K : Type 0} (keeping : Keeping K) (may_refuse : ℕ → Stor
     i < length setup → AreOpened keeping (take i setup) kept → place ≡ length kept + 1 → IsUnopened keeping may_refuse place fault → AreUnopened keeping may_refuse setup fault
 one_unopened keeping may_refuse setup kept i place fault within are next unopened =
     inl (place, omega (arith, next), omega (arith, next, within, as_many_nodes keeping (take i setup) kept are, length-take i setup), unopened)
+
+-- a keeper that was opened and could not be taken is why there is none
+pub not_taken : {K : Type 0} (keeping : Keeping K) (may_refuse : ℕ → StoreFault → Type 0) (place : ℕ) (fault : StoreFault) (before after : K) →
+    CannotLoad keeping fault before after ⊎ (KeepsRows keeping after × (fault ≡ Refused NotEmpty)) → IsUnopened keeping may_refuse place fault
+not_taken keeping may_refuse place fault before after (inl cannot) = Not_loaded before after cannot
+not_taken keeping may_refuse place fault before after (inr keeps) = Not_new after keeps.0 keeps.1

@@ -1,4 +1,5 @@
--- The keepers of a world's nodes: how they are opened, what an event makes of them, and what is known where one refuses.
+-- The keepers of a world's nodes: how they are opened, what an event makes of them, and what is known where one
+-- refuses.
 use Rattle.std.specs.Prelude.{◌≡◌, ◌≢◌, ◌⊎◌, ℕ, ◌≤◌, List, [], ◌∷◌, None, Some, length, slice_get, slice_set}
 use Rattle.std.specs.FinMap.{empty}
 use Rattle.ocpi_text.specs.Text.{key}
@@ -8,12 +9,13 @@ use Rattle.ocpi_types.specs.declared.rows.Row.{Row}
 use Rattle.ocpi_types.specs.declared.setup.Node.{Node}
 use Rattle.node_store.specs.Contents.{Content, changed_all, rows_of}
 use Rattle.node_store.specs.Faults.{IsCommitFault, counted_fault}
-use Rattle.node_store.specs.declared.fault.Cause.TheVariants.{Other}
+use Rattle.node_store.specs.declared.fault.Cause.TheVariants.{NoKeeper, NotEmpty}
 use Rattle.node_store.specs.declared.fault.StoreFault.{StoreFault}
 use Rattle.node_store.specs.declared.fault.StoreFault.TheVariants.{Refused, BadRow, OldLayout, Memory}
 use Rattle.node_keepers.specs.declared.keeping.KeptNode.{KeptNode}
 
--- what is said of keepers of any type K: what each keeps, which is said where it is honest, and how many calls it has refused
+-- what is said of keepers of any type K: what each keeps, which is said where it is honest, and how many calls it has
+-- refused
 pub record Keeping (K : Type 0) : Type 1 where
   pub content : K → Content
   pub is_honest : K → Type 0
@@ -52,12 +54,12 @@ pub record KeepsRows {K : Type 0} (keeping : Keeping K) (k : K) : Type 0 where
   pub are : keeping.is_honest k → rows_of (keeping.content k) ≡ Some rows
   pub some : rows ≢ []
 
--- Why the node at that place got no keeper: none could be opened, for a fault that the opening at that place may have; or one was
--- opened, but could not tell its rows; or it kept a row already.
+-- Why the node at that place got no keeper: none could be opened, for a fault that the opening at that place may have;
+-- or one was opened, but could not tell its rows; or it kept a row already.
 pub data IsUnopened {K : Type 0} (keeping : Keeping K) (may_refuse : ℕ → StoreFault → Type 0) (place : ℕ) (fault : StoreFault) : Type 0 where
   Not_opened : may_refuse place fault → IsUnopened keeping may_refuse place fault
   Not_loaded : (before after : K) → CannotLoad keeping fault before after → IsUnopened keeping may_refuse place fault
-  Not_new : (k : K) → KeepsRows keeping k → fault ≡ Refused Other → IsUnopened keeping may_refuse place fault
+  Not_new : (k : K) → KeepsRows keeping k → fault ≡ Refused NotEmpty → IsUnopened keeping may_refuse place fault
 
 -- one of a setup's nodes, whose places are counted from 1, got no keeper, or memory ran out for the list of them
 abbrev pub AreUnopened : {K : Type 0} → Keeping K → (ℕ → StoreFault → Type 0) → List Node → StoreFault → Type 0
@@ -77,23 +79,25 @@ pub record Takes {K : Type 0} (keeping : Keeping K) (changes : List Change) (bef
   pub makes : keeping.is_honest after → keeping.content after ≡ changed_all (keeping.content before) changes
   pub counted : keeping.refusals after ≡ keeping.refusals before
 
--- The changes of an event of that party's node are made in its keeper, and all others are as they were. Where there are none, all are.
+-- The changes of an event of that party's node are made in its keeper, and all others are as they were. Where there
+-- are none, all are.
 pub data KeeperTakes {K : Type 0} (keeping : Keeping K) (party : List ℕ) (changes : List Change) (kept next : List (KeptNode K)) : Type 0 where
   Made : (i : ℕ) (n : KeptNode K) → IsKeeperOf kept party i n → (k : K) → Takes keeping changes n.keep k
       → next ≡ slice_set kept i (record { party = n.party; keep = k }) → KeeperTakes keeping party changes kept next
   None_made : changes ≡ [] → next ≡ kept → KeeperTakes keeping party changes kept next
 
--- A keeper refused a commit with that fault: its count of refusals is raised as the fault says. One that is honest afterwards was so before,
--- and keeps what it kept.
+-- A keeper refused a commit with that fault: its count of refusals is raised as the fault says. One that is honest
+-- afterwards was so before, and keeps what it kept.
 pub record Refuses {K : Type 0} (keeping : Keeping K) (fault : StoreFault) (before after : K) : Type 0 where
   pub counted : keeping.refusals after ≡ counted_fault fault (keeping.refusals before)
   pub is_of_commit : IsCommitFault fault
   pub earlier : keeping.is_honest after → keeping.is_honest before
   pub keeps : keeping.is_honest after → keeping.content after ≡ keeping.content before
 
--- The keeper of that party's node refused, and all others are as they were; or no node of that party has one, and all are.
+-- The keeper of that party's node refused, and all others are as they were; or no node of that party has one, and all
+-- are.
 pub data KeeperRefuses {K : Type 0} (keeping : Keeping K) (party : List ℕ) (fault : StoreFault) (kept next : List (KeptNode K)) : Type 0 where
   Not_made : (i : ℕ) (n : KeptNode K) → IsKeeperOf kept party i n → (k : K) → Refuses keeping fault n.keep k
       → next ≡ slice_set kept i (record { party = n.party; keep = k }) → KeeperRefuses keeping party fault kept next
-  No_keeper : ((i : ℕ) (n : KeptNode K) → IsKeeperOf kept party i n → ⊥) → fault ≡ Refused Other
+  No_keeper : ((i : ℕ) (n : KeptNode K) → IsKeeperOf kept party i n → ⊥) → fault ≡ Refused NoKeeper
       → next ≡ kept → KeeperRefuses keeping party fault kept next

@@ -1,8 +1,22 @@
-//! The keepers of a world's nodes: they are opened, and then given what each event changes.
+//! The keepers of a world's nodes: they are opened, given what each event changes, and closed.
 
-ghost use Rattle.std.specs.Prelude.{◌≡◌, ◌≢◌, ℕ, [], IfErr, IfNone, IfOk, IfSome, OnOk};
-ghost use Rattle.node_keepers.specs.Keeping.{AreOpened, AreUnopened, IsEmpty, IsKeeperOf, IsUnopened, KeeperRefuses, KeeperTakes, keeping_of};
+ghost use Rattle.std.specs.Prelude.{◌≡◌, ◌≢◌, ◌⊎◌, ℕ, [], IfErr, IfNone, IfOk, IfSome, OnOk};
+ghost use Rattle.node_keepers.specs.Keeping.{
+  AreOpened,
+  AreUnopened,
+  CannotLoad,
+  IsEmpty,
+  IsKeeperOf,
+  IsUnopened,
+  KeeperRefuses,
+  KeeperTakes,
+  KeepsRows,
+  keeping_of,
+};
 ghost use Rattle.node_keepers.specs.declared.keeping.KeptNode.{KeptNode as KeptNodeOf};
+ghost use Rattle.node_store.specs.Faults.{IsCommitFault};
+ghost use Rattle.node_store.specs.declared.fault.Cause.TheVariants.{NotEmpty};
+ghost use Rattle.node_store.specs.declared.fault.StoreFault.TheVariants.{Refused};
 ghost use Rattle.ocpi_types.specs.Setups.{party_of};
 
 use crate::keeps::Keeps;
@@ -18,21 +32,72 @@ pub struct KeptNode<K> {
     keep: K,
 }
 
-/// Opens the keeper of the node at a place of the setup. One that keeps a row already is refused.
+/// Refuses a keeper that keeps a row already as `NotEmpty`.
+fn try_empty<K: Keep>(keep: &mut K) -> Result<(), StoreFault>
+    ensures ok { OnOk result (IsEmpty (keeping_of K.content K.is_honest K.refusals) keep.new) }
+    ensures err { IfErr result (λ fault. CannotLoad (keeping_of K.content K.is_honest K.refusals) fault keep.old keep.new
+        ⊎ (KeepsRows (keeping_of K.content K.is_honest K.refusals) keep.new × (fault ≡ Refused NotEmpty))) }
+{
+    let rows = keep.load()?;
+    if rows.is_empty() {
+        Ok(())
+    } else {
+        Err(StoreFault::Refused(Cause::NotEmpty))
+    }
+}
+
+/// Opens the keeper of the node at a place of the setup. One that keeps a row already is refused as `NotEmpty`. A
+/// keeper that is refused once it was opened is closed.
 fn open_one<S: Keeps>(keeps: &mut S, place: usize) -> Result<S::Kept, StoreFault>
     ensures ok { IfOk result (IsEmpty (keeping_of S.Kept.content S.Kept.is_honest S.Kept.refusals)) }
     ensures err { IfErr result (IsUnopened (keeping_of S.Kept.content S.Kept.is_honest S.Kept.refusals) S.may_refuse place) }
 {
     let mut keep = keeps.open(place)?;
-    let rows = keep.load()?;
-    if rows.is_empty() {
-        Ok(keep)
-    } else {
-        Err(StoreFault::Refused(Cause::Other))
+    match try_empty(&mut keep) {
+        Ok(()) => Ok(keep),
+        Err(fault) => {
+            let _ = keeps.close(place, keep);
+            Err(fault)
+        }
     }
 }
 
-/// Opens the keeper of each node of a setup, in its order. Where one is refused, those before it were opened.
+/// Adds the keeper of each node of a setup, in its order, where there are none. Where one is refused, those before it
+/// were added.
+fn open_each<S: Keeps>(
+    keeps: &mut S,
+    setup: &[Node],
+    kept: &mut Vec<KeptNode<S::Kept>>,
+) -> Result<(), StoreFault>
+    requires { kept.old.items ≡ [] }
+    ensures ok { OnOk result (AreOpened (keeping_of S.Kept.content S.Kept.is_honest S.Kept.refusals) setup.now kept.new.items) }
+    ensures err { IfErr result (AreUnopened (keeping_of S.Kept.content S.Kept.is_honest S.Kept.refusals) S.may_refuse setup.now) }
+{
+    for node in setup {
+        let keep = open_one(keeps, kept.len() + 1)?;
+        kept.push(KeptNode {
+            party: *node.party(),
+            keep,
+        })?;
+    }
+    Ok(())
+}
+
+/// Closes keepers that were opened in this order, all of them. Where one is refused, the fault of the first is told.
+pub fn close_all<S: Keeps>(keeps: &mut S, kept: Vec<KeptNode<S::Kept>>) -> Result<(), StoreFault>
+    ensures { IfErr result IsCommitFault }
+{
+    let mut closed = Ok(());
+    let mut place = 0usize;
+    for node in kept {
+        place = place.saturating_add(1);
+        let KeptNode { party: _, keep } = node;
+        closed = closed.and(keeps.close(place, keep));
+    }
+    closed
+}
+
+/// Opens the keeper of each node of a setup, in its order. Where one is refused, those before it are closed.
 pub fn open_all<S: Keeps>(
     alloc: Global,
     keeps: &mut S,
@@ -41,15 +106,15 @@ pub fn open_all<S: Keeps>(
     ensures ok { IfOk result (λ v. AreOpened (keeping_of S.Kept.content S.Kept.is_honest S.Kept.refusals) setup.now v.items) }
     ensures err { IfErr result (AreUnopened (keeping_of S.Kept.content S.Kept.is_honest S.Kept.refusals) S.may_refuse setup.now) }
 {
-    let mut kept = Vec::new(alloc);
-    for node in setup {
-        let keep = open_one(keeps, kept.len() + 1)?;
-        kept.push(KeptNode {
-            party: *node.party(),
-            keep,
-        })?;
+    // Room is taken first, so that memory does not run out for a keeper that was opened.
+    let mut kept = Vec::with_capacity(alloc, setup.len())?;
+    match open_each(keeps, setup, &mut kept) {
+        Ok(()) => Ok(kept),
+        Err(fault) => {
+            let _ = close_all(keeps, kept);
+            Err(fault)
+        }
     }
-    Ok(kept)
 }
 
 /// The place of a party's keeper. Parties are compared without case.
@@ -65,8 +130,8 @@ fn find<K>(kept: &[KeptNode<K>], party: &Party) -> Option<usize>
     None
 }
 
-/// Gives the changes of an event to the keeper of that party's node, where there are any. A refusal is that of the keeper, and
-/// changes nothing; one comes too where there are changes and no keeper for them.
+/// Gives the changes of an event to the keeper of that party's node, where there are any. A refusal is that of the
+/// keeper, and changes nothing; `NoKeeper` comes where there are changes and no keeper for them.
 pub fn commit<K: Keep>(
     kept: &mut Vec<KeptNode<K>>,
     party: &Party,
@@ -80,10 +145,10 @@ pub fn commit<K: Keep>(
         return Ok(());
     }
     let Some(i) = find(kept.as_slice(), party) else {
-        return Err(StoreFault::Refused(Cause::Other));
+        return Err(StoreFault::Refused(Cause::NoKeeper));
     };
     match kept.get_mut(i) {
         Some(node) => node.keep.commit(changes),
-        None => Err(StoreFault::Refused(Cause::Other)),
+        None => Err(StoreFault::Refused(Cause::NoKeeper)),
     }
 }

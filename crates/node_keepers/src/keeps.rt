@@ -1,15 +1,13 @@
-//! Where the keepers of a world's nodes come from.
+//! Where the keepers of a world's nodes come from, and what ends them.
 
 ghost use Rattle.std.specs.Prelude.{ℕ, IfErr, ⊤};
+ghost use Rattle.node_store.specs.Faults.{IsCommitFault};
 ghost use Rattle.node_store.specs.declared.fault.StoreFault.{StoreFault as StoreFaultOf};
 
-use node_store::{Cause, Keep, ListKeep, StoreFault, TableKeep};
-use ocpi_types::Row;
-use sqlite::{File, FileStore};
+use node_store::{Keep, ListKeep, StoreFault};
 use std::alloc::Global;
-use std::fs;
 
-/// What opens a keeper for each node of a world.
+/// What opens a keeper for each node of a world, and closes it.
 pub trait Keeps {
     /// The keeper of a node's rows.
     type Kept: Keep + Drop;
@@ -20,6 +18,25 @@ pub trait Keeps {
     /// Opens the keeper of the node at that place of the setup, the first of which is 1.
     fn open(&mut self, place: usize) -> Result<Self::Kept, StoreFault>
         ensures { IfErr result (λ fault. may_refuse place fault) };
+
+    /// Ends the keeper of the node at that place, which was opened here.
+    fn close(&mut self, place: usize, keep: Self::Kept) -> Result<(), StoreFault>
+        ensures { IfErr result IsCommitFault };
+}
+
+/// What is lent opens and closes the keepers that its owner would, and the owner has it again afterwards.
+impl<S: Keeps> Keeps for &mut S {
+    type Kept = S::Kept;
+
+    ghost may_refuse = { S.may_refuse };
+
+    fn open(&mut self, place: usize) -> Result<S::Kept, StoreFault> {
+        Keeps::open(&mut **self, place)
+    }
+
+    fn close(&mut self, place: usize, keep: S::Kept) -> Result<(), StoreFault> {
+        Keeps::close(&mut **self, place, keep)
+    }
 }
 
 /// Keepers in memory, which end with the run.
@@ -43,57 +60,10 @@ impl Keeps for ListKeeps {
     fn open(&mut self, _place: usize) -> Result<ListKeep, StoreFault> {
         Ok(ListKeep::new(self.alloc))
     }
-}
 
-/// Keepers in new files of a folder: `node1.db` of the first node, and so on.
-#[derive(Drop)]
-pub struct FileKeeps<'a> {
-    rt: &'a HostRuntime,
-    folder: &'a str,
-}
-
-impl<'a> FileKeeps<'a> {
-    /// Keepers whose files are to be in that folder, which must exist once the first is opened.
-    pub fn new(rt: &'a HostRuntime, folder: &'a str) -> FileKeeps<'a> {
-        FileKeeps { rt, folder }
+    /// There is nothing to do, and no refusal.
+    fn close(&mut self, _place: usize, keep: ListKeep) -> Result<(), StoreFault> {
+        drop(keep);
+        Ok(())
     }
-}
-
-impl Keeps for FileKeeps<'_> {
-    type Kept = TableKeep<FileStore<File>>;
-
-    ghost may_refuse = { λ place fault. ⊤ };
-
-    /// The folder must exist, and the file must not.
-    fn open(&mut self, place: usize) -> Result<TableKeep<FileStore<File>>, StoreFault> {
-        let path = format!(in self.rt.alloc(); "{}/node{place}.db", self.folder)?;
-        if stands(self.rt, self.folder)? && !stands(self.rt, path.as_str())? {
-            TableKeep::open_file(self.rt, path.as_str())
-        } else {
-            Err(StoreFault::Refused(Cause::Other))
-        }
-    }
-}
-
-/// Whether there is a file or a folder of that name.
-fn stands(rt: &HostRuntime, path: &str) -> Result<bool, StoreFault> {
-    match fs::exists(rt, path) {
-        Ok(stands) => Ok(stands),
-        Err(_) => Err(StoreFault::Refused(Cause::Disk)),
-    }
-}
-
-/// The rows of a keeper that was opened, which ends here. It stands for any keeper, since a body that holds one in a file is dear to
-/// prove.
-fn rows_of<K: Keep + Drop>(opened: Result<K, StoreFault>) -> Result<Vec<Row>, StoreFault> {
-    let mut keep = opened?;
-    keep.load()
-}
-
-/// The rows of a file that exists.
-pub fn rows_in(rt: &HostRuntime, path: &str) -> Result<Vec<Row>, StoreFault> {
-    if !stands(rt, path)? {
-        return Err(StoreFault::Refused(Cause::Other));
-    }
-    rows_of(TableKeep::open_file(rt, path))
 }

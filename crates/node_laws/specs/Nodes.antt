@@ -66,8 +66,8 @@ IsReply b = (r : Reply) × (b ≡ body_of_reply r)
 abbrev pub IsRepeated : Body → Type 0
 IsRepeated b = ((c : Command) × (b ≡ body_of_command c)) ⊎ ((p : Push) × (b ≡ body_of_push p))
 
--- which reply answers which request (OCPI 2.2.1, Commands: CommandResponse; Tokens: AuthorizationInfo; Transport and format:
--- the response to what is handed over)
+-- which reply answers which request (OCPI 2.2.1, Commands: CommandResponse; Tokens: AuthorizationInfo; Transport and
+-- format: the response to what is handed over)
 abbrev pub Answers : Reply → Body → Type 0
 Answers (reply.CommandResponse r) b = (c : Command) × (b ≡ body_of_command c)
 Answers (reply.Authorization r) b = (a : Authorize) × (b ≡ body.Authorize a)
@@ -114,8 +114,8 @@ posted_to (command.ReserveNow c) = c.response_url
 posted_to (command.CancelReservation c) = c.response_url
 posted_to (command.UnlockConnector c) = c.response_url
 
--- the request of that number is settled: its addressee acknowledged it, or a newer one about the same went out; or it is a command,
--- and its addressee answered it, or posted its result to where it says
+-- the request of that number is settled: its addressee acknowledged it, or a newer one about the same went out; or it
+-- is a command, and its addressee answered it, or posted its result to where it says
 pub data IsSettled (e : Exchange) (n : ℕ) (r : Request) : Type 0 where
   Acknowledged : (q : Packet) → Contains e.came q → (a : Ack) → q.body ≡ body.Ack a → a.status_code ≡ 1000 → key q.from ≡ key r.to → q.request ≡ n → IsSettled e n r
   Replaced : (x : Packet) → Contains e.packets x → n < x.request → AreAboutSame r (request_of x) → IsSettled e n r

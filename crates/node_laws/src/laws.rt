@@ -1,7 +1,18 @@
 //! The laws of a node of either role, over every list of exchanges, from any state to any later one. An operator and a
 //! provider keep to them, since each of their steps is a `NodeStep`.
 
-ghost use Rattle.node_laws.specs.Laws.{RunsAreSteps, Numbered, SentToPeers, SentRepliesAreKept, RepliesStay, RepliesAnswer, RequestsAgree, RequestsStand, RequestsWereSent, StayGiven};
+ghost use Rattle.node_laws.specs.Laws.{
+  RunsAreSteps,
+  Numbered,
+  SentToPeers,
+  SentRepliesAreKept,
+  RepliesStay,
+  RepliesAnswer,
+  RequestsAgree,
+  RequestsStand,
+  RequestsWereSent,
+  StayGiven,
+};
 
 /// A run is one step, by all that came and all that was sent.
 pub fn runs_are_steps()

@@ -1,25 +1,28 @@
 -- What is known of a run that a store may have stopped, from what is known of the run over its lines.
-use Rattle.std.proofs.Common.{◌≡◌, ◌∙◌, ℕ, false, true, List, Option, Some, None, IfErr, IfOk, Result, Ok, Err, refl, sym, ap, subst}
+use Rattle.std.proofs.Common.{◌≡◌, ◌≢◌, ◌∙◌, ℕ, false, true, List, Option, Some, None, IfErr, IfOk, Result, Ok, Err, refl, sym, ap, subst}
 use Rattle.std.specs.Prelude.{IsOk}
 use Rattle.line_runs.specs.Lines.{lines_of}
-use Rattle.line_runs.specs.Run.{AreAnswered, IsRun, Outputs, at_end, none_yet, refused, stopped as ended_by, taken}
+use Rattle.line_runs.specs.Run.{AreAnswered, Begins, IsRun, Outputs, StopsReading, at_end, none_yet, refused, stopped as ended_by, taken}
 use Rattle.line_runs.specs.declared.outcome.Ran.{Ran}
 use Rattle.line_runs.specs.declared.outcome.Ran.TheVariants.{WithRefusals}
 use Rattle.line_runs.specs.declared.outcome.RunFault.{RunFault}
+use Rattle.line_runs.specs.declared.outcome.RunFault.TheVariants.{WriteFailed}
 use Rattle.line_runs.specs.declared.run.Turn.{Turn}
 use Rattle.line_runs.specs.declared.run.Turn.TheVariants.{Taken, Refused, Ended}
 use Rattle.node_store.specs.declared.fault.StoreFault.{StoreFault}
 use Rattle.node_keepers.specs.Keeping.{Keeping}
 use Rattle.node_keepers.specs.declared.keeping.KeptNode.{KeptNode}
-use Rattle.node_programs.specs.Play.{Happened, Lost, NoSetup, Opened, PlayEndGives, PlayLineGives, PlayOutputs, PlayTurn, Playing, Stage, Starved, Unkept, Unread, kept_in, opening}
+use Rattle.node_programs.specs.Play.{Happened, Lost, NoSetup, Opened, PlayBegins, PlayEndGives, PlayLineGives, PlayOutputs, PlayStops, PlayTurn, Playing, Stage, Starved, Unkept, Unread, kept_in, opening}
 use Rattle.node_programs.specs.Stops.{IfRun, IfStore}
 use Rattle.node_programs.specs.declared.fault.PlayFault.{PlayFault}
 use Rattle.node_programs.specs.declared.fault.PlayFault.TheVariants.{Run, Store}
 
-pub stopped : (result : Result Ran PlayFault) (ran : Result Ran RunFault) (P : RunFault → Type 0) → IfErr result (IfRun (λ fault. ran ≡ Err fault)) → IfErr ran P → IfErr result (IfRun P)
-stopped (Ok r) ran P is p = tt
-stopped (Err (Run fault)) ran P is p = subst (λ (x : Result Ran RunFault). IfErr x P) is p
-stopped (Err (Store fault)) ran P is p = tt
+-- what is known of a run that reading or writing stopped, and what follows from it
+pub stopped : (result : Result Ran PlayFault) (ran : Result Ran RunFault) (P Q : RunFault → Type 0) → ((fault : RunFault) → P fault → Q fault)
+    → IfErr result (IfRun (λ fault. ran ≡ Err fault)) → IfErr ran P → IfErr result (IfRun Q)
+stopped (Ok r) ran P Q law is p = tt
+stopped (Err (Run fault)) ran P Q law is p = law fault (subst (λ (x : Result Ran RunFault). IfErr x P) is p)
+stopped (Err (Store fault)) ran P Q law is p = tt
 
 pub same_fault : (result : Result Ran PlayFault) (ran : Result Ran RunFault) (fault : RunFault) → IfErr result (IfRun (λ f. ran ≡ Err f)) → result ≡ Err (Run fault) → ran ≡ Err fault
 same_fault (Ok r) ran fault is e = absurd cc
@@ -57,6 +60,35 @@ module _ {K : Type 0} (keeping : Keeping K) (may_refuse : ℕ → StoreFault →
   ended_writes (Some t) None new last ran fault is wrote = tt
   ended_writes (Some t) (Some before) new last ran fault is wrote =
       (wrote.0, subst (λ r. IsRun (PlayLineGives keeping may_refuse) PlayEndGives opening (lines_of t) r wrote.0 last) (was_ended wrote.1 fault is) wrote.1, wrote.2)
+
+  -- of a run from a stage that is the opening, and of the keepers that it left
+  module _ (text old new : Option (List ℕ)) (first last : Stage K) (begun : first ≡ opening) (kept : List (KeptNode K)) (kept_is : kept_in last.playing ≡ kept) where
+    begins_so : (fault : RunFault) → Begins (PlayLineGives keeping may_refuse) PlayEndGives first text old new last → PlayBegins keeping may_refuse text old new kept
+    begins_so fault begins = record {
+      last = last;
+      begins = subst (λ (s : Stage K). Begins (PlayLineGives keeping may_refuse) PlayEndGives s text old new last) begun begins;
+      left = kept_is;
+    }
+
+    pub broken_off : (result : Result Ran PlayFault) (ran : Result Ran RunFault) → IfErr result (IfRun (λ fault. ran ≡ Err fault))
+        → IfErr ran (λ fault. Begins (PlayLineGives keeping may_refuse) PlayEndGives first text old new last)
+        → IfErr result (IfRun (λ fault. PlayBegins keeping may_refuse text old new kept))
+    broken_off result ran is begins = stopped result ran (λ fault. Begins (PlayLineGives keeping may_refuse) PlayEndGives first text old new last) (λ fault. PlayBegins keeping may_refuse text old new kept) begins_so is begins
+
+    stops_so : (rest : Option (List ℕ)) (fault : RunFault) → (fault ≢ WriteFailed → StopsReading (PlayLineGives keeping may_refuse) first fault text rest old new last)
+        → fault ≢ WriteFailed → PlayStops keeping may_refuse fault text rest old new kept
+    stops_so rest fault stops other = record {
+      last = last;
+      stops = subst (λ (s : Stage K). StopsReading (PlayLineGives keeping may_refuse) s fault text rest old new last) begun (stops other);
+      left = kept_is;
+    }
+
+    pub read_to : (rest : Option (List ℕ)) (result : Result Ran PlayFault) (ran : Result Ran RunFault) → IfErr result (IfRun (λ fault. ran ≡ Err fault))
+        → IfErr ran (λ fault. fault ≢ WriteFailed → StopsReading (PlayLineGives keeping may_refuse) first fault text rest old new last)
+        → IfErr result (IfRun (λ fault. fault ≢ WriteFailed → PlayStops keeping may_refuse fault text rest old new kept))
+    read_to rest result ran is stops =
+        stopped result ran (λ fault. fault ≢ WriteFailed → StopsReading (PlayLineGives keeping may_refuse) first fault text rest old new last)
+        (λ fault. fault ≢ WriteFailed → PlayStops keeping may_refuse fault text rest old new kept) (stops_so rest) is stops
 
   -- of a run from a stage that is the opening, and of the stop that it left
   module _ (text old new : Option (List ℕ)) (first last : Stage K) (begun : first ≡ opening) (stop : Option StoreFault) (left : stop ≡ last.stop)

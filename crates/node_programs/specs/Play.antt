@@ -1,4 +1,5 @@
--- What the program `play` writes for what it reads: a setup line, then events at its nodes, and at the end what is owed.
+-- What the program `play` writes for what it reads: a setup line, then events at its nodes, and at the end what is
+-- owed.
 use Rattle.std.specs.Prelude.{◌≡◌, ◌≢◌, ℕ, ℤ, List, [], ◌∷◌, ◌++◌, Option, None, Some, Ok, codes, flat_map}
 use Rattle.ocpi_text.specs.Decimal.{sum_text}
 use Rattle.ocpi_text.specs.Text.{key}
@@ -17,9 +18,10 @@ use Rattle.world_steps.specs.Steps.{Gives, Outcome}
 use Rattle.world_steps.specs.Steps as outcome
 use Rattle.world_steps.specs.World.{World, opened}
 use Rattle.world.specs.State.{owed_by}
-use Rattle.line_runs.specs.Run.{Outputs}
+use Rattle.line_runs.specs.Run.{Begins, Outputs, StopsReading}
 use Rattle.line_runs.specs.declared.outcome.Ran.{Ran}
 use Rattle.line_runs.specs.declared.outcome.Ran.TheVariants.{Whole, WithRefusals}
+use Rattle.line_runs.specs.declared.outcome.RunFault.{RunFault}
 use Rattle.line_runs.specs.declared.run.Turn.{Turn}
 use Rattle.line_runs.specs.declared.run.Turn.TheVariants.{Taken, Refused, Ended}
 use Rattle.node_store.specs.declared.fault.StoreFault.{StoreFault}
@@ -69,8 +71,8 @@ changes_told (outcome.Stepped packets changes) = changes
 changes_told outcome.Skipped = []
 changes_told (outcome.Refused fault) = []
 
--- The first line opens the world and a keeper for each node. Where it is no setup, or a node gets no keeper, that is all; of the latter
--- the fault is told.
+-- The first line opens the world and a keeper for each node. Where it is no setup, or a node gets no keeper, that is
+-- all; of the latter the fault is told.
 pub data SetupTurn {K : Type 0} (keeping : Keeping K) (may_refuse : ℕ → StoreFault → Type 0) (stop : Option StoreFault)
     (line : List ℕ) (turn : Turn) (out : List ℕ) (next : Stage K) : Type 0 where
   Opened : (setup : List Node) → setup_in line ≡ Ok setup → (kept : List (KeptNode K)) → AreOpened keeping setup kept
@@ -83,9 +85,10 @@ pub data SetupTurn {K : Type 0} (keeping : Keeping K) (may_refuse : ℕ → Stor
       → turn ≡ Ended → out ≡ refusal_line (json_fault_text fault) → next ≡ record { playing = None; stop = stop }
       → SetupTurn keeping may_refuse stop line turn out next
 
--- Each other line is an event of the world, and the rows that it changes are kept. A line that is no event changes nothing, and neither
--- does an event that is refused, by the node or for want of memory. Where there are changes, and the keeper of the node refuses them,
--- nothing is written, the run ends, no keeper has anything of them, and the keeper's fault is told.
+-- Each other line is an event of the world, and the rows that it changes are kept. A line that is no event changes
+-- nothing, and neither does an event that is refused, by the node or for want of memory. Where there are changes, and
+-- the keeper of the node refuses them, nothing is written, the run ends, no keeper has anything of them, and the
+-- keeper's fault is told.
 pub data EventTurn {K : Type 0} (keeping : Keeping K) (stop : Option StoreFault) (now : Playing K) (line : List ℕ) (turn : Turn) (out : List ℕ) (next : Stage K) : Type 0 where
   Happened : (event : Event) → event_in line ≡ Ok event → (o : Outcome) → (v : World) → Gives now.world event o v
       → (kept : List (KeptNode K)) → KeeperTakes keeping event.node (changes_told o) now.kept kept
@@ -137,12 +140,29 @@ PlayEnd (Some now) ran out = (ran ≡ Whole) × (out ≡ owed_lines now)
 abbrev pub PlayEndGives : {K : Type 0} → Stage K → Ran → List ℕ → Type 0
 PlayEndGives s ran out = PlayEnd s.playing ran out
 
--- Where a reader tells its bytes, and a writer what it holds: what was written is an output of the input. At its end `stop` is why a store
--- stopped the run, where one did: it is set by the line that ended the run alone (`Unkept`, `Lost`). `kept` are the keepers as the lines that
--- were answered left them, so that each keeps what they made it keep and nothing else.
+-- Where a reader tells its bytes, and a writer what it holds: what was written is an output of the input. At its end
+-- `stop` is why a store stopped the run, where one did: it is set by the line that ended the run alone (`Unkept`,
+-- `Lost`). `kept` are the keepers as the lines that were answered left them, so that each keeps what they made it keep
+-- and nothing else.
 pub record PlayOutputs {K : Type 0} (keeping : Keeping K) (may_refuse : ℕ → StoreFault → Type 0)
     (text : Option (List ℕ)) (ran : Ran) (stop : Option StoreFault) (old new : Option (List ℕ)) (kept : List (KeptNode K)) : Type 0 where
   pub last : Stage K
   pub outputs : Outputs (PlayLineGives keeping may_refuse) PlayEndGives opening text ran old new last
   pub stopped_by : last.stop ≡ stop
+  pub left : kept_in last.playing ≡ kept
+
+-- The same of a run that reading or writing stopped: what was written is a beginning of an output. The keepers are as
+-- the lines that were answered left them; where the answer to one was not written whole, as that one left them.
+pub record PlayBegins {K : Type 0} (keeping : Keeping K) (may_refuse : ℕ → StoreFault → Type 0)
+    (text old new : Option (List ℕ)) (kept : List (KeptNode K)) : Type 0 where
+  pub last : Stage K
+  pub begins : Begins (PlayLineGives keeping may_refuse) PlayEndGives opening text old new last
+  pub left : kept_in last.playing ≡ kept
+
+-- the same of one that reading stopped: what was written, and what the keepers keep, is what exactly the lines that
+-- were read whole give
+pub record PlayStops {K : Type 0} (keeping : Keeping K) (may_refuse : ℕ → StoreFault → Type 0) (fault : RunFault)
+    (text rest old new : Option (List ℕ)) (kept : List (KeptNode K)) : Type 0 where
+  pub last : Stage K
+  pub stops : StopsReading (PlayLineGives keeping may_refuse) opening fault text rest old new last
   pub left : kept_in last.playing ≡ kept

@@ -13,7 +13,8 @@ abbrev pub fault_text : PlayFault → List ℕ
 fault_text (Run fault) = run.fault_text fault
 fault_text (Store fault) = codes "store: " ++ store.fault_text fault
 
--- 3 where a store stopped the run; else 0 where no line was refused, and 1 where one was, or where reading or writing failed
+-- 3 where a store stopped the run; else 0 where no line was refused, and 1 where one was, or where reading or writing
+-- failed
 abbrev pub play_status : Result Ran PlayFault → ℕ
 play_status (Ok ran) = run.exit_status (Ok ran)
 play_status (Err (Run fault)) = run.exit_status (Err fault)

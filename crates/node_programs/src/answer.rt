@@ -8,6 +8,7 @@ ghost use Rattle.ocpi_json.specs.SiteLines.{site_in};
 ghost use Rattle.ocpi_types.specs.declared.site.SiteLine.{SiteLine as SiteLineOf};
 ghost use Rattle.node_programs.specs.Answer.{Answering, EndGives, LineGives, PacketTurn, SiteTurn, made_by};
 ghost use Rattle.line_runs.specs.Run.{Begins, Outputs, ReadsFewLines, StopsReading};
+ghost use Rattle.line_runs.specs.declared.run.Turn.{Turn as TurnOf};
 
 use crate::writing::{refuse, write_packets};
 use line_runs::{AnswerLines, LineReader, Ran, RunFault, Turn, run_whole};
@@ -26,8 +27,8 @@ pub struct Running {
     operator: Operator,
 }
 
-/// What a derive would do, in a function of its own: so it is proved once, and not in each function that drops an operator. A call of
-/// `drop` is proved in a fortieth of the time that a field takes which a pattern passes over.
+/// What a derive would do, in a function of its own: so it is proved once, and not in each function that drops an
+/// operator. A call of `drop` is proved in a fortieth of the time that a field takes which a pattern passes over.
 impl Drop for Running {
     fn drop(self) {
         let Running { at: _, operator } = self;
@@ -152,8 +153,9 @@ fn answer_site(
     output: &mut String,
 ) -> Result<Turn, AllocError>
     requires { running.old ≡ None }
-    ensures { IfOk result (λ turn. (out : List ℕ) × (string_bytes output.new ≡ string_bytes output.old ++ out)
+    ensures ok { IfOk result (λ turn. (out : List ℕ) × (string_bytes output.new ≡ string_bytes output.old ++ out)
         × SiteTurn line.now turn out running.new) }
+    ensures err { IfErr result (λ _. (turn : TurnOf) × (out : List ℕ) × SiteTurn line.now turn out running.new) }
 {
     match open(alloc, scratch, line) {
         Ok(opened) => {
@@ -174,7 +176,9 @@ fn answer_read(
     packet: &Packet,
     output: &mut String,
 ) -> Result<Turn, AllocError>
-    ensures { IfOk result (λ turn. (out : List ℕ) × (string_bytes output.new ≡ string_bytes output.old ++ out)
+    ensures ok { IfOk result (λ turn. (out : List ℕ) × (string_bytes output.new ≡ string_bytes output.old ++ out)
+        × ((line : List ℕ) → packet_in line ≡ Ok packet.now → PacketTurn running.old line turn out (Some running.new))) }
+    ensures err { IfErr result (λ _. (turn : TurnOf) × (out : List ℕ)
         × ((line : List ℕ) → packet_in line ≡ Ok packet.now → PacketTurn running.old line turn out (Some running.new))) }
 {
     match running.on_packet(packet) {
@@ -197,8 +201,9 @@ fn answer_packet(
     line: &[u8],
     output: &mut String,
 ) -> Result<Turn, AllocError>
-    ensures { IfOk result (λ turn. (out : List ℕ) × (string_bytes output.new ≡ string_bytes output.old ++ out)
+    ensures ok { IfOk result (λ turn. (out : List ℕ) × (string_bytes output.new ≡ string_bytes output.old ++ out)
         × PacketTurn running.old line.now turn out (Some running.new)) }
+    ensures err { IfErr result (λ _. (turn : TurnOf) × (out : List ℕ) × PacketTurn running.old line.now turn out (Some running.new)) }
 {
     match read_packet(alloc, scratch, line) {
         Ok(packet) => answer_read(alloc, running, &packet, output),
@@ -209,14 +214,14 @@ fn answer_packet(
     }
 }
 
-/// Answers the packets of an input as one operator. The first line that holds something is a site line, and each
-/// other a packet at its moment; each packet that the operator sends is one line. A line that is refused is written as
-/// `refused`, its number and its name, changes nothing, and the next follows; a refused or absent site line ends the run.
+/// Answers the packets of an input as one operator. The first line that holds something is a site line, and each other
+/// a packet at its moment; each packet that the operator sends is one line. A line that is refused is written as
+/// `refused`, its number and its name, changes nothing, and the next follows; a refused or absent site line ends the
+/// run.
 ///
-/// Where the run was not stopped, what is written is the output of the input. Where it was stopped, what is written is a
-/// beginning of that: by a failed read or too many reads, what exactly the lines that were read whole give. At most
-/// 1,000,000,000 lines are read.
-/// What was answered is flushed before each read that may wait, and at the end.
+/// Where the run was not stopped, what is written is the output of the input. Where it was stopped, what is written is
+/// a beginning of that: by a failed read or too many reads, what exactly the lines that were read whole give. At most
+/// 1,000,000,000 lines are read. What was answered is flushed before each read that may wait, and at the end.
 pub fn run_answer<R: BufRead, W: Write>(
     alloc: Global,
     input: &mut LineReader<R>,
@@ -224,11 +229,11 @@ pub fn run_answer<R: BufRead, W: Write>(
 ) -> Result<Ran, RunFault>
     ensures output { IfOk result (λ ran. (last : Option Answering) × Outputs LineGives EndGives None (R.Read.remaining input.old.reader) ran
         (W.contents writer.old) (W.contents writer.new) last) }
-    ensures begun { IfErr result (λ fault. Begins LineGives EndGives None (R.Read.remaining input.old.reader)
-        (W.contents writer.old) (W.contents writer.new)) }
-    ensures stopped { IfErr result (λ fault. fault ≢ RunFault.WriteFailed → StopsReading LineGives None fault
+    ensures begun { IfErr result (λ fault. (last : Option Answering) × Begins LineGives EndGives None (R.Read.remaining input.old.reader)
+        (W.contents writer.old) (W.contents writer.new) last) }
+    ensures stopped { IfErr result (λ fault. fault ≢ RunFault.WriteFailed → (last : Option Answering) × StopsReading LineGives None fault
         (R.Read.remaining input.old.reader) (R.Read.remaining input.new.reader)
-        (W.contents writer.old) (W.contents writer.new)) }
+        (W.contents writer.old) (W.contents writer.new) last) }
     ensures failed { result ≡ Err RunFault.ReadFailed → input.new.failed ≡ true }
     ensures reads { ReadsFewLines (R.Read.remaining input.old.reader) (R.Read.remaining input.new.reader) }
 {

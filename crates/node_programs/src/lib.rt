@@ -1,5 +1,5 @@
-//! The programs over lines of JSON: `answer`, one operator and the packets that come to it; `play`, a world of nodes and its events;
-//! and `settle`, what is owed by the rows of a store.
+//! The programs over lines of JSON: `answer`, one operator and the packets that come to it; `play`, a world of nodes
+//! and its events; and `settle`, what is owed by the rows of a store.
 //!
 //! ```
 //! let mut input = LineReader::new(reader);

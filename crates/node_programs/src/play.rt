@@ -8,14 +8,27 @@ ghost use Rattle.ocpi_json.specs.SetupForms.{setup_in};
 ghost use Rattle.ocpi_types.specs.declared.rows.Change.{Change as ChangeOf};
 ghost use Rattle.ocpi_types.specs.declared.setup.Node.{Node as NodeOf};
 ghost use Rattle.node_keepers.specs.Keeping.{AreOpened, AreUnopened, keeping_of};
-ghost use Rattle.node_programs.specs.Play.{EventTurn, PlayEndGives, PlayLineGives, PlayOutputs, SetupTurn, Stage};
-ghost use Rattle.node_programs.specs.Play.{debt_line, debt_lines, debts_of, kept_in, opening, outcome_lines, owed_lines, played_from, turn_of};
+ghost use Rattle.node_programs.specs.Play.{EventTurn, PlayBegins, PlayEndGives, PlayLineGives, PlayOutputs, PlayStops};
+ghost use Rattle.node_programs.specs.Play.{
+  SetupTurn,
+  Stage,
+  debt_line,
+  debt_lines,
+  debts_of,
+  kept_in,
+  opening,
+  outcome_lines,
+  owed_lines,
+  played_from,
+  turn_of,
+};
 ghost use Rattle.ocpi_text.specs.Text.{key};
 ghost use Rattle.world.specs.Seen.{told};
 ghost use Rattle.world.specs.State.{owed_by};
 ghost use Rattle.world_steps.specs.World.{opened};
-ghost use Rattle.line_runs.specs.Run.{Begins, ReadsFewLines, StopsReading};
+ghost use Rattle.line_runs.specs.Run.{ReadsFewLines};
 ghost use Rattle.line_runs.specs.declared.outcome.Ran.TheVariants.{WithRefusals};
+ghost use Rattle.line_runs.specs.declared.run.Turn.{Turn as TurnOf};
 ghost use Rattle.node_programs.specs.Stops.{IfRun, IfStore};
 
 use crate::fault::PlayFault;
@@ -215,7 +228,10 @@ fn play_setup<K: Keep + Drop, S: Keeps<Kept = K>>(
     output: &mut String,
 ) -> Result<Turn, AllocError>
     requires { played.old ≡ None }
-    ensures { IfOk result (λ turn. (out : List ℕ) × (string_bytes output.new ≡ string_bytes output.old ++ out)
+    ensures ok { IfOk result (λ turn. (out : List ℕ) × (string_bytes output.new ≡ string_bytes output.old ++ out)
+        × SetupTurn (keeping_of K.content K.is_honest K.refusals) S.may_refuse stop.old line.now turn out
+        (record { playing = played.new; stop = stop.new })) }
+    ensures err { IfErr result (λ _. (turn : TurnOf) × (out : List ℕ)
         × SetupTurn (keeping_of K.content K.is_honest K.refusals) S.may_refuse stop.old line.now turn out
         (record { playing = played.new; stop = stop.new })) }
 {
@@ -264,8 +280,8 @@ fn write_outcome(
     }
 }
 
-/// Lets an event that was read happen, has its changes kept, and then writes what comes of it. Where memory runs out for it, it is
-/// refused. Where they are not kept, nothing is written, and the run ends.
+/// Lets an event that was read happen, has its changes kept, and then writes what comes of it. Where memory runs out
+/// for it, it is refused. Where they are not kept, nothing is written, and the run ends.
 fn play_read<K: Keep>(
     alloc: Global,
     played: &mut Played<K>,
@@ -273,7 +289,11 @@ fn play_read<K: Keep>(
     event: &Event,
     output: &mut String,
 ) -> Result<Turn, AllocError>
-    ensures { IfOk result (λ turn. (out : List ℕ) × (string_bytes output.new ≡ string_bytes output.old ++ out)
+    ensures ok { IfOk result (λ turn. (out : List ℕ) × (string_bytes output.new ≡ string_bytes output.old ++ out)
+        × ((line : List ℕ) → event_in line ≡ Ok event.now
+        → EventTurn (keeping_of K.content K.is_honest K.refusals) stop.old played.old line turn out
+        (record { playing = Some played.new; stop = stop.new }))) }
+    ensures err { IfErr result (λ _. (turn : TurnOf) × (out : List ℕ)
         × ((line : List ℕ) → event_in line ≡ Ok event.now
         → EventTurn (keeping_of K.content K.is_honest K.refusals) stop.old played.old line turn out
         (record { playing = Some played.new; stop = stop.new }))) }
@@ -301,7 +321,10 @@ fn play_event<K: Keep>(
     line: &[u8],
     output: &mut String,
 ) -> Result<Turn, AllocError>
-    ensures { IfOk result (λ turn. (out : List ℕ) × (string_bytes output.new ≡ string_bytes output.old ++ out)
+    ensures ok { IfOk result (λ turn. (out : List ℕ) × (string_bytes output.new ≡ string_bytes output.old ++ out)
+        × EventTurn (keeping_of K.content K.is_honest K.refusals) stop.old played.old line.now turn out
+        (record { playing = Some played.new; stop = stop.new })) }
+    ensures err { IfErr result (λ _. (turn : TurnOf) × (out : List ℕ)
         × EventTurn (keeping_of K.content K.is_honest K.refusals) stop.old played.old line.now turn out
         (record { playing = Some played.new; stop = stop.new })) }
 {
@@ -441,21 +464,23 @@ fn ended(ran: Result<Ran, RunFault>, stop: Option<StoreFault>) -> Result<Ran, Pl
     }
 }
 
-/// Plays the events of an input in a world of nodes. The first line that holds something is the setup, and each other an
-/// event at one of its nodes; each packet that the node sends is one line. An event that is of no node is written as
-/// `skipped`. A line that is refused is written as `refused`, its number and its name, changes nothing, and the next
-/// follows; a refused or absent setup ends the run. At the end what each provider owes each operator is one line.
+/// Plays the events of an input in a world of nodes. The first line that holds something is the setup, and each other
+/// an event at one of its nodes; each packet that the node sends is one line. An event that is of no node is written
+/// as `skipped`. A line that is refused is written as `refused`, its number and its name, changes nothing, and the
+/// next follows; a refused or absent setup ends the run. At the end what each provider owes each operator is one line.
 ///
-/// Each node has a keeper of its rows, opened once the setup was read, in its order, and the rows that an event changes are
-/// committed to it before the packets of the event are written (no clause says when). Where one of these is refused the run
-/// ends, of that line nothing is written, and `Store` tells the fault of the refusal, unless the last flush fails too. A keeper
-/// counts the calls that it refuses, but not want of memory, so that no clause ties `StoreFault::Memory` to a refusal. `kept`
-/// gets the keepers as the run left them, in the order of the setup; none, where the nodes of no setup got any.
+/// Each node has a keeper of its rows, opened once the setup was read, in its order, and the rows that an event
+/// changes are committed to it before the packets of the event are written (no clause says when). Where one of these
+/// is refused the run ends, of that line nothing is written, and `Store` tells the fault of the refusal, unless the
+/// last flush fails too. A keeper counts the calls that it refuses, but not want of memory, so that no clause ties
+/// `StoreFault::Memory` to a refusal. `kept` gets the keepers as the run left them, in the order of the setup; none,
+/// where the nodes of no setup got any. However the run ends, they keep what the lines that were carried out made of
+/// them. Where a write failed, that is all those before and the one whose output was not written whole.
 ///
-/// Where the run was not stopped, what is written is the output of the input. Where it was stopped, what is written is a
-/// beginning of that: by a failed read or too many reads, what exactly the lines that were read whole give; by a store, what the
-/// lines before give. At most 1,000,000,000 lines are read.
-/// What was answered is flushed before each read that may wait, and at the end.
+/// Where the run was not stopped, what is written is the output of the input. Where it was stopped, what is written is
+/// a beginning of that: by a failed read or too many reads, what exactly the lines that were read whole give; by a
+/// store, what the lines before give. At most 1,000,000,000 lines are read. What was answered is flushed before each
+/// read that may wait, and at the end.
 pub fn run_play<R: BufRead, W: Write, S: Keeps + Drop>(
     alloc: Global,
     input: &mut LineReader<R>,
@@ -465,12 +490,12 @@ pub fn run_play<R: BufRead, W: Write, S: Keeps + Drop>(
 ) -> Result<Ran, PlayFault>
     ensures output { IfOk result (λ ran. PlayOutputs (keeping_of S.Kept.content S.Kept.is_honest S.Kept.refusals) S.may_refuse
         (R.Read.remaining input.old.reader) ran None (W.contents writer.old) (W.contents writer.new) kept.new.items) }
-    ensures begun { IfErr result (IfRun (λ fault. Begins (PlayLineGives (keeping_of S.Kept.content S.Kept.is_honest S.Kept.refusals) S.may_refuse)
-        PlayEndGives opening (R.Read.remaining input.old.reader) (W.contents writer.old) (W.contents writer.new))) }
+    ensures begun { IfErr result (IfRun (λ fault. PlayBegins (keeping_of S.Kept.content S.Kept.is_honest S.Kept.refusals) S.may_refuse
+        (R.Read.remaining input.old.reader) (W.contents writer.old) (W.contents writer.new) kept.new.items)) }
     ensures stopped { IfErr result (IfRun (λ fault. fault ≢ RunFault.WriteFailed
-        → StopsReading (PlayLineGives (keeping_of S.Kept.content S.Kept.is_honest S.Kept.refusals) S.may_refuse) opening fault
+        → PlayStops (keeping_of S.Kept.content S.Kept.is_honest S.Kept.refusals) S.may_refuse fault
         (R.Read.remaining input.old.reader) (R.Read.remaining input.new.reader)
-        (W.contents writer.old) (W.contents writer.new))) }
+        (W.contents writer.old) (W.contents writer.new) kept.new.items)) }
     ensures store { IfErr result (IfStore (λ fault. PlayOutputs (keeping_of S.Kept.content S.Kept.is_honest S.Kept.refusals) S.may_refuse
         (R.Read.remaining input.old.reader) WithRefusals (Some fault) (W.contents writer.old) (W.contents writer.new) kept.new.items)) }
     ensures failed { result ≡ Err (PlayFault.Run RunFault.ReadFailed) → input.new.failed ≡ true }

@@ -8,9 +8,8 @@ ghost use Rattle.std.specs.Io.KnownBytes.{Appends};
 ghost use Rattle.tables.specs.Keys.{text_pair_cmp};
 ghost use Rattle.tables.specs.Tables.{shown_of};
 
-use crate::writing::{flush, write_whole};
 use handover::{Currency, Sums, settle_all};
-use line_runs::RunFault;
+use line_runs::{RunFault, flush, write_whole};
 use ocpi_text::{PartyKey, write_sum};
 use ocpi_types::{Cdr, Row};
 use std::alloc::{AllocError, Global};
@@ -82,9 +81,9 @@ fn settlement(alloc: Global, rows: &[Row]) -> Result<String, AllocError>
     Ok(output)
 }
 
-/// Writes what is owed by the charge detail records among rows: a line for each operator and currency, by operator and then by
-/// currency. The writer is flushed at the end. Where writing fails, or memory runs out for the lines, what is written is a beginning
-/// of them.
+/// Writes what is owed by the charge detail records among rows: a line for each operator and currency, by operator and
+/// then by currency. The writer is flushed at the end. Where writing fails, or memory runs out for the lines, what is
+/// written is a beginning of them.
 pub fn run_settle<W: Write>(alloc: Global, rows: &[Row], writer: &mut W) -> Result<(), RunFault>
     ensures output { OnOk result ((out : List ℕ) × Settles rows.now out × Appends (W.contents writer.old) (W.contents writer.new) out) }
     ensures begun { IfErr result (λ fault. (fault ≡ RunFault.WriteFailed)

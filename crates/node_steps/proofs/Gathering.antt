@@ -111,8 +111,9 @@ rest_has a rest d h = has_rest (a ∷ []) rest d h
 pub one_more : (a : Act) (rest : List Act) (d : Gathered) → with_acts rest (with_acts (a ∷ []) d) ≡ with_acts (a ∷ rest) d
 one_more a rest d = both (a ∷ []) rest d
 
--- A draft that is opened for as many packets and requests as acts take; the acts are told the number of the last request before
--- them. It has their numbers, what is gathered of them is their step, and what stops it is what stops that step.
+-- A draft that is opened for as many packets and requests as acts take; the acts are told the number of the last
+-- request before them. It has their numbers, what is gathered of them is their step, and what stops it is what stops
+-- that step.
 module _ (party : List ℕ) (c : Counters) (acts : ℕ → List Act) (packets requests : ℕ) (sends : packets ≡ length (all_messages (acts c.request))) (asks : requests ≡ all_requests (acts c.request)) where
   counts : later c packets requests ≡ counted c (acts c.request)
   counts = λ i. later c (sends i) (asks i)

@@ -1,5 +1,5 @@
--- What steps of a node are made of. A step is a list of acts, each with the rows that it changes, the messages that it sends, and
--- what it does to what stands in no row. A later kind of event is a further act, and changes none of these.
+-- What steps of a node are made of. A step is a list of acts, each with the rows that it changes, the messages that it
+-- sends, and what it does to what stands in no row. A later kind of event is a further act, and changes none of these.
 use Rattle.std.specs.Prelude.{ℕ, ◌+◌, List, [], ◌∷◌, ◌++◌, None}
 use Rattle.std.specs.List.{flat_map}
 use Rattle.ocpi_types.specs.Stored.{body_of_command, body_of_reply, body_of_push}
@@ -72,7 +72,8 @@ command_resent at n to c = record { changes = []; messages = command_message n t
 abbrev pub asked : ℕ → List ℕ → Body → Act
 asked n to body = record { changes = []; messages = record { to = to; request = n; body = body } ∷ []; volatile = []; requests = 1 }
 
--- the parts of acts: a message is sent; the request of number n is noted as sent at a moment; the next number of a request is taken
+-- the parts of acts: a message is sent; the request of number n is noted as sent at a moment; the next number of a
+-- request is taken
 abbrev pub said : Message → Act
 said m = record { changes = []; messages = m ∷ []; volatile = []; requests = 0 }
 

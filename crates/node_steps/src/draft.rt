@@ -2,8 +2,30 @@
 
 ghost use Rattle.std.specs.Prelude.{◌≡◌, ◌≤◌, ◌<◌, ◌++◌, ◌∷◌, ◌+◌, [], OnOk, IfOk, IfErr, SomeIff};
 ghost use Rattle.ocpi_text.specs.Whole.{max_whole};
-ghost use Rattle.node_steps.specs.Acts.{acknowledged, answered, asked, changed, command_resent, commanded, noted, pushed, repeated, resent, said, taken};
-ghost use Rattle.node_steps.specs.Drafts.{HasNumbers, IsInRange, StopsBy, count_change, later, opened, step_of, with_acts};
+ghost use Rattle.node_steps.specs.Acts.{
+  acknowledged,
+  answered,
+  asked,
+  changed,
+  command_resent,
+  commanded,
+  noted,
+  pushed,
+  repeated,
+  resent,
+  said,
+  taken,
+};
+ghost use Rattle.node_steps.specs.Drafts.{
+  HasNumbers,
+  IsInRange,
+  StopsBy,
+  count_change,
+  later,
+  opened,
+  step_of,
+  with_acts,
+};
 
 use crate::fault::NodeFault;
 use crate::plan::{Plan, Volatile};
@@ -25,15 +47,16 @@ pub struct Needs {
     pub packets: usize,
     /// How many requests of its own it makes.
     pub requests: usize,
-    /// How many rows its acts change at most, those of the counters left out. Room is taken for so many; where there are more,
-    /// further room is taken as they come.
+    /// How many rows its acts change at most, those of the counters left out. Room is taken for so many; where there
+    /// are more, further room is taken as they come.
     pub changes: usize,
 }
 
-/// What a step is gathered in: its plan so far, the numbers that were given last with it, and the last of those that were
-/// counted for it. The counted numbers are in range, so no act wants a number that is not there.
+/// What a step is gathered in: its plan so far, the numbers that were given last with it, and the last of those that
+/// were counted for it. The counted numbers are in range, so no act wants a number that is not there.
 ///
-/// An act fails for want of memory alone. What is gathered then is not said, and nothing has changed: the draft is given up.
+/// An act fails for want of memory alone. What is gathered then is not said, and nothing has changed: the draft is
+/// given up.
 #[derive(Drop)]
 pub struct Draft {
     party: Party,
@@ -101,9 +124,10 @@ fn push_count(
 }
 
 impl Draft {
-    /// Nothing is gathered yet but the rows of the counters, for so many packets and requests of a party; the last numbers that
-    /// it gave are `serial`, of its packets, and `request`, of its own requests. The lists get their room at once. Refused
-    /// where a counter would pass its last number (`NumbersUsedUp`), and else for want of memory (`Memory`) alone.
+    /// Nothing is gathered yet but the rows of the counters, for so many packets and requests of a party; the last
+    /// numbers that it gave are `serial`, of its packets, and `request`, of its own requests. The lists get their room
+    /// at once. Refused where a counter would pass its last number (`NumbersUsedUp`), and else for want of memory
+    /// (`Memory`) alone.
     pub fn open(
         alloc: Global,
         party: Party,
@@ -141,7 +165,8 @@ impl Draft {
         })
     }
 
-    /// What the type keeps: the last numbers are within those that were counted, and these within the last that there are.
+    /// What the type keeps: the last numbers are within those that were counted, and these within the last that there
+    /// are.
     pub fn counters_in_range(&self)
         ensures counted { HasNumbers 0 0 self.now }
         ensures counters { IsInRange self.now.counters }
@@ -307,7 +332,8 @@ impl Draft {
         self.note(at, number)
     }
 
-    /// Adds a request of the node's own, under the next number, which is sent once and kept in no row. It answers the number.
+    /// Adds a request of the node's own, under the next number, which is sent once and kept in no row. It answers the
+    /// number.
     pub fn ask(&mut self, to: Party, body: Body) -> Result<Whole, AllocError>
         requires { HasNumbers 1 1 self.old }
         ensures { IfOk result (λ n. (n ≡ self.old.counters.request + 1) × (self.new ≡ with_acts (asked n to body ∷ []) self.old)) }

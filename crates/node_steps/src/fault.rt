@@ -9,8 +9,8 @@ use std::fmt;
 /// Why a node refused an event: the first of these that applies, in this order.
 #[derive(Clone, Copy, Debug, PartialEq, Eq)]
 pub enum NodeFault {
-    /// The packet is to another party, from a party that is no peer of the node, or of a kind that the node does not take; or
-    /// the token is another party's.
+    /// The packet is to another party, from a party that is no peer of the node, or of a kind that the node does not
+    /// take; or the token is another party's.
     NotForMe,
     /// An order to a party that is no operator of the provider.
     UnknownOperator,

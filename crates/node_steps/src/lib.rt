@@ -1,5 +1,5 @@
-//! What steps of a node are made of, of an operator or a provider: the rows that change, the packets that are sent, and what
-//! becomes of what a restart empties.
+//! What steps of a node are made of, of an operator or a provider: the rows that change, the packets that are sent,
+//! and what becomes of what a restart empties.
 //!
 //! ```
 //! let needs = Needs { packets: 2, requests: 1, changes: 3 };
@@ -10,8 +10,8 @@
 //! let plan = draft.into_plan();
 //! ```
 //!
-//! `open` counts the numbers, and refuses where they are used up. From there on each act fails for want of memory alone,
-//! and nothing changes until the plan is carried out.
+//! `open` counts the numbers, and refuses where they are used up. From there on each act fails for want of memory
+//! alone, and nothing changes until the plan is carried out.
 #![tactic(auto)]
 
 mod draft;

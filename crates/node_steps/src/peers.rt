@@ -6,8 +6,8 @@ ghost use Rattle.node_steps.specs.Peers.{IsPeer};
 
 use ocpi_text::{Party, PartyKey};
 
-/// The peer that is this party, as the list spells it. Nearly each party spells itself as the list does, so such a peer is
-/// looked for first. None, where no peer is this party.
+/// The peer that is this party, as the list spells it. Nearly each party spells itself as the list does, so such a
+/// peer is looked for first. None, where no peer is this party.
 pub fn find_peer<'a>(peers: &'a [Party], party: &Party) -> Option<&'a Party>
     ensures found { IfSome result (λ p. IsPeer peers.now party.now p.now) }
     ensures none { IfNone result ((p : List ℕ) → IsPeer peers.now party.now p → ⊥) }

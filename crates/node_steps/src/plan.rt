@@ -14,8 +14,8 @@ pub enum Volatile {
     Sent { number: Whole, at: Moment },
 }
 
-/// What a step is decided to be: what it changes in what is stored, the packets that it sends, and what it does to what stands
-/// in no row, in order. Nothing is changed and nothing is sent before it is carried out.
+/// What a step is decided to be: what it changes in what is stored, the packets that it sends, and what it does to
+/// what stands in no row, in order. Nothing is changed and nothing is sent before it is carried out.
 #[derive(Drop)]
 pub struct Plan {
     pub changes: Vec<Change>,

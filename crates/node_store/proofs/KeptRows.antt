@@ -56,7 +56,7 @@ read_again read r e = ap is_row e
 changed_rows : (c : Content) (x : Change) → IsReadAgain x → AreRows c → AreRows (changed c x)
 changed_rows c (change.Put r) again h p t found =
     let k = place_of (key_of r) in
-    put_row (eq_by_cmp text_pair_cmp p k) p k (row_text r) t (get c p) (λ same. text_pair_exact p k (equal_of (text_pair_cmp p k) same)) (read_again (row_in k.0 k.1 (row_text r)) r again) (h p t)
+    put_row (eq_by_cmp text_pair_cmp p k) p k (row_text r) t (get c p) (λ same. text_pair_exact p k (equal_of (text_pair_cmp p k) same)) (read_again (row_in k.0 k.1 (row_text r)) r again.0) (h p t)
     (sym (get-insert text_pair_total c k (row_text r) p) ∙ found)
 changed_rows c (change.Drop k) again h p t found =
     h p t (left_row (eq_by_cmp text_pair_cmp p (place_of k)) t (get c p) (sym (get-remove text_pair_total c (place_of k) p) ∙ found))

@@ -2,4 +2,5 @@ pub mod Places
 pub mod Placed
 pub mod KeptRows
 pub mod Edited
+pub mod Layouts
 pub mod Opening

@@ -9,7 +9,7 @@ use Rattle.ocpi_types.specs.declared.rows.RowKey.{RowKey}
 use Rattle.ocpi_types.specs.declared.rows.Change.{Change}
 use Rattle.ocpi_types.specs.declared.rows.Change.TheVariants as change
 use Rattle.ocpi_json.specs.RowForms.{row_in, row_text}
-use Rattle.ocpi_json.specs.RowKeys.{key_text, kind_of_key, row_kind_word}
+use Rattle.ocpi_json.specs.RowKeys.{KeyFits, key_text, kind_of_key, row_kind_word}
 use Rattle.node_store.specs.declared.fault.StoreFault.{StoreFault}
 use Rattle.node_store.specs.declared.fault.StoreFault.TheVariants.{Refused, BadRow, OldLayout, Memory}
 
@@ -36,10 +36,11 @@ abbrev pub changed_all : Content → List Change → Content
 changed_all c [] = c
 changed_all c (x ∷ xs) = changed_all (changed c x) xs
 
--- what a change puts is read again as that very row
+-- What a change puts is read again as that very row. Its key, and that of what it takes away, is one that the types can
+-- hold, so that no other key has its place.
 abbrev pub IsReadAgain : Change → Type 0
-IsReadAgain (change.Put r) = row_in (row_kind_word (kind_of_key (key_of r))) (key_text (key_of r)) (row_text r) ≡ Ok r
-IsReadAgain (change.Drop k) = Unit {0}
+IsReadAgain (change.Put r) = (row_in (row_kind_word (kind_of_key (key_of r))) (key_text (key_of r)) (row_text r) ≡ Ok r) × KeyFits (key_of r)
+IsReadAgain (change.Drop k) = KeyFits k
 
 -- ---- the rows that are kept
 

@@ -1,5 +1,9 @@
--- How a refusal is written, and what each call may refuse.
+-- How a refusal is written, what each call may refuse, and what is told of an error of the database.
 use Rattle.std.specs.Prelude.{ℕ, suc, List, codes, Result, Ok, Err}
+use Rattle.sqlite.specs.declared.error.Error.{Error}
+use Rattle.sqlite.specs.declared.error.Error.TheVariants.{SqliteFailure}
+use Rattle.sqlite.specs.declared.error.ErrorCode.TheVariants as code
+use Rattle.node_store.specs.declared.fault.Cause.TheVariants as cause
 use Rattle.node_store.specs.declared.fault.StoreFault.{StoreFault}
 use Rattle.node_store.specs.declared.fault.StoreFault.TheVariants.{Refused, BadRow, OldLayout, Memory}
 
@@ -34,3 +38,17 @@ IsListFault (Refused cause) = ⊥
 IsListFault BadRow = Unit {0}
 IsListFault OldLayout = ⊥
 IsListFault Memory = Unit {0}
+
+-- what is told of an error of the database: a file that could not be opened, is in use, or is no store; a disk that is
+-- full, that failed now, or that failed before; a text that is too large; want of memory; and any other as such
+abbrev pub fault_for : Error → StoreFault
+fault_for (SqliteFailure code.OutOfMemory) = Memory
+fault_for (SqliteFailure code.CannotOpen) = Refused cause.CannotOpen
+fault_for (SqliteFailure code.DatabaseBusy) = Refused cause.DatabaseBusy
+fault_for (SqliteFailure code.NotADatabase) = Refused cause.NotADatabase
+fault_for (SqliteFailure code.DatabaseCorrupt) = Refused cause.NotADatabase
+fault_for (SqliteFailure code.DiskFull) = Refused cause.StorageFull
+fault_for (SqliteFailure code.SystemIoFailure) = Refused cause.Disk
+fault_for (SqliteFailure code.Closed) = Refused cause.Disk
+fault_for (SqliteFailure code.TooBig) = Refused cause.Size
+fault_for error = Refused cause.Other

@@ -2,4 +2,5 @@ pub mod Faults
 pub mod Contents
 pub mod Placing
 pub mod Editing
+pub mod Layout
 pub mod Opened

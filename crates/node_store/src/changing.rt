@@ -61,8 +61,8 @@ fn reserve_one(
     }
 }
 
-/// Takes the room that all of them need, and answers the places where no text is to stand. Where memory runs out, some room may
-/// stay.
+/// Takes the room that all of them need, and answers the places where no text is to stand. Where memory runs out, some
+/// room may stay.
 pub(crate) fn reserve_all(
     alloc: Global,
     texts: &mut Table<Place, StoredText>,

@@ -9,10 +9,32 @@ use std::fmt;
 /// Why a store would not do what it was asked.
 #[derive(Clone, Copy, Debug, PartialEq, Eq)]
 pub enum Cause {
-    /// The disk failed, is full, or holds what no store wrote.
+    /// A file was to be new, and something has its name already.
+    AlreadyExists,
+    /// The folder in which a file was to be made does not exist.
+    FolderNotFound,
+    /// The file does not exist.
+    NotFound,
+    /// A folder has the name of the file, or something else that is no regular file.
+    NotAFile,
+    /// The system does not permit to make the file, or to read and write it.
+    PermissionDenied,
+    /// Another program has the file open.
+    DatabaseBusy,
+    /// The file cannot be opened as a database, for none of the reasons before.
+    CannotOpen,
+    /// The file is no database, a damaged one, or one with tables that no store has.
+    NotADatabase,
+    /// The disk is full.
+    StorageFull,
+    /// The disk failed.
     Disk,
     /// A text is larger than the store takes.
     Size,
+    /// A keeper that was to be new keeps rows already.
+    NotEmpty,
+    /// The party whose rows were changed has no keeper.
+    NoKeeper,
     /// Anything else.
     Other,
 }

@@ -38,13 +38,15 @@ pub trait Keep {
         ensures all { Self.is_honest self.new → OnOk result (Self.content self.new ≡ changed_all (Self.content self.old) changes.now) }
         ensures none { Self.is_honest self.new → OnErr result (Self.content self.new ≡ Self.content self.old) }
         ensures fault { IfErr result IsCommitFault }
-        // What was put can be read again.
+        // What was put can be read again, and what was taken away had a key of its own.
         ensures again { OnOk result (All IsReadAgain changes.now) }
         // It is refused only where the count rises.
         ensures counted { Self.refusals self.new ≡ counted result (Self.refusals self.old) }
         ensures honest { Self.is_honest self.new → Self.is_honest self.old }
         // A stop after changes were made leaves the content.
         ensures settled { Self.is_honest self.new → OnOk result (changes.now ≢ [] → (c : Content) → Self.may_leave self.new c → c ≡ Self.content self.new) }
-        // A stop at any other time leaves what it could leave before, or what the changes make of the content.
-        ensures stops { Self.is_honest self.new → (c : Content) → Self.may_leave self.new c → Self.may_leave self.old c ⊎ (c ≡ changed_all (Self.content self.old) changes.now) };
+        // A stop at any other time leaves what it could leave before, or what the changes make of the content, and then
+        // what they put can be read again.
+        ensures stops { Self.is_honest self.new → (c : Content) → Self.may_leave self.new c
+            → Self.may_leave self.old c ⊎ ((c ≡ changed_all (Self.content self.old) changes.now) × All IsReadAgain changes.now) };
 }

@@ -8,6 +8,7 @@
 #![tactic(auto)]
 
 mod changing;
+mod closing;
 mod editing;
 mod fault;
 mod keep;

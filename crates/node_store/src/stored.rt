@@ -2,7 +2,7 @@
 
 ghost use Rattle.std.specs.Prelude.{◌≡◌, IfOk, Ok, string_bytes};
 ghost use Rattle.ocpi_json.specs.RowForms.{row_in, row_text};
-ghost use Rattle.ocpi_json.specs.RowKeys.{key_text, kind_of_key, row_kind_word};
+ghost use Rattle.ocpi_json.specs.RowKeys.{KeyFits, key_text, kind_of_key, row_kind_word};
 ghost use Rattle.ocpi_types.specs.Rows.{key_of};
 ghost use Rattle.node_store.specs.Contents.{AnswersRow, IsReadAgain, place_of};
 ghost use Rattle.node_store.specs.Placing.{placed_of};
@@ -60,7 +60,8 @@ pub(crate) struct Placed {
 /// Where the row of a key is kept.
 #[tactic(auto, using(crate::proofs::Places::key_fits, crate::proofs::Places::kind_fits))]
 fn place_of(alloc: Global, key: &RowKey) -> Result<Place, AllocError>
-    ensures { IfOk result (λ p. p ≡ place_of key.now) }
+    ensures place { IfOk result (λ p. p ≡ place_of key.now) }
+    ensures fits { KeyFits key.now }
 {
     let text = write_key(alloc, key)?;
     let Ok(kind) = CiText::new(RowKind::of_key(key).word()) else {

@@ -1,9 +1,26 @@
 //! A keeper in a SQLite database.
 
-ghost use Rattle.std.specs.Prelude.{◌≡◌, ◌≢◌, ◌⊎◌, All, List, ℕ, [], length, IfErr, IfOk, OnErr, OnOk, IsSome, None, Some};
+ghost use Rattle.std.specs.Prelude.{
+  ◌≡◌,
+  ◌≢◌,
+  ◌⊎◌,
+  All,
+  List,
+  ℕ,
+  [],
+  length,
+  IfErr,
+  IfOk,
+  OnErr,
+  OnOk,
+  IsSome,
+  None,
+  Some,
+};
 ghost use Rattle.node_store.specs.Contents.{Content, IsReadAgain, changed_all, rows_after, rows_of};
-ghost use Rattle.node_store.specs.Faults.{IsListFault, IsCommitFault, counted, counted_fault};
+ghost use Rattle.node_store.specs.Faults.{IsListFault, IsCommitFault, counted, counted_fault, fault_for};
 ghost use Rattle.node_store.specs.declared.fault.StoreFault.TheVariants.{BadRow, OldLayout};
+ghost use Rattle.node_store.specs.Layout.{KeepsLayout};
 ghost use Rattle.row_table.specs.Kept.{IsClean, MayLeave, texts};
 
 use crate::editing::edits_of;
@@ -34,27 +51,53 @@ impl<S: Alter + Drop> Drop for TableKeep<S> {
     }
 }
 
+impl<S: Alter> TableKeep<S> {
+    /// The table, as the last call left it.
+    pub(crate) fn into_table(self) -> TextTable<S>
+        ensures { result ≡ self.0 }
+    {
+        let TableKeep {
+            alloc: _,
+            table,
+            refused: _,
+        } = self;
+        table
+    }
+}
+
 impl<S: Alter> Model for TableKeep<S> {
     ghost use Rattle.std.specs.Prelude.{ℕ, length};
     ghost use Rattle.std.specs.Coded.{coded×, coded_ℕ};
     ghost use Rattle.row_table.specs.Kept.{Kept, kept_code};
+    ghost use Rattle.node_store.specs.Layout.{KeepsLayout};
 
     ghost Value = { Kept S × ℕ };
 
     ghost coded = { coded× (kept_code S.code) coded_ℕ };
 
     ghost view = { λ k. (k.table, length k.refused.items) };
+
+    ghost invariant = { λ k. KeepsLayout S.Store k.table };
 }
 
+/// What is told of an error of the database.
 pub(crate) fn fault_of(error: Error) -> StoreFault
-    ensures { IsCommitFault result }
+    ensures value { result ≡ fault_for error }
+    ensures fault { IsCommitFault result }
 {
-    match error {
-        Error::SqliteFailure(ErrorCode::OutOfMemory) => StoreFault::Memory,
-        Error::SqliteFailure(
-            ErrorCode::SystemIoFailure | ErrorCode::DatabaseCorrupt | ErrorCode::DiskFull,
-        ) => StoreFault::Refused(Cause::Disk),
-        Error::SqliteFailure(ErrorCode::TooBig) => StoreFault::Refused(Cause::Size),
+    let Error::SqliteFailure(code) = error else {
+        return StoreFault::Refused(Cause::Other);
+    };
+    match code {
+        ErrorCode::OutOfMemory => StoreFault::Memory,
+        ErrorCode::CannotOpen => StoreFault::Refused(Cause::CannotOpen),
+        ErrorCode::DatabaseBusy => StoreFault::Refused(Cause::DatabaseBusy),
+        ErrorCode::NotADatabase | ErrorCode::DatabaseCorrupt => {
+            StoreFault::Refused(Cause::NotADatabase)
+        }
+        ErrorCode::DiskFull => StoreFault::Refused(Cause::StorageFull),
+        ErrorCode::SystemIoFailure | ErrorCode::Closed => StoreFault::Refused(Cause::Disk),
+        ErrorCode::TooBig => StoreFault::Refused(Cause::Size),
         _ => StoreFault::Refused(Cause::Other),
     }
 }
@@ -83,8 +126,9 @@ fn rows_of(alloc: Global, texts: &[TextRow]) -> Result<Vec<Row>, StoreFault>
 fn load<S: Alter>(alloc: Global, table: &mut TextTable<S>) -> Result<Vec<Row>, StoreFault>
     ensures rows { IsClean S.Store table.new → IfOk result (λ v. rows_of (texts S.Store table.old) ≡ Some v.items) }
     ensures bad { IsClean S.Store table.new → IfErr result (λ e. e ≡ BadRow → rows_of (texts S.Store table.old) ≡ None) }
-    ensures layout { IfErr result (λ e. e ≢ OldLayout) }
+    ensures fault { IfErr result (λ e. e ≢ OldLayout) }
     ensures kept { texts S.Store table.new ≡ texts S.Store table.old }
+    ensures layout { KeepsLayout S.Store table.old → KeepsLayout S.Store table.new }
     ensures honest { IsClean S.Store table.new → IsClean S.Store table.old }
     ensures stops { IsClean S.Store table.new → (c : Content) → MayLeave S.Store table.new c → MayLeave S.Store table.old c }
 {
@@ -103,9 +147,11 @@ fn change<S: Alter>(
     ensures none { IsClean S.Store table.new → OnErr result (texts S.Store table.new ≡ texts S.Store table.old) }
     ensures fault { IfErr result IsCommitFault }
     ensures again { OnOk result (All IsReadAgain changes.now) }
+    ensures layout { KeepsLayout S.Store table.old → KeepsLayout S.Store table.new }
     ensures honest { IsClean S.Store table.new → IsClean S.Store table.old }
     ensures settled { IsClean S.Store table.new → OnOk result (changes.now ≢ [] → (c : Content) → MayLeave S.Store table.new c → c ≡ texts S.Store table.new) }
-    ensures stops { IsClean S.Store table.new → (c : Content) → MayLeave S.Store table.new c → MayLeave S.Store table.old c ⊎ (c ≡ changed_all (texts S.Store table.old) changes.now) }
+    ensures stops { IsClean S.Store table.new → (c : Content) → MayLeave S.Store table.new c
+        → MayLeave S.Store table.old c ⊎ ((c ≡ changed_all (texts S.Store table.old) changes.now) × All IsReadAgain changes.now) }
 {
     let edits = edits_of(alloc, changes)?;
     match table.change(edits.as_slice()) {
@@ -117,6 +163,7 @@ fn change<S: Alter>(
 impl<S: Alter> TableKeep<S> {
     /// A keeper that has refused nothing.
     pub(crate) fn over(alloc: Global, table: TextTable<S>) -> TableKeep<S>
+        requires { KeepsLayout S.Store table }
         ensures { (result.0 ≡ table) × (result.1 ≡ 0) }
     {
         TableKeep {
@@ -124,6 +171,13 @@ impl<S: Alter> TableKeep<S> {
             table,
             refused: Past::new(),
         }
+    }
+
+    /// Whatever a stop leaves is a whole store with the version that an opening takes.
+    pub fn leaves_whole(&self)
+        ensures { KeepsLayout S.Store self.now.0 }
+    {
+        let _table = &self.table;
     }
 
     /// Counts a refusal, and answers the fault as it is.

@@ -7,16 +7,19 @@ ghost use Rattle.sqlite.specs.Held.{state};
 ghost use Rattle.sqlite.specs.Steps.{over_memory};
 ghost use Rattle.sqlite.specs.Files.{file_state, over_files};
 ghost use Rattle.sqlite.specs.WalFiles.{image_at};
-ghost use Rattle.row_table.specs.Kept.{IsClean, MayLeave, texts};
-ghost use Rattle.row_table.specs.Opening.{FindsTexts, IsOldLayout};
+ghost use Rattle.row_table.specs.Kept.{IsClean, MayLeave, content, texts};
+ghost use Rattle.row_table.specs.Opening.{Finds, IsOldLayout, IsSpared};
 ghost use Rattle.node_store.specs.Contents.{Content};
-ghost use Rattle.node_store.specs.Opened.{FindsInFile, WasOldInFile};
+ghost use Rattle.node_store.specs.Opened.{FindsInFile, SparesFile, WasOldInFile};
 
 use crate::fault::StoreFault;
 use crate::table_keep::{TableKeep, fault_of};
 use row_table::{OpenFault, TextTable};
 use sqlite::{Alter, Connection, File, FileFrom, FileStore, MemStore, Start, Unknown};
 use std::alloc::Global;
+
+/// The layout of the tables: the version that stands in them.
+const LAYOUT: u32 = 1;
 
 fn opening_fault(fault: OpenFault) -> StoreFault
     ensures old { result ≡ StoreFault.OldLayout → fault ≡ OpenFault.OldLayout }
@@ -36,15 +39,17 @@ impl<S: Alter> TableKeep<S> {
         connection: Connection<S>,
     ) -> Result<TableKeep<S>, (StoreFault, Connection<S>)>
         // The texts are those of the table, or none where there was no table.
-        ensures content { IfOk result (λ k. IsClean S.Store k.0 → FindsTexts (state S.Store connection).now (texts S.Store k.0)) }
+        ensures content { IfOk result (λ k. IsClean S.Store k.0 → Finds 1 (state S.Store connection).now (content S.Store k.0)) }
         ensures refusals { IfOk result (λ k. k.1 ≡ 0) }
         ensures stops { IfOk result (λ k. IsClean S.Store k.0 → (c : Content) → MayLeave S.Store k.0 c → c ≡ texts S.Store k.0) }
         ensures honest { IfOk result (λ k. IsClean S.Store k.0 → HasCleanDisk (state S.Store connection)) }
         ensures unharmed { IfErr result (λ e. HasCleanDisk (state S.Store e.1) → HasCleanDisk (state S.Store connection)) }
-        ensures old { IfErr result (λ e. HasCleanDisk (state S.Store e.1) → e.0 ≡ StoreFault.OldLayout → IsOldLayout (state S.Store connection).now) }
+        // The store is as it was, or a whole new one where there was none, and a stop leaves one of these.
+        ensures spared { IfErr result (λ e. HasCleanDisk (state S.Store e.1) → IsSpared 1 (state S.Store connection) (state S.Store e.1)) }
+        ensures old { IfErr result (λ e. HasCleanDisk (state S.Store e.1) → e.0 ≡ StoreFault.OldLayout → IsOldLayout 1 (state S.Store connection).now) }
         ensures bad { IfErr result (λ e. e.0 ≢ StoreFault.BadRow) }
     {
-        match TextTable::adopt(alloc, connection) {
+        match TextTable::adopt(alloc, connection, LAYOUT) {
             Ok(table) => Ok(TableKeep::over(alloc, table)),
             Err((fault, connection)) => Err((opening_fault(fault), connection)),
         }
@@ -58,6 +63,7 @@ impl TableKeep<MemStore> {
         ensures refusals { IfOk result (λ k. k.1 ≡ 0) }
         ensures stops { IfOk result (λ k. (c : Content) → MayLeave over_memory k.0 c → c ≡ empty) }
         ensures layout { IfErr result (λ e. e ≢ StoreFault.OldLayout) }
+        ensures bad { IfErr result (λ e. e ≢ StoreFault.BadRow) }
     {
         let connection = Connection::open_in_memory(alloc)?;
         match TableKeep::adopt(alloc, connection) {
@@ -85,11 +91,14 @@ impl<S: Start> TableKeep<FileStore<FileFrom<S>>> {
         TableKeep<FileStore<FileFrom<S>>>,
         (StoreFault, Option<Connection<FileStore<FileFrom<S>>>>),
     >
-        ensures content { IfOk result (λ k. IsClean over_files k.0 → FindsInFile (image_at S.Start) k.0.conn (texts over_files k.0)) }
+        ensures content { IfOk result (λ k. IsClean over_files k.0 → FindsInFile (image_at S.Start) k.0.conn (content over_files k.0)) }
         ensures refusals { IfOk result (λ k. k.1 ≡ 0) }
         ensures stops { IfOk result (λ k. IsClean over_files k.0 → (c : Content) → MayLeave over_files k.0 c → c ≡ texts over_files k.0) }
+        // The file is as it was, or a whole new store where there was nothing, and a stop leaves one of these.
+        ensures spared { IfErr result (λ e. IfSome e.1 (λ c. HasCleanDisk (file_state c) → SparesFile (image_at S.Start) c)) }
         ensures old { IfErr result (λ e. IfSome e.1 (λ c. HasCleanDisk (file_state c) → e.0 ≡ StoreFault.OldLayout → WasOldInFile (image_at S.Start) c)) }
         ensures unopened { IfErr result (λ e. e.1 ≡ None → e.0 ≢ StoreFault.OldLayout) }
+        ensures bad { IfErr result (λ e. e.0 ≢ StoreFault.BadRow) }
     {
         let connection = match Connection::open_from(rt, path, false, start) {
             Ok(connection) => connection,
@@ -107,6 +116,7 @@ impl TableKeep<FileStore<File>> {
     pub fn open_file(rt: &HostRuntime, path: &str) -> Result<TableKeep<FileStore<File>>, StoreFault>
         ensures refusals { IfOk result (λ k. k.1 ≡ 0) }
         ensures stops { IfOk result (λ k. IsClean over_files k.0 → (c : Content) → MayLeave over_files k.0 c → c ≡ texts over_files k.0) }
+        ensures bad { IfErr result (λ e. e ≢ StoreFault.BadRow) }
     {
         match TableKeep::open_file_from(rt, path, Unknown) {
             Ok(keep) => Ok(keep),

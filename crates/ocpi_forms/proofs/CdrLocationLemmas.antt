@@ -1,4 +1,5 @@
--- The location of a charge detail record is read just where the tree has its form, and one that is written is read again.
+-- The location of a charge detail record is read just where the tree has its form, and one that is written is read
+-- again.
 use Rattle.std.proofs.Common.{◌≡◌, true, refl, subst}
 use Rattle.serde_json.specs.Data.{Data}
 use Rattle.ocpi_types.specs.Fields.{name_of}

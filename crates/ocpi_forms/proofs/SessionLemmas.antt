@@ -1,4 +1,5 @@
--- Sessions, their tokens and prices are read just where the tree has their form, and what is written of them is read again.
+-- Sessions, their tokens and prices are read just where the tree has their form, and what is written of them is read
+-- again.
 use Rattle.std.proofs.Common.{◌≡◌, true, false, Option, Some, refl, subst}
 use Rattle.std.specs.Prelude.{IfSome}
 use Rattle.serde_json.specs.Data.{Data}

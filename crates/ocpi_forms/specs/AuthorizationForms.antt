@@ -1,6 +1,6 @@
--- Authorizations in JSON: the question whether a token may be used, and its reply (OCPI 2.2.1, Tokens: Real-time authorization,
--- LocationReferences and AuthorizationInfo objects; Transport and format: Response format): how each is read, which form its tree
--- has, and what is written.
+-- Authorizations in JSON: the question whether a token may be used, and its reply (OCPI 2.2.1, Tokens: Real-time
+-- authorization, LocationReferences and AuthorizationInfo objects; Transport and format: Response format): how each is
+-- read, which form its tree has, and what is written.
 use Rattle.std.specs.List.{All}
 use Rattle.std.specs.Prelude.{ℕ, ◌≤◌, List, [], ◌∷◌, ◌==◌, Ok, IfSome, option_map, if◌then◌else◌}
 use Rattle.serde_json.specs.Data.{Data}

@@ -1,5 +1,5 @@
--- What a packet carries, by its kind (OCPI 2.2.1, Commands, Sessions, CDRs and Tokens): how it is read, which form its tree has, and
--- what is written.
+-- What a packet carries, by its kind (OCPI 2.2.1, Commands, Sessions, CDRs and Tokens): how it is read, which form its
+-- tree has, and what is written.
 use Rattle.std.specs.Prelude.{List, Ok}
 use Rattle.serde_json.specs.Data.{Data}
 use Rattle.ocpi_types.specs.declared.packet.Body.{Body}

@@ -1,4 +1,5 @@
--- Charge detail records in JSON: how one is read, which form its tree has, and what is written (OCPI 2.2.1, CDRs: CDR object).
+-- Charge detail records in JSON: how one is read, which form its tree has, and what is written (OCPI 2.2.1, CDRs: CDR
+-- object).
 use Rattle.std.specs.Prelude.{◌≡◌, ◌≢◌, ◌≤◌, List, [], ◌∷◌, All, length, Bool, true, false, Option, Some, None, Ok, Err, if◌then◌else◌}
 use Rattle.serde_json.specs.Data.{Data, null, boolean, number, string, array, object}
 use Rattle.serde_json.specs.Find.{get}

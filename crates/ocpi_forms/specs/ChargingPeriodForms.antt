@@ -1,5 +1,5 @@
--- The charging periods of a charge detail record in JSON: how they are read, which form their tree has, and what is written
--- (OCPI 2.2.1, CDRs: ChargingPeriod and CdrDimension classes).
+-- The charging periods of a charge detail record in JSON: how they are read, which form their tree has, and what is
+-- written (OCPI 2.2.1, CDRs: ChargingPeriod and CdrDimension classes).
 use Rattle.std.specs.Prelude.{◌≤◌, ◌<◌, List, [], ◌∷◌, All, length, unsigned_abs, Ok}
 use Rattle.serde_json.specs.Data.{Data}
 use Rattle.ocpi_text.specs.Decimal.{e4_limit}

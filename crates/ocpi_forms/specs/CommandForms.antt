@@ -1,5 +1,5 @@
--- Commands in JSON (OCPI 2.2.1, Commands: StartSession, StopSession, ReserveNow, CancelReservation and UnlockConnector objects):
--- how each is read, which form its tree has, and what is written.
+-- Commands in JSON (OCPI 2.2.1, Commands: StartSession, StopSession, ReserveNow, CancelReservation and UnlockConnector
+-- objects): how each is read, which form its tree has, and what is written.
 use Rattle.std.specs.Prelude.{◌≤◌, List, [], ◌∷◌, Ok}
 use Rattle.serde_json.specs.Data.{Data}
 use Rattle.ocpi_text.specs.Moment.{last_moment}

@@ -1,5 +1,5 @@
--- Replies and results in JSON (OCPI 2.2.1, Commands: CommandResponse and CommandResult objects; Transport and format: Response
--- format): how each is read, which form its tree has, and what is written.
+-- Replies and results in JSON (OCPI 2.2.1, Commands: CommandResponse and CommandResult objects; Transport and format:
+-- Response format): how each is read, which form its tree has, and what is written.
 use Rattle.std.specs.Prelude.{ℕ, ◌<◌, ◌≤◌, List, [], ◌∷◌, ◌==◌, Ok, if◌then◌else◌}
 use Rattle.serde_json.specs.Data.{Data}
 use Rattle.ocpi_text.specs.Moment.{last_moment}

@@ -1,5 +1,5 @@
--- Sessions in JSON, and what they share with charge detail records (OCPI 2.2.1, Sessions: Session object; CDRs: CdrToken class;
--- Types: Price class): how one is read, which form its tree has, and what is written.
+-- Sessions in JSON, and what they share with charge detail records (OCPI 2.2.1, Sessions: Session object; CDRs:
+-- CdrToken class; Types: Price class): how one is read, which form its tree has, and what is written.
 use Rattle.std.specs.Prelude.{◌≡◌, ◌<◌, ◌≤◌, List, [], ◌∷◌, Ok, IfSome, option_map, unsigned_abs}
 use Rattle.serde_json.specs.Data.{Data}
 use Rattle.ocpi_text.specs.Decimal.{e4_limit}

@@ -1,9 +1,26 @@
-//! Whether a token may be used: the question and its reply (OCPI 2.2.1, Tokens: Real-time authorization). Each reader tells the
-//! first fault, in the order of the members here.
+//! Whether a token may be used: the question and its reply (OCPI 2.2.1, Tokens: Real-time authorization). Each reader
+//! tells the first fault, in the order of the members here.
 
 ghost use Rattle.std.specs.Prelude.{◌≡◌};
 ghost use Rattle.json_text.specs.Trees.{view};
-ghost use Rattle.ocpi_forms.specs.AuthorizationForms.{uid_at, evse_uids_in, location_references_at, location_references_in, location_references_members, LocationReferencesFits, authorize_at, authorize_members, AuthorizeFits, authorization_info_at, authorization_info_members, AuthorizationInfoFits, reply_at, authorization_at, authorization_members, AuthorizationFits};
+ghost use Rattle.ocpi_forms.specs.AuthorizationForms.{
+  uid_at,
+  evse_uids_in,
+  location_references_at,
+  location_references_in,
+  location_references_members,
+  LocationReferencesFits,
+  authorize_at,
+  authorize_members,
+  AuthorizeFits,
+  authorization_info_at,
+  authorization_info_members,
+  AuthorizationInfoFits,
+  reply_at,
+  authorization_at,
+  authorization_members,
+  AuthorizationFits,
+};
 ghost use Rattle.json_text.specs.Fault.{Gives};
 ghost use Rattle.json_text.specs.Fields.{optional};
 

@@ -3,7 +3,18 @@
 ghost use Rattle.std.specs.Prelude.{◌≡◌};
 ghost use Rattle.json_text.specs.Trees.{view};
 ghost use Rattle.json_text.specs.Fault.{Gives};
-ghost use Rattle.ocpi_forms.specs.CdrLocationForms.{geo_location_at, address_at, connector_texts_at, evse_part_at, place_part_at, cdr_location_at, geo_location_members, cdr_location_members, GeoLocationFits, CdrLocationFits};
+ghost use Rattle.ocpi_forms.specs.CdrLocationForms.{
+  geo_location_at,
+  address_at,
+  connector_texts_at,
+  evse_part_at,
+  place_part_at,
+  cdr_location_at,
+  geo_location_members,
+  cdr_location_members,
+  GeoLocationFits,
+  CdrLocationFits,
+};
 
 use crate::records::{Record, write_record};
 use json_text::fields::{ci_in, free_in, record_in};
@@ -12,8 +23,8 @@ use ocpi_text::{CiText, FreeText};
 use ocpi_types::{CdrLocation, Field, GeoLocation};
 use std::alloc::{AllocError, Global};
 
-/// A place on the earth (OCPI 2.2.1, Locations: GeoLocation class). The first fault is told, in the order of the members
-/// here.
+/// A place on the earth (OCPI 2.2.1, Locations: GeoLocation class). The first fault is told, in the order of the
+/// members here.
 #[tactic(auto, unfolding(crate::specs::CdrLocationForms::geo_location_at))]
 fn geo_location_of(alloc: Global, object: &Tree<'_>) -> Result<GeoLocation, JsonFault>
     ensures { Gives result (geo_location_at (view object.now)) }

@@ -2,7 +2,15 @@
 
 ghost use Rattle.std.specs.Prelude.{◌≡◌};
 ghost use Rattle.json_text.specs.Trees.{view};
-ghost use Rattle.ocpi_forms.specs.CdrForms.{is_credit, cdr_head_at, cdr_totals_at, cdr_charges_at, cdr_at, cdr_members, CdrFits};
+ghost use Rattle.ocpi_forms.specs.CdrForms.{
+  is_credit,
+  cdr_head_at,
+  cdr_totals_at,
+  cdr_charges_at,
+  cdr_at,
+  cdr_members,
+  CdrFits,
+};
 ghost use Rattle.json_text.specs.Fault.{Gives};
 
 use crate::cdr_locations::cdr_location_of;

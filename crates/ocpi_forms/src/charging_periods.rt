@@ -1,8 +1,20 @@
-//! The parts of a session that a charge detail record lists (OCPI 2.2.1, CDRs: ChargingPeriod and CdrDimension classes).
+//! The parts of a session that a charge detail record lists (OCPI 2.2.1, CDRs: ChargingPeriod and CdrDimension
+//! classes).
 
 ghost use Rattle.std.specs.Prelude.{◌≡◌};
 ghost use Rattle.json_text.specs.Trees.{view};
-ghost use Rattle.ocpi_forms.specs.ChargingPeriodForms.{cdr_dimension_at, dimension_element, dimensions_in, charging_period_at, period_element, charging_periods_in, cdr_dimension_members, charging_period_members, CdrDimensionFits, ChargingPeriodFits};
+ghost use Rattle.ocpi_forms.specs.ChargingPeriodForms.{
+  cdr_dimension_at,
+  dimension_element,
+  dimensions_in,
+  charging_period_at,
+  period_element,
+  charging_periods_in,
+  cdr_dimension_members,
+  charging_period_members,
+  CdrDimensionFits,
+  ChargingPeriodFits,
+};
 ghost use Rattle.json_text.specs.Fault.{Gives};
 
 use crate::records::{Record, write_records};

@@ -3,7 +3,25 @@
 ghost use Rattle.std.specs.Prelude.{◌≡◌};
 ghost use Rattle.json_text.specs.Trees.{view};
 ghost use Rattle.json_text.specs.Fault.{Gives};
-ghost use Rattle.ocpi_forms.specs.CommandForms.{start_parts_at, start_session_at, start_session_members, StartSessionFits, stop_session_at, stop_session_members, StopSessionFits, reserve_parts_at, reserve_now_at, reserve_now_members, ReserveNowFits, cancel_reservation_at, cancel_reservation_members, CancelReservationFits, unlock_connector_at, unlock_connector_members, UnlockConnectorFits};
+ghost use Rattle.ocpi_forms.specs.CommandForms.{
+  start_parts_at,
+  start_session_at,
+  start_session_members,
+  StartSessionFits,
+  stop_session_at,
+  stop_session_members,
+  StopSessionFits,
+  reserve_parts_at,
+  reserve_now_at,
+  reserve_now_members,
+  ReserveNowFits,
+  cancel_reservation_at,
+  cancel_reservation_members,
+  CancelReservationFits,
+  unlock_connector_at,
+  unlock_connector_members,
+  UnlockConnectorFits,
+};
 
 use crate::records::{Record, write_record};
 use crate::tokens::token_of;

@@ -1,10 +1,24 @@
-//! Replies to commands, their results, and acknowledgements (OCPI 2.2.1, Commands; Transport and format: Response format).
-//! Each reader tells the first fault, in the order of the members here.
+//! Replies to commands, their results, and acknowledgements (OCPI 2.2.1, Commands; Transport and format: Response
+//! format). Each reader tells the first fault, in the order of the members here.
 
 ghost use Rattle.std.specs.Prelude.{◌≡◌};
 ghost use Rattle.json_text.specs.Trees.{view};
 ghost use Rattle.json_text.specs.Fault.{Gives};
-ghost use Rattle.ocpi_forms.specs.ReplyForms.{response_data_at, response_data_members, ResponseDataFits, response_at, command_response_at, command_response_members, CommandResponseFits, command_result_at, command_result_members, CommandResultFits, ack_at, ack_members, AckFits};
+ghost use Rattle.ocpi_forms.specs.ReplyForms.{
+  response_data_at,
+  response_data_members,
+  ResponseDataFits,
+  response_at,
+  command_response_at,
+  command_response_members,
+  CommandResponseFits,
+  command_result_at,
+  command_result_members,
+  CommandResultFits,
+  ack_at,
+  ack_members,
+  AckFits,
+};
 
 use crate::records::{Record, write_record};
 use crate::status::status_in;

@@ -1,10 +1,23 @@
-//! Sessions, and what they share with charge detail records (OCPI 2.2.1, Sessions: Session object; CDRs: CdrToken class; Types:
-//! Price class).
+//! Sessions, and what they share with charge detail records (OCPI 2.2.1, Sessions: Session object; CDRs: CdrToken
+//! class; Types: Price class).
 
 ghost use Rattle.std.specs.Prelude.{◌≡◌};
 ghost use Rattle.json_text.specs.Trees.{view};
 ghost use Rattle.json_text.specs.Fields.{optional};
-ghost use Rattle.ocpi_forms.specs.SessionForms.{cdr_token_at, cdr_token_members, CdrTokenFits, price_at, price_in, price_members, PriceFits, charging_parts_at, place_parts_at, session_at, session_members, SessionFits};
+ghost use Rattle.ocpi_forms.specs.SessionForms.{
+  cdr_token_at,
+  cdr_token_members,
+  CdrTokenFits,
+  price_at,
+  price_in,
+  price_members,
+  PriceFits,
+  charging_parts_at,
+  place_parts_at,
+  session_at,
+  session_members,
+  SessionFits,
+};
 
 use crate::records::{Record, write_optional_record, write_record};
 use json_text::fields::{

@@ -14,7 +14,25 @@ ghost use Rattle.json_text.specs.Fields.{each_after};
 ghost use Rattle.ocpi_forms.specs.SeenIds.{HasIds};
 ghost use Rattle.ocpi_forms.specs.SiteForm.{IsSiteLineTree};
 ghost use Rattle.json_text.specs.Lists.{is_among, new_ci_in};
-ghost use Rattle.ocpi_forms.specs.Sites.{connector_at, connector_element, connectors_in, evse_at, evse_element, evses_in, location_place_at, location_at, location_element, locations_in, price_in, site_at, provider_at, providers_in, parties_at, site_line_at, site_of_line};
+ghost use Rattle.ocpi_forms.specs.Sites.{
+  connector_at,
+  connector_element,
+  connectors_in,
+  evse_at,
+  evse_element,
+  evses_in,
+  location_place_at,
+  location_at,
+  location_element,
+  locations_in,
+  price_in,
+  site_at,
+  provider_at,
+  providers_in,
+  parties_at,
+  site_line_at,
+  site_of_line,
+};
 
 use json_text::fields::{
     as_record, as_text, ci_in, e4_in, free_in, moment_in, party_in, record_in,

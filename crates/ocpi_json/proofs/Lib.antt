@@ -1,5 +1,6 @@
 pub mod EventLemmas
 pub mod PacketLemmas
+pub mod ReadKeys
 pub mod ReadSites
 pub mod RowKeyLemmas
 pub mod RowLemmas

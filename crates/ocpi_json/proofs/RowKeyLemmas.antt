@@ -222,7 +222,7 @@ fits_by max s t false true l p e =
     let short : length (chars s) ≤ max = grind (arith, nat_tests) in
     record { printable = p; short = omega arith }
 
-ci_fits : (max : ℕ) (s t : List ℕ) → ci_text max s ≡ Ok t → FitsCi max t
+pub ci_fits : (max : ℕ) (s t : List ℕ) → ci_text max s ≡ Ok t → FitsCi max t
 ci_fits max s t e = subst (FitsCi max) (sym (ci_text_is max s t e)) (fits_by max s t (nat_lt max (length (chars s))) (is_ascii_text s) refl refl e)
 
 pub ci_key_reads : (max : ℕ) → Reads (ci_key_at max) (IsCiKey max) (λ t. t)

@@ -1,4 +1,5 @@
--- A row is read just where its text has the row's form and its key is the row's, and a row that is written is read again.
+-- A row is read just where its text has the row's form and its key is the row's, and a row that is written is read
+-- again.
 use Rattle.std.proofs.Common.{◌≡◌, ℕ, ◌≤◌, Bool, true, false, cond, List, [], Option, Some, None, Ok, Err, refl, sym, subst, ap, ◌∙◌, arith}
 use Rattle.std.specs.Str.{bytes_eq}
 use Rattle.std.proofs.lemmas.Slice.Eq.{bytes_eq-Decides}

@@ -1,5 +1,6 @@
--- Event lines: what happens at a node of a run, an event a line. Orders are commands of OCPI without what a provider adds
--- itself (OCPI 2.2.1, Commands: StartSession, StopSession, ReserveNow, CancelReservation and UnlockConnector objects).
+-- Event lines: what happens at a node of a run, an event a line. Orders are commands of OCPI without what a provider
+-- adds itself (OCPI 2.2.1, Commands: StartSession, StopSession, ReserveNow, CancelReservation and UnlockConnector
+-- objects).
 use Rattle.std.specs.Prelude.{ℕ, List, Option, Some, None, Ok, codes, if◌then◌else◌}
 use Rattle.std.specs.Str.{bytes_eq}
 use Rattle.serde_json.specs.Data.{Data}

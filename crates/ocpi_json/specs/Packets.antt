@@ -1,5 +1,5 @@
--- Packets in JSON (OCPI 2.2.1, Commands, Sessions, CDRs and Tokens, in an envelope that says whose the packet is, and under which
--- numbers): how one is read, which form its tree has, and what is written.
+-- Packets in JSON (OCPI 2.2.1, Commands, Sessions, CDRs and Tokens, in an envelope that says whose the packet is, and
+-- under which numbers): how one is read, which form its tree has, and what is written.
 use Rattle.std.specs.Prelude.{◌≡◌, ◌≤◌, ℕ, List, [], ◌∷◌, Ok}
 use Rattle.json.specs.Json as json
 use Rattle.serde_json.specs.Data.{Data}

@@ -178,6 +178,11 @@ pub record SpellsRow (word key text : List ℕ) (r : Row) : Type 0 where
   pub of_text : HasTextTree text tree
   pub form : IsRecord IsRowText tree r
 
+-- a row that is read has a key that its types can hold: so no two rows that are read stand in one place, unless their
+-- keys are one
+abbrev pub ReadKeysFit : Type 0
+ReadKeysFit = (word name text : List ℕ) (r : Row) → row_in word name text ≡ Ok r → KeyFits (key_of r)
+
 -- ---- what is written, in the byte order of the names
 
 unfoldable pub count_members : ℕ → List Member

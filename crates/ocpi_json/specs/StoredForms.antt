@@ -1,5 +1,5 @@
--- What the rows of a node hold beside OCPI's records, in JSON: commands, replies and pushes, each beside its kind (OCPI 2.2.1,
--- Commands, Sessions, CDRs and Tokens); reservations, open commands and sent commands.
+-- What the rows of a node hold beside OCPI's records, in JSON: commands, replies and pushes, each beside its kind
+-- (OCPI 2.2.1, Commands, Sessions, CDRs and Tokens); reservations, open commands and sent commands.
 use Rattle.std.specs.Prelude.{◌≡◌, ◌≤◌, ℕ, List, [], ◌∷◌, codes, option_map, IfSome, Option, Some, None, Ok, if◌then◌else◌}
 use Rattle.std.specs.Str.{bytes_eq}
 use Rattle.serde_json.specs.Data.{Data}

@@ -2,7 +2,27 @@
 
 ghost use Rattle.std.specs.Prelude.{◌≡◌, IfOk, Ok};
 ghost use Rattle.json_text.specs.Trees.{view};
-ghost use Rattle.ocpi_json.specs.EventForms.{event_of_word, order_of_word, start_order_at, reserve_order_at, unlock_order_at, order_at, submit_at, token_event_at, service_at, swipe_at, meter_at, command_number_at, report_at, charger_at, deliver_at, kind_at, event_at, event_of_line, IsEventLine};
+ghost use Rattle.ocpi_json.specs.EventForms.{
+  event_of_word,
+  order_of_word,
+  start_order_at,
+  reserve_order_at,
+  unlock_order_at,
+  order_at,
+  submit_at,
+  token_event_at,
+  service_at,
+  swipe_at,
+  meter_at,
+  command_number_at,
+  report_at,
+  charger_at,
+  deliver_at,
+  kind_at,
+  event_at,
+  event_of_line,
+  IsEventLine,
+};
 ghost use Rattle.json_text.specs.Fields.{known_in};
 ghost use Rattle.ocpi_types.specs.declared.field.Field.TheVariants as field;
 

@@ -30,6 +30,6 @@ pub use json_text::{
     unquote_numbers, unquoting_undoes_quoting,
 };
 pub use reading::{read_event, read_packet, read_row, read_setup, read_site};
-pub use row_keys::{row_keys_are_apart, write_key};
+pub use row_keys::{read_keys_fit, row_keys_are_apart, write_key};
 pub use row_kinds::RowKind;
 pub use writing::{write_packet, write_row};

@@ -7,7 +7,14 @@ ghost use Rattle.ocpi_types.specs.declared.field.Field.TheVariants as field;
 ghost use Rattle.json_text.specs.Fault.{Gives};
 ghost use Rattle.json_text.specs.Fields.{known_in};
 ghost use Rattle.json_text.specs.Members.{said};
-ghost use Rattle.ocpi_json.specs.Packets.{envelope_at, packet_at, packet_of_line, IsPacketLine, packet_members, PacketFits};
+ghost use Rattle.ocpi_json.specs.Packets.{
+  envelope_at,
+  packet_at,
+  packet_of_line,
+  IsPacketLine,
+  packet_members,
+  PacketFits,
+};
 
 use json_text::fields::{as_record, party_in, record_in, text_in, whole_in};
 use json_text::{JsonFault, RecordWriter, Tree};

@@ -34,8 +34,8 @@ fn packet_in(alloc: Global, scratch: &mut Scratch, line: &[u8]) -> Result<Packet
     packet_of_line(alloc, &tree)
 }
 
-/// The packet that a line spells, without its line feed. `scratch` is memory for reading, whatever it holds: one is kept
-/// and lent to each line.
+/// The packet that a line spells, without its line feed. `scratch` is memory for reading, whatever it holds: one is
+/// kept and lent to each line.
 ///
 /// Refused, in this order: a line of more than 1,048,576 bytes or that is no UTF-8 (`Syntax`); from left to right a
 /// token that is no number of JSON (`BadNumberToken`) or a text that begins with `\u0001` (`TaggedText`); what is no
@@ -96,8 +96,8 @@ fn setup_in(alloc: Global, scratch: &mut Scratch, line: &[u8]) -> Result<Setup, 
 /// [`read_packet`].
 ///
 /// Refused as [`read_site`] refuses, with the member `nodes` and, of each node in turn, `party`, `site` and the site's
-/// own. Another number of nodes than these is `WrongForm` of `nodes`, told before any of them is looked at, and so is an
-/// element that is no object. A party that is equal but for case to an earlier node's is `WrongForm` of `party`.
+/// own. Another number of nodes than these is `WrongForm` of `nodes`, told before any of them is looked at, and so is
+/// an element that is no object. A party that is equal but for case to an earlier node's is `WrongForm` of `party`.
 pub fn read_setup(alloc: Global, scratch: &mut Scratch, line: &[u8]) -> Result<Setup, JsonFault>
     // What is read is spelled so.
     ensures found { IfOk result (SpellsSetup line.now) }
@@ -157,9 +157,9 @@ fn row_in(
 
 /// The row that is stored under that kind and key with that text, of any length. `scratch` as for [`read_packet`].
 ///
-/// Refused, in this order: a kind of row that is not known (`UnknownKind`); the text as [`read_packet`] refuses, but for
-/// its length, with the members of its kind in the order in which they are listed here; a key that is not of its kind's
-/// form or not the row's own (`WrongForm` of `key`).
+/// Refused, in this order: a kind of row that is not known (`UnknownKind`); the text as [`read_packet`] refuses, but
+/// for its length, with the members of its kind in the order in which they are listed here; a key that is not of its
+/// kind's form or not the row's own (`WrongForm` of `key`).
 ///
 /// | kind | key | members of the text |
 /// |---|---|---|
@@ -177,8 +177,8 @@ fn row_in(
 /// | `cdr` | `PARTY/ID` | the charge detail record's |
 /// | `command` | `NUMBER` | `answer`, `kind`, `body`, `result`, `to` |
 ///
-/// A `kind` in a text that is none of those that such a row carries is `UnknownKind`, told before `body` is looked at. In a
-/// key numbers are in decimal digits without leading zeros, and texts have no letters `a` to `z`.
+/// A `kind` in a text that is none of those that such a row carries is `UnknownKind`, told before `body` is looked at.
+/// In a key numbers are in decimal digits without leading zeros, and texts have no letters `a` to `z`.
 pub fn read_row(
     alloc: Global,
     scratch: &mut Scratch,

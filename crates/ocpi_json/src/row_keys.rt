@@ -1,10 +1,23 @@
-//! The texts under which rows of a kind are stored. Texts stand in them in key form, `a` to `z` made `A` to `Z`, numbers in
-//! decimal digits without leading zeros, and a stroke between the parts. A party has six characters always, so that an
-//! id behind it may have strokes of its own.
+//! The texts under which rows of a kind are stored. Texts stand in them in key form, `a` to `z` made `A` to `Z`,
+//! numbers in decimal digits without leading zeros, and a stroke between the parts. A party has six characters always,
+//! so that an id behind it may have strokes of its own.
 
 ghost use Rattle.std.specs.Prelude.{◌≡◌, ◌==◌, ◌++◌, ◌∷◌, true, IfOk, IfSome, decimal, drop, slice_index, string_bytes};
 ghost use Rattle.ocpi_types.specs.Words.{token_type_word};
-ghost use Rattle.ocpi_json.specs.RowKeys.{IsCiKey, IsPartyKey, KeyFits, KeysAreApart, key_text, counter_at, ci_key_at, number_at, front_party, party_number_at, party_id_at};
+ghost use Rattle.ocpi_json.specs.RowForms.{ReadKeysFit};
+ghost use Rattle.ocpi_json.specs.RowKeys.{
+  IsCiKey,
+  IsPartyKey,
+  KeyFits,
+  KeysAreApart,
+  key_text,
+  counter_at,
+  ci_key_at,
+  number_at,
+  front_party,
+  party_number_at,
+  party_id_at,
+};
 
 use ocpi_text::{CiKey, CiText, Party, PartyKey, Whole};
 use ocpi_types::{Counter, RowKey, TokenType, Word};
@@ -257,8 +270,14 @@ pub fn write_key(alloc: Global, key: &RowKey) -> Result<String, AllocError>
     }
 }
 
-/// Of two rows the kinds or the texts of the keys differ just where the types tell the keys apart: what is one row for a
-/// store is one for its node.
+/// Of two rows the kinds or the texts of the keys differ just where the types tell the keys apart: what is one row for
+/// a store is one for its node.
 pub fn row_keys_are_apart()
     ensures { KeysAreApart }
+{}
+
+/// A row that is read has a key that its types can hold, whatever its text came from: so what `row_keys_are_apart` says
+/// holds of the keys of any rows that are read.
+pub fn read_keys_fit()
+    ensures { ReadKeysFit }
 {}

@@ -1,5 +1,5 @@
-//! Rows: the text of a row by its kind, beside the key under which it is stored. Each reader tells the first fault of the
-//! text, in the order of the members here; last, a key that is not of its kind's form or not the row's own.
+//! Rows: the text of a row by its kind, beside the key under which it is stored. Each reader tells the first fault of
+//! the text, in the order of the members here; last, a key that is not of its kind's form or not the row's own.
 
 ghost use Rattle.std.specs.Prelude.{◌≡◌, ◌≤◌, [], IfOk, OnOk};
 ghost use Rattle.std.specs.Str.{bytes_eq};
@@ -8,7 +8,28 @@ ghost use Rattle.ocpi_text.specs.Whole.{max_whole};
 ghost use Rattle.json_text.specs.Fault.{Gives};
 ghost use Rattle.json_text.specs.Members.{said};
 ghost use Rattle.ocpi_json.specs.RowKeys.{key_text};
-ghost use Rattle.ocpi_json.specs.RowForms.{RowTextFits, count_at, reply_row_at, token_row_at, push_row_at, service_row_at, spent_at, mark_at, reservation_row_at, pending_at, result_row_at, session_row_at, cdr_row_at, command_row_at, row_at, row_of_text, count_members, mark_members, result_members, row_members};
+ghost use Rattle.ocpi_json.specs.RowForms.{
+  RowTextFits,
+  count_at,
+  reply_row_at,
+  token_row_at,
+  push_row_at,
+  service_row_at,
+  spent_at,
+  mark_at,
+  reservation_row_at,
+  pending_at,
+  result_row_at,
+  session_row_at,
+  cdr_row_at,
+  command_row_at,
+  row_at,
+  row_of_text,
+  count_members,
+  mark_members,
+  result_members,
+  row_members,
+};
 
 use crate::row_keys::{ci_key_of, counter_of, number_of, party_id_of, party_number_of, write_key};
 use crate::row_kinds::RowKind;

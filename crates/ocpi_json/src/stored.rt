@@ -1,6 +1,6 @@
-//! What the rows of a node hold beside OCPI's records: commands, replies and pushes beside their kind, reservations, open
-//! commands and sent commands. Each reader tells the first fault, in the order of the members here; the kind is tried
-//! before the body is looked at.
+//! What the rows of a node hold beside OCPI's records: commands, replies and pushes beside their kind, reservations,
+//! open commands and sent commands. Each reader tells the first fault, in the order of the members here; the kind is
+//! tried before the body is looked at.
 
 ghost use Rattle.std.specs.Prelude.{◌≡◌, Ok, OnOk};
 ghost use Rattle.json_text.specs.Trees.{view};
@@ -12,7 +12,29 @@ ghost use Rattle.json_text.specs.Fields.{known_in, optional};
 ghost use Rattle.json_text.specs.Members.{and_member, said};
 ghost use Rattle.ocpi_forms.specs.Bodies.{BodyFits};
 ghost use Rattle.ocpi_json.specs.EventForms.{order_of_word};
-ghost use Rattle.ocpi_json.specs.StoredForms.{reply_of_word, push_of_word, carried_at, command_at, reply_at, push_at, reservation_at, open_parts_at, open_command_at, answer_in, sent_parts_at, sent_command_at, body_member, reply_members, push_members, reservation_members, open_command_members, sent_command_members, ReservationFits, OpenCommandFits, SentCommandFits};
+ghost use Rattle.ocpi_json.specs.StoredForms.{
+  reply_of_word,
+  push_of_word,
+  carried_at,
+  command_at,
+  reply_at,
+  push_at,
+  reservation_at,
+  open_parts_at,
+  open_command_at,
+  answer_in,
+  sent_parts_at,
+  sent_command_at,
+  body_member,
+  reply_members,
+  push_members,
+  reservation_members,
+  open_command_members,
+  sent_command_members,
+  ReservationFits,
+  OpenCommandFits,
+  SentCommandFits,
+};
 
 use crate::events::{OrderWord, order_word};
 use json_text::fields::{
@@ -393,8 +415,8 @@ pub fn write_reservation(
     out.end()
 }
 
-/// Adds the members of an open command that is stored: its body beside its kind, its place and its deadline. An error is want of
-/// memory.
+/// Adds the members of an open command that is stored: its body beside its kind, its place and its deadline. An error
+/// is want of memory.
 #[tactic(auto, unfolding(crate::specs::StoredForms::open_command_members))]
 pub fn write_open_command(command: &OpenCommand, out: &mut RecordWriter) -> Result<(), AllocError>
     ensures tokens { OnOk result (out.new ≡ said out.old (open_command_members command.now)) }
@@ -409,7 +431,8 @@ pub fn write_open_command(command: &OpenCommand, out: &mut RecordWriter) -> Resu
     out.end()
 }
 
-/// Adds the members of a sent command that is stored: its body beside its kind, and what it got so far. An error is want of memory.
+/// Adds the members of a sent command that is stored: its body beside its kind, and what it got so far. An error is
+/// want of memory.
 #[tactic(auto, unfolding(crate::specs::StoredForms::sent_command_members))]
 pub fn write_sent_command(sent: &SentCommand, out: &mut RecordWriter) -> Result<(), AllocError>
     ensures tokens { OnOk result (out.new ≡ said out.old (sent_command_members sent.now)) }

@@ -1,5 +1,5 @@
--- The words of the closed lists (OCPI 2.2.1, Tokens: TokenType, WhitelistType and AllowedType; Commands: CommandResponseType
--- and CommandResultType; Sessions: SessionStatus; CDRs: AuthMethod).
+-- The words of the closed lists (OCPI 2.2.1, Tokens: TokenType, WhitelistType and AllowedType; Commands:
+-- CommandResponseType and CommandResultType; Sessions: SessionStatus; CDRs: AuthMethod).
 use Rattle.std.specs.Prelude.{ℕ, List, codes, Option, Some, None, if◌then◌else◌}
 use Rattle.std.specs.Str.{bytes_eq}
 use Rattle.ocpi_types.specs.declared.words.TokenType.{TokenType}

@@ -103,7 +103,8 @@ impl ListItem for CdrDimension {
     }
 }
 
-/// A part of a session, from its moment to that of the next part or to the end (OCPI 2.2.1, CDRs: ChargingPeriod class).
+/// A part of a session, from its moment to that of the next part or to the end (OCPI 2.2.1, CDRs: ChargingPeriod
+/// class).
 #[derive(PartialEq, Drop)]
 pub struct ChargingPeriod {
     pub start_date_time: Moment,

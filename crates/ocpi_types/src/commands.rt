@@ -7,7 +7,8 @@ use crate::token::Token;
 use ocpi_text::{CiText, FreeText, Moment};
 use std::alloc::AllocError;
 
-/// A START_SESSION: a provider asks an operator to start a session for a token (OCPI 2.2.1, Commands: StartSession object).
+/// A START_SESSION: a provider asks an operator to start a session for a token (OCPI 2.2.1, Commands: StartSession
+/// object).
 #[derive(Drop)]
 pub struct StartSession {
     pub response_url: FreeText<255>,
@@ -84,7 +85,8 @@ impl ReserveNow {
     }
 }
 
-/// A CANCEL_RESERVATION: a provider asks an operator to end a reservation (OCPI 2.2.1, Commands: CancelReservation object).
+/// A CANCEL_RESERVATION: a provider asks an operator to end a reservation (OCPI 2.2.1, Commands: CancelReservation
+/// object).
 #[derive(Drop)]
 pub struct CancelReservation {
     pub response_url: FreeText<255>,
@@ -103,7 +105,8 @@ impl CancelReservation {
     }
 }
 
-/// An UNLOCK_CONNECTOR: a provider asks an operator to unlock a connector (OCPI 2.2.1, Commands: UnlockConnector object).
+/// An UNLOCK_CONNECTOR: a provider asks an operator to unlock a connector (OCPI 2.2.1, Commands: UnlockConnector
+/// object).
 #[derive(Drop)]
 pub struct UnlockConnector {
     pub response_url: FreeText<255>,

@@ -45,7 +45,8 @@ impl IdSet {
         self.keys.contains(&id.key())
     }
 
-    /// Adds an id, and answers whether it is new. An error is want of memory for a new id, and leaves the set as it was.
+    /// Adds an id, and answers whether it is new. An error is want of memory for a new id, and leaves the set as it
+    /// was.
     pub fn insert(&mut self, id: &CiText<36>) -> Result<bool, AllocError>
         ensures added { IfOk result (λ added. added ≡ not (set.contains self.old (key id.now))) }
         ensures after { OnOk result (self.new ≡ set.insert self.old (key id.now)) }

@@ -11,8 +11,8 @@
 //! let changes = [Change::Put(mark), Change::Drop(RowKey::Push { number: request })];
 //! ```
 //!
-//! A type with a rule of its own is made by a `new`, which answers none where the rule does not hold. What owns memory has
-//! a `copy`, which may want some.
+//! A type with a rule of its own is made by a `new`, which answers none where the rule does not hold. What owns memory
+//! has a `copy`, which may want some.
 #![tactic(auto)]
 
 mod apart;

@@ -42,7 +42,8 @@ impl Model for Parties {
 }
 
 impl Parties {
-    /// The operator and its providers. None, where the providers are more than 63, or two of all these are the same party.
+    /// The operator and its providers. None, where the providers are more than 63, or two of all these are the same
+    /// party.
     pub fn new(operator: Party, providers: Vec<Party>) -> Option<Parties>
         ensures { SomeIff result (AreParties (record { operator = operator; providers = providers.items })) (record { operator = operator; providers = providers.items }) }
     {

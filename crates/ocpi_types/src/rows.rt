@@ -59,13 +59,14 @@ pub struct Place {
 /// A row. What is large is on the heap, so that the changes of a step take little room.
 #[derive(Drop)]
 pub enum Row {
-    /// Kind `count`, under the counter's name: the last number that was given. A counter that has given none has no row.
+    /// Kind `count`, under the counter's name: the last number that was given. A counter that has given none has no
+    /// row.
     Count {
         counter: Counter,
         last: Whole,
     },
-    /// Kind `reply`, under `PARTY/NUMBER`: what was answered to the request of that number of that party, kept so that the
-    /// request has the same answer when it comes again.
+    /// Kind `reply`, under `PARTY/NUMBER`: what was answered to the request of that number of that party, kept so that
+    /// the request has the same answer when it comes again.
     Reply {
         sender: PartyKey,
         number: Whole,
@@ -99,28 +100,29 @@ pub enum Row {
         reservation_id: CiKey<36>,
         number: Whole,
     },
-    /// Kind `reservation`, under `PARTY/RESERVATION`: an EVSE is held for a token of that provider (OCPI 2.2.1, Commands:
-    /// ReserveNow).
+    /// Kind `reservation`, under `PARTY/RESERVATION`: an EVSE is held for a token of that provider (OCPI 2.2.1,
+    /// Commands: ReserveNow).
     Reservation {
         provider: PartyKey,
         reservation_id: CiKey<36>,
         reservation: Boxed<Reservation>,
     },
-    /// Kind `pending`, under `PARTY/NUMBER`: a command of that number of that provider that was accepted and has no result
-    /// yet (OCPI 2.2.1, Commands).
+    /// Kind `pending`, under `PARTY/NUMBER`: a command of that number of that provider that was accepted and has no
+    /// result yet (OCPI 2.2.1, Commands).
     Pending {
         provider: PartyKey,
         number: Whole,
         open: Boxed<OpenCommand>,
     },
-    /// Kind `result`, under `PARTY/NUMBER`: how the command of that number of that provider ended (OCPI 2.2.1, Commands:
-    /// CommandResult).
+    /// Kind `result`, under `PARTY/NUMBER`: how the command of that number of that provider ended (OCPI 2.2.1,
+    /// Commands: CommandResult).
     Result {
         provider: PartyKey,
         number: Whole,
         result: CommandResultType,
     },
-    /// Kind `session`, under `PARTY/ID`, which are the session's: its newest version (OCPI 2.2.1, Sessions: Session object).
+    /// Kind `session`, under `PARTY/ID`, which are the session's: its newest version (OCPI 2.2.1, Sessions: Session
+    /// object).
     Session {
         session: Boxed<Session>,
     },

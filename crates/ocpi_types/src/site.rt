@@ -269,8 +269,8 @@ fn ids_differ(alloc: Global, locations: &[Location]) -> Result<bool, AllocError>
     Ok(true)
 }
 
-/// Adds the uids of EVSEs to a set, and answers whether they differ from one another and from those in the set. Where they
-/// do not, only some are added.
+/// Adds the uids of EVSEs to a set, and answers whether they differ from one another and from those in the set. Where
+/// they do not, only some are added.
 fn insert_uids(uids: &mut IdSet, evses: &[Evse]) -> Result<bool, AllocError>
     ensures new { (earlier : List (List ℕ)) → uids.old ≡ set.from_list earlier → IfOk result (λ new. IsTrue new ↔ DifferFrom earlier (evse_keys evses.now)) }
     ensures after { (earlier : List (List ℕ)) → uids.old ≡ set.from_list earlier → IfOk result (λ new. IsTrue new → uids.new ≡ set.from_list (earlier ++ evse_keys evses.now)) }
@@ -310,8 +310,8 @@ fn are_locations(alloc: Global, locations: &[Location]) -> Result<bool, AllocErr
 }
 
 impl Locations {
-    /// The locations of a list. None, where they are none or more than a thousand, or two ids, or two uids of EVSEs, are
-    /// the same but for case. An error is want of memory to compare them.
+    /// The locations of a list. None, where they are none or more than a thousand, or two ids, or two uids of EVSEs,
+    /// are the same but for case. An error is want of memory to compare them.
     pub fn new(locations: Vec<Location>) -> Result<Option<Locations>, AllocError>
         ensures made { IfOk result (λ made. SomeIff made (AreLocations locations.items) locations.items) }
         ensures err { OnErr result (IsCount 1000 (length locations.items)) }

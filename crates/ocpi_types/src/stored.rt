@@ -69,8 +69,8 @@ impl Command {
     }
 }
 
-/// What answers a request, and is kept so that the request has the same answer when it comes again. What is large is on the
-/// heap, so that the replies to commands, which are the most, take little room.
+/// What answers a request, and is kept so that the request has the same answer when it comes again. What is large is
+/// on the heap, so that the replies to commands, which are the most, take little room.
 #[derive(Drop)]
 pub enum Reply {
     /// To a command (OCPI 2.2.1, Commands: CommandResponse).
@@ -117,8 +117,8 @@ impl Reply {
     }
 }
 
-/// What a node sends again until it is acknowledged. What is large is on the heap, so that the results of commands, which are
-/// the most, take little room.
+/// What a node sends again until it is acknowledged. What is large is on the heap, so that the results of commands,
+/// which are the most, take little room.
 #[derive(Drop)]
 pub enum Push {
     /// Of an operator (OCPI 2.2.1, Commands: CommandResult).

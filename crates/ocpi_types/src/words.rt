@@ -1,7 +1,24 @@
 //! Closed lists of words.
 
 ghost use Rattle.std.specs.Prelude.{◌≡◌, ℕ, List, Option};
-ghost use Rattle.ocpi_types.specs.Words.{token_type_word, token_type_of, whitelist_word, whitelist_of, response_word, response_of, result_word, result_of, allowed_word, allowed_of, status_word, status_of, method_word, method_of, kind_word, kind_of_word};
+ghost use Rattle.ocpi_types.specs.Words.{
+  token_type_word,
+  token_type_of,
+  whitelist_word,
+  whitelist_of,
+  response_word,
+  response_of,
+  result_word,
+  result_of,
+  allowed_word,
+  allowed_of,
+  status_word,
+  status_of,
+  method_word,
+  method_of,
+  kind_word,
+  kind_of_word,
+};
 
 /// An entry of a closed list of words.
 pub trait Word: Drop {

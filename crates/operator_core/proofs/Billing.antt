@@ -1,4 +1,5 @@
--- Charge detail records, and the versions of sessions that are completed: what is gathered of them, and the acts that a line asks for.
+-- Charge detail records, and the versions of sessions that are completed: what is gathered of them, and the acts that
+-- a line asks for.
 use Rattle.std.proofs.Common.{◌≡◌, ◌≢◌, ◌≤◌, ◌+◌, ◌++◌, ℕ, List, [], ◌∷◌, refl, sym, ap, subst, ◌∙◌, arith}
 use Rattle.std.specs.Prelude.{Contains}
 use Rattle.std.proofs.lemmas.List.{append-nil}
@@ -27,7 +28,7 @@ use Rattle.operator_rows.specs.State.{State}
 use Rattle.operator_steps.specs.Sessions.{Billed, Unbilled, next_cdr, numbered_cdrs}
 use Rattle.operator_core.specs.Bills.{CannotBill, IsBillOf, IsRecorded, PassesEnd, StopsEarly, bill_acts, completed_acts}
 use Rattle.operator_core.specs.Planned.{IsNewVersion, version_acts}
-use Rattle.operator_core.specs.declared.bills.Bill.{Bill}
+use Rattle.operator_core.specs.declared.reports.bills.Bill.{Bill}
 use Rattle.operator_core.specs.declared.sessions.Versioned.{Versioned}
 use Rattle.operator_core.proofs.Parts.{three_parts}
 use Rattle.operator_core.proofs.NewVersions.{some_version}

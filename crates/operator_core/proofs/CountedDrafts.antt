@@ -58,7 +58,8 @@ all_stop : {T : Type 0} → (s : State) (acts : List Act) → CountWithin acts �
 all_stop s acts within (Ok x) h = tt
 all_stop s acts within (Err f) h = stops s acts within f h
 
--- A draft that is opened for as many packets and requests as acts take; the acts are told the number of the last request before them.
+-- A draft that is opened for as many packets and requests as acts take; the acts are told the number of the last
+-- request before them.
 module _ (s : State) (acts : ℕ → List Act) (packets requests : ℕ) (sends : packets ≡ length (all_messages (acts s.rows.request))) (asks : requests ≡ all_requests (acts s.rows.request))
     (within : CountWithin (acts s.rows.request)) where
   pub counted_in_range : IsInRange (later (counters_of s) packets requests) → AreInRange s (acts s.rows.request)

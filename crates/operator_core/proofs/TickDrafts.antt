@@ -1,4 +1,5 @@
--- What happens at a moment: its acts are what the moment comes to, they take so many numbers, and they are gathered in turn.
+-- What happens at a moment: its acts are what the moment comes to, they take so many numbers, and they are gathered in
+-- turn.
 use Rattle.std.proofs.Common.{◌≡◌, ◌<◌, ◌≤◌, ◌+◌, ◌++◌, ℕ, Bool, true, false, cond, nat_eq, List, [], ◌∷◌, length, map, inl, inr, refl, sym, ap, subst, ◌∙◌, arith}
 use Rattle.std.specs.Prelude.{Contains, Result, Ok, Err, IfOk, IfErr, IsTrue}
 use Rattle.std.specs.Result.{IsErrAnd}
@@ -40,8 +41,8 @@ use Rattle.operator_steps.proofs.TickSteps.{tick_ask, tick_send}
 use Rattle.operator_core.specs.Happenings.{AreDueAt, HappenWith, IsHappening, happening_acts, unreplaced}
 use Rattle.operator_core.specs.Planned.{AreBeginnings, AreNewSessions, CannotNumber, Late, Late_begins, None_late, all_begun}
 use Rattle.operator_core.specs.declared.sessions.Begun.{Begun}
-use Rattle.operator_core.specs.declared.tick.Due.{Due}
-use Rattle.operator_core.specs.declared.tick.Happening.{Happening}
+use Rattle.operator_core.specs.declared.ticks.Due.{Due}
+use Rattle.operator_core.specs.declared.ticks.Happening.{Happening}
 use Rattle.operator_core.proofs.BeginningCounts.{ends_within}
 use Rattle.operator_core.proofs.CountedDrafts.{AreWithin, CountWithin, within_both}
 use Rattle.operator_core.proofs.LateBeginnings.{all_begun_ask, all_begun_send, all_begun_within, left_unanswered, some_sessions}

@@ -9,7 +9,7 @@ use Rattle.node_steps.proofs.Gathering.{both}
 use Rattle.operator_steps.specs.Sessions.{versioned}
 use Rattle.operator_core.specs.Bills.{bill_acts, completed_acts}
 use Rattle.operator_core.specs.Planned.{version_acts}
-use Rattle.operator_core.specs.declared.bills.Bill.{Bill}
+use Rattle.operator_core.specs.declared.reports.bills.Bill.{Bill}
 use Rattle.operator_core.specs.declared.sessions.Versioned.{Versioned}
 use Rattle.operator_core.proofs.CountedDrafts.{CountWithin}
 

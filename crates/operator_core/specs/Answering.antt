@@ -1,5 +1,5 @@
--- What an operator does with the answer whether a token may be used, without the end of the waiting (OCPI 2.2.1, Tokens: Real-time
--- authorization).
+-- What an operator does with the answer whether a token may be used, without the end of the waiting (OCPI 2.2.1,
+-- Tokens: Real-time authorization).
 use Rattle.std.specs.Prelude.{ℕ, List, Option}
 use Rattle.ocpi_types.specs.declared.authorizations.Authorization.{Authorization}
 use Rattle.authorization_book.specs.declared.awaited.Awaited.{Awaited}

@@ -1,5 +1,5 @@
--- Charge detail records, and the versions of sessions that are completed, as an operator sends them (OCPI 2.2.1, CDRs: Sender
--- interface).
+-- Charge detail records, and the versions of sessions that are completed, as an operator sends them (OCPI 2.2.1, CDRs:
+-- Sender interface).
 use Rattle.std.specs.Prelude.{◌≡◌, ◌≤◌, ℕ, ◌+◌, List, [], ◌∷◌, ◌++◌, ⊤}
 use Rattle.ocpi_text.specs.Text.{key}
 use Rattle.ocpi_text.specs.Whole.{max_whole}
@@ -17,7 +17,7 @@ use Rattle.node_steps.specs.declared.fault.NodeFault.TheVariants.{NotForMe, Unkn
 use Rattle.operator_rows.specs.State.{State}
 use Rattle.operator_steps.specs.Moves.{AreInRange}
 use Rattle.operator_steps.specs.Sessions.{IsBilled, IsVersioned, next_cdr, numbered_cdrs}
-use Rattle.operator_core.specs.declared.bills.Bill.{Bill}
+use Rattle.operator_core.specs.declared.reports.bills.Bill.{Bill}
 use Rattle.operator_core.specs.declared.sessions.Versioned.{Versioned}
 use Rattle.operator_core.specs.Planned.{version_acts}
 use Rattle.session_tables.specs.Places.{IsConnectorAt, cdr_location_of}

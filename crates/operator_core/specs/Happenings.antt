@@ -11,8 +11,8 @@ use Rattle.operator_steps.specs.Tick.{TimeOut}
 use Rattle.operator_steps.specs.TickFacts.{tick_acts}
 use Rattle.operator_core.specs.Planned.{AreBeginnings, AreNewSessions, all_begun}
 use Rattle.operator_core.specs.declared.sessions.Begun.{Begun}
-use Rattle.operator_core.specs.declared.tick.Due.{Due}
-use Rattle.operator_core.specs.declared.tick.Happening.{Happening}
+use Rattle.operator_core.specs.declared.ticks.Due.{Due}
+use Rattle.operator_core.specs.declared.ticks.Happening.{Happening}
 use Rattle.session_tables.specs.declared.beginning.Beginning.{Beginning}
 
 -- the push of an older version has that number

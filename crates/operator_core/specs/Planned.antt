@@ -71,8 +71,8 @@ begun_acts at last x = used x.provider x.reservation_id ++ version_acts at last 
 abbrev pub all_begun : ℕ → ℕ → List Begun → List Act
 all_begun at last xs = in_turn (begun_acts at) last xs
 
--- the acts of a session of number n that begins, after these commands end and a reference of its provider is spent; `last` is the number of
--- the last request before them
+-- the acts of a session of number n that begins, after these commands end and a reference of its provider is spent;
+-- `last` is the number of the last request before them
 abbrev pub begins_acts : ℕ → book.OpenCommands → ℕ → ℕ → List Ending → Option (List ℕ) → Begun → List Act
 begins_acts at m last n ends reference x = numbered_sessions n ∷ ((ends_acts at m last ends ++ spent x.provider reference) ++ begun_acts at (last + length ends) x)
 

@@ -57,7 +57,8 @@ IsCommand b = (c : Command) × (b ≡ body_of_command c)
 abbrev pub IfCommand : Body → (Command → Type 0) → Type 0
 IfCommand b P = (c : Command) → b ≡ body_of_command c → P c
 
--- what a decision does in answer to a request, beside the reply and the result, and of it that the command is open until its result
+-- what a decision does in answer to a request, beside the reply and the result, and of it that the command is open
+-- until its result
 abbrev pub opened_by : Request → Command → Option Place → Act
 opened_by r c place = opened r.provider r.number (book.open_command c place (deadline r.at))
 

@@ -15,9 +15,9 @@ use std::alloc::{AllocError, Global};
 use stored_rows::RowsFault;
 
 impl Operator {
-    /// The operator of a site that has just these rows, in whatever order they come: each push is due at once, and no authorization
-    /// is awaited. So of all that an operator stored (`stored`) the very same is made, as it starts again. Refused (`BadRows`) where
-    /// no operator of that site has just these rows.
+    /// The operator of a site that has just these rows, in whatever order they come: each push is due at once, and no
+    /// authorization is awaited. So of all that an operator stored (`stored`) the very same is made, as it starts
+    /// again. Refused (`BadRows`) where no operator of that site has just these rows.
     pub fn from_rows(alloc: Global, line: SiteLine, rows: Vec<Row>) -> Result<Operator, RowsFault>
         ensures made { IfOk result (λ o. IsMadeOf line rows.items o.state) }
         ensures bad { IfErr result (λ e. e ≡ RowsFault.BadRows → IsBad line rows.items) }
@@ -28,8 +28,8 @@ impl Operator {
         Ok(Operator { alloc, books })
     }
 
-    /// The site of the operator, with its providers, as a line of that moment: what the operator was opened with. An error is want
-    /// of memory.
+    /// The site of the operator, with its providers, as a line of that moment: what the operator was opened with. An
+    /// error is want of memory.
     pub fn site_line(&self, at: Moment) -> Result<SiteLine, AllocError>
         ensures { IfOk result (λ line. restarted self.now.state ≡ with_rows self.now.state.rows (opening line)) }
     {

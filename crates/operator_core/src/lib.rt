@@ -1,5 +1,5 @@
-//! The operator: it owns charge points at a site, answers the commands of the site's providers, and lets their drivers charge (OCPI
-//! 2.2.1, Commands, Sessions, CDRs, Tokens).
+//! The operator: it owns charge points at a site, answers the commands of the site's providers, and lets their drivers
+//! charge (OCPI 2.2.1, Commands, Sessions, CDRs, Tokens).
 //!
 //! ```
 //! let mut operator = Operator::new(alloc, site_line)?;
@@ -12,28 +12,18 @@
 //! operator.restart();
 //! ```
 //!
-//! A step may be taken in one call, as that of the packet here, or in three. Then a keeper of the rows stores their changes
-//! before the last, which cannot fail.
+//! A step may be taken in one call, as that of the packet here, or in three. Then a keeper of the rows stores their
+//! changes before the last, which cannot fail.
 #![tactic(auto)]
 
-mod acts;
-mod answers;
-mod beginning;
-mod bills;
-mod bodies;
-mod charger;
-mod charges;
-mod deadlines;
-mod ends;
+mod command_ends;
 mod from_rows;
 mod operator;
 mod packets;
 mod plans;
-mod respond;
+mod reports;
 mod service;
 mod sessions;
-mod swipes;
-mod tick;
-mod tokens;
+mod ticks;
 
 pub use operator::Operator;

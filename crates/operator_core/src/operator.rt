@@ -12,10 +12,10 @@ use std::marker::Model;
 
 /// An operator: it owns the charge points of a site, and answers the site's providers.
 ///
-/// What happens to it is first planned (`plan_packet` and its kin, which change nothing), then the memory for it is taken
-/// (`make_room`), and then it is carried out (`apply`, which cannot fail). What a plan ensures is what `apply` requires, as long
-/// as nothing is carried out in between. A keeper that stores the rows does so between the last two. `on_packet` and its kin are
-/// all three.
+/// What happens to it is first planned (`plan_packet` and its kin, which change nothing), then the memory for it is
+/// taken (`make_room`), and then it is carried out (`apply`, which cannot fail). What a plan ensures is what `apply`
+/// requires, as long as nothing is carried out in between. A keeper that stores the rows does so between the last two.
+/// `on_packet` and its kin are all three.
 #[derive(Drop)]
 pub struct Operator {
     pub(crate) alloc: Global,
@@ -55,13 +55,14 @@ impl Operator {
         Ok(Operator { alloc, books })
     }
 
-    /// What holds of every operator at any time, which its type keeps: each EVSE has at most one claim; each open command was
-    /// answered, has no result, and is of a provider of the site, and an open start has an EVSE and a connector of the site;
-    /// each command that has a result was answered; each reservation is on an EVSE of the site and names its location; each
-    /// push is to a provider of the site, and has a number that was given; only a push that stands has a resend time; each
-    /// token is of a provider of the site; each session and each charge detail record is the operator's own, and a session
-    /// that has not ended is of a provider of the site, at a connector of the site, and costs what its energy costs; at each
-    /// EVSE at most one authorization is awaited, of a provider of the site.
+    /// What holds of every operator at any time, which its type keeps: each EVSE has at most one claim; each open
+    /// command was answered, has no result, and is of a provider of the site, and an open start has an EVSE and a
+    /// connector of the site; each command that has a result was answered; each reservation is on an EVSE of the site
+    /// and names its location; each push is to a provider of the site, and has a number that was given; only a push
+    /// that stands has a resend time; each token is of a provider of the site; each session and each charge detail
+    /// record is the operator's own, and a session that has not ended is of a provider of the site, at a connector of
+    /// the site, and costs what its energy costs; at each EVSE at most one authorization is awaited, of a provider of
+    /// the site.
     pub fn consistency(&self)
         ensures { IsConsistent self.now.state }
     {
@@ -75,8 +76,8 @@ impl Operator {
         self.books.stored(self.alloc)
     }
 
-    /// Takes the memory that a planned step needs. Nothing that stands changes, whether there is enough or not. An error is want
-    /// of memory, for a step that has no room yet.
+    /// Takes the memory that a planned step needs. Nothing that stands changes, whether there is enough or not. An
+    /// error is want of memory, for a step that has no room yet.
     pub fn make_room(&mut self, plan: &FullPlan) -> Result<(), AllocError>
         ensures state { self.new.state ≡ self.old.state }
         ensures room { OnOk result (HasFullRoomFor self.new (full_step_of plan.now)) }
@@ -109,16 +110,17 @@ impl Operator {
         Ok(Stepped { rows, packets })
     }
 
-    /// A packet comes at a moment. It is refused (`NotForMe`) where it is to another party, from a party that is no provider
-    /// of the site, or of a kind that an operator does not take; and else (`NumbersUsedUp`) where a counter of packets, of
-    /// requests or of sessions would pass its last number. A refusal, want of memory included, changes nothing and sends
-    /// nothing.
+    /// A packet comes at a moment. It is refused (`NotForMe`) where it is to another party, from a party that is no
+    /// provider of the site, or of a kind that an operator does not take; and else (`NumbersUsedUp`) where a counter
+    /// of packets, of requests or of sessions would pass its last number. A refusal, want of memory included, changes
+    /// nothing and sends nothing.
     ///
-    /// A request that was answered before gets the same reply again, under a new serial. A command that was not is decided
-    /// by its table (OCPI 2.2.1, Commands), and a token is kept where it is its provider's own and newer than the one that is
-    /// held (Tokens); the reply is kept for good. An acknowledgement ends the push that it is for. An answer whether a token
-    /// may be used ends the waiting that it is for, and a session begins where it allows the token, its reference was not
-    /// used before, and the token may still take the EVSE (Tokens: Real-time authorization).
+    /// A request that was answered before gets the same reply again, under a new serial. A command that was not is
+    /// decided by its table (OCPI 2.2.1, Commands), and a token is kept where it is its provider's own and newer than
+    /// the one that is held (Tokens); the reply is kept for good. An acknowledgement ends the push that it is for. An
+    /// answer whether a token may be used ends the waiting that it is for, and a session begins where it allows the
+    /// token, its reference was not used before, and the token may still take the EVSE (Tokens: Real-time
+    /// authorization).
     pub fn on_packet(&mut self, at: Moment, packet: &Packet) -> Result<Stepped, NodeFault>
         ensures step { IfOk result (λ x. OperatorStep self.old.state at packet.now (out_of self.new.state x)) }
         ensures fault { IfErr result (IsDue self.old.state at packet.now) }
@@ -129,17 +131,17 @@ impl Operator {
         Ok(self.carry_out(plan)?)
     }
 
-    /// A charge point reports at a moment. The open command that the report ends gets its result, which is kept and pushed
-    /// to its provider: that a command was carried out (`Accepts`, `Unlocked`), that it cannot be (`Refuses`), that the EVSE
-    /// failed which an open start took (`Fault`). With a start that is carried out a session begins. The session at an EVSE
-    /// goes on or ends (`Starts`, `Meter`, `Stops`, `Fault`): its new version is pushed, in place of the push of an older
-    /// one, and so is the charge detail record of one that is completed (OCPI 2.2.1, Sessions, CDRs). For a token that is
-    /// shown (`Swipe`) a session begins, or its provider is asked and its answer awaited for ten seconds (Tokens: Real-time
-    /// authorization). Another report does nothing.
+    /// A charge point reports at a moment. The open command that the report ends gets its result, which is kept and
+    /// pushed to its provider: that a command was carried out (`Accepts`, `Unlocked`), that it cannot be (`Refuses`),
+    /// that the EVSE failed which an open start took (`Fault`). With a start that is carried out a session begins. The
+    /// session at an EVSE goes on or ends (`Starts`, `Meter`, `Stops`, `Fault`): its new version is pushed, in place
+    /// of the push of an older one, and so is the charge detail record of one that is completed (OCPI 2.2.1, Sessions,
+    /// CDRs). For a token that is shown (`Swipe`) a session begins, or its provider is asked and its answer awaited
+    /// for ten seconds (Tokens: Real-time authorization). Another report does nothing.
     ///
-    /// Refused (`StampEnd`) where the newest version of the session was updated at the last moment, since none can be later,
-    /// and (`NumbersUsedUp`) where a counter of packets, of requests, of sessions or of charge detail records would pass its
-    /// last number. A refusal, want of memory included, changes nothing and sends nothing.
+    /// Refused (`StampEnd`) where the newest version of the session was updated at the last moment, since none can be
+    /// later, and (`NumbersUsedUp`) where a counter of packets, of requests, of sessions or of charge detail records
+    /// would pass its last number. A refusal, want of memory included, changes nothing and sends nothing.
     pub fn on_charger(&mut self, at: Moment, report: ChargerEvent) -> Result<Stepped, NodeFault>
         ensures step { IfOk result (λ x. ChargerStep self.old.state at report (out_of self.new.state x)) }
         ensures fault { IfErr result (IsReportFault self.old.state at report) }
@@ -151,11 +153,12 @@ impl Operator {
     }
 
     /// Time has come to a moment: open commands whose deadline is at or before it end by a timeout; reservations whose
-    /// expiry is at or before it end, of which nobody is told; authorizations whose deadline is at or before it are awaited
-    /// no more, and a session begins for each token that may be used without its provider's answer, and may take its EVSE
-    /// then; pushes that were last sent ten seconds before it, or earlier, or not since the operator started, are sent again.
-    /// Packets leave in this order. Refused (`NumbersUsedUp`) where a counter of packets, of requests or of sessions would
-    /// pass its last number. A refusal, want of memory included, changes nothing and sends nothing.
+    /// expiry is at or before it end, of which nobody is told; authorizations whose deadline is at or before it are
+    /// awaited no more, and a session begins for each token that may be used without its provider's answer, and may
+    /// take its EVSE then; pushes that were last sent ten seconds before it, or earlier, or not since the operator
+    /// started, are sent again. Packets leave in this order. Refused (`NumbersUsedUp`) where a counter of packets, of
+    /// requests or of sessions would pass its last number. A refusal, want of memory included, changes nothing and
+    /// sends nothing.
     pub fn on_tick(&mut self, at: Moment) -> Result<Stepped, NodeFault>
         ensures step { IfOk result (λ x. TickStep self.old.state at (out_of self.new.state x)) }
         ensures fault { IfErr result (IsOwnFault (TickLine self.old.state at) self.old.state) }
@@ -166,8 +169,8 @@ impl Operator {
         Ok(self.carry_out(plan)?)
     }
 
-    /// An EVSE goes out of service, or comes back. Standing claims stay. An EVSE that is unknown, or already is what it is
-    /// to be, is left as it is. An error is want of memory, and changes nothing.
+    /// An EVSE goes out of service, or comes back. Standing claims stay. An EVSE that is unknown, or already is what
+    /// it is to be, is left as it is. An error is want of memory, and changes nothing.
     pub fn on_service(
         &mut self,
         evse_uid: CiKey<36>,
@@ -181,8 +184,8 @@ impl Operator {
         Ok(self.carry_out(plan)?)
     }
 
-    /// The operator starts again from what it stored: each push is due at once, no authorization is awaited, and nothing else
-    /// changes. It takes no memory.
+    /// The operator starts again from what it stored: each push is due at once, no authorization is awaited, and
+    /// nothing else changes. It takes no memory.
     pub fn restart(&mut self)
         ensures { self.new.state ≡ restarted self.old.state }
     {

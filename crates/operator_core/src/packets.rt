@@ -14,9 +14,15 @@ ghost use Rattle.operator_steps.specs.Steps.{Acknowledges, Comes, IsForMe, IsReq
 ghost use Rattle.operator_core.specs.Planned.{StopsActs, quiet_step};
 ghost use Rattle.operator_core.specs.Requests.{IfCommand, IsCommand, IsRequest, decided_by, repeated_by, result_count};
 
-use crate::acts::add_decided;
-use crate::bodies::is_taken;
+mod authorizations;
+mod bodies;
+pub(crate) mod command_acts;
+mod command_responses;
+mod tokens;
+
 use crate::operator::Operator;
+use crate::packets::bodies::is_taken;
+use crate::packets::command_acts::add_decided;
 use crate::plans::quiet;
 use node_steps::{Needs, NodeFault, Plan, find_peer};
 use ocpi_text::{Moment, Party};
@@ -25,8 +31,8 @@ use operator_rows::FullPlan;
 use operator_tables::{Decision, Request, decide};
 use std::alloc::AllocError;
 
-/// The most rows that a decision changes, beside the counters: a reply, a mark, a reservation, a push and a result; or a reply, a
-/// reservation, an open command and a reference.
+/// The most rows that a decision changes, beside the counters: a reply, a mark, a reservation, a push and a result; or
+/// a reply, a reservation, an open command and a reference.
 const MOST_CHANGES: usize = 5;
 
 /// How many results there are: one, or none.
@@ -135,8 +141,8 @@ impl Operator {
         }
     }
 
-    /// Whether an acknowledgement is for a push of this operator: it has status 1000, and comes from the addressee under the
-    /// push's number.
+    /// Whether an acknowledgement is for a push of this operator: it has status 1000, and comes from the addressee
+    /// under the push's number.
     fn acknowledges(&self, packet: &Packet, ack: &Ack) -> bool
         ensures { IsTrue result ↔ Acknowledges self.now.state packet.now ack.now }
     {

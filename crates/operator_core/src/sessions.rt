@@ -13,8 +13,10 @@ ghost use Rattle.node_steps.specs.declared.fault.NodeFault.TheVariants.{NumbersU
 ghost use Rattle.operator_steps.specs.Sessions.{first_of, replaced};
 ghost use Rattle.operator_core.specs.Planned.{IsNewSession, IsNewVersion, all_begun, begun_acts, version_acts};
 
-use crate::acts::add_used;
+mod beginnings;
+
 use crate::operator::Operator;
+use crate::packets::command_acts::add_used;
 use node_steps::{Draft, NodeFault, find_peer};
 use ocpi_text::{CiKey, Moment, Party, PartyKey, Whole};
 use ocpi_types::{Boxed, Change, Counter, Push, Row, Session};
@@ -104,7 +106,8 @@ pub(crate) fn add_version(
     add_stored(alloc, draft, &versioned.version)
 }
 
-/// Adds that a session begins: the reservation that it uses, where it uses one, ends, and its first version is pushed and stored.
+/// Adds that a session begins: the reservation that it uses, where it uses one, ends, and its first version is pushed
+/// and stored.
 pub(crate) fn add_begun(
     alloc: Global,
     draft: &mut Draft,

@@ -1,6 +1,6 @@
--- The laws of an operator over every list of events from its opening: packets that come, in any order and any number of
--- times, what charge points report, time that passes, at moments that may go back, EVSEs that go out of service and come
--- back, and restarts of the operator from what it stored; events that are refused among them.
+-- The laws of an operator over every list of events from its opening: packets that come, in any order and any number
+-- of times, what charge points report, time that passes, at moments that may go back, EVSEs that go out of service and
+-- come back, and restarts of the operator from what it stored; events that are refused among them.
 use Rattle.std.specs.Prelude.{◌≡◌, ◌⊎◌, ℕ, ◌+◌, ◌≤◌, ◌<◌, List, Some, Ok, Contains, slice_get}
 use Rattle.std.specs.List.{flat_map}
 use Rattle.std.specs.FinMap.{get}
@@ -47,8 +47,8 @@ Came es q = (e : Event) × Contains es e × ((at : ℕ) × (e.input ≡ Arrives 
 abbrev pub IsOfParty : SiteLine → Type 0
 IsOfParty line = party_at line.parties.operator ≡ Ok line.parties.operator
 
--- what holds of an operator at any time: what is kept of its rows and times, each EVSE with at most one claim among it; and each
--- reference of a provider is carried by one open start at most, and may not be used again
+-- what holds of an operator at any time: what is kept of its rows and times, each EVSE with at most one claim among
+-- it; and each reference of a provider is carried by one open start at most, and may not be used again
 pub record HoldsAlways (t : State) : Type 0 where
   pub consistent : IsConsistent t
   pub one_carrier : HaveOneCarrier t.rows
@@ -99,8 +99,8 @@ ResultsStay = (s t : State) (es : List Event) → IsConsistent s → Run s es t 
 abbrev pub Numbered : Type 0
 Numbered = (line : SiteLine) (es : List Event) (t : State) → Run (opening line) es t → (i : ℕ) (x : Packet) → slice_get (sent es) i ≡ Some x → x.serial ≡ i + 1
 
--- each of the operator's own requests, be it a result, a session, a charge detail record or a question about a token, has one number, one
--- body and one addressee, however often it is sent
+-- each of the operator's own requests, be it a result, a session, a charge detail record or a question about a token,
+-- has one number, one body and one addressee, however often it is sent
 abbrev pub RequestsAgree : Type 0
 RequestsAgree = (line : SiteLine) (es : List Event) (t : State) → IsOfParty line → Run (opening line) es t → (x y : Packet) → Contains (sent es) x → Contains (sent es) y →
     ¬ IsReply x.body → ¬ IsReply y.body → x.request ≡ y.request → (x.body ≡ y.body) × (x.to ≡ y.to)
@@ -133,13 +133,22 @@ abbrev pub MarksNeverFall : Type 0
 MarksNeverFall = (s t : State) (es : List Event) → Run s es t → (k : List ℕ × List ℕ) (m : ℕ) → get s.rows.booked.marks k ≡ Some m →
     (n : ℕ) × (get t.rows.booked.marks k ≡ Some n) × (m ≤ n)
 
--- the event makes or replaces the reservation of that id of a provider, under that number
-abbrev pub Reserves : Event → List ℕ → List ℕ → ℕ → Type 0
-Reserves e p id n = ((r : Reservation) × Contains e.changes (Put (row.Reservation p id r))) × Contains e.changes (Put (row.Mark p id n))
+-- the event makes or replaces the reservation of that id of a provider
+abbrev pub Reserves : Event → List ℕ → List ℕ → Type 0
+Reserves e p id = (r : Reservation) × Contains e.changes (Put (row.Reservation p id r))
 
--- a reservation is made only under a number above that of every request about it that was decided before: so one that was
--- cancelled, whether or not it was known, is not made by a request that the cancellation overtook
+-- the request of that number, which comes in the event, sets the mark of the reservation of that id of its sender
+pub record SetsMark (e : Event) (p id : List ℕ) (n : ℕ) : Type 0 where
+  pub at : ℕ
+  pub packet : Packet
+  pub comes : e.input ≡ Arrives at packet
+  pub by : key packet.from ≡ p
+  pub number : packet.request ≡ n
+  pub puts : Contains e.changes (Put (row.Mark p id n))
+
+-- a reservation is made only by a request that sets its mark, under a number above that of every request that set it
+-- before: so one that was cancelled, whether or not it was known, is not made by a request that the cancellation overtook
 abbrev pub ReservationsAreNewer : Type 0
 ReservationsAreNewer = (line : SiteLine) (es : List Event) (t : State) → Run (opening line) es t → (i j : ℕ) (e f : Event) → slice_get es i ≡ Some e →
     slice_get es j ≡ Some f → i < j →
-    (p id : List ℕ) (m n : ℕ) → Contains e.changes (Put (row.Mark p id m)) → Reserves f p id n → m < n
+    (p id : List ℕ) (m : ℕ) → Contains e.changes (Put (row.Mark p id m)) → Reserves f p id → (n : ℕ) × SetsMark f p id n × (m < n)

@@ -71,8 +71,8 @@ AcceptedIsOpenOrSettled = (line : SiteLine) (es : List Event) (t : State) → Is
 abbrev pub Asked : (Packet → Type 0) → List ℕ → ℕ → Command → Type 0
 Asked Came p n c = (q : Packet) × Came q × (key q.from ≡ p) × (q.request ≡ n) × (q.body ≡ body_of_command c)
 
--- a result that was sent answers a command that came from its addressee: it is posted where that command says, and is the result
--- that is kept for it
+-- a result that was sent answers a command that came from its addressee: it is posted where that command says, and is
+-- the result that is kept for it
 abbrev pub ResultsArePosted : Type 0
 ResultsArePosted = (line : SiteLine) (es : List Event) (t : State) → IsOfParty line → Run (opening line) es t → (x : Packet) (a : CommandResult) → Contains (sent es) x →
     x.body ≡ body.CommandResult a →

@@ -1,5 +1,5 @@
--- The sessions and the charge detail records of an operator, over all events: their ids, their references, and what is pushed of them
--- (OCPI 2.2.1, Sessions: Session object, Sender interface; CDRs: CDR object, Sender interface).
+-- The sessions and the charge detail records of an operator, over all events: their ids, their references, and what is
+-- pushed of them (OCPI 2.2.1, Sessions: Session object, Sender interface; CDRs: CDR object, Sender interface).
 use Rattle.std.specs.Prelude.{◌≡◌, ◌⊎◌, ◌≤◌, ◌<◌, ℕ, List, Some, Contains, ⊤}
 use Rattle.std.specs.FinMap.{get}
 use Rattle.ocpi_text.specs.OwnIds.{own_id_text}
@@ -51,8 +51,8 @@ pub record IsGivenId (kind : OwnIdKind) (party : List ℕ) (last : ℕ) (id : Li
   pub given : number ≤ last
   pub id_is : id ≡ own_id_text kind party number
 
--- each session and each charge detail record stands under its id, which is that of a number that was given; no number beyond the last
--- is given; and different numbers that were given have different ids, also without case
+-- each session and each charge detail record stands under its id, which is that of a number that was given; no number
+-- beyond the last is given; and different numbers that were given have different ids, also without case
 pub record HaveGivenIds (t : State) : Type 0 where
   pub sessions : (id : List ℕ) (v : Session) → get t.rows.charged.sessions id ≡ Some v →
       (id ≡ key v.id) × IsGivenId own.Session t.party t.rows.charged.last_session v.id
@@ -78,7 +78,8 @@ abbrev pub SessionsStay : Type 0
 SessionsStay = (s t : State) (es : List Event) → IsConsistent s → Run s es t → (id : List ℕ) (v : Session) → get s.rows.charged.sessions id ≡ Some v →
     (w : Session) × (get t.rows.charged.sessions id ≡ Some w) × IsSame v w
 
--- what may carry an authorization reference of a provider: its open start of a number, or a session of an id, in key form
+-- what may carry an authorization reference of a provider: its open start of a number, or a session of an id, in key
+-- form
 pub data Carrier : Type 0 where
   InStart : ℕ → Carrier
   InSession : List ℕ → Carrier
@@ -108,7 +109,8 @@ pub record WasGiven (es : List Event) (p reference : List ℕ) : Type 0 where
   pub gives : GivesReference packet.body spelled
   pub same : key spelled ≡ reference
 
--- each reference of a provider is carried by at most one of its open starts and its sessions, is spent, and came from the provider
+-- each reference of a provider is carried by at most one of its open starts and its sessions, is spent, and came from
+-- the provider
 pub record AreSpentOnce (es : List Event) (t : State) : Type 0 where
   pub one : (p : List ℕ) (a b : Carrier) (reference : List ℕ) → IsCarriedBy t.rows p a reference → IsCarriedBy t.rows p b reference → a ≡ b
   pub spent : (p : List ℕ) (a : Carrier) (reference : List ℕ) → IsCarriedBy t.rows p a reference → get t.rows.spent (p, reference) ≡ Some tt
@@ -118,8 +120,8 @@ pub record AreSpentOnce (es : List Event) (t : State) : Type 0 where
 abbrev pub ReferencesAreSpentOnce : Type 0
 ReferencesAreSpentOnce = (line : SiteLine) (es : List Event) (t : State) → IsOfParty line → Run (opening line) es t → AreSpentOnce es t
 
--- what goes to a party as this push is a version that was stored in the run, to the provider of its token; or a charge detail record that
--- stands
+-- what goes to a party as this push is a version that was stored in the run, to the provider of its token; or a charge
+-- detail record that stands
 abbrev pub IsOfRun : List Event → State → List ℕ → Push → Type 0
 IsOfRun es t to (push.PutSession v) = PutIn es (row.Session v) × (key to ≡ key v.cdr_token.party)
 IsOfRun es t to (push.PostCdr x) = (get t.rows.charged.cdrs (key x.id) ≡ Some x) × (key to ≡ key x.cdr_token.party)
@@ -134,7 +136,8 @@ pub record BodiesAreOfRun (es : List Event) (t : State) : Type 0 where
 abbrev pub SessionBodiesArePast : Type 0
 SessionBodiesArePast = (line : SiteLine) (es : List Event) (t : State) → IsOfParty line → Run (opening line) es t → BodiesAreOfRun es t
 
--- the push goes to the provider of that key until it is acknowledged: it stands, or it was sent and its addressee acknowledged its number
+-- the push goes to the provider of that key until it is acknowledged: it stands, or it was sent and its addressee
+-- acknowledged its number
 pub record IsPushStanding (t : State) (provider : List ℕ) (p : Push) : Type 0 where
   pub number : ℕ
   pub to : List ℕ
@@ -151,7 +154,8 @@ pub record WasTaken (es : List Event) (provider : List ℕ) (p : Push) : Type 0 
 abbrev pub IsHandedOver : List Event → State → List ℕ → Push → Type 0
 IsHandedOver es t provider p = IsPushStanding t provider p ⊎ WasTaken es provider p
 
--- the newest version of each session, and each charge detail record, is pushed to the provider of its token until it acknowledges it
+-- the newest version of each session, and each charge detail record, is pushed to the provider of its token until it
+-- acknowledges it
 pub record AreHandedOver (es : List Event) (t : State) : Type 0 where
   pub sessions : (id : List ℕ) (v : Session) → get t.rows.charged.sessions id ≡ Some v → IsHandedOver es t (key v.cdr_token.party) (push.PutSession v)
   pub cdrs : (id : List ℕ) (x : Cdr) → get t.rows.charged.cdrs id ≡ Some x → IsHandedOver es t (key x.cdr_token.party) (push.PostCdr x)
@@ -159,8 +163,8 @@ pub record AreHandedOver (es : List Event) (t : State) : Type 0 where
 abbrev pub VersionsArePushed : Type 0
 VersionsArePushed = (line : SiteLine) (es : List Event) (t : State) → IsOfParty line → Run (opening line) es t → AreHandedOver es t
 
--- one event of the run gives the start of that number of a provider the result ACCEPTED, and begins a session for the provider with the
--- start's token and its reference
+-- one event of the run gives the start of that number of a provider the result ACCEPTED, and begins a session for the
+-- provider with the start's token and its reference
 pub record BeganIn (es : List Event) (p : List ℕ) (n : ℕ) (c : StartSession) : Type 0 where
   pub event : Event
   pub happened : Contains es event

@@ -1,16 +1,38 @@
-//! The laws of an operator, over every list of events from its opening. An event is what `operator_steps` says of it (`Happens`),
-//! which is what `Operator::on_packet`, `on_charger`, `on_tick`, `on_service` and `restart` do.
+//! The laws of an operator, over every list of events from its opening. An event is what `operator_steps` says of it
+//! (`Happens`), which is what `Operator::on_packet`, `on_charger`, `on_tick`, `on_service` and `restart` do.
 
 ghost use Rattle.operator_laws.specs.AsNode.{StepsAreNodeSteps, RunsAreNodeRuns, PacketsAreAddressed, PushesWereSent};
 ghost use Rattle.operator_laws.specs.Made.{OpenCommandsCame, OpenedCommandsCame, RepliesWereGiven, ReservationsAreMade};
-ghost use Rattle.operator_laws.specs.Replied.{AcceptedIsOpenOrSettled, CancellationsAreMarked, ReservationsAreAskedFor, ReservationsAreMarked, ResultsArePosted, SpentStays};
-ghost use Rattle.operator_laws.specs.Laws.{AlwaysConsistent, OneStart, SentRepliesAreKept, RepliesStay, ResultsStay, Numbered, RequestsAgree, PushesStand, SentResultsAreKept, MarksNeverFall, ReservationsAreNewer, ReferencesHaveOneCarrier, CarriedReferencesAreSpent};
+ghost use Rattle.operator_laws.specs.Replied.{
+  AcceptedIsOpenOrSettled,
+  CancellationsAreMarked,
+  ReservationsAreAskedFor,
+  ReservationsAreMarked,
+  ResultsArePosted,
+  SpentStays,
+};
+ghost use Rattle.operator_laws.specs.Laws.{
+  AlwaysConsistent,
+  OneStart,
+  SentRepliesAreKept,
+  RepliesStay,
+  ResultsStay,
+  Numbered,
+  RequestsAgree,
+  PushesStand,
+  SentResultsAreKept,
+  MarksNeverFall,
+  ReservationsAreNewer,
+  ReferencesHaveOneCarrier,
+  CarriedReferencesAreSpent,
+};
 
-/// Each EVSE has at most one claim, among open starts, sessions and reservations; each open command is of a provider of the site, and
-/// has a reply and no result; each command that has a result has a reply; what claims an EVSE names one of the site; each push is to a
-/// provider of the site and has a number that was given, and only a push that stands has a resend time; each session is of this
-/// operator, and may go on if it has not ended; at each EVSE at most one authorization is awaited; each reference is carried by at
-/// most one open start, and may not be used again. The operator is a party by its form.
+/// Each EVSE has at most one claim, among open starts, sessions and reservations; each open command is of a provider
+/// of the site, and has a reply and no result; each command that has a result has a reply; what claims an EVSE names
+/// one of the site; each push is to a provider of the site and has a number that was given, and only a push that
+/// stands has a resend time; each session is of this operator, and may go on if it has not ended; at each EVSE at most
+/// one authorization is awaited; each reference is carried by at most one open start, and may not be used again. The
+/// operator is a party by its form.
 pub fn always_consistent()
     ensures { AlwaysConsistent }
 {}
@@ -30,8 +52,8 @@ pub fn one_start()
     ensures { OneStart }
 {}
 
-/// Each reply that was sent, a response or an acknowledgement, is the one that is kept for its request: all answers to one request have
-/// one body.
+/// Each reply that was sent, a response or an acknowledgement, is the one that is kept for its request: all answers to
+/// one request have one body.
 pub fn sent_replies_are_kept()
     ensures { SentRepliesAreKept }
 {}
@@ -41,8 +63,8 @@ pub fn replies_stay()
     ensures { RepliesStay }
 {}
 
-/// Each kept reply was given by one event, to a request that came in that event and that it answers: a response to a command, and an
-/// acknowledgement to a token. Up to that event no reply was kept for the request.
+/// Each kept reply was given by one event, to a request that came in that event and that it answers: a response to a
+/// command, and an acknowledgement to a token. Up to that event no reply was kept for the request.
 pub fn replies_were_given()
     ensures { RepliesWereGiven }
 {}
@@ -57,8 +79,8 @@ pub fn numbered()
     ensures { Numbered }
 {}
 
-/// Each request of an operator, be it a result, a session, a charge detail record or a question about a token, has one number, one body
-/// and one addressee, however often it is sent.
+/// Each request of an operator, be it a result, a session, a charge detail record or a question about a token, has one
+/// number, one body and one addressee, however often it is sent.
 pub fn requests_agree()
     ensures { RequestsAgree }
 {}
@@ -78,7 +100,8 @@ pub fn marks_never_fall()
     ensures { MarksNeverFall }
 {}
 
-/// A reservation is made only under a number above that of every request about it that was decided before.
+/// A reservation is made only by a request that sets its mark, under a number above that of every request that set the
+/// mark before: each CANCEL_RESERVATION and each accepted RESERVE_NOW about it that was not overtaken.
 pub fn reservations_are_newer()
     ensures { ReservationsAreNewer }
 {}
@@ -108,14 +131,15 @@ pub fn accepted_is_open_or_settled()
     ensures { AcceptedIsOpenOrSettled }
 {}
 
-/// A result that was sent answers a command that came from its addressee: it is posted where that command says, and is the
-/// result that is kept for it.
+/// A result that was sent answers a command that came from its addressee: it is posted where that command says, and is
+/// the result that is kept for it.
 pub fn results_are_posted()
     ensures { ResultsArePosted }
 {}
 
-/// A reservation that stands, and did not at an earlier state, was made in between by a RESERVE_NOW that came, under a number
-/// above that of every CANCEL_RESERVATION about it that was answered before.
+/// A reservation that stands, and did not stand so at an earlier state, was made in between by a RESERVE_NOW that came,
+/// asked for this very reservation and has the result ACCEPTED, under a number above that of every CANCEL_RESERVATION
+/// about it that was answered before.
 pub fn reservations_are_made()
     ensures { ReservationsAreMade }
 {}
@@ -125,7 +149,8 @@ pub fn open_commands_came()
     ensures { OpenCommandsCame }
 {}
 
-/// A command that an event opens, whether or not it is open still, came in that event under its number, and was answered.
+/// A command that an event opens, whether or not it is open still, came in that event under its number, and was
+/// answered.
 pub fn opened_commands_came()
     ensures { OpenedCommandsCame }
 {}

@@ -1,10 +1,18 @@
-//! The laws of an operator's sessions and charge detail records: their ids, their references, and what is pushed of them, over every list
-//! of events from its opening, and from any state to any later one where they speak of two.
+//! The laws of an operator's sessions and charge detail records: their ids, their references, and what is pushed of
+//! them, over every list of events from its opening, and from any state to any later one where they speak of two.
 
-ghost use Rattle.operator_laws.specs.Sessions.{AcceptedStartsHaveSessions, IdsAreGiven, NumbersNeverFall, ReferencesAreSpentOnce, SessionBodiesArePast, SessionsStay, VersionsArePushed};
+ghost use Rattle.operator_laws.specs.Sessions.{
+  AcceptedStartsHaveSessions,
+  IdsAreGiven,
+  NumbersNeverFall,
+  ReferencesAreSpentOnce,
+  SessionBodiesArePast,
+  SessionsStay,
+  VersionsArePushed,
+};
 
-/// The id of each session and of each charge detail record is that of a number that its counter gave, and different numbers have
-/// different ids.
+/// The id of each session and of each charge detail record is that of a number that its counter gave, and different
+/// numbers have different ids.
 pub fn ids_are_given()
     ensures { IdsAreGiven }
 {}
@@ -19,19 +27,20 @@ pub fn sessions_stay()
     ensures { SessionsStay }
 {}
 
-/// Each authorization reference of a provider is carried by at most one of its open starts and its sessions, may not be used again, and
-/// came from the provider, in a start or in an answer whether a token may be used.
+/// Each authorization reference of a provider is carried by at most one of its open starts and its sessions, may not
+/// be used again, and came from the provider, in a start or in an answer whether a token may be used.
 pub fn references_are_spent_once()
     ensures { ReferencesAreSpentOnce }
 {}
 
-/// Each session that is sent, or waits to be, is a version that was stored, to the provider of its token; and each charge detail record
-/// is one that stands.
+/// Each session that is sent, or waits to be, is a version that was stored, to the provider of its token; and each
+/// charge detail record is one that stands.
 pub fn session_bodies_are_past()
     ensures { SessionBodiesArePast }
 {}
 
-/// The newest version of each session, and each charge detail record, is pushed to the provider of its token until it acknowledges it.
+/// The newest version of each session, and each charge detail record, is pushed to the provider of its token until it
+/// acknowledges it.
 pub fn versions_are_pushed()
     ensures { VersionsArePushed }
 {}

@@ -1,4 +1,5 @@
--- What holds at all times of the tokens, the sessions and the charge detail records is kept by each change of a row that may be made.
+-- What holds at all times of the tokens, the sessions and the charge detail records is kept by each change of a row
+-- that may be made.
 use Rattle.std.proofs.Common.{◌≡◌, inl, inr, ℕ, List, sym, ap, subst, ◌∙◌}
 use Rattle.std.specs.Prelude.{Some}
 use Rattle.std.specs.FinMap.{get, get-empty}

@@ -27,7 +27,8 @@ use Rattle.operator_rows.specs.Rows.{HasRow, AreChanges}
 use Rattle.operator_rows.specs.Sound.{IsSound, MayPut, MayDrop, MayChangeAll, with_rows}
 use Rattle.operator_rows.proofs.KeepingSound.{change_keeps_sound}
 
--- rows that an operator keeps: a counter has one once it gave a number, and a session and a charge detail record are its own
+-- rows that an operator keeps: a counter has one once it gave a number, and a session and a charge detail record are
+-- its own
 abbrev pub IsStored : List ℕ → Row → Type 0
 IsStored own (row.Count counter.Serial n) = n ≢ 0
 IsStored own (row.Count counter.Request n) = n ≢ 0

@@ -40,8 +40,8 @@ state_of parties serial commands spent booked outbox site tokens charged waits =
 abbrev pub AreAsked : Waits → ℕ → Type 0
 AreAsked waits last = (n : ℕ) → IsTrue (contains_key waits n) → n ≤ last
 
--- the claims are those of the rows, what holds of an operator at all times holds, each authorization that is awaited may be and was
--- asked for, no command is kept that it sent, and no authorization reference that it gave
+-- the claims are those of the rows, what holds of an operator at all times holds, each authorization that is awaited
+-- may be and was asked for, no command is kept that it sent, and no authorization reference that it gave
 pub record AreKept (claims : Claims) (s : State) (sent : Commands) (references : ℕ) : Type 0 where
   pub indexed : IsIndexed claims s.rows
   pub sound : IsSound s

@@ -43,7 +43,7 @@ pub record AreRowsOf (list : List Row) (s : Rows) : Type 0 where
   pub exact : (r : Row) → Contains list r ↔ HasRow s r
   pub apart : AllPairs (λ a b. key_of a ≢ key_of b) list
 
--- the changes lead from the rows of one state to those of the other: what stands is what was put, and what stood under a key that
--- was neither put nor dropped
+-- the changes lead from the rows of one state to those of the other: what stands is what was put, and what stood under
+-- a key that was neither put nor dropped
 abbrev pub AreChanges : Rows → List Change → Rows → Type 0
 AreChanges s changes t = (r : Row) → HasRow t r ↔ (Contains changes (Put r) ⊎ (HasRow s r × ¬ Contains (map change_key changes) (key_of r)))

@@ -1,5 +1,5 @@
--- What holds of an operator at all times, which is exactly what stored rows are to be tested for when an operator is made of
--- them; and which changes of rows keep it.
+-- What holds of an operator at all times, which is exactly what stored rows are to be tested for when an operator is
+-- made of them; and which changes of rows keep it.
 use Rattle.std.specs.Prelude.{◌≡◌, ◌≢◌, ◌≤◌, ℕ, List, [], ◌∷◌, Some, None, Ok, IsTrue, ⊤}
 use Rattle.std.specs.FinMap.{get, contains_key}
 use Rattle.ocpi_text.specs.Party.{party_at}
@@ -67,8 +67,8 @@ pub record MayBeOpen (s : State) (p : List ℕ) (n : ℕ) (o : OpenCommand) : Ty
   pub own : IsOwnStart p o.command
   pub place : IsStart o.command → HasPlace s.site o
 
--- a session that has not ended: its provider is one of the site, it is at a connector of the site, and its cost is that of its
--- energy at the site's price
+-- a session that has not ended: its provider is one of the site, it is at a connector of the site, and its cost is
+-- that of its energy at the site's price
 pub record MayGoOn (s : State) (v : Session) : Type 0 where
   pub provider : HasPeer s.providers (key v.cdr_token.party)
   pub place : IsConnectorOf s.site.locations (key v.evse_uid) (key v.connector_id)
@@ -79,7 +79,8 @@ pub record MayStand (s : State) (v : Session) : Type 0 where
   pub own : key v.party ≡ key s.party
   pub going : IsLive v.status → MayGoOn s v
 
--- the authorization of a token may be awaited: its provider is one of the site, and the driver is at a connector of the site
+-- the authorization of a token may be awaited: its provider is one of the site, and the driver is at a connector of
+-- the site
 pub record MayAwait (s : State) (w : Awaited) : Type 0 where
   pub provider : HasPeer s.providers (key w.token.party)
   pub place : IsConnectorOf s.site.locations (key w.place.evse_uid) (key w.place.connector_id)
@@ -87,8 +88,8 @@ pub record MayAwait (s : State) (w : Awaited) : Type 0 where
 pub record IsSound (s : State) : Type 0 where
   -- each EVSE has at most one claim
   pub one_claim : OneClaimEach s.rows
-  -- each open command was answered, has no result, and is of a provider of the site; a start has an EVSE and a connector, and a
-  -- token of its provider
+  -- each open command was answered, has no result, and is of a provider of the site; a start has an EVSE and a
+  -- connector, and a token of its provider
   pub pending : (p : List ℕ) (n : ℕ) (o : OpenCommand) → get s.rows.commands.pending (p, n) ≡ Some o → MayBeOpen s p n o
   -- each command that has a result was answered
   pub results : (k : commands.Request) (x : CommandResultType) → get s.rows.commands.results k ≡ Some x → IsTrue (contains_key s.rows.commands.replies k)
@@ -192,8 +193,8 @@ MayPut s (row.Session x) = MayPutSession s x
 MayPut s (row.Cdr x) = MayPutCdr s x
 MayPut s (row.Command n x) = ⊥
 
--- and after it is dropped. Counters, replies, tokens, results, spent references, marks, sessions and charge detail records are kept for
--- good
+-- and after it is dropped. Counters, replies, tokens, results, spent references, marks, sessions and charge detail
+-- records are kept for good
 abbrev pub MayDrop : State → RowKey → Type 0
 MayDrop s (keys.Count c) = ⊥
 MayDrop s (keys.Reply sender number) = ⊥

@@ -55,8 +55,8 @@ restarted s = record s { resend = empty; waits = empty }
 abbrev pub KeepsTime : Resend → List Change → ℕ → Type 0
 KeepsTime resend changes n = (get resend n ≡ None) ⊎ ((c : Change) → Contains changes c → change_key c ≢ keys.Push n)
 
--- the requests that are sent stand once the changes are made, each is sent once, and the room for its resend time outlasts the
--- changes
+-- the requests that are sent stand once the changes are made, each is sent once, and the room for its resend time
+-- outlasts the changes
 pub record MaySend (s : State) (changes : List Change) (sent : List Volatile) : Type 0 where
   pub stands : (v : Volatile) → Contains sent v → IsTrue (contains_key (changed_all changes s.rows).pushes (number_of v))
   pub apart : AllPairs (λ v w. number_of v ≢ number_of w) sent
@@ -80,7 +80,8 @@ IsNextOf price (Some w) v = pasts.MayFollow price w v
 abbrev pub IsNext : State → Session → Type 0
 IsNext s v = IsNextOf s.site.price (get s.rows.charged.sessions (key v.id)) v
 
--- the step may be carried out: each version of a session that it puts may come next, and a charge detail record replaces none
+-- the step may be carried out: each version of a session that it puts may come next, and a charge detail record
+-- replaces none
 pub record MayFollow (s : State) (x : Step) : Type 0 where
   pub apart : AreApart x.changes
   pub may : MayChangeAll s x.changes

@@ -29,7 +29,8 @@ counted counter.Session n s = record s { charged = charged.counted counter.Sessi
 counted counter.Cdr n s = record s { charged = charged.counted counter.Cdr n s.charged }
 counted counter.Reference n s = s
 
--- the row is put, in place of the one of its key if there is one; rows of kinds that an operator does not store change nothing
+-- the row is put, in place of the one of its key if there is one; rows of kinds that an operator does not store change
+-- nothing
 abbrev pub put_row : Row → Rows → Rows
 put_row (row.Count c last) s = counted c last s
 put_row (row.Reply sender number reply) s = record s { commands = commands.put_row (row.Reply sender number reply) s.commands }

@@ -12,9 +12,9 @@ use ocpi_types::{Row, SiteLine};
 use std::alloc::AllocError;
 
 impl Books {
-    /// Puts a row, with the claim that follows from it, in place of the one of its key if there is one. It is for rows that were
-    /// stored before, which may come in any state: `apply` carries out steps, in which a session begins PENDING and goes on in
-    /// order. An error is want of memory, and changes nothing.
+    /// Puts a row, with the claim that follows from it, in place of the one of its key if there is one. It is for rows
+    /// that were stored before, which may come in any state: `apply` carries out steps, in which a session begins
+    /// PENDING and goes on in order. An error is want of memory, and changes nothing.
     pub fn add_row(&mut self, row: Row) -> Result<(), AllocError>
         requires { MayPut self.old.state row }
         ensures ok { OnOk result (self.new.state ≡ after_change (change.Put row) self.old.state) }
@@ -24,8 +24,8 @@ impl Books {
         self.put_row(row);
         Ok(())
     }
-    /// The site of the operator, with its providers, as a line of that moment: what the operator was opened with. An error is want
-    /// of memory.
+    /// The site of the operator, with its providers, as a line of that moment: what the operator was opened with. An
+    /// error is want of memory.
     pub fn site_line(&self, at: Moment) -> Result<SiteLine, AllocError>
         ensures { IfOk result (λ line. restarted self.now.state ≡ with_rows self.now.state.rows (opening line)) }
     {

@@ -23,11 +23,11 @@ use token_desk::TokenDesk;
 /// The references that are spent, by provider.
 pub(crate) type SpentTable = Table<(PartyKey, CiKey<36>), ()>;
 
-/// The rows of an operator, with the claims on its site's EVSEs, the resend times of its pushes, and the authorizations that it
-/// awaits. It is seen as its state and the room that is taken beside it.
+/// The rows of an operator, with the claims on its site's EVSEs, the resend times of its pushes, and the
+/// authorizations that it awaits. It is seen as its state and the room that is taken beside it.
 ///
-/// At all times what `consistency` says holds, and the claims are exactly those that follow from the rows. A lookup and a change
-/// cost the logarithm of what is stored.
+/// At all times what `consistency` says holds, and the claims are exactly those that follow from the rows. A lookup
+/// and a change cost the logarithm of what is stored.
 #[derive(Drop)]
 pub struct Books {
     pub(crate) parties: Parties,
@@ -72,8 +72,8 @@ impl Model for Books {
 }
 
 impl Books {
-    /// Nothing was sent, nothing is answered, open, reserved, pushed or awaited, no token is known, no session was begun, and each
-    /// EVSE of the site is in service. An error is want of memory.
+    /// Nothing was sent, nothing is answered, open, reserved, pushed or awaited, no token is known, no session was
+    /// begun, and each EVSE of the site is in service. An error is want of memory.
     pub fn new(alloc: Global, line: SiteLine) -> Result<Books, AllocError>
         ensures { IfOk result (λ b. b.state ≡ opening line) }
     {

@@ -1,5 +1,5 @@
-//! What an operator stores: its rows, the claims on the site's EVSEs that follow from them, the resend times of its pushes, and
-//! the authorizations that it awaits; and how a step that is decided is carried out.
+//! What an operator stores: its rows, the claims on the site's EVSEs that follow from them, the resend times of its
+//! pushes, and the authorizations that it awaits; and how a step that is decided is carried out.
 //!
 //! ```
 //! let mut books = Books::new(alloc, site_line)?;

@@ -16,7 +16,8 @@ use ocpi_types::{Change, Row};
 use outbox::Outbox;
 use std::alloc::AllocError;
 
-/// Takes the memory that the resend time of a request needs which is sent. An error is want of memory, where there was no room.
+/// Takes the memory that the resend time of a request needs which is sent. An error is want of memory, where there was
+/// no room.
 fn reserve_time(outbox: &mut Outbox, change: &Volatile) -> Result<(), AllocError>
     ensures rows { outbox.new.rows ≡ outbox.old.rows }
     ensures rooms { outbox.new.rooms ≡ outbox.old.rooms }
@@ -30,7 +31,8 @@ fn reserve_time(outbox: &mut Outbox, change: &Volatile) -> Result<(), AllocError
     }
 }
 
-/// Takes the memory that the resend times of requests need which are sent. An error is want of memory, where one has no room.
+/// Takes the memory that the resend times of requests need which are sent. An error is want of memory, where one has
+/// no room.
 fn reserve_times(outbox: &mut Outbox, volatile: &[Volatile]) -> Result<(), AllocError>
     ensures rows { outbox.new.rows ≡ outbox.old.rows }
     ensures rooms { outbox.new.rooms ≡ outbox.old.rooms }
@@ -99,8 +101,8 @@ impl Books {
         Ok(())
     }
 
-    /// Takes all the memory that a step needs. What is stored stays as it is, whether there is enough or not. An error is want of
-    /// memory, for a step that has no room.
+    /// Takes all the memory that a step needs. What is stored stays as it is, whether there is enough or not. An error
+    /// is want of memory, for a step that has no room.
     pub fn make_room(&mut self, plan: &Plan) -> Result<(), AllocError>
         ensures state { self.new.state ≡ self.old.state }
         ensures waiting { self.new.waiting ≡ self.old.waiting }
@@ -110,7 +112,8 @@ impl Books {
         self.reserve_all(plan.changes.as_slice())?;
         reserve_times(&mut self.outbox, plan.volatile.as_slice())
     }
-    /// Takes the memory that changes of what is awaited need. An error is want of memory, for changes of which one has no room.
+    /// Takes the memory that changes of what is awaited need. An error is want of memory, for changes of which one has
+    /// no room.
     fn reserve_waits(&mut self, waits: &[Waiting]) -> Result<(), AllocError>
         ensures state { self.new.state ≡ self.old.state }
         ensures rooms { self.new.rooms ≡ self.old.rooms }
@@ -121,8 +124,8 @@ impl Books {
         self.waits.reserve_all(waits)
     }
 
-    /// Takes all the memory that a step and what it awaits need. What is stored stays as it is, whether there is enough or not.
-    /// An error is want of memory, for a step that has no room.
+    /// Takes all the memory that a step and what it awaits need. What is stored stays as it is, whether there is
+    /// enough or not. An error is want of memory, for a step that has no room.
     pub fn make_full_room(&mut self, plan: &FullPlan) -> Result<(), AllocError>
         ensures state { self.new.state ≡ self.old.state }
         ensures room { OnOk result (HasFullRoomFor self.new (full_step_of plan.now)) }

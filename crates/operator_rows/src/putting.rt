@@ -133,7 +133,8 @@ impl Books {
         });
     }
 
-    /// Puts an open command, which claims an EVSE if it is a start, in place of the one of its number, whose claim ends.
+    /// Puts an open command, which claims an EVSE if it is a start, in place of the one of its number, whose claim
+    /// ends.
     fn put_pending(&mut self, provider: PartyKey, number: Whole, command: Boxed<OpenCommand>)
         requires room { HasRoomOf self.old.rooms (row.Pending provider number command) }
         requires may { MayPut self.old.state (row.Pending provider number command) }
@@ -181,8 +182,8 @@ impl Books {
         self.desk.put_row(Row::Token { token });
     }
 
-    /// Puts a version of a session, which claims its EVSE if it is pending or active, in place of the one of its id, whose claim
-    /// ends.
+    /// Puts a version of a session, which claims its EVSE if it is pending or active, in place of the one of its id,
+    /// whose claim ends.
     fn put_session(&mut self, session: Boxed<Session>)
         requires room { HasRoomOf self.old.rooms (row.Session session) }
         requires may { MayPut self.old.state (row.Session session) }
@@ -219,7 +220,8 @@ impl Books {
         self.charged.put_row(Row::Cdr { cdr });
     }
 
-    /// Puts a row, with the claim that follows from it, in place of the one of its key if there is one. It takes no memory.
+    /// Puts a row, with the claim that follows from it, in place of the one of its key if there is one. It takes no
+    /// memory.
     pub(crate) fn put_row(&mut self, row: Row)
         requires room { HasRoomOf self.old.rooms row }
         requires may { MayPut self.old.state row }

@@ -7,7 +7,26 @@ ghost use Rattle.node_steps.specs.Drafts.{step_of};
 ghost use Rattle.operator_rows.specs.FullSteps.{full_step_of};
 ghost use Rattle.operator_rows.specs.Kept.{AreAsked};
 ghost use Rattle.operator_rows.specs.Sound.{MayChange, MayChangeAll};
-ghost use Rattle.operator_rows.specs.Steps.{AreAwaitable, AreSendable, HasFullRoomFor, HasRoomFor, HasTimeRoom, HaveTimeRoom, KeepsTimeRoom, MayFollow, MayFollowFull, after, after_change, after_changes, after_full, number_of, restarted, time_taken, timed, timed_all};
+ghost use Rattle.operator_rows.specs.Steps.{
+  AreAwaitable,
+  AreSendable,
+  HasFullRoomFor,
+  HasRoomFor,
+  HasTimeRoom,
+  HaveTimeRoom,
+  KeepsTimeRoom,
+  MayFollow,
+  MayFollowFull,
+  after,
+  after_change,
+  after_changes,
+  after_full,
+  number_of,
+  restarted,
+  time_taken,
+  timed,
+  timed_all,
+};
 ghost use Rattle.operator_rows.specs.Stored.{AreApart, Each, HasRoom, KeepsOtherRoom, change_key};
 
 use crate::books::Books;
@@ -75,8 +94,8 @@ impl Books {
         }
     }
 
-    /// Carries a step out, for which there is room: its changes row by row, and then what it does to what stands in no row. It
-    /// answers the packets, takes no memory and cannot fail.
+    /// Carries a step out, for which there is room: its changes row by row, and then what it does to what stands in no
+    /// row. It answers the packets, takes no memory and cannot fail.
     pub fn apply(&mut self, plan: Plan) -> Vec<Packet>
         requires room { HasRoomFor self.old (step_of plan) }
         requires may { MayFollow self.old.state (step_of plan) }
@@ -108,8 +127,8 @@ impl Books {
         self.waits.change_all(waits);
     }
 
-    /// Carries a step out as `apply` does, and what it does to the authorizations that are awaited, for both of which there is
-    /// room. It answers the packets, takes no memory and cannot fail.
+    /// Carries a step out as `apply` does, and what it does to the authorizations that are awaited, for both of which
+    /// there is room. It answers the packets, takes no memory and cannot fail.
     pub fn apply_full(&mut self, plan: FullPlan) -> Vec<Packet>
         requires room { HasFullRoomFor self.old (full_step_of plan) }
         requires may { MayFollowFull self.old.state (full_step_of plan) }
@@ -122,8 +141,8 @@ impl Books {
         packets
     }
 
-    /// The operator starts again from what it stored: each push is due at once, and no authorization is awaited. It takes no
-    /// memory.
+    /// The operator starts again from what it stored: each push is due at once, and no authorization is awaited. It
+    /// takes no memory.
     pub fn restart(&mut self, alloc: Global)
         ensures { self.new.state ≡ restarted self.old.state }
     {

@@ -1,4 +1,5 @@
--- Commands that end one after the other: the rows allow it, and the pushes of their results may be sent; so it may be done in one step.
+-- Commands that end one after the other: the rows allow it, and the pushes of their results may be sent; so it may be
+-- done in one step.
 use Rattle.std.proofs.Common.{◌≡◌, ◌≢◌, ◌<◌, ◌≤◌, ◌+◌, ℕ, List, [], ◌∷◌, length, inl, inr, refl, sym, ap, subst, ◌∙◌, arith}
 use Rattle.std.specs.Prelude.{None, Contains, IsTrue}
 use Rattle.std.specs.FinMap.{get, contains_key}

@@ -44,8 +44,8 @@ take_claims s at sound w used (FreeAt working ends is) d claim lasts = absurd (l
 take_claims s at sound w used (HeldAt working id holds held is) d claim lasts =
     subst (λ u. IsUsed (key w.token.party) u d) (sym is) (sound.one_claim (evse_of w) d (Reserved (key w.token.party) id) claim (holds.reservation, holds.stands, holds.here))
 
--- a session that begins where no answer came: it is at a connector of the site, at the EVSE where the driver waits, which nothing
--- claims beyond the moment but what it uses
+-- a session that begins where no answer came: it is at a connector of the site, at the EVSE where the driver waits,
+-- which nothing claims beyond the moment but what it uses
 record MayBeginThere (s : State) (at : ℕ) (w : Awaited) (b : Beginning) : Type 0 where
   place : IsConnectorOf s.site.locations (key b.place.evse_uid) (key b.place.connector_id)
   here : key b.place.evse_uid ≡ evse_of w

@@ -1,4 +1,5 @@
--- The authorizations that get no answer, read from the state before a moment or from what the timeouts and expiries left.
+-- The authorizations that get no answer, read from the state before a moment or from what the timeouts and expiries
+-- left.
 use Rattle.std.proofs.Common.{◌+◌, ◌↔◌, ℕ, List}
 use Rattle.std.specs.Prelude.{Option, Some, None}
 use Rattle.ocpi_text.specs.Text.{key}

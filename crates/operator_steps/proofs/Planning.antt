@@ -24,8 +24,9 @@ use Rattle.operator_steps.proofs.Fitting.{AreFit, fit_step, numbered_for}
 use Rattle.operator_steps.proofs.Counts.{counters_after}
 use Rattle.operator_steps.proofs.Sending.{ActsAreSent, may_send, sent_with}
 
--- the acts change different rows and no counter that the step stores; the rows allow them, one after the other, once the counters are
--- stored; what they send stands then; and the versions and charge detail records that they put may come next
+-- the acts change different rows and no counter that the step stores; the rows allow them, one after the other, once
+-- the counters are stored; what they send stands then; and the versions and charge detail records that they put may
+-- come next
 pub record ArePlanned (s : State) (acts : List Act) : Type 0 where
   pub orderly : AreOrderly acts
   pub fit : AreFit (numbered_for acts s) acts

@@ -29,7 +29,8 @@ use Rattle.operator_steps.proofs.Orderly.{of_cons, in_later, each_in}
 abbrev pub LeavesPush : ℕ → List Change → Type 0
 LeavesPush n cs = (c : Change) → Contains cs c → change_key c ≢ keys.Push n
 
--- what is sent is a push that the changes put, under a number that has no resend time; or it stands, and no change is of it
+-- what is sent is a push that the changes put, under a number that has no resend time; or it stands, and no change is
+-- of it
 pub data IsSent (s : State) (changes : List Change) (v : Volatile) : Type 0 where
   New : (to : List ℕ) (push : Push) → Contains changes (Put (row.Push (number_of v) to push)) → get s.resend (number_of v) ≡ None → IsSent s changes v
   Again : IsTrue (contains_key s.rows.pushes (number_of v)) → LeavesPush (number_of v) changes → IsSent s changes v

@@ -99,7 +99,8 @@ spent p (Some reference) = changed (Put (row.Spent p (key reference))) ∷ []
 abbrev pub told : List ℕ → CommandResultType → CommandResult
 told url x = record { response_url = url; result = x }
 
--- the command of number n of the party `to`, whose key is p, ended by that result, which is pushed as the request after `last`, and kept
+-- the command of number n of the party `to`, whose key is p, ended by that result, which is pushed as the request
+-- after `last`, and kept
 abbrev pub settled : ℕ → ℕ → List ℕ → List ℕ → ℕ → List ℕ → CommandResultType → List Act
 settled at last to p n url x = pushed at (last + 1) to (push.CommandResult (told url x)) ∷ (changed (Put (row.Result p n x)) ∷ [])
 
@@ -118,7 +119,7 @@ own_acts at p n c (decision.Noted id x) = marked p id n ∷ []
 own_acts at p n c (decision.Reserved id r) = marked p id n ∷ (reserved p id r ∷ [])
 own_acts at p n c (decision.Cancelled id) = marked p id n ∷ (freed p id ∷ [])
 
--- a decision on the command of that number of a party `to`, whose key is p: it is answered, what was decided is done, and its result
--- follows, where there is one
+-- a decision on the command of that number of a party `to`, whose key is p: it is answered, what was decided is done,
+-- and its result follows, where there is one
 abbrev pub decided_acts : ℕ → ℕ → List ℕ → List ℕ → ℕ → Command → Decision → List Act
 decided_acts at last to p n c d = answered p to n (reply_of at d) ∷ (own_acts at p n c d ++ settled_if at last to p n (url_of c) (result_of d))

@@ -1,5 +1,5 @@
--- What an operator does where a token's provider is to be asked, where it answers, and where it does not answer in time (OCPI 2.2.1,
--- Tokens: Real-time authorization).
+-- What an operator does where a token's provider is to be asked, where it answers, and where it does not answer in
+-- time (OCPI 2.2.1, Tokens: Real-time authorization).
 use Rattle.std.specs.Prelude.{◌≡◌, ℕ, ◌+◌, min, map, List, [], ◌∷◌, ◌++◌, Option, Some, None}
 use Rattle.std.specs.FinMap.{get}
 use Rattle.ocpi_text.specs.Moment.{last_moment}
@@ -74,8 +74,8 @@ pub record IsUnanswered (s : State) (n : ℕ) (begins : Option Beginning) : Type
   pub stands : get s.waits n ≡ Some awaited
   pub decided : Decided (BeginsWithoutAnswer s.site (MayTake s.rows awaited.token (key awaited.place.evse_uid)) awaited) begins
 
--- the sessions that begin where those authorizations get no answer, in this order: each is pushed under the next request, and has the
--- next number of a session; `now` is the last number of a session then
+-- the sessions that begin where those authorizations get no answer, in this order: each is pushed under the next
+-- request, and has the next number of a session; `now` is the last number of a session then
 pub data AreUnanswered (s : State) (at : ℕ) : ℕ → ℕ → List ℕ → List Act → ℕ → Type 0 where
   None_left : (last n : ℕ) → AreUnanswered s at last n [] [] n
   Nothing_begins : (last n k : ℕ) (ks : List ℕ) (acts : List Act) (now : ℕ) → IsUnanswered s k None → AreUnanswered s at last n ks acts now →
@@ -83,7 +83,8 @@ pub data AreUnanswered (s : State) (at : ℕ) : ℕ → ℕ → List ℕ → Lis
   Begins_session : (last n k : ℕ) (ks : List ℕ) (b : Beginning) (begun acts : List Act) (now : ℕ) → IsUnanswered s k (Some b) → IsBegun s at last (n + 1) b begun →
       AreUnanswered s at (last + 1) (n + 1) ks acts now → AreUnanswered s at last n (k ∷ ks) (begun ++ acts) now
 
--- authorizations that are awaited until a deadline at or before the moment are awaited no more, by the numbers of their requests
+-- authorizations that are awaited until a deadline at or before the moment are awaited no more, by the numbers of
+-- their requests
 pub record Deadlines (at : ℕ) (s : State) (work : Work) : Type 0 where
   pub due : List ℕ
   pub are_due : AreExactly (IsDue s.waits at) due

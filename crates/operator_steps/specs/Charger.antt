@@ -95,8 +95,8 @@ Shows s (event.Fault evse_uid) d = ⊥
 abbrev pub ShowsNone : State → ChargerEvent → Type 0
 ShowsNone s report = (d : Shown) → Shows s report d → d ≡ Nothing
 
--- what a report comes to, were there no last number: a command ends; a start begins a session; a session goes on or ends; a token
--- begins a session, or is asked about; or nothing happens
+-- what a report comes to, were there no last number: a command ends; a start begins a session; a session goes on or
+-- ends; a token begins a session, or is asked about; or nothing happens
 pub data ChargerLine (s : State) (at : ℕ) (report : ChargerEvent) (work : Work) : Type 0 where
   Ended : (e : Ending) → IsEnded s report e → work ≡ quiet (ends_acts at s.rows.commands.pending s.rows.request (e ∷ [])) → ChargerLine s at report work
   Started : (e : Ending) (b : Beginning) (begun : List Act) → IsStarted s report e b → IsBegun s at (s.rows.request + 1) (s.rows.charged.last_session + 1) b begun →

@@ -11,8 +11,8 @@ use Rattle.operator_steps.specs.Charger.{ChargerLine}
 use Rattle.operator_steps.specs.Tick.{TickLine}
 use Rattle.operator_steps.specs.Service.{ServiceLine}
 
--- what reaches an operator: a packet comes at a moment, an EVSE goes out of service or comes back, a charge point reports at a
--- moment, time passes, and the operator starts again from what it stored
+-- what reaches an operator: a packet comes at a moment, an EVSE goes out of service or comes back, a charge point
+-- reports at a moment, time passes, and the operator starts again from what it stored
 pub data Input : Type 0 where
   Arrives : ℕ → Packet → Input
   Serves : List ℕ → Bool → Input
@@ -37,8 +37,8 @@ pub record Event : Type 0 where
 abbrev pub event_out : Event → State → Out
 event_out e t = record { state = t; changes = e.changes; packets = e.packets }
 
--- an event leads from one state to another: the operator does what the input asks for, or starts again; or the event is refused,
--- by the operator or by the keeper of its rows, and then nothing changes and nothing is sent
+-- an event leads from one state to another: the operator does what the input asks for, or starts again; or the event
+-- is refused, by the operator or by the keeper of its rows, and then nothing changes and nothing is sent
 pub data Happens (s : State) (e : Event) (t : State) : Type 0 where
   Done : StepBy (Asks s e.input) s (event_out e t) → Happens s e t
   Restarted : e.input ≡ Restarts → event_out e t ≡ idle (restarted s) → Happens s e t

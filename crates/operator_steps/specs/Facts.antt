@@ -11,7 +11,8 @@ use Rattle.operator_steps.specs.Charger.{ChargerLine}
 use Rattle.operator_steps.specs.Service.{ServiceLine}
 use Rattle.operator_steps.specs.Tick.{TickLine}
 
--- where what holds at all times holds, what the line asks for may be carried out, if it takes no counter past its last number
+-- where what holds at all times holds, what the line asks for may be carried out, if it takes no counter past its last
+-- number
 abbrev pub MayBeCarriedOut : Stage → Type 0
 MayBeCarriedOut Line = (s : State) (work : Work) → IsConsistent s → Line s work → AreInRange s work.acts → MayFollowFull s (step_of_work s work)
 

@@ -1,5 +1,5 @@
--- What an operator does where a session begins, goes on or ends: its acts (OCPI 2.2.1, Sessions: Sender interface; CDRs: Sender
--- interface).
+-- What an operator does where a session begins, goes on or ends: its acts (OCPI 2.2.1, Sessions: Sender interface;
+-- CDRs: Sender interface).
 use Rattle.std.specs.Prelude.{◌≡◌, ◌≢◌, ◌<◌, ℕ, ◌+◌, List, [], ◌∷◌, ◌++◌, Option, Some, None}
 use Rattle.ocpi_text.specs.Moment.{last_moment}
 use Rattle.ocpi_text.specs.OwnIds.{own_id_text}
@@ -33,7 +33,8 @@ abbrev pub replaced : Option ℕ → List Act
 replaced None = []
 replaced (Some n) = acknowledged n ∷ []
 
--- the version of a session is pushed to the party `to` as the request after `last`, in place of the push of an older one, and stored
+-- the version of a session is pushed to the party `to` as the request after `last`, in place of the push of an older
+-- one, and stored
 abbrev pub versioned : ℕ → ℕ → List ℕ → Option ℕ → Session → List Act
 versioned at last to old v = replaced old ++ (pushed at (last + 1) to (push.PutSession v) ∷ (changed (Put (row.Session v)) ∷ []))
 
@@ -66,8 +67,8 @@ pub record IsBegun (s : State) (at last n : ℕ) (b : Beginning) (acts : List Ac
 abbrev pub next_cdr : State → Session → Location → Evse → Connector → Cdr
 next_cdr s w l e k = cdr_of w (own_id_text own.Cdr s.party (s.rows.charged.last_cdr + 1)) (cdr_location_of l e k)
 
--- a version that is COMPLETED gets its charge detail record, which is pushed to the provider of its token as the request after `last`,
--- and stored; no other does
+-- a version that is COMPLETED gets its charge detail record, which is pushed to the provider of its token as the
+-- request after `last`, and stored; no other does
 pub data IsBilled (s : State) (at last : ℕ) (w : Session) (acts : List Act) : Type 0 where
   Billed : w.status ≡ Completed → (to : List ℕ) → IsPeer s.providers w.cdr_token.party to → (l : Location) (e : Evse) (k : Connector) →
       IsConnectorAt s.site.locations (key w.evse_uid) (key w.connector_id) l e k →
@@ -75,8 +76,8 @@ pub data IsBilled (s : State) (at last : ℕ) (w : Session) (acts : List Act) : 
       IsBilled s at last w acts
   Unbilled : w.status ≢ Completed → acts ≡ [] → IsBilled s at last w acts
 
--- the session at an EVSE goes on or ends as a report tells: its new version is pushed, and, where it is complete, its charge detail
--- record. The version before was not updated at the last moment, since then there is no later one
+-- the session at an EVSE goes on or ends as a report tells: its new version is pushed, and, where it is complete, its
+-- charge detail record. The version before was not updated at the last moment, since then there is no later one
 pub record IsMoved (s : State) (at : ℕ) (report : ChargerEvent) (acts : List Act) : Type 0 where
   pub before : Session
   pub after : Session

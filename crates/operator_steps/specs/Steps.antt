@@ -26,7 +26,8 @@ use Rattle.operator_steps.specs.Acts.{decided_acts}
 use Rattle.operator_steps.specs.Asking.{IsAnswered, IsAwaited}
 use Rattle.operator_steps.specs.Moves.{Out, StepBy, Work, quiet}
 
--- the acknowledgement ends a push of this operator: it has status 1000, and comes from the addressee under the push's number
+-- the acknowledgement ends a push of this operator: it has status 1000, and comes from the addressee under the push's
+-- number
 abbrev pub Acknowledges : State → Packet → Ack → Type 0
 Acknowledges s q a = (a.status_code ≡ 1000) × IsTo s.rows.pushes q.from q.request
 
@@ -51,9 +52,9 @@ pub data TokenLine (s : State) (at : ℕ) (to sender : List ℕ) (n : ℕ) (t : 
   Stored : key t.party ≡ sender → IsNewer s.rows.tokens t → acts ≡ answered sender to n (acknowledgement at 1000) ∷ (changed (Put (row.Token t)) ∷ []) →
       TokenLine s at to sender n t acts
 
--- what becomes of a packet of the provider that the site spells `to`. A request that has a kept reply gets that reply again;
--- another is decided. An acknowledgement ends the push that it is for, or is idle; an answer ends the waiting that it is for, or is
--- idle
+-- what becomes of a packet of the provider that the site spells `to`. A request that has a kept reply gets that reply
+-- again; another is decided. An acknowledgement ends the push that it is for, or is idle; an answer ends the waiting
+-- that it is for, or is idle
 pub data PacketLine (s : State) (at : ℕ) (q : Packet) (to : List ℕ) (work : Work) : Type 0 where
   Again : IsRequestBody q.body → (r : Reply) → get s.rows.commands.replies (key q.from, q.request) ≡ Some r → work ≡ quiet (repeated to q.request r ∷ []) →
       PacketLine s at q to work

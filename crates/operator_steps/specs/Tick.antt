@@ -49,8 +49,8 @@ pub record Resends (last at : ℕ) (s : State) (acts : List Act) : Type 0 where
   pub are_due : AreExactly (IsToResend last s at) due
   pub acts_are : acts ≡ all_resent at s.rows.pushes due
 
--- what a moment comes to, were there no last number: each stage sees what the ones before it left, so that an authorization whose
--- deadline has come may take an EVSE that a timeout or an expiry freed
+-- what a moment comes to, were there no last number: each stage sees what the ones before it left, so that an
+-- authorization whose deadline has come may take an EVSE that a timeout or an expiry freed
 abbrev pub TickLine : State → ℕ → Work → Type 0
 TickLine s at work = Stages ((λ t. Quietly (Timeouts at t)) ∷ ((λ t. Quietly (Expiries at t)) ∷ (Deadlines at ∷ ((λ t. Quietly (Resends s.rows.request at t)) ∷ [])))) s work
 

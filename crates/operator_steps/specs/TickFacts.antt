@@ -27,8 +27,8 @@ use Rattle.session_tables.specs.declared.beginning.Beginning.{Beginning}
 use Rattle.session_tables.specs.Answers.{BeginsWithoutAnswer, Decided}
 use Rattle.session_tables.specs.Places.{MayTakeAt}
 
--- whether a session begins where the authorization that is awaited under that number gets no answer, read before the moment: the claims
--- that end by the moment are passed over
+-- whether a session begins where the authorization that is awaited under that number gets no answer, read before the
+-- moment: the claims that end by the moment are passed over
 pub record IsLeftUnanswered (s : State) (at n : ℕ) (begins : Option Beginning) : Type 0 where
   pub awaited : Awaited
   pub stands : get s.waits n ≡ Some awaited
@@ -47,8 +47,8 @@ pub record IsStillDue (s : State) (at : ℕ) (begun : List Act) (n : ℕ) : Type
   pub due : IsDue (as_outbox s.rows) s.resend at n
   pub unreplaced : ¬ Contains (all_changes begun) (Drop (keys.Push n))
 
--- the acts of a moment: commands time out, reservations expire, sessions begin, and pushes that are due are sent again, all as they stood
--- before
+-- the acts of a moment: commands time out, reservations expire, sessions begin, and pushes that are due are sent
+-- again, all as they stood before
 abbrev pub tick_acts : ℕ → State → List Ending → List Standing → ℕ → List Act → List ℕ → List Act
 tick_acts at s ends expired now begun due =
     (ends_acts at s.rows.commands.pending s.rows.request ends ++ expired_acts expired) ++

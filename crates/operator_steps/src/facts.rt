@@ -12,7 +12,8 @@ pub fn reports_may_follow()
     ensures { ReportsMayFollow }
 {}
 
-/// What an EVSE asks for that goes out of service or comes back may be carried out, where what holds at all times holds.
+/// What an EVSE asks for that goes out of service or comes back may be carried out, where what holds at all times
+/// holds.
 pub fn service_may_follow()
     ensures { ServiceMayFollow }
 {}

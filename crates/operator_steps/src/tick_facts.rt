@@ -2,8 +2,8 @@
 
 ghost use Rattle.operator_steps.specs.TickFacts.{DueHaveProviders, StagesSeeStart};
 
-/// What times out, has expired, is awaited no more and is due at a moment may all be read from the state before it, though each
-/// stage of the moment sees what the ones before it left.
+/// What times out, has expired, is awaited no more and is due at a moment may all be read from the state before it,
+/// though each stage of the moment sees what the ones before it left.
 pub fn stages_see_start()
     ensures { StagesSeeStart }
 {}

@@ -32,7 +32,8 @@ use Rattle.operator_stored.proofs.BadRows.{make_again}
 pub at_place : {X : Type 0} (xs : List X) (k : ℕ) (x : X) → slice_get xs k ≡ Some x → Contains xs x
 at_place xs k x is = (k, slice_get_within xs k x is, get_or_from_slice_get xs k x x is)
 
--- two charge detail records of one session are bad rows: they are two of one key, or one is of another operator, or their ids differ
+-- two charge detail records of one session are bad rows: they are two of one key, or one is of another operator, or
+-- their ids differ
 billed_twice : (line : SiteLine) (rows : List Row) → BillsTwice rows → IsBad line rows
 billed_twice line rows t =
     let first : Contains rows (row.Cdr t.one) = at_place rows t.first (row.Cdr t.one) t.one_is in

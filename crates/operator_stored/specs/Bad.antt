@@ -1,4 +1,5 @@
--- Why rows are those of no operator of a site: each reason names the rows that show it, wherever in the list they stand.
+-- Why rows are those of no operator of a site: each reason names the rows that show it, wherever in the list they
+-- stand.
 use Rattle.std.specs.Prelude.{◌≡◌, ◌≢◌, ℕ, List, Some, Contains, ⊤}
 use Rattle.ocpi_text.specs.Text.{key}
 use Rattle.ocpi_text.specs.declared.own_ids.OwnIdKind.TheVariants as own

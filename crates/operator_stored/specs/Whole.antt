@@ -1,4 +1,5 @@
--- What stored rows of an operator are tested for beside what its type keeps. It holds of each operator that ran from its opening.
+-- What stored rows of an operator are tested for beside what its type keeps. It holds of each operator that ran from
+-- its opening.
 use Rattle.std.specs.Prelude.{◌≡◌, ℕ, List, Some}
 use Rattle.std.specs.FinMap.{get}
 use Rattle.ocpi_text.specs.Text.{key}
@@ -10,7 +11,8 @@ use Rattle.session_state.specs.Resuming.{CannotResume}
 use Rattle.stored_rows.specs.Given.{IsOwnId}
 use Rattle.operator_rows.specs.State.{State, Rows}
 
--- each COMPLETED session has a charge detail record, and no session has two, and no other session has one (OCPI 2.2.1, CDRs)
+-- each COMPLETED session has a charge detail record, and no session has two, and no other session has one (OCPI 2.2.1,
+-- CDRs)
 pub record AreBilled (s : Rows) : Type 0 where
   pub each : (id : List ℕ) (v : Session) → get s.charged.sessions id ≡ Some v → v.status ≡ Completed →
       (x : Cdr) × (get s.charged.cdrs (key x.id) ≡ Some x) × (key x.session_id ≡ key v.id)
@@ -19,8 +21,8 @@ pub record AreBilled (s : Rows) : Type 0 where
   pub once : (i j : List ℕ) (x y : Cdr) → get s.charged.cdrs i ≡ Some x → get s.charged.cdrs j ≡ Some y → key x.session_id ≡ key y.session_id → i ≡ j
 
 pub record IsWhole (s : State) : Type 0 where
-  -- each session has an id of the operator's own, and can go on from its newest version: its status is one that a session has, and
-  -- its cost that of its energy at the site's price
+  -- each session has an id of the operator's own, and can go on from its newest version: its status is one that a
+  -- session has, and its cost that of its energy at the site's price
   pub sessions : (id : List ℕ) (v : Session) → get s.rows.charged.sessions id ≡ Some v → (n : ℕ) × IsOwnId own.Session s.party v.id n
   pub resumable : (id : List ℕ) (v : Session) → get s.rows.charged.sessions id ≡ Some v → ¬ CannotResume s.site.price v
   -- each charge detail record has an id of the operator's own

@@ -4,7 +4,20 @@ ghost use Rattle.std.specs.Prelude.{◌≡◌, ◌⊎◌, IfOk, IsTrue, List, Ma
 ghost use Rattle.std.specs.FinSet as set;
 ghost use Rattle.ocpi_types.specs.declared.words.SessionStatus.TheVariants.{Completed};
 ghost use Rattle.ocpi_types.specs.declared.rows.Row.TheVariants as row;
-ghost use Rattle.operator_stored.specs.Bills.{Agrees, AreBilledBy, AreBillsOf, AreIdsOf, BillOf, BillsTwice, EndOf, HasEnded, HaveAlso, IsEarly, IsMisbilled, IsUnbilled};
+ghost use Rattle.operator_stored.specs.Bills.{
+  Agrees,
+  AreBilledBy,
+  AreBillsOf,
+  AreIdsOf,
+  BillOf,
+  BillsTwice,
+  EndOf,
+  HasEnded,
+  HaveAlso,
+  IsEarly,
+  IsMisbilled,
+  IsUnbilled,
+};
 
 use ocpi_types::{IdSet, Row, Session, SessionStatus};
 use std::alloc::{AllocError, Global};
@@ -108,8 +121,8 @@ fn all_agree(rows: &[Row], billed: &IdSet, ended: &IdSet) -> bool
     true
 }
 
-/// Whether each session that is COMPLETED has a charge detail record among the rows, none has two, and no other session has
-/// one. An error is want of memory.
+/// Whether each session that is COMPLETED has a charge detail record among the rows, none has two, and no other
+/// session has one. An error is want of memory.
 pub fn are_billed(alloc: Global, rows: &[Row]) -> Result<bool, AllocError>
     ensures { IfOk result (λ b. MatchBool b (AreBillsOf rows.now) (IsMisbilled rows.now)) }
 {

@@ -20,7 +20,8 @@ use operator_rows::Books;
 use std::alloc::Global;
 use stored_rows::{RowsFault, in_turn};
 
-/// Puts rows that come in turn, one by one, each where it may be. Where one may not the rows are bad, and it is refused.
+/// Puts rows that come in turn, one by one, each where it may be. Where one may not the rows are bad, and it is
+/// refused.
 fn put_all(books: &mut Books, rows: Vec<Row>) -> Result<(), RowsFault>
     requires sorted { IsNonDecreasingBy turn_of rows.items }
     requires first { (line : SiteLine) × (books.old.state ≡ opening line) }
@@ -34,9 +35,9 @@ fn put_all(books: &mut Books, rows: Vec<Row>) -> Result<(), RowsFault>
     Ok(())
 }
 
-/// The books of an operator of a site that has just these rows, in whatever order they come: each push is due at once, and no
-/// authorization is awaited. So of all that an operator stored the very same books are made, as it starts again. Refused (`BadRows`)
-/// where no operator of that site has just these rows: `IsBad` lists the reasons.
+/// The books of an operator of a site that has just these rows, in whatever order they come: each push is due at once,
+/// and no authorization is awaited. So of all that an operator stored the very same books are made, as it starts
+/// again. Refused (`BadRows`) where no operator of that site has just these rows: `IsBad` lists the reasons.
 pub fn books_of_rows(alloc: Global, line: SiteLine, rows: Vec<Row>) -> Result<Books, RowsFault>
     ensures made { IfOk result (λ b. IsMadeOf line rows.items b.state) }
     ensures bad { IfErr result (λ e. e ≡ RowsFault.BadRows → IsBad line rows.items) }

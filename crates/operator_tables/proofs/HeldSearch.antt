@@ -27,7 +27,8 @@ use Rattle.site_book.specs.Sites.{IsNamed}
 use Rattle.operator_rows.specs.State.{Rows}
 use Rattle.operator_tables.specs.Held.{IsPlaceOn, IsHeldBy}
 
--- fewer pass one test than another, where what passes the first passes the second, and something passes the second alone
+-- fewer pass one test than another, where what passes the first passes the second, and something passes the second
+-- alone
 module _ {A : Type 0} (p q : A → Bool) (weaker : (a : A) → p a ≡ true → q a ≡ true) where
   more : (a : A) (m n : ℕ) → m ≤ n → cond (p a) (suc m) m ≤ cond (q a) (suc n) n
   more a m n le = go (p a) (q a) refl (weaker a)

@@ -14,7 +14,8 @@ use Rattle.operator_tables.specs.Reserve.{ReserveLine}
 use Rattle.operator_tables.specs.Cancel.{CancelLine}
 use Rattle.operator_tables.specs.Unlock.{UnlockLine}
 
--- the decision on a command that a party sent at a moment under its number n, by the first line of the command's table that applies
+-- the decision on a command that a party sent at a moment under its number n, by the first line of the command's table
+-- that applies
 abbrev pub Decides : Site → Rows → ℕ → List ℕ → ℕ → Command → Decision → Type 0
 Decides site s at sender n (command.StartSession c) d = StartLine site s sender c d
 Decides site s at sender n (command.StopSession c) d = StopLine s sender c d

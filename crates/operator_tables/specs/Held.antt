@@ -23,7 +23,8 @@ pub record IsPlaceOn (s : Rows) (c : StartSession) (l : Location) (x : Standing)
   pub place : Fits l.evses (Some x.reservation.evse_uid) c.connector_id e k
   pub works : Works s e
 
--- an EVSE in service and a connector of it, which the command may be about, and which the reservation holds for the token
+-- an EVSE in service and a connector of it, which the command may be about, and which the reservation holds for the
+-- token
 pub record IsHeldBy (s : Rows) (t : TokenAt) (c : StartSession) (l : Location) (x : Standing) (e : Evse) (k : Connector) : Type 0 where
   pub place : IsPlace l c e k
   pub works : Works s e

@@ -1,5 +1,5 @@
--- What a decision tells of the command and of the state that it was made in, whatever line of a table gave it. Who uses a
--- decision needs no table.
+-- What a decision tells of the command and of the state that it was made in, whatever line of a table gave it. Who
+-- uses a decision needs no table.
 use Rattle.std.specs.Prelude.{◌≡◌, ◌≢◌, ◌<◌, ◌⊎◌, ℕ, true, List, Option, Some, None, IsTrue}
 use Rattle.std.specs.FinMap.{get}
 use Rattle.ocpi_text.specs.Text.{key}
@@ -56,8 +56,8 @@ pub record Opens (s : State) (sender : List ℕ) (c : Command) : Type 0 where
   pub kind : Unlocks c ⊎ Stops s sender c
   pub no_start : ¬ IsStart c
 
--- the reservation of that id of the provider of that key is on the EVSE of that key, and is for the token of the start, at the
--- location that the start names
+-- the reservation of that id of the provider of that key is on the EVSE of that key, and is for the token of the
+-- start, at the location that the start names
 pub record HoldsFor (s : Rows) (p id evse : List ℕ) (x : StartSession) : Type 0 where
   pub reservation : Reservation
   pub stands : get s.booked.reservations (p, id) ≡ Some reservation
@@ -70,8 +70,8 @@ abbrev pub IsOpenTo : Rows → List ℕ → Option (List ℕ) → List ℕ → S
 IsOpenTo s p None evse x = IsFree s evse
 IsOpenTo s p (Some id) evse x = HoldsFor s p id evse x
 
--- a start takes a connector of an EVSE of the site that is in service, as the start names them if it does. The token is the
--- sender's and valid, and the start's reference, if it has one, was not used before
+-- a start takes a connector of an EVSE of the site that is in service, as the start names them if it does. The token
+-- is the sender's and valid, and the start's reference, if it has one, was not used before
 pub record Starts (s : State) (sender : List ℕ) (c : Command) (place : Place) (used : Option (List ℕ)) : Type 0 where
   pub start : StartSession
   pub command_is : c ≡ command.StartSession start
@@ -111,8 +111,9 @@ pub record IsAsked (c : ReserveNow) (r : Reservation) : Type 0 where
   pub expiry_is : r.expiry_date ≡ c.expiry_date
   pub token_is : r.token ≡ c.token
 
--- a reservation is made that was asked for, on an EVSE of the site that is in service, and that nothing but the reservation of
--- that id claims, which is not of another location. It ends after that moment, and its token is the sender's and valid
+-- a reservation is made that was asked for, on an EVSE of the site that is in service, and that nothing but the
+-- reservation of that id claims, which is not of another location. It ends after that moment, and its token is the
+-- sender's and valid
 pub record Reserves (s : State) (at : ℕ) (sender : List ℕ) (n : ℕ) (c : Command) (id : List ℕ) (r : Reservation) : Type 0 where
   pub reserve : ReserveNow
   pub command_is : c ≡ command.ReserveNow reserve

@@ -55,7 +55,8 @@ pub record IsOccupied (s : Rows) (sender : List ℕ) (c : StartSession) (l : Loc
   pub none_held : NoneHeld s sender c l
   pub none_free : (f : Evse) (j : Connector) → IsPlace l c f j → Works s f → ¬ IsFree s (key f.uid)
 
--- the lines of the table: the first that applies decides. An EVSE that is held for the token goes before one that is free
+-- the lines of the table: the first that applies decides. An EVSE that is held for the token goes before one that is
+-- free
 pub data StartLine (site : Site) (s : Rows) (sender : List ℕ) (c : StartSession) (d : Decision) : Type 0 where
   Mismatched : IsMismatched sender c → d ≡ Refused 2001 → StartLine site s sender c d
   UnknownLocation : ¬ IsMismatched sender c → HasNoLocation site c.location_id → d ≡ Refused 2003 → StartLine site s sender c d

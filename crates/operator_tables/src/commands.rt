@@ -17,9 +17,9 @@ use ocpi_text::Party;
 use ocpi_types::{Body, CommandResponseType};
 use operator_rows::Books;
 
-/// The decision on the command that a body carries, by the first line of its table that applies (OCPI 2.2.1, Commands). The
-/// sender is the party as the packet spells it, and the request's provider its key. It costs the logarithm of what is stored,
-/// and takes no memory. A body without a command gets the answer NOT_SUPPORTED.
+/// The decision on the command that a body carries, by the first line of its table that applies (OCPI 2.2.1,
+/// Commands). The sender is the party as the packet spells it, and the request's provider its key. It costs the
+/// logarithm of what is stored, and takes no memory. A body without a command gets the answer NOT_SUPPORTED.
 pub fn decide(books: &Books, request: &Request, sender: &Party, body: &Body) -> Decision
     requires { request.now.provider ≡ key sender.now }
     ensures { (c : Command) → body.now ≡ body_of_command c → Decides books.now.state.site books.now.state.rows request.now.at sender.now request.now.number c result }

@@ -12,8 +12,8 @@ pub enum Decision {
     Answered(CommandResponseType),
     /// The response ACCEPTED. The command is open until its result.
     Opened,
-    /// The response ACCEPTED, to a start, which is open until its result. It takes this place, and uses up the reservation
-    /// that held it, if one did.
+    /// The response ACCEPTED, to a start, which is open until its result. It takes this place, and uses up the
+    /// reservation that held it, if one did.
     Started {
         place: Place,
         reservation_id: Option<CiKey<36>>,
@@ -25,8 +25,8 @@ pub enum Decision {
         reservation_id: CiKey<36>,
         result: CommandResultType,
     },
-    /// The response ACCEPTED, and then the result ACCEPTED. The reservation's mark is set, and it is made, or takes the place
-    /// of the one of its id.
+    /// The response ACCEPTED, and then the result ACCEPTED. The reservation's mark is set, and it is made, or takes
+    /// the place of the one of its id.
     Reserved {
         reservation_id: CiKey<36>,
         reservation: Reservation,

@@ -1,4 +1,5 @@
-//! What is asked of the EVSEs that a command may be about, once one was found: one that is named is looked up by its key alone.
+//! What is asked of the EVSEs that a command may be about, once one was found: one that is named is looked up by its
+//! key alone.
 
 ghost use Rattle.std.specs.Prelude.{◌≡◌, ◌↔◌, IsTrue, IfSome, IfNone};
 ghost use Rattle.ocpi_types.specs.declared.site.Evse.{Evse};
@@ -24,8 +25,8 @@ pub fn serves(
     }
 }
 
-/// As `SiteBook::free_evse`, where the uid of an EVSE that was found is given, and one is in service: where one is named, both
-/// are that one.
+/// As `SiteBook::free_evse`, where the uid of an EVSE that was found is given, and one is in service: where one is
+/// named, both are that one.
 pub fn free_evse(
     site: &SiteBook,
     at: &FoundLocation<'_>,

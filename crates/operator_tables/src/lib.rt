@@ -1,4 +1,5 @@
-//! How an operator decides each command of a provider (OCPI 2.2.1, Commands), reading what it stores. Nothing is changed here.
+//! How an operator decides each command of a provider (OCPI 2.2.1, Commands), reading what it stores. Nothing is
+//! changed here.
 //!
 //! ```
 //! let request = Request { at, from, provider: packet.from.key(), number: packet.request };
@@ -8,8 +9,8 @@
 //! }
 //! ```
 //!
-//! Each command has a table, whose lines are tried in order: the first that applies decides. The decision is a value of its own
-//! (`Decision`), which owns no memory; what is answered, changed and sent follows from it.
+//! Each command has a table, whose lines are tried in order: the first that applies decides. The decision is a value
+//! of its own (`Decision`), which owns no memory; what is answered, changed and sent follows from it.
 #![tactic(auto)]
 
 mod cancel;

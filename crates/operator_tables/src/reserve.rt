@@ -26,7 +26,8 @@ fn is_named(name: &Option<CiText<36>>, uid: &CiText<36>) -> bool
     }
 }
 
-/// The uid of the EVSE that the command's very reservation holds, where it is in service and the command may be about it.
+/// The uid of the EVSE that the command's very reservation holds, where it is in service and the command may be about
+/// it.
 fn own_evse(
     books: &Books,
     at: &FoundLocation<'_>,
@@ -50,8 +51,8 @@ fn own_evse(
     Some(evse.uid)
 }
 
-/// The uid of an EVSE in service that the command may be about, and that nothing claims but, perhaps, its very reservation.
-/// The uid of one that was found for the command is given.
+/// The uid of an EVSE in service that the command may be about, and that nothing claims but, perhaps, its very
+/// reservation. The uid of one that was found for the command is given.
 fn reservable_evse(
     books: &Books,
     at: &FoundLocation<'_>,
@@ -80,8 +81,8 @@ fn is_void(command: &ReserveNow, at: Moment) -> bool
     !command.token.valid || command.expiry_date <= at
 }
 
-/// The decision on a RESERVE_NOW that got as far as the EVSEs of its location. The uid of an EVSE that was found for it is
-/// given.
+/// The decision on a RESERVE_NOW that got as far as the EVSEs of its location. The uid of an EVSE that was found for
+/// it is given.
 fn decide_at(
     books: &Books,
     at: &FoundLocation<'_>,

@@ -47,8 +47,8 @@ fn is_barred(books: &Books, provider: PartyKey, command: &StartSession) -> bool
     !command.token.valid || books.is_spent(provider, &command.authorization_reference)
 }
 
-/// The place on the EVSE that a reservation is on: the connector that the command names, or the EVSE's first. None, where the
-/// EVSE is out of service, or the location has no such EVSE and connector.
+/// The place on the EVSE that a reservation is on: the connector that the command names, or the EVSE's first. None,
+/// where the EVSE is out of service, or the location has no such EVSE and connector.
 fn place_held(
     books: &Books,
     at: &FoundLocation<'_>,
@@ -85,8 +85,8 @@ fn find_held_on(
     Some((place, standing.id))
 }
 
-/// As `find_held`, for a command that names no EVSE. The reservations for the token are gone through in their order, until
-/// one holds a place.
+/// As `find_held`, for a command that names no EVSE. The reservations for the token are gone through in their order,
+/// until one holds a place.
 fn find_any_held(
     books: &Books,
     at: &FoundLocation<'_>,
@@ -109,9 +109,9 @@ fn find_any_held(
     None
 }
 
-/// The place that a reservation of the provider holds for the token of the command, at the location that was found, and the
-/// reservation's id. The EVSE is in service, and the command may be about it. None, where there is no such reservation. Each
-/// reservation for the token that is passed over costs the logarithm of those that stand.
+/// The place that a reservation of the provider holds for the token of the command, at the location that was found,
+/// and the reservation's id. The EVSE is in service, and the command may be about it. None, where there is no such
+/// reservation. Each reservation for the token that is passed over costs the logarithm of those that stand.
 fn find_held(
     books: &Books,
     at: &FoundLocation<'_>,
@@ -134,8 +134,8 @@ fn find_held(
     }
 }
 
-/// As `SiteBook::free_place`, where a place that was found is given, and an EVSE is in service: where the command names its
-/// EVSE, both are that one.
+/// As `SiteBook::free_place`, where a place that was found is given, and an EVSE is in service: where the command
+/// names its EVSE, both are that one.
 fn free_place(
     site: &SiteBook,
     at: &FoundLocation<'_>,

@@ -6,8 +6,8 @@ use std::alloc::AllocError;
 use std::error::Error;
 use std::fmt;
 
-/// Why no request was made: the first of these that applies, in this order. Its numbers and those of what is refused when it
-/// is handed over (`HandoverFault` of `handover`) are of one list.
+/// Why no request was made: the first of these that applies, in this order. Its numbers and those of what is refused
+/// when it is handed over (`HandoverFault` of `handover`) are of one list.
 #[derive(Clone, Copy, Debug, PartialEq, Eq)]
 pub enum OutboxFault {
     /// The counter of requests has given its last number.

@@ -1,5 +1,5 @@
-//! What a node sends until it is answered: its pushes, which are acknowledged, and at a provider the commands that it has
-//! sent; and the number of its last request.
+//! What a node sends until it is answered: its pushes, which are acknowledged, and at a provider the commands that it
+//! has sent; and the number of its last request.
 //!
 //! ```
 //! let mut outbox = Outbox::new(alloc);
@@ -11,8 +11,8 @@
 //! outbox.restart(alloc);
 //! ```
 //!
-//! The push is among those that are `due`, since it was sent ten seconds before; once it is acknowledged it stands no more.
-//! After a restart all that waits for an answer is due.
+//! The push is among those that are `due`, since it was sent ten seconds before; once it is acknowledged it stands no
+//! more. After a restart all that waits for an answer is due.
 #![tactic(auto)]
 
 mod fault;

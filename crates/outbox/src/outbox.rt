@@ -4,7 +4,16 @@ ghost use Rattle.std.specs.Prelude.{◌≡◌, ◌↔◌, ◌+◌, ◌≤◌, �
 ghost use Rattle.std.specs.FinMap as map;
 ghost use Rattle.ocpi_text.specs.Whole.{max_whole};
 ghost use Rattle.ocpi_types.specs.declared.rows.RowKey.TheVariants as keys;
-ghost use Rattle.outbox.specs.Outbox.{AreConsistent, AreResent, AreUpTo, GivesBack, IsTo, KeepsOtherRoom, Waits, no_rows};
+ghost use Rattle.outbox.specs.Outbox.{
+  AreConsistent,
+  AreResent,
+  AreUpTo,
+  GivesBack,
+  IsTo,
+  KeepsOtherRoom,
+  Waits,
+  no_rows,
+};
 ghost use Rattle.outbox.specs.Pushes.{IsReplaced, subject};
 ghost use Rattle.outbox.specs.Resend.{given_back};
 ghost use Rattle.outbox.specs.declared.fault.OutboxFault.TheVariants.{NumbersUsedUp};
@@ -19,14 +28,14 @@ use std::alloc::Global;
 use std::marker::Model;
 use tables::Visits;
 
-/// The requests of a node that are sent until they are answered, by number, and the number of its last request: pushes,
-/// which end when they are acknowledged, and at a provider commands, which stay, and wait until their answer or their
-/// result comes. A push of a newer version of a session, or of a token to the same operator, replaces the older one. A
-/// request that was sent is due again ten seconds later, and one that was not at once; these times are no rows. A lookup
-/// and a change cost the logarithm of what is stored.
+/// The requests of a node that are sent until they are answered, by number, and the number of its last request:
+/// pushes, which end when they are acknowledged, and at a provider commands, which stay, and wait until their answer
+/// or their result comes. A push of a newer version of a session, or of a token to the same operator, replaces the
+/// older one. A request that was sent is due again ten seconds later, and one that was not at once; these times are no
+/// rows. A lookup and a change cost the logarithm of what is stored.
 ///
-/// At all times each number is at most that of the last request, no number is both a push's and a command's, no two pushes
-/// are about the same, and only what waits has a resend time: `consistency`.
+/// At all times each number is at most that of the last request, no number is both a push's and a command's, no two
+/// pushes are about the same, and only what waits has a resend time: `consistency`.
 #[derive(Drop)]
 pub struct Outbox {
     pub(crate) last: Whole,
@@ -90,8 +99,8 @@ impl Outbox {
         }
     }
 
-    /// What holds at all times: each number is a request's, no number is both a push's and a command's, no two pushes are
-    /// about the same, and only what waits has a resend time.
+    /// What holds at all times: each number is a request's, no number is both a push's and a command's, no two pushes
+    /// are about the same, and only what waits has a resend time.
     pub fn consistency(&self)
         ensures rows { AreConsistent self.now.rows }
         ensures resend { AreResent self.now.rows self.now.resend }
@@ -145,8 +154,8 @@ impl Outbox {
         self.commands.visits()
     }
 
-    /// The number of the push that a newer one to that party would replace: the one about the same session, or about the
-    /// same token at the same operator, if there is one.
+    /// The number of the push that a newer one to that party would replace: the one about the same session, or about
+    /// the same token at the same operator, if there is one.
     pub fn replaced(&self, to: &Party, push: &Push) -> Option<Whole>
         ensures { IsReplaced self.now.rows.pushes (subject to.now push.now) result }
     {
@@ -179,8 +188,8 @@ impl Outbox {
         self.last = last;
     }
 
-    /// Takes the number of the next request, which is neither a push nor a command. It takes no memory. Refused where the
-    /// last one has the greatest number (`NumbersUsedUp`).
+    /// Takes the number of the next request, which is neither a push nor a command. It takes no memory. Refused where
+    /// the last one has the greatest number (`NumbersUsedUp`).
     pub fn take_number(&mut self) -> Result<Whole, OutboxFault>
         ensures ok { IfOk result (λ n. (n ≡ self.old.rows.last + 1) × (self.new ≡ record self.old { rows = record self.old.rows { last = n } })) }
         ensures err { IfErr result (λ e. (e ≡ NumbersUsedUp) × (max_whole ≤ self.old.rows.last) × (self.new ≡ self.old)) }
@@ -191,7 +200,8 @@ impl Outbox {
         Ok(number)
     }
 
-    /// Takes the push of a number out, if there is one, with its resend time, and gives its room back. It takes no memory.
+    /// Takes the push of a number out, if there is one, with its resend time, and gives its room back. It takes no
+    /// memory.
     pub(crate) fn end_push(&mut self, number: Whole)
         requires { map.get self.old.rows.commands number ≡ None }
         ensures rows { self.new.rows ≡ record self.old.rows { pushes = map.remove self.old.rows.pushes number } }
@@ -204,8 +214,8 @@ impl Outbox {
         self.book.remove(number);
     }
 
-    /// Drops the push of that number, and its resend time, where it is to the party that acknowledges it, and gives its room
-    /// back. Anything else stays. It takes no memory.
+    /// Drops the push of that number, and its resend time, where it is to the party that acknowledges it, and gives
+    /// its room back. Anything else stays. It takes no memory.
     pub fn ack(&mut self, from: &Party, number: Whole)
         ensures acknowledged { IsTo self.old.rows.pushes from.now number → self.new.rows ≡ record self.old.rows { pushes = map.remove self.old.rows.pushes number } }
         ensures resend { IsTo self.old.rows.pushes from.now number → self.new.resend ≡ map.remove self.old.resend number }

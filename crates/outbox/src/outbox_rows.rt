@@ -5,7 +5,25 @@ ghost use Rattle.std.specs.FinMap as map;
 ghost use Rattle.ocpi_types.specs.Rows.{key_of};
 ghost use Rattle.ocpi_types.specs.declared.rows.RowKey.TheVariants as keys;
 ghost use Rattle.outbox.specs.Commands.{HasRoomOfCommand};
-ghost use Rattle.outbox.specs.Outbox.{AreUpTo, GivesBack, HasRoomOf, KeepsOtherRoom, KeepsRoom, MayCount, MayDrop, MayPut, MayPutCommand, MayPutPush, counted, drop_row, given_back_of, put_row, released_of, request_of, without};
+ghost use Rattle.outbox.specs.Outbox.{
+  AreUpTo,
+  GivesBack,
+  HasRoomOf,
+  KeepsOtherRoom,
+  KeepsRoom,
+  MayCount,
+  MayDrop,
+  MayPut,
+  MayPutCommand,
+  MayPutPush,
+  counted,
+  drop_row,
+  given_back_of,
+  put_row,
+  released_of,
+  request_of,
+  without,
+};
 ghost use Rattle.outbox.specs.OutboxListing.{AreRowsOf, command_row, count_rows, push_row, rows_of};
 ghost use Rattle.outbox.specs.Pushes.{HasRoomOfPush, subject};
 ghost use Rattle.outbox.specs.Resend.{given_back, released};
@@ -48,9 +66,10 @@ impl Outbox {
         }
     }
 
-    /// Whether the row may be put: whether what holds at all times still holds then. A push or a command may be put where
-    /// its number is at most the last one and none of the other kind, and, of a push, no other is about the same; the
-    /// counter of requests may be put where no request that stands has a greater number; rows of other kinds may.
+    /// Whether the row may be put: whether what holds at all times still holds then. A push or a command may be put
+    /// where its number is at most the last one and none of the other kind, and, of a push, no other is about the
+    /// same; the counter of requests may be put where no request that stands has a greater number; rows of other kinds
+    /// may.
     pub fn may_put(&self, row: &Row) -> bool
         ensures { IsTrue result ↔ MayPut self.now.rows row.now }
     {
@@ -71,8 +90,8 @@ impl Outbox {
         }
     }
 
-    /// Takes the memory that a push or a command needs; rows of other kinds need none. An error is want of memory, for a row
-    /// that has no room. No row and no resend time changes.
+    /// Takes the memory that a push or a command needs; rows of other kinds need none. An error is want of memory, for
+    /// a row that has no room. No row and no resend time changes.
     pub fn reserve_row(&mut self, row: &Row) -> Result<(), AllocError>
         ensures rows { self.new.rows ≡ self.old.rows }
         ensures resend { self.new.resend ≡ self.old.resend }
@@ -139,8 +158,8 @@ impl Outbox {
         }
     }
 
-    /// Puts a push or a command, which is due at once if it waits, or the counter of requests; rows of other kinds change
-    /// nothing. `may_put` says whether the row may be put. It takes no memory.
+    /// Puts a push or a command, which is due at once if it waits, or the counter of requests; rows of other kinds
+    /// change nothing. `may_put` says whether the row may be put. It takes no memory.
     pub fn put_row(&mut self, row: Row)
         requires room { HasRoomOf self.old.rooms row }
         requires may { MayPut self.old.rows row }
@@ -180,9 +199,9 @@ impl Outbox {
         self.commands.remove(number);
     }
 
-    /// Drops a push or a command with its resend time, and gives its room back, or sets the counter of requests to 0; keys
-    /// of other kinds change nothing. The counter may be dropped where no request stands, and a push or a command where its
-    /// number is none of the other kind. It takes no memory.
+    /// Drops a push or a command with its resend time, and gives its room back, or sets the counter of requests to 0;
+    /// keys of other kinds change nothing. The counter may be dropped where no request stands, and a push or a command
+    /// where its number is none of the other kind. It takes no memory.
     pub fn drop_row(&mut self, key: RowKey)
         requires { MayDrop self.old.rows key }
         ensures rows { self.new.rows ≡ drop_row key self.old.rows }

@@ -15,8 +15,8 @@ use std::alloc::{AllocError, Global};
 const RESEND_AFTER: u64 = 10_000;
 
 impl Outbox {
-    /// Takes the memory that `sent` needs for that request and that moment. An error is want of memory, where there was no
-    /// room. No row and no resend time changes.
+    /// Takes the memory that `sent` needs for that request and that moment. An error is want of memory, where there
+    /// was no room. No row and no resend time changes.
     pub fn reserve_sent(&mut self, number: Whole, at: Moment) -> Result<(), AllocError>
         ensures rows { self.new.rows ≡ self.old.rows }
         ensures rooms { self.new.rooms ≡ self.old.rooms }
@@ -57,7 +57,8 @@ impl Outbox {
     }
 
     /// The request of that number was sent at that moment, and is due again ten seconds later, but not after the last
-    /// moment. The room by its old resend time is given back. Where it does not wait nothing changes. It takes no memory.
+    /// moment. The room by its old resend time is given back. Where it does not wait nothing changes. It takes no
+    /// memory.
     pub fn sent(&mut self, number: Whole, at: Moment)
         requires { HasRoomToSend self.old.sending number at }
         ensures rows { self.new.rows ≡ self.old.rows }
@@ -72,10 +73,10 @@ impl Outbox {
         }
     }
 
-    /// The numbers of the requests that are due at that moment, in ascending order: those that wait and have no resend time,
-    /// or one at or before it. It costs what is due, and the order of that, and a step for each request that waits from the
-    /// first on that has no resend time. An error is want of memory, and does not come where nothing is due: then none is
-    /// taken.
+    /// The numbers of the requests that are due at that moment, in ascending order: those that wait and have no resend
+    /// time, or one at or before it. It costs what is due, and the order of that, and a step for each request that
+    /// waits from the first on that has no resend time. An error is want of memory, and does not come where nothing is
+    /// due: then none is taken.
     pub fn due(&self, alloc: Global, at: Moment) -> Result<Vec<Whole>, AllocError>
         ensures ok { IfOk result (λ numbers. AreExactly (IsDue self.now.rows self.now.resend at) numbers.items) }
         ensures none { ((n : ℕ) → IsDue self.now.rows self.now.resend at n → ⊥) → IsOk result }
@@ -92,8 +93,8 @@ impl Outbox {
         Ok(due)
     }
 
-    /// The node starts again: each request that waits is due at once. No row changes. It takes no memory, and the times go
-    /// at once.
+    /// The node starts again: each request that waits is due at once. No row changes. It takes no memory, and the
+    /// times go at once.
     pub fn restart(&mut self, alloc: Global)
         ensures rows { self.new.rows ≡ self.old.rows }
         ensures rooms { self.new.rooms ≡ self.old.rooms }

@@ -2,11 +2,34 @@
 
 ghost use Rattle.std.specs.BTreeMap.Range.{entries_from};
 ghost use Rattle.std.specs.Ordering.{nat_cmp};
-ghost use Rattle.std.specs.Prelude.{◌≡◌, ◌≢◌, ◌↔◌, ◌≤◌, ℕ, Option, Some, None, IfOk, IsOk, OnOk, option_copied, option_map, IsTrue};
+ghost use Rattle.std.specs.Prelude.{
+  ◌≡◌,
+  ◌≢◌,
+  ◌↔◌,
+  ◌≤◌,
+  ℕ,
+  Option,
+  Some,
+  None,
+  IfOk,
+  IsOk,
+  OnOk,
+  option_copied,
+  option_map,
+  IsTrue,
+};
 ghost use Rattle.std.specs.FinMap as map;
 ghost use Rattle.outbox.specs.declared.push_book.Outgoing.{Outgoing};
 ghost use Rattle.outbox.specs.declared.push_book.Subject.{Subject};
-ghost use Rattle.outbox.specs.Pushes.{subject_exact, HasRoomOfPush, KeepsPushRoom, IsReplaced, subject, subject_of, type_number};
+ghost use Rattle.outbox.specs.Pushes.{
+  subject_exact,
+  HasRoomOfPush,
+  KeepsPushRoom,
+  IsReplaced,
+  subject,
+  subject_of,
+  type_number,
+};
 
 use ocpi_text::{CiKey, Party, PartyKey, Whole};
 use ocpi_types::{Push, TokenType};

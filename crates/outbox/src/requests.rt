@@ -4,7 +4,17 @@ ghost use Rattle.std.specs.Prelude.{◌≡◌, ◌+◌, ℕ, None, Some, IfOk, I
 ghost use Rattle.std.specs.FinMap as map;
 ghost use Rattle.ocpi_types.specs.declared.stored.SentCommand.{SentCommand};
 ghost use Rattle.outbox.specs.Commands.{HasRoomOfCommand};
-ghost use Rattle.outbox.specs.Outbox.{Changes, CommandsNew, KeepsRoom, KeepsRoomWithout, MayPutCommand, PushesNew, RefusesNew, given_back_of, without};
+ghost use Rattle.outbox.specs.Outbox.{
+  Changes,
+  CommandsNew,
+  KeepsRoom,
+  KeepsRoomWithout,
+  MayPutCommand,
+  PushesNew,
+  RefusesNew,
+  given_back_of,
+  without,
+};
 ghost use Rattle.outbox.specs.Pushes.{HasRoomOfPush, subject};
 ghost use Rattle.outbox.specs.declared.fault.OutboxFault.TheVariants.{NumbersUsedUp};
 
@@ -44,8 +54,8 @@ impl Outbox {
     }
 
     /// Adds a push under the number of the next request, due at once, and ends the one that it replaces: `replaced`.
-    /// Refused where the last request has the greatest number (`NumbersUsedUp`), and then for want of memory (`Memory`);
-    /// either leaves the rows and the resend times as they were.
+    /// Refused where the last request has the greatest number (`NumbersUsedUp`), and then for want of memory
+    /// (`Memory`); either leaves the rows and the resend times as they were.
     pub fn new_push(&mut self, to: Party, push: Push) -> Result<Whole, OutboxFault>
         ensures ok { IfOk result (λ n. PushesNew self.old to push n self.new) }
         ensures refused { IfErr result (λ e. RefusesNew self.old.rows e) }
@@ -128,8 +138,9 @@ impl Outbox {
         Ok(())
     }
 
-    /// What a command was answered at once came: its row has it from then on, and it waits no more. Where no such command
-    /// was sent nothing changes. An error is want of memory, and leaves the rows and the resend times as they were.
+    /// What a command was answered at once came: its row has it from then on, and it waits no more. Where no such
+    /// command was sent nothing changes. An error is want of memory, and leaves the rows and the resend times as they
+    /// were.
     pub fn set_answer(
         &mut self,
         alloc: Global,
@@ -151,8 +162,8 @@ impl Outbox {
         self.change(number, changed)
     }
 
-    /// How a command ended came: its row has it from then on, and it waits no more. Where no such command was sent nothing
-    /// changes. An error is want of memory, and leaves the rows and the resend times as they were.
+    /// How a command ended came: its row has it from then on, and it waits no more. Where no such command was sent
+    /// nothing changes. An error is want of memory, and leaves the rows and the resend times as they were.
     pub fn set_result(
         &mut self,
         alloc: Global,

@@ -1,10 +1,36 @@
 //! When requests are sent again.
 
-ghost use Rattle.std.specs.Prelude.{◌≡◌, ◌≢◌, ◌↔◌, ◌++◌, ◌≤◌, ℕ, IfOk, IfSome, IfNone, IsOk, IsTrue, OnErr, OnOk, None, Some, Contains};
+ghost use Rattle.std.specs.Prelude.{
+  ◌≡◌,
+  ◌≢◌,
+  ◌↔◌,
+  ◌++◌,
+  ◌≤◌,
+  ℕ,
+  IfOk,
+  IfSome,
+  IfNone,
+  IsOk,
+  IsTrue,
+  OnErr,
+  OnOk,
+  None,
+  Some,
+  Contains,
+};
 ghost use Rattle.std.specs.FinMap as map;
 ghost use Rattle.tables.specs.Tables.{shown_of, rooms_of};
 ghost use Rattle.outbox.specs.Due.{due_front, untimed};
-ghost use Rattle.outbox.specs.Resend.{HasRoomUntil, IsQueue, KeepsSendRoom, given_back, moment_number_cmp, moved_to, released, unqueued};
+ghost use Rattle.outbox.specs.Resend.{
+  HasRoomUntil,
+  IsQueue,
+  KeepsSendRoom,
+  given_back,
+  moment_number_cmp,
+  moved_to,
+  released,
+  unqueued,
+};
 
 use ocpi_text::{Moment, Whole};
 use std::alloc::{AllocError, Global};
@@ -77,8 +103,8 @@ pub(crate) fn push_untimed<V>(
     Ok(())
 }
 
-/// Adds the numbers at the front of a queue whose moments are at or before that one. An error is want of memory for one of
-/// these.
+/// Adds the numbers at the front of a queue whose moments are at or before that one. An error is want of memory for
+/// one of these.
 fn push_due(
     queue: &Table<(Moment, Whole), ()>,
     at: Moment,
@@ -114,7 +140,8 @@ impl SendTimes {
         self.moments.get(number).copied()
     }
 
-    /// Takes the room that a request needs to be due from a moment on. An error is want of memory, where there was none.
+    /// Takes the room that a request needs to be due from a moment on. An error is want of memory, where there was
+    /// none.
     pub(crate) fn reserve(&mut self, moment: Moment, number: Whole) -> Result<(), AllocError>
         ensures resend { self.new.resend ≡ self.old.resend }
         ensures keeps { KeepsSendRoom self.old.rooms self.new.rooms }

@@ -23,7 +23,7 @@ use Rattle.provider_steps.specs.Acts.{allowed_reply, referenced}
 use Rattle.provider_steps.specs.Orders.{next_reference}
 use Rattle.provider_steps.specs.Packets.{IsRight, ResultTaken, ResultKnown, ResultOfNone, SessionRefused, SessionTaken, SessionKept, CdrRefused, CdrInConflict, CdrKept, CdrTaken}
 use Rattle.provider_steps.specs.Packets as lines
-use Rattle.provider_core.specs.declared.answer.Answer.TheVariants.{Refused, Kept, Taken, Resulted, Unknown, Blocked, Allowed}
+use Rattle.provider_core.specs.declared.packets.answer_kinds.Answer.TheVariants.{Refused, Kept, Taken, Resulted, Unknown, Blocked, Allowed}
 use Rattle.provider_core.specs.Answering.{Decides, result_acts, taken_acts}
 
 module _ (s : State) (q : Packet) where

@@ -25,8 +25,8 @@ use Rattle.provider_steps.specs.Faults.{IsPacketFault, PassesLast}
 use Rattle.provider_steps.specs.Moves.{AreInRange}
 use Rattle.provider_steps.specs.Orders.{next_reference}
 use Rattle.provider_steps.specs.Packets.{Again, Answered, Comes, IsRequest, PacketLine}
-use Rattle.provider_core.specs.declared.answer.Answer.{Answer}
-use Rattle.provider_core.specs.declared.answer.Answer.TheVariants.{Refused, Kept, Taken, Resulted, Unknown, Blocked, Allowed}
+use Rattle.provider_core.specs.declared.packets.answer_kinds.Answer.{Answer}
+use Rattle.provider_core.specs.declared.packets.answer_kinds.Answer.TheVariants.{Refused, Kept, Taken, Resulted, Unknown, Blocked, Allowed}
 use Rattle.provider_core.specs.Answering.{Decides, HasNumber, LacksNumber, answer_acts, own_acts, reply_of, result_acts, taken_acts}
 use Rattle.provider_core.specs.Planned.{IsLineFault, ReferWithin}
 

@@ -20,9 +20,9 @@ use Rattle.provider_steps.specs.Acts.{own_url, referenced}
 use Rattle.provider_steps.specs.Faults.{IsOrderFault}
 use Rattle.provider_steps.specs.Orders.{IsOwnToken, OrderLine, next_reference, next_request}
 use Rattle.provider_steps.specs.Orders as makes
-use Rattle.provider_core.specs.declared.prepared.Prepared.{Prepared}
-use Rattle.provider_core.specs.declared.prepared.PreparedStart.{PreparedStart}
-use Rattle.provider_core.specs.declared.prepared.Prepared.TheVariants.{Start, Reserve, Stop, Cancel, Unlock}
+use Rattle.provider_core.specs.declared.orders.prepared_orders.Prepared.{Prepared}
+use Rattle.provider_core.specs.declared.orders.prepared_orders.PreparedStart.{PreparedStart}
+use Rattle.provider_core.specs.declared.orders.prepared_orders.Prepared.TheVariants.{Start, Reserve, Stop, Cancel, Unlock}
 use Rattle.provider_core.specs.Making.{LacksReference, IsPrepared, IsUnprepared, before_of, command_of, order_acts}
 use Rattle.provider_core.specs.Planned.{IsLineFault, ReferWithin}
 use Rattle.provider_core.proofs.Within.{refer_append}

@@ -21,8 +21,8 @@ use Rattle.provider_rows.specs.State.{State}
 use Rattle.provider_steps.specs.Acts.{acknowledgement, allowed_reply, billed, blocked_reply, held, kept, referenced, unknown_reply, with_result}
 use Rattle.provider_steps.specs.Orders.{next_reference}
 use Rattle.provider_steps.specs.Packets.{Answers}
-use Rattle.provider_core.specs.declared.answer.Answer.{Answer}
-use Rattle.provider_core.specs.declared.answer.Answer.TheVariants.{Refused, Kept, Taken, Resulted, Unknown, Blocked, Allowed}
+use Rattle.provider_core.specs.declared.packets.answer_kinds.Answer.{Answer}
+use Rattle.provider_core.specs.declared.packets.answer_kinds.Answer.TheVariants.{Refused, Kept, Taken, Resulted, Unknown, Blocked, Allowed}
 
 -- what is said of a token: with a reference it may be used, and else it may not
 abbrev pub said_of : Token → Option (List ℕ) → AuthorizationInfo

@@ -10,8 +10,8 @@ use Rattle.node_steps.specs.declared.fault.NodeFault.TheVariants.{NotForMe, Unkn
 use Rattle.provider_rows.specs.State.{State}
 use Rattle.provider_steps.specs.Acts.{own_url, referenced}
 use Rattle.provider_steps.specs.Orders.{LacksToken, Makes, next_reference, next_request}
-use Rattle.provider_core.specs.declared.prepared.Prepared.{Prepared}
-use Rattle.provider_core.specs.declared.prepared.Prepared.TheVariants.{Start, Reserve, Stop, Cancel, Unlock}
+use Rattle.provider_core.specs.declared.orders.prepared_orders.Prepared.{Prepared}
+use Rattle.provider_core.specs.declared.orders.prepared_orders.Prepared.TheVariants.{Start, Reserve, Stop, Cancel, Unlock}
 
 -- the command, whose result is posted to a url
 abbrev pub command_of : List ℕ → Prepared → Command

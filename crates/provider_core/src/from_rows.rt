@@ -16,9 +16,9 @@ use std::alloc::{AllocError, Global};
 use stored_rows::RowsFault;
 
 impl Provider {
-    /// The provider with these peers that has just these rows, in whatever order they come: each request that waits is due at once.
-    /// So of all that a provider stored (`stored`) the very same is made, as it starts again. Refused (`BadRows`) where no provider
-    /// with these peers has just these rows.
+    /// The provider with these peers that has just these rows, in whatever order they come: each request that waits is
+    /// due at once. So of all that a provider stored (`stored`) the very same is made, as it starts again. Refused
+    /// (`BadRows`) where no provider with these peers has just these rows.
     pub fn from_rows(alloc: Global, peers: Peers, rows: Vec<Row>) -> Result<Provider, RowsFault>
         ensures made { IfOk result (λ p. IsMadeOf peers rows.items p.state) }
         ensures bad { IfErr result (λ e. e ≡ RowsFault.BadRows → IsBad peers rows.items) }
@@ -36,7 +36,8 @@ impl Provider {
         self.books.peers()
     }
 
-    /// Each token, each session and each charge detail record stands under its own key, so that the rows tell all that is stored.
+    /// Each token, each session and each charge detail record stands under its own key, so that the rows tell all that
+    /// is stored.
     pub fn keys_are_own(&self)
         ensures { AreKeyed self.now.state.rows }
     {

@@ -10,10 +10,14 @@ ghost use Rattle.provider_steps.specs.Moves.{PlannedBy, counters_of, step_of_act
 ghost use Rattle.provider_steps.specs.Orders.{OrderLine};
 ghost use Rattle.provider_core.specs.Making.{before_of, command_of, order_acts};
 
-use crate::prepared::{Prepared, PreparedReserve, PreparedStart};
+mod lookups;
+mod prepared_orders;
+mod response_urls;
+
+use crate::authorization_references::add_reference;
+use crate::orders::prepared_orders::{Prepared, PreparedReserve, PreparedStart};
+use crate::orders::response_urls::own_url;
 use crate::provider::Provider;
-use crate::references::add_reference;
-use crate::urls::own_url;
 use node_steps::{Draft, Needs, NodeFault, Plan, find_peer};
 use ocpi_text::{FreeText, Moment, Party};
 use ocpi_types::{
@@ -23,7 +27,8 @@ use ocpi_types::{
 use provider_steps::facts;
 use std::alloc::{AllocError, Global};
 
-/// The rows that an order changes beside the counters of packets and requests: the counter of references, and the command.
+/// The rows that an order changes beside the counters of packets and requests: the counter of references, and the
+/// command.
 const MOST_CHANGES: usize = 2;
 
 /// The start, whose result is posted to a url. An error is want of memory.

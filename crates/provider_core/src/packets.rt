@@ -15,12 +15,18 @@ ghost use Rattle.provider_steps.specs.Packets.{Acknowledges, Comes, IsAwaited, I
 ghost use Rattle.provider_core.specs.Answering.{answer_acts, own_acts, result_acts};
 ghost use Rattle.provider_core.specs.Planned.{IsLineFault};
 
-use crate::answer::Answer;
-use crate::bodies::{add_taken, is_taken};
+mod answer_kinds;
+mod bodies;
+mod decisions;
+mod replies;
+mod sent_commands;
+
+use crate::authorization_references::add_reference;
+use crate::packets::answer_kinds::Answer;
+use crate::packets::bodies::{add_taken, is_taken};
+use crate::packets::replies::reply;
+use crate::packets::sent_commands::{with_answer, with_result};
 use crate::provider::Provider;
-use crate::references::add_reference;
-use crate::replies::reply;
-use crate::sent::{with_answer, with_result};
 use node_steps::{Draft, Needs, NodeFault, Plan, find_peer};
 use ocpi_text::{Moment, Party, Whole};
 use ocpi_types::{
@@ -157,8 +163,8 @@ impl Provider {
         Ok(draft.into_plan())
     }
 
-    /// What becomes of a request of the operator that the provider spells `to`. One that was answered before gets the same reply
-    /// again.
+    /// What becomes of a request of the operator that the provider spells `to`. One that was answered before gets the
+    /// same reply again.
     fn plan_request(&self, at: Moment, packet: &Packet, to: Party) -> Result<Plan, NodeFault>
         requires { IsRequest packet.now.body }
         ensures step { IfOk result (λ x. PlannedBy (PacketLine self.now.state at packet.now to) self.now.state (step_of x)) }
@@ -173,7 +179,8 @@ impl Provider {
         self.plan_answered(at, packet, to, &answer)
     }
 
-    /// The command that a response is for: that of its number, where it was sent to the party that responds and has no answer yet.
+    /// The command that a response is for: that of its number, where it was sent to the party that responds and has no
+    /// answer yet.
     fn awaited(&self, packet: &Packet) -> Option<&Boxed<SentCommand>>
         ensures some { IfSome result (λ c. IsAwaited self.now.state packet.now c.now) }
         ensures none { IfNone result ((c : SentCommandOf) → ¬ IsAwaited self.now.state packet.now c) }
@@ -185,7 +192,8 @@ impl Provider {
         Some(command)
     }
 
-    /// What becomes of a response to a command: it is kept with the command that it is for, or is idle. An error is want of memory.
+    /// What becomes of a response to a command: it is kept with the command that it is for, or is idle. An error is
+    /// want of memory.
     fn plan_response(
         &self,
         at: Moment,
@@ -211,8 +219,8 @@ impl Provider {
         )
     }
 
-    /// Whether an acknowledgement is for a push of this provider: it has status 1000, and comes from the addressee under the
-    /// push's number.
+    /// Whether an acknowledgement is for a push of this provider: it has status 1000, and comes from the addressee
+    /// under the push's number.
     fn acknowledges(&self, packet: &Packet, ack: &Ack) -> bool
         ensures { IsTrue result ↔ Acknowledges self.now.state packet.now ack.now }
     {

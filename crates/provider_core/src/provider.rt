@@ -14,9 +14,9 @@ use std::marker::Model;
 
 /// A provider: it has the tokens of its drivers, and deals with operators.
 ///
-/// What happens to it is first planned (`plan_packet` and its kin, which change nothing), then the memory for it is taken
-/// (`make_room`), and then it is carried out (`apply`, which cannot fail). A keeper that stores the rows does so between the last
-/// two. `on_packet` and its kin are all three.
+/// What happens to it is first planned (`plan_packet` and its kin, which change nothing), then the memory for it is
+/// taken (`make_room`), and then it is carried out (`apply`, which cannot fail). A keeper that stores the rows does so
+/// between the last two. `on_packet` and its kin are all three.
 #[derive(Drop)]
 pub struct Provider {
     pub(crate) alloc: Global,
@@ -57,9 +57,9 @@ impl Provider {
         Provider { alloc, books }
     }
 
-    /// What holds of every provider at any time, which its type keeps: each push and each command is to an operator that it
-    /// deals with, and has a number that was given, of its own; no two pushes are about the same; no command has a reference
-    /// that was not given yet; only a request that waits has a resend time.
+    /// What holds of every provider at any time, which its type keeps: each push and each command is to an operator
+    /// that it deals with, and has a number that was given, of its own; no two pushes are about the same; no command
+    /// has a reference that was not given yet; only a request that waits has a resend time.
     pub fn consistency(&self)
         ensures { IsConsistent self.now.state }
     {
@@ -80,9 +80,9 @@ impl Provider {
         self.books.operators()
     }
 
-    /// What is owed to an operator in a currency, in ten-thousandths: the sum of the costs of its charge detail records in that
-    /// currency that are held, and 0 where none is. The operator is compared without case, the currency as spelled. It takes no
-    /// memory.
+    /// What is owed to an operator in a currency, in ten-thousandths: the sum of the costs of its charge detail
+    /// records in that currency that are held, and 0 where none is. The operator is compared without case, the
+    /// currency as spelled. It takes no memory.
     pub fn settlement(&self, operator: &Party, currency: ShortText<3, 12>) -> i128
         ensures { result ≡ owed (key operator.now, currency) (map.values self.now.state.rows.inbox.cdrs) }
     {
@@ -96,8 +96,8 @@ impl Provider {
         self.books.stored(self.alloc)
     }
 
-    /// Takes the memory that a planned step needs. Nothing that stands changes, whether there is enough or not. An error is want
-    /// of memory, for a step that has no room yet.
+    /// Takes the memory that a planned step needs. Nothing that stands changes, whether there is enough or not. An
+    /// error is want of memory, for a step that has no room yet.
     pub fn make_room(&mut self, plan: &Plan) -> Result<(), AllocError>
         ensures state { self.new.state ≡ self.old.state }
         ensures room { OnOk result (HasRoomFor self.new (step_of plan.now)) }
@@ -130,15 +130,16 @@ impl Provider {
         Ok(Stepped { rows, packets })
     }
 
-    /// A packet comes at a moment. It is refused (`NotForMe`) where it is to another party, from a party that is no operator
-    /// of the provider, or of a kind that a provider does not take; and else (`NumbersUsedUp`) where a counter of packets or
-    /// of references would pass its last number. A refusal, want of memory included, changes nothing and sends nothing.
+    /// A packet comes at a moment. It is refused (`NotForMe`) where it is to another party, from a party that is no
+    /// operator of the provider, or of a kind that a provider does not take; and else (`NumbersUsedUp`) where a
+    /// counter of packets or of references would pass its last number. A refusal, want of memory included, changes
+    /// nothing and sends nothing.
     ///
-    /// A request that was answered before gets the same reply again, under a new serial. Another is answered, and its reply
-    /// is kept for good: the result of a command is kept with the command that it is for, a session or a charge detail record
-    /// is taken where it is its operator's own, for a token of this provider, and news (OCPI 2.2.1, Commands, Sessions,
-    /// CDRs); a valid token that is asked for is allowed with a new reference (Tokens). A response is kept with its command,
-    /// and an acknowledgement ends the push that it is for.
+    /// A request that was answered before gets the same reply again, under a new serial. Another is answered, and its
+    /// reply is kept for good: the result of a command is kept with the command that it is for, a session or a charge
+    /// detail record is taken where it is its operator's own, for a token of this provider, and news (OCPI 2.2.1,
+    /// Commands, Sessions, CDRs); a valid token that is asked for is allowed with a new reference (Tokens). A response
+    /// is kept with its command, and an acknowledgement ends the push that it is for.
     pub fn on_packet(&mut self, at: Moment, packet: &Packet) -> Result<Stepped, NodeFault>
         ensures step { IfOk result (λ x. PacketStep self.old.state at packet.now (out_of self.new.state x)) }
         ensures fault { IfErr result (IsPacketFault self.old.state at packet.now) }
@@ -149,11 +150,11 @@ impl Provider {
         Ok(self.carry_out(plan)?)
     }
 
-    /// An order to an operator is submitted at a moment: the command that it makes is sent as the next request, and is sent
-    /// again until it is answered (OCPI 2.2.1, Commands). Refused where the party is no operator of the provider
-    /// (`UnknownOperator`), where the provider does not hold the token (`UnknownToken`), and where a counter of packets, of
-    /// requests or of references would pass its last number (`NumbersUsedUp`). A refusal, want of memory included, changes
-    /// nothing and sends nothing.
+    /// An order to an operator is submitted at a moment: the command that it makes is sent as the next request, and is
+    /// sent again until it is answered (OCPI 2.2.1, Commands). Refused where the party is no operator of the provider
+    /// (`UnknownOperator`), where the provider does not hold the token (`UnknownToken`), and where a counter of
+    /// packets, of requests or of references would pass its last number (`NumbersUsedUp`). A refusal, want of memory
+    /// included, changes nothing and sends nothing.
     pub fn submit(
         &mut self,
         at: Moment,
@@ -169,10 +170,11 @@ impl Provider {
         Ok(self.carry_out(plan)?)
     }
 
-    /// A token of the provider is given at a moment: it is stored as the next version of it, and pushed to each operator
-    /// until that acknowledges it (OCPI 2.2.1, Tokens). Refused where it is another party's (`NotForMe`), where no version
-    /// can be later than the one that is held (`StampEnd`), and where a counter of packets or of requests would pass its last
-    /// number (`NumbersUsedUp`). A refusal, want of memory included, changes nothing and sends nothing.
+    /// A token of the provider is given at a moment: it is stored as the next version of it, and pushed to each
+    /// operator until that acknowledges it (OCPI 2.2.1, Tokens). Refused where it is another party's (`NotForMe`),
+    /// where no version can be later than the one that is held (`StampEnd`), and where a counter of packets or of
+    /// requests would pass its last number (`NumbersUsedUp`). A refusal, want of memory included, changes nothing and
+    /// sends nothing.
     pub fn on_token(&mut self, at: Moment, token: &Token) -> Result<Stepped, NodeFault>
         ensures step { IfOk result (λ x. TokenStep self.old.state at token.now (out_of self.new.state x)) }
         ensures fault { IfErr result (IsTokenFault self.old.state at token.now) }
@@ -183,9 +185,9 @@ impl Provider {
         Ok(self.carry_out(plan)?)
     }
 
-    /// Time has come to a moment: requests that wait and were last sent ten seconds before it, or earlier, or not since the
-    /// provider started, are sent again, by their numbers. Refused (`NumbersUsedUp`) where the counter of packets would pass
-    /// its last number. A refusal, want of memory included, changes nothing and sends nothing.
+    /// Time has come to a moment: requests that wait and were last sent ten seconds before it, or earlier, or not
+    /// since the provider started, are sent again, by their numbers. Refused (`NumbersUsedUp`) where the counter of
+    /// packets would pass its last number. A refusal, want of memory included, changes nothing and sends nothing.
     pub fn on_tick(&mut self, at: Moment) -> Result<Stepped, NodeFault>
         ensures step { IfOk result (λ x. TickStep self.old.state at (out_of self.new.state x)) }
         ensures fault { IfErr result (IsTickFault self.old.state at) }
@@ -196,8 +198,8 @@ impl Provider {
         Ok(self.carry_out(plan)?)
     }
 
-    /// The provider starts again from what it stored: each request that waits is due at once, and nothing else changes. It
-    /// takes no memory.
+    /// The provider starts again from what it stored: each request that waits is due at once, and nothing else
+    /// changes. It takes no memory.
     pub fn restart(&mut self)
         ensures { self.new.state ≡ restarted self.old.state }
     {

@@ -1,4 +1,5 @@
-//! What a new version of a token makes a provider do (OCPI 2.2.1, Tokens: Receiver interface, PUT). Nothing is changed here.
+//! What a new version of a token makes a provider do (OCPI 2.2.1, Tokens: Receiver interface, PUT). Nothing is changed
+//! here.
 
 ghost use Rattle.std.specs.Prelude.{◌≡◌, ℕ, List, length, Option, IfOk, IfErr, OnOk};
 ghost use Rattle.node_steps.specs.Drafts.{HasNumbers, IsInRange, StopsBy, later, step_of, with_acts};

@@ -35,8 +35,8 @@ standing_of None None = None
 abbrev pub standing_in : OutboxRows → ℕ → Option Request
 standing_in r n = standing_of (get r.pushes n) (get r.commands n)
 
--- its peers are the operators that it deals with, and its own requests that stand the tokens that it pushes and the commands that have
--- neither an answer nor a result
+-- its peers are the operators that it deals with, and its own requests that stand the tokens that it pushes and the
+-- commands that have neither an answer nor a result
 abbrev pub node : State → Node
 node s = record {
   party = s.party;

@@ -16,7 +16,8 @@ use Rattle.provider_steps.specs.Acts.{own_url}
 use Rattle.provider_steps.specs.Events.{Event}
 use Rattle.provider_laws.specs.Laws.{Came, Run, sent}
 
--- a sent command as it may stand later: with the same addressee and command, and with the response and the result that it had
+-- a sent command as it may stand later: with the same addressee and command, and with the response and the result that
+-- it had
 pub record IsLater (c d : SentCommand) : Type 0 where
   pub to : d.to ≡ c.to
   pub command : d.command ≡ c.command

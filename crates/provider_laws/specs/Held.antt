@@ -1,4 +1,5 @@
--- The sessions and the charge detail records that a provider holds, and what it owes for them (OCPI 2.2.1, Sessions, CDRs).
+-- The sessions and the charge detail records that a provider holds, and what it owes for them (OCPI 2.2.1, Sessions,
+-- CDRs).
 use Rattle.std.specs.Prelude.{◌≡◌, ◌≢◌, ◌⊎◌, ◌≤◌, ◌<◌, ◌+ℤ◌, ℕ, List, [], ◌∷◌, Some, None, Contains}
 use Rattle.std.specs.List.{AllPairs, flat_map}
 use Rattle.std.specs.FinMap.{get, values}
@@ -77,8 +78,8 @@ pub record IsHeldAsSaid (t : State) (q : Packet) : Type 0 where
   pub session : (x : Session) → q.body ≡ body.PutSession x → HoldsAtLeast t x
   pub cdr : (x : Cdr) → q.body ≡ body.PostCdr x → get t.rows.inbox.cdrs (cdr_key x) ≡ Some x
 
--- each acknowledgement with status 1000 that was sent is to a packet that came from its addressee under its number, and what that packet
--- handed over is held
+-- each acknowledgement with status 1000 that was sent is to a packet that came from its addressee under its number,
+-- and what that packet handed over is held
 abbrev pub SentAcknowledgementsHold : Type 0
 SentAcknowledgementsHold = (p : Peering) (es : List Event) (t : State) → Run (opening p) es t → (x : Packet) (a : Ack) → Contains (sent es) x → x.body ≡ body.Ack a →
     a.status_code ≡ 1000 → (q : Packet) × Came es q × (key q.from ≡ key x.to) × (q.request ≡ x.request) × IsHeldAsSaid t q

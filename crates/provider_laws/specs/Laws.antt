@@ -1,6 +1,6 @@
--- The laws of a provider over every list of events from its opening: packets that come, in any order and any number of times, orders
--- that are submitted, tokens that are given, time that passes, at moments that may go back, and restarts of the provider from what it
--- stored; events that are refused among them.
+-- The laws of a provider over every list of events from its opening: packets that come, in any order and any number of
+-- times, orders that are submitted, tokens that are given, time that passes, at moments that may go back, and restarts
+-- of the provider from what it stored; events that are refused among them.
 use Rattle.std.specs.Prelude.{◌≡◌, ◌⊎◌, ℕ, ◌+◌, List, Some, None, Contains, slice_get, ◌++◌, ◌∷◌}
 use Rattle.std.specs.List.{flat_map}
 use Rattle.std.specs.FinMap.{get}
@@ -84,7 +84,8 @@ abbrev pub SentRepliesAreKept : Type 0
 SentRepliesAreKept = (p : Peering) (es : List Event) (t : State) → Run (opening p) es t → (x : Packet) (r : Reply) → Contains (sent es) x → x.body ≡ body_of_reply r →
     get t.rows.replies (key x.to, x.request) ≡ Some r
 
--- each of the provider's own requests, commands and tokens together, has one number, one body and one addressee, however often it is sent
+-- each of the provider's own requests, commands and tokens together, has one number, one body and one addressee,
+-- however often it is sent
 abbrev pub RequestsAgree : Type 0
 RequestsAgree = (p : Peering) (es : List Event) (t : State) → Run (opening p) es t → (x y : Packet) → Contains (sent es) x → Contains (sent es) y →
     ¬ IsReply x.body → ¬ IsReply y.body → x.request ≡ y.request → (x.body ≡ y.body) × (x.to ≡ y.to)

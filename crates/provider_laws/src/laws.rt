@@ -1,9 +1,36 @@
-//! The laws of a provider, over every list of events from its opening, and from any state to any later one where they speak of
-//! two. An event is what `provider_steps` says of it (`Happens`), which is what the calls of a provider do.
+//! The laws of a provider, over every list of events from its opening, and from any state to any later one where they
+//! speak of two. An event is what `provider_steps` says of it (`Happens`), which is what the calls of a provider do.
 
-ghost use Rattle.provider_laws.specs.Laws.{AlwaysConsistent, RepliesStay, RepliesAnswer, Numbered, PacketsAreAddressed, SentRepliesAreKept, RequestsAgree};
-ghost use Rattle.provider_laws.specs.Held.{HeldSessionsCame, HeldSessionsRise, AcknowledgedSessionsAreHeld, HeldCdrsCame, HeldCdrsStay, OneCdrPerSession, AcknowledgedCdrsAreHeld, SettlementsAreTaken, TakenCdrsAreHeld, CdrsAreTakenOnce, SentAcknowledgementsHold};
-ghost use Rattle.provider_laws.specs.Commands.{CommandsStay, SentCommandsStand, AnswersCame, ResultsCame, UrlsAreOwn, UrlsHaveOneNumber};
+ghost use Rattle.provider_laws.specs.Laws.{
+  AlwaysConsistent,
+  RepliesStay,
+  RepliesAnswer,
+  Numbered,
+  PacketsAreAddressed,
+  SentRepliesAreKept,
+  RequestsAgree,
+};
+ghost use Rattle.provider_laws.specs.Held.{
+  HeldSessionsCame,
+  HeldSessionsRise,
+  AcknowledgedSessionsAreHeld,
+  HeldCdrsCame,
+  HeldCdrsStay,
+  OneCdrPerSession,
+  AcknowledgedCdrsAreHeld,
+  SettlementsAreTaken,
+  TakenCdrsAreHeld,
+  CdrsAreTakenOnce,
+  SentAcknowledgementsHold,
+};
+ghost use Rattle.provider_laws.specs.Commands.{
+  CommandsStay,
+  SentCommandsStand,
+  AnswersCame,
+  ResultsCame,
+  UrlsAreOwn,
+  UrlsHaveOneNumber,
+};
 ghost use Rattle.provider_laws.specs.References.{ReferencesNeverFall, ReferencesHaveOneCarrier, ReferencesAreOwn};
 ghost use Rattle.provider_laws.specs.AsNode.{StepsAreNodeSteps, RunsAreNodeRuns};
 
@@ -121,7 +148,8 @@ pub fn references_have_one_carrier()
     ensures { ReferencesHaveOneCarrier }
 {}
 
-/// Each reference that a command or a kept authorization carries is that of a number which the counter of references gave.
+/// Each reference that a command or a kept authorization carries is that of a number which the counter of references
+/// gave.
 pub fn references_are_own()
     ensures { ReferencesAreOwn }
 {}

@@ -88,7 +88,8 @@ module _ (p : ℕ × ℕ → Bool) where
   passed [] y i = absurd (in_none y i)
   passed (k ∷ ks) y i = elim (of_kept (p k) k (filter p ks) y refl i) [ inl here ↦ ap p (sym here.0) ∙ here.1 | inr j ↦ passed ks y j ]
 
--- what is left to be looked at: each command that fits is among it, the keys rise, and none is before the place of the url
+-- what is left to be looked at: each command that fits is among it, the keys rise, and none is before the place of the
+-- url
 pub record AreLeft (m : Commands) (url from : List ℕ) (ks : List (ℕ × ℕ)) : Type 0 where
   pub listed : (n : ℕ) → Fits m url from n → Contains ks (url_place url, n)
   pub rising : IsStrictlySortedBy moment_number_cmp ks

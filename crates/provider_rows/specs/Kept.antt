@@ -25,7 +25,8 @@ state_of peers serial answered desk outbox inbox = record {
   resend = outbox.resend;
 }
 
--- what holds of a provider at all times holds, its commands are found by their urls, and no command that it received is kept
+-- what holds of a provider at all times holds, its commands are found by their urls, and no command that it received
+-- is kept
 pub record AreKept (answered : answered.Rows) (urls : Moments) (s : State) : Type 0 where
   pub sound : IsSound s
   pub found : AreFound s.rows.outbox.commands urls

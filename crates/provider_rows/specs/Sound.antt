@@ -1,5 +1,5 @@
--- What holds of a provider at all times, which is exactly what stored rows are to be tested for when a provider is made of
--- them; and which changes of rows keep it.
+-- What holds of a provider at all times, which is exactly what stored rows are to be tested for when a provider is
+-- made of them; and which changes of rows keep it.
 use Rattle.std.specs.Prelude.{◌≡◌, ◌≢◌, ◌≤◌, ℕ, List, [], ◌∷◌, Some, None, ⊤}
 use Rattle.std.specs.FinMap.{get}
 use Rattle.ocpi_text.specs.Text.{key}

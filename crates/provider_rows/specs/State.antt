@@ -40,7 +40,8 @@ pub record State : Type 0 where
   pub party : List ℕ
   pub operators : List (List ℕ)
   pub rows : Rows
-  -- the moment from which on each request that waits is due again; one that has none is due at once. A restart empties it
+  -- the moment from which on each request that waits is due again; one that has none is due at once. A restart empties
+  -- it
   pub resend : Resend
 
 abbrev pub no_rows : Rows

@@ -38,8 +38,8 @@ KeepsTime resend changes n = (get resend n ≡ None) ⊎ ((c : Change) → Conta
 abbrev pub IsUndropped : List Change → ℕ → Type 0
 IsUndropped changes n = (k : RowKey) → Contains changes (Drop k) → request_of k ≢ Some n
 
--- the requests that are sent wait for their answers once the changes are made, each is sent once, and the room for its resend time
--- outlasts the changes
+-- the requests that are sent wait for their answers once the changes are made, each is sent once, and the room for its
+-- resend time outlasts the changes
 pub record MaySend (s : State) (changes : List Change) (sent : List Volatile) : Type 0 where
   pub waits : (v : Volatile) → Contains sent v → Waits (changed_all changes s.rows).outbox (number_of v)
   pub apart : AllPairs (λ v w. number_of v ≢ number_of w) sent

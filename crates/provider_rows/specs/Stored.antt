@@ -27,7 +27,8 @@ counted counter.Reference n s = record s { desk = record s.desk { references = n
 counted counter.Session n s = s
 counted counter.Cdr n s = s
 
--- the row is put, in place of the one of its key if there is one; rows of kinds that a provider does not store change nothing
+-- the row is put, in place of the one of its key if there is one; rows of kinds that a provider does not store change
+-- nothing
 abbrev pub put_row : Row → Rows → Rows
 put_row (row.Count c last) s = counted c last s
 put_row (row.Reply sender number reply) s = record s { replies = insert s.replies (sender, number) reply }

@@ -15,7 +15,8 @@ pub record Fits (m : Commands) (url from : List ℕ) (n : ℕ) : Type 0 where
   pub posted : url_of command.command ≡ url
   pub sender : key command.to ≡ key from
 
--- the number by which commands are found by their urls: a sum of its bytes, each weighed by its place. Other urls may have the same
+-- the number by which commands are found by their urls: a sum of its bytes, each weighed by its place. Other urls may
+-- have the same
 abbrev pub url_place : List ℕ → ℕ
 url_place [] = 0
 url_place (b ∷ bs) = (b + 31 * url_place bs) % 1000000007

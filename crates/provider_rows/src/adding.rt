@@ -13,8 +13,8 @@ use ocpi_types::Row;
 use std::alloc::AllocError;
 
 impl Books {
-    /// Puts a row, in place of the one of its key if there is one. It is for rows that were stored before: `apply` carries out the
-    /// steps of events. An error is want of memory, and changes nothing.
+    /// Puts a row, in place of the one of its key if there is one. It is for rows that were stored before: `apply`
+    /// carries out the steps of events. An error is want of memory, and changes nothing.
     pub fn add_row(&mut self, row: Row) -> Result<(), AllocError>
         requires { MayPut self.old.state row }
         ensures ok { OnOk result (self.new.state ≡ after_change (change.Put row) self.old.state) }
@@ -31,7 +31,8 @@ impl Books {
         self.peers.copy()
     }
 
-    /// Each token, each session and each charge detail record stands under its own key, so that the rows tell all that is stored.
+    /// Each token, each session and each charge detail record stands under its own key, so that the rows tell all that
+    /// is stored.
     pub fn keys_are_own(&self)
         ensures { AreKeyed self.now.state.rows }
     {

@@ -20,10 +20,11 @@ use token_desk::TokenDesk;
 /// The numbers of commands, each behind the place of the url that its result is posted to.
 pub(crate) type UrlTable = Table<(Whole, Whole), ()>;
 
-/// The rows of a provider, with the resend times of its requests. It is seen as its state and the room that is taken beside it.
+/// The rows of a provider, with the resend times of its requests. It is seen as its state and the room that is taken
+/// beside it.
 ///
-/// At all times what `consistency` says holds, and each command is found by the url that its result is posted to. A lookup and a
-/// change cost the logarithm of what is stored.
+/// At all times what `consistency` says holds, and each command is found by the url that its result is posted to. A
+/// lookup and a change cost the logarithm of what is stored.
 #[derive(Drop)]
 pub struct Books {
     pub(crate) peers: Peers,
@@ -64,7 +65,8 @@ impl Model for Books {
 }
 
 impl Books {
-    /// Nothing was sent, nothing is answered, and no token, session or charge detail record is held. It takes no memory.
+    /// Nothing was sent, nothing is answered, and no token, session or charge detail record is held. It takes no
+    /// memory.
     pub fn new(alloc: Global, peers: Peers) -> Books
         ensures { result.state ≡ opening peers }
     {

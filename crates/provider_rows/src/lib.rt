@@ -1,5 +1,5 @@
-//! What a provider stores: its rows, where the results of its commands are posted, and the resend times of its requests; and
-//! how a step that is decided is carried out.
+//! What a provider stores: its rows, where the results of its commands are posted, and the resend times of its
+//! requests; and how a step that is decided is carried out.
 //!
 //! A step comes as a `Plan`. `Books::make_room` takes all the memory that it needs, and changes nothing that is stored;
 //! `Books::apply` then carries it out, takes no memory and cannot fail.

@@ -17,7 +17,8 @@ use ocpi_types::{Change, Row, SentCommand};
 use outbox::Outbox;
 use std::alloc::AllocError;
 
-/// Takes the memory that the resend time of a request needs which is sent. An error is want of memory, where there was no room.
+/// Takes the memory that the resend time of a request needs which is sent. An error is want of memory, where there was
+/// no room.
 fn reserve_time(outbox: &mut Outbox, change: &Volatile) -> Result<(), AllocError>
     ensures rows { outbox.new.rows ≡ outbox.old.rows }
     ensures rooms { outbox.new.rooms ≡ outbox.old.rooms }
@@ -31,7 +32,8 @@ fn reserve_time(outbox: &mut Outbox, change: &Volatile) -> Result<(), AllocError
     }
 }
 
-/// Takes the memory that the resend times of requests need which are sent. An error is want of memory, where one has no room.
+/// Takes the memory that the resend times of requests need which are sent. An error is want of memory, where one has
+/// no room.
 fn reserve_times(outbox: &mut Outbox, volatile: &[Volatile]) -> Result<(), AllocError>
     ensures rows { outbox.new.rows ≡ outbox.old.rows }
     ensures rooms { outbox.new.rooms ≡ outbox.old.rooms }
@@ -111,8 +113,8 @@ impl Books {
         Ok(())
     }
 
-    /// Takes all the memory that a step needs. What is stored stays as it is, whether there is enough or not. An error is want of
-    /// memory, for a step that has no room.
+    /// Takes all the memory that a step needs. What is stored stays as it is, whether there is enough or not. An error
+    /// is want of memory, for a step that has no room.
     pub fn make_room(&mut self, plan: &Plan) -> Result<(), AllocError>
         ensures state { self.new.state ≡ self.old.state }
         ensures room { OnOk result (HasRoomFor self.new (step_of plan.now)) }

@@ -26,7 +26,8 @@ impl Model for Peers {
 }
 
 impl Peers {
-    /// The provider and its operators. None, where the operators are more than 63, or two of all these are the same party.
+    /// The provider and its operators. None, where the operators are more than 63, or two of all these are the same
+    /// party.
     pub fn new(provider: Party, operators: Vec<Party>) -> Option<Peers>
         ensures { SomeIff result (ArePeers (record { provider = provider; operators = operators.items })) (record { provider = provider; operators = operators.items }) }
     {

@@ -2,8 +2,8 @@
 
 ghost use Rattle.provider_rows.specs.RowLaws.{RowsChange, StaysConsistent, StepsStaySound};
 
-/// Changes of different rows that may be made lead from the rows before them to those after them: what stands is what was put,
-/// and what stood under a key that was neither put nor dropped.
+/// Changes of different rows that may be made lead from the rows before them to those after them: what stands is what
+/// was put, and what stood under a key that was neither put nor dropped.
 pub fn rows_change()
     ensures { RowsChange }
 {}

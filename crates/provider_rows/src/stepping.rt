@@ -4,7 +4,22 @@ ghost use Rattle.std.specs.Prelude.{◌≡◌, ◌∷◌, []};
 ghost use Rattle.outbox.specs.Outbox.{Waits};
 ghost use Rattle.node_steps.specs.Drafts.{step_of};
 ghost use Rattle.provider_rows.specs.Sound.{MayChange, MayChangeAll};
-ghost use Rattle.provider_rows.specs.Steps.{AreSendable, HasRoomFor, HasTimeRoom, HaveTimeRoom, KeepsTimeRoom, MayFollow, after, after_change, after_changes, number_of, restarted, time_taken, timed, timed_all};
+ghost use Rattle.provider_rows.specs.Steps.{
+  AreSendable,
+  HasRoomFor,
+  HasTimeRoom,
+  HaveTimeRoom,
+  KeepsTimeRoom,
+  MayFollow,
+  after,
+  after_change,
+  after_changes,
+  number_of,
+  restarted,
+  time_taken,
+  timed,
+  timed_all,
+};
 ghost use Rattle.provider_rows.specs.Stored.{AreApart, Each, HasRoom, KeepsOtherRoom, change_key};
 
 use crate::books::Books;
@@ -68,8 +83,8 @@ impl Books {
         }
     }
 
-    /// Carries a step out, for which there is room: its changes row by row, and then what it does to what stands in no row. It
-    /// answers the packets, takes no memory and cannot fail.
+    /// Carries a step out, for which there is room: its changes row by row, and then what it does to what stands in no
+    /// row. It answers the packets, takes no memory and cannot fail.
     pub fn apply(&mut self, plan: Plan) -> Vec<Packet>
         requires room { HasRoomFor self.old (step_of plan) }
         requires may { MayFollow self.old.state (step_of plan) }

@@ -50,8 +50,8 @@ fn fits(outbox: &Outbox, number: Whole, url: &FreeText<255>, from: &Party) -> bo
 }
 
 impl Books {
-    /// The least number of a command whose result is posted to that url, by that party. Urls are compared as spelled. It costs
-    /// the logarithm of what is stored, and a step for each command whose url has the same place among urls.
+    /// The least number of a command whose result is posted to that url, by that party. Urls are compared as spelled.
+    /// It costs the logarithm of what is stored, and a step for each command whose url has the same place among urls.
     pub fn find_command(&self, url: &FreeText<255>, from: &Party) -> Option<Whole>
         ensures found { IfSome result (λ n. Fits self.now.state.rows.outbox.commands url.now from.now n) }
         ensures none { IfNone result ((n : ℕ) → ¬ Fits self.now.state.rows.outbox.commands url.now from.now n) }

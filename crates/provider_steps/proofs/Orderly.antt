@@ -1,5 +1,5 @@
--- The changes of acts are of different rows, and of no counter of packets or of requests; then those of a step of them are of
--- different rows.
+-- The changes of acts are of different rows, and of no counter of packets or of requests; then those of a step of them
+-- are of different rows.
 use Rattle.std.proofs.Common.{zero, suc, ◌≡◌, ◌≢◌, ◌⊎◌, ℕ, Bool, true, false, cond, eqb, nat_eq, List, [], ◌∷◌, ◌++◌, inl, inr, refl, sym, ap, subst, ◌∙◌}
 use Rattle.std.specs.Prelude.{IsTrue, Contains, not, ◌&&◌}
 use Rattle.std.proofs.lemmas.Bool.{eq-eqb, and_parts}

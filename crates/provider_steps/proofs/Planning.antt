@@ -17,8 +17,8 @@ use Rattle.provider_steps.proofs.Fitting.{AreFit, fit_step, numbered_for}
 use Rattle.provider_steps.proofs.Counts.{counters_after}
 use Rattle.provider_steps.proofs.Sending.{ActsAreSent, may_send, sent_none, sent_with}
 
--- the acts change different rows and no counter of packets or of requests; the rows allow them, one after the other, once these
--- counters are stored; and what they send waits then
+-- the acts change different rows and no counter of packets or of requests; the rows allow them, one after the other,
+-- once these counters are stored; and what they send waits then
 pub record ArePlanned (s : State) (acts : List Act) : Type 0 where
   pub orderly : AreOrderly acts
   pub fit : AreFit (numbered_for acts s) acts

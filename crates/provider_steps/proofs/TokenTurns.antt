@@ -1,4 +1,5 @@
--- A token is pushed to one operator after the other: which rows the acts change, that the rows allow it, and that the pushes may be sent.
+-- A token is pushed to one operator after the other: which rows the acts change, that the rows allow it, and that the
+-- pushes may be sent.
 use Rattle.std.proofs.Common.{◌≡◌, ◌≢◌, ◌⊎◌, ◌<◌, ◌≤◌, ◌+◌, ◌++◌, ℕ, List, [], ◌∷◌, length, inl, inr, refl, sym, ap, subst, ◌∙◌, arith}
 use Rattle.std.specs.Prelude.{Option, Some, None, Contains}
 use Rattle.std.specs.List.{AllPairs}

@@ -13,8 +13,8 @@ use Rattle.provider_steps.specs.Packets.{Comes}
 use Rattle.provider_steps.specs.Tick.{TickLine}
 use Rattle.provider_steps.specs.Tokens.{TokenLine}
 
--- what reaches a provider: a packet comes at a moment, an order to an operator is submitted, a token is given, time passes, and the
--- provider starts again from what it stored
+-- what reaches a provider: a packet comes at a moment, an order to an operator is submitted, a token is given, time
+-- passes, and the provider starts again from what it stored
 pub data Input : Type 0 where
   Arrives : ℕ → Packet → Input
   Submits : ℕ → List ℕ → Order → Input
@@ -39,8 +39,8 @@ pub record Event : Type 0 where
 abbrev pub event_out : Event → State → Out
 event_out e t = record { state = t; changes = e.changes; packets = e.packets }
 
--- an event leads from one state to another: the provider does what the input asks for, or starts again; or the event is refused,
--- by the provider or by the keeper of its rows, and then nothing changes and nothing is sent
+-- an event leads from one state to another: the provider does what the input asks for, or starts again; or the event
+-- is refused, by the provider or by the keeper of its rows, and then nothing changes and nothing is sent
 pub data Happens (s : State) (e : Event) (t : State) : Type 0 where
   Done : StepBy (Asks s e.input) s (event_out e t) → Happens s e t
   Restarted : e.input ≡ Restarts → event_out e t ≡ idle (restarted s) → Happens s e t

@@ -13,7 +13,8 @@ use Rattle.provider_steps.specs.Packets.{Comes}
 use Rattle.provider_steps.specs.Tick.{TickLine}
 use Rattle.provider_steps.specs.Tokens.{TokenLine}
 
--- where what holds at all times holds, what the line asks for may be carried out, if it takes no counter past its last number
+-- where what holds at all times holds, what the line asks for may be carried out, if it takes no counter past its last
+-- number
 abbrev pub MayBeCarriedOut : (State → List Act → Type 0) → Type 0
 MayBeCarriedOut Line = (s : State) (acts : List Act) → IsConsistent s → Line s acts → AreInRange s acts → MayFollow s (step_of_acts s acts)
 

@@ -26,8 +26,8 @@ next_request s = s.rows.outbox.last + 1
 abbrev pub next_reference : State → ℕ
 next_reference s = s.rows.desk.references + 1
 
--- the command that an order makes, and what is done before it is sent. A start and a reservation carry the token that is held, a start a
--- new authorization reference
+-- the command that an order makes, and what is done before it is sent. A start and a reservation carry the token that
+-- is held, a start a new authorization reference
 pub data Makes (s : State) : Order → Command → List Act → Type 0 where
   Start : (uid : List ℕ) (type : TokenType) (location : List ℕ) (evse connector : Option (List ℕ)) (t : Token) → IsOwnToken s type uid t →
       Makes s (order.StartSession uid type location evse connector) (command.StartSession (record { response_url = own_url s.party (next_request s); token = t; location_id = location; evse_uid = evse; connector_id = connector; authorization_reference = Some (reference_of s.party (next_reference s)).text })) (referenced (next_reference s) ∷ [])

@@ -75,12 +75,14 @@ pub record IsAwaited (s : State) (q : Packet) (c : SentCommand) : Type 0 where
   pub to_sender : key c.to ≡ key q.from
   pub unanswered : c.answer ≡ None
 
--- the acknowledgement ends a push of this provider: it has status 1000, and comes from the addressee under the push's number
+-- the acknowledgement ends a push of this provider: it has status 1000, and comes from the addressee under the push's
+-- number
 abbrev pub Acknowledges : State → Packet → Ack → Type 0
 Acknowledges s q a = (a.status_code ≡ 1000) × IsTo s.rows.outbox.pushes q.from q.request
 
--- what becomes of a packet of the operator that the provider spells `to`. A request that has a kept reply gets that reply again;
--- another is answered. A response is kept with its command, and an acknowledgement ends the push that it is for; else both are idle
+-- what becomes of a packet of the operator that the provider spells `to`. A request that has a kept reply gets that
+-- reply again; another is answered. A response is kept with its command, and an acknowledgement ends the push that it
+-- is for; else both are idle
 pub data PacketLine (s : State) (at : ℕ) (q : Packet) (to : List ℕ) (acts : List Act) : Type 0 where
   Again : IsRequest q.body → (r : Reply) → get s.rows.replies (key q.from, q.request) ≡ Some r → acts ≡ repeated to q.request r ∷ [] → PacketLine s at q to acts
   Answered : get s.rows.replies (key q.from, q.request) ≡ None → (reply : Reply) (own : List Act) → Answers s at q reply own → acts ≡ answered (key q.from) to q.request reply ∷ own →

@@ -19,7 +19,8 @@ resent_acts at n None None = []
 abbrev pub all_resent : ℕ → OutboxRows → List ℕ → List Act
 all_resent at r numbers = flat_map (λ n. resent_acts at n (get r.pushes n) (get r.commands n)) numbers
 
--- what a moment comes to, were there no last number: the requests that wait and are due are sent again, by their numbers
+-- what a moment comes to, were there no last number: the requests that wait and are due are sent again, by their
+-- numbers
 pub record TickLine (s : State) (at : ℕ) (acts : List Act) : Type 0 where
   pub due : List ℕ
   pub are_due : AreExactly (IsDue s.rows.outbox s.resend at) due

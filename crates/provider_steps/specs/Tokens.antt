@@ -16,7 +16,8 @@ pub record AreTokenPushes (s : State) (t : Token) (pushes : List Pushing) : Type
   pub to_all : map (λ (p : Pushing). p.to) pushes ≡ s.operators
   pub replaced : (p : Pushing) → Contains pushes p → IsReplaced s.rows.outbox.pushes (subject p.to (push.PutToken t)) p.replaced
 
--- what a token that is given at a moment comes to, were there no last number: it is stored as the next version, and pushed to each operator
+-- what a token that is given at a moment comes to, were there no last number: it is stored as the next version, and
+-- pushed to each operator
 pub record TokenLine (s : State) (at : ℕ) (t : Token) (acts : List Act) : Type 0 where
   pub own : key t.party ≡ key s.party
   pub next : HasNext s.rows.desk.tokens t

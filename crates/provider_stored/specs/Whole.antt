@@ -1,4 +1,5 @@
--- What stored rows of a provider are tested for beside what its type keeps. It holds of each provider that ran from its opening.
+-- What stored rows of a provider are tested for beside what its type keeps. It holds of each provider that ran from
+-- its opening.
 use Rattle.std.specs.Prelude.{◌≡◌, ℕ, List, Some}
 use Rattle.std.specs.FinMap.{get}
 use Rattle.ocpi_text.specs.declared.own_ids.OwnIdKind.TheVariants.{AuthorizationReference}

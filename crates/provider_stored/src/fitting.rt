@@ -6,7 +6,16 @@ ghost use Rattle.ocpi_types.specs.declared.rows.Row.TheVariants as row;
 ghost use Rattle.node_steps.specs.Peers.{HasPeer};
 ghost use Rattle.handover.specs.Inbox.{IsInConflict};
 ghost use Rattle.provider_rows.specs.State.{reference_of};
-ghost use Rattle.provider_stored.specs.Fitting.{HasOwnReference, HasStrangeReference, IsFit, IsFree, IsNext, IsTaken, Spoils, given_last};
+ghost use Rattle.provider_stored.specs.Fitting.{
+  HasOwnReference,
+  HasStrangeReference,
+  IsFit,
+  IsFree,
+  IsNext,
+  IsTaken,
+  Spoils,
+  given_last,
+};
 
 use handover::{CdrTaking, Inbox};
 use node_steps::peer_of;
@@ -16,7 +25,8 @@ use outbox::Outbox;
 use provider_rows::Books;
 use stored_rows::own_number;
 
-/// The number that a counter gave last, 0 where it gave none. A provider has no counters of sessions and charge detail records.
+/// The number that a counter gave last, 0 where it gave none. A provider has no counters of sessions and charge detail
+/// records.
 fn given_last(books: &Books, counter: Counter) -> Option<Whole>
     ensures { result ≡ given_last books.now.state.rows counter }
 {
@@ -158,7 +168,8 @@ fn has_own_reference(party: &Party, last: Whole, command: &Command) -> bool
     }
 }
 
-/// Whether a command may stand: its number is free, its addressee is known, and its reference is the provider's own and was given.
+/// Whether a command may stand: its number is free, its addressee is known, and its reference is the provider's own
+/// and was given.
 fn fits_command(books: &Books, number: Whole, command: &SentCommand) -> bool
     ensures fits { IsTrue result → IsFit books.now.state (row.Command number command.now) }
     ensures spoils { result ≡ false → Spoils books.now.state (row.Command number command.now) }

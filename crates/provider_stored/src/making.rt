@@ -44,9 +44,9 @@ fn add_all(books: &mut Books, rows: Vec<Row>) -> Result<(), RowsFault>
     Ok(())
 }
 
-/// The books of a provider with these peers that has just these rows, in whatever order they come: each request that waits is due
-/// at once. So of all that a provider stored the very same books are made, as it starts again. Refused (`BadRows`) where no provider
-/// with these peers has just these rows: `IsBad` lists the reasons.
+/// The books of a provider with these peers that has just these rows, in whatever order they come: each request that
+/// waits is due at once. So of all that a provider stored the very same books are made, as it starts again. Refused
+/// (`BadRows`) where no provider with these peers has just these rows: `IsBad` lists the reasons.
 pub fn books_of_rows(alloc: Global, peers: Peers, rows: Vec<Row>) -> Result<Books, RowsFault>
     ensures made { IfOk result (λ b. IsMadeOf peers rows.items b.state) }
     ensures bad { IfErr result (λ e. e ≡ RowsFault.BadRows → IsBad peers rows.items) }

@@ -1,4 +1,5 @@
--- The orders of expiries and of places: each is total, and only equal keys tie. The places for one token stand together.
+-- The orders of expiries and of places: each is total, and only equal keys tie. The places for one token stand
+-- together.
 use Rattle.std.proofs.Common.{◌≡◌, ℕ, List, [], ◌∷◌, false, refl, sym, ap, subst, ◌∙◌}
 use Rattle.std.specs.declared.cmp.Ordering.{Ordering}
 use Rattle.std.specs.declared.cmp.Ordering.TheVariants.{Equal}

@@ -1,5 +1,5 @@
--- By what a reservation is found: by the moment at which it expires, and by the token and the location that it is for, with
--- its EVSE. Texts are in the form by which they are compared.
+-- By what a reservation is found: by the moment at which it expires, and by the token and the location that it is for,
+-- with its EVSE. Texts are in the form by which they are compared.
 use Rattle.std.specs.Prelude.{ℕ, List}
 use Rattle.std.specs.declared.cmp.Ordering.{Ordering}
 use Rattle.std.specs.Ordering.{nat_cmp, ordering_then}

@@ -1,6 +1,6 @@
--- The rows of a reservation book: the reservations that stand, and of each reservation that was ever spoken of the number
--- of the newest request about it, its mark. Both by the provider and the reservation's id, in the form by which texts are
--- compared.
+-- The rows of a reservation book: the reservations that stand, and of each reservation that was ever spoken of the
+-- number of the newest request about it, its mark. Both by the provider and the reservation's id, in the form by which
+-- texts are compared.
 use Rattle.std.specs.Prelude.{◌≡◌, ◌≢◌, ◌↔◌, ℕ, List, [], ◌∷◌, ◌++◌, map, Option, Some, None, false, IsTrue, Contains, ⊤}
 use Rattle.std.specs.List.{AllPairs}
 use Rattle.std.specs.FinMap.{FinMap, get, insert, remove, contains_key, empty, entries}
@@ -166,8 +166,8 @@ GivesBack (keys.Session party id) s t = ⊤
 GivesBack (keys.Cdr party id) s t = ⊤
 GivesBack (keys.Command number) s t = ⊤
 
--- there is none by the expiry of a reservation whose place another takes, unless that one expires at the same moment; and
--- none by its place, unless that is the same
+-- there is none by the expiry of a reservation whose place another takes, unless that one expires at the same moment;
+-- and none by its place, unless that is the same
 pub record GivesUp (t : Rooms) (k : Key) (w r : Reservation) : Type 0 where
   pub expiry : expiry_key k w ≢ expiry_key k r → contains_key t.expiring (expiry_key k w) ≡ false
   pub place : place_key k w ≢ place_key k r → contains_key t.places (place_key k w) ≡ false

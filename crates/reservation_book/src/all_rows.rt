@@ -5,7 +5,19 @@ ghost use Rattle.std.specs.FinMap.{entries};
 ghost use Rattle.tables.specs.Keys.{text_pair_cmp};
 ghost use Rattle.tables.specs.Tables.{shown_of};
 ghost use Rattle.ocpi_types.specs.Rows.{key_of};
-ghost use Rattle.reservation_book.specs.Rows.{AreRowsOf, GivesBackReplaced, HasRoomOf, KeepsOtherRoom, KeepsRoom, no_rows, put_row, put_rows, rows_of, mark_row, reservation_row};
+ghost use Rattle.reservation_book.specs.Rows.{
+  AreRowsOf,
+  GivesBackReplaced,
+  HasRoomOf,
+  KeepsOtherRoom,
+  KeepsRoom,
+  no_rows,
+  put_row,
+  put_rows,
+  rows_of,
+  mark_row,
+  reservation_row,
+};
 
 use crate::book::ReservationBook;
 use crate::listings::ReservationKey;
@@ -68,9 +80,9 @@ impl ReservationBook {
         Ok(rows)
     }
 
-    /// Adds a row, in place of the one of its key if there is one; rows of other kinds change nothing. An error is want of
-    /// memory, for a row that has no room, and leaves the rows as they were. What has room keeps it, but for that of another row
-    /// under the same key.
+    /// Adds a row, in place of the one of its key if there is one; rows of other kinds change nothing. An error is
+    /// want of memory, for a row that has no room, and leaves the rows as they were. What has room keeps it, but for
+    /// that of another row under the same key.
     pub fn add_row(&mut self, row: Row) -> Result<(), AllocError>
         ensures ok { OnOk result (self.new.rows ≡ put_row row self.old.rows) }
         ensures again { HasRoomOf self.old.rooms row → IsOk result }

@@ -10,7 +10,19 @@ ghost use Rattle.ocpi_types.specs.declared.stored.Reservation.{Reservation};
 ghost use Rattle.reservation_book.specs.declared.fault.ReservationFault.TheVariants.{Memory};
 ghost use Rattle.reservation_book.specs.declared.standing.Standing.{Standing};
 ghost use Rattle.reservation_book.specs.Places.{Key};
-ghost use Rattle.reservation_book.specs.Rows.{HasPlaces, HasRoomOf, KeepsRoom, KeepsOtherRoom, GivesBack, GivesBackReplaced, GivesUp, no_rows, put_row, drop_row, without};
+ghost use Rattle.reservation_book.specs.Rows.{
+  HasPlaces,
+  HasRoomOf,
+  KeepsRoom,
+  KeepsOtherRoom,
+  GivesBack,
+  GivesBackReplaced,
+  GivesUp,
+  no_rows,
+  put_row,
+  drop_row,
+  without,
+};
 ghost use Rattle.reservation_book.specs.Tokens.{IsToken, IsFor, IsOn, IsFirstFor, IsNextFor, spot};
 ghost use Rattle.reservation_book.specs.Refusals.{IsInTime, IsHere, RefusesNumber, RefusesReservation};
 ghost use Rattle.reservation_book.specs.Calls.{marked, reserved, ended};
@@ -42,10 +54,11 @@ pub(crate) fn standing_of(
     }
 }
 
-/// The reservations of an operator's EVSEs, by provider and id, and the mark of each reservation that a provider ever spoke
-/// of: the number of the newest request about it. A request with a number below the mark is stale.
+/// The reservations of an operator's EVSEs, by provider and id, and the mark of each reservation that a provider ever
+/// spoke of: the number of the newest request about it. A request with a number below the mark is stale.
 ///
-/// Each call costs the logarithm of what is stored, times what it answers. The rows are `Row::Reservation` and `Row::Mark`.
+/// Each call costs the logarithm of what is stored, times what it answers. The rows are `Row::Reservation` and
+/// `Row::Mark`.
 #[derive(Drop)]
 pub struct ReservationBook {
     pub(crate) reservations: Table<ReservationKey, Reservation>,
@@ -126,8 +139,8 @@ impl ReservationBook {
         }
     }
 
-    /// The first of the provider's reservations for the token at the location, on the EVSE if one is named. They are in the
-    /// order of their EVSEs, and then of their ids.
+    /// The first of the provider's reservations for the token at the location, on the EVSE if one is named. They are
+    /// in the order of their EVSEs, and then of their ids.
     pub fn first_for(&self, token: &TokenAt, evse_uid: Option<CiKey<36>>) -> Option<Standing>
         ensures some { IfSome result (λ x. IsFirstFor self.now.rows.reservations token.now evse_uid x) }
         ensures none { IfNone result ((x : Standing) → IsFor self.now.rows.reservations token.now x → IsOn evse_uid x → ⊥) }
@@ -145,8 +158,8 @@ impl ReservationBook {
         Some(standing_of(&self.reservations, &(place.0.0, place.1.2)))
     }
 
-    /// Whether a request of that number about the provider's reservation of that id is taken. Refused is one with a number
-    /// below the mark (`Stale`).
+    /// Whether a request of that number about the provider's reservation of that id is taken. Refused is one with a
+    /// number below the mark (`Stale`).
     pub fn check_number(
         &self,
         provider: PartyKey,
@@ -163,9 +176,9 @@ impl ReservationBook {
         }
     }
 
-    /// Whether a request of that number is taken that makes the provider's reservation of that id, or replaces it, at a
-    /// location. Refused are one with a number below the mark (`Stale`), and one where the reservation stands at another
-    /// location (`OtherLocation`).
+    /// Whether a request of that number is taken that makes the provider's reservation of that id, or replaces it, at
+    /// a location. Refused are one with a number below the mark (`Stale`), and one where the reservation stands at
+    /// another location (`OtherLocation`).
     pub fn check_reservation(
         &self,
         provider: PartyKey,
@@ -258,8 +271,8 @@ impl ReservationBook {
         ended
     }
 
-    /// Takes the memory that a row needs; none is needed for rows of other kinds. An error is want of memory, for a row that
-    /// has no room.
+    /// Takes the memory that a row needs; none is needed for rows of other kinds. An error is want of memory, for a
+    /// row that has no room.
     pub fn reserve_row(&mut self, row: &Row) -> Result<(), AllocError>
         ensures rows { self.new.rows ≡ self.old.rows }
         ensures keeps { KeepsRoom self.old.rooms self.new.rooms }
@@ -324,8 +337,9 @@ impl ReservationBook {
         }
     }
 
-    /// Puts a row, in place of the one of its key if there is one; rows of other kinds change nothing. It takes no memory,
-    /// the room of rows of other keys stays, and that of the replaced row is given back, but for what the new one needs.
+    /// Puts a row, in place of the one of its key if there is one; rows of other kinds change nothing. It takes no
+    /// memory, the room of rows of other keys stays, and that of the replaced row is given back, but for what the new
+    /// one needs.
     pub fn put_row(&mut self, row: Row)
         requires { HasRoomOf self.old.rooms row }
         ensures rows { self.new.rows ≡ put_row row self.old.rows }
@@ -336,8 +350,8 @@ impl ReservationBook {
         self.put_row_of(&row);
     }
 
-    /// Drops the row of a key, if there is one, and gives its room back; keys of other kinds change nothing. It takes no memory,
-    /// and the room of rows of other keys stays.
+    /// Drops the row of a key, if there is one, and gives its room back; keys of other kinds change nothing. It takes
+    /// no memory, and the room of rows of other keys stays.
     pub fn drop_row(&mut self, key: RowKey)
         ensures rows { self.new.rows ≡ drop_row key self.old.rows }
         ensures gives_back { GivesBack key self.old.rows self.new.rooms }

@@ -7,10 +7,30 @@ ghost use Rattle.reservation_book.specs.declared.fault.ReservationFault.TheVaria
 ghost use Rattle.reservation_book.specs.declared.standing.Standing.{Standing};
 ghost use Rattle.ocpi_types.specs.declared.rows.Row.TheVariants as row;
 ghost use Rattle.ocpi_types.specs.declared.rows.RowKey.TheVariants as keys;
-ghost use Rattle.reservation_book.specs.Rows.{HasPlaces, HasRoomOf, KeepsRoom, KeepsOtherRoom, GivesBack, GivesBackReplaced};
+ghost use Rattle.reservation_book.specs.Rows.{
+  HasPlaces,
+  HasRoomOf,
+  KeepsRoom,
+  KeepsOtherRoom,
+  GivesBack,
+  GivesBackReplaced,
+};
 ghost use Rattle.reservation_book.specs.Tokens.{IsFor, IsOn, IsFirstFor};
 ghost use Rattle.reservation_book.specs.Refusals.{RefusesNumber, RefusesReservation};
-ghost use Rattle.reservation_book.specs.Calls.{Reserve, Note, Cancel, Use, Expire, Leaves, HasExpired, AreExpired, KeepsRoomBut, GivesEachBack, outcome_of, standing_key};
+ghost use Rattle.reservation_book.specs.Calls.{
+  Reserve,
+  Note,
+  Cancel,
+  Use,
+  Expire,
+  Leaves,
+  HasExpired,
+  AreExpired,
+  KeepsRoomBut,
+  GivesEachBack,
+  outcome_of,
+  standing_key,
+};
 
 use crate::book::ReservationBook;
 use crate::fault::ReservationFault;
@@ -20,10 +40,10 @@ use ocpi_types::Reservation;
 use std::alloc::{AllocError, Global};
 
 impl ReservationBook {
-    /// Makes the provider's reservation of that id, or replaces the one that stands, by the request of that number, which
-    /// becomes the mark. Refused are a request with a number below the mark (`Stale`), one where the reservation stands at
-    /// another location (`OtherLocation`), and want of memory. The room of other rows stays; that of a reservation which is
-    /// replaced is given back, but for what the new one needs.
+    /// Makes the provider's reservation of that id, or replaces the one that stands, by the request of that number,
+    /// which becomes the mark. Refused are a request with a number below the mark (`Stale`), one where the reservation
+    /// stands at another location (`OtherLocation`), and want of memory. The room of other rows stays; that of a
+    /// reservation which is replaced is given back, but for what the new one needs.
     pub fn reserve(
         &mut self,
         provider: PartyKey,
@@ -49,8 +69,8 @@ impl ReservationBook {
         Ok(())
     }
 
-    /// Sets the mark to the number of a request about the provider's reservation of that id, which stays as it is. Refused
-    /// are a request with a number below the mark (`Stale`), and want of memory. What has room keeps it.
+    /// Sets the mark to the number of a request about the provider's reservation of that id, which stays as it is.
+    /// Refused are a request with a number below the mark (`Stale`), and want of memory. What has room keeps it.
     pub fn note(
         &mut self,
         provider: PartyKey,
@@ -71,9 +91,9 @@ impl ReservationBook {
         Ok(())
     }
 
-    /// Ends the provider's reservation of that id, if it stands, by the request of that number, which becomes the mark in
-    /// either case. Refused are a request with a number below the mark (`Stale`), and want of memory. The room of the
-    /// reservation is given back, and that of other rows stays.
+    /// Ends the provider's reservation of that id, if it stands, by the request of that number, which becomes the mark
+    /// in either case. Refused are a request with a number below the mark (`Stale`), and want of memory. The room of
+    /// the reservation is given back, and that of other rows stays.
     pub fn cancel(
         &mut self,
         provider: PartyKey,
@@ -98,9 +118,9 @@ impl ReservationBook {
         }
     }
 
-    /// Ends the first of the provider's reservations for the token at the location, on the EVSE if one is named, and answers
-    /// it. None, where there is none such. It takes no memory, gives the room of the reservation back, and leaves that of
-    /// other rows.
+    /// Ends the first of the provider's reservations for the token at the location, on the EVSE if one is named, and
+    /// answers it. None, where there is none such. It takes no memory, gives the room of the reservation back, and
+    /// leaves that of other rows.
     pub fn use_for(&mut self, token: &TokenAt, evse_uid: Option<CiKey<36>>) -> Option<Standing>
         ensures some { IfSome result (λ x. IsFirstFor self.old.rows.reservations token.now evse_uid x) }
         ensures leaves { IfSome result (λ x. Leaves (Use (x.provider, x.id)) self.old.rows self.new.rows) }
@@ -114,9 +134,9 @@ impl ReservationBook {
         Some(standing)
     }
 
-    /// Ends the reservations whose expiry is at or before a moment, and answers them in the order of their expiry. Their room
-    /// is given back, and that of other rows stays. An error is want of memory, and changes nothing; none is taken where
-    /// nothing has expired.
+    /// Ends the reservations whose expiry is at or before a moment, and answers them in the order of their expiry.
+    /// Their room is given back, and that of other rows stays. An error is want of memory, and changes nothing; none
+    /// is taken where nothing has expired.
     pub fn expire(&mut self, alloc: Global, at: Moment) -> Result<Vec<Standing>, AllocError>
         ensures list { IfOk result (λ v. AreExpired at self.old.rows.reservations v.items) }
         ensures none { ((x : Standing) → HasExpired at self.old.rows.reservations x → ⊥) → IsOk result }

@@ -45,8 +45,8 @@ fn push_expired(
 }
 
 impl ReservationBook {
-    /// The reservations whose expiry is at or before a moment, in the order of their expiry, then of their providers and ids.
-    /// An error is want of memory, and none is taken where nothing has expired.
+    /// The reservations whose expiry is at or before a moment, in the order of their expiry, then of their providers
+    /// and ids. An error is want of memory, and none is taken where nothing has expired.
     pub fn expired(&self, alloc: Global, at: Moment) -> Result<Vec<Standing>, AllocError>
         ensures list { IfOk result (λ v. AreExpired at self.now.rows.reservations v.items) }
         ensures none { ((x : Standing) → HasExpired at self.now.rows.reservations x → ⊥) → IsOk result }

@@ -8,8 +8,8 @@ pub fn marks_never_fall()
     ensures { MarksNeverFall }
 {}
 
-/// A reservation that is new was made by a request whose number is not below the mark that stood before, so not below that of
-/// any cancel that was taken.
+/// A reservation that is new was made by a request whose number is not below the mark that stood before, so not below
+/// that of any cancel that was taken.
 pub fn new_reservations_are_newer()
     ensures { NewReservationsAreNewer }
 {}

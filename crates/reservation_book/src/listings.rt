@@ -4,7 +4,18 @@ ghost use Rattle.std.specs.Prelude.{◌≡◌, IfNone, IfSome, IsOk, IsTrue, OnO
 ghost use Rattle.std.specs.FinMap as map;
 ghost use Rattle.tables.specs.Tables.{shown_of, rooms_of, IsLeast, HasNone};
 ghost use Rattle.reservation_book.specs.Places.{Key, Expiry, Place, expiry_cmp, place_cmp, expiry_key, place_key};
-ghost use Rattle.reservation_book.specs.Listed.{ShowSame, HaveRoom, KeepRoom, Releases, GivesUpListed, IsPlaceFor, IsPlaceOn, IsPlaceAfter, IsPlaceNamed, AreListed};
+ghost use Rattle.reservation_book.specs.Listed.{
+  ShowSame,
+  HaveRoom,
+  KeepRoom,
+  Releases,
+  GivesUpListed,
+  IsPlaceFor,
+  IsPlaceOn,
+  IsPlaceAfter,
+  IsPlaceNamed,
+  AreListed,
+};
 ghost use Rattle.reservation_book.specs.Tokens.{IsToken};
 ghost use Rattle.reservation_book.specs.Rows.{Reservations};
 ghost use Rattle.ocpi_types.specs.declared.stored.Reservation.{Reservation};
@@ -49,7 +60,8 @@ fn place_key(key: &ReservationKey, reservation: &Reservation) -> PlaceKey
     )
 }
 
-/// The reservations that stand, by the moment of their expiry, and by the token, the location and the EVSE that they are for.
+/// The reservations that stand, by the moment of their expiry, and by the token, the location and the EVSE that they
+/// are for.
 #[derive(Drop)]
 pub(crate) struct Listings {
     pub(crate) expiring: Table<ExpiryKey, ()>,
@@ -120,7 +132,8 @@ impl Listings {
         self.places.release(place_key(key, reservation));
     }
 
-    /// Lists a reservation in place of another of its key, if there is one, whose room is given back. It takes no memory.
+    /// Lists a reservation in place of another of its key, if there is one, whose room is given back. It takes no
+    /// memory.
     pub(crate) fn replace(
         &mut self,
         key: &ReservationKey,

@@ -12,8 +12,8 @@ pub struct Standing {
     pub reservation: Reservation,
 }
 
-/// A provider's token at a location. A reservation is for the token of its uid and type (OCPI 2.2.1, Commands: StartSession
-/// and ReserveNow).
+/// A provider's token at a location. A reservation is for the token of its uid and type (OCPI 2.2.1, Commands:
+/// StartSession and ReserveNow).
 #[derive(Clone, Copy)]
 pub struct TokenAt {
     pub provider: PartyKey,

@@ -1,6 +1,7 @@
 pub mod Meanings
 pub mod RowLemmas
 pub mod StatementLemmas
+pub mod VersionLemmas
 pub mod EffectLemmas
 pub mod EditLemmas
 pub mod ReadLemmas
@@ -10,3 +11,4 @@ pub mod KeptLemmas
 pub mod MakeLemmas
 pub mod CheckLemmas
 pub mod OpenLemmas
+pub mod HistoryLemmas

@@ -1,5 +1,5 @@
 -- The rows that are read in order are the entries.
-use Rattle.std.proofs.Common.{◌≡◌, ℕ, true, List, [], map, T, IfOk, IfErr, OnOk, Ok, Err, Result, Vec, refl, sym, ap, subst, ◌∙◌}
+use Rattle.std.proofs.Common.{◌≡◌, ℕ, true, List, map, T, IfOk, OnOk, Ok, Err, Result, Vec, ap, ◌∙◌}
 use Rattle.std.specs.declared.alloc.Global.{Global}
 use Rattle.std.specs.FinMap.{entries, is_sorted}
 use Rattle.sqlite.specs.Order.{Row}

@@ -1,32 +1,24 @@
 -- What the statements that make the tables do.
-use Rattle.std.proofs.Common.{◌≡◌, ◌⊎◌, inl, inr, ℕ, ℤ, pos, List, [], ◌∷◌, map, Bool, true, false, cond, not, IsTrue, None, Some, Ok, Err, Result, OnOk, refl, sym, ap, subst, ◌∙◌, arith}
+use Rattle.std.proofs.Common.{◌≡◌, ◌⊎◌, inl, inr, ℕ, pos, List, [], ◌∷◌, map, false, IsTrue, None, Ok, Err, Result, OnOk, refl, sym, ap, subst, ◌∙◌}
 use Rattle.std.proofs.lemmas.Bool.{cases_Bool}
 use Rattle.std.specs.Fmt.{digits}
 use Rattle.sqlite.specs.declared.types.Value.{Value}
-use Rattle.sqlite.specs.declared.types.Value.TheVariants.{Null, Int, Text}
+use Rattle.sqlite.specs.declared.types.Value.TheVariants.{Int}
 use Rattle.sqlite.specs.declared.error.Error.{Error}
 use Rattle.sqlite.specs.Order.{Row, column}
-use Rattle.sqlite.specs.Term.{Term, lit}
-use Rattle.sqlite.specs.Ops.{unary}
-use Rattle.sqlite.specs.Cast.{cast}
-use Rattle.sqlite.specs.Kind.TheVariants.{Integer}
-use Rattle.sqlite.specs.Table.{Table}
 use Rattle.sqlite.specs.Schema.{Schema}
-use Rattle.sqlite.specs.Source.TheVariants.{Values}
-use Rattle.sqlite.specs.Command.TheVariants.{Insert, CreateTable}
+use Rattle.sqlite.specs.Command.TheVariants.{CreateTable}
 use Rattle.sqlite.specs.Change.{created, next_tree, KeepsRows}
-use Rattle.sqlite.specs.Edit.{Edit, edit_of, edited, next_rowid, put_all}
-use Rattle.sqlite.specs.Rowids.TheVariants.{Chosen}
-use Rattle.sqlite.specs.Does.{Tally, Does, lacks_sequence}
-use Rattle.sqlite.specs.Rows.{Written}
-use Rattle.sqlite.specs.Tree.{Trees}
-use Rattle.sqlite.specs.Listing.{understood}
+use Rattle.sqlite.specs.Does.{Tally, lacks_sequence}
 use Rattle.sqlite.specs.Effect.{Database}
-use Rattle.sqlite.specs.State.{State, mode_of, Writes, Executes, ExecutesInside}
-use Rattle.sqlite.proofs.Callers.{statement_of, runs_as, one_step}
+use Rattle.sqlite.specs.State.{State, Writes, Executes, ExecutesInside}
+use Rattle.sqlite.proofs.Callers.{runs_as}
 use Rattle.row_table.specs.Layout.{layout_text, row_text, layout_table, row_table, both_tables, no_schema, layout_alone}
-use Rattle.row_table.specs.Opening.{HasLayout, HasBoth, HasNothing, HasOne, HasFirst}
-use Rattle.row_table.proofs.Meanings.{layout_insert, first_is, first_plain, layout_is, layout_plain, rows_are, rows_plain}
+use Rattle.row_table.specs.Texts.{AreTexts, texts_in, texts_of}
+use Rattle.row_table.specs.Effects.{HasNumbered}
+use Rattle.row_table.specs.Opening.{HasLayout, HasBoth, HasNothing, HasFirst}
+use Rattle.row_table.proofs.EffectLemmas.{content}
+use Rattle.row_table.proofs.Meanings.{layout_is, layout_plain, rows_are, rows_plain}
 
 went : {B E R : Type 0} {b : B} {Stops : E → Type 0} → ((stop : E) × Stops stop × (Ok b ≡ Err stop)) ⊎ R → R
 went (inl stopped) = absurd (let e = stopped.2 in cc)
@@ -34,18 +26,6 @@ went (inr on) = on
 
 same_value : {B E : Type 0} {a b : B} → ◌≡◌ {A = Result B E} (Ok a) (Ok b) → a ≡ b
 same_value e = cc
-
-either : (b : Bool) (x : Value) → cond b x x ≡ x
-either true x = refl
-either false x = refl
-
-cast_null : cast Integer Null ≡ Null
-unfolding unary
-cast_null = either _ Null
-
-cast_one : cast Integer (Int (pos 1)) ≡ Int (pos 1)
-unfolding unary
-cast_one = either _ (Int (pos 1))
 
 layout_made : (old new : State) (count : ℕ) → old.now.schema ≡ no_schema → Executes layout_text [] old new (Ok count) → (new.now.schema ≡ layout_alone) × (new.now.trees 0 ≡ [])
 layout_made old new count has h =
@@ -82,28 +62,6 @@ rows_made old new count has none h =
       no_text = ap (λ (d : Database). d.trees 1) now ∙ subst (λ s. first.0.trees (next_tree s) ≡ []) has made.empty;
     }
 
-version_written : (old new : State) (count : ℕ) → HasNothing old → Executes layout_insert [] old new (Ok count) → HasOne new.now
-version_written old new count has h =
-    let db = old.now.trees in
-    let command = Insert 0 (Values (lit Null ∷ lit (Int (pos 1)) ∷ []) 2) in
-    let w = runs_as layout_insert [] old new both_tables has.schema command first_is first_plain count h in
-    let text = statement_of layout_insert (understood both_tables layout_insert) in
-    let done = went (subst (λ s. Does old.step_limit (mode_of old) [] (record old.now { schema = s }) text None command (Ok (w.tally, new.now))) has.schema w.changed) in
-    let now = ap (λ (p : Tally × Database). p.1) (same_value (went (went done.2).2).2) in
-    let given = went done.1 in
-    let written = went (went given.2).2 in
-    let counted = went written.2 in
-    let trees : done.0.trees ≡ written.0 = ap (λ (it : Written). it.trees) (same_value counted.2) ∙ same_value counted.1 in
-    let step = one_step both_tables _ db written.0 (edit_of db layout_table [] Chosen 0 given.0) refl written.1 in
-    let news : (edit_of db layout_table [] Chosen 0 given.0).news ≡ (Int (next_rowid (db 0)) ∷ Int (pos 1) ∷ []) ∷ [] = ap (λ all. (edit_of db layout_table [] Chosen 0 all).news) given.1.1 ∙ rw (cast_null, cast_one) refl in
-    let rows : new.now.trees 0 ≡ (Int (next_rowid (db 0)) ∷ Int (pos 1) ∷ []) ∷ [] = ap (λ (d : Database). d.trees 0) now ∙ ap (λ (t : Trees). t 0) trees ∙ step.rows ∙ ap (put_all (db 0)) news
-    ∙ ap (λ l. put_all l ((Int (next_rowid (db 0)) ∷ Int (pos 1) ∷ []) ∷ [])) has.no_version in
-    record {
-      schema = ap (λ (d : Database). d.schema) now;
-      version = ap (map (λ (r : Row). column r 1)) rows;
-      no_text = ap (λ (d : Database). d.trees 1) now ∙ ap (λ (t : Trees). t 1) trees ∙ step.tables.1.0 (λ e. let f = e in omega (arith, f)) ∙ has.no_text;
-    }
-
 module _ (old new : State) (r : Result ℕ Error) (ended : old.in_transaction ≡ false → (e : Error) × (r ≡ Err e)) where
   pub makes_layout : old.now.schema ≡ no_schema → (IsTrue old.in_transaction → ExecutesInside 0 layout_text [] old new r) → OnOk r (HasLayout old new)
   makes_layout has runs = go r refl
@@ -130,14 +88,20 @@ module _ (old new : State) (r : Result ℕ Error) (ended : old.in_transaction �
         | inr outside ↦ absurd (let e = sym is ∙ (ended outside).1 in cc)
       ]
 
-  pub writes_version : HasNothing old → (IsTrue old.in_transaction → ExecutesInside 0 layout_insert [] old new r) → OnOk r (HasFirst old new)
-  writes_version has runs = go r refl
-    where
-      go : (x : Result ℕ Error) → r ≡ x → OnOk x (HasFirst old new)
-      go (Err e) is = tt
-      go (Ok count) is = elim (cases_Bool old.in_transaction) [
-        | inl within ↦
-            let ran = subst (λ x. ExecutesInside 0 layout_insert [] old new x) is (runs within) in
-            (ran.1, version_written old new count has ran.0)
-        | inr outside ↦ absurd (let e = sym is ∙ (ended outside).1 in cc)
-      ]
+no_texts : AreTexts []
+no_texts = record { each = λ r h. absurd h; keyed = λ a b h i e. absurd h }
+
+-- with its version the store is a new one
+pub first_version : (old new : State) (version : ℕ) → HasNothing old → HasNumbered version old new → HasFirst version old new
+first_version old new version none made =
+    let empty_rows : new.now.trees 1 ≡ [] = made.texts ∙ none.no_text in
+    let v = made.has_version in
+    record {
+      shown = made.shown;
+      schema = made.schema;
+      one = record {
+        whole = record { listed = made.listed; version = version; has_version = v; are_texts = subst AreTexts (sym empty_rows) no_texts };
+        holds = ap (λ (rows : List Row). content (map (λ (r : Row). column r 1) rows) (texts_of new.now.trees)) v.only
+            ∙ ap (λ (x : Value). content (x ∷ []) (texts_of new.now.trees)) v.has_version ∙ ap (λ (rows : List Row). content (Int (pos version) ∷ []) (texts_in rows)) empty_rows;
+      };
+    }

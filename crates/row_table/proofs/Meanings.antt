@@ -1,18 +1,14 @@
 -- What the texts of the statements mean under the schema.
-use Rattle.std.proofs.Common.{◌≡◌, ℕ, pos, negsuc, List, [], ◌∷◌, map, codes, Bool, true, false, None, Some, Ok, Err, Result, refl, sym, ap, subst, ◌∙◌}
-use Rattle.sqlite.specs.declared.types.Value.TheVariants.{Null, Int, Text}
+use Rattle.std.proofs.Common.{◌≡◌, ℕ, pos, negsuc, List, [], ◌∷◌, codes, false, None, Ok, refl}
+use Rattle.sqlite.specs.declared.types.Value.TheVariants.{Null, Int}
 use Rattle.sqlite_sql.specs.declared.ops.BinaryOp.TheVariants as binary
 use Rattle.sqlite_sql.specs.declared.ops.CompareOp.TheVariants as compare
 use Rattle.sqlite.specs.Collation.TheVariants as collation
 use Rattle.sqlite_value.specs.declared.keys.Key.{Key}
-use Rattle.sqlite.specs.Order.{Row}
 use Rattle.sqlite.specs.Term.{Term, lit, col, op2}
 use Rattle.sqlite.specs.Query.{Query, inner, end}
-use Rattle.sqlite.specs.Source.{Source}
 use Rattle.sqlite.specs.Source.TheVariants.{Values}
-use Rattle.sqlite.specs.Command.{Command}
 use Rattle.sqlite.specs.Command.TheVariants.{Insert, Delete, Select, CreateTable}
-use Rattle.sqlite_schema.specs.declared.program.Program.{Program}
 use Rattle.sqlite.specs.Compile.{table_defined_by}
 use Rattle.sqlite_tied.specs.Compute.{everything}
 use Rattle.sqlite.specs.Listing.{understood, reads_listing}
@@ -29,10 +25,13 @@ abbrev pub select_text : List ℕ
 select_text = codes "SELECT kind, name, body FROM row_text ORDER BY kind, name"
 
 abbrev pub layout_insert : List ℕ
-layout_insert = codes "INSERT INTO layout(version) VALUES (1)"
+layout_insert = codes "INSERT INTO layout(version) VALUES (?1)"
+
+abbrev pub layout_delete : List ℕ
+layout_delete = codes "DELETE FROM layout"
 
 abbrev pub layout_select : List ℕ
-layout_select = codes "SELECT version FROM layout"
+layout_select = codes "SELECT rowid, version FROM layout"
 
 abbrev pub whole_select : List ℕ
 whole_select = codes "SELECT rowid, kind, name, body FROM row_text ORDER BY rowid"
@@ -60,7 +59,10 @@ abbrev pub whole_query : Query
 whole_query = query_over 1 [] (col 1 0 ∷ col 1 1 ∷ col 1 2 ∷ col 1 3 ∷ []) ((col 1 0, rising) ∷ [])
 
 abbrev pub version_query : Query
-version_query = query_over 0 [] (col 1 1 ∷ []) []
+version_query = query_over 0 [] (col 1 0 ∷ col 1 1 ∷ []) []
+
+abbrev pub layout_query : Query
+layout_query = query_over 0 [] (col 1 0 ∷ []) []
 
 pub insert_is : command_of (understood both_tables insert_text) ≡ Insert 1 (Values insert_terms 4)
 unfolding understood everything
@@ -94,7 +96,7 @@ pub whole_plain : IsPlain (understood both_tables whole_select)
 unfolding understood everything
 whole_plain = (refl, refl)
 
-pub version_is : (command_of (understood both_tables layout_select) ≡ Select (record { lets = []; body = version_query }) (codes "version" ∷ [])) × (reads_listing both_tables layout_select ≡ false)
+pub version_is : (command_of (understood both_tables layout_select) ≡ Select (record { lets = []; body = version_query }) (codes "rowid" ∷ codes "version" ∷ [])) × (reads_listing both_tables layout_select ≡ false)
 unfolding understood everything
 version_is = (refl, refl)
 
@@ -102,13 +104,21 @@ pub version_plain : IsPlain (understood both_tables layout_select)
 unfolding understood everything
 version_plain = (refl, refl)
 
-pub first_is : command_of (understood both_tables layout_insert) ≡ Insert 0 (Values (lit Null ∷ lit (Int (pos 1)) ∷ []) 2)
+pub first_is : command_of (understood both_tables layout_insert) ≡ Insert 0 (Values (lit Null ∷ col 0 0 ∷ []) 2)
 unfolding understood everything
 first_is = refl
 
 pub first_plain : IsPlain (understood both_tables layout_insert)
 unfolding understood everything
 first_plain = (refl, refl)
+
+pub none_is : command_of (understood both_tables layout_delete) ≡ Delete 0 (record { lets = []; body = layout_query })
+unfolding understood everything
+none_is = refl
+
+pub none_plain : IsPlain (understood both_tables layout_delete)
+unfolding understood everything
+none_plain = (refl, refl)
 
 pub layout_is : (command_of (understood no_schema layout_text) ≡ CreateTable) × (statement_of layout_text (understood no_schema layout_text) ≡ layout_text) × (table_defined_by layout_text ≡ Ok layout_table)
 unfolding understood everything

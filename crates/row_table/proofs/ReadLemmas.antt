@@ -1,12 +1,12 @@
 -- What a query by itself leaves, and what it shows.
-use Rattle.std.proofs.Common.{◌≡◌, ◌⊎◌, inl, inr, ℕ, List, [], true, false, Bool, cond, IsTrue, IfOk, IfErr, Option, Some, None, Ok, Err, Result, Vec, refl, sym, ap, subst, ◌∙◌}
+use Rattle.std.proofs.Common.{◌≡◌, ◌⊎◌, inl, inr, ℕ, List, [], true, cond, IsTrue, IfOk, IfErr, Option, Some, None, Ok, Err, Result, Vec, refl, ap, ◌∙◌}
 use Rattle.std.specs.declared.alloc.Global.{Global}
 use Rattle.sqlite.specs.Order.{Row}
 use Rattle.sqlite.specs.Store.{Ghosts}
 use Rattle.sqlite.specs.declared.error.Error.{Error}
 use Rattle.sqlite_resolve.specs.declared.compiled.Compiled.{Compiled}
 use Rattle.sqlite_schema.specs.declared.command.Returning.{Returning}
-use Rattle.sqlite.specs.State.{State, IsUnchanged, IsRolledBack, KeepsCommit, IsNotRun, Fails, FailsToQuery, FailsToShow, ShowsRows, Shown, IsTooLate, Writes}
+use Rattle.sqlite.specs.State.{State, IsUnchanged, IsRolledBack, KeepsCommit, IsNotRun, FailsToQuery, FailsToShow, ShowsRows, Shown, IsTooLate}
 use Rattle.sqlite.specs.Held.{Held, state}
 use Rattle.row_table.specs.Effects.{HasUndone}
 use Rattle.row_table.specs.Reading.{IsAnswered}

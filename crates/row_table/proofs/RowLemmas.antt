@@ -1,23 +1,22 @@
 -- What taking rows away and putting a row in does to the texts.
-use Rattle.std.proofs.Common.{◌≡◌, ◌≢◌, ◌⊎◌, inl, inr, ℕ, ℤ, List, [], ◌∷◌, map, Bool, true, false, cond, not, None, Some, Option, refl, sym, ap, subst, ◌∙◌}
-use Rattle.std.specs.Prelude.{◌&&◌, ◌||◌, filter, fold}
-use Rattle.std.specs.List.{list_any, list_all}
+use Rattle.std.proofs.Common.{◌≡◌, ◌⊎◌, inl, inr, ℕ, ℤ, List, [], ◌∷◌, map, Bool, true, false, cond, not, None, Some, Option, refl, sym, ap, subst, ◌∙◌}
+use Rattle.std.specs.Prelude.{◌&&◌, ◌||◌, filter}
+use Rattle.std.specs.List.{list_any}
 use Rattle.std.specs.Ordering.{eq_by_cmp, is_eq, match_ordering, int_cmp}
-use Rattle.std.specs.declared.cmp.Ordering.{Ordering}
 use Rattle.std.specs.declared.cmp.Ordering.TheVariants.{Less, Equal, Greater}
 use Rattle.std.specs.Cmp.{eq_by_cmp_equiv, int_cmp_total}
-use Rattle.std.specs.FinMap.{FinMap, find, get, insert, remove, from_entries, get-from_entries, get-insert, get-remove, same_map, int_cmp-IsAntisymmetric}
+use Rattle.std.specs.FinMap.{find, insert, remove, get-from_entries, get-insert, get-remove, same_map, int_cmp-IsAntisymmetric}
 use Rattle.sqlite.specs.declared.types.Value.{Value}
-use Rattle.sqlite.specs.declared.types.Value.TheVariants.{Null, Int, Text}
-use Rattle.sqlite.specs.Order.{Row, bytes, column, value_cmp}
+use Rattle.sqlite.specs.declared.types.Value.TheVariants.{Int}
+use Rattle.sqlite.specs.Order.{Row, value_cmp}
 use Rattle.sqlite.specs.Tree.{rowid, has_rowid, without_rowid, put_row}
-use Rattle.sqlite.specs.Edit.{without_all, put_all, is_taken, are_fresh}
+use Rattle.sqlite.specs.Edit.{without_all, is_taken}
 use Rattle.sqlite_value.proofs.OrderLemmas.{value_cmp-Int}
 use Rattle.sqlite_rules.specs.Lists.{Has}
-use Rattle.sqlite_rules.proofs.ListLemmas.{has_filtered, has_kept, some_from, some_has}
+use Rattle.sqlite_rules.proofs.ListLemmas.{has_filtered, some_from, some_has}
 use Rattle.tables.specs.Keys.{text_pair_cmp, text_pair_total, text_pair_exact}
 use Rattle.tables.proofs.Maps.{equal_of_is_eq}
-use Rattle.row_table.specs.Texts.{Place, Texts, place_in, entry_in, texts_in, IsTextRow, AreTexts}
+use Rattle.row_table.specs.Texts.{Place, place_in, entry_in, texts_in, IsTextRow, AreTexts}
 
 abbrev pub is_at : Place → Row → Bool
 is_at p r = eq_by_cmp text_pair_cmp p (place_in r)
@@ -110,7 +109,7 @@ rowid_is r id is h =
     let compared : is_eq (int_cmp is.id id) ≡ true = ap is_eq (sym (value_cmp-Int is.id id)) ∙ subst (λ (v : Value). is_eq (value_cmp v (Int id)) ≡ true) is.has_id h in
     is.has_id ∙ ap Int (int_cmp-IsAntisymmetric is.id id (equal_of_is_eq (int_cmp is.id id) compared))
 
-rowid_tied : (r : Row) (id : ℤ) → rowid r ≡ Int id → has_rowid id r ≡ true
+pub rowid_tied : (r : Row) (id : ℤ) → rowid r ≡ Int id → has_rowid id r ≡ true
 rowid_tied r id same = subst (λ (v : Value). is_eq (value_cmp v (Int id)) ≡ true) (sym same) (ap is_eq (value_cmp-Int id id) ∙ (eq_by_cmp_equiv int_cmp_total).refl id)
 
 -- The rowids are those of the rows at a place.
@@ -136,6 +135,10 @@ cleared p rows ids texts sound complete = without_each rows ids ∙ same_filter 
             | false ↦ λ _. refl
           ] refl
         ] refl
+
+-- the one row of a table is taken away by its rowid
+pub cleared_one : (r : Row) (id : ℤ) → rowid r ≡ Int id → without_all (r ∷ []) (id ∷ []) ≡ []
+cleared_one r id same = ap (λ (b : Bool). cond (not b) (r ∷ []) []) (rowid_tied r id same)
 
 -- ---- a row is put in
 

@@ -1,13 +1,12 @@
 -- What the statements on `row_text` do to its rows.
-use Rattle.std.proofs.Common.{◌≡◌, ◌⊎◌, inl, inr, ℕ, ℤ, pos, negsuc, List, [], ◌∷◌, map, Bool, true, false, cond, not, None, Some, Ok, Err, Result, IfOk, OnOk, refl, sym, ap, subst, ◌∙◌}
-use Rattle.std.specs.Prelude.{◌&&◌, filter, flat_map, ◌++◌}
+use Rattle.std.proofs.Common.{◌≡◌, ◌⊎◌, inl, inr, ℕ, List, [], ◌∷◌, map, Bool, true, false, cond, not, None, Some, Ok, Err, Result, OnOk, refl, sym, ap, subst, ◌∙◌, arith}
+use Rattle.std.specs.Prelude.{◌&&◌, flat_map, ◌++◌}
 use Rattle.std.specs.List.Sorted.{IsPermutation}
 use Rattle.std.specs.List.{list_all}
-use Rattle.std.specs.Ordering.{eq_by_cmp, is_eq, ordering_then}
+use Rattle.std.specs.Ordering.{is_eq, ordering_then}
 use Rattle.std.specs.declared.cmp.Ordering.{Ordering}
 use Rattle.std.specs.declared.cmp.Ordering.TheVariants.{Less, Equal, Greater}
-use Rattle.std.specs.FinMap.{insert, remove}
-use Rattle.std.proofs.lemmas.List.Sorted.{IsPermutation-sym, All-permutation, IsPermutation-map}
+use Rattle.std.proofs.lemmas.List.Sorted.{IsPermutation-sym, IsPermutation-map}
 use Rattle.sqlite.specs.declared.types.Value.{Value}
 use Rattle.sqlite.specs.declared.types.Value.TheVariants.{Null, Int, Text}
 use Rattle.sqlite_sql.specs.declared.ops.BinaryOp.TheVariants as binary
@@ -16,14 +15,13 @@ use Rattle.sqlite.specs.Collation.TheVariants as collation
 use Rattle.sqlite_sql.specs.Ops as ops
 use Rattle.sqlite.specs.Order.{Row, column, bytes, value_cmp}
 use Rattle.sqlite_sql.specs.Term.{Term, holds, Env, op2, col}
-use Rattle.sqlite.specs.Query.{Query, inner, end, IsAnswer, output, page, Output, matches}
+use Rattle.sqlite.specs.Query.{inner, end, IsAnswer, output, Output, matches}
 use Rattle.sqlite.specs.Program.{overlay}
-use Rattle.sqlite.specs.Table.{Table}
 use Rattle.sqlite.specs.Schema.{Schema}
 use Rattle.sqlite.specs.Kind.TheVariants.{Integer}
 use Rattle.sqlite.specs.Source.TheVariants.{Values}
-use Rattle.sqlite.specs.Command.TheVariants.{Insert, Delete, Select}
-use Rattle.sqlite.specs.Edit.{Edit, id_in, put_all, edit_of, edited, next_rowid, without_all, is_taken, are_fresh, left_by}
+use Rattle.sqlite.specs.Command.TheVariants.{Insert, Delete}
+use Rattle.sqlite.specs.Edit.{id_in, put_all, edit_of, next_rowid, without_all, is_taken, are_fresh}
 use Rattle.sqlite.specs.Cast.{cast}
 use Rattle.sqlite.specs.Ops.{unary}
 use Rattle.sqlite.specs.Rowids.TheVariants.{Chosen, Given}
@@ -31,21 +29,22 @@ use Rattle.sqlite.specs.Does.{Tally, Does}
 use Rattle.sqlite.specs.Rows.{Written}
 use Rattle.sqlite.specs.Tree.{Trees, rowid, put_row}
 use Rattle.sqlite.specs.declared.error.Error.{Error}
-use Rattle.sqlite.specs.Listing.{understood, reads_listing}
-use Rattle.sqlite.specs.Effect.{Database}
-use Rattle.sqlite.specs.State.{State, mode_of, Writes, Executes, Shown}
-use Rattle.sqlite.proofs.Callers.{IsPlain, command_of, statement_of, runs_as, reads_as, one_step}
+use Rattle.sqlite.specs.Listing.{understood}
+use Rattle.sqlite.specs.Effect.{Database, IsDatabase}
+use Rattle.sqlite.specs.State.{State, mode_of, Executes, Shown}
+use Rattle.sqlite.proofs.Callers.{statement_of, runs_as, reads_as, one_step}
 use Rattle.sqlite_rules.specs.Calls.{ids_of}
 use Rattle.sqlite_rules.specs.Lists.{Has}
-use Rattle.sqlite_rules.proofs.ListLemmas.{all_has, all_from, has_either, has_right, has_contained, contains_had}
+use Rattle.sqlite_rules.proofs.ListLemmas.{has_right, has_contained, contains_had}
 use Rattle.std.proofs.lemmas.List.Sorted.{Contains-permutation}
 use Rattle.std.specs.Cmp.{eq_by_cmp_equiv}
 use Rattle.sqlite_value.proofs.OrderLemmas.{value_cmp-Text}
-use Rattle.tables.specs.Keys.{text_pair_cmp, text_cmp, text_total}
+use Rattle.sqlite_catalog.specs.Listing.{IsSound}
+use Rattle.tables.specs.Keys.{text_cmp, text_total}
 use Rattle.row_table.specs.Layout.{both_tables, row_table}
-use Rattle.row_table.specs.Texts.{Place, Texts, place_in, entry_in, texts_in, texts_of, text_row, IsTextRow, AreTexts}
+use Rattle.row_table.specs.Texts.{text_row, IsTextRow, AreTexts}
 use Rattle.row_table.proofs.Meanings.{insert_text, delete_text, select_text, whole_select, insert_terms, delete_tests, delete_query, select_query, whole_query, insert_is, insert_plain, delete_is, delete_plain, select_is, select_plain, whole_is, whole_plain}
-use Rattle.row_table.proofs.RowLemmas.{is_at, rest, cleared, texts_rest, are_rest, none_at, texts_put, are_put}
+use Rattle.row_table.proofs.RowLemmas.{is_at, rest, cleared}
 
 -- ---- lists
 
@@ -159,13 +158,19 @@ deleted_ids kind name db rows answer texts =
     let there = found.complete r i (tests_are kind name r (texts.each r i) ∙ at) in
     subst (Has (ids_of rows)) (ap id_in same) (mapped_has (λ (x : Row). id_in (rowid x)) rows (rowid r ∷ []) there))
 
--- the tables stay, and the rows are these
-pub record HasRows (db : Database) (rows : List Row) : Type 0 where
+-- the tables and the version stay, and the rows are these
+pub record HasRows (old : Trees) (db : Database) (rows : List Row) : Type 0 where
   pub schema : db.schema ≡ both_tables
+  pub listed : IsSound both_tables db.trees
+  pub layout_is : db.trees 0 ≡ old 0
   pub rows_are : db.trees 1 ≡ rows
 
+-- what a statement leaves is listed as it shows
+pub listed_as : (db : Database) (schema : Schema) → db.schema ≡ schema → IsDatabase db → IsSound schema db.trees
+listed_as db schema same sound = subst (λ (s : Schema). IsSound s db.trees) same sound
+
 pub deletes : (old new : State) (kind name : List ℕ) (r : Result ℕ Error) → old.now.schema ≡ both_tables → AreTexts (old.now.trees 1) → Executes delete_text (Text kind ∷ Text name ∷ []) old new r
-    → OnOk r (HasRows new.now (rest (kind, name) (old.now.trees 1)))
+    → OnOk r (HasRows old.now.trees new.now (rest (kind, name) (old.now.trees 1)))
 deletes old new kind name (Err e) has texts h = tt
 deletes old new kind name (Ok count) has texts h =
     let params = Text kind ∷ Text name ∷ [] in
@@ -179,15 +184,18 @@ deletes old new kind name (Ok count) has texts h =
     let written = went given.2 in
     let trees : done.0.trees ≡ written.0 = ap (λ (it : Written). it.trees) (same_value written.2) in
     let step = one_step both_tables _ db written.0 (edit_of db row_table (ids_of given.0) Given 0 []) refl written.1 in
+    let schema : new.now.schema ≡ both_tables = ap (λ (d : Database). d.schema) now in
     record {
-      schema = ap (λ (d : Database). d.schema) now;
+      schema = schema;
+      listed = listed_as new.now both_tables schema w.sound;
+      layout_is = ap (λ (d : Database). d.trees 0) now ∙ ap (λ (t : Trees). t 0) trees ∙ step.tables.0 (λ e. let f = e in omega (arith, f));
       rows_are = ap (λ (d : Database). d.trees 1) now ∙ ap (λ (t : Trees). t 1) trees ∙ step.rows ∙ deleted_ids kind name (overlay db []) given.0 (given.1.answer Null) texts;
     }
 
 -- ---- INSERT
 
 pub inserts : (old new : State) (kind name body : List ℕ) (r : Result ℕ Error) → old.now.schema ≡ both_tables → Executes insert_text (Text kind ∷ Text name ∷ Text body ∷ []) old new r
-    → OnOk r (HasRows new.now (put_row (text_row (next_rowid (old.now.trees 1)) kind name body) (old.now.trees 1)) × (is_taken (old.now.trees 1) (text_row (next_rowid (old.now.trees 1)) kind name body) ≡ false))
+    → OnOk r (HasRows old.now.trees new.now (put_row (text_row (next_rowid (old.now.trees 1)) kind name body) (old.now.trees 1)) × (is_taken (old.now.trees 1) (text_row (next_rowid (old.now.trees 1)) kind name body) ≡ false))
 inserts old new kind name body (Err e) has h = tt
 inserts old new kind name body (Ok count) has h =
     let params = Text kind ∷ Text name ∷ Text body ∷ [] in
@@ -202,9 +210,12 @@ inserts old new kind name body (Ok count) has h =
     let counted = went written.2 in
     let trees : done.0.trees ≡ written.0 = ap (λ (it : Written). it.trees) (same_value counted.2) ∙ same_value counted.1 in
     let step = one_step both_tables _ db written.0 (edit_of db row_table [] Chosen 0 given.0) refl written.1 in
-    let news : (edit_of db row_table [] Chosen 0 given.0).news ≡ text_row (next_rowid (db 1)) kind name body ∷ [] = ap (λ all. (edit_of db row_table [] Chosen 0 all).news) given.1.1 ∙ rw cast_null refl in (
+    let news : (edit_of db row_table [] Chosen 0 given.0).news ≡ text_row (next_rowid (db 1)) kind name body ∷ [] = ap (λ all. (edit_of db row_table [] Chosen 0 all).news) given.1.1 ∙ rw cast_null refl in
+    let schema : new.now.schema ≡ both_tables = ap (λ (d : Database). d.schema) now in (
       record {
-        schema = ap (λ (d : Database). d.schema) now;
+        schema = schema;
+        listed = listed_as new.now both_tables schema w.sound;
+        layout_is = ap (λ (d : Database). d.trees 0) now ∙ ap (λ (t : Trees). t 0) trees ∙ step.tables.0 (λ e. let f = e in omega (arith, f));
         rows_are = ap (λ (d : Database). d.trees 1) now ∙ ap (λ (t : Trees). t 1) trees ∙ step.rows ∙ ap (put_all (db 1)) news;
       },
       front_fresh (db 1) (text_row (next_rowid (db 1)) kind name body) (subst (λ (l : List Row). are_fresh (db 1) l ≡ true) news step.fresh),

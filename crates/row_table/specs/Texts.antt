@@ -1,6 +1,6 @@
 -- What the rows of `row_text` say: a text under each kind and name.
-use Rattle.std.specs.Prelude.{◌≡◌, ℕ, ℤ, List, [], ◌∷◌, map, Option, Some, None}
-use Rattle.std.specs.FinMap.{FinMap, from_entries, insert, remove}
+use Rattle.std.specs.Prelude.{◌≡◌, ℕ, ℤ, List, [], ◌∷◌, map}
+use Rattle.std.specs.FinMap.{FinMap, from_entries}
 use Rattle.sqlite.specs.declared.types.Value.TheVariants.{Int, Text}
 use Rattle.sqlite.specs.Order.{Row, bytes, column}
 use Rattle.sqlite.specs.Tree.{Trees, rowid}

@@ -1,18 +1,13 @@
 //! Whether a store that has the two tables keeps what it should.
 
-ghost use Rattle.std.specs.Prelude.{◌≡◌, ◌↔◌, false, pos, [], ◌∷◌, IsTrue, IfOk};
+ghost use Rattle.std.specs.Prelude.{◌≡◌, false, pos, [], ◌∷◌, IsTrue, IfOk, map};
 ghost use Rattle.sqlite.specs.declared.types.Value.TheVariants.{Int};
 ghost use Rattle.sqlite.specs.Order.{column};
-ghost use Rattle.sqlite.specs.State.{HasCleanDisk, Survives};
-ghost use Rattle.sqlite.specs.Held.{state};
-ghost use Rattle.row_table.specs.Layout.{both_tables};
-ghost use Rattle.row_table.specs.Texts.{AreTexts, IsTextRow};
-ghost use Rattle.row_table.specs.Effects.{HasUndone};
-ghost use Rattle.row_table.specs.Opening.{IsVersionOne};
+ghost use Rattle.row_table.specs.Texts.{IsTextRow};
+ghost use Rattle.row_table.specs.Contents.{IsNumbered};
 ghost use Rattle.row_table.specs.Checking.{AreWhole, IsAbove};
 
-use crate::reading::query_alone;
-use sqlite::{Alter, Connection, Error, Row};
+use sqlite::{Error, Row};
 use std::cmp::Ordering;
 
 /// The rowid of a row that also has three texts.
@@ -51,13 +46,15 @@ pub(crate) fn are_whole(rows: &[Row]) -> Result<bool, Error>
     Ok(true)
 }
 
-/// Whether there is one row, with the number 1 alone.
-pub(crate) fn is_one(rows: &[Row]) -> Result<bool, Error>
-    ensures { IfOk result (λ b. IsTrue b ↔ (rows.now ≡ (Int (pos 1) ∷ []) ∷ [])) }
+/// Whether there is one row, which has a rowid and that number.
+pub(crate) fn is_numbered(rows: &[Row], version: u32) -> Result<bool, Error>
+    ensures one { IfOk result (λ b. IsTrue b → IsNumbered version rows.now) }
+    ensures all { IfOk result (λ b. map (λ r. column r 1) rows.now ≡ Int (pos version) ∷ [] → IsTrue b) }
 {
     let [row] = rows else {
         return Ok(false);
     };
-    let version: i64 = row.get(0)?;
-    Ok(version == 1 && row.column_count() == 1)
+    let _id: i64 = row.get(0)?;
+    let found: i64 = row.get(1)?;
+    Ok(found == i64::from(version))
 }

@@ -4,9 +4,18 @@ ghost use Rattle.std.specs.Prelude.{◌≡◌, ◌≢◌, true, IsTrue, OnOk, On
 ghost use Rattle.sqlite.specs.State.{HasCleanDisk, KeepsCommit, Survives};
 ghost use Rattle.sqlite.specs.Held.{state};
 ghost use Rattle.row_table.specs.Texts.{texts_of};
-ghost use Rattle.row_table.specs.Effects.{HadTables, HasMade, HasCommitted, HasUndone, set, set_all};
+ghost use Rattle.row_table.specs.Contents.{at_version, content_of, with_texts};
+ghost use Rattle.row_table.specs.Effects.{
+  HadTables,
+  HasMade,
+  HasCommitted,
+  HasUndone,
+  MayCommit,
+  set,
+  set_all,
+};
 
-use crate::statements::{clear, put};
+use crate::statements::{clear, put, put_version};
 use sqlite::{Alter, Connection, Error, Transaction};
 use std::marker::Model;
 
@@ -42,7 +51,7 @@ impl TextEdit {
         ensures same_reference { tx.new.conn.ghost_name ≡ tx.old.conn.ghost_name }
         ensures kept { HasCleanDisk (state S.Store tx.new.conn.now) → KeepsCommit (state S.Store tx.old.conn.now) (state S.Store tx.new.conn.now) }
         ensures made { HasCleanDisk (state S.Store tx.new.conn.now) → HadTables (state S.Store tx.old.conn.now)
-            → OnOk result (HasMade (state S.Store tx.old.conn.now) (state S.Store tx.new.conn.now) (set (texts_of (state S.Store tx.old.conn.now).now.trees) self.now)) }
+            → OnOk result (HasMade (state S.Store tx.old.conn.now) (state S.Store tx.new.conn.now) (with_texts (content_of (state S.Store tx.old.conn.now).now.trees) (set (texts_of (state S.Store tx.old.conn.now).now.trees) self.now))) }
         ensures survives { Survives (state S.Store tx.old.conn.now) (state S.Store tx.new.conn.now) (λ _. ⊥) }
     {
         match &self.text {
@@ -60,7 +69,8 @@ pub(crate) fn make_all<S: Alter>(
     ensures same_reference { tx.new.conn.ghost_name ≡ tx.old.conn.ghost_name }
     ensures kept { HasCleanDisk (state S.Store tx.new.conn.now) → KeepsCommit (state S.Store tx.old.conn.now) (state S.Store tx.new.conn.now) }
     ensures made { HasCleanDisk (state S.Store tx.new.conn.now) → HadTables (state S.Store tx.old.conn.now) → edits.now ≢ []
-        → OnOk result (HasMade (state S.Store tx.old.conn.now) (state S.Store tx.new.conn.now) (set_all (texts_of (state S.Store tx.old.conn.now).now.trees) edits.now)) }
+        → OnOk result (HasMade (state S.Store tx.old.conn.now) (state S.Store tx.new.conn.now) (with_texts (content_of (state S.Store tx.old.conn.now).now.trees) (set_all (texts_of (state S.Store tx.old.conn.now).now.trees) edits.now))) }
+    ensures idle { edits.now ≡ [] → tx.new.conn.now ≡ tx.old.conn.now }
     ensures survives { Survives (state S.Store tx.old.conn.now) (state S.Store tx.new.conn.now) (λ _. ⊥) }
 {
     for edit in edits {
@@ -77,11 +87,48 @@ pub(crate) fn commit_all<S: Alter>(
     requires { conn.old.in_transaction ≡ false }
     ensures mode { conn.new.in_transaction ≡ false }
     ensures all { HasCleanDisk (state S.Store conn.new) → HadTables (state S.Store conn.old) → edits.now ≢ []
-        → OnOk result (HasCommitted (state S.Store conn.old) (state S.Store conn.new) (set_all (texts_of (state S.Store conn.old).now.trees) edits.now)) }
-    ensures none { HasCleanDisk (state S.Store conn.new) → HadTables (state S.Store conn.old) → edits.now ≢ [] → OnErr result (HasUndone (state S.Store conn.old) (state S.Store conn.new)) }
-    ensures crash { Survives (state S.Store conn.old) (state S.Store conn.new) (λ trees. HadTables (state S.Store conn.old) → edits.now ≢ [] → IsTrue (state S.Store conn.old).is_open × (texts_of trees ≡ set_all (texts_of (state S.Store conn.old).now.trees) edits.now)) }
+        → OnOk result (HasCommitted (state S.Store conn.old) (state S.Store conn.new) (with_texts (content_of (state S.Store conn.old).now.trees) (set_all (texts_of (state S.Store conn.old).now.trees) edits.now))) }
+    ensures none { HasCleanDisk (state S.Store conn.new) → HadTables (state S.Store conn.old) → edits.now ≢ []
+        → OnErr result (HasUndone (state S.Store conn.old) (state S.Store conn.new)) }
+    ensures crash { Survives (state S.Store conn.old) (state S.Store conn.new)
+        (λ trees. HadTables (state S.Store conn.old) → edits.now ≢ [] → MayCommit (state S.Store conn.old) (with_texts (content_of (state S.Store conn.old).now.trees) (set_all (texts_of (state S.Store conn.old).now.trees) edits.now)) trees) }
 {
     let mut tx = conn.transaction();
     make_all(&mut tx, edits)?;
+    tx.commit()
+}
+
+/// Writes the version, and makes the edits in turn, up to the first that fails.
+fn make_to<S: Alter>(
+    tx: &mut Transaction<'_, S>,
+    version: u32,
+    edits: &[TextEdit],
+) -> Result<(), Error>
+    ensures same_reference { tx.new.conn.ghost_name ≡ tx.old.conn.ghost_name }
+    ensures kept { HasCleanDisk (state S.Store tx.new.conn.now) → KeepsCommit (state S.Store tx.old.conn.now) (state S.Store tx.new.conn.now) }
+    ensures made { HasCleanDisk (state S.Store tx.new.conn.now) → HadTables (state S.Store tx.old.conn.now)
+        → OnOk result (HasMade (state S.Store tx.old.conn.now) (state S.Store tx.new.conn.now) (at_version version (set_all (texts_of (state S.Store tx.old.conn.now).now.trees) edits.now))) }
+    ensures survives { Survives (state S.Store tx.old.conn.now) (state S.Store tx.new.conn.now) (λ _. ⊥) }
+{
+    put_version(tx, version)?;
+    make_all(tx, edits)
+}
+
+/// Writes the version and makes the edits in one transaction, all of it or nothing.
+pub(crate) fn commit_to<S: Alter>(
+    conn: &mut Connection<S>,
+    version: u32,
+    edits: &[TextEdit],
+) -> Result<(), Error>
+    requires { conn.old.in_transaction ≡ false }
+    ensures mode { conn.new.in_transaction ≡ false }
+    ensures all { HasCleanDisk (state S.Store conn.new) → HadTables (state S.Store conn.old)
+        → OnOk result (HasCommitted (state S.Store conn.old) (state S.Store conn.new) (at_version version (set_all (texts_of (state S.Store conn.old).now.trees) edits.now))) }
+    ensures none { HasCleanDisk (state S.Store conn.new) → HadTables (state S.Store conn.old) → OnErr result (HasUndone (state S.Store conn.old) (state S.Store conn.new)) }
+    ensures crash { Survives (state S.Store conn.old) (state S.Store conn.new)
+        (λ trees. HadTables (state S.Store conn.old) → MayCommit (state S.Store conn.old) (at_version version (set_all (texts_of (state S.Store conn.old).now.trees) edits.now)) trees) }
+{
+    let mut tx = conn.transaction();
+    make_to(&mut tx, version, edits)?;
     tx.commit()
 }

@@ -6,7 +6,15 @@ ghost use Rattle.sqlite_schema.specs.declared.schema.Column.{Column};
 ghost use Rattle.sqlite.specs.declared.types.Value.TheVariants.{Null};
 ghost use Rattle.sqlite.specs.Collation.TheVariants.{Binary};
 ghost use Rattle.row_table.specs.Checking.{HasOurNames, outline};
-ghost use Rattle.row_table.specs.Layout.{IsPlainTable, both_tables, layout_table, no_schema, row_index, row_table, strict_column};
+ghost use Rattle.row_table.specs.Layout.{
+  IsPlainTable,
+  both_tables,
+  layout_table,
+  no_schema,
+  row_index,
+  row_table,
+  strict_column,
+};
 
 use sqlite_schema::schema::{Column, Index, Kind, Schema, Table};
 use sqlite_value::keys::Collation;

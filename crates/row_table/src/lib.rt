@@ -4,6 +4,7 @@
 
 mod checking;
 mod edits;
+mod laws;
 mod layout;
 mod making;
 mod opening;
@@ -13,6 +14,7 @@ mod statements;
 mod table;
 
 pub use edits::TextEdit;
+pub use laws::stops_are_found;
 pub use opening::OpenFault;
 pub use past::Past;
 pub use reading::TextRow;

@@ -1,16 +1,31 @@
 //! A store is opened.
 
-ghost use Rattle.std.specs.Prelude.{◌≡◌, ◌≢◌, ◌↔◌, ◌⊎◌, false, [], ◌∷◌, slice_index_or, IsTrue, IfOk, IfErr, OnOk, OnErr};
-ghost use Rattle.std.specs.FinMap.{empty};
+ghost use Rattle.std.specs.Prelude.{
+  ◌≡◌,
+  ◌≢◌,
+  ◌⊎◌,
+  false,
+  pos,
+  [],
+  ◌∷◌,
+  slice_index_or,
+  IsTrue,
+  IfOk,
+  IfErr,
+  OnOk,
+  OnErr,
+};
+ghost use Rattle.sqlite.specs.declared.types.Value.TheVariants.{Int};
 ghost use Rattle.sqlite.specs.State.{HasCleanDisk, Survives};
 ghost use Rattle.sqlite.specs.Held.{state};
 ghost use Rattle.row_table.specs.Layout.{both_tables, no_schema};
-ghost use Rattle.row_table.specs.Texts.{AreTexts, texts_of};
+ghost use Rattle.row_table.specs.Texts.{AreTexts};
+ghost use Rattle.row_table.specs.Contents.{HasVersion, versions};
 ghost use Rattle.row_table.specs.Effects.{HasUndone};
-ghost use Rattle.row_table.specs.Opening.{HoldsAsOpened, IsLayoutOne, IsOldLayout, IsVersionOne};
+ghost use Rattle.row_table.specs.Opening.{HoldsAsOpened, IsOfVersion, IsOldLayout, IsSpared};
 ghost use Rattle.row_table.specs.Checking.{HasOurNames};
 
-use crate::checking::{are_whole, is_one};
+use crate::checking::{are_whole, is_numbered};
 use crate::layout::{has_our_names, is_empty, is_ours};
 use crate::making::make_tables;
 use crate::past::Past;
@@ -38,24 +53,28 @@ impl From<Error> for OpenFault {
     }
 }
 
-/// Whether `layout` has just one row, 1.
-fn is_version_one<S: Alter>(conn: &mut Connection<S>) -> Result<bool, Error>
+/// Whether `layout` has just one row, with that version.
+fn has_version<S: Alter>(conn: &mut Connection<S>, version: u32) -> Result<bool, Error>
     requires { conn.old.in_transaction ≡ false }
     ensures mode { conn.new.in_transaction ≡ false }
-    ensures one { HasCleanDisk (state S.Store conn.new) → (state S.Store conn.old).now.schema ≡ both_tables → IfOk result (λ b. IsTrue b ↔ IsVersionOne (state S.Store conn.old).now.trees) }
+    ensures one { HasCleanDisk (state S.Store conn.new) → (state S.Store conn.old).now.schema ≡ both_tables → IfOk result
+        (λ b. IsTrue b → HasVersion version (state S.Store conn.old).now.trees) }
+    ensures all { HasCleanDisk (state S.Store conn.new) → (state S.Store conn.old).now.schema ≡ both_tables → IfOk result
+        (λ b. versions (state S.Store conn.old).now.trees ≡ Int (pos version) ∷ [] → IsTrue b) }
     ensures was_open { HasCleanDisk (state S.Store conn.new) → OnOk result (IsTrue (state S.Store conn.old).is_open) }
     ensures same { HasCleanDisk (state S.Store conn.new) → HasUndone (state S.Store conn.old) (state S.Store conn.new) }
     ensures crash { Survives (state S.Store conn.old) (state S.Store conn.new) (λ _. ⊥) }
 {
-    let rows = query_alone(conn, "SELECT version FROM layout")?;
-    is_one(rows.as_slice())
+    let rows = query_alone(conn, "SELECT rowid, version FROM layout")?;
+    is_numbered(rows.as_slice(), version)
 }
 
 /// Whether each row of `row_text` has a rowid of its own and three texts.
 fn are_rows_whole<S: Alter>(conn: &mut Connection<S>) -> Result<bool, Error>
     requires { conn.old.in_transaction ≡ false }
     ensures mode { conn.new.in_transaction ≡ false }
-    ensures whole { HasCleanDisk (state S.Store conn.new) → (state S.Store conn.old).now.schema ≡ both_tables → IfOk result (λ b. IsTrue b → AreTexts ((state S.Store conn.old).now.trees 1)) }
+    ensures whole { HasCleanDisk (state S.Store conn.new) → (state S.Store conn.old).now.schema ≡ both_tables → IfOk result
+        (λ b. IsTrue b → AreTexts ((state S.Store conn.old).now.trees 1)) }
     ensures was_open { HasCleanDisk (state S.Store conn.new) → OnOk result (IsTrue (state S.Store conn.old).is_open) }
     ensures same { HasCleanDisk (state S.Store conn.new) → HasUndone (state S.Store conn.old) (state S.Store conn.new) }
     ensures crash { Survives (state S.Store conn.old) (state S.Store conn.new) (λ _. ⊥) }
@@ -67,7 +86,7 @@ fn are_rows_whole<S: Alter>(conn: &mut Connection<S>) -> Result<bool, Error>
     are_whole(rows.as_slice())
 }
 
-/// Whether a schema that has something is that of layout 1.
+/// Whether a schema that has something is that of the two tables.
 fn check_schema(alloc: Global, schema: &Schema) -> Result<(), OpenFault>
     ensures ours { OnOk result (schema.now ≡ both_tables) }
     ensures other { IfErr result (λ e. e ≡ OpenFault.OldLayout → ¬ HasOurNames schema.now) }
@@ -82,18 +101,23 @@ fn check_schema(alloc: Global, schema: &Schema) -> Result<(), OpenFault>
     }
 }
 
-/// Whether a store that has something has layout 1.
-fn check_tables<S: Alter>(alloc: Global, conn: &mut Connection<S>) -> Result<(), OpenFault>
+/// Whether a store that has something has the two tables, and that version.
+fn check_tables<S: Alter>(
+    alloc: Global,
+    conn: &mut Connection<S>,
+    version: u32,
+) -> Result<(), OpenFault>
     requires { conn.old.in_transaction ≡ false }
     ensures mode { conn.new.in_transaction ≡ false }
-    ensures one { HasCleanDisk (state S.Store conn.new) → OnOk result (IsLayoutOne (state S.Store conn.old)) }
-    ensures other { HasCleanDisk (state S.Store conn.new) → IfErr result (λ e. e ≡ OpenFault.OldLayout → (¬ HasOurNames (state S.Store conn.old).now.schema) ⊎ (¬ IsVersionOne (state S.Store conn.old).now.trees)) }
+    ensures one { HasCleanDisk (state S.Store conn.new) → OnOk result (IsOfVersion version (state S.Store conn.old)) }
+    ensures other { HasCleanDisk (state S.Store conn.new) → IfErr result
+        (λ e. e ≡ OpenFault.OldLayout → (¬ HasOurNames (state S.Store conn.old).now.schema) ⊎ (versions (state S.Store conn.old).now.trees ≢ Int (pos version) ∷ [])) }
     ensures same { HasCleanDisk (state S.Store conn.new) → HasUndone (state S.Store conn.old) (state S.Store conn.new) }
     ensures crash { Survives (state S.Store conn.old) (state S.Store conn.new) (λ _. ⊥) }
 {
     let _settled = conn.is_autocommit();
     check_schema(alloc, conn.schema())?;
-    if !is_version_one(conn)? {
+    if !has_version(conn, version)? {
         return Err(OpenFault::OldLayout);
     }
     if !are_rows_whole(conn)? {
@@ -103,36 +127,41 @@ fn check_tables<S: Alter>(alloc: Global, conn: &mut Connection<S>) -> Result<(),
 }
 
 /// Makes the tables, and notes the connection then.
-fn start<S: Alter>(conn: &mut Connection<S>) -> Result<Past<Connection<S>>, OpenFault>
-    requires { conn.old.in_transaction ≡ false }
+fn start<S: Alter>(conn: &mut Connection<S>, version: u32) -> Result<Past<Connection<S>>, OpenFault>
+    requires idle { conn.old.in_transaction ≡ false }
+    requires nothing { (state S.Store conn.old).now.schema ≡ no_schema }
+    requires settled { IsTrue (state S.Store conn.old).is_open → (state S.Store conn.old).now ≡ (state S.Store conn.old).committed }
     ensures mode { conn.new.in_transaction ≡ false }
     ensures once { IfOk result (λ p. p.items ≡ slice_index_or p.items 0 conn.new ∷ []) }
-    ensures opened { HasCleanDisk (state S.Store conn.new) → (state S.Store conn.old).now.schema ≡ no_schema → IfOk result (λ p. HoldsAsOpened S.Store conn.old conn.new (slice_index_or p.items 0 conn.new)) }
+    ensures opened { HasCleanDisk (state S.Store conn.new) → IfOk result (λ p. HoldsAsOpened S.Store version conn.old conn.new (slice_index_or p.items 0 conn.new)) }
     ensures honest { HasCleanDisk (state S.Store conn.new) → HasCleanDisk (state S.Store conn.old) }
+    ensures spared { HasCleanDisk (state S.Store conn.new) → IfErr result (λ e. IsSpared version (state S.Store conn.old) (state S.Store conn.new)) }
     ensures fault { IfErr result (λ e. e ≢ OpenFault.OldLayout) }
 {
-    make_tables(conn)?;
+    make_tables(conn, version)?;
     Ok(Past::new().note(conn))
 }
 
-/// Opens the store that the connection is over, and notes the connection once it has the texts.
+/// Opens the store that the connection is over, and notes the connection once it has the version and the texts.
 pub(crate) fn open_tables<S: Alter>(
     alloc: Global,
     conn: &mut Connection<S>,
+    version: u32,
 ) -> Result<Past<Connection<S>>, OpenFault>
     requires { conn.old.in_transaction ≡ false }
     ensures mode { conn.new.in_transaction ≡ false }
     ensures once { IfOk result (λ p. p.items ≡ slice_index_or p.items 0 conn.new ∷ []) }
-    ensures opened { HasCleanDisk (state S.Store conn.new) → IfOk result (λ p. HoldsAsOpened S.Store conn.old conn.new (slice_index_or p.items 0 conn.new)) }
+    ensures opened { HasCleanDisk (state S.Store conn.new) → IfOk result (λ p. HoldsAsOpened S.Store version conn.old conn.new (slice_index_or p.items 0 conn.new)) }
     ensures honest { HasCleanDisk (state S.Store conn.new) → HasCleanDisk (state S.Store conn.old) }
-    ensures old { HasCleanDisk (state S.Store conn.new) → IfErr result (λ e. e ≡ OpenFault.OldLayout → IsOldLayout (state S.Store conn.old).now) }
+    ensures spared { HasCleanDisk (state S.Store conn.new) → IfErr result (λ e. IsSpared version (state S.Store conn.old) (state S.Store conn.new)) }
+    ensures old { HasCleanDisk (state S.Store conn.new) → IfErr result (λ e. e ≡ OpenFault.OldLayout → IsOldLayout version (state S.Store conn.old).now) }
 {
     let _settled = conn.is_autocommit();
     if is_empty(conn.schema()) {
-        return start(conn);
+        return start(conn, version);
     }
     let last = Past::new().note(conn);
-    match check_tables(alloc, conn) {
+    match check_tables(alloc, conn, version) {
         Ok(()) => Ok(last),
         Err(fault) => Err(fault),
     }

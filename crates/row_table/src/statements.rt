@@ -1,11 +1,13 @@
-//! The statements on `row_text`.
+//! The statements that change what a store holds.
 
-ghost use Rattle.std.specs.Prelude.{◌≡◌, true, IsTrue, IfOk, OnOk, None};
+ghost use Rattle.std.specs.Prelude.{◌≡◌, true, [], IsTrue, IfOk, OnOk, None};
 ghost use Rattle.std.specs.FinMap.{get, insert, remove};
 ghost use Rattle.sqlite.specs.State.{HasCleanDisk, KeepsCommit, Survives};
 ghost use Rattle.sqlite.specs.Held.{state};
+ghost use Rattle.row_table.specs.Layout.{both_tables};
 ghost use Rattle.row_table.specs.Texts.{texts_of};
-ghost use Rattle.row_table.specs.Effects.{HadTables, HasMade};
+ghost use Rattle.row_table.specs.Contents.{at_version, content_of, with_texts};
+ghost use Rattle.row_table.specs.Effects.{HadTables, HasMade, HasNoVersion, HasNumbered};
 
 use sqlite::{Alter, Error, Row, Transaction, params};
 
@@ -18,7 +20,7 @@ pub(crate) fn clear<S: Alter>(
     ensures same_reference { tx.new.conn.ghost_name ≡ tx.old.conn.ghost_name }
     ensures kept { HasCleanDisk (state S.Store tx.new.conn.now) → KeepsCommit (state S.Store tx.old.conn.now) (state S.Store tx.new.conn.now) }
     ensures made { HasCleanDisk (state S.Store tx.new.conn.now) → HadTables (state S.Store tx.old.conn.now)
-        → OnOk result (HasMade (state S.Store tx.old.conn.now) (state S.Store tx.new.conn.now) (remove (texts_of (state S.Store tx.old.conn.now).now.trees) (kind.now, name.now))) }
+        → OnOk result (HasMade (state S.Store tx.old.conn.now) (state S.Store tx.new.conn.now) (with_texts (content_of (state S.Store tx.old.conn.now).now.trees) (remove (texts_of (state S.Store tx.old.conn.now).now.trees) (kind.now, name.now)))) }
     ensures survives { Survives (state S.Store tx.old.conn.now) (state S.Store tx.new.conn.now) (λ _. ⊥) }
 {
     tx.execute(
@@ -36,8 +38,9 @@ fn add<S: Alter>(
 ) -> Result<usize, Error>
     ensures same_reference { tx.new.conn.ghost_name ≡ tx.old.conn.ghost_name }
     ensures kept { HasCleanDisk (state S.Store tx.new.conn.now) → KeepsCommit (state S.Store tx.old.conn.now) (state S.Store tx.new.conn.now) }
-    ensures made { HasCleanDisk (state S.Store tx.new.conn.now) → HadTables (state S.Store tx.old.conn.now) → get (texts_of (state S.Store tx.old.conn.now).now.trees) (kind.now, name.now) ≡ None
-        → OnOk result (HasMade (state S.Store tx.old.conn.now) (state S.Store tx.new.conn.now) (insert (texts_of (state S.Store tx.old.conn.now).now.trees) (kind.now, name.now) text.now)) }
+    ensures made { HasCleanDisk (state S.Store tx.new.conn.now) → HadTables (state S.Store tx.old.conn.now)
+        → get (texts_of (state S.Store tx.old.conn.now).now.trees) (kind.now, name.now) ≡ None
+        → OnOk result (HasMade (state S.Store tx.old.conn.now) (state S.Store tx.new.conn.now) (with_texts (content_of (state S.Store tx.old.conn.now).now.trees) (insert (texts_of (state S.Store tx.old.conn.now).now.trees) (kind.now, name.now) text.now))) }
     ensures survives { Survives (state S.Store tx.old.conn.now) (state S.Store tx.new.conn.now) (λ _. ⊥) }
 {
     tx.execute(
@@ -56,9 +59,49 @@ pub(crate) fn put<S: Alter>(
     ensures same_reference { tx.new.conn.ghost_name ≡ tx.old.conn.ghost_name }
     ensures kept { HasCleanDisk (state S.Store tx.new.conn.now) → KeepsCommit (state S.Store tx.old.conn.now) (state S.Store tx.new.conn.now) }
     ensures made { HasCleanDisk (state S.Store tx.new.conn.now) → HadTables (state S.Store tx.old.conn.now)
-        → OnOk result (HasMade (state S.Store tx.old.conn.now) (state S.Store tx.new.conn.now) (insert (texts_of (state S.Store tx.old.conn.now).now.trees) (kind.now, name.now) text.now)) }
+        → OnOk result (HasMade (state S.Store tx.old.conn.now) (state S.Store tx.new.conn.now) (with_texts (content_of (state S.Store tx.old.conn.now).now.trees) (insert (texts_of (state S.Store tx.old.conn.now).now.trees) (kind.now, name.now) text.now))) }
     ensures survives { Survives (state S.Store tx.old.conn.now) (state S.Store tx.new.conn.now) (λ _. ⊥) }
 {
     clear(tx, kind, name)?;
     add(tx, kind, name, text)
+}
+
+/// Takes the version away.
+fn clear_version<S: Alter>(tx: &mut Transaction<'_, S>) -> Result<usize, Error>
+    ensures same_reference { tx.new.conn.ghost_name ≡ tx.old.conn.ghost_name }
+    ensures kept { HasCleanDisk (state S.Store tx.new.conn.now) → KeepsCommit (state S.Store tx.old.conn.now) (state S.Store tx.new.conn.now) }
+    ensures made { HasCleanDisk (state S.Store tx.new.conn.now) → HadTables (state S.Store tx.old.conn.now)
+        → OnOk result (HasNoVersion (state S.Store tx.old.conn.now) (state S.Store tx.new.conn.now)) }
+    ensures survives { Survives (state S.Store tx.old.conn.now) (state S.Store tx.new.conn.now) (λ _. ⊥) }
+{
+    tx.execute("DELETE FROM layout", &[])
+}
+
+/// Writes the version where none stands.
+pub(crate) fn add_version<S: Alter>(
+    tx: &mut Transaction<'_, S>,
+    version: u32,
+) -> Result<usize, Error>
+    ensures same_reference { tx.new.conn.ghost_name ≡ tx.old.conn.ghost_name }
+    ensures kept { HasCleanDisk (state S.Store tx.new.conn.now) → KeepsCommit (state S.Store tx.old.conn.now) (state S.Store tx.new.conn.now) }
+    ensures made { HasCleanDisk (state S.Store tx.new.conn.now) → (state S.Store tx.old.conn.now).now.schema ≡ both_tables → (state S.Store tx.old.conn.now).now.trees 0 ≡ []
+        → OnOk result (HasNumbered version (state S.Store tx.old.conn.now) (state S.Store tx.new.conn.now)) }
+    ensures survives { Survives (state S.Store tx.old.conn.now) (state S.Store tx.new.conn.now) (λ _. ⊥) }
+{
+    tx.execute("INSERT INTO layout(version) VALUES (?1)", params![version])
+}
+
+/// Writes the version in place of the one that stands.
+pub(crate) fn put_version<S: Alter>(
+    tx: &mut Transaction<'_, S>,
+    version: u32,
+) -> Result<usize, Error>
+    ensures same_reference { tx.new.conn.ghost_name ≡ tx.old.conn.ghost_name }
+    ensures kept { HasCleanDisk (state S.Store tx.new.conn.now) → KeepsCommit (state S.Store tx.old.conn.now) (state S.Store tx.new.conn.now) }
+    ensures made { HasCleanDisk (state S.Store tx.new.conn.now) → HadTables (state S.Store tx.old.conn.now)
+        → OnOk result (HasMade (state S.Store tx.old.conn.now) (state S.Store tx.new.conn.now) (at_version version (texts_of (state S.Store tx.old.conn.now).now.trees))) }
+    ensures survives { Survives (state S.Store tx.old.conn.now) (state S.Store tx.new.conn.now) (λ _. ⊥) }
+{
+    clear_version(tx)?;
+    add_version(tx, version)
 }

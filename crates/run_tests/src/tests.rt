@@ -28,7 +28,8 @@ impl AnswerLines for Answers {
     ghost cut_alike = { λ s t line turn out h. tt };
 }
 
-/// Shows so many lines, each by a read of its own, and then a read fails. Where what was written is not flushed, the input ends.
+/// Shows so many lines, each by a read of its own, and then a read fails. Where what was written is not flushed, the
+/// input ends.
 #[derive(Clone, Copy)]
 struct BreaksOff<'a> {
     lines: u8,
@@ -83,8 +84,8 @@ impl Write for Takes<'_> {
     }
 }
 
-/// Of an input of two lines whose third read fails: how the run ends over a writer that takes so many bytes, and whose flush of that
-/// number fails.
+/// Of an input of two lines whose third read fails: how the run ends over a writer that takes so many bytes, and whose
+/// flush of that number fails.
 fn run(alloc: Global, bytes: usize, failing_flush: usize) -> Result<Ran, RunFault> {
     let is_flushed = Cell::new(false);
     let source = BreaksOff {

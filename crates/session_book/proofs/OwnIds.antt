@@ -1,4 +1,5 @@
--- Ids that an operator makes: they fit in a longer text, and those of different numbers differ by more than the case of their letters.
+-- Ids that an operator makes: they fit in a longer text, and those of different numbers differ by more than the case
+-- of their letters.
 use Rattle.std.proofs.Common.{◌≡◌, ◌<◌, ◌≤◌, true, false, zero, suc, ℕ, List, [], ◌∷◌, ◌++◌, map, length, Ok, refl, sym, ap, ◌∙◌, arith}
 use Rattle.std.specs.Char.{to_ascii_uppercase, to_ascii_lowercase}
 use Rattle.std.proofs.lemmas.List.{map-append}

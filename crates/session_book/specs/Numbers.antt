@@ -13,8 +13,8 @@ use Rattle.session_book.specs.Stored.{Rows}
 abbrev pub id_key : OwnIdKind → List ℕ → ℕ → List ℕ
 id_key kind party n = key (own_id_text kind party n)
 
--- each session and each charge detail record whose id is that of a number of this party has a number that was given; beyond the last
--- number ids would repeat
+-- each session and each charge detail record whose id is that of a number of this party has a number that was given;
+-- beyond the last number ids would repeat
 pub record AreNumbered (party : List ℕ) (s : Rows) : Type 0 where
   pub sessions : (n : ℕ) → n ≤ max_whole → IsTrue (contains_key s.sessions (id_key Session party n)) → n ≤ s.last_session
   pub cdrs : (n : ℕ) → n ≤ max_whole → IsTrue (contains_key s.cdrs (id_key Cdr party n)) → n ≤ s.last_cdr

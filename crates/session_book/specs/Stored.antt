@@ -1,5 +1,5 @@
--- What an operator stores of its sessions, its rows, and what changes of rows make of it (OCPI 2.2.1, Sessions: Session object; CDRs:
--- CDR object).
+-- What an operator stores of its sessions, its rows, and what changes of rows make of it (OCPI 2.2.1, Sessions:
+-- Session object; CDRs: CDR object).
 use Rattle.std.specs.Prelude.{◌≡◌, ◌≢◌, ◌↔◌, ℕ, zero, suc, List, [], ◌∷◌, ◌++◌, map, Some, AllPairs, Contains, IsTrue, ⊤}
 use Rattle.std.specs.FinMap.{FinMap, get, insert, remove, contains_key, empty, entries}
 use Rattle.ocpi_text.specs.Text.{key}

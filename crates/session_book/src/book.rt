@@ -11,8 +11,8 @@ use std::alloc::{AllocError, Global};
 use std::marker::Model;
 use tables::Table;
 
-/// The newest versions of the sessions of an operator, and its charge detail records, each by its id without case, and the numbers of
-/// the last of both. All are the operator's own, so that ids alone tell them apart.
+/// The newest versions of the sessions of an operator, and its charge detail records, each by its id without case, and
+/// the numbers of the last of both. All are the operator's own, so that ids alone tell them apart.
 ///
 /// A look-up and a change cost the logarithm of the number of sessions, or of records.
 #[derive(Drop)]

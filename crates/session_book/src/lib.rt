@@ -1,5 +1,5 @@
-//! The sessions and the charge detail records that an operator stores, and the numbers of which their ids are made (OCPI 2.2.1,
-//! Sessions and CDRs).
+//! The sessions and the charge detail records that an operator stores, and the numbers of which their ids are made
+//! (OCPI 2.2.1, Sessions and CDRs).
 //!
 //! ```
 //! let mut book = SessionBook::new(alloc);

@@ -2,7 +2,21 @@
 
 ghost use Rattle.std.specs.Prelude.{◌≡◌, ◌++◌, [], OnOk, OnErr, IfOk, IsOk, map as list_map};
 ghost use Rattle.std.specs.FinMap as map;
-ghost use Rattle.session_book.specs.Stored.{HasRoomOf, KeepsRoom, KeepsOtherRoom, AreRowsOf, no_rows, cdr_row, count_rows, counted, put_row, drop_row, rooms_after_drop, rooms_with, session_row};
+ghost use Rattle.session_book.specs.Stored.{
+  HasRoomOf,
+  KeepsRoom,
+  KeepsOtherRoom,
+  AreRowsOf,
+  no_rows,
+  cdr_row,
+  count_rows,
+  counted,
+  put_row,
+  drop_row,
+  rooms_after_drop,
+  rooms_with,
+  session_row,
+};
 
 use crate::book::SessionBook;
 use ocpi_text::Whole;
@@ -34,8 +48,9 @@ impl SessionBook {
         }
     }
 
-    /// Takes the room that a row needs, which is none but for a session's and a charge detail record's. An error is want of memory,
-    /// for a row that has no room, and leaves the book as it was. The rows are as they were in either case.
+    /// Takes the room that a row needs, which is none but for a session's and a charge detail record's. An error is
+    /// want of memory, for a row that has no room, and leaves the book as it was. The rows are as they were in either
+    /// case.
     pub fn reserve_row(&mut self, row: &Row) -> Result<(), AllocError>
         ensures rows { self.new.rows ≡ self.old.rows }
         ensures rooms { OnOk result (self.new.rooms ≡ rooms_with row.now self.old.rooms) }
@@ -61,8 +76,8 @@ impl SessionBook {
         }
     }
 
-    /// Puts a row, in the place of the one of its kind and id if there is one. One of a kind that the book does not have changes
-    /// nothing. It takes no memory.
+    /// Puts a row, in the place of the one of its kind and id if there is one. One of a kind that the book does not
+    /// have changes nothing. It takes no memory.
     pub fn put_row(&mut self, row: Row)
         requires { HasRoomOf self.old.rooms row }
         ensures rows { self.new.rows ≡ put_row row self.old.rows }
@@ -142,8 +157,8 @@ impl SessionBook {
         Ok(())
     }
 
-    /// All rows of the book, each once: those of the counters that have given a number, of the sessions and of the charge detail
-    /// records, by their ids. An error is want of memory, and a book without rows takes none.
+    /// All rows of the book, each once: those of the counters that have given a number, of the sessions and of the
+    /// charge detail records, by their ids. An error is want of memory, and a book without rows takes none.
     pub fn rows(&self, alloc: Global) -> Result<Vec<Row>, AllocError>
         ensures list { IfOk result (λ rows. AreRowsOf self.now.rows rows.items) }
         ensures none { self.now.rows ≡ no_rows → IsOk result }

@@ -30,8 +30,8 @@ use Rattle.session_tables.specs.declared.shown.Shown.TheVariants as shown
 use Rattle.session_tables.specs.Answers.{BeginsByAnswer, BeginsWithoutAnswer}
 use Rattle.session_tables.specs.Places.{IsConnectorAt, MayTakeAt}
 
--- what makes a session begin: an open start is carried out, a token is shown, its provider allows it, or its provider did not answer in
--- time
+-- what makes a session begin: an open start is carried out, a token is shown, its provider allows it, or its provider
+-- did not answer in time
 pub data HowBegun (s : State) (i : Input) (acts : List Act) (b : Beginning) : Type 0 where
   Started : (at : ℕ) (report : ChargerEvent) → i ≡ Reports at report → (e : Ending) → IsStarted s report e b →
       Contains (all_changes acts) (Put (row.Result e.provider e.number e.result)) → Contains (all_changes acts) (Drop (keys.Pending e.provider e.number)) → HowBegun s i acts b

@@ -1,4 +1,5 @@
--- The currency of sessions and charge detail records: a session begins in that of its site and keeps it, and a record has its session's.
+-- The currency of sessions and charge detail records: a session begins in that of its site and keeps it, and a record
+-- has its session's.
 use Rattle.std.proofs.Common.{◌≡◌, ℕ, ℤ, List, inl, inr, sym, ap, ◌∙◌}
 use Rattle.std.specs.FinMap.{get-empty}
 use Rattle.tables.specs.Keys.{text_cmp}

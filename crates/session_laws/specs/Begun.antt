@@ -42,8 +42,8 @@ pub record IsFor (v : Session) (t : Token) (method : AuthMethod) (reference : Op
 
 -- the session begins by an event as was asked
 pub data BeginsAsAsked (s : State) (e : Event) (t : State) (v : Session) : Type 0 where
-  -- a charge point carries out an open start: the session has its token and its reference, is at the connector that it took, and the
-  -- start ends ACCEPTED
+  -- a charge point carries out an open start: the session has its token and its reference, is at the connector that it
+  -- took, and the start ends ACCEPTED
   ByStart : (at n : ℕ) (provider : List ℕ) → e.input ≡ Reports at (event.Accepts provider n) → (o : OpenCommand) → get s.rows.commands.pending (key provider, n) ≡ Some o →
       (c : StartSession) → o.command ≡ command.StartSession c → (evse connector : List ℕ) → o.evse_uid ≡ Some evse → o.connector_id ≡ Some connector →
       IsFor v c.token how.Command c.authorization_reference (key evse) (key connector) → get t.rows.commands.results (key provider, n) ≡ Some result.Accepted →
@@ -51,8 +51,8 @@ pub data BeginsAsAsked (s : State) (e : Event) (t : State) (v : Session) : Type 
   -- a token is shown that its provider lets in without being asked
   ByToken : (at : ℕ) (evse connector uid : List ℕ) (type : TokenType) → e.input ≡ Reports at (event.Swipe evse connector uid type) → (p : List ℕ) (k : Token) →
       get s.rows.tokens ((type, key uid), p) ≡ Some k → IsWhitelisted k.whitelist → k.valid ≡ true → IsFor v k how.Whitelist None (key evse) (key connector) → BeginsAsAsked s e t v
-  -- the provider of a token that was shown allows it, as it was asked, by a reference that was not used before, which may not be used
-  -- again
+  -- the provider of a token that was shown allows it, as it was asked, by a reference that was not used before, which
+  -- may not be used again
   ByAnswer : (at : ℕ) (q : Packet) → e.input ≡ Arrives at q → (a : Authorization) → q.body ≡ body.Authorization a → (w : Awaited) → IsAwaited s q w →
       (info : AuthorizationInfo) → Allows a w info →
       ¬ IsSpent s.rows.spent (key w.token.party) info.authorization_reference →

@@ -29,7 +29,8 @@ pub record Bills (v : Session) (x : Cdr) : Type 0 where
   pub energy : x.total_energy ≡ v.kwh
   pub cost : v.total_cost ≡ Some x.total_cost
 
--- it is the record that a version gets: its id is that of the next number, and its location that of the version's connector
+-- it is the record that a version gets: its id is that of the next number, and its location that of the version's
+-- connector
 pub record IsRecordOf (s : State) (v : Session) (x : Cdr) : Type 0 where
   pub bills : Bills v x
   pub location : Location
@@ -38,7 +39,8 @@ pub record IsRecordOf (s : State) (v : Session) (x : Cdr) : Type 0 where
   pub place : IsConnectorAt s.site.locations (key v.evse_uid) (key v.connector_id) location of_evse of_connector
   pub record_is : x ≡ cdr_of v (own_id_text own.Cdr s.party (s.rows.charged.last_cdr + 1)) (cdr_location_of location of_evse of_connector)
 
--- an event puts a charge detail record exactly where it puts a COMPLETED version of a session, and it is the record of that version
+-- an event puts a charge detail record exactly where it puts a COMPLETED version of a session, and it is the record of
+-- that version
 pub record PutsRecords (s : State) (e : Event) : Type 0 where
   pub each : (v : Session) → Puts e (row.Session v) → v.status ≡ Completed → (x : Cdr) × Puts e (row.Cdr x) × IsRecordOf s v x
   pub only : (x : Cdr) → Puts e (row.Cdr x) → (v : Session) × Puts e (row.Session v) × IsRecordOf s v x

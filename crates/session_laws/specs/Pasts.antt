@@ -33,9 +33,9 @@ past id es = flat_map (λ (e : Event). versions_put id e.changes) es
 abbrev pub stored : State → List ℕ → Option Session
 stored s id = get s.rows.charged.sessions id
 
--- from the opening on the past of each session is orderly: it begins PENDING, its statuses follow one another, each version is later
--- than the one before it, its energy never falls, its cost is that of its energy at the site's price, and what a session is of stays.
--- What is stored of a session is its last version
+-- from the opening on the past of each session is orderly: it begins PENDING, its statuses follow one another, each
+-- version is later than the one before it, its energy never falls, its cost is that of its energy at the site's price,
+-- and what a session is of stays. What is stored of a session is its last version
 abbrev pub PastsAreOrderly : Type 0
 PastsAreOrderly = (line : SiteLine) (es : List Event) (t : State) → IsOfParty line → Run (opening line) es t → (id : List ℕ) →
     IsOrderly line.site.price (past id es) × (stored t id ≡ last_or None (past id es))
@@ -45,7 +45,8 @@ abbrev pub MayComeNext : ℤ → Option Session → List Session → Type 0
 MayComeNext price None vs = IsOrderly price vs
 MayComeNext price (Some v) vs = Follow price v vs
 
--- from any state to any later one, the versions that are put may follow the one that is stored, and the last of them is stored then
+-- from any state to any later one, the versions that are put may follow the one that is stored, and the last of them
+-- is stored then
 abbrev pub PastsGoOn : Type 0
 PastsGoOn = (s t : State) (es : List Event) → IsConsistent s → Run s es t → (id : List ℕ) →
     MayComeNext s.site.price (stored s id) (past id es) × (stored t id ≡ last_or (stored s id) (past id es))

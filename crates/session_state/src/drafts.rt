@@ -63,8 +63,9 @@ fn hours(from: Moment, to: Moment) -> Quantity
 }
 
 impl CdrDraft {
-    /// The charge detail record of the session, under that id. Its one charging period has the session's energy, also where
-    /// that is none; so each record needs memory. Where memory runs out the draft and the location are handed back.
+    /// The charge detail record of the session, under that id. Its one charging period has the session's energy, also
+    /// where that is none; so each record needs memory. Where memory runs out the draft and the location are handed
+    /// back.
     pub fn issue(
         self,
         alloc: Global,

@@ -9,9 +9,9 @@
 //! let cdr = draft.issue(alloc, id, location)?;
 //! ```
 //!
-//! A session is moved by value: a call that takes it gives the session in its new state, or hands it back. So a session
-//! that has ended cannot be metered. Each call of `complete` gives one draft of a charge detail record, so a session gives one,
-//! unless it was copied before.
+//! A session is moved by value: a call that takes it gives the session in its new state, or hands it back. So a
+//! session that has ended cannot be metered. Each call of `complete` gives one draft of a charge detail record, so a
+//! session gives one, unless it was copied before.
 #![tactic(auto)]
 
 mod costs;

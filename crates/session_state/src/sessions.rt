@@ -3,7 +3,18 @@
 ghost use Rattle.std.specs.Prelude.{◌≡◌, ◌↔◌, ◌<◌, max, pos, None, Some, IfSome, IsNone, IfOk, IfErr, IsErr, IsTrue};
 ghost use Rattle.ocpi_text.specs.Moment.{last_moment};
 ghost use Rattle.ocpi_types.specs.Stamps.{next_stamp};
-ghost use Rattle.session_state.specs.Versions.{Priced, HasCost, IsIn, CanRead, first_version, activated, metered, ended, completed, voided};
+ghost use Rattle.session_state.specs.Versions.{
+  Priced,
+  HasCost,
+  IsIn,
+  CanRead,
+  first_version,
+  activated,
+  metered,
+  ended,
+  completed,
+  voided,
+};
 ghost use Rattle.session_state.specs.Pasts.{MayFollow};
 ghost use Rattle.session_state.specs.declared.fault.SessionFault.TheVariants.{StampEnd};
 
@@ -177,8 +188,8 @@ impl Session<Active> {
         self.version.kwh.value().units() <= energy && energy <= MOST_KWH
     }
 
-    /// The meter reads that many kilowatt-hours, of which the total cost follows. Refused (`StampEnd`) exactly where the
-    /// newest version was updated at the last moment; the session is then handed back.
+    /// The meter reads that many kilowatt-hours, of which the total cost follows. Refused (`StampEnd`) exactly where
+    /// the newest version was updated at the last moment; the session is then handed back.
     pub fn meter(
         self,
         at: Moment,

@@ -25,8 +25,8 @@ impl State for Active {
     ghost status = { status.Active };
 }
 
-/// The session was charged and has ended. What ends it (`Session::complete`) gives the draft of its charge detail record; one
-/// that is made again of what was stored (`resume`) gives none.
+/// The session was charged and has ended. What ends it (`Session::complete`) gives the draft of its charge detail
+/// record; one that is made again of what was stored (`resume`) gives none.
 #[derive(Clone, Copy)]
 pub struct Completed;
 

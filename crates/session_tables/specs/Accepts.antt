@@ -13,7 +13,8 @@ use Rattle.session_tables.specs.declared.beginning.Beginning.{Beginning}
 use Rattle.session_tables.specs.Beginnings.{begins}
 use Rattle.session_tables.specs.Places.{IsConnectorAt}
 
--- the session that begins where an open start is carried out: for the start's token and reference, at the connector that it took
+-- the session that begins where an open start is carried out: for the start's token and reference, at the connector
+-- that it took
 pub record Accepts (site : Site) (o : OpenCommand) (b : Beginning) : Type 0 where
   pub start : StartSession
   pub command_is : o.command ≡ command.StartSession start

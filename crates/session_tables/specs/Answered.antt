@@ -1,4 +1,5 @@
--- What is told of a token without its provider's answer (OCPI 2.2.1, Tokens: WhitelistType), and what it takes an EVSE by.
+-- What is told of a token without its provider's answer (OCPI 2.2.1, Tokens: WhitelistType), and what it takes an EVSE
+-- by.
 use Rattle.std.specs.Prelude.{◌≡◌, ℕ, true, List, Option, Some, None}
 use Rattle.ocpi_types.specs.declared.token.Token.{Token}
 use Rattle.ocpi_types.specs.declared.words.WhitelistType.TheVariants.{AllowedOffline}

@@ -1,5 +1,5 @@
--- What follows where a provider answers whether its token may be used, and where no answer came in time (OCPI 2.2.1, Tokens:
--- AuthorizationInfo, AllowedType).
+-- What follows where a provider answers whether its token may be used, and where no answer came in time (OCPI 2.2.1,
+-- Tokens: AuthorizationInfo, AllowedType).
 use Rattle.std.specs.Prelude.{◌≡◌, ℕ, true, List, Option, Some, None}
 use Rattle.ocpi_text.specs.Text.{key}
 use Rattle.ocpi_types.specs.declared.authorizations.Authorization.{Authorization}
@@ -33,8 +33,8 @@ pub record Allows (a : Authorization) (w : Awaited) (info : AuthorizationInfo) :
   pub allowed : info.allowed ≡ Allowed
   pub same : IsSameToken info.token w.token
 
--- the session begins for the token that was shown, as it was stored then, at the connector where it was shown, if the token may still
--- take the EVSE, and use up a reservation of it
+-- the session begins for the token that was shown, as it was stored then, at the connector where it was shown, if the
+-- token may still take the EVSE, and use up a reservation of it
 pub record BeginsThere (site : Site) (May : Option (List ℕ) → Type 0) (w : Awaited) (method : AuthMethod) (reference : Option (List ℕ)) (b : Beginning) : Type 0 where
   pub used : Option (List ℕ)
   pub may : May used

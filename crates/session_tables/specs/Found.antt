@@ -1,4 +1,5 @@
--- What is found of a site: a connector, with its EVSE and its location (OCPI 2.2.1, Locations: EVSE and Connector object).
+-- What is found of a site: a connector, with its EVSE and its location (OCPI 2.2.1, Locations: EVSE and Connector
+-- object).
 use Rattle.std.specs.Prelude.{ℕ, List}
 use Rattle.ocpi_types.specs.declared.site.Connector.{Connector}
 use Rattle.ocpi_types.specs.declared.site.Evse.{Evse}

@@ -10,7 +10,8 @@ use Rattle.session_tables.specs.declared.outcome.Moved.{Moved}
 use Rattle.session_tables.specs.declared.outcome.Moved.TheVariants as moved
 use Rattle.session_tables.specs.Moves.{Moves, MovesNone}
 
--- what comes of a move that makes w of v: no version is later than one of the last moment, and the draft is that of the version
+-- what comes of a move that makes w of v: no version is later than one of the last moment, and the draft is that of
+-- the version
 abbrev pub Comes : Session → Session → Moved → Type 0
 Comes v w moved.Nothing = ⊥
 Comes v w moved.Refused = v.last_updated ≡ last_moment

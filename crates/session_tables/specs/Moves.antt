@@ -31,7 +31,8 @@ charging_at (event.Swipe evse_uid connector_id token_uid token_type) = None
 abbrev pub Ends : ℕ → Session → Session → Type 0
 Ends at v w = ((v.status ≡ Active) × (w ≡ completed at v)) ⊎ ((v.status ≡ Pending) × (w ≡ voided at v))
 
--- w is what the report makes of the version v, at that price. A reading that is below the last, or out of its range, makes nothing
+-- w is what the report makes of the version v, at that price. A reading that is below the last, or out of its range,
+-- makes nothing
 abbrev pub Makes : ℤ → ℕ → ChargerEvent → Session → Session → Type 0
 Makes price at (event.Starts evse_uid) v w = (v.status ≡ Pending) × (w ≡ activated at v)
 Makes price at (event.Meter evse_uid kwh) v w = (v.status ≡ Active) × CanRead v kwh × (w ≡ metered at kwh price v)

@@ -1,5 +1,5 @@
--- Where a session is charged: an EVSE and a connector of the site, and when a token may take the EVSE (OCPI 2.2.1, Locations: EVSE
--- and Connector object; CDRs: CdrLocation).
+-- Where a session is charged: an EVSE and a connector of the site, and when a token may take the EVSE (OCPI 2.2.1,
+-- Locations: EVSE and Connector object; CDRs: CdrLocation).
 use Rattle.std.specs.Prelude.{◌≡◌, ◌≤◌, ℕ, List, Option, Some, None, Contains, IsTrue}
 use Rattle.std.specs.FinMap.{get}
 use Rattle.ocpi_text.specs.Text.{key}
@@ -53,8 +53,8 @@ pub record HoldsFor (s : Rows) (evse uid : List ℕ) (type : TokenType) (provide
   pub here : key reservation.evse_uid ≡ evse
   pub token_is : IsToken uid type reservation.token
 
--- the token may take the EVSE of that key: it is in service, and is unclaimed, or reserved by the token's provider for the token. The
--- reservation, if there is one, then ends
+-- the token may take the EVSE of that key: it is in service, and is unclaimed, or reserved by the token's provider for
+-- the token. The reservation, if there is one, then ends
 pub data MayTake (s : Rows) (t : Token) (evse : List ℕ) (used : Option (List ℕ)) : Type 0 where
   Free : IsTrue (works s.out_of_service evse) → IsFree s evse → used ≡ None → MayTake s t evse used
   Held : IsTrue (works s.out_of_service evse) → (id : List ℕ) → HoldsFor s evse (key t.uid) t.token_type (key t.party) id → used ≡ Some id → MayTake s t evse used

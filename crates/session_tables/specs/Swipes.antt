@@ -1,4 +1,5 @@
--- What follows where a driver shows a token at a connector (OCPI 2.2.1, Tokens: Real-time authorization, WhitelistType).
+-- What follows where a driver shows a token at a connector (OCPI 2.2.1, Tokens: Real-time authorization,
+-- WhitelistType).
 use Rattle.std.specs.Prelude.{◌≡◌, ℕ, List, Option, Some, None, IsTrue}
 use Rattle.ocpi_text.specs.Text.{key}
 use Rattle.ocpi_types.specs.declared.site.Connector.{Connector}
@@ -22,8 +23,8 @@ pub record IsReady (s : State) (evse : List ℕ) : Type 0 where
   pub in_service : IsTrue (works s.rows.out_of_service evse)
   pub not_awaited : (n : ℕ) → IsAwaitedAt s.waits evse n → ⊥
 
--- the EVSE takes a token of that uid, in key form, and type: it is unclaimed, or a reservation for such a token holds it, whose provider
--- and id these are
+-- the EVSE takes a token of that uid, in key form, and type: it is unclaimed, or a reservation for such a token holds
+-- it, whose provider and id these are
 pub data IsOpenTo (s : State) (evse uid : List ℕ) (type : TokenType) (held : Option (List ℕ × List ℕ)) : Type 0 where
   Free : IsReady s evse → IsFree s.rows evse → held ≡ None → IsOpenTo s evse uid type held
   Held : IsReady s evse → (provider id : List ℕ) → HoldsFor s.rows evse uid type provider id → held ≡ Some (provider, id) → IsOpenTo s evse uid type held

@@ -8,8 +8,8 @@ use crate::places::connector_at;
 use ocpi_types::{AuthMethod, Command, OpenCommand};
 use operator_rows::Books;
 
-/// What begins where an open command is carried out, if it is a start: a session for its token, with its reference, at the EVSE and
-/// connector that it took.
+/// What begins where an open command is carried out, if it is a start: a session for its token, with its reference, at
+/// the EVSE and connector that it took.
 pub fn accepted(books: &Books, opened: &OpenCommand) -> Option<Beginning>
     ensures { Decided (Accepts books.now.state.site opened.now) result }
 {

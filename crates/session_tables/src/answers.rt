@@ -1,11 +1,18 @@
-//! What follows where a provider answers whether its token may be used, and where no answer came in time (OCPI 2.2.1, Tokens:
-//! AuthorizationInfo class).
+//! What follows where a provider answers whether its token may be used, and where no answer came in time (OCPI 2.2.1,
+//! Tokens: AuthorizationInfo class).
 
 ghost use Rattle.std.specs.Prelude.{◌≡◌, ◌↔◌, IfNone, IfSome, IsTrue, ℕ, List, Option};
 ghost use Rattle.ocpi_types.specs.declared.authorizations.AuthorizationInfo.{AuthorizationInfo as InfoOf};
 ghost use Rattle.ocpi_text.specs.Text.{key};
 ghost use Rattle.ocpi_types.specs.declared.words.AllowedType.TheVariants as answers;
-ghost use Rattle.session_tables.specs.Answers.{Allows, BeginsByAnswer, BeginsThere, BeginsWithoutAnswer, Decided, IsSameToken};
+ghost use Rattle.session_tables.specs.Answers.{
+  Allows,
+  BeginsByAnswer,
+  BeginsThere,
+  BeginsWithoutAnswer,
+  Decided,
+  IsSameToken,
+};
 ghost use Rattle.session_tables.specs.Places.{MayTakeAt};
 ghost use Rattle.session_tables.specs.Answered.{IsUsed, MayGoWithout};
 
@@ -79,8 +86,8 @@ fn beginning_there(
     Some(begins_at(&awaited.token, method, reference, &at, used))
 }
 
-/// What begins by the answer to what was awaited, if something does: the answer allows the token that was asked about, its reference,
-/// if it has one, was not used before, and the token may take the EVSE.
+/// What begins by the answer to what was awaited, if something does: the answer allows the token that was asked about,
+/// its reference, if it has one, was not used before, and the token may take the EVSE.
 pub fn begins_by_answer(
     books: &Books,
     awaited: &Awaited,
@@ -107,8 +114,8 @@ fn may_go_without(token: &Token) -> bool
     }
 }
 
-/// What begins where no answer came to what was awaited by its deadline, if something does: the token may be used without its
-/// provider's answer, and may take the EVSE once the claims have ended that end by the moment.
+/// What begins where no answer came to what was awaited by its deadline, if something does: the token may be used
+/// without its provider's answer, and may take the EVSE once the claims have ended that end by the moment.
 pub fn begins_without_answer(books: &Books, at: Moment, awaited: &Awaited) -> Option<Beginning>
     ensures { Decided (BeginsWithoutAnswer books.now.state.site (MayTakeAt books.now.state.rows at awaited.now.token (key awaited.now.place.evse_uid)) awaited.now) result }
 {

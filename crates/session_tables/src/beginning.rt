@@ -67,8 +67,8 @@ fn short_currency(currency: &FreeText<3>) -> ShortText<3, 12>
     text
 }
 
-/// What stays the same of the session of that number of an operator, from its first version to its last: its id is made of the
-/// number, and its currency and price are the site's.
+/// What stays the same of the session of that number of an operator, from its first version to its last: its id is
+/// made of the number, and its currency and price are the site's.
 pub fn opening(party: Party, site: &Site, number: Whole, beginning: &Beginning) -> Opening
     ensures { result ≡ opening_of party site.now number beginning.now }
 {

@@ -1,5 +1,5 @@
-//! How sessions begin, go on and end at an operator (OCPI 2.2.1, Sessions, CDRs, Tokens), reading what it stores. Nothing is changed
-//! here.
+//! How sessions begin, go on and end at an operator (OCPI 2.2.1, Sessions, CDRs, Tokens), reading what it stores.
+//! Nothing is changed here.
 //!
 //! ```
 //! match swiped(&books, &evse_uid, &connector_id, &token_uid, token_type) {

@@ -15,8 +15,8 @@ use operator_rows::Books;
 use session_state::{Active, Pending, Resumed, Session, resume};
 use site_book::Claim;
 
-/// The session at the EVSE of a key that has not ended, in its newest version. At an EVSE there is at most one. It costs the
-/// logarithm of what is stored.
+/// The session at the EVSE of a key that has not ended, in its newest version. At an EVSE there is at most one. It
+/// costs the logarithm of what is stored.
 pub fn session_at(books: &Books, evse: CiKey<36>) -> Option<&Version>
     ensures found { IfSome result (λ v. IsSessionAt books.now.state.rows evse v.now) }
     ensures sole { IfSome result (λ v. (w : SessionOf) → IsSessionAt books.now.state.rows evse w → w ≡ v.now) }
@@ -139,8 +139,9 @@ fn ends(books: &Books, at: Moment, evse_uid: &CiText<36>) -> Moved
     }
 }
 
-/// What a report makes of the session at the EVSE that it is about: its next version, at the site's price. A reading that is below
-/// the last, or out of its range, makes nothing. It costs the logarithm of what is stored, and takes no memory.
+/// What a report makes of the session at the EVSE that it is about: its next version, at the site's price. A reading
+/// that is below the last, or out of its range, makes nothing. It costs the logarithm of what is stored, and takes no
+/// memory.
 pub fn moved(books: &Books, at: Moment, report: &ChargerEvent) -> Moved
     ensures { IsMoved books.now.state.site books.now.state.rows at report.now result }
 {

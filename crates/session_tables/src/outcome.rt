@@ -8,7 +8,8 @@ use session_state::CdrDraft;
 pub enum Moved {
     /// The report makes nothing of any session.
     Nothing,
-    /// It would make a version of a session whose newest version was updated at the last moment, so that none can be later.
+    /// It would make a version of a session whose newest version was updated at the last moment, so that none can be
+    /// later.
     Refused,
     /// The session's next version, which is ACTIVE or INVALID.
     To { version: Version },

@@ -29,8 +29,8 @@ fn find_connector<'a>(connectors: &'a [Connector], id: &CiText<36>) -> Option<&'
     connectors.iter().find(|k| k.id.is_same(id))
 }
 
-/// The connector of an id at the EVSE of a key, both without case, with its EVSE and its location. None, where the site has no such
-/// EVSE and connector.
+/// The connector of an id at the EVSE of a key, both without case, with its EVSE and its location. None, where the
+/// site has no such EVSE and connector.
 pub fn connector_at<'a>(
     books: &'a Books,
     evse: CiKey<36>,

@@ -9,7 +9,8 @@ use ocpi_types::{Place, Token};
 pub enum Shown {
     Nothing,
     Begins(Beginning),
-    /// The token's provider is asked whether it may be used at this location, EVSE and connector, as the site spells them.
+    /// The token's provider is asked whether it may be used at this location, EVSE and connector, as the site spells
+    /// them.
     Asks {
         token: Token,
         location_id: CiText<36>,

@@ -66,8 +66,8 @@ fn held_for(books: &Books, claim: &Claim, uid: CiKey<36>, token_type: TokenType)
     }
 }
 
-/// Whether the EVSE of a key takes a token of that uid and type: it is in service, no authorization is awaited at it, and it is
-/// unclaimed, or a reservation for such a token holds it.
+/// Whether the EVSE of a key takes a token of that uid and type: it is in service, no authorization is awaited at it,
+/// and it is unclaimed, or a reservation for such a token holds it.
 fn opened_to(books: &Books, evse: CiKey<36>, uid: CiKey<36>, token_type: TokenType) -> Openness
     ensures { IsOpened books.now.state evse uid token_type result }
 {
@@ -101,8 +101,8 @@ fn told(swipe: &Swipe, at: &FoundConnector<'_>, reservation_id: Option<CiKey<36>
     }
 }
 
-/// What follows where a driver shows a token of that uid and type at a connector, by the first line of the table that applies. It
-/// costs the logarithm of what is stored, and takes no memory.
+/// What follows where a driver shows a token of that uid and type at a connector, by the first line of the table that
+/// applies. It costs the logarithm of what is stored, and takes no memory.
 pub fn swiped(
     books: &Books,
     evse_uid: &CiText<36>,

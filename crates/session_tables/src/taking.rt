@@ -46,8 +46,8 @@ fn reserved_for(books: &Books, token: &Token, claim: &Claim) -> Taking
     }
 }
 
-/// Whether a token may take the EVSE of a key: it is in service, and is unclaimed, or reserved by the token's provider for the token.
-/// It costs the logarithm of what is stored.
+/// Whether a token may take the EVSE of a key: it is in service, and is unclaimed, or reserved by the token's provider
+/// for the token. It costs the logarithm of what is stored.
 pub fn may_take(books: &Books, token: &Token, evse: CiKey<36>) -> Taking
     ensures { IsTaken (MayTake books.now.state.rows token.now evse) result }
 {
@@ -61,7 +61,8 @@ pub fn may_take(books: &Books, token: &Token, evse: CiKey<36>) -> Taking
     }
 }
 
-/// Whether a claim ends by a moment: the deadline of its open start, or the expiry of its reservation, is at or before it.
+/// Whether a claim ends by a moment: the deadline of its open start, or the expiry of its reservation, is at or before
+/// it.
 fn ends_by(books: &Books, at: Moment, claim: &Claim) -> bool
     ensures yes { IsTrue result → EndsBy books.now.state.rows at claim.now }
     ensures no { result ≡ false → ¬ EndsBy books.now.state.rows at claim.now }

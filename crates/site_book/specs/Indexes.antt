@@ -14,8 +14,8 @@ use Rattle.site_book.specs.Positions.{Position, FindsEvses, HasEvse, IsFlag, Mar
 abbrev pub HaveEvses : List Location → (Position → Type 0) → Indexes → Type 0
 HaveEvses locations P t = FindsEvses locations P (shown_of text_cmp t.evses) (rooms_of text_cmp t.claims) (rooms_of text_cmp t.out_of_service)
 
--- they have the ids of the locations in their order, and find each EVSE of the list; only EVSEs of the list are claimed; the
--- flags are those of what is claimed and out of service
+-- they have the ids of the locations in their order, and find each EVSE of the list; only EVSEs of the list are
+-- claimed; the flags are those of what is claimed and out of service
 pub record AreIndexes (locations : List Location) (t : Indexes) : Type 0 where
   pub ids : t.ids.keys ≡ location_keys locations
   pub evses_found : HaveEvses locations (λ p. Unit {0}) t

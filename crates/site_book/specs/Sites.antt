@@ -1,5 +1,5 @@
--- The site of an operator: its locations, EVSEs and connectors, each found by its key (OCPI 2.2.1, Locations: Location, EVSE
--- and Connector object), the claims on its EVSEs, and which of these are out of service.
+-- The site of an operator: its locations, EVSEs and connectors, each found by its key (OCPI 2.2.1, Locations:
+-- Location, EVSE and Connector object), the claims on its EVSEs, and which of these are out of service.
 use Rattle.std.specs.Prelude.{◌≡◌, ℕ, Bool, true, false, not, ◌&&◌, List, Option, Some, None, Contains, IsTrue, slice_get}
 use Rattle.std.specs.FinMap.{FinMap, insert, remove, contains_key}
 use Rattle.ocpi_text.specs.Text.{key}

@@ -1,12 +1,40 @@
-//! A site whose locations, EVSEs and connectors are found by their ids, the claims on its EVSEs, and which are out of service.
+//! A site whose locations, EVSEs and connectors are found by their ids, the claims on its EVSEs, and which are out of
+//! service.
 
-ghost use Rattle.std.specs.Prelude.{◌≡◌, ◌↔◌, IfOk, IfErr, OnOk, OnErr, IfSome, IfNone, IsSome, IsNone, IsTrue, List, ℕ, slice_get};
+ghost use Rattle.std.specs.Prelude.{
+  ◌≡◌,
+  ◌↔◌,
+  IfOk,
+  IfErr,
+  OnOk,
+  OnErr,
+  IfSome,
+  IfNone,
+  IsSome,
+  IsNone,
+  IsTrue,
+  List,
+  ℕ,
+  slice_get,
+};
 ghost use Rattle.std.specs.FinMap as map;
 ghost use Rattle.ocpi_text.specs.Text.{key};
 ghost use Rattle.ocpi_types.specs.declared.site.Location.{Location};
 ghost use Rattle.ocpi_types.specs.declared.site.Evse.{Evse};
 ghost use Rattle.ocpi_types.specs.declared.site.Connector.{Connector};
-ghost use Rattle.site_book.specs.Sites.{IsLocation, IsFoundIn, location_of, IsEvse, IsEvseFor, IsEvseOf, IsConnectorOf, IsSiteOf, Fits, IsPlaceOf, IsRefused};
+ghost use Rattle.site_book.specs.Sites.{
+  IsLocation,
+  IsFoundIn,
+  location_of,
+  IsEvse,
+  IsEvseFor,
+  IsEvseOf,
+  IsConnectorOf,
+  IsSiteOf,
+  Fits,
+  IsPlaceOf,
+  IsRefused,
+};
 ghost use Rattle.site_book.specs.Sites.{is_claimed, is_free, works, with_service, IsWorkingEvse, IsFreeEvse};
 
 use crate::claim::{Claim, SiteFault};
@@ -20,9 +48,9 @@ use std::alloc::{AllocError, Global};
 use std::marker::Model;
 use tables::Visits;
 
-/// A site whose locations and EVSEs are found by their ids, without case, the claims on its EVSEs, and which of these are out
-/// of service. A location is found by the hash of its id, and all else in the logarithm of the number of EVSEs. No call but
-/// `new` takes memory.
+/// A site whose locations and EVSEs are found by their ids, without case, the claims on its EVSEs, and which of these
+/// are out of service. A location is found by the hash of its id, and all else in the logarithm of the number of
+/// EVSEs. No call but `new` takes memory.
 #[derive(Drop)]
 pub struct SiteBook {
     site: Site,
@@ -115,8 +143,8 @@ impl SiteBook {
         evse_at(self.site.locations.as_slice(), position)
     }
 
-    /// An EVSE of the location: the one of the uid, or one of them where none is named. None, where the location has no EVSE of
-    /// that uid.
+    /// An EVSE of the location: the one of the uid, or one of them where none is named. None, where the location has
+    /// no EVSE of that uid.
     pub fn find_evse(&self, at: &FoundLocation<'_>, uid: &Option<CiText<36>>) -> Option<&Evse>
         requires { IsFoundIn self.now.site at.now }
         ensures found { IfSome result (λ e. IsEvseFor (location_of at.now) uid.now e.now) }
@@ -129,8 +157,9 @@ impl SiteBook {
         }
     }
 
-    /// An EVSE of the location, and a connector of it: those that are named. Where no connector is named it is the EVSE's
-    /// first, and where no EVSE is named it is one of the location's. None, where the location has no such EVSE and connector.
+    /// An EVSE of the location, and a connector of it: those that are named. Where no connector is named it is the
+    /// EVSE's first, and where no EVSE is named it is one of the location's. None, where the location has no such EVSE
+    /// and connector.
     pub fn find_place(
         &self,
         at: &FoundLocation<'_>,
@@ -182,8 +211,8 @@ impl SiteBook {
         evse_at(self.site.locations.as_slice(), (at.position, place))
     }
 
-    /// An EVSE of the location that is in service and not claimed: the one of the uid, or one of them where none is named.
-    /// None, where there is none.
+    /// An EVSE of the location that is in service and not claimed: the one of the uid, or one of them where none is
+    /// named. None, where there is none.
     pub fn free_evse(&self, at: &FoundLocation<'_>, uid: &Option<CiText<36>>) -> Option<&Evse>
         requires { IsFoundIn self.now.site at.now }
         ensures found { IfSome result (λ e. IsEvseFor (location_of at.now) uid.now e.now) }
@@ -296,8 +325,8 @@ impl SiteBook {
         let _indexes = &self.indexes;
     }
 
-    /// Whether an EVSE may be claimed. It may not where the site has none of that uid (`UnknownEvse`), else where it is claimed
-    /// (`Claimed`), and else where it is out of service (`OutOfService`).
+    /// Whether an EVSE may be claimed. It may not where the site has none of that uid (`UnknownEvse`), else where it
+    /// is claimed (`Claimed`), and else where it is out of service (`OutOfService`).
     pub fn may_claim(&self, evse: CiKey<36>) -> Result<(), SiteFault>
         ensures ok { OnOk result (IsEvse self.now.site.locations evse × IsTrue (is_free self.now.claims self.now.out_of_service evse)) }
         ensures refusal { IfErr result (λ e. IsRefused self.now evse e) }
@@ -314,8 +343,8 @@ impl SiteBook {
         Ok(())
     }
 
-    /// Puts a claim on an EVSE, in place of the one that stands, if there is one, in service or not: as a stored row says
-    /// it.
+    /// Puts a claim on an EVSE, in place of the one that stands, if there is one, in service or not: as a stored row
+    /// says it.
     pub fn put_claim(&mut self, evse: CiKey<36>, claim: Claim)
         requires { IsEvse self.old.site.locations evse }
         ensures { self.new ≡ record self.old { claims = map.insert self.old.claims evse claim } }
@@ -355,8 +384,8 @@ impl SiteBook {
         self.indexes.take_claim(evse, position);
     }
 
-    /// Puts an EVSE in service, or out of it; a claim on it stays. It is refused (`UnknownEvse`) where the site has no EVSE of
-    /// that uid, and then nothing changes.
+    /// Puts an EVSE in service, or out of it; a claim on it stays. It is refused (`UnknownEvse`) where the site has no
+    /// EVSE of that uid, and then nothing changes.
     pub fn set_service(&mut self, evse: CiKey<36>, in_service: bool) -> Result<(), SiteFault>
         ensures service { OnOk result (self.new ≡ record self.old { out_of_service = with_service in_service evse self.old.out_of_service }) }
         ensures known { OnOk result (IsEvse self.old.site.locations evse) }

@@ -1,6 +1,23 @@
 //! Flags of the places of a list, of which one that is set is found without a walk.
 
-ghost use Rattle.std.specs.Prelude.{◌≡◌, ◌+◌, ◌*◌, ◌<◌, ◌≤◌, ◌||◌, true, false, length, slice_index_or, drop, slice_get, slice_set, IfOk, IfSome, IfNone};
+ghost use Rattle.std.specs.Prelude.{
+  ◌≡◌,
+  ◌+◌,
+  ◌*◌,
+  ◌<◌,
+  ◌≤◌,
+  ◌||◌,
+  true,
+  false,
+  length,
+  slice_index_or,
+  drop,
+  slice_get,
+  slice_set,
+  IfOk,
+  IfSome,
+  IfNone,
+};
 ghost use Rattle.site_book.specs.Flags.{IsTree, AreNone, AreFirst};
 
 use std::alloc::{AllocError, Global};
@@ -63,8 +80,8 @@ fn find_leaf(nodes: &[bool], width: usize) -> Option<usize>
 /// places, without memory.
 #[derive(Drop)]
 pub(crate) struct Flags {
-    /// The flag of place i stands at `width + i`. Of the nodes before these, from 1 on, node k is set where node 2k or node
-    /// 2k + 1 is.
+    /// The flag of place i stands at `width + i`. Of the nodes before these, from 1 on, node k is set where node 2k or
+    /// node 2k + 1 is.
     nodes: Vec<bool>,
     width: usize,
 }

@@ -4,8 +4,8 @@ ghost use Rattle.std.specs.Prelude.{◌≡◌};
 
 use ocpi_types::Location;
 
-/// A location that a site book found: one of its site, with where it stands in the site's list. Only a book makes it, and the
-/// book cannot change while it is kept.
+/// A location that a site book found: one of its site, with where it stands in the site's list. Only a book makes it,
+/// and the book cannot change while it is kept.
 #[derive(Clone, Copy)]
 pub struct FoundLocation<'a> {
     /// Where the location stands in the site's list.

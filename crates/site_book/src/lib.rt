@@ -9,8 +9,8 @@
 //! book.release(evse);
 //! ```
 //!
-//! A `FoundLocation` goes to the calls that look for an EVSE there, which ask that this very site has it. While it is kept the
-//! book cannot change.
+//! A `FoundLocation` goes to the calls that look for an EVSE there, which ask that this very site has it. While it is
+//! kept the book cannot change.
 #![tactic(auto)]
 
 mod book;

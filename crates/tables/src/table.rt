@@ -1,6 +1,20 @@
 //! An ordered map in which room for a key can be taken ahead of its value.
 
-ghost use Rattle.std.specs.Prelude.{◌≡◌, ◌≤◌, ◌<◌, ◌^◌, IfSome, IfNone, IsOk, OnOk, OnErr, IsTrue, ⊤, false, option_copied};
+ghost use Rattle.std.specs.Prelude.{
+  ◌≡◌,
+  ◌≤◌,
+  ◌<◌,
+  ◌^◌,
+  IfSome,
+  IfNone,
+  IsOk,
+  OnOk,
+  OnErr,
+  IsTrue,
+  ⊤,
+  false,
+  option_copied,
+};
 ghost use Rattle.std.specs.FinMap as map;
 ghost use Rattle.std.specs.Option.{option_flatten};
 ghost use Rattle.std.specs.BTreeMap.Range.{IsLeBy, IsLtBy, entries_from};

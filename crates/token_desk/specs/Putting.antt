@@ -35,7 +35,8 @@ abbrev pub rooms_after_put : Token → TokenPut → Rooms → Rooms
 rooms_after_put t Stored rooms = insert rooms (token_key t) tt
 rooms_after_put t Kept rooms = rooms
 
--- why a token that was sent is refused: it is not the sender's; or memory ran out for one that is to be stored and has no room
+-- why a token that was sent is refused: it is not the sender's; or memory ran out for one that is to be stored and has
+-- no room
 abbrev pub IsPutFault : Held → List ℕ → Token → TokenFault → Type 0
 IsPutFault h sender t UnknownToken = ⊥
 IsPutFault h sender t WrongParty = key t.party ≢ sender

@@ -20,10 +20,10 @@ fn asked_type(token_type: Option<TokenType>) -> TokenType
 }
 
 impl TokenDesk {
-    /// What a provider answers where an operator asks for a token of it of a uid and a type, RFID where none is given. It
-    /// is refused (`UnknownToken`) where no such token is held. A valid one is allowed, with the next reference; this is
-    /// refused (`NumbersUsedUp`) where no number is left. One that is not valid is blocked. It changes nothing, and takes
-    /// no memory.
+    /// What a provider answers where an operator asks for a token of it of a uid and a type, RFID where none is given.
+    /// It is refused (`UnknownToken`) where no such token is held. A valid one is allowed, with the next reference;
+    /// this is refused (`NumbersUsedUp`) where no number is left. One that is not valid is blocked. It changes
+    /// nothing, and takes no memory.
     pub fn judge_authorize(
         &self,
         party: &Party,
@@ -45,10 +45,10 @@ impl TokenDesk {
         }
     }
 
-    /// A provider answers where an operator asks for a token of it of a uid and a type, RFID where none is given. It is
-    /// refused (`UnknownToken`) where no such token is held. A valid one is allowed, with a new reference; this is refused
-    /// (`NumbersUsedUp`) where no number is left. One that is not valid is blocked. A refusal changes nothing. It takes no
-    /// memory.
+    /// A provider answers where an operator asks for a token of it of a uid and a type, RFID where none is given. It
+    /// is refused (`UnknownToken`) where no such token is held. A valid one is allowed, with a new reference; this is
+    /// refused (`NumbersUsedUp`) where no number is left. One that is not valid is blocked. A refusal changes nothing.
+    /// It takes no memory.
     pub fn authorize(
         &mut self,
         party: &Party,

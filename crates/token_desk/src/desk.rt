@@ -33,8 +33,9 @@ fn table_key(party: PartyKey, uid: CiKey<36>, token_type: TokenType) -> TokenKey
     ((TypeKey::new(token_type), uid), party_text(party))
 }
 
-/// The tokens that a node holds, one of each party, type and uid, and the number of the last authorization reference that
-/// it gave. An operator holds the tokens that its providers have sent; a provider holds its own, and gives references.
+/// The tokens that a node holds, one of each party, type and uid, and the number of the last authorization reference
+/// that it gave. An operator holds the tokens that its providers have sent; a provider holds its own, and gives
+/// references.
 ///
 /// A look-up and a change cost the logarithm of the number of tokens. `put`, `store`, `issue_reference` and `authorize`
 /// decide and change. A node that stores its rows first takes the decision alone (`judge_put`, `next_version`,
@@ -133,8 +134,8 @@ impl TokenDesk {
         self.references = last;
     }
 
-    /// Takes the room that a token needs. An error is want of memory, for a token that has no room. The rows are as they
-    /// were.
+    /// Takes the room that a token needs. An error is want of memory, for a token that has no room. The rows are as
+    /// they were.
     pub(crate) fn reserve_token(&mut self, token: &Token) -> Result<(), AllocError>
         ensures rows { self.new.rows ≡ self.old.rows }
         ensures room { OnOk result (self.new.rooms ≡ map.insert self.old.rooms (token_key token.now) tt) }
@@ -166,8 +167,8 @@ impl TokenDesk {
         drop(self.tokens.remove(table_key(party, uid, token_type)));
     }
 
-    /// Takes room for a token and puts it. An error is want of memory, for a token that has no room, and leaves the desk
-    /// as it was.
+    /// Takes room for a token and puts it. An error is want of memory, for a token that has no room, and leaves the
+    /// desk as it was.
     pub(crate) fn insert(&mut self, token: &Token) -> Result<(), AllocError>
         ensures rows { OnOk result (self.new.rows ≡ with_token token.now self.old.rows) }
         ensures rooms { OnOk result (self.new.rooms ≡ map.insert self.old.rooms (token_key token.now) tt) }

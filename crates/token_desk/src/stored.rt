@@ -3,7 +3,21 @@
 ghost use Rattle.std.specs.Prelude.{◌≡◌, ◌↔◌, OnOk, OnErr, IfOk, IsOk};
 ghost use Rattle.std.specs.FinMap.{empty};
 ghost use Rattle.ocpi_types.specs.declared.rows.Row.{Row};
-ghost use Rattle.token_desk.specs.Stored.{HasRow, HasRoomOf, KeepsRoom, KeepsOtherRoom, GivesBack, AreRowsOf, no_rows, count_rows, counted, put_row, drop_row, rooms_after_drop, rooms_with};
+ghost use Rattle.token_desk.specs.Stored.{
+  HasRow,
+  HasRoomOf,
+  KeepsRoom,
+  KeepsOtherRoom,
+  GivesBack,
+  AreRowsOf,
+  no_rows,
+  count_rows,
+  counted,
+  put_row,
+  drop_row,
+  rooms_after_drop,
+  rooms_with,
+};
 
 use crate::desk::TokenDesk;
 use ocpi_text::Whole;
@@ -22,8 +36,8 @@ impl TokenDesk {
         }
     }
 
-    /// Takes the room that a row needs, which is none but for a token's. An error is want of memory, for a row that has no
-    /// room, and leaves the desk as it was. The rows are as they were in either case.
+    /// Takes the room that a row needs, which is none but for a token's. An error is want of memory, for a row that
+    /// has no room, and leaves the desk as it was. The rows are as they were in either case.
     pub fn reserve_row(&mut self, row: &Row) -> Result<(), AllocError>
         ensures rows { self.new.rows ≡ self.old.rows }
         ensures rooms { OnOk result (self.new.rooms ≡ rooms_with row.now self.old.rooms) }
@@ -72,8 +86,8 @@ impl TokenDesk {
         }
     }
 
-    /// Puts a row, in the place of the one of its kind and key if there is one. One of a kind that the desk does not have
-    /// changes nothing. It takes no memory.
+    /// Puts a row, in the place of the one of its kind and key if there is one. One of a kind that the desk does not
+    /// have changes nothing. It takes no memory.
     pub fn put_row(&mut self, row: Row)
         requires { HasRoomOf self.old.rooms row }
         ensures rows { self.new.rows ≡ put_row row self.old.rows }
@@ -111,7 +125,8 @@ impl TokenDesk {
         }
     }
 
-    /// Adds a row that was stored. An error is want of memory, for a row that has no room, and leaves the desk as it was.
+    /// Adds a row that was stored. An error is want of memory, for a row that has no room, and leaves the desk as it
+    /// was.
     pub fn add_row(&mut self, row: Row) -> Result<(), AllocError>
         ensures rows { OnOk result (self.new.rows ≡ put_row row self.old.rows) }
         ensures rooms { OnOk result (self.new.rooms ≡ rooms_with row self.old.rooms) }
@@ -141,8 +156,8 @@ impl TokenDesk {
         Ok(rows)
     }
 
-    /// All rows of the desk, each once: the counter's, if a reference was given, and those of the tokens, by type, uid and
-    /// party. An error is want of memory, and a desk without rows takes none.
+    /// All rows of the desk, each once: the counter's, if a reference was given, and those of the tokens, by type, uid
+    /// and party. An error is want of memory, and a desk without rows takes none.
     pub fn rows(&self, alloc: Global) -> Result<Vec<Row>, AllocError>
         ensures list { IfOk result (λ rows. AreRowsOf self.now.rows rows.items) }
         ensures none { self.now.rows ≡ no_rows → IsOk result }

@@ -41,11 +41,11 @@ impl TokenDesk {
         }
     }
 
-    /// What follows where a driver shows a token of a uid and a type. It is the token of the provider, where one is given,
-    /// as by a reservation; else, of the tokens of that uid and type, that of the provider whose key is least. A session
-    /// may begin where its whitelist is ALWAYS or ALLOWED and it is valid. Where its whitelist is ALLOWED_OFFLINE or NEVER
-    /// its provider is to be asked, whether it is valid or not. Else, and where there is no such token, nothing follows. It
-    /// changes nothing, and takes no memory.
+    /// What follows where a driver shows a token of a uid and a type. It is the token of the provider, where one is
+    /// given, as by a reservation; else, of the tokens of that uid and type, that of the provider whose key is least.
+    /// A session may begin where its whitelist is ALWAYS or ALLOWED and it is valid. Where its whitelist is
+    /// ALLOWED_OFFLINE or NEVER its provider is to be asked, whether it is valid or not. Else, and where there is no
+    /// such token, nothing follows. It changes nothing, and takes no memory.
     pub fn decide(&self, provider: Option<PartyKey>, uid: CiKey<36>, token_type: TokenType) -> Swipe
         ensures { SwipeLine self.now.rows.tokens provider token_type uid result }
     {

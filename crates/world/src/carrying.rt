@@ -105,7 +105,8 @@ fn ready_versions(
     Ok(more)
 }
 
-/// An operator does what was planned. The rows that it changes are answered. An error is want of memory, and changes nothing.
+/// An operator does what was planned. The rows that it changes are answered. An error is want of memory, and changes
+/// nothing.
 fn operate(
     alloc: Global,
     operator: &mut Operator,
@@ -131,7 +132,8 @@ fn operate(
     Ok(changes)
 }
 
-/// A provider does what was planned. The rows that it changes are answered. An error is want of memory, and changes nothing.
+/// A provider does what was planned. The rows that it changes are answered. An error is want of memory, and changes
+/// nothing.
 fn provide(
     alloc: Global,
     provider: &mut Provider,
@@ -206,8 +208,8 @@ fn restart_provider(alloc: Global, provider: &mut Provider) -> Result<(), AllocE
 }
 
 impl Node {
-    /// The node starts again: it is made of the rows that it stored, and of what it was opened with. An error is want of memory, and
-    /// changes nothing.
+    /// The node starts again: it is made of the rows that it stored, and of what it was opened with. An error is want
+    /// of memory, and changes nothing.
     fn restart(&mut self, alloc: Global) -> Result<(), AllocError>
         requires { MayDo (node_seen self.old) work.Restart }
         ensures ok { OnOk result (node_seen self.new ≡ node_after work.Restart (node_seen self.old)) }
@@ -221,7 +223,8 @@ impl Node {
 }
 
 impl Place {
-    /// An operator does what was planned. The rows that it changes are answered. An error is want of memory, and changes nothing.
+    /// An operator does what was planned. The rows that it changes are answered. An error is want of memory, and
+    /// changes nothing.
     fn operate(&mut self, alloc: Global, plan: FullPlan) -> Result<Vec<Change>, AllocError>
         requires { MayDo (node_seen self.old.node) (work.Operator plan) }
         ensures ok { OnOk result (place_seen self.new ≡ place_after (work.Operator plan) (place_seen self.old)) }
@@ -240,7 +243,8 @@ impl Place {
         }
     }
 
-    /// A provider does what was planned. The rows that it changes are answered. An error is want of memory, and changes nothing.
+    /// A provider does what was planned. The rows that it changes are answered. An error is want of memory, and
+    /// changes nothing.
     fn provide(&mut self, alloc: Global, plan: Plan) -> Result<Vec<Change>, AllocError>
         requires { MayDo (node_seen self.old.node) (work.Provider plan) }
         ensures ok { OnOk result (place_seen self.new ≡ place_after (work.Provider plan) (place_seen self.old)) }
@@ -253,8 +257,9 @@ impl Place {
         }
     }
 
-    /// The node does its work: the packets that it sends and the versions of its sessions that it stores are added to those of this
-    /// place, and the rows that it changes are answered. An error is want of memory, and changes nothing.
+    /// The node does its work: the packets that it sends and the versions of its sessions that it stores are added to
+    /// those of this place, and the rows that it changes are answered. An error is want of memory, and changes
+    /// nothing.
     pub(crate) fn carry_out(&mut self, alloc: Global, work: Work) -> Result<Vec<Change>, AllocError>
         requires { MayDo (node_seen self.old.node) work }
         ensures ok { OnOk result (place_seen self.new ≡ place_after work (place_seen self.old)) }

@@ -1,4 +1,5 @@
-//! The nodes of a setup in one world, with all that each ever sent: what happens to them, event by event, and what holds of them then.
+//! The nodes of a setup in one world, with all that each ever sent: what happens to them, event by event, and what
+//! holds of them then.
 //!
 //! ```
 //! let mut world = World::open(alloc, &setup)?;
@@ -9,8 +10,9 @@
 //! let owed = world.settlement(&provider, &operator, currency);
 //! ```
 //!
-//! A step finds the node of the event, and what reaches it; plans it, which changes nothing; takes all memory that the step needs; and
-//! then carries it out, which cannot fail. So a step costs what the step of the one node costs, and nothing is ever undone.
+//! A step finds the node of the event, and what reaches it; plans it, which changes nothing; takes all memory that the
+//! step needs; and then carries it out, which cannot fail. So a step costs what the step of the one node costs, and
+//! nothing is ever undone.
 #![tactic(auto)]
 
 mod carrying;

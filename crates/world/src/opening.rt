@@ -9,7 +9,15 @@ ghost use Rattle.operator_rows.specs.State as operator;
 ghost use Rattle.provider_rows.specs.State as provider;
 ghost use Rattle.world.specs.Seen.{node_seen, place_seen, places_seen};
 ghost use Rattle.world_laws.specs.Laws.{IsSetup};
-ghost use Rattle.world_steps.specs.World.{opened, opening_of, operator_of, operators_of, place_of, provider_of, providers_of};
+ghost use Rattle.world_steps.specs.World.{
+  opened,
+  opening_of,
+  operator_of,
+  operators_of,
+  place_of,
+  provider_of,
+  providers_of,
+};
 
 use crate::place::{Node, Place};
 use ocpi_text::{Moment, Party};

@@ -12,7 +12,8 @@ pub(crate) enum Node {
     Provider(Provider),
 }
 
-/// The node of a party, all packets that it ever sent, and all versions of its sessions that it ever stored, oldest first.
+/// The node of a party, all packets that it ever sent, and all versions of its sessions that it ever stored, oldest
+/// first.
 #[derive(Drop)]
 pub(crate) struct Place {
     pub(crate) party: Party,

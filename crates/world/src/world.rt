@@ -169,10 +169,11 @@ impl World {
         })
     }
 
-    /// What happens at a node. An event that is of no node is passed over: where there is no node of that party, where it is no event of
-    /// the node's role, and where a packet that is to be delivered was not sent, or not to it. A node may refuse an event (`NodeFault`,
-    /// but for want of memory), and then nothing changes and nothing is sent. An error is want of memory: nothing changes then, and the
-    /// event may come again. A world is right after each step, and later than before it (`consistency`).
+    /// What happens at a node. An event that is of no node is passed over: where there is no node of that party, where
+    /// it is no event of the node's role, and where a packet that is to be delivered was not sent, or not to it. A
+    /// node may refuse an event (`NodeFault`, but for want of memory), and then nothing changes and nothing is sent.
+    /// An error is want of memory: nothing changes then, and the event may come again. A world is right after each
+    /// step, and later than before it (`consistency`).
     pub fn step(&mut self, event: &Event) -> Result<Outcome, AllocError>
         ensures ok { IfOk result (λ o. Gives self.old.places event.now (told o self.new.packets self.new.changes) self.new.places) }
         ensures idle { IfOk result (λ o. o ≢ Outcome.Stepped → (self.new.packets ≡ []) × (self.new.changes ≡ [])) }
@@ -192,12 +193,12 @@ impl World {
         Ok(outcome)
     }
 
-    /// What holds of every world at any time, which its type keeps: it is the end of a legal run from the opening of a setup. So it is
-    /// right: at each operator no EVSE has two claims, no authorization reference starts two sessions, each session goes on in order and
-    /// is billed once, what a provider holds is what the operator had, each charge detail record is owed once, what is acknowledged is
-    /// held, and what a provider stored of its commands is what the operator keeps. And so is each world to which a run goes on from
-    /// here; and it is later: pasts have only grown, what stands for good stands, and a reservation that ended comes back by a new
-    /// RESERVE_NOW alone.
+    /// What holds of every world at any time, which its type keeps: it is the end of a legal run from the opening of a
+    /// setup. So it is right: at each operator no EVSE has two claims, no authorization reference starts two sessions,
+    /// each session goes on in order and is billed once, what a provider holds is what the operator had, each charge
+    /// detail record is owed once, what is acknowledged is held, and what a provider stored of its commands is what
+    /// the operator keeps. And so is each world to which a run goes on from here; and it is later: pasts have only
+    /// grown, what stands for good stands, and a reservation that ended comes back by a new RESERVE_NOW alone.
     pub fn consistency(&self)
         ensures reached { IsReached self.now.places }
         ensures right { IsRight self.now.places }
@@ -216,8 +217,8 @@ impl World {
         self.sending = None;
     }
 
-    /// The world of a setup after events. Of these neither packets nor changes are told: what they sent was sent when they happened. An
-    /// error is want of memory.
+    /// The world of a setup after events. Of these neither packets nor changes are told: what they sent was sent when
+    /// they happened. An error is want of memory.
     pub fn run(alloc: Global, setup: &Setup, events: &[Event]) -> Result<World, AllocError>
         ensures legal { IfOk result (λ w. WorldRun (opened setup.now) events.now w.places) }
         ensures told { IfOk result (λ w. (w.packets ≡ []) × (w.changes ≡ [])) }
@@ -233,8 +234,9 @@ impl World {
         Ok(world)
     }
 
-    /// The packets that the last step sent, in order. None, where the event of it was not stepped, and where no step was made since the
-    /// world was opened or run. A step that memory ran out for leaves those of the one before. It takes no memory.
+    /// The packets that the last step sent, in order. None, where the event of it was not stepped, and where no step
+    /// was made since the world was opened or run. A step that memory ran out for leaves those of the one before. It
+    /// takes no memory.
     pub fn packets(&self) -> &[Packet]
         ensures { result.now ≡ self.now.packets }
     {
@@ -255,8 +257,8 @@ impl World {
         past_among(self.places.as_slice(), operator, session)
     }
 
-    /// What a provider owes to an operator in a currency, in ten-thousandths: the sum of the costs of the operator's charge detail
-    /// records in that currency that it holds. 0, where there is no such provider. It takes no memory.
+    /// What a provider owes to an operator in a currency, in ten-thousandths: the sum of the costs of the operator's
+    /// charge detail records in that currency that it holds. 0, where there is no such provider. It takes no memory.
     pub fn settlement(&self, provider: &Party, operator: &Party, currency: ShortText<3, 12>) -> i128
         ensures { result ≡ owed_by self.now.places provider.now (key operator.now, currency) }
     {

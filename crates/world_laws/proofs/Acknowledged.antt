@@ -1,4 +1,5 @@
--- What is acknowledged is held: the provider that acknowledged a push came by it from the operator, and holds what it carried.
+-- What is acknowledged is held: the provider that acknowledged a push came by it from the operator, and holds what it
+-- carried.
 use Rattle.std.proofs.Common.{◌≡◌, ◌⊎◌, ◌≤◌, ℕ, List, map, inl, inr, refl, sym, ap, subst, ◌∙◌, arith}
 use Rattle.std.specs.Prelude.{Some, Contains}
 use Rattle.std.specs.FinMap.{get, get-empty}

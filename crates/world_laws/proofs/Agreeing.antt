@@ -73,7 +73,8 @@ with_last : (v y : Session) → (y ≡ v) ⊎ IsEarlier y v → (y.cdr_token ≡
 with_last v y (inl same) = (ap (λ (z : Session). z.cdr_token) same, ap (λ (z : Session). z.authorization_reference) same)
 with_last v y (inr earlier) = (earlier.same.cdr_token, earlier.same.authorization_reference)
 
--- the result that an operator sent is that of a command which came from the party, and is posted where that command says
+-- the result that an operator sent is that of a command which came from the party, and is posted where that command
+-- says
 abbrev IsPosted : List operator_events.Event → operator.State → List ℕ → CommandResult → Type 0
 IsPosted es s to r = (m : ℕ) × (c : Command) × Asked (operator_laws.Came es) to m c × (r.response_url ≡ operator_acts.url_of c) × (get s.rows.commands.results (to, m) ≡ Some r.result)
 

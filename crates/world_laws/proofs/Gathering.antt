@@ -1,4 +1,5 @@
--- A list that is gathered from another, at most one element of each: what stands in it, that its elements differ, and its sum.
+-- A list that is gathered from another, at most one element of each: what stands in it, that its elements differ, and
+-- its sum.
 use Rattle.std.proofs.Common.{◌≡◌, ◌≢◌, ◌<◌, List, [], ◌∷◌, map, refl, sym, ap, subst, ◌∙◌, inl, inr, arith, length}
 use Rattle.std.proofs.lemmas.Int.{ints}
 use Rattle.std.specs.Prelude.{Option, Some, None, Contains, ℤ, pos}
@@ -61,7 +62,8 @@ module _ {X Y : Type 0} (f : X → Option Y) where
           let from = gathered_of xs b i in
           h x from.0 a b (in_front x xs) (in_later x from.0 xs from.1) (All-contains (R x) xs from.0 (first_pairs R x xs apart) from.1) is from.2)) rest
 
-  -- the sum of what is gathered is that of the elements, each of which counts as what is gathered of it, and as nothing where nothing is
+  -- the sum of what is gathered is that of the elements, each of which counts as what is gathered of it, and as
+  -- nothing where nothing is
   pub gathered_total : {Z : Type 0} (c : Y → ℤ) (g : Z → ℤ) (part : X → Z) (xs : List X) → ((x : X) → Contains xs x → g (part x) ≡ term_at c (f x)) →
       total (map g (map part xs)) ≡ total (map c (filter_map f xs))
   gathered_total c g part [] h = refl

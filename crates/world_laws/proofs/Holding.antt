@@ -1,4 +1,5 @@
--- The pasts of sessions in a traced world are those of the operators' own runs; and what is held of a session is a version of its past.
+-- The pasts of sessions in a traced world are those of the operators' own runs; and what is held of a session is a
+-- version of its past.
 use Rattle.std.proofs.Common.{◌≡◌, ℕ, List, [], ◌∷◌, ◌++◌, inl, inr, refl, sym, ap, subst, ◌∙◌}
 use Rattle.std.specs.Prelude.{Some, None, Contains}
 use Rattle.std.specs.FinMap.{get, get-empty}

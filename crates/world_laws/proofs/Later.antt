@@ -139,7 +139,7 @@ module _ (setup : List Node) (is_setup : IsSetup setup) (w : World) (hs : Histor
     operator_later = record {
       pasts = λ id. (past_of id (versions_in h.more.events), past_grows id p h.place (versions_in h.more.events) h.more.versions_is);
       keeps = operator_keeps s h.more.state h.more.events fine_first h.more.run;
-      reservations = newly_made setup is_setup v (joined hs ms) on o h.place h.more.state at_on line events h.more.events refl s run_first h.more.run;
+      reservations = newly_made setup is_setup v (joined hs ms) on o h.place h.more.state at_on line events h.more.events refl s fine_first run_first h.more.run;
     }
 
   -- and a provider

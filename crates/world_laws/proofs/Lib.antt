@@ -12,4 +12,5 @@ pub mod Gathering
 pub mod Billing
 pub mod Owing
 pub mod Starting
+pub mod Linking
 pub mod Right

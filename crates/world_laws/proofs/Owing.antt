@@ -1,4 +1,5 @@
--- What a provider owes an operator of a traced world: the costs of the sessions of which it holds a charge detail record, each once.
+-- What a provider owes an operator of a traced world: the costs of the sessions of which it holds a charge detail
+-- record, each once.
 use Rattle.std.proofs.Common.{◌≡◌, ◌≢◌, ℕ, ℤ, pos, List, Bool, true, false, cond, refl, sym, ap, subst, ◌∙◌}
 use Rattle.std.specs.Prelude.{Option, Some, None, Contains}
 use Rattle.std.specs.List.{AllPairs, filter_map, last_or}

@@ -1,6 +1,7 @@
--- A reservation that stands in a later world, and did not in the earlier, was asked for in between, and not before its cancellation.
+-- A reservation that stands in a later world, and did not stand so in the earlier, was asked for and accepted in
+-- between, and not before its cancellation.
 use Rattle.std.proofs.Common.{◌≡◌, ◌<◌, ℕ, List, ◌∷◌, ◌++◌, refl, sym, subst, ◌∙◌, arith}
-use Rattle.std.specs.Prelude.{Some, None, Contains}
+use Rattle.std.specs.Prelude.{◌≢◌, Some, None, Contains}
 use Rattle.std.specs.FinMap.{get}
 use Rattle.std.proofs.lemmas.List.Elements.{Contains-append_left, Contains-append_right}
 use Rattle.tables.proofs.Elements.{in_front}
@@ -17,13 +18,16 @@ use Rattle.ocpi_types.specs.declared.stored.Push.TheVariants as push
 use Rattle.ocpi_types.specs.declared.stored.Reply.{Reply}
 use Rattle.ocpi_types.specs.declared.stored.Reply.TheVariants as reply
 use Rattle.ocpi_types.specs.declared.stored.Reservation.{Reservation}
+use Rattle.ocpi_types.specs.declared.words.CommandResultType.TheVariants.{Accepted}
 use Rattle.node_laws.specs.Nodes.{IsReply}
 use Rattle.node_laws.proofs.BodyKinds.{no_command, no_push}
 use Rattle.operator_laws.specs.Laws.{Came, IsReplyTo, Run}
 use Rattle.operator_laws.specs.Made.{IsAnsweredIn, IsReserved}
 use Rattle.operator_laws.proofs.replies.Given.{replies_were_given}
 use Rattle.operator_laws.proofs.reservations.Making.{reservations_are_made}
-use Rattle.operator_laws.proofs.standing.AtAllTimes.{replies_stay}
+use Rattle.operator_laws.proofs.events.Standing.{consistent_stays}
+use Rattle.operator_laws.proofs.standing.AtAllTimes.{kept, replies_stay, results_stay}
+use Rattle.operator_rows.specs.Sound.{IsConsistent}
 use Rattle.operator_rows.specs.State.{State, opening}
 use Rattle.operator_steps.specs.Events.{Event}
 use Rattle.provider_laws.proofs.nodes.NodeLaws.{requests_agree}
@@ -57,7 +61,7 @@ came_later es fs all is q (e, within, brings) = (e, subst (λ l. Contains l e) (
 -- an operator of a world, by the state s that it had after the events es
 module _ (setup : List Node) (is_setup : IsSetup setup) (v : World) (hs : Histories) (traces : Traces setup v hs)
     (o : List ℕ) (q : Place) (t : State) (at : OperatorAt setup is_setup v hs traces o q t) (line : SiteLine) (es fs : List Event)
-    (all : at.trace.events ≡ es ++ fs) (s : State) (first : Run (opening line) es s) (then : Run s fs t) where
+    (all : at.trace.events ≡ es ++ fs) (s : State) (fine : IsConsistent s) (first : Run (opening line) es s) (then : Run s fs t) where
   -- what came to it was sent by the provider that it is from
   has_sent : (x : Packet) (r : List ℕ) (b : Body) → Came at.trace.events x → key x.from ≡ r → x.body ≡ b → HasSent v r o x.request b
   has_sent x r b came by carries =
@@ -85,17 +89,25 @@ module _ (setup : List Node) (is_setup : IsSetup setup) (v : World) (hs : Histor
       agree.0 ∙ h.carries
 
   -- a cancellation that was decided before is under a lower number
-  is_newer : (r id : List ℕ) (m : IsReserved (opening line) es s fs t r id) (n : ℕ) (c : CancelReservation) → HasDecided s r n → HasSent v r o n (body.CancelReservation c) →
+  is_newer : (r id : List ℕ) (made : Reservation) (m : IsReserved (opening line) es s fs t r id made) (n : ℕ) (c : CancelReservation) → HasDecided s r n → HasSent v r o n (body.CancelReservation c) →
       key c.reservation_id ≡ id → n < m.packet.request
-  is_newer r id m n c (w, kept) h same =
+  is_newer r id made m n c (w, kept) h same =
       let (x, answered, by, number, replies) = replies_were_given line es s first r n w kept in
       let came = came_first es fs at.trace.events all x (answered_came (opening line) s es x w answered) in
       let below = m.newer x c w answered (answered_is x w r n c came by number replies h) by same in
       omega (arith, below, number)
 
-  pub newly_made : (r id : List ℕ) (x : Reservation) → get s.rows.booked.reservations (r, id) ≡ None → get t.rows.booked.reservations (r, id) ≡ Some x → IsNewlyMade v s t r o id
-  newly_made r id x none stands =
-      let m = reservations_are_made (opening line) s t es fs first then r id none x stands in
+  -- what holds at all times held once the request was answered, so its result is kept from then on
+  result_kept : (r id : List ℕ) (made : Reservation) (m : IsReserved (opening line) es s fs t r id made) → get t.rows.commands.results (r, m.packet.request) ≡ Some Accepted
+  result_kept r id made m =
+      let a = m.answered in
+      let before = kept IsConsistent consistent_stays s a.before a.earlier a.reached fine in
+      results_stay a.after t a.later (consistent_stays a.before a.after a.event a.happens before) a.left (r, m.packet.request) Accepted m.accepted
+
+  pub newly_made : (r id : List ℕ) (made : Reservation) → get s.rows.booked.reservations (r, id) ≢ Some made → get t.rows.booked.reservations (r, id) ≡ Some made →
+      IsNewlyMade v s t r o id made
+  newly_made r id made apart stands =
+      let m = reservations_are_made (opening line) s t es fs first then r id made apart stands in
       let a = m.answered in
       let k : List ℕ × ℕ = (r, m.packet.request) in
       record {
@@ -108,7 +120,9 @@ module _ (setup : List Node) (is_setup : IsSetup setup) (v : World) (hs : Histor
           m.reply,
           replies_stay a.after t a.later a.left k m.reply (subst (λ z. get a.after.rows.commands.replies (z, m.packet.request) ≡ Some m.reply) m.by a.answers.kept),
         );
+        accepted = result_kept r id made m;
         sent = has_sent m.packet r (body.ReserveNow m.asked) (came_later es fs at.trace.events all m.packet (answered_came s t fs m.packet m.reply a)) m.by m.carries;
         id_is = m.id_is;
-        newer = is_newer r id m;
+        asks = m.asks;
+        newer = is_newer r id made m;
       }

@@ -10,6 +10,7 @@ use Rattle.world_laws.proofs.Agreeing.{answers_agree}
 use Rattle.world_laws.proofs.Billing.{billed, records, records_once}
 use Rattle.world_laws.proofs.Holding.{claims, held, orderly}
 use Rattle.world_laws.proofs.Later.{is_later}
+use Rattle.world_laws.proofs.Linking.{linked}
 use Rattle.world_laws.proofs.Owing.{owed}
 use Rattle.world_laws.proofs.Starting.{started}
 use Rattle.world_steps.specs.Steps.{WorldRun, WorldStep}
@@ -35,6 +36,7 @@ module _ (setup : List Node) (is_setup : IsSetup setup) (w : World) (hs : Histor
     safe = is_safe;
     held = acknowledged_is_held setup is_setup w hs traces;
     agree = answers_agree setup is_setup w hs traces;
+    linked = linked setup is_setup w hs traces;
   }
 
 pub worlds_are_right : WorldsAreRight

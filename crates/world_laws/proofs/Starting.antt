@@ -1,5 +1,5 @@
--- A reference of a provider starts one session at most, over all operators: the packets that give it go to one operator, and there one
--- session has it.
+-- A reference of a provider starts one session at most, over all operators: the packets that give it go to one
+-- operator, and there one session has it.
 use Rattle.std.proofs.Common.{◌≡◌, ℕ, List, inl, inr, sym, ap, subst, ◌∙◌}
 use Rattle.std.specs.Prelude.{Some, Contains}
 use Rattle.std.specs.FinMap.{get}

@@ -58,8 +58,8 @@ pub record HasBegun (w : World) (p o : List ℕ) (c : StartSession) : Type 0 whe
   pub of_provider : key session.cdr_token.party ≡ p
   pub reference_is : session.authorization_reference ≡ c.authorization_reference
 
--- what a provider stored of a command that it sent is what the operator keeps; and ACCEPTED as the result of a start means that it has the
--- session
+-- what a provider stored of a command that it sent is what the operator keeps; and ACCEPTED as the result of a start
+-- means that it has the session
 pub record AnswersAgree (w : World) : Type 0 where
   pub responses : (p : List ℕ) (q : Place) (t : provider.State) → ProviderOf w p q t → (n : ℕ) (d : SentCommand) (r : CommandResponse) → get t.rows.outbox.commands n ≡ Some d → d.answer ≡ Some r →
       KeepsResponse w p (key d.to) n r

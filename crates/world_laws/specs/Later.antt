@@ -1,5 +1,6 @@
--- A world is later than another: pasts have gone on, what providers hold has not gone back, and what stands for good stands.
-use Rattle.std.specs.Prelude.{◌≡◌, ◌⊎◌, ◌<◌, ◌++◌, ℕ, List, ◌∷◌, Some, None, Contains}
+-- A world is later than another: pasts have gone on, what providers hold has not gone back, and what stands for good
+-- stands.
+use Rattle.std.specs.Prelude.{◌≡◌, ◌≢◌, ◌⊎◌, ◌<◌, ◌++◌, ℕ, List, ◌∷◌, Some, None, Contains}
 use Rattle.std.specs.FinMap.{get}
 use Rattle.ocpi_text.specs.Text.{key}
 use Rattle.ocpi_types.specs.declared.cdrs.Cdr.{Cdr}
@@ -14,7 +15,9 @@ use Rattle.ocpi_types.specs.declared.stored.Reply.{Reply}
 use Rattle.ocpi_types.specs.declared.stored.Reservation.{Reservation}
 use Rattle.ocpi_types.specs.declared.stored.SentCommand.{SentCommand}
 use Rattle.ocpi_types.specs.declared.words.CommandResultType.{CommandResultType}
+use Rattle.ocpi_types.specs.declared.words.CommandResultType.TheVariants.{Accepted}
 use Rattle.operator_rows.specs.State as operator
+use Rattle.operator_tables.specs.Outcomes.{IsAsked}
 use Rattle.provider_rows.specs.State as provider
 use Rattle.world_laws.specs.Nodes.{Holds, IsPast, OperatorOf, ProviderOf}
 use Rattle.world_steps.specs.World.{Place, World, past_of}
@@ -61,22 +64,27 @@ pub record HasSent (w : World) (p o : List ℕ) (n : ℕ) (b : Body) : Type 0 wh
   pub number : packet.request ≡ n
   pub carries : packet.body ≡ b
 
--- the reservation of that id of a provider was made by a RESERVE_NOW that the operator decided in between, under a number above that of
--- each CANCEL_RESERVATION about it that had been decided before (OCPI 2.2.1, Commands: ReserveNow, CancelReservation)
-pub record IsNewlyMade (v : World) (s t : operator.State) (p o id : List ℕ) : Type 0 where
+-- the reservation of that id of a provider was made as a RESERVE_NOW asked for it, which the operator decided in between
+-- and whose result is ACCEPTED, under a number above that of each CANCEL_RESERVATION about it that had been decided
+-- before (OCPI 2.2.1, Commands: ReserveNow, CancelReservation, CommandResult)
+pub record IsNewlyMade (v : World) (s t : operator.State) (p o id : List ℕ) (made : Reservation) : Type 0 where
   pub number : ℕ
   pub asked : ReserveNow
   pub undecided : get s.rows.commands.replies (p, number) ≡ None
   pub decided : HasDecided t p number
+  pub accepted : get t.rows.commands.results (p, number) ≡ Some Accepted
   pub sent : HasSent v p o number (body.ReserveNow asked)
   pub id_is : key asked.reservation_id ≡ id
+  pub asks : IsAsked asked made
   pub newer : (m : ℕ) (c : CancelReservation) → HasDecided s p m → HasSent v p o m (body.CancelReservation c) → key c.reservation_id ≡ id → m < number
 
--- an operator later: its pasts have gone on, what stands for good stands, and no reservation came back
+-- an operator later: its pasts have gone on, what stands for good stands, and no reservation came back or became
+-- another, but as it was asked for
 pub record OperatorIsLater (v : World) (o : List ℕ) (p q : Place) (s t : operator.State) : Type 0 where
   pub pasts : (id : List ℕ) → (more : List Session) × (past_of id q.versions ≡ past_of id p.versions ++ more)
   pub keeps : OperatorKeeps s t
-  pub reservations : (r id : List ℕ) (x : Reservation) → get s.rows.booked.reservations (r, id) ≡ None → get t.rows.booked.reservations (r, id) ≡ Some x → IsNewlyMade v s t r o id
+  pub reservations : (r id : List ℕ) (made : Reservation) → get s.rows.booked.reservations (r, id) ≢ Some made → get t.rows.booked.reservations (r, id) ≡ Some made →
+      IsNewlyMade v s t r o id made
 
 pub record IsLater (w v : World) : Type 0 where
   pub operators : (o : List ℕ) (p : Place) (s : operator.State) → OperatorOf w o p s → (q : Place) × (t : operator.State) × OperatorOf v o q t × OperatorIsLater v o p q s t

@@ -6,6 +6,7 @@ use Rattle.ocpi_types.specs.declared.events.Event.{Event}
 use Rattle.ocpi_types.specs.declared.setup.Node.{Node}
 use Rattle.world_laws.specs.Agree.{AcknowledgedIsHeld, AnswersAgree}
 use Rattle.world_laws.specs.Later.{IsLater}
+use Rattle.world_laws.specs.Linked.{IsLinked}
 use Rattle.world_laws.specs.Safe.{IsSafe}
 use Rattle.world_steps.specs.Steps.{WorldRun}
 use Rattle.world_steps.specs.World.{World, opened}
@@ -27,6 +28,7 @@ pub record IsRight (w : World) : Type 0 where
   pub safe : IsSafe w
   pub held : AcknowledgedIsHeld w
   pub agree : AnswersAgree w
+  pub linked : IsLinked w
 
 -- each world of each legal run is right
 abbrev pub WorldsAreRight : Type 0

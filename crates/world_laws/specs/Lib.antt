@@ -2,4 +2,5 @@ pub mod Nodes
 pub mod Safe
 pub mod Later
 pub mod Agree
+pub mod Linked
 pub mod Laws

@@ -1,5 +1,5 @@
--- What is asked of a world: the state of the node of a party, the past of a session, and what a provider holds. Parties and ids are in key
--- form here, by which they are compared.
+-- What is asked of a world: the state of the node of a party, the past of a session, and what a provider holds.
+-- Parties and ids are in key form here, by which they are compared.
 use Rattle.std.specs.Prelude.{◌≡◌, ℕ, List, Some, slice_get}
 use Rattle.std.specs.FinMap.{get}
 use Rattle.ocpi_text.specs.Text.{key}
@@ -22,7 +22,8 @@ pub record ProviderOf (w : World) (o : List ℕ) (p : Place) (s : provider.State
   pub party : key p.party ≡ o
   pub node : p.node ≡ Provides s
 
--- the past of that session of the operator: all versions of it that the operator ever stored, oldest first. It stores the newest alone
+-- the past of that session of the operator: all versions of it that the operator ever stored, oldest first. It stores
+-- the newest alone
 pub record IsPast (w : World) (o id : List ℕ) (versions : List Session) : Type 0 where
   pub place : Place
   pub state : operator.State

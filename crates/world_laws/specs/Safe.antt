@@ -1,5 +1,5 @@
--- A world is safe: no EVSE has two claims, no authorization reference starts two sessions, each session goes on in order, what a provider
--- holds of it is what the operator had, and each session is billed once and owed once.
+-- A world is safe: no EVSE has two claims, no authorization reference starts two sessions, each session goes on in
+-- order, what a provider holds of it is what the operator had, and each session is billed once and owed once.
 use Rattle.std.specs.Prelude.{◌≡◌, ◌≢◌, ◌↔◌, ℕ, ℤ, List, Some, None, map, Contains, pos}
 use Rattle.std.specs.List.{AllPairs, last_or}
 use Rattle.std.specs.FinMap.{get, values}
@@ -23,8 +23,9 @@ pub record Started (w : World) (p reference o id : List ℕ) : Type 0 where
   pub named : session.authorization_reference ≡ Some spelled
   pub same : key spelled ≡ reference
 
--- the past of a session is orderly: it begins PENDING, its statuses follow one another, each version is later than the one before it, its
--- energy never falls, its cost is that of its energy at the site's price, and what it is of stays. The newest is what is stored
+-- the past of a session is orderly: it begins PENDING, its statuses follow one another, each version is later than the
+-- one before it, its energy never falls, its cost is that of its energy at the site's price, and what it is of stays.
+-- The newest is what is stored
 pub record GoesInOrder (p : Place) (s : operator.State) (id : List ℕ) : Type 0 where
   pub orderly : IsOrderly s.site.price (past_of id p.versions)
   pub newest : get s.rows.charged.sessions id ≡ last_or None (past_of id p.versions)
@@ -36,7 +37,8 @@ pub record IsOfPast (w : World) (o id : List ℕ) (v : Session) : Type 0 where
   pub member : Contains versions v
   pub last : v.status ≡ Completed → last_or None versions ≡ Some v
 
--- the record bills the version, which is COMPLETED: its energy and its cost are the version's (OCPI 2.2.1, CDRs: CDR object)
+-- the record bills the version, which is COMPLETED: its energy and its cost are the version's (OCPI 2.2.1, CDRs: CDR
+-- object)
 pub record Bills (v : Session) (x : Cdr) : Type 0 where
   pub completed : v.status ≡ Completed
   pub session : x.session_id ≡ v.id

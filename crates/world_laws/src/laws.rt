@@ -2,8 +2,8 @@
 
 ghost use Rattle.world_laws.specs.Laws.{WorldsAreRight, WorldsGoOn};
 
-/// After any list of requests, deliveries, losses, repeats, reorderings, timeouts, refused commits and restarts a world is safe, what is
-/// acknowledged is held, and answers agree.
+/// After any list of requests, deliveries, losses, repeats, reorderings, timeouts, refused commits and restarts a
+/// world is safe, what is acknowledged is held, answers agree, and its nodes are linked.
 pub fn worlds_are_right()
     ensures { WorldsAreRight }
 {}

@@ -1,5 +1,5 @@
--- What reaches a node by an event. Links lose, repeat and reorder: a packet that no event delivers is lost, and a packet that was sent to a
--- node may be delivered to it any number of times, and in any order. Nothing else arrives.
+-- What reaches a node by an event. Links lose, repeat and reorder: a packet that no event delivers is lost, and a
+-- packet that was sent to a node may be delivered to it any number of times, and in any order. Nothing else arrives.
 use Rattle.std.specs.Prelude.{◌≡◌, ℕ, ◌+◌, List, Some, slice_get}
 use Rattle.ocpi_text.specs.Text.{key}
 use Rattle.ocpi_types.specs.declared.events.EventKind.{EventKind}

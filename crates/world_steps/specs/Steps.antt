@@ -103,13 +103,14 @@ NodeRefuses (Operates s) (OfProvider x) fault = ⊥
 NodeRefuses (Provides s) (OfOperator x) fault = ⊥
 NodeRefuses (Provides s) (OfProvider x) fault = ProviderRefuses s x fault
 
--- the event is of no node: there is no node of that party, or nothing reaches it, since the event is not one of its role, or the packet was
--- not sent, or not to it
+-- the event is of no node: there is no node of that party, or nothing reaches it, since the event is not one of its
+-- role, or the packet was not sent, or not to it
 pub data IsForNone (w : World) (e : Event) : Type 0 where
   NoNode : ((i : ℕ) (p : Place) → IsAt w e.node i p → ⊥) → IsForNone w e
   NothingReaches : (i : ℕ) (p : Place) → IsAt w e.node i p → e.kind ≢ kind.Refused → ((x : Input) → Reaches w p.party p.node e.kind x → ⊥) → IsForNone w e
 
--- what is told of an event: the packets that the node sent and the rows that it changed; that it was passed over; or why it was refused
+-- what is told of an event: the packets that the node sent and the rows that it changed; that it was passed over; or
+-- why it was refused
 pub data Outcome : Type 0 where
   Stepped : List Packet → List Change → Outcome
   Skipped : Outcome

@@ -1,4 +1,5 @@
--- A world: the nodes of a setup, all packets that each ever sent, and all versions that the sessions of each operator ever had.
+-- A world: the nodes of a setup, all packets that each ever sent, and all versions that the sessions of each operator
+-- ever had.
 use Rattle.std.specs.Prelude.{◌≡◌, ℕ, List, [], ◌∷◌, Some, map, filter, slice_get, bytes_eq}
 use Rattle.std.specs.List.{flat_map}
 use Rattle.ocpi_text.specs.Text.{key}

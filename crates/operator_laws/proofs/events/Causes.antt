@@ -1,5 +1,5 @@
--- Why an event changes a row, kind by kind of row. Each act of each line has such a cause for each row that it changes; a law asks
--- for the cause of a row, and need not know which acts there are.
+-- Why an event changes a row, kind by kind of row. Each act of each line has such a cause for each row that it
+-- changes; a law asks for the cause of a row, and need not know which acts there are.
 use Rattle.std.specs.Prelude.{◌≡◌, ◌≢◌, ℕ, List, Some, None, Contains, ⊤}
 use Rattle.std.specs.FinMap.{get}
 use Rattle.ocpi_text.specs.Text.{key}
@@ -17,7 +17,9 @@ use Rattle.ocpi_types.specs.declared.stored.Command.{Command}
 use Rattle.ocpi_types.specs.declared.stored.Command.TheVariants as command
 use Rattle.ocpi_types.specs.declared.stored.OpenCommand.{OpenCommand}
 use Rattle.ocpi_types.specs.declared.stored.Reply.{Reply}
+use Rattle.ocpi_types.specs.declared.stored.Reservation.{Reservation}
 use Rattle.ocpi_types.specs.declared.words.CommandResultType.{CommandResultType}
+use Rattle.ocpi_types.specs.declared.words.CommandResultType.TheVariants.{Accepted}
 use Rattle.ocpi_types.specs.declared.token.Token.{Token}
 use Rattle.reservation_book.specs.Refusals.{IsInTime}
 use Rattle.token_desk.specs.Putting.{IsNewer}
@@ -25,6 +27,7 @@ use Rattle.node_steps.specs.Acts.{Act, all_changes}
 use Rattle.node_steps.specs.Peers.{IsPeer}
 use Rattle.operator_rows.specs.State.{State}
 use Rattle.operator_rows.specs.Sound.{IsSound}
+use Rattle.operator_tables.specs.Outcomes.{IsAsked}
 use Rattle.operator_tables.specs.declared.decision.Decision.{Decision}
 use Rattle.operator_steps.specs.Acts.{decided_acts, reply_of}
 use Rattle.operator_steps.specs.Events.{Input, Arrives}
@@ -100,14 +103,17 @@ pub record Marking (s : State) (i : Input) (acts : List Act) (p id : List ℕ) (
   pub number : decides.packet.request ≡ n
   pub timely : IsInTime s.rows.booked.marks (p, id) n
 
--- a reservation is made: a RESERVE_NOW came, not below its mark
-pub record Reserving (s : State) (i : Input) (acts : List Act) (p id : List ℕ) : Type 0 where
+-- a reservation is made: a RESERVE_NOW came that asked for it, not below its mark, which it sets. Its result is ACCEPTED
+pub record Reserving (s : State) (i : Input) (acts : List Act) (p id : List ℕ) (r : Reservation) : Type 0 where
   pub decides : DecidesIt s i acts
   pub by : key decides.packet.from ≡ p
   pub asked : ReserveNow
   pub command_is : decides.command ≡ command.ReserveNow asked
   pub id_is : key asked.reservation_id ≡ id
   pub timely : IsInTime s.rows.booked.marks (p, id) decides.packet.request
+  pub asks : IsAsked asked r
+  pub marks : Contains (all_changes acts) (Put (row.Mark p id decides.packet.request))
+  pub accepts : Contains (all_changes acts) (Put (row.Result p decides.packet.request Accepted))
 
 -- a counter that an act may change: of sessions, or of charge detail records
 abbrev pub IsOwnCounter : Counter → Type 0
@@ -117,8 +123,8 @@ IsOwnCounter counter.Session = ⊤
 IsOwnCounter counter.Cdr = ⊤
 IsOwnCounter counter.Reference = ⊥
 
--- the cause of each change, whatever state it is made in; no event has another. Of pushes, sessions, charge detail records and their
--- counters more is said where what holds at all times holds (`Reason`)
+-- the cause of each change, whatever state it is made in; no event has another. Of pushes, sessions, charge detail
+-- records and their counters more is said where what holds at all times holds (`Reason`)
 abbrev pub Cause : State → Input → List Act → Change → Type 0
 Cause s i acts (Put (row.Count c n)) = IsOwnCounter c
 Cause s i acts (Put (row.Reply p n r)) = Answering s i acts p n r
@@ -127,7 +133,7 @@ Cause s i acts (Put (row.Push n to p)) = ⊤
 Cause s i acts (Put (row.Service evse)) = ⊤
 Cause s i acts (Put (row.Spent p reference)) = get s.rows.spent (p, reference) ≢ Some tt
 Cause s i acts (Put (row.Mark p id n)) = Marking s i acts p id n
-Cause s i acts (Put (row.Reservation p id r)) = Reserving s i acts p id
+Cause s i acts (Put (row.Reservation p id r)) = Reserving s i acts p id r
 Cause s i acts (Put (row.Pending p n o)) = Opening s i acts p n o
 -- a command has one result
 Cause s i acts (Put (row.Result p n x)) = IsSound s → get s.rows.commands.results (p, n) ≡ None

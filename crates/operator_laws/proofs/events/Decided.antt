@@ -174,6 +174,9 @@ module _ (s : State) (i : Input) (acts : List Act) (h : DecidesIt s i acts) wher
           command_is = tells.command_is;
           id_is = tells.id_is;
           timely = tells.in_time;
+          asks = tells.asked;
+          marks = within (decision.Reserved id r) is (Put (row.Mark p id n)) (1, omega arith, refl);
+          accepts = within (decision.Reserved id r) is (Put (row.Result p n Accepted)) (4, omega arith, refl);
         },
         settled_caused Accepted,
       ),

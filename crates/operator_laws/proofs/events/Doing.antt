@@ -42,7 +42,8 @@ use Rattle.operator_laws.proofs.events.RowFates.{IsOwn, changed_or_not, row_from
 abbrev pub IsCount : Change → Type 0
 IsCount c = (counter : Counter) × IsOfStep counter × (change_key c ≡ keys.Count counter)
 
--- what a step that may be carried out makes of the rows: what is put stands, and nothing replaces a charge detail record
+-- what a step that may be carried out makes of the rows: what is put stands, and nothing replaces a charge detail
+-- record
 pub record Follows (s : State) (changes : List Change) (t : State) : Type 0 where
   pub apart : AreApart changes
   pub rows : AreChanges s.rows changes t.rows

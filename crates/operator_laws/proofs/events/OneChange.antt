@@ -1,5 +1,6 @@
--- One change of a row: it puts it, or leaves what stands under other keys. Of the rows of sessions, of tokens and of counters this is not
--- said here: those of sessions are told apart by their ids alone, and nothing else is read from them.
+-- One change of a row: it puts it, or leaves what stands under other keys. Of the rows of sessions, of tokens and of
+-- counters this is not said here: those of sessions are told apart by their ids alone, and nothing else is read from
+-- them.
 use Rattle.std.proofs.Common.{◌≡◌, ◌≢◌, ◌↔◌, ◌⊎◌, inl, inr, refl, sym, ap, ◌∙◌}
 use Rattle.std.specs.Prelude.{Some, ⊤}
 use Rattle.std.specs.declared.cmp.Ordering.{Ordering}

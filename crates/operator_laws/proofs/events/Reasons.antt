@@ -1,5 +1,6 @@
--- Why an event changes a push, a session, a charge detail record, a counter or a result, and why it says what it says, where what holds
--- at all times holds. Each law of sessions asks for the reason of a row, and need not know which acts there are.
+-- Why an event changes a push, a session, a charge detail record, a counter or a result, and why it says what it says,
+-- where what holds at all times holds. Each law of sessions asks for the reason of a row, and need not know which acts
+-- there are.
 use Rattle.std.specs.Prelude.{◌≡◌, ◌⊎◌, ◌≤◌, ◌<◌, ◌+◌, ℕ, List, [], ◌∷◌, Some, None, Contains, ⊤}
 use Rattle.std.specs.FinMap.{get}
 use Rattle.ocpi_text.specs.OwnIds.{own_id_text}
@@ -78,8 +79,8 @@ module _ (s : State) (i : Input) (acts : List Act) where
     pub record_is : x ≡ cdr_of v (own_id_text own.Cdr s.party (s.rows.charged.last_cdr + 1)) place
     pub counts : Makes (Put (row.Count counter.Cdr (s.rows.charged.last_cdr + 1)))
 
-  -- the version is stored: a session begins, or the version goes in place of the one that stands, and has its charge detail record if it is
-  -- complete
+  -- the version is stored: a session begins, or the version goes in place of the one that stands, and has its charge
+  -- detail record if it is complete
   pub data Versioning (v : Session) : Type 0 where
     Begins : Begun v → Versioning v
     Goes : (w : Session) → get s.rows.charged.sessions (key v.id) ≡ Some w → (v.status ≡ Completed → (x : Cdr) × Makes (Put (row.Cdr x)) × IsBillOf v x) → Versioning v
@@ -174,7 +175,8 @@ module _ (s : State) (i : Input) (acts : List Act) where
   Reason (Drop (keys.Push n)) = Ending n
   Reason (Drop k) = ⊤
 
-  -- why a message is said: a reply is kept, or is one that was; a push is made, or stood; or a provider is asked, and nothing else is done
+  -- why a message is said: a reply is kept, or is one that was; a push is made, or stood; or a provider is asked, and
+  -- nothing else is done
   pub data Saying (m : Message) : Type 0 where
     Replies : (r : Reply) → m.body ≡ body_of_reply r → Contains s.providers m.to →
         Makes (Put (row.Reply (key m.to) m.request r)) ⊎ (get s.rows.commands.replies (key m.to, m.request) ≡ Some r) → Saying m

@@ -1,4 +1,5 @@
--- What becomes of a row, whatever changes are made: one that stands was put or stood before, and one that no change is of stays.
+-- What becomes of a row, whatever changes are made: one that stands was put or stood before, and one that no change is
+-- of stays.
 use Rattle.std.proofs.Common.{◌≡◌, ◌≢◌, ◌⊎◌, List, [], ◌∷◌, inl, inr, refl, sym, ap, subst, ◌∙◌}
 use Rattle.std.specs.Prelude.{Contains, ℕ}
 use Rattle.std.specs.Cmp.{nat_cmp_total}

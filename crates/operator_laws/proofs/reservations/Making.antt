@@ -15,23 +15,26 @@ use Rattle.ocpi_types.specs.declared.rows.Change.TheVariants.{Put}
 use Rattle.ocpi_types.specs.declared.stored.OpenCommand.{OpenCommand}
 use Rattle.ocpi_types.specs.declared.stored.Reply.{Reply}
 use Rattle.ocpi_types.specs.declared.stored.Reservation.{Reservation}
+use Rattle.ocpi_types.specs.declared.words.CommandResultType.TheVariants.{Accepted}
 use Rattle.reservation_book.specs.Refusals.{IsInTime}
 use Rattle.node_laws.proofs.Runs.{made_runs}
 use Rattle.operator_rows.specs.State.{State}
 use Rattle.operator_rows.proofs.RowChanges.{of_cons}
+use Rattle.operator_tables.specs.Outcomes.{IsAsked}
 use Rattle.operator_steps.specs.Acts.{reply_of}
 use Rattle.operator_steps.specs.Events.{Arrives, Event, Happens}
 use Rattle.operator_laws.specs.Laws.{Run}
 use Rattle.operator_laws.specs.Replied.{AnswersIt, IsMarked, ReservationsAreAskedFor}
 use Rattle.operator_laws.specs.Made.{IsAnsweredIn, ReservationsAreMade, IsCommandOf, OpenCommandsCame, OpenedCommandsCame}
 use Rattle.operator_laws.proofs.events.Causes.{Opening, Reserving}
-use Rattle.operator_laws.proofs.events.Doing.{Does, does, put_by, stood_or_put}
+use Rattle.operator_laws.proofs.events.Doing.{Does, does, put_by, put_stands, stood_or_put}
+use Rattle.operator_laws.proofs.events.Keeping.{orderly_of}
 use Rattle.operator_laws.proofs.replies.Answering.{answers_now}
 use Rattle.operator_laws.proofs.reservations.Marks.{above_unless, cancellations_are_marked}
 use Rattle.operator_laws.proofs.standing.AtAllTimes.{marks_never_fall, replies_stay}
 
--- this event makes the reservation of that id
-record ReservesNow (s : State) (e : Event) (t : State) (p id : List ℕ) : Type 0 where
+-- this event makes that reservation of that id
+record ReservesNow (s : State) (e : Event) (t : State) (p id : List ℕ) (r : Reservation) : Type 0 where
   packet : Packet
   asked : ReserveNow
   reply : Reply
@@ -40,16 +43,18 @@ record ReservesNow (s : State) (e : Event) (t : State) (p id : List ℕ) : Type 
   by : key packet.from ≡ p
   id_is : key asked.reservation_id ≡ id
   timely : IsInTime s.rows.booked.marks (p, id) packet.request
+  asks : IsAsked asked r
+  accepted : get t.rows.commands.results (p, packet.request) ≡ Some Accepted
 
 -- a reservation that stands after an event stood before it, or is made by it
 reserved_now : (s t : State) (e : Event) → Does s e t → (p id : List ℕ) (r : Reservation) → get t.rows.booked.reservations (p, id) ≡ Some r →
-    (get s.rows.booked.reservations (p, id) ≡ Some r) ⊎ ReservesNow s e t p id
+    (get s.rows.booked.reservations (p, id) ≡ Some r) ⊎ ReservesNow s e t p id r
 reserved_now s t e d p id r has = elim (stood_or_put s t e d (row.Reservation p id r) tt has) [
   | inl put ↦ inr (by (d.caused (Put (row.Reservation p id r)) put))
   | inr old ↦ inl old
 ]
   where
-    by : Reserving s e.input d.acts p id → ReservesNow s e t p id
+    by : Reserving s e.input d.acts p id r → ReservesNow s e t p id r
     by h = record {
       packet = h.decides.packet;
       asked = h.asked;
@@ -59,6 +64,8 @@ reserved_now s t e d p id r has = elim (stood_or_put s t e d (row.Reservation p 
       by = h.by;
       id_is = h.id_is;
       timely = h.timely;
+      asks = h.asks;
+      accepted = put_stands s t e d (row.Result p h.decides.packet.request Accepted) tt (orderly_of s e.input d.acts h.decides) h.accepts;
     }
 
 pub reservations_are_asked_for : ReservationsAreAskedFor
@@ -95,8 +102,8 @@ module _ (s u t : State) (e : Event) (es : List Event) (q : Packet) (r : Reply) 
     answers = d.answers;
   }
 
--- a RESERVE_NOW was answered in the run, and made the reservation of that id
-record Makes (s t : State) (es : List Event) (p id : List ℕ) : Type 0 where
+-- a RESERVE_NOW was answered in the run, and made that reservation of that id
+record Makes (s t : State) (es : List Event) (p id : List ℕ) (r : Reservation) : Type 0 where
   packet : Packet
   asked : ReserveNow
   reply : Reply
@@ -105,9 +112,11 @@ record Makes (s t : State) (es : List Event) (p id : List ℕ) : Type 0 where
   by : key packet.from ≡ p
   id_is : key asked.reservation_id ≡ id
   timely : IsInTime answered.before.rows.booked.marks (p, id) packet.request
+  asks : IsAsked asked r
+  accepted : get answered.after.rows.commands.results (p, packet.request) ≡ Some Accepted
 
 reserved_runs : (es : List Event) (s t : State) → Run s es t → (p id : List ℕ) (r : Reservation) → get t.rows.booked.reservations (p, id) ≡ Some r →
-    (get s.rows.booked.reservations (p, id) ≡ Some r) ⊎ Makes s t es p id
+    (get s.rows.booked.reservations (p, id) ≡ Some r) ⊎ Makes s t es p id r
 unfolding answered_here answered_later
 reserved_runs [] s t run p id r has = inl (subst (λ (z : State). get z.rows.booked.reservations (p, id) ≡ Some r) run has)
 reserved_runs (e ∷ es) s t (u, first, rest) p id r has = elim (reserved_runs es u t rest p id r has) [
@@ -122,6 +131,8 @@ reserved_runs (e ∷ es) s t (u, first, rest) p id r has = elim (reserved_runs e
       by = new.by;
       id_is = new.id_is;
       timely = new.timely;
+      asks = new.asks;
+      accepted = new.accepted;
     })
   ]
   | inr later ↦ inr (record {
@@ -133,10 +144,12 @@ reserved_runs (e ∷ es) s t (u, first, rest) p id r has = elim (reserved_runs e
     by = later.by;
     id_is = later.id_is;
     timely = later.timely;
+    asks = later.asks;
+    accepted = later.accepted;
   })
 ]
 
-module _ (r s t : State) (es fs : List Event) (p id : List ℕ) (m : Makes s t fs p id) where
+module _ (r s t : State) (es fs : List Event) (p id : List ℕ) (made : Reservation) (m : Makes s t fs p id made) where
   -- a cancellation that was answered before has a smaller number
   newer_than : (x : Packet) (c : CancelReservation) (w : Reply) → IsAnsweredIn r es s x w → x.body ≡ body.CancelReservation c → key x.from ≡ p → key c.reservation_id ≡ id → x.request < m.packet.request
   newer_than x c w d is by id_is =
@@ -152,8 +165,8 @@ module _ (r s t : State) (es fs : List Event) (p id : List ℕ) (m : Makes s t f
       not_both w _ m.answered.answers.new (ap (λ (k : List ℕ × ℕ). get m.answered.before.rows.commands.replies k) (λ i. ((m.by ∙ sym by) i, sym same i)) ∙ still))
 
 pub reservations_are_made : ReservationsAreMade
-reservations_are_made r s t es fs before run p id none x has = elim (reserved_runs fs s t run p id x has) [
-  | inl old ↦ absurd (not_both x _ none old)
+reservations_are_made r s t es fs before run p id made apart has = elim (reserved_runs fs s t run p id made has) [
+  | inl old ↦ absurd (apart old)
   | inr m ↦ record {
     packet = m.packet;
     asked = m.asked;
@@ -162,7 +175,9 @@ reservations_are_made r s t es fs before run p id none x has = elim (reserved_ru
     carries = m.carries;
     by = m.by;
     id_is = m.id_is;
-    newer = newer_than r s t es fs p id m;
+    asks = m.asks;
+    accepted = m.accepted;
+    newer = newer_than r s t es fs p id made m;
   }
 ]
 

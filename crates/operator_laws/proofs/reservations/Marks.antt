@@ -24,15 +24,16 @@ use Rattle.operator_tables.specs.declared.decision.Decision.TheVariants as decis
 use Rattle.operator_tables.specs.Outcomes.{IsAbout, Tells}
 use Rattle.operator_steps.specs.Acts.{decided_acts, reply_of, responded}
 use Rattle.operator_steps.specs.Events.{Event}
-use Rattle.operator_laws.specs.Laws.{ReservationsAreNewer, Run}
+use Rattle.operator_laws.specs.Laws.{Reserves, ReservationsAreNewer, Run, SetsMark}
 use Rattle.operator_laws.specs.Replied.{CancellationsAreMarked, IsMarked, ReservationsAreMarked}
-use Rattle.operator_laws.proofs.events.Causes.{DecidesIt, Marking}
+use Rattle.operator_laws.proofs.events.Causes.{DecidesIt, Marking, Reserving}
 use Rattle.operator_laws.proofs.events.Doing.{Does, does, put_by, put_stands}
 use Rattle.operator_laws.proofs.events.Keeping.{orderly_of, mark_rises, new_for, reply_stays}
 use Rattle.operator_laws.proofs.replies.Answering.{command_is, no_word, replied_now, same_word, told_of, was_decided}
 use Rattle.operator_laws.proofs.standing.AtAllTimes.{stays_marked}
 
--- a mark that is put stands, and was not above that number before. The request of that number is answered now, and was not before
+-- a mark that is put stands, and was not above that number before. The request of that number is answered now, and was
+-- not before
 record Marked (s t : State) (p id : List ℕ) (n : ℕ) : Type 0 where
   stands : get t.rows.booked.marks (p, id) ≡ Some n
   above : (x : ℕ) → get s.rows.booked.marks (p, id) ≡ Some x → x ≤ n
@@ -87,8 +88,24 @@ newer_runs (x ∷ es) s t (u, first, rest) zero (suc j) e f at there less p id m
 newer_runs (x ∷ es) s t (u, first, rest) (suc i) zero e f at there less p id m n a b = absurd (omega (arith, less))
 newer_runs (x ∷ es) s t (u, first, rest) (suc i) (suc j) e f at there less p id m n a b = newer_runs es u t rest i j e f at there (omega (arith, less, add-one i, add-one j)) p id m n a b
 
+-- an event that makes a reservation sets its mark
+sets_mark : (s t : State) (e : Event) → Does s e t → (p id : List ℕ) → Reserves e p id → (n : ℕ) × SetsMark e p id n
+sets_mark s t e d p id (r, puts) =
+    let h : Reserving s e.input d.acts p id r = d.caused (Put (row.Reservation p id r)) (put_by s t e d (row.Reservation p id r) tt puts) in
+    let n = h.decides.packet.request in
+    (n, record { at = h.decides.at; packet = h.decides.packet; comes = h.decides.arrives; by = h.by; number = refl; puts = d.to_acts (Put (row.Mark p id n)) h.marks })
+
+sets_in : (es : List Event) (s t : State) → Run s es t → (j : ℕ) (f : Event) → slice_get es j ≡ Some f → (p id : List ℕ) → Reserves f p id → (n : ℕ) × SetsMark f p id n
+sets_in [] s t run j f at p id it = absurd (cc)
+sets_in (e ∷ es) s t (u, first, rest) zero f at p id it =
+    let same : e ≡ f = cc in
+    subst (λ (z : Event). (n : ℕ) × SetsMark z p id n) same (sets_mark s u e (does s u e first) p id (subst (λ (z : Event). Reserves z p id) (sym same) it))
+sets_in (e ∷ es) s t (u, first, rest) (suc j) f at p id it = sets_in es u t rest j f at p id it
+
 pub reservations_are_newer : ReservationsAreNewer
-reservations_are_newer line es t run i j e f at there less p id m n a (reserves, b) = newer_runs es _ t run i j e f at there less p id m n a b
+reservations_are_newer line es t run i j e f at there less p id m a it =
+    let (n, sets) = sets_in es _ t run j f there p id it in
+    (n, sets, newer_runs es _ t run i j e f at there less p id m n a sets.puts)
 
 -- a number that is not in time is below the mark
 too_late : (m : booked.Marks) (k : List ℕ × List ℕ) (n : ℕ) → ¬ IsInTime m k n → (x : ℕ) × (get m k ≡ Some x) × (n ≤ x)

@@ -1,5 +1,5 @@
--- How what is stored of sessions goes on: a session stands for good, in a version that may follow the one before it, and so does each
--- charge detail record, unchanged.
+-- How what is stored of sessions goes on: a session stands for good, in a version that may follow the one before it,
+-- and so does each charge detail record, unchanged.
 use Rattle.std.proofs.Common.{◌≡◌, ◌⊎◌, ◌≤◌, zero, suc, ℕ, List, inl, inr, refl, sym, ap, subst, ◌∙◌, arith}
 use Rattle.std.specs.Prelude.{Some, Contains}
 use Rattle.std.specs.FinMap.{get}

@@ -1,4 +1,5 @@
--- Each reference of a provider is carried by one of its open starts or of its sessions at most, is spent, and came from it.
+-- Each reference of a provider is carried by one of its open starts or of its sessions at most, is spent, and came
+-- from it.
 use Rattle.std.proofs.Common.{◌≡◌, ◌≢◌, ◌+◌, ℕ, List, [], ◌∷◌, inl, inr, refl, sym, ap, subst, ◌∙◌}
 use Rattle.std.specs.Prelude.{Option, Some, Contains}
 use Rattle.std.specs.FinMap.{get, get-empty}
@@ -91,8 +92,8 @@ module _ (W : Packet → Type 0) where
       spent : get t.rows.spent (p, reference) ≡ Some tt
       given : IsGiven p reference
 
-    -- why a start or a session carries the reference: it did so before; it is new, by a command or by an answer; or the session was begun by
-    -- an open start, which ends
+    -- why a start or a session carries the reference: it did so before; it is new, by a command or by an answer; or
+    -- the session was begun by an open start, which ends
     data From (a : Carrier) : Type 0 where
       Old : Carried a → From a
       ByCommand : (h : DecidesIt s e.input d.acts) → a ≡ InStart h.packet.request → IsFresh → From a

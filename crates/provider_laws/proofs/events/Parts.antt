@@ -1,4 +1,5 @@
--- What an event does to each part of what a provider stores. Each law asks for one part, and need not know the acts of an event.
+-- What an event does to each part of what a provider stores. Each law asks for one part, and need not know the acts of
+-- an event.
 use Rattle.std.specs.Prelude.{◌≡◌, ◌⊎◌, ◌≤◌, ◌<◌, ℕ, List, [], ◌∷◌, Some, None}
 use Rattle.std.specs.FinMap.{get, insert}
 use Rattle.ocpi_text.specs.Text.{key}

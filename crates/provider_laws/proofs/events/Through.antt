@@ -1,5 +1,5 @@
--- The rows between the acts of a step: each act leaves its changes, and the counters that its packets and requests come to. They end
--- where the step ends, which stores the counters first.
+-- The rows between the acts of a step: each act leaves its changes, and the counters that its packets and requests
+-- come to. They end where the step ends, which stores the counters first.
 use Rattle.std.proofs.Common.{◌≡◌, ◌+◌, ◌++◌, ℕ, true, false, cond, nat_eq, List, [], ◌∷◌, length, refl, sym, ap, ◌∙◌, arith, length-append}
 use Rattle.std.proofs.lemmas.Bool.{eqb-true}
 use Rattle.std.specs.Prelude.{⊤}

@@ -1,4 +1,5 @@
--- Charge detail records that are held: each came from its operator, is held for good, and is the only one of its session.
+-- Charge detail records that are held: each came from its operator, is held for good, and is the only one of its
+-- session.
 use Rattle.std.proofs.Common.{◌≡◌, ◌⊎◌, ℕ, List, [], ◌∷◌, inl, inr, refl, sym, ap, subst, ◌∙◌}
 use Rattle.std.specs.Prelude.{Some, None}
 use Rattle.std.specs.FinMap.{get, insert, get-empty}

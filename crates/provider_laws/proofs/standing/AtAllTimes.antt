@@ -11,7 +11,8 @@ use Rattle.provider_rows.specs.RowLaws.{StaysConsistent}
 use Rattle.provider_steps.specs.Facts.{OrdersMayFollow, PacketsMayFollow, TicksMayFollow, TokensMayFollow}
 use Rattle.provider_laws.specs.Laws.{AlwaysConsistent}
 
--- what is said of rows and of steps: what a line asks for may be carried out, and what may be carried out leaves a provider consistent
+-- what is said of rows and of steps: what a line asks for may be carried out, and what may be carried out leaves a
+-- provider consistent
 pub record StepsHold : Type 0 where
   pub rows : StaysConsistent
   pub packets : PacketsMayFollow

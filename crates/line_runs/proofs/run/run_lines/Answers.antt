@@ -1,7 +1,7 @@
 use Rattle.std.proofs.Common.{rules, true, false, ◌≡◌, ◌<◌, ◌≤◌, ◌+◌, Ok, sym, ap, ◌∙◌, subst, length, arith}
 use Rattle.std.proofs.lemmas.Bool.{eqb-false}
 use Rattle.line_runs.specs.Lines.{ReadsLineOf}
-use Rattle.line_runs.specs.Run.{gives_beginning, most_reads}
+use Rattle.line_runs.specs.Run.{gives_front, most_reads}
 use Rattle.line_runs.specs.declared.lines.TheConstants.{KEPT_BYTES}
 use Rattle.line_runs.specs.declared.outcome.Ran.{Ran}
 use Rattle.line_runs.specs.declared.run.Turn.{Turn}
@@ -86,7 +86,7 @@ returns-in-Err-write_answer-clause-begun g c =
     let held = eqb-false _ _ (sym c.is_empty.ensures ∙ c.if-is_empty.false) in
     let long = c.next_line.new.line.ok.0 in
     let holds : 0 < length line = omega (arith, held, long) in
-    let gave = subst (λ l. gives_beginning (λ out. (turn : Turn) × lines c.loop-read.machine l turn out next) (g.W.Write.contents c.next_line.new.writer) (g.W.Write.contents c.write_answer.new.writer))
+    let gave = subst (λ l. gives_front (λ out. (turn : Turn) × lines c.loop-read.machine l turn out next) (g.W.Write.contents c.next_line.new.writer) (g.W.Write.contents c.write_answer.new.writer))
     c.as_slice.ensures.value c.in-Err-write_answer.ensures.err.1 in
     begun_in_line lines g.M.AnswerLines.end_gives c.args.machine.now KEPT_BYTES g.met.M.AnswerLines.cut_alike _ _ c.loop-read._read _ _ next _ _ _ _ _ line c.loop-read.invariant read c.next_line.ensures.writer holds gave
 

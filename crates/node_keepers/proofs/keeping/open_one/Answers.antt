@@ -1,28 +1,12 @@
-use Rattle.std.proofs.Common.{◌≡◌, ℕ, [], arith, rules, refl, sym, ap, ◌∙◌}
-use Rattle.std.proofs.lemmas.Bool.{eqb-false}
-use Rattle.node_store.specs.Contents.{rows_of}
-use Rattle.node_keepers.specs.Keeping.{IsUnopened, Not_loaded, Not_new, Not_opened, keeping_of}
-use Rattle.node_keepers.proofs.KeeperLemmas.{err_one, keeps_nothing, none_of, not_empty}
+use Rattle.node_keepers.specs.Keeping.{IsUnopened, Not_opened, keeping_of}
+use Rattle.node_keepers.proofs.KeeperLemmas.{err_one, not_taken}
 use Rattle.node_keepers.proofs.keeping.open_one.Goals as goal
-
-pub returns-then-is_empty-clause-ok : goal.returns-then-is_empty-clause-ok
-returns-then-is_empty-clause-ok g c = λ honest.
-    let none : c.in_ok-rows.rows.items ≡ [] = none_of c.in_ok-rows.rows.items (search rules) in
-    c.in_ok-rows.ensures.kept honest ∙ keeps_nothing _ c.in_ok-rows.rows.items (c.in_ok-rows.ensures.rows honest) none
 
 pub returns-in_err-keep-clause-err : goal.returns-in_err-keep-clause-err
 returns-in_err-keep-clause-err g c =
     err_one (IsUnopened (keeping_of g.S.Kept.Keep.content g.S.Kept.Keep.is_honest g.S.Kept.Keep.refusals) g.S.Keeps.may_refuse c.args.place) c.from_residual.result _ c.from_residual.ensures.1 (Not_opened c.in_err-keep.ensures)
 
-pub returns-in_err-rows-clause-err : goal.returns-in_err-rows-clause-err
-returns-in_err-rows-clause-err g c =
-    err_one (IsUnopened (keeping_of g.S.Kept.Keep.content g.S.Kept.Keep.is_honest g.S.Kept.Keep.refusals) g.S.Keeps.may_refuse c.args.place) c.from_residual-in_err-rows.result _ c.from_residual-in_err-rows.ensures.1
-    (Not_loaded c.in_ok-keep.keep c.load.new.self (record { counted = c.in_err-rows.ensures.counted; bad = c.in_err-rows.ensures.bad; layout = c.in_err-rows.ensures.layout }))
-
-pub returns-else-is_empty-clause-err : goal.returns-else-is_empty-clause-err
-returns-else-is_empty-clause-err g c =
-    let are = λ (honest : g.S.Kept.Keep.is_honest c.load.new.self). ap rows_of (c.in_ok-rows.ensures.kept honest) ∙ c.in_ok-rows.ensures.rows honest in
-    let held = eqb-false _ _ (sym c.is_empty.ensures ∙ c.if-is_empty.false) in
-    let long = c.in_ok-rows.rows.ok.0 in
-    let some = not_empty c.in_ok-rows.rows.items (λ none. held (omega (arith, none, long))) in
-    Not_new c.load.new.self (record { rows = c.in_ok-rows.rows.items; are = are; some = some }) refl
+pub returns-in-Err-clause-err : goal.returns-in-Err-clause-err
+returns-in-Err-clause-err g c =
+    not_taken (keeping_of g.S.Kept.Keep.content g.S.Kept.Keep.is_honest g.S.Kept.Keep.refusals) g.S.Keeps.may_refuse c.args.place c.in-Err.fault c.in_ok-keep.keep c.try_empty.new.keep
+    c.in-Err.ensures.err

@@ -8,15 +8,15 @@ use Rattle.node_steps.specs.declared.fault.NodeFault.TheVariants.{Memory}
 use Rattle.world.specs.Seen.{told}
 use Rattle.world.specs.State.{WorldState}
 use Rattle.world_steps.specs.Steps.{Gives}
-use Rattle.line_runs.specs.declared.run.Turn.TheVariants.{Ended}
-use Rattle.node_programs.proofs.PlayLemmas.{told_changes}
+use Rattle.line_runs.specs.declared.run.Turn.TheVariants.{Ended, Refused}
+use Rattle.node_programs.proofs.PlayLemmas.{of_each, told_changes}
 use Rattle.node_keepers.specs.Keeping.{KeeperTakes, keeping_of}
-use Rattle.node_programs.specs.Play.{EventTurn, Happened, Lost, Playing, Stage, Starved, changes_told, outcome_lines}
+use Rattle.node_programs.specs.Play.{EventTurn, Happened, Lost, Playing, Stage, Starved, changes_told, outcome_lines, turn_of}
 use Rattle.node_programs.specs.Writing.{refusal_line}
 use Rattle.node_programs.proofs.play.play_read.Goals as goal
 
-pub returns : goal.returns
-returns g c =
+pub returns-clause-ok : goal.returns-clause-ok
+returns-clause-ok g c =
     let keeping = keeping_of g.K.Keep.content g.K.Keep.is_honest g.K.Keep.refusals in
     let before = c.played.inside.world.places in
     let after = c.step.new.self in
@@ -35,8 +35,29 @@ returns g c =
           (Happened event is o after.places gives kept takes (r after.changes).0 refl refl),
     )) c.write_outcome.ensures
 
-pub returns-in_default : goal.returns-in_default
-returns-in_default g c =
+-- what came of it was not spelled
+pub returns-clause-err : goal.returns-clause-err
+returns-clause-err g c =
+    let keeping = keeping_of g.K.Keep.content g.K.Keep.is_honest g.K.Keep.refusals in
+    let before = c.played.inside.world.places in
+    let after = c.step.new.self in
+    let event = c.args.event.now in
+    let told_of = λ (packets : List Packet). told c.in-Ok.outcome packets after.changes in
+    let o = told_of c.packets.result.now in
+    let gives = subst (λ (packets : List Packet). Gives before event (told_of packets) after.places) (sym c.packets.ensures) c.in-Ok.ensures.ok in
+    let kept = c.commit.new.kept.items in
+    let told_is = told_changes c.in-Ok.outcome c.packets.result.now after.changes (λ not. (c.in-Ok.ensures.idle not).1) in
+    let takes = subst (λ (changes : List Change). KeeperTakes keeping event.node changes c.played.inside.kept.items kept) (c.changes.ensures ∙ told_is) c.in-Ok-commit.ensures.ok in
+    let next : Stage g.row.K.Denot = record { playing = Some (record { setup = c.played.inside.setup; world = after.places; kept = kept }); stop = c.args.stop.now } in
+    of_each c.write_outcome.result (
+      turn_of o,
+      outcome_lines o,
+      λ line is. subst (λ (now : Playing g.row.K.Denot). EventTurn keeping c.args.stop.now now line (turn_of o) (outcome_lines o) next) c.played.view_is
+          (Happened event is o after.places gives kept takes refl refl refl),
+    )
+
+pub returns-in_default-clause-ok : goal.returns-in_default-clause-ok
+returns-in_default-clause-ok g c =
     let playing : WorldState → Playing g.row.K.Denot = λ world. record { setup = c.played.inside.setup; world = world.places; kept = c.played.inside.kept.items } in
     let unchanged = ap playing c.in_default.ensures.err ∙ c.played.view_is in (
       refusal_line (fault_text Memory),
@@ -44,8 +65,19 @@ returns-in_default g c =
       λ line is. Starved c.args.event.now is refl refl (ap (λ q. record { playing = Some q; stop = c.args.stop.now }) unchanged),
     )
 
-pub returns-in-Err : goal.returns-in-Err
-returns-in-Err g c =
+-- the refusal was not spelled
+pub returns-in_err-refuse-clause-err : goal.returns-in_err-refuse-clause-err
+returns-in_err-refuse-clause-err g c =
+    let playing : WorldState → Playing g.row.K.Denot = λ world. record { setup = c.played.inside.setup; world = world.places; kept = c.played.inside.kept.items } in
+    let unchanged = ap playing c.in_default.ensures.err ∙ c.played.view_is in
+    of_each c.from_residual.result (
+      Refused,
+      refusal_line (fault_text Memory),
+      λ line is. Starved c.args.event.now is refl refl (ap (λ q. record { playing = Some q; stop = c.args.stop.now }) unchanged),
+    )
+
+pub returns-in-Err-clause-ok : goal.returns-in-Err-clause-ok
+returns-in-Err-clause-ok g c =
     let keeping = keeping_of g.K.Keep.content g.K.Keep.is_honest g.K.Keep.refusals in
     let before = c.played.inside.world.places in
     let after = c.step.new.self in

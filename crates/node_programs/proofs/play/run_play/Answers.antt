@@ -1,5 +1,5 @@
 use Rattle.std.proofs.Common.{sym}
-use Rattle.node_programs.proofs.EndLemmas.{kept_off, same_fault, stopped, went}
+use Rattle.node_programs.proofs.EndLemmas.{broken_off, kept_off, read_to, same_fault, went}
 use Rattle.node_keepers.specs.Keeping.{keeping_of}
 use Rattle.node_programs.proofs.play.run_play.Goals as goal
 
@@ -11,10 +11,18 @@ returns-clause-output g c =
     c.close-left.result.1 c.close-left.ensures.stop c.close-left.result.0.items (sym c.close-left.ensures.kept) c.ended.result c.run_whole-ran.result c.ended.ensures.ok c.run_whole-ran.ensures.output
 
 pub returns-clause-begun : goal.returns-clause-begun
-returns-clause-begun g c = rw (← c.new-playing.ensures) (stopped c.ended.result c.run_whole-ran.result _ c.ended.ensures.run c.run_whole-ran.ensures.begun)
+returns-clause-begun g c =
+    broken_off (keeping_of g.S.Kept.Keep.content g.S.Kept.Keep.is_honest g.S.Kept.Keep.refusals) g.S.Keeps.may_refuse
+    (g.R.Read.remaining c.args.input.now.reader) (g.W.Write.contents c.args.writer.now) (g.W.Write.contents c.run_whole-ran.new.writer)
+    c.new-playing.result c.run_whole-ran.new.machine c.new-playing.ensures c.close-left.result.0.items (sym c.close-left.ensures.kept)
+    c.ended.result c.run_whole-ran.result c.ended.ensures.run c.run_whole-ran.ensures.begun
 
 pub returns-clause-stopped : goal.returns-clause-stopped
-returns-clause-stopped g c = rw (← c.new-playing.ensures) (stopped c.ended.result c.run_whole-ran.result _ c.ended.ensures.run c.run_whole-ran.ensures.stopped)
+returns-clause-stopped g c =
+    read_to (keeping_of g.S.Kept.Keep.content g.S.Kept.Keep.is_honest g.S.Kept.Keep.refusals) g.S.Keeps.may_refuse
+    (g.R.Read.remaining c.args.input.now.reader) (g.W.Write.contents c.args.writer.now) (g.W.Write.contents c.run_whole-ran.new.writer)
+    c.new-playing.result c.run_whole-ran.new.machine c.new-playing.ensures c.close-left.result.0.items (sym c.close-left.ensures.kept)
+    (g.R.Read.remaining c.run_whole-ran.new.input.reader) c.ended.result c.run_whole-ran.result c.ended.ensures.run c.run_whole-ran.ensures.stopped
 
 pub returns-clause-store : goal.returns-clause-store
 returns-clause-store g c =

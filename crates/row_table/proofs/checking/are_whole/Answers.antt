@@ -1,6 +1,6 @@
-use Rattle.std.proofs.Common.{◌≡◌, refl, sym, subst, take_all, arith, rules, to_z-of_z, SFits, FitsSigned, w64}
-use Rattle.row_table.specs.Checking.{AreWhole, IsAbove}
-use Rattle.row_table.proofs.CheckLemmas.{none_checked, one_checked, IsChecked}
+use Rattle.std.proofs.Common.{refl, subst, take_all, rules, to_z-of_z, SFits, w64}
+use Rattle.row_table.specs.Checking.{AreWhole}
+use Rattle.row_table.proofs.CheckLemmas.{one_checked}
 use Rattle.row_table.proofs.checking.are_whole.Goals as goal
 
 pub loop-row-preserved : goal.loop-row-preserved

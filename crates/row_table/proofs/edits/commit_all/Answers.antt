@@ -1,11 +1,12 @@
-use Rattle.std.proofs.Common.{◌≡◌, ◌≢◌, OnErr, IsTrue, [], refl, sym, ap, subst, ◌∙◌, arith, rules}
+use Rattle.std.proofs.Common.{◌≡◌, ◌≢◌, OnErr, [], sym, ap, subst, ◌∙◌, arith, rules}
 use Rattle.sqlite.specs.Tree.{Trees}
 use Rattle.sqlite.specs.State.{HasCleanDisk, Survives}
 use Rattle.sqlite.specs.Held.{state}
 use Rattle.sqlite.proofs.StateLemmas.{survives_then}
 use Rattle.sqlite.proofs.Callers.{survives_begin}
 use Rattle.row_table.specs.Texts.{texts_of}
-use Rattle.row_table.specs.Effects.{HadTables, HasUndone, set_all}
+use Rattle.row_table.specs.Contents.{IsWhole, content_of, with_texts}
+use Rattle.row_table.specs.Effects.{HadTables, HasUndone, MayCommit, set_all}
 use Rattle.row_table.proofs.EditLemmas.{commit_fails}
 use Rattle.row_table.proofs.edits.commit_all.Goals as goal
 
@@ -28,11 +29,12 @@ returns-clause-crash g c =
     let last = c.make_all.new.tx.conn.now in
     let end = c.commit.new.self.0 in
     let begun = c.transaction-tx.ensures.begun in
-    let P = λ (trees : Trees). HadTables (state g.S.Store old) → c.args.edits.now ≢ [] → IsTrue (state g.S.Store old).is_open × (texts_of trees ≡ set_all (texts_of (state g.S.Store old).now.trees) c.args.edits.now) in
+    let db = (state g.S.Store old).now.trees in
+    let P = λ (trees : Trees). HadTables (state g.S.Store old) → c.args.edits.now ≢ [] → MayCommit (state g.S.Store old) (with_texts (content_of db) (set_all (texts_of db) c.args.edits.now)) trees in
     let whole = survives_then (state g.S.Store old) (state g.S.Store last) (state g.S.Store end) _ _ P (λ _ db none. absurd none)
-    (λ clean db is has some.
+    (λ clean left is has some.
     let made = rw begun at (c.in_ok-make_all.ensures.made (omega (arith, c.commit.ensures.survives.clean))) in
-    ((made has some).shown.was_open, ap texts_of is ∙ (made has some).texts_are))
+    record { was_open = (made has some).shown.was_open; whole = subst IsWhole (sym is) (made has some).tables.whole; holds = ap content_of is ∙ (made has some).holds })
     (survives_begin g.S.Store old (state g.S.Store last) _ (rw begun at c.make_all.ensures.survives)) c.commit.ensures.survives in
     let same : end ≡ c.conn-2-1.given.0 = search rules in
     subst (λ h. Survives (state g.S.Store old) (state g.S.Store h) P) same whole

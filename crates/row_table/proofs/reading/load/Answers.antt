@@ -1,5 +1,3 @@
-use Rattle.sqlite.specs.State.{HasCleanDisk}
-use Rattle.sqlite.specs.Held.{state}
 use Rattle.row_table.proofs.ReadLemmas.{answered_open}
 use Rattle.row_table.proofs.LoadLemmas.{loaded, any_ok}
 use Rattle.row_table.proofs.reading.load.Goals as goal

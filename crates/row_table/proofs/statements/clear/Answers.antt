@@ -1,4 +1,3 @@
-use Rattle.std.proofs.Common.{rules, ◌≡◌}
 use Rattle.sqlite.specs.Held.{state}
 use Rattle.row_table.proofs.EffectLemmas.{clears}
 use Rattle.row_table.proofs.statements.clear.Goals as goal

@@ -1,8 +1,10 @@
-use Rattle.std.proofs.Common.{◌≢◌, [], ap, sym, subst, ◌∙◌, arith, rules, slice_index_or}
+use Rattle.std.proofs.Common.{◌≡◌, ◌≢◌, inl, inr, [], ◌∷◌, ◌++◌, ap, sym, subst, ◌∙◌, arith, rules, slice_index_or}
 use Rattle.sqlite.specs.State.{HasCleanDisk}
 use Rattle.sqlite.specs.Held.{state}
-use Rattle.row_table.specs.Kept.{IsAtRest, texts}
-use Rattle.row_table.proofs.KeptLemmas.{the_one, still_one, undone_rest}
+use Rattle.sqlite.specs.Effect.{Database}
+use Rattle.row_table.specs.Contents.{IsWhole}
+use Rattle.row_table.specs.Kept.{IsAtRest}
+use Rattle.row_table.proofs.KeptLemmas.{committed_rest, the_one, still_one, undone_rest}
 use Rattle.row_table.proofs.table.TextTable.change.Goals as goal
 
 pub invariant_of-self : goal.invariant_of-self
@@ -16,5 +18,40 @@ invariant_of-self g c =
       still_one items old new one,
       subst (λ h. IsAtRest g.S.Store (record { conn = new; last = h })) (sym (the_one items old old new one))
           (undone_rest g.S.Store old (slice_index_or items 0 old) new c.self.invariant.1 c.commit_all.ensures.mode earlier
-          (λ clean. c.in_err-commit_all.ensures.none clean (c.self.invariant.1.tables (earlier clean)) some)),
+          (λ clean. c.in_err-commit_all.ensures.none clean (c.self.invariant.1.tables (earlier clean)) some)
+          (λ clean trees may. elim (c.commit_all.ensures.crash.crash clean trees may) [
+            | inl before ↦ c.self.invariant.1.left (earlier clean) trees before
+            | inr made ↦ (made (c.self.invariant.1.tables (earlier clean)) some).whole
+          ])),
     )
+
+pub invariant_of-self-2 : goal.invariant_of-self-2
+invariant_of-self-2 g c =
+    let old = c.self.inside.conn in
+    let new = c.commit_all.new.conn in
+    let noted : c.note-self-inside.result.items ≡ new ∷ [] = c.note-self-inside.ensures ∙ ap (λ l. l ++ new ∷ []) c.new.ensures in
+    let earlier = λ (clean : HasCleanDisk (state g.S.Store new)). let early : HasCleanDisk (state g.S.Store old) = omega (arith, c.commit_all.ensures.crash.clean) in early in
+    let some : c.args.edits.now ≢ [] = search rules in
+    let done = λ (clean : HasCleanDisk (state g.S.Store new)). c.in_ok-commit_all.ensures.all clean (c.self.invariant.1.tables (earlier clean)) some in (
+      noted ∙ ap (λ l. slice_index_or l 0 new ∷ []) (sym noted),
+      subst (λ l. IsAtRest g.S.Store (record { conn = new; last = slice_index_or l 0 new })) (sym noted)
+          (committed_rest g.S.Store old old new c.commit_all.ensures.mode _ done (λ is_open db may. g.met.S.Store.settled new.store db is_open may)),
+    )
+
+pub returns-in_err-commit_all-clause-whole : goal.returns-in_err-commit_all-clause-whole
+returns-in_err-commit_all-clause-whole g c clean trees may =
+    let early : HasCleanDisk (state g.S.Store c.self.inside.conn) = omega (arith, c.commit_all.ensures.crash.clean) in
+    let some : c.args.edits.now ≢ [] = search rules in
+    elim (c.commit_all.ensures.crash.crash clean trees may) [
+      | inl before ↦ c.self.invariant.1.left early trees before
+      | inr made ↦ (made (c.self.invariant.1.tables early) some).whole
+    ]
+
+pub returns-clause-whole : goal.returns-clause-whole
+returns-clause-whole g c clean trees may =
+    let old = c.self.inside.conn in
+    let new = c.commit_all.new.conn in
+    let early : HasCleanDisk (state g.S.Store old) = omega (arith, c.commit_all.ensures.crash.clean) in
+    let some : c.args.edits.now ≢ [] = search rules in
+    let done = c.in_ok-commit_all.ensures.all clean (c.self.invariant.1.tables early) some in
+    subst IsWhole (sym (g.met.S.Store.settled new.store trees done.is_open may ∙ sym (ap (λ (d : Database). d.trees) done.settled))) done.tables.whole

@@ -1,8 +1,7 @@
-use Rattle.std.proofs.Common.{ap, sym, subst, ◌∙◌, arith, slice_index_or}
-use Rattle.sqlite.specs.State.{HasCleanDisk}
+use Rattle.std.proofs.Common.{sym, subst, arith, slice_index_or}
 use Rattle.sqlite.specs.Held.{state}
-use Rattle.row_table.specs.Kept.{IsAtRest, texts}
-use Rattle.row_table.proofs.KeptLemmas.{the_one, still_one, undone_rest}
+use Rattle.row_table.specs.Kept.{IsAtRest}
+use Rattle.row_table.proofs.KeptLemmas.{left_whole, the_one, still_one, undone_rest}
 use Rattle.row_table.proofs.table.TextTable.rows.Goals as goal
 
 pub invariant_of-self : goal.invariant_of-self
@@ -13,5 +12,6 @@ invariant_of-self g c =
     let one = c.self.invariant.0 in (
       still_one items old new one,
       subst (λ h. IsAtRest g.S.Store (record { conn = new; last = h })) (sym (the_one items old old new one))
-          (undone_rest g.S.Store old (slice_index_or items 0 old) new c.self.invariant.1 c.load.ensures.mode (λ clean. omega (arith, c.load.ensures.crash.clean)) c.load.ensures.same),
+          (undone_rest g.S.Store old (slice_index_or items 0 old) new c.self.invariant.1 c.load.ensures.mode (λ clean. omega (arith, c.load.ensures.crash.clean)) c.load.ensures.same
+          (λ clean trees may. left_whole (state g.S.Store old) (λ _. ⊥) (c.self.invariant.1.left (omega (arith, c.load.ensures.crash.clean))) (λ _ none. absurd none) trees (c.load.ensures.crash.crash clean trees may))),
     )

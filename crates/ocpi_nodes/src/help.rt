@@ -1,0 +1,91 @@
+//! What the help of the program and of each command says after clap's own lines.
+
+/// After the help of the program.
+pub const PROGRAM: &str =
+    r#"Input and output are lines. docs/PROTOCOL.md has their forms; examples/ has whole inputs (*.jsonl)
+beside what they give (*.out). `ocpi_nodes help COMMAND` says what a command reads and writes.
+
+Examples, in the folder of the repository:
+  ./ocpi_nodes answer < examples/start_session.jsonl
+  ./ocpi_nodes play < examples/charge.jsonl
+  mkdir stores && ./ocpi_nodes play --store stores < examples/charge.jsonl
+  ./ocpi_nodes settle stores/node2.db
+
+Exit status:
+  0  no line was refused
+  1  a line was refused, or reading or writing failed, which standard error says
+  2  the command line is wrong
+  3  a store refused: standard error says which, why, and what to do"#;
+
+/// After the help of `answer`.
+pub const ANSWER: &str =
+    r#"Input, on standard input: lines of JSON; docs/PROTOCOL.md has their forms, under "JSON".
+  The first is the site line: the moment, the operator's party, its providers, and its site.
+  Each other line is a packet that comes to the operator at that moment.
+  A line has at most 1048576 bytes, and ends with a line feed, or a carriage return and a line feed;
+  the last may lack its end. Empty lines are passed over. At most 1000000000 lines are read.
+
+Output, on standard output:
+  For a packet that is taken: each packet that the operator sends, a line of JSON each.
+  For a line that is refused: `refused N Name`, the number and the name of the refusal, and the
+  member where one is at fault. It changes nothing, and the next line follows; a refused or absent
+  site line ends the run.
+  What was answered is written before the program waits for more input.
+
+Exit status:
+  0  no line was refused
+  1  a line was refused, or reading or writing failed, which standard error says
+  2  the command line is wrong
+
+Example, in the folder of the repository:
+  ./ocpi_nodes answer < examples/start_session.jsonl"#;
+
+/// After the help of `play`.
+pub const PLAY: &str =
+    r#"Input, on standard input: lines of JSON; docs/PROTOCOL.md has their forms, under "JSON".
+  The first is the setup: the nodes, each of a party, and with a site where it is an operator.
+  Each other line is an event at one of them.
+  A line has at most 1048576 bytes, and ends with a line feed, or a carriage return and a line feed;
+  the last may lack its end. Empty lines are passed over. At most 1000000000 lines are read.
+
+Output, on standard output:
+  For an event that happens: each packet that the node sends, a line of JSON each.
+  For an event that is of no node, or a delivery of a packet that was not sent to it: `skipped`.
+  For a line that is refused: `refused N Name`, the number and the name of the refusal, and the
+  member where one is at fault. It changes nothing, and the next line follows; a refused or absent
+  setup ends the run.
+  At the end: what each provider owes each operator, as `owed NL/TNM BE/BEC EUR 3.0864`.
+  What was answered is written before the program waits for more input.
+
+Stores: with --store DIR the rows of the i-th node, from 1, are kept in the file DIR/node<i>.db. The
+  folder must exist, and the files must not. The rows that an event changes are there before its
+  packets are written. Until the end of the run DIR/node<i>.db-wal is part of it. docs/STORE.md has
+  the tables, and what to ask them.
+
+Exit status:
+  0  no line was refused
+  1  a line was refused, or reading or writing failed, which standard error says
+  2  the command line is wrong
+  3  a store refused: standard error has `store: N Name`, and then which file, why, and what to do.
+     That ends the run, and nothing of that line is written; where it could not be closed at the
+     end, all is written
+
+Examples, in the folder of the repository:
+  ./ocpi_nodes play < examples/charge.jsonl
+  mkdir stores && ./ocpi_nodes play --store stores < examples/charge.jsonl"#;
+
+/// After the help of `settle`.
+pub const SETTLE: &str =
+    r#"Input: the rows of a file that `ocpi_nodes play --store` made; standard input is not read.
+
+Output, on standard output: what is owed by the charge detail records of the file to each operator
+  in each currency, as `owed BE/BEC EUR 3.0864`, by operator and then by currency.
+
+Exit status:
+  0  all rows were read, and what is owed was written
+  1  writing failed, which standard error says
+  2  the command line is wrong
+  3  the store refused: standard error has `store: N Name`, and then which file, why, and what to do
+
+Example, after `ocpi_nodes play --store stores`:
+  ./ocpi_nodes settle stores/node2.db"#;

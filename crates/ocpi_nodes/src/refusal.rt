@@ -1,0 +1,45 @@
+//! Why a store refused, in words, and what to do about it.
+
+use node_store::{Cause, StoreFault};
+
+/// The words for a refusal. They follow the name of the file or of its folder.
+pub fn words_for(fault: StoreFault) -> &'static str {
+    match fault {
+        StoreFault::Refused(cause) => words_for_cause(cause),
+        StoreFault::BadRow => {
+            "a text in it is no row of its kind and key: another program wrote it; use an older copy"
+        }
+        StoreFault::OldLayout => {
+            "its tables are not those of this version: open it with the program that made it"
+        }
+        StoreFault::Memory => "memory ran out: end other programs first",
+    }
+}
+
+fn words_for_cause(cause: Cause) -> &'static str {
+    match cause {
+        Cause::AlreadyExists => {
+            "it exists already, and a run makes new files: move it away, or name another folder"
+        }
+        Cause::FolderNotFound => "its folder does not exist: make that first",
+        Cause::NotFound => "there is no such file: name one that `ocpi_nodes play --store` made",
+        Cause::NotAFile =>
+            "it is a folder, or no plain file: name the file of a store, as node1.db",
+        Cause::PermissionDenied => {
+            "no permission: the file must be readable and writable, and its folder writable"
+        }
+        Cause::DatabaseBusy => "another program has it open: wait until that has ended",
+        Cause::CannotOpen => {
+            "it cannot be opened: its folder must be writable, the file may have one name alone and no -journal"
+        }
+        Cause::NotADatabase =>
+            "it is no store: no SQLite database, a damaged one, or one of another program; name the file of a store",
+        Cause::StorageFull => "the disk is full: make room on it",
+        Cause::Disk => "the disk failed: the system's log says more",
+        Cause::Size => "a row is larger than a store takes",
+        Cause::NotEmpty =>
+            "it has rows already, which a -wal file held that lay there: move it away, or name another folder",
+        Cause::NoKeeper => "no file is that of the node whose rows changed",
+        Cause::Other => "the database refused it: keep a copy of the file, and report this",
+    }
+}
