@@ -2,7 +2,8 @@
 each must give.
 
 Each line gives one line. Each case of a packet or a site says what it must give, and the tables in `packet_forms` say it once
-more: where the two differ, nothing is written. Those of setups and events are in `event_cases`, those of rows in `row_cases`.
+more: where the two differ, nothing is written. Those of setups and events are in `event_cases`, those of events of one node in
+`node_event_cases`, those of rows in `row_cases`.
 """
 
 import copy
@@ -10,6 +11,7 @@ import pathlib
 import sys
 
 from event_cases import CASES as EVENT_CASES
+from node_event_cases import add_cases as node_event_cases
 from packet_forms import (
     BAD_NUMBER_TOKEN,
     BODIES,
@@ -483,6 +485,7 @@ def cases():
     add_lines()
     add_sites()
     CASES.extend(EVENT_CASES)
+    CASES.extend(node_event_cases(EXAMPLES))
     CASES.extend(ROW_CASES)
     if any("\n" in line or not line for line, _ in CASES):
         sys.exit("a case is not one line")

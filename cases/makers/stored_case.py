@@ -234,8 +234,8 @@ def held_session(name="S1", party="BE/BEC", **more):
     return session(party=party, name=name, **more)
 
 
-def held_bill(name="C1", of="S1", party="BE/BEC"):
-    return bill(party=party, name=name, session_name=of)
+def held_bill(name="C1", of="S1", party="BE/BEC", **more):
+    return bill(party=party, name=name, session_name=of, **more)
 
 
 def own_reference(number, party=PROVIDER):

@@ -165,7 +165,8 @@ def drawn_of_providers():
         command(2, own_reference(2), result="ACCEPTED"), command(4), command(5, own_reference(9)), command(6, "A1"),
         stop_command(3), stop_command(5), stop_command(6, "AT/XXX"), held_session(), held_session("S2"),
         held_session(party="FR/FRC"), held_bill(), held_bill("C2"), held_bill("C3", "S2"), held_bill(party="FR/FRC"), spent(1),
-        reserved(), settled(1, "BE/BEC"),
+        reserved(), settled(1, "BE/BEC"), token_row(party="DE/EMP"), held_session("S3", owner="DE/EMP"),
+        held_bill("C4", "S4", owner="DE/EMP"),
     ]
     drawn(Providers(), [count("serial", 7), count("request", 6), count("reference", 6)], pool)
 

@@ -264,8 +264,13 @@ def parties_of_providers(node):
     for to in (STRANGER, "NL/TNM"):
         beside(node, [*counted, token_push(1, to="fr/FRC")], [*counted, token_push(1, to=to)], "PushToStranger")
         beside(node, [*counted, stop_command(1, "Fr/fRC")], [*counted, stop_command(1, to)], "CommandToStranger")
-    # Of a stranger may be what is kept of requests, what was handed over, and tokens.
-    makes(node, [acknowledged(1, STRANGER), held_session(party=STRANGER), held_bill(party=STRANGER), token_row(party=STRANGER)])
+    # Of a stranger may be what is kept of requests and what was handed over; the tokens are the provider's own, by key.
+    makes(node, [acknowledged(1, STRANGER), held_session(party=STRANGER), held_bill(party=STRANGER)])
+    makes(node, [token_row(party="nl/tnm"), held_session(owner="Nl/TnM"), held_bill(owner="NL/tnm")])
+    for owner in (STRANGER, "BE/BEC", "NL/TNN"):
+        beside(node, [token_row("AA02"), token_row()], [token_row("AA02"), token_row(party=owner)], "OtherToken")
+        beside(node, [held_session("S2"), held_session()], [held_session("S2"), held_session(owner=owner)], "OtherSession")
+        beside(node, [held_bill("C2", "S2"), held_bill()], [held_bill("C2", "S2"), held_bill(owner=owner)], "OtherCdr")
     one = token_push(1)
     for other in (token_push(2, to="be/bec"), token_push(2, "aa01", valid=False)):
         for apart in (token_push(2, to="FR/FRC"), token_push(2, "AA02"), token_push(2, kind="OTHER"), token_push(2, party="NL/TNN")):

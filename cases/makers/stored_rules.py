@@ -226,4 +226,10 @@ def provider_faults(parties, rows):
         faults.add("CommandToStranger")
     if any(one[0] == other[0] and one[1] != other[1] and one[2] == other[2] for one, other in pairs(bills)):
         faults.add("BilledTwice")
+    if any(party_of(tree) != provider for _, tree in of_kind(rows, "token")):
+        faults.add("OtherToken")
+    if any(party_of(tree["cdr_token"]) != provider for _, tree in of_kind(rows, "session")):
+        faults.add("OtherSession")
+    if any(party_of(tree["cdr_token"]) != provider for _, tree in of_kind(rows, "cdr")):
+        faults.add("OtherCdr")
     return faults

@@ -1,3 +1,6 @@
+mod ChainLemmas
+mod EchoLemmas
 mod LineLemmas
+mod NumberedLemmas
 mod ProgressLemmas
 mod RunLemmas

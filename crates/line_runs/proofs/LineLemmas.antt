@@ -33,7 +33,7 @@ All-by_law P Q law [] h = All-nil Q
 All-by_law P Q law (x ∷ xs) h = All-cons Q x xs (law x (All-head P x xs h)) (All-by_law P Q law xs (All-tail P x xs h))
 
 -- a list without its last
-take_last_off : (xs : List ℕ) (x : ℕ) → take (length (xs ++ x ∷ []) - 1) (xs ++ x ∷ []) ≡ xs
+pub take_last_off : (xs : List ℕ) (x : ℕ) → take (length (xs ++ x ∷ []) - 1) (xs ++ x ∷ []) ≡ xs
 take_last_off xs x =
     let at : length (xs ++ x ∷ []) - 1 ≡ length xs = omega (arith, length-append xs (x ∷ [])) in
     ap (λ n. take n (xs ++ x ∷ [])) at ∙ take-append_seam xs (x ∷ [])
@@ -45,7 +45,7 @@ pub drop_through_plain : (text : List ℕ) → All (λ x. x ≢ 10) text → dro
 drop_through_plain text plain = ap (drop_through 10) (sym (append-nil text)) ∙ drop_through-append 10 text [] plain
 
 -- the test on the last byte, where there is one
-by_last : (byte : ℕ) (xs : List ℕ) → 0 < length xs → ends_with_byte byte xs ≡ eqb (get_or xs (length xs - 1) 0) byte
+pub by_last : (byte : ℕ) (xs : List ℕ) → 0 < length xs → ends_with_byte byte xs ≡ eqb (get_or xs (length xs - 1) 0) byte
 by_last byte xs some = ap (λ b. b && eqb (get_or xs (length xs - 1) 0) byte) (lt-ltb 0 (length xs) some)
 
 pub last_is : (byte : ℕ) (front : List ℕ) → ends_with_byte byte (front ++ byte ∷ []) ≡ true
@@ -68,7 +68,7 @@ pub strip_last-other : (byte : ℕ) (xs : List ℕ) → ends_with_byte byte xs �
 strip_last-other byte xs e = ap (λ b. cond b (take (length xs - 1) xs) xs) e
 
 -- std's two words for a text without the carriage return at its end
-strip_return : (xs : List ℕ) → strip_last 13 xs ≡ strip_carriage_return xs
+pub strip_return : (xs : List ℕ) → strip_last 13 xs ≡ strip_carriage_return xs
 strip_return [] = refl
 strip_return (x ∷ xs) = ap (λ b. cond b (take (length (x ∷ xs) - 1) (x ∷ xs)) (x ∷ xs)) (by_last 13 (x ∷ xs) (omega arith))
 

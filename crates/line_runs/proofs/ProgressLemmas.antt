@@ -24,7 +24,7 @@ ends_with_feed a b =
     let long : length ((a ++ b) ++ 10 ∷ []) - 1 ≡ length (a ++ b) = omega (arith, length-append (a ++ b) (10 ∷ [])) in
     subst (λ l. IsEmptyOrEndsWith l 10) (append_assoc a b (10 ∷ [])) (λ _. ap (λ k. get_or ((a ++ b) ++ 10 ∷ []) k 0) long ∙ get_or-append_seam (a ++ b) 10 [] 0)
 
-nil_front : (p q : List ℕ) → [] ≡ p ++ q → p ≡ []
+pub nil_front : (p q : List ℕ) → [] ≡ p ++ q → p ≡ []
 nil_front [] q e = refl
 nil_front (x ∷ p) q e = absurd (omega (arith, ap length e))
 

@@ -46,7 +46,7 @@ front_empty : (most : ℕ) (whole line : List ℕ) → line ≡ take most whole 
 front_empty most whole line is room empty = omega (arith, ap length is, length-take most whole)
 
 -- what is written where a writer tells it
-kept : (old new : Option (List ℕ)) (x : List ℕ) → old ≡ Some x → Keeps old new → new ≡ Some x
+pub kept : (old new : Option (List ℕ)) (x : List ℕ) → old ≡ Some x → Keeps old new → new ≡ Some x
 kept None new x e k = absurd (nothing e)
   where
     nothing : None ≡ Some x → ⊥

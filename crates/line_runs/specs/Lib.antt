@@ -1,3 +1,5 @@
+pub mod Echo
 pub mod Lines
+pub mod Numbered
 pub mod Outcome
 pub mod Run

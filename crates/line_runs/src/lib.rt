@@ -15,12 +15,15 @@
 //! are.
 #![tactic(auto)]
 
+mod echo;
 mod lines;
+mod numbered;
 mod outcome;
 mod run;
 mod writing;
 
 pub use lines::{KEPT_BYTES, LineReader};
+pub use numbered::{AnswerNumbered, run_numbered};
 pub use outcome::{Ran, RunFault, status_of};
 pub use run::{AnswerLines, Turn, run_whole};
 pub use writing::{flush, write_whole};

@@ -27,7 +27,9 @@ ghost use Rattle.std.specs.Prelude.{
 ghost use Rattle.std.specs.Io.BufRead.{DropsThrough, ends_with_byte, strip_last, take_through};
 ghost use Rattle.std.specs.Io.KnownBytes.{Keeps};
 ghost use Rattle.line_runs.specs.Lines.{IsInLine, ReadsLineOf, TakesPart};
+ghost use Rattle.line_runs.specs.Echo.{BeginsLine, CutsLine, CutsPart, EchoesLine, EchoesPart};
 
+use crate::echo::echo_part;
 use crate::outcome::RunFault;
 use crate::writing::flush;
 use memchr::memchr;
@@ -83,8 +85,28 @@ impl<R: BufRead> LineReader<R> {
         ensures failed { result ≡ Err RunFault.ReadFailed → self.new.failed ≡ true }
         ensures writer { Keeps (W.contents writer.old) (W.contents writer.new) }
     {
+        self.next_echoed(line, false, writer)
+    }
+
+    /// The same, and where `echo` says so the line is written as it is read: all of its bytes, also those that are not
+    /// kept, but not what ends it.
+    ///
+    /// A carriage return is written once the byte behind it is known. After a refusal a part of the line is written.
+    pub fn next_echoed<W: Write>(
+        &mut self,
+        line: &mut Vec<u8>,
+        echo: bool,
+        writer: &mut W,
+    ) -> Result<bool, RunFault>
+        ensures ok { IfOk result (λ some. ReadsLineOf KEPT_BYTES (R.Read.remaining self.old.reader) some line.new.items (R.Read.remaining self.new.reader)) }
+        ensures echoed { OnOk result (EchoesLine echo (R.Read.remaining self.old.reader) (W.contents writer.old) (W.contents writer.new)) }
+        ensures err { IfErr result (λ fault. (fault ≢ RunFault.TooManyReads) × CutsLine echo fault (R.Read.remaining self.old.reader) (R.Read.remaining self.new.reader)
+            (W.contents writer.old) (W.contents writer.new)) }
+        ensures begun { OnErr result (BeginsLine echo (R.Read.remaining self.old.reader) (W.contents writer.old) (W.contents writer.new)) }
+        ensures failed { result ≡ Err RunFault.ReadFailed → self.new.failed ≡ true }
+    {
         line.clear();
-        match self.read_piece(line, writer) {
+        match self.read_piece(line, echo, writer) {
             Ok(()) => {}
             Err(fault) => return Err(fault),
         }
@@ -120,17 +142,26 @@ impl<R: BufRead> LineReader<R> {
         }
     }
 
-    /// Reads on through the next line feed, or to the end of the input. Only the first `ROOM` bytes are kept.
-    fn read_piece<W: Write>(&mut self, line: &mut Vec<u8>, writer: &mut W) -> Result<(), RunFault>
+    /// Reads on through the next line feed, or to the end of the input, and echoes what it reads. Only the first `ROOM`
+    /// bytes are kept.
+    fn read_piece<W: Write>(
+        &mut self,
+        line: &mut Vec<u8>,
+        echo: bool,
+        writer: &mut W,
+    ) -> Result<(), RunFault>
         requires { line.old.items ≡ [] }
         ensures kept { OnOk result (IfSome (R.Read.remaining self.old.reader) (λ text. line.new.items ≡ take ROOM (take_through 10 text))) }
         ensures rest { OnOk result (DropsThrough (R.Read.remaining self.old.reader) (R.Read.remaining self.new.reader) 10) }
-        ensures err { IfErr result (λ fault. (fault ≢ RunFault.TooManyReads) × IsInLine (R.Read.remaining self.old.reader) (R.Read.remaining self.new.reader)) }
+        ensures echoed { OnOk result (EchoesLine echo (R.Read.remaining self.old.reader) (W.contents writer.old) (W.contents writer.new)) }
+        ensures err { IfErr result (λ fault. (fault ≢ RunFault.TooManyReads) × CutsLine echo fault (R.Read.remaining self.old.reader) (R.Read.remaining self.new.reader)
+            (W.contents writer.old) (W.contents writer.new)) }
+        ensures begun { OnErr result (BeginsLine echo (R.Read.remaining self.old.reader) (W.contents writer.old) (W.contents writer.new)) }
         ensures failed { result ≡ Err RunFault.ReadFailed → self.new.failed ≡ true }
-        ensures writer { Keeps (W.contents writer.old) (W.contents writer.new) }
     {
+        let mut held = false;
         for _turn in 0..u64::MAX {
-            match self.next_part(line, writer) {
+            match self.next_part(line, echo, &mut held, writer) {
                 Ok(true) => return Ok(()),
                 Ok(false) => {}
                 Err(fault) => return Err(fault),
@@ -141,26 +172,34 @@ impl<R: BufRead> LineReader<R> {
     }
 
     /// Takes what is at hand of a line, or what the next read shows, and answers whether the line is done.
-    fn next_part<W: Write>(&mut self, line: &mut Vec<u8>, writer: &mut W) -> Result<bool, RunFault>
+    fn next_part<W: Write>(
+        &mut self,
+        line: &mut Vec<u8>,
+        echo: bool,
+        held: &mut bool,
+        writer: &mut W,
+    ) -> Result<bool, RunFault>
         requires { length line.old.items ≤ ROOM }
         ensures ok { IfOk result (λ done. (bytes : List ℕ) × TakesPart (R.Read.remaining self.old.reader) done bytes (R.Read.remaining self.new.reader)
-            × (line.new.items ≡ line.old.items ++ take (ROOM - length line.old.items) bytes)) }
-        ensures err { IfErr result (λ fault. (fault ≢ RunFault.TooManyReads) × Keeps (R.Read.remaining self.old.reader) (R.Read.remaining self.new.reader)) }
+            × (line.new.items ≡ line.old.items ++ take (ROOM - length line.old.items) bytes)
+            × EchoesPart echo done held.old bytes held.new (W.contents writer.old) (W.contents writer.new)) }
+        ensures err { IfErr result (λ fault. (fault ≢ RunFault.TooManyReads) × Keeps (R.Read.remaining self.old.reader) (R.Read.remaining self.new.reader)
+            × CutsPart echo fault held.old (R.Read.remaining self.old.reader) (W.contents writer.old) (W.contents writer.new)) }
         ensures failed { result ≡ Err RunFault.ReadFailed → self.new.failed ≡ true }
-        ensures writer { Keeps (W.contents writer.old) (W.contents writer.new) }
     {
         match self.flush_if_drained(writer) {
             Ok(()) => {}
             Err(fault) => return Err(fault),
         }
-        match take_part(&mut self.reader, line) {
+        match take_part(&mut self.reader, line, echo, held, writer) {
             Ok(part) => {
                 self.drained = part.drained;
                 Ok(part.done)
             }
-            Err(_) => {
+            Err(RunFault::WriteFailed) => Err(RunFault::WriteFailed),
+            Err(fault) => {
                 self.failed = true;
-                Err(RunFault::ReadFailed)
+                Err(fault)
             }
         }
     }
@@ -186,12 +225,20 @@ struct Part {
     drained: bool,
 }
 
-/// Takes what the reader has at hand of a line.
-fn take_part<R: BufRead>(reader: &mut R, line: &mut Vec<u8>) -> io::Result<Part>
+/// Takes what the reader has at hand of a line, and echoes it. A refusal takes nothing.
+fn take_part<R: BufRead, W: Write>(
+    reader: &mut R,
+    line: &mut Vec<u8>,
+    echo: bool,
+    held: &mut bool,
+    writer: &mut W,
+) -> Result<Part, RunFault>
     requires { length line.old.items ≤ ROOM }
     ensures ok { IfOk result (λ part. (bytes : List ℕ) × TakesPart (R.Read.remaining reader.old) part.done bytes (R.Read.remaining reader.new)
-        × (line.new.items ≡ line.old.items ++ take (ROOM - length line.old.items) bytes)) }
-    ensures err { OnErr result (Keeps (R.Read.remaining reader.old) (R.Read.remaining reader.new)) }
+        × (line.new.items ≡ line.old.items ++ take (ROOM - length line.old.items) bytes)
+        × EchoesPart echo part.done held.old bytes held.new (W.contents writer.old) (W.contents writer.new)) }
+    ensures err { IfErr result (λ fault. (fault ≢ RunFault.TooManyReads) × Keeps (R.Read.remaining reader.old) (R.Read.remaining reader.new)
+        × CutsPart echo fault held.old (R.Read.remaining reader.old) (W.contents writer.old) (W.contents writer.new)) }
 {
     let shown = match reader.fill_buf() {
         Ok(shown) => shown,
@@ -202,14 +249,21 @@ fn take_part<R: BufRead>(reader: &mut R, line: &mut Vec<u8>) -> io::Result<Part>
                     drained: true,
                 })
             } else {
-                Err(error)
+                Err(RunFault::ReadFailed)
             };
         }
     };
     let end = len_through(shown);
     let kept = end.min(ROOM - line.len());
-    line.extend_from_slice(&shown[..kept])?;
+    match line.extend_from_slice(&shown[..kept]) {
+        Ok(()) => {}
+        Err(_) => return Err(RunFault::ReadFailed),
+    }
     let done = end == 0 || shown[end - 1] == b'\n';
+    match echo_part(echo, done, &shown[..end], held, writer) {
+        Ok(()) => {}
+        Err(fault) => return Err(fault),
+    }
     let drained = end == shown.len();
     reader.consume(end);
     Ok(Part { done, drained })

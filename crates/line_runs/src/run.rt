@@ -42,7 +42,7 @@ pub enum Turn {
 }
 
 /// The most lines that a run reads.
-const MOST_READS: u32 = 1_000_000_000;
+pub const MOST_READS: u32 = 1_000_000_000;
 
 /// What answers the lines of an input one after another.
 pub trait AnswerLines {
@@ -66,7 +66,8 @@ pub trait AnswerLines {
             × end_gives self.now ran out) };
 
     /// A line is answered as its first bytes are.
-    ghost cut_alike: { (s t : Self) (line : List ℕ) (turn : TurnOf) (out : List ℕ) → line_gives s (take KEPT_BYTES line) turn out t → line_gives s line turn out t };
+    ghost cut_alike: { (s t : Self) (line : List ℕ) (turn : TurnOf) (out : List ℕ)
+        → line_gives s (take KEPT_BYTES line) turn out t → line_gives s line turn out t };
 }
 
 /// Answers each line of the input that holds something, writes what it gives, and flushes the writer at the end.
@@ -84,9 +85,10 @@ pub fn run_whole<M: AnswerLines, R: BufRead, W: Write>(
 ) -> Result<Ran, RunFault>
     ensures output { IfOk result (λ ran. Outputs M.line_gives M.end_gives machine.old (R.Read.remaining input.old.reader) ran
         (W.contents writer.old) (W.contents writer.new) machine.new) }
-    ensures begun { IfErr result (λ fault. Begins M.line_gives M.end_gives machine.old (R.Read.remaining input.old.reader) (W.contents writer.old) (W.contents writer.new) machine.new) }
-    ensures stopped { IfErr result (λ fault. fault ≢ RunFault.WriteFailed → StopsReading M.line_gives machine.old fault (R.Read.remaining input.old.reader) (R.Read.remaining input.new.reader)
+    ensures begun { IfErr result (λ fault. Begins M.line_gives M.end_gives machine.old (R.Read.remaining input.old.reader)
         (W.contents writer.old) (W.contents writer.new) machine.new) }
+    ensures stopped { IfErr result (λ fault. fault ≢ RunFault.WriteFailed → StopsReading M.line_gives machine.old fault
+        (R.Read.remaining input.old.reader) (R.Read.remaining input.new.reader) (W.contents writer.old) (W.contents writer.new) machine.new) }
     ensures failed { result ≡ Err RunFault.ReadFailed → input.new.failed ≡ true }
     ensures reads { ReadsFewLines (R.Read.remaining input.old.reader) (R.Read.remaining input.new.reader) }
 {
@@ -109,9 +111,10 @@ fn run_lines<M: AnswerLines, R: BufRead, W: Write>(
 ) -> Result<Ran, RunFault>
     ensures output { IfOk result (λ ran. Outputs M.line_gives M.end_gives machine.old (R.Read.remaining input.old.reader) ran
         (W.contents writer.old) (W.contents writer.new) machine.new) }
-    ensures begun { IfErr result (λ fault. Begins M.line_gives M.end_gives machine.old (R.Read.remaining input.old.reader) (W.contents writer.old) (W.contents writer.new) machine.new) }
-    ensures stopped { IfErr result (λ fault. fault ≢ RunFault.WriteFailed → StopsReading M.line_gives machine.old fault (R.Read.remaining input.old.reader) (R.Read.remaining input.new.reader)
+    ensures begun { IfErr result (λ fault. Begins M.line_gives M.end_gives machine.old (R.Read.remaining input.old.reader)
         (W.contents writer.old) (W.contents writer.new) machine.new) }
+    ensures stopped { IfErr result (λ fault. fault ≢ RunFault.WriteFailed → StopsReading M.line_gives machine.old fault
+        (R.Read.remaining input.old.reader) (R.Read.remaining input.new.reader) (W.contents writer.old) (W.contents writer.new) machine.new) }
     ensures failed { result ≡ Err RunFault.ReadFailed → input.new.failed ≡ true }
     ensures reads { ReadsFewLines (R.Read.remaining input.old.reader) (R.Read.remaining input.new.reader) }
 {
@@ -171,8 +174,8 @@ fn write_end<M: AnswerLines, W: Write>(
     output: &mut String,
     writer: &mut W,
 ) -> Result<Ran, RunFault>
-    ensures ok { IfOk result (λ all. (last : RanOf) × (out : List ℕ) × (all ≡ both_ran ran last) × Appends (W.contents writer.old) (W.contents writer.new) out
-        × M.end_gives machine.now last out) }
+    ensures ok { IfOk result (λ all. (last : RanOf) × (out : List ℕ) × (all ≡ both_ran ran last)
+        × Appends (W.contents writer.old) (W.contents writer.new) out × M.end_gives machine.now last out) }
     ensures err { IfErr result (λ fault. (fault ≡ RunFault.WriteFailed)
         × gives_beginning (λ out. (last : RanOf) × M.end_gives machine.now last out) (W.contents writer.old) (W.contents writer.new)) }
 {

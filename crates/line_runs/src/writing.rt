@@ -9,7 +9,8 @@ use std::io::{ErrorKind, Write};
 /// beginning of them is written.
 pub fn write_whole<W: Write>(writer: &mut W, bytes: &[u8]) -> Result<(), RunFault>
     ensures ok { OnOk result (Appends (W.contents writer.old) (W.contents writer.new) bytes.now) }
-    ensures err { IfErr result (λ fault. (fault ≡ RunFault.WriteFailed) × (n : ℕ) × Appends (W.contents writer.old) (W.contents writer.new) (take n bytes.now)) }
+    ensures err { IfErr result (λ fault. (fault ≡ RunFault.WriteFailed)
+        × (n : ℕ) × Appends (W.contents writer.old) (W.contents writer.new) (take n bytes.now)) }
 {
     let mut at = 0;
     for _turn in 0..u64::MAX {
@@ -37,5 +38,18 @@ pub fn flush<W: Write>(writer: &mut W) -> Result<(), RunFault>
     match writer.flush() {
         Ok(()) => Ok(()),
         Err(_) => Err(RunFault::WriteFailed),
+    }
+}
+
+/// Writes all of these bytes, and has the writer pass them on. After a refusal, which is `WriteFailed`, a beginning of
+/// them is written.
+pub fn write_flushed<W: Write>(writer: &mut W, bytes: &[u8]) -> Result<(), RunFault>
+    ensures ok { OnOk result (Appends (W.contents writer.old) (W.contents writer.new) bytes.now) }
+    ensures err { IfErr result (λ fault. (fault ≡ RunFault.WriteFailed)
+        × (n : ℕ) × Appends (W.contents writer.old) (W.contents writer.new) (take n bytes.now)) }
+{
+    match write_whole(writer, bytes) {
+        Ok(()) => flush(writer),
+        Err(fault) => Err(fault),
     }
 }

@@ -1,11 +1,15 @@
 //! Keepers in files: those of new nodes, and the rows of one that stands.
 
-ghost use Rattle.std.specs.Prelude.{◌≡◌, IfErr, IfSome, None, string_bytes, ⊤};
+ghost use Rattle.std.specs.Prelude.{◌≡◌, [], IfErr, IfOk, IfSome, None, string_bytes, ⊤};
 ghost use Rattle.node_store.specs.Faults.{IsCommitFault};
+ghost use Rattle.node_store.specs.Contents.{Content};
+ghost use Rattle.row_table.specs.Kept.{IsClean, MayLeave, texts};
+ghost use Rattle.sqlite.specs.Files.{over_files};
 
 use crate::keeps::Keeps;
 use node_store::{Cause, Keep, StoreFault, TableKeep};
 use ocpi_types::Row;
+use row_table::Past;
 use sqlite::{File, FileStore};
 use std::alloc::AllocError;
 use std::fs::{self, OpenOptions};
@@ -18,6 +22,7 @@ pub struct FileKeeps<'a> {
     folder: &'a str,
     path: Option<String>,
     unclosed: Option<String>,
+    opened: Past<usize>,
 }
 
 impl<'a> FileKeeps<'a> {
@@ -26,12 +31,14 @@ impl<'a> FileKeeps<'a> {
         ensures folder { result.folder ≡ folder.entry }
         ensures path { result.path ≡ None }
         ensures unclosed { result.unclosed ≡ None }
+        ensures opened { result.opened.items ≡ [] }
     {
         FileKeeps {
             rt,
             folder,
             path: None,
             unclosed: None,
+            opened: Past::new(),
         }
     }
 
@@ -68,8 +75,11 @@ impl Keeps for FileKeeps<'_> {
 
     ghost may_refuse = { λ place fault. ⊤ };
 
+    ghost opened = { λ keeps. keeps.opened.items };
+
     /// The folder must exist, and nothing may have the file's name. The path is noted first.
     fn open(&mut self, place: usize) -> Result<TableKeep<FileStore<File>>, StoreFault> {
+        self.opened = self.opened.note(&place);
         let path = self.path_of(place)?;
         self.path = Some(path);
         find_folder(self.rt, self.folder)?;
@@ -85,6 +95,55 @@ impl Keeps for FileKeeps<'_> {
             self.unclosed = path.ok();
         }
         closed
+    }
+}
+
+/// The keeper of one node in a file that may exist.
+#[derive(Drop)]
+pub struct StoreFile<'a> {
+    rt: &'a HostRuntime,
+    path: &'a str,
+    opened: Past<usize>,
+}
+
+impl<'a> StoreFile<'a> {
+    /// A keeper of the rows in the file at that path, which is made where it is missing, once the keeper is opened.
+    pub fn new(rt: &'a HostRuntime, path: &'a str) -> StoreFile<'a>
+        ensures path { result.path ≡ path.entry }
+        ensures opened { result.opened.items ≡ [] }
+    {
+        StoreFile {
+            rt,
+            path,
+            opened: Past::new(),
+        }
+    }
+
+    /// The path of the file.
+    pub fn path(&self) -> &str
+        ensures { result.now ≡ self.now.path.now }
+    {
+        self.path
+    }
+}
+
+impl Keeps for StoreFile<'_> {
+    type Kept = TableKeep<FileStore<File>>;
+
+    ghost may_refuse = { λ place fault. ⊤ };
+
+    ghost opened = { λ keeps. keeps.opened.items };
+
+    /// The folder of the file must exist. Whichever the place is, it is the same file.
+    fn open(&mut self, place: usize) -> Result<TableKeep<FileStore<File>>, StoreFault> {
+        self.opened = self.opened.note(&place);
+        find_or_make_file(self.rt, self.path)?;
+        open_file(self.rt, self.path)
+    }
+
+    /// The file holds all rows then, and no other stands beside it.
+    fn close(&mut self, _place: usize, keep: TableKeep<FileStore<File>>) -> Result<(), StoreFault> {
+        keep.end(self.rt, self.path)
     }
 }
 
@@ -159,12 +218,15 @@ fn remove_empty_log(rt: &HostRuntime, path: &str) {
 
 /// A keeper of the file at a path, as it was opened. Where that was refused, an empty log beside the file goes which
 /// had not been there.
-fn without_log<K: Drop>(
+fn without_log<K: Keep + Drop>(
     rt: &HostRuntime,
     path: &str,
     had_log: bool,
     opened: Result<K, StoreFault>,
-) -> Result<K, StoreFault> {
+) -> Result<K, StoreFault>
+    ensures settled { IfOk opened (λ k. K.is_honest k → (c : Content) → K.may_leave k c → c ≡ K.content k)
+        → IfOk result (λ k. K.is_honest k → (c : Content) → K.may_leave k c → c ≡ K.content k) }
+{
     if opened.is_err() && !had_log {
         remove_empty_log(rt, path);
     }
@@ -172,7 +234,9 @@ fn without_log<K: Drop>(
 }
 
 /// Opens the file at a path, which stands. A refusal leaves no file beside it that was not there before.
-fn open_file(rt: &HostRuntime, path: &str) -> Result<TableKeep<FileStore<File>>, StoreFault> {
+fn open_file(rt: &HostRuntime, path: &str) -> Result<TableKeep<FileStore<File>>, StoreFault>
+    ensures { IfOk result (λ k. IsClean over_files k.0 → (c : Content) → MayLeave over_files k.0 c → c ≡ texts over_files k.0) }
+{
     let had_log = has_log(rt, path);
     without_log(rt, path, had_log, TableKeep::open_file(rt, path))
 }
@@ -194,6 +258,24 @@ fn find_folder(rt: &HostRuntime, path: &str) -> Result<(), StoreFault> {
 /// Makes an empty file, where nothing has its name.
 fn make_file(rt: &HostRuntime, path: &str) -> Result<(), StoreFault> {
     match fs::File::create_new(rt, path) {
+        Ok(_) => Ok(()),
+        Err(error) => Err(fault_from(error.kind(), Cause::FolderNotFound)),
+    }
+}
+
+/// Makes an empty file where nothing has its name. Refuses one that may not be read and written, and what is no file.
+fn find_or_make_file(rt: &HostRuntime, path: &str) -> Result<(), StoreFault> {
+    if let Ok(found) = fs::metadata(rt, path) {
+        if !found.is_file() {
+            return Err(StoreFault::Refused(Cause::NotAFile));
+        }
+    }
+    match OpenOptions::new()
+        .read(true)
+        .write(true)
+        .create(true)
+        .open(rt, path)
+    {
         Ok(_) => Ok(()),
         Err(error) => Err(fault_from(error.kind(), Cause::FolderNotFound)),
     }

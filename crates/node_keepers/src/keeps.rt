@@ -1,10 +1,12 @@
 //! Where the keepers of a world's nodes come from, and what ends them.
 
-ghost use Rattle.std.specs.Prelude.{ℕ, IfErr, ⊤};
+ghost use Rattle.std.specs.Prelude.{◌≡◌, ◌++◌, ◌∷◌, [], ℕ, IfErr, IfOk, List, ⊤};
 ghost use Rattle.node_store.specs.Faults.{IsCommitFault};
+ghost use Rattle.node_keepers.specs.Opening.{IsSettled};
 ghost use Rattle.node_store.specs.declared.fault.StoreFault.{StoreFault as StoreFaultOf};
 
 use node_store::{Keep, ListKeep, StoreFault};
+use row_table::Past;
 use std::alloc::Global;
 
 /// What opens a keeper for each node of a world, and closes it.
@@ -15,13 +17,20 @@ pub trait Keeps {
     /// `may_refuse place fault`: no keeper of the node at that place may be had for this fault.
     ghost may_refuse: { ℕ → StoreFaultOf → Type 0 };
 
-    /// Opens the keeper of the node at that place of the setup, the first of which is 1.
+    /// The places whose keepers were to be opened, in turn, those too that were refused.
+    ghost opened: { Self → List ℕ };
+
+    /// Opens the keeper of the node at that place of the setup, the first of which is 1. A stop leaves just what it
+    /// keeps then.
     fn open(&mut self, place: usize) -> Result<Self::Kept, StoreFault>
-        ensures { IfErr result (λ fault. may_refuse place fault) };
+        ensures settled { IfOk result (IsSettled Self.Kept.content Self.Kept.is_honest Self.Kept.may_leave) }
+        ensures fault { IfErr result (λ fault. may_refuse place fault) }
+        ensures opened { opened self.new ≡ opened self.old ++ place ∷ [] };
 
     /// Ends the keeper of the node at that place, which was opened here.
     fn close(&mut self, place: usize, keep: Self::Kept) -> Result<(), StoreFault>
-        ensures { IfErr result IsCommitFault };
+        ensures fault { IfErr result IsCommitFault }
+        ensures opened { opened self.new ≡ opened self.old };
 }
 
 /// What is lent opens and closes the keepers that its owner would, and the owner has it again afterwards.
@@ -29,6 +38,8 @@ impl<S: Keeps> Keeps for &mut S {
     type Kept = S::Kept;
 
     ghost may_refuse = { S.may_refuse };
+
+    ghost opened = { λ keeps. S.opened keeps.now };
 
     fn open(&mut self, place: usize) -> Result<S::Kept, StoreFault> {
         Keeps::open(&mut **self, place)
@@ -43,12 +54,18 @@ impl<S: Keeps> Keeps for &mut S {
 #[derive(Drop)]
 pub struct ListKeeps {
     alloc: Global,
+    opened: Past<usize>,
 }
 
 impl ListKeeps {
     /// Keepers that take their memory from there.
-    pub fn new(alloc: Global) -> ListKeeps {
-        ListKeeps { alloc }
+    pub fn new(alloc: Global) -> ListKeeps
+        ensures { result.opened.items ≡ [] }
+    {
+        ListKeeps {
+            alloc,
+            opened: Past::new(),
+        }
     }
 }
 
@@ -57,7 +74,10 @@ impl Keeps for ListKeeps {
 
     ghost may_refuse = { λ place fault. ⊥ };
 
-    fn open(&mut self, _place: usize) -> Result<ListKeep, StoreFault> {
+    ghost opened = { λ keeps. keeps.opened.items };
+
+    fn open(&mut self, place: usize) -> Result<ListKeep, StoreFault> {
+        self.opened = self.opened.note(&place);
         Ok(ListKeep::new(self.alloc))
     }
 

@@ -12,6 +12,6 @@ mod files;
 mod keeping;
 mod keeps;
 
-pub use files::{FileKeeps, Found, rows_in};
+pub use files::{FileKeeps, Found, StoreFile, rows_in};
 pub use keeping::{KeptNode, close_all, commit, open_all};
 pub use keeps::{Keeps, ListKeeps};

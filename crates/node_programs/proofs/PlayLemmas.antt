@@ -40,13 +40,3 @@ err_one P r f is h = let p = err_from_is_err_and r is in rw (p.1, p.2) h
 pub unopened_in : {K : Type 0} (keeping : Keeping K) (may_refuse : ℕ → StoreFault → Type 0) (setup shown : List Node) (fault : StoreFault) →
     shown ≡ setup → AreUnopened keeping may_refuse shown fault → AreUnopened keeping may_refuse setup fault
 unopened_in keeping may_refuse setup shown fault is = subst (λ (nodes : List Node). AreUnopened keeping may_refuse nodes fault) is
-
--- what is known in any case is known of each fault
-pub of_each : {X E P : Type 0} (r : Result X E) → P → IfErr r (λ e. P)
-of_each (Ok x) p = tt
-of_each (Err e) p = p
-
--- what is known of a fault, and what follows from it
-pub if_err_then : {X E : Type 0} (P Q : E → Type 0) (r : Result X E) → ((e : E) → P e → Q e) → IfErr r P → IfErr r Q
-if_err_then P Q (Ok x) law h = tt
-if_err_then P Q (Err e) law h = law e h

@@ -1,6 +1,6 @@
 -- What the program `answer` writes for what it reads: the site line, and then packets at that line's moment.
 use Rattle.std.specs.Prelude.{◌≡◌, ℕ, List, [], Option, None, Some, Ok}
-use Rattle.node_programs.specs.Writing.{packet_lines, refusal_line}
+use Rattle.program_lines.specs.Writing.{packet_lines, refusal_line}
 use Rattle.ocpi_types.specs.declared.packet.Packet.{Packet}
 use Rattle.ocpi_types.specs.declared.site.SiteLine.{SiteLine}
 use Rattle.json_text.specs.declared.fault.JsonFault.{JsonFault}

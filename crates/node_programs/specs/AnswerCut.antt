@@ -8,7 +8,7 @@ use Rattle.ocpi_forms.specs.Sites.{site_of_line}
 use Rattle.line_runs.specs.declared.run.Turn.{Turn}
 use Rattle.line_runs.specs.declared.lines.TheConstants.{KEPT_BYTES}
 use Rattle.node_programs.specs.Answer.{Answering, LineGives, Opened, NoSite, Answered, Unanswered, Unread}
-use Rattle.node_programs.specs.Cut.{tree-cut}
+use Rattle.program_lines.specs.Cut.{tree-cut}
 
 packet-cut : (line : List ℕ) → packet_in (take KEPT_BYTES line) ≡ packet_in line
 unfolding packet_in

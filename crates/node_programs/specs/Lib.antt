@@ -1,6 +1,4 @@
-pub mod Writing
 pub mod Stops
-pub mod Cut
 pub mod Answer
 pub mod AnswerCut
 pub mod Play

@@ -26,7 +26,7 @@ use Rattle.line_runs.specs.declared.run.Turn.{Turn}
 use Rattle.line_runs.specs.declared.run.Turn.TheVariants.{Taken, Refused, Ended}
 use Rattle.node_store.specs.declared.fault.StoreFault.{StoreFault}
 use Rattle.node_keepers.specs.Keeping.{AreOpened, AreUnopened, KeeperRefuses, KeeperTakes, Keeping}
-use Rattle.node_programs.specs.Writing.{packet_lines, refusal_line}
+use Rattle.program_lines.specs.Writing.{packet_lines, refusal_line}
 use Rattle.node_keepers.specs.declared.keeping.KeptNode.{KeptNode}
 
 -- a world, the setup that it was opened from, and the keepers of its nodes, which are of type K

@@ -7,7 +7,7 @@ use Rattle.ocpi_json.specs.SetupForms.{setup_in, setup_of_line}
 use Rattle.line_runs.specs.declared.run.Turn.{Turn}
 use Rattle.line_runs.specs.declared.lines.TheConstants.{KEPT_BYTES}
 use Rattle.node_store.specs.declared.fault.StoreFault.{StoreFault}
-use Rattle.node_programs.specs.Cut.{tree-cut}
+use Rattle.program_lines.specs.Cut.{tree-cut}
 use Rattle.node_keepers.specs.Keeping.{Keeping}
 use Rattle.node_programs.specs.Play.{Playing, Stage, PlayLineGives, PlayTurn, Opened, Unkept, NoSetup, Happened, Lost, Starved, Unread}
 

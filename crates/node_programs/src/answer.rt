@@ -10,13 +10,13 @@ ghost use Rattle.node_programs.specs.Answer.{Answering, EndGives, LineGives, Pac
 ghost use Rattle.line_runs.specs.Run.{Begins, Outputs, ReadsFewLines, StopsReading};
 ghost use Rattle.line_runs.specs.declared.run.Turn.{Turn as TurnOf};
 
-use crate::writing::{refuse, write_packets};
 use line_runs::{AnswerLines, LineReader, Ran, RunFault, Turn, run_whole};
 use node_steps::{NodeFault, Stepped};
 use ocpi_json::{JsonFault, Scratch, read_packet, read_site};
 use ocpi_text::Moment;
 use ocpi_types::Packet;
 use operator_core::Operator;
+use program_lines::{refuse, write_packets};
 use std::alloc::{AllocError, Global};
 use std::io::{BufRead, Write};
 use std::marker::Model;

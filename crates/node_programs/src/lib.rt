@@ -13,7 +13,6 @@ mod answer;
 mod fault;
 mod play;
 mod settle;
-mod writing;
 
 pub use answer::run_answer;
 pub use fault::{PlayFault, STORE_REFUSED, status_after_play};

@@ -32,7 +32,6 @@ ghost use Rattle.line_runs.specs.declared.run.Turn.{Turn as TurnOf};
 ghost use Rattle.node_programs.specs.Stops.{IfRun, IfStore};
 
 use crate::fault::PlayFault;
-use crate::writing::{refuse, write_packets};
 use line_runs::{AnswerLines, LineReader, Ran, RunFault, Turn, run_whole};
 use node_keepers::{Keeps, KeptNode, commit, open_all};
 use node_steps::NodeFault;
@@ -40,6 +39,7 @@ use node_store::{Keep, StoreFault};
 use ocpi_json::{JsonFault, Scratch, read_event, read_setup};
 use ocpi_text::{FreeText, Party, ShortText, write_sum};
 use ocpi_types::{Event, Node, Packet, Setup};
+use program_lines::{refuse, write_packets};
 use std::alloc::{AllocError, Global};
 use std::io::{BufRead, Write};
 use std::marker::Model;

@@ -16,7 +16,8 @@ use Rattle.ocpi_json.specs.declared.events.EventWord.{EventWord}
 use Rattle.ocpi_json.specs.declared.events.EventWord.TheVariants as event
 use Rattle.ocpi_json.specs.declared.events.OrderWord.{OrderWord}
 use Rattle.ocpi_json.specs.declared.events.OrderWord.TheVariants as command
-use Rattle.ocpi_json.specs.EventForms.{event_of_word, order_of_word, word_of_report, word_of_order, word_of_kind, start_order_at, reserve_order_at, unlock_order_at, order_at, submit_at, token_event_at, service_at, swipe_at, meter_at, command_number_at, report_at, charger_at, deliver_at, kind_at, event_at, event_of_line, event_in, HasCommandNumber, IsOrder, IsReport, IsKind, IsEvent, IsEventLine, SpellsEvent}
+use Rattle.ocpi_json.specs.declared.events.Report.{Report}
+use Rattle.ocpi_json.specs.EventForms.{event_of_word, order_of_word, word_of_report, word_of_order, word_of_kind, start_order_at, reserve_order_at, unlock_order_at, order_at, submit_at, token_event_at, service_at, swipe_at, meter_at, command_number_at, report_at, charger_at, deliver_at, kind_at, event_at, event_of_line, event_in, HasCommandNumber, IsOrder, IsReport, IsSubmission, IsTokenStored, IsServiceSet, IsReported, IsKind, IsEvent, IsEventLine, SpellsEvent}
 use Rattle.json_text.specs.Fault.{Read, ◌>>=◌}
 use Rattle.json_text.specs.Fields.{ci_in, known_in, moment_in, party_in, quantity_in, record_in, truth_in, whole_in, word_in, optional}
 use Rattle.json_text.specs.Form.{Required, IsRecord, IsWord}
@@ -213,58 +214,78 @@ OfKind w d k = IsKind d k × (word_of_kind k ≡ w)
 token_in : Exact (λ d. record_in field.Token d >>= token_at) (Required (IsRecord IsToken) field.Token)
 token_in = inner_exact field.Token token_at IsToken token_exact
 
-submit_sound : (d : Data) (k : EventKind) → submit_at d ≡ Ok k → OfKind event.Submit d k
+pub submit_exact : Exact submit_at (λ d s. IsSubmission d s.at s.operator s.order)
 unfolding submit_at
-submit_sound d k e =
-    let a = bind_ok (moment_in field.At d) _ k e in
-    let b = bind_ok (party_in field.Operator d) _ k a.2 in
-    let g = bind_ok (known_in order_of_word field.Order d) _ k b.2 in
-    let h = bind_ok (order_at g.0 d) _ k g.2 in
-    let o = order_sound g.0 d h.0 h.1 in
-    subst (OfKind event.Submit d) (ok_is (kind.Submit a.0 b.0 h.0) k h.2) (
-      (
+submit_exact = record {
+  sound = λ d s e.
+      let a = bind_ok (moment_in field.At d) _ s e in
+      let b = bind_ok (party_in field.Operator d) _ s a.2 in
+      let g = bind_ok (known_in order_of_word field.Order d) _ s b.2 in
+      let h = bind_ok (order_at g.0 d) _ s g.2 in
+      let o = order_sound g.0 d h.0 h.1 in
+      subst (λ m. IsSubmission d m.at m.operator m.order) (ok_is _ s h.2) (
         (moment_exact field.At).sound d a.0 a.1,
         (party_exact field.Operator).sound d b.0 b.1,
         subst (Required (IsWord order_of_word) field.Order d) (sym o.1) ((known_exact order_of_word field.Order).sound d g.0 g.1),
         o.0,
-      ),
-      refl,
-    )
+      );
+  complete = λ d s p. rw (
+    (moment_exact field.At).complete d s.at p.0,
+    (party_exact field.Operator).complete d s.operator p.1,
+    (known_exact order_of_word field.Order).complete d (word_of_order s.order) p.2,
+    order_complete d s.order p.3,
+  ) refl;
+}
 
-token_sound : (d : Data) (k : EventKind) → token_event_at d ≡ Ok k → OfKind event.Token d k
+pub token_event_exact : Exact token_event_at (λ d t. IsTokenStored d t.at t.token)
 unfolding token_event_at
-token_sound d k e =
-    let a = bind_ok (moment_in field.At d) _ k e in
-    let b = bind_ok (record_in field.Token d) _ k a.2 in
-    let g = bind_ok (token_at b.0) _ k b.2 in
-    subst (OfKind event.Token d) (ok_is (kind.Token a.0 g.0) k g.2) (
-      (
+token_event_exact = record {
+  sound = λ d t e.
+      let a = bind_ok (moment_in field.At d) _ t e in
+      let b = bind_ok (record_in field.Token d) _ t a.2 in
+      let g = bind_ok (token_at b.0) _ t b.2 in
+      subst (λ m. IsTokenStored d m.at m.token) (ok_is _ t g.2) (
         (moment_exact field.At).sound d a.0 a.1,
         token_in.sound d g.0 (both_steps (record_in field.Token d) token_at b.0 g.0 b.1 g.1),
-      ),
-      refl,
-    )
+      );
+  complete = λ d t p.
+      let inner = bind_ok (record_in field.Token d) token_at t.token (token_in.complete d t.token p.1) in
+      rw ((moment_exact field.At).complete d t.at p.0, inner.1, inner.2) refl;
+}
 
-service_sound : (d : Data) (k : EventKind) → service_at d ≡ Ok k → OfKind event.Service d k
+pub service_exact : Exact service_at (λ d s. IsServiceSet d s.evse_uid s.in_service)
 unfolding service_at
-service_sound d k e =
-    let a = bind_ok (ci_in 36 field.EvseUid d) _ k e in
-    let b = bind_ok (truth_in field.InService d) _ k a.2 in
-    subst (OfKind event.Service d) (ok_is (kind.Service a.0 b.0) k b.2) (
-      (
+service_exact = record {
+  sound = λ d s e.
+      let a = bind_ok (ci_in 36 field.EvseUid d) _ s e in
+      let b = bind_ok (truth_in field.InService d) _ s a.2 in
+      subst (λ m. IsServiceSet d m.evse_uid m.in_service) (ok_is _ s b.2) (
         (ci_exact 36 field.EvseUid).sound d a.0 a.1,
         (truth_exact field.InService).sound d b.0 b.1,
-      ),
-      refl,
-    )
+      );
+  complete = λ d s p. rw (
+    (ci_exact 36 field.EvseUid).complete d s.evse_uid p.0,
+    (truth_exact field.InService).complete d s.in_service p.1,
+  ) refl;
+}
 
-charger_sound : (w : ChargerWord) (d : Data) (k : EventKind) → charger_at w d ≡ Ok k → OfKind (event.Charger w) d k
+abbrev pub OfCharger : ChargerWord → Data → Report → Type 0
+OfCharger w d r = IsReported d r.at r.event × (word_of_report r.event ≡ w)
+
+pub charger_sound : (w : ChargerWord) (d : Data) (r : Report) → charger_at w d ≡ Ok r → OfCharger w d r
 unfolding charger_at
-charger_sound w d k e =
-    let a = bind_ok (moment_in field.At d) _ k e in
-    let b = bind_ok (report_at w d) _ k a.2 in
-    let r = report_sound w d b.0 b.1 in
-    subst (OfKind (event.Charger w) d) (ok_is (kind.Charger a.0 b.0) k b.2) (((moment_exact field.At).sound d a.0 a.1, r.0), ap (λ (v : ChargerWord). event.Charger v) r.1)
+charger_sound w d r e =
+    let a = bind_ok (moment_in field.At d) _ r e in
+    let b = bind_ok (report_at w d) _ r a.2 in
+    let what = report_sound w d b.0 b.1 in
+    subst (OfCharger w d) (ok_is _ r b.2) (((moment_exact field.At).sound d a.0 a.1, what.0), what.1)
+
+pub charger_complete : (d : Data) (r : Report) → IsReported d r.at r.event → charger_at (word_of_report r.event) d ≡ Ok r
+unfolding charger_at
+charger_complete d r p = rw (
+  (moment_exact field.At).complete d r.at p.0,
+  report_complete d r.event p.1,
+) refl
 
 deliver_sound : (d : Data) (k : EventKind) → deliver_at d ≡ Ok k → OfKind event.Deliver d k
 unfolding deliver_at
@@ -283,34 +304,24 @@ deliver_sound d k e =
 
 kind_sound : (w : EventWord) (d : Data) (k : EventKind) → kind_at w d ≡ Ok k → OfKind w d k
 unfolding kind_at
-kind_sound event.Submit d k e = submit_sound d k e
-kind_sound event.Token d k e = token_sound d k e
-kind_sound event.Service d k e = service_sound d k e
-kind_sound (event.Charger w) d k e = charger_sound w d k e
+kind_sound event.Submit d k e = let a = bind_ok (submit_at d) _ k e in subst (OfKind event.Submit d) (ok_is (kind.Submit a.0.at a.0.operator a.0.order) k a.2) (submit_exact.sound d a.0 a.1, refl)
+kind_sound event.Token d k e = let a = bind_ok (token_event_at d) _ k e in subst (OfKind event.Token d) (ok_is (kind.Token a.0.at a.0.token) k a.2) (token_event_exact.sound d a.0 a.1, refl)
+kind_sound event.Service d k e = let a = bind_ok (service_at d) _ k e in subst (OfKind event.Service d) (ok_is (kind.Service a.0.evse_uid a.0.in_service) k a.2) (service_exact.sound d a.0 a.1, refl)
+kind_sound (event.Charger w) d k e =
+    let a = bind_ok (charger_at w d) _ k e in
+    let r = charger_sound w d a.0 a.1 in
+    subst (OfKind (event.Charger w) d) (ok_is (kind.Charger a.0.at a.0.event) k a.2) (r.0, ap (λ (v : ChargerWord). event.Charger v) r.1)
 kind_sound event.Deliver d k e = deliver_sound d k e
 kind_sound event.Tick d k e = let a = bind_ok (moment_in field.At d) _ k e in subst (OfKind event.Tick d) (ok_is (kind.Tick a.0) k a.2) ((moment_exact field.At).sound d a.0 a.1, refl)
 kind_sound event.Restart d k e = subst (OfKind event.Restart d) (ok_is kind.Restart k e) (tt, refl)
 kind_sound event.Refused d k e = subst (OfKind event.Refused d) (ok_is kind.Refused k e) (tt, refl)
 
 kind_complete : (d : Data) (k : EventKind) → IsKind d k → kind_at (word_of_kind k) d ≡ Ok k
-unfolding kind_at submit_at token_event_at service_at charger_at deliver_at
-kind_complete d (kind.Submit at operator what) p = rw (
-  (moment_exact field.At).complete d at p.0,
-  (party_exact field.Operator).complete d operator p.1,
-  (known_exact order_of_word field.Order).complete d (word_of_order what) p.2,
-  order_complete d what p.3,
-) refl
-kind_complete d (kind.Token at token) p =
-    let inner = bind_ok (record_in field.Token d) token_at token (token_in.complete d token p.1) in
-    rw ((moment_exact field.At).complete d at p.0, inner.1, inner.2) refl
-kind_complete d (kind.Service evse_uid in_service) p = rw (
-  (ci_exact 36 field.EvseUid).complete d evse_uid p.0,
-  (truth_exact field.InService).complete d in_service p.1,
-) refl
-kind_complete d (kind.Charger at what) p = rw (
-  (moment_exact field.At).complete d at p.0,
-  report_complete d what p.1,
-) refl
+unfolding kind_at deliver_at
+kind_complete d (kind.Submit at operator what) p = rw (submit_exact.complete d (record { at = at; operator = operator; order = what }) p) refl
+kind_complete d (kind.Token at token) p = rw (token_event_exact.complete d (record { at = at; token = token }) p) refl
+kind_complete d (kind.Service evse_uid in_service) p = rw (service_exact.complete d (record { evse_uid = evse_uid; in_service = in_service }) p) refl
+kind_complete d (kind.Charger at what) p = rw (charger_complete d (record { at = at; event = what }) p) refl
 kind_complete d (kind.Deliver at from serial) p = rw (
   (moment_exact field.At).complete d at p.0,
   (party_exact field.From).complete d from p.1,

@@ -1,7 +1,7 @@
 -- Event lines: what happens at a node of a run, an event a line. Orders are commands of OCPI without what a provider
 -- adds itself (OCPI 2.2.1, Commands: StartSession, StopSession, ReserveNow, CancelReservation and UnlockConnector
 -- objects).
-use Rattle.std.specs.Prelude.{ℕ, List, Option, Some, None, Ok, codes, if◌then◌else◌}
+use Rattle.std.specs.Prelude.{ℕ, List, Bool, Option, Some, None, Ok, codes, if◌then◌else◌}
 use Rattle.std.specs.Str.{bytes_eq}
 use Rattle.serde_json.specs.Data.{Data}
 use Rattle.ocpi_types.specs.Words.{token_type_of}
@@ -14,6 +14,7 @@ use Rattle.ocpi_types.specs.declared.events.Order.{Order}
 use Rattle.ocpi_types.specs.declared.events.Order.TheVariants as order
 use Rattle.ocpi_types.specs.declared.field.Field.{Field}
 use Rattle.ocpi_types.specs.declared.field.Field.TheVariants as field
+use Rattle.ocpi_types.specs.declared.token.Token.{Token}
 use Rattle.ocpi_types.specs.declared.words.TokenType.{TokenType}
 use Rattle.ocpi_json.specs.declared.events.ChargerWord.{ChargerWord}
 use Rattle.ocpi_json.specs.declared.events.ChargerWord.TheVariants as report
@@ -22,6 +23,10 @@ use Rattle.ocpi_json.specs.declared.events.EventWord.{EventWord}
 use Rattle.ocpi_json.specs.declared.events.EventWord.TheVariants as event
 use Rattle.ocpi_json.specs.declared.events.OrderWord.{OrderWord}
 use Rattle.ocpi_json.specs.declared.events.OrderWord.TheVariants as command
+use Rattle.ocpi_json.specs.declared.events.Report.{Report}
+use Rattle.ocpi_json.specs.declared.events.ServiceSet.{ServiceSet}
+use Rattle.ocpi_json.specs.declared.events.Submission.{Submission}
+use Rattle.ocpi_json.specs.declared.events.TokenStored.{TokenStored}
 use Rattle.json_text.specs.Fault.{Read, ◌>>=◌}
 use Rattle.json_text.specs.Fields.{as_record, ci_in, known_in, moment_in, party_in, quantity_in, record_in, truth_in, whole_in, word_in, optional}
 use Rattle.json_text.specs.Form.{Required, Optional, IsCi, IsMoment, IsParty, IsQuantity, IsRecord, IsTruth, IsWhole, IsWord}
@@ -119,26 +124,27 @@ order_at command.ReserveNow d = reserve_order_at d
 order_at command.CancelReservation d = ci_in 36 field.ReservationId d >>= λ id. Ok (order.CancelReservation id)
 order_at command.UnlockConnector d = unlock_order_at d
 
-unfoldable pub submit_at : Data → Read EventKind
+-- the parts of an event are shared by the events of a run and those of one node
+unfoldable pub submit_at : Data → Read Submission
 submit_at d = do
   at ← moment_in field.At d
   operator ← party_in field.Operator d
   word ← known_in order_of_word field.Order d
   order ← order_at word d
-  Ok (kind.Submit at operator order)
+  Ok (record { at = at; operator = operator; order = order })
 
-unfoldable pub token_event_at : Data → Read EventKind
+unfoldable pub token_event_at : Data → Read TokenStored
 token_event_at d = do
   at ← moment_in field.At d
   object ← record_in field.Token d
   token ← token_at object
-  Ok (kind.Token at token)
+  Ok (record { at = at; token = token })
 
-unfoldable pub service_at : Data → Read EventKind
+unfoldable pub service_at : Data → Read ServiceSet
 service_at d = do
   evse_uid ← ci_in 36 field.EvseUid d
   in_service ← truth_in field.InService d
-  Ok (kind.Service evse_uid in_service)
+  Ok (record { evse_uid = evse_uid; in_service = in_service })
 
 unfoldable pub swipe_at : Data → Read ChargerEvent
 swipe_at d = do
@@ -172,11 +178,11 @@ report_at report.Meter d = meter_at d
 report_at report.Stops d = ci_in 36 field.EvseUid d >>= λ uid. Ok (charger.Stops uid)
 report_at report.Fault d = ci_in 36 field.EvseUid d >>= λ uid. Ok (charger.Fault uid)
 
-unfoldable pub charger_at : ChargerWord → Data → Read EventKind
+unfoldable pub charger_at : ChargerWord → Data → Read Report
 charger_at word d = do
   at ← moment_in field.At d
   what ← report_at word d
-  Ok (kind.Charger at what)
+  Ok (record { at = at; event = what })
 
 unfoldable pub deliver_at : Data → Read EventKind
 deliver_at d = do
@@ -187,10 +193,10 @@ deliver_at d = do
 
 -- what happens by that word
 unfoldable pub kind_at : EventWord → Data → Read EventKind
-kind_at event.Submit d = submit_at d
-kind_at event.Token d = token_event_at d
-kind_at event.Service d = service_at d
-kind_at (event.Charger word) d = charger_at word d
+kind_at event.Submit d = submit_at d >>= λ s. Ok (kind.Submit s.at s.operator s.order)
+kind_at event.Token d = token_event_at d >>= λ t. Ok (kind.Token t.at t.token)
+kind_at event.Service d = service_at d >>= λ s. Ok (kind.Service s.evse_uid s.in_service)
+kind_at (event.Charger word) d = charger_at word d >>= λ r. Ok (kind.Charger r.at r.event)
 kind_at event.Deliver d = deliver_at d
 kind_at event.Tick d = moment_in field.At d >>= λ at. Ok (kind.Tick at)
 kind_at event.Restart d = Ok kind.Restart
@@ -262,16 +268,28 @@ IsReport d (charger.Meter evse_uid kwh) = HasCi field.EvseUid d evse_uid × Requ
 IsReport d (charger.Stops evse_uid) = HasCi field.EvseUid d evse_uid
 IsReport d (charger.Fault evse_uid) = HasCi field.EvseUid d evse_uid
 
--- the form of what happens, behind the event's word and its node
-abbrev pub IsKind : Data → EventKind → Type 0
-IsKind d (kind.Submit at operator what) =
+abbrev pub IsSubmission : Data → ℕ → List ℕ → Order → Type 0
+IsSubmission d at operator what =
     HasMoment field.At d at
     × Required IsParty field.Operator d operator
     × Required (IsWord order_of_word) field.Order d (word_of_order what)
     × IsOrder d what
-IsKind d (kind.Token at token) = HasMoment field.At d at × Required (IsRecord IsToken) field.Token d token
-IsKind d (kind.Service evse_uid in_service) = HasCi field.EvseUid d evse_uid × Required IsTruth field.InService d in_service
-IsKind d (kind.Charger at what) = HasMoment field.At d at × IsReport d what
+
+abbrev pub IsTokenStored : Data → ℕ → Token → Type 0
+IsTokenStored d at token = HasMoment field.At d at × Required (IsRecord IsToken) field.Token d token
+
+abbrev pub IsServiceSet : Data → List ℕ → Bool → Type 0
+IsServiceSet d evse_uid in_service = HasCi field.EvseUid d evse_uid × Required IsTruth field.InService d in_service
+
+abbrev pub IsReported : Data → ℕ → ChargerEvent → Type 0
+IsReported d at what = HasMoment field.At d at × IsReport d what
+
+-- the form of what happens, behind the event's word and its node
+abbrev pub IsKind : Data → EventKind → Type 0
+IsKind d (kind.Submit at operator what) = IsSubmission d at operator what
+IsKind d (kind.Token at token) = IsTokenStored d at token
+IsKind d (kind.Service evse_uid in_service) = IsServiceSet d evse_uid in_service
+IsKind d (kind.Charger at what) = IsReported d at what
 IsKind d (kind.Deliver at from serial) = HasMoment field.At d at × Required IsParty field.From d from × Required IsWhole field.Serial d serial
 IsKind d (kind.Tick at) = HasMoment field.At d at
 IsKind d kind.Restart = Unit {0}

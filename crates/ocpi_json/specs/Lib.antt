@@ -3,6 +3,7 @@ pub use Rattle.json_text.specs.Line
 pub use Rattle.json_text.specs.Quote
 pub use Rattle.ocpi_forms.specs.Sites
 pub mod EventForms
+pub mod NodeEventForms
 pub mod Packets
 pub mod RowForms
 pub mod RowKeys

@@ -32,12 +32,12 @@ use json_text::fields::{
 };
 use json_text::{JsonFault, Tree};
 use ocpi_forms::token_of;
-use ocpi_text::{Party, Whole};
-use ocpi_types::{ChargerEvent, Event, EventKind, Field, Order};
+use ocpi_text::{CiText, Moment, Party, Whole};
+use ocpi_types::{ChargerEvent, Event, EventKind, Field, Order, Token};
 
 /// What a charge point reports, or a driver does there, by its word.
 #[derive(Clone, Copy)]
-enum ChargerWord {
+pub enum ChargerWord {
     Swipe,
     Accepts,
     Refuses,
@@ -50,7 +50,7 @@ enum ChargerWord {
 
 /// What happens, by the word of the member `event`.
 #[derive(Clone, Copy)]
-enum EventWord {
+pub enum EventWord {
     Submit,
     Token,
     Service,
@@ -76,6 +76,35 @@ pub enum OrderWord {
 struct CommandNumber {
     provider: Party,
     number: Whole,
+}
+
+/// What a provider orders, when, and of which operator.
+#[derive(Clone, Copy)]
+pub struct Submission {
+    pub at: Moment,
+    pub operator: Party,
+    pub order: Order,
+}
+
+/// A token that a provider stores, and when.
+#[derive(Clone, Copy)]
+pub struct TokenStored {
+    pub at: Moment,
+    pub token: Token,
+}
+
+/// An EVSE, and whether it is in service from now on.
+#[derive(Clone, Copy)]
+pub struct ServiceSet {
+    pub evse_uid: CiText<36>,
+    pub in_service: bool,
+}
+
+/// What an operator hears of a charge point, and when.
+#[derive(Clone, Copy)]
+pub struct Report {
+    pub at: Moment,
+    pub event: ChargerEvent,
 }
 
 /// The event that a word names, if there is one.
@@ -118,7 +147,7 @@ pub fn order_word(word: &str) -> Option<OrderWord>
 
 /// The word of the event. One that names none is `UnknownKind`.
 #[tactic(auto, unfolding(json_text::specs::Fields::known_in))]
-fn event_word_of(object: &Tree<'_>) -> Result<EventWord, JsonFault>
+pub fn event_word_of(object: &Tree<'_>) -> Result<EventWord, JsonFault>
     ensures { result ≡ known_in event_of_word field.Event (view object.now) }
 {
     match event_word(text_in(object, Field::Event)?) {
@@ -210,37 +239,40 @@ fn order_of(word: OrderWord, object: &Tree<'_>) -> Result<Order, JsonFault>
     }
 }
 
+/// What is ordered, when, and of which operator.
 #[tactic(auto, unfolding(crate::specs::EventForms::submit_at))]
-fn submit_of(object: &Tree<'_>) -> Result<EventKind, JsonFault>
+pub fn submit_of(object: &Tree<'_>) -> Result<Submission, JsonFault>
     ensures { result ≡ submit_at (view object.now) }
 {
     let at = moment_in(object, Field::At)?;
     let operator = party_in(object, Field::Operator)?;
     let word = order_word_of(object)?;
     let order = order_of(word, object)?;
-    Ok(EventKind::Submit {
+    Ok(Submission {
         at,
         operator,
         order,
     })
 }
 
+/// Which token is stored, and when.
 #[tactic(auto, unfolding(crate::specs::EventForms::token_event_at))]
-fn token_event_of(object: &Tree<'_>) -> Result<EventKind, JsonFault>
+pub fn token_event_of(object: &Tree<'_>) -> Result<TokenStored, JsonFault>
     ensures { result ≡ token_event_at (view object.now) }
 {
     let at = moment_in(object, Field::At)?;
     let token = token_of(record_in(object, Field::Token)?)?;
-    Ok(EventKind::Token { at, token })
+    Ok(TokenStored { at, token })
 }
 
+/// Which EVSE is in service, or is not.
 #[tactic(auto, unfolding(crate::specs::EventForms::service_at))]
-fn service_of(object: &Tree<'_>) -> Result<EventKind, JsonFault>
+pub fn service_of(object: &Tree<'_>) -> Result<ServiceSet, JsonFault>
     ensures { result ≡ service_at (view object.now) }
 {
     let evse_uid = ci_in(object, Field::EvseUid)?;
     let in_service = truth_in(object, Field::InService)?;
-    Ok(EventKind::Service {
+    Ok(ServiceSet {
         evse_uid,
         in_service,
     })
@@ -316,13 +348,14 @@ fn report_of(word: ChargerWord, object: &Tree<'_>) -> Result<ChargerEvent, JsonF
     }
 }
 
+/// What is reported by that word, and when.
 #[tactic(auto, unfolding(crate::specs::EventForms::charger_at))]
-fn charger_of(word: ChargerWord, object: &Tree<'_>) -> Result<EventKind, JsonFault>
+pub fn charger_of(word: ChargerWord, object: &Tree<'_>) -> Result<Report, JsonFault>
     ensures { result ≡ charger_at word (view object.now) }
 {
     let at = moment_in(object, Field::At)?;
     let event = report_of(word, object)?;
-    Ok(EventKind::Charger { at, event })
+    Ok(Report { at, event })
 }
 
 #[tactic(auto, unfolding(crate::specs::EventForms::deliver_at))]
@@ -341,10 +374,36 @@ fn kind_of(word: EventWord, object: &Tree<'_>) -> Result<EventKind, JsonFault>
     ensures { result ≡ kind_at word (view object.now) }
 {
     match word {
-        EventWord::Submit => submit_of(object),
-        EventWord::Token => token_event_of(object),
-        EventWord::Service => service_of(object),
-        EventWord::Charger(word) => charger_of(word, object),
+        EventWord::Submit => {
+            let Submission {
+                at,
+                operator,
+                order,
+            } = submit_of(object)?;
+            Ok(EventKind::Submit {
+                at,
+                operator,
+                order,
+            })
+        }
+        EventWord::Token => {
+            let TokenStored { at, token } = token_event_of(object)?;
+            Ok(EventKind::Token { at, token })
+        }
+        EventWord::Service => {
+            let ServiceSet {
+                evse_uid,
+                in_service,
+            } = service_of(object)?;
+            Ok(EventKind::Service {
+                evse_uid,
+                in_service,
+            })
+        }
+        EventWord::Charger(word) => {
+            let Report { at, event } = charger_of(word, object)?;
+            Ok(EventKind::Charger { at, event })
+        }
         EventWord::Deliver => deliver_of(object),
         EventWord::Tick => {
             let at = moment_in(object, Field::At)?;

@@ -1,5 +1,5 @@
-//! OCPI 2.2.1 as lines of JSON: packets, site lines, setups and events, read with the first fault told, and packets
-//! written; and the rows of a node, whose texts are JSON, read and written.
+//! OCPI 2.2.1 as lines of JSON: packets, site lines, setups, and events of a run or of one node, read with the first
+//! fault told, and packets written; and the rows of a node, whose texts are JSON, read and written.
 //!
 //! ```
 //! let mut scratch = Scratch::new(alloc);
@@ -15,6 +15,7 @@
 #![tactic(auto)]
 
 mod events;
+mod node_events;
 mod packets;
 mod reading;
 mod row_keys;
@@ -29,7 +30,7 @@ pub use json_text::{
     quoted_numbers_are_json_numbers, quoting_goes_by_pieces, the_last_of_a_repeated_name_counts,
     unquote_numbers, unquoting_undoes_quoting,
 };
-pub use reading::{read_event, read_packet, read_row, read_setup, read_site};
+pub use reading::{read_event, read_node_event, read_packet, read_row, read_setup, read_site};
 pub use row_keys::{read_keys_fit, row_keys_are_apart, write_key};
 pub use row_kinds::RowKind;
 pub use writing::{write_packet, write_row};

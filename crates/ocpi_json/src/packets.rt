@@ -62,8 +62,9 @@ fn envelope_of(object: &Tree<'_>) -> Result<Envelope, JsonFault>
     })
 }
 
+/// The packet that an object spells.
 #[tactic(auto, unfolding(crate::specs::Packets::packet_at))]
-fn packet_of(alloc: Global, object: &Tree<'_>) -> Result<Packet, JsonFault>
+pub fn packet_of(alloc: Global, object: &Tree<'_>) -> Result<Packet, JsonFault>
     ensures { Gives result (packet_at (view object.now)) }
 {
     let envelope = envelope_of(object)?;

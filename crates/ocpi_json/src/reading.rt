@@ -5,24 +5,27 @@ ghost use Rattle.json_text.specs.declared.fault.JsonFault.TheVariants.{Syntax};
 ghost use Rattle.json_text.specs.Line.{IsNoText};
 ghost use Rattle.ocpi_json.specs.EventForms.{SpellsEvent, event_in};
 ghost use Rattle.json_text.specs.Fault.{Gives};
+ghost use Rattle.ocpi_json.specs.NodeEventForms.{SpellsNodeEvent, node_event_in};
 ghost use Rattle.ocpi_json.specs.Packets.{SpellsPacket, packet_in};
 ghost use Rattle.ocpi_json.specs.RowForms.{SpellsRow, row_in};
 ghost use Rattle.ocpi_json.specs.SetupForms.{SpellsSetup, setup_in};
 ghost use Rattle.ocpi_json.specs.SiteLines.{SpellsSiteLine, site_in};
 ghost use Rattle.ocpi_types.specs.declared.events.Event.{Event};
+ghost use Rattle.ocpi_types.specs.declared.node_events.NodeEvent.{NodeEvent};
 ghost use Rattle.ocpi_types.specs.declared.packet.Packet.{Packet};
 ghost use Rattle.ocpi_types.specs.declared.rows.Row.{Row};
 ghost use Rattle.ocpi_types.specs.declared.setup.Node.{Node};
 ghost use Rattle.ocpi_types.specs.declared.site.SiteLine.{SiteLine};
 
 use crate::events::event_of_line;
+use crate::node_events::node_event_of_line;
 use crate::packets::packet_of_line;
 use crate::row_kinds::RowKind;
 use crate::rows::row_of_text;
 use crate::setups::setup_of_line;
 use json_text::{JsonFault, Scratch, line_tree, text_tree};
 use ocpi_forms::site_of_line;
-use ocpi_types::{Event, Packet, Row, Setup, SiteLine, Word};
+use ocpi_types::{Event, NodeEvent, Packet, Row, Setup, SiteLine, Word};
 use std::alloc::Global;
 
 #[tactic(auto, unfolding(crate::specs::Packets::packet_in))]
@@ -136,6 +139,36 @@ pub fn read_event(alloc: Global, scratch: &mut Scratch, line: &[u8]) -> Result<E
     ensures unread { IsNoText line.now → result ≡ Err Syntax }
 {
     event_in(alloc, scratch, line)
+}
+
+#[tactic(auto, unfolding(crate::specs::NodeEventForms::node_event_in))]
+fn node_event_in(alloc: Global, scratch: &mut Scratch, line: &[u8]) -> Result<NodeEvent, JsonFault>
+    ensures exact { Gives result (node_event_in line.now) }
+    ensures unread { IsNoText line.now → result ≡ Err Syntax }
+{
+    let tree = line_tree(alloc, scratch, line)?;
+    node_event_of_line(alloc, &tree)
+}
+
+/// The event of one node that a line spells, without its line feed. `scratch` as for [`read_packet`].
+///
+/// Refused as [`read_event`] refuses, but a delivery has behind `at` the member `packet`: an object with the members of
+/// a packet's line, whose faults are told as [`read_packet`] tells them. Beside it no `from` or `serial` is looked at.
+pub fn read_node_event(
+    alloc: Global,
+    scratch: &mut Scratch,
+    line: &[u8],
+) -> Result<NodeEvent, JsonFault>
+    // What is read is spelled so.
+    ensures found { IfOk result (SpellsNodeEvent line.now) }
+    // What is spelled so is read, unless memory runs out.
+    ensures only { (e : NodeEvent) → SpellsNodeEvent line.now e → Gives result (Ok e) }
+    // Which event, or which refusal, it is.
+    ensures exact { Gives result (node_event_in line.now) }
+    // No memory is taken to refuse a line that is too long or no UTF-8.
+    ensures unread { IsNoText line.now → result ≡ Err Syntax }
+{
+    node_event_in(alloc, scratch, line)
 }
 
 #[tactic(auto, unfolding(crate::specs::RowForms::row_in))]

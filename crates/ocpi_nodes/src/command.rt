@@ -4,7 +4,7 @@ ghost use Rattle.clap.specs.Values.{kind_of};
 
 use crate::help;
 use clap::error::ErrorKind;
-use clap::{Arg, ArgMatches, Command, Error};
+use clap::{Arg, ArgAction, ArgMatches, Command, Error};
 use std::alloc::Global;
 
 /// The exit status where the command line is wrong.
@@ -18,10 +18,22 @@ pub enum Word<'a> {
     Play(Option<&'a str>),
     /// Of a store's file.
     Settle(&'a str),
+    Node(NodeWords<'a>),
 }
 
-/// Takes the command line `ocpi_nodes [answer | play [--store DIR] | settle FILE | help [COMMAND]]`, or gives clap's
-/// text: the help or the version that was asked for, or what is wrong.
+/// What the command line says for a run of one node.
+#[derive(Clone, Copy, Debug, PartialEq, Eq)]
+pub struct NodeWords<'a> {
+    /// The party that names the node, as it was given.
+    pub party: &'a str,
+    /// The file of its rows, which are in memory where there is none.
+    pub store: Option<&'a str>,
+    /// Whether each line of the input is written before what it gives.
+    pub echo: bool,
+}
+
+/// Takes the command line `ocpi_nodes [answer | play [--store DIR] | node PARTY [--store FILE] [--echo] | settle FILE |
+/// help [COMMAND]]`, or gives clap's text: the help or the version that was asked for, or what is wrong.
 pub fn take_words<'a>(alloc: Global, words: &'a [String]) -> Result<Word<'a>, Error> {
     let command = Command::new(alloc, "ocpi_nodes")
         .version("0.1.0")
@@ -29,6 +41,7 @@ pub fn take_words<'a>(alloc: Global, words: &'a [String]) -> Result<Word<'a>, Er
         .after_help(help::PROGRAM)
         .subcommand(answer(alloc))?;
     let command = with_word(command, play(alloc))?;
+    let command = with_word(command, node(alloc))?;
     let command = with_word(command, settle(alloc))?;
     let matches = command.try_get_matches_from(words)?;
     Ok(word_of(&matches))
@@ -67,6 +80,31 @@ fn play<'a>(alloc: Global) -> Result<Command<'a>, Error> {
     Ok(command)
 }
 
+fn node<'a>(alloc: Global) -> Result<Command<'a>, Error> {
+    let party = Arg::new(alloc, "party")
+        .value_name("PARTY")
+        .required(true)
+        .help("The node's party, as BE/BEC");
+    let store = Arg::new(alloc, "store")
+        .long("store")
+        .value_name("FILE")
+        .help("Keep the node's rows in this file, and go on from what it has");
+    let echo = Arg::new(alloc, "echo")
+        .long("echo")
+        .action(ArgAction::SetTrue)
+        .help("Write each line before what it gives");
+    let command = Command::new(alloc, "node")
+        .about("Let the events of standard input happen at one node of a setup")
+        .after_help(help::NODE)
+        .arg(party)?;
+    let command = with_arg(command, store)?;
+    with_arg(command, echo)
+}
+
+fn with_arg<'a>(command: Command<'a>, arg: Arg<'a>) -> Result<Command<'a>, Error> {
+    Ok(command.arg(arg)?)
+}
+
 fn settle<'a>(alloc: Global) -> Result<Command<'a>, Error> {
     let file = Arg::new(alloc, "file")
         .value_name("FILE")
@@ -83,6 +121,13 @@ fn settle<'a>(alloc: Global) -> Result<Command<'a>, Error> {
 fn word_of<'a>(matches: &ArgMatches<'a>) -> Word<'a> {
     if let Some(given) = matches.subcommand_matches("play") {
         return Word::Play(given.get_str("store"));
+    }
+    if let Some(given) = matches.subcommand_matches("node") {
+        return Word::Node(NodeWords {
+            party: given.get_str("party").unwrap_or(""),
+            store: given.get_str("store"),
+            echo: given.get_flag("echo"),
+        });
     }
     match matches.subcommand_matches("settle") {
         Some(given) => Word::Settle(given.get_str("file").unwrap_or("")),

@@ -10,6 +10,7 @@ Examples, in the folder of the repository:
   ./ocpi_nodes play < examples/charge.jsonl
   mkdir stores && ./ocpi_nodes play --store stores < examples/charge.jsonl
   ./ocpi_nodes settle stores/node2.db
+  ./ocpi_nodes node BE/BEC --store be.db < examples/operators_day.jsonl
 
 Exit status:
   0  no line was refused
@@ -74,9 +75,47 @@ Examples, in the folder of the repository:
   ./ocpi_nodes play < examples/charge.jsonl
   mkdir stores && ./ocpi_nodes play --store stores < examples/charge.jsonl"#;
 
+/// After the help of `node`.
+pub const NODE: &str =
+    r#"Input, on standard input: lines of JSON; docs/PROTOCOL.md has their forms, under "JSON".
+  The first is the setup, as of `play`. PARTY is one of its parties, in any case.
+  Each other line is an event, as of `play`, but a delivery has the packet itself:
+  {"at":"2025-01-01T10:00:00Z","event":"deliver","node":"BE/BEC","packet":{..}}
+  A line has at most 1048576 bytes, and ends with a line feed, or a carriage return and a line feed;
+  the last may lack its end. Empty lines are passed over. At most 1000000000 lines are read.
+
+Output, on standard output:
+  Each packet that the node sends, a line of JSON each, and after those of a line one that says what
+  became of it. Its first member is `done`:
+    opened     the setup was read: the number of rows that were loaded, and the serial of the last
+               packet that the node sent
+    stepped    rows were changed or packets sent
+    idle       the event was this node's, and did nothing
+    skipped    the event is another node's, or of the other role
+    malformed  the line was refused as a line; a malformed or absent setup ends the run
+    refused    the node refused the event
+  `line` is the number of the line, from 1, empty ones counted. All that a line gives is written
+  before the next line is carried out. With --echo each line is written before what it gives.
+
+Store: with --store FILE the node's rows are kept in that file, which is made where it is missing.
+  Where it has rows, the node goes on from them. The rows that an event changes are there before its
+  packets are written. Until the end of the run FILE-wal is part of it. docs/STORE.md has the
+  tables, and what to ask them.
+
+Exit status:
+  0  no line was refused
+  1  a line was refused, or reading or writing failed, which standard error says
+  2  the command line is wrong, or the setup has no such party
+  3  the store refused, or no such node has just its rows: standard error has `store: N Name`, and
+     then which file or row, why, and what to do. That ends the run, and nothing of that line is
+     written; where it could not be closed at the end, all is written
+
+Example, in the folder of the repository:
+  ./ocpi_nodes node BE/BEC --store be.db < examples/operators_day.jsonl"#;
+
 /// After the help of `settle`.
 pub const SETTLE: &str =
-    r#"Input: the rows of a file that `ocpi_nodes play --store` made; standard input is not read.
+    r#"Input: the rows of a file that `play --store` or `node --store` made; standard input is not read.
 
 Output, on standard output: what is owed by the charge detail records of the file to each operator
   in each currency, as `owed BE/BEC EUR 3.0864`, by operator and then by currency.

@@ -4,6 +4,7 @@
 ghost use Rattle.std.specs.Prelude.{◌≡◌, ◌≢◌, IfErr, IfOk, OnOk, Err, Ok};
 ghost use Rattle.clap.specs.Values.{kind_of};
 ghost use Rattle.node_programs.specs.Stops.{play_status};
+ghost use Rattle.node_runs.specs.Stops.{node_status};
 
 mod command;
 mod help;
@@ -11,14 +12,18 @@ mod refusal;
 
 use clap::Error;
 use clap::error::ErrorKind;
-use command::{WRONG_WORDS, Word, status_after, take_words};
+use command::{NodeWords, WRONG_WORDS, Word, status_after, take_words};
 use line_runs::{LineReader, Ran, RunFault};
-use node_keepers::{FileKeeps, Keeps, ListKeeps, close_all, rows_in};
+use node_keepers::{FileKeeps, Keeps, ListKeeps, StoreFile, close_all, rows_in};
 use node_programs::{PlayFault, run_answer, run_play, run_settle, status_after_play};
+use node_runs::{NodeRunFault, NodeStop, run_node, status_after_node};
 use node_store::StoreFault;
-use refusal::words_for;
+use ocpi_json::{RowKind, write_key};
+use ocpi_types::Word as WordOf;
+use refusal::{words_for, words_for_reason};
 use std::io::{self, BufReader, BufWriter, IsTerminal, Write};
 use std::process::ExitCode;
+use stored_rows::BadRow;
 
 /// What one read asks for, and what is written at once, in bytes.
 const BUFFER_BYTES: usize = 65_536;
@@ -37,11 +42,7 @@ fn run_program(rt: &HostRuntime) -> u8 {
         }
     };
     match take_words(rt.alloc(), words.as_slice()) {
-        Ok(word) => {
-            let mut place = String::new(rt.alloc());
-            let ran = run_word(rt, word, &mut place);
-            report(rt, ran, place.as_str())
-        }
+        Ok(word) => run_word(rt, word),
         Err(text) => say(rt, &text),
     }
 }
@@ -99,20 +100,44 @@ fn say(rt: &HostRuntime, text: &Error) -> u8
     status_after(text, is_printed)
 }
 
-/// Runs a program to the standard output. Where a store refused, `place` gets the name of its file, or of the folder of
-/// the files.
-fn run_word(rt: &HostRuntime, word: Word<'_>, place: &mut String) -> Result<Ran, PlayFault> {
-    if let Word::Play(Some(folder)) = word {
+/// Runs a program to the standard output, says what stopped it, and answers the exit status.
+fn run_word(rt: &HostRuntime, word: Word<'_>) -> u8 {
+    let mut place = String::new(rt.alloc());
+    let ran = match word {
+        Word::Answer => answer_buffered(rt),
+        Word::Play(None) => play_buffered(rt, &mut place),
         // With no buffer, what an event gives is written before the next event is carried out.
-        return play_in_files(rt, &mut io::writer(rt), folder, place);
-    }
-    let Ok(mut writer) = BufWriter::with_capacity(rt.alloc(), BUFFER_BYTES, io::writer(rt)) else {
-        return Err(PlayFault::Run(RunFault::WriteFailed));
+        Word::Play(Some(folder)) => play_in_files(rt, &mut io::writer(rt), folder, &mut place),
+        Word::Settle(file) => settle_buffered(rt, file, &mut place),
+        Word::Node(words) => {
+            let ran = run_one_node(rt, &words);
+            return report_node(rt, ran, &words);
+        }
     };
-    match word {
-        Word::Answer => answer_input(rt, &mut writer),
-        Word::Play(_) => play_in_memory(rt, &mut writer, place),
-        Word::Settle(file) => settle_file(rt, &mut writer, file, place),
+    report(rt, ran, place.as_str())
+}
+
+/// Answers the standard input to the standard output.
+fn answer_buffered(rt: &HostRuntime) -> Result<Ran, PlayFault> {
+    match BufWriter::with_capacity(rt.alloc(), BUFFER_BYTES, io::writer(rt)) {
+        Ok(mut writer) => answer_input(rt, &mut writer),
+        Err(_) => Err(PlayFault::Run(RunFault::WriteFailed)),
+    }
+}
+
+/// Plays the standard input to the standard output, with keepers in memory.
+fn play_buffered(rt: &HostRuntime, place: &mut String) -> Result<Ran, PlayFault> {
+    match BufWriter::with_capacity(rt.alloc(), BUFFER_BYTES, io::writer(rt)) {
+        Ok(mut writer) => play_in_memory(rt, &mut writer, place),
+        Err(_) => Err(PlayFault::Run(RunFault::WriteFailed)),
+    }
+}
+
+/// Writes what is owed by the rows of a file to the standard output.
+fn settle_buffered(rt: &HostRuntime, file: &str, place: &mut String) -> Result<Ran, PlayFault> {
+    match BufWriter::with_capacity(rt.alloc(), BUFFER_BYTES, io::writer(rt)) {
+        Ok(mut writer) => settle_file(rt, &mut writer, file, place),
+        Err(_) => Err(PlayFault::Run(RunFault::WriteFailed)),
     }
 }
 
@@ -216,6 +241,125 @@ fn and_closed(ran: Result<Ran, PlayFault>, closed: Result<(), StoreFault>) -> Re
             Err(fault) => Err(PlayFault::Store(fault)),
         },
         Err(fault) => Err(fault),
+    }
+}
+
+/// Runs a node with its rows in a file, or in memory where none was named.
+fn run_one_node(rt: &HostRuntime, words: &NodeWords<'_>) -> Result<Ran, NodeRunFault> {
+    match words.store {
+        Some(path) => run_in_file(rt, words, path),
+        None => run_over(rt, words, ListKeeps::new(rt.alloc())),
+    }
+}
+
+/// Runs a node with its rows in the file at that path.
+fn run_in_file(rt: &HostRuntime, words: &NodeWords<'_>, path: &str) -> Result<Ran, NodeRunFault> {
+    run_over(rt, words, StoreFile::new(rt, path))
+}
+
+/// Runs a node on the standard input with a keeper of its rows, and closes that. With no buffer, what a line gives is
+/// written before the next is carried out.
+fn run_over<S: Keeps + Drop>(
+    rt: &HostRuntime,
+    words: &NodeWords<'_>,
+    keeps: S,
+) -> Result<Ran, NodeRunFault> {
+    tell_wait(
+        rt,
+        "the setup, then events. `ocpi_nodes help node` says more",
+    );
+    let Ok(reader) = BufReader::with_capacity(rt.alloc(), BUFFER_BYTES, rt.reader()) else {
+        drop(keeps);
+        return Err(NodeRunFault::Run(RunFault::ReadFailed));
+    };
+    let mut input = LineReader::new(reader);
+    let mut writer = io::writer(rt);
+    let mut kept = None;
+    let mut keeps = keeps;
+    let ran = run_node(
+        rt.alloc(),
+        &mut input,
+        &mut writer,
+        words.party,
+        words.echo,
+        &mut keeps,
+        &mut kept,
+    );
+    let closed = close_one(&mut keeps, kept);
+    drop(keeps);
+    and_node_closed(ran, closed)
+}
+
+/// Closes the keeper of the node, where it was opened.
+fn close_one<S: Keeps>(keeps: &mut S, kept: Option<S::Kept>) -> Result<(), StoreFault> {
+    match kept {
+        Some(keep) => keeps.close(1, keep),
+        None => Ok(()),
+    }
+}
+
+/// How a run of one node went, and then the closing of its store. What stopped the run is told before what the closing
+/// refused.
+fn and_node_closed(
+    ran: Result<Ran, NodeRunFault>,
+    closed: Result<(), StoreFault>,
+) -> Result<Ran, NodeRunFault>
+    ensures ran { IfErr ran (λ fault. result ≡ Err fault) }
+    ensures closed { IfOk ran (λ r. OnOk closed (result ≡ Ok r)) }
+    ensures refused { IfOk ran (λ r. IfErr closed (λ fault. result ≡ Err (NodeRunFault.Stop (NodeStop.Store fault)))) }
+{
+    match ran {
+        Ok(ran) => match closed {
+            Ok(()) => Ok(ran),
+            Err(fault) => Err(NodeRunFault::Stop(NodeStop::Store(fault))),
+        },
+        Err(fault) => Err(fault),
+    }
+}
+
+/// Says what stopped a run of one node, of a store also which it was and why, and answers the exit status.
+fn report_node(rt: &HostRuntime, ran: Result<Ran, NodeRunFault>, words: &NodeWords<'_>) -> u8
+    ensures { result ≡ node_status ran }
+{
+    match ran {
+        Ok(_) => {}
+        Err(NodeRunFault::Run(fault)) => {
+            let _ = eprintln!(rt; "{fault}");
+        }
+        Err(NodeRunFault::Stop(stop)) => explain_stop(rt, stop, words),
+    }
+    status_after_node(ran)
+}
+
+/// Says why a node did not begin, or did not go on.
+fn explain_stop(rt: &HostRuntime, stop: NodeStop, words: &NodeWords<'_>) {
+    match stop {
+        NodeStop::UnknownParty => {
+            let _ = eprintln!(rt; "node: no {} in the setup", words.party);
+        }
+        NodeStop::Store(fault) => {
+            let fault = PlayFault::Store(fault);
+            let _ = eprintln!(rt; "{fault}");
+            explain(rt, fault, words.store.unwrap_or(""));
+        }
+        NodeStop::BadRows(row) => {
+            let _ = eprintln!(rt; "store: 4 Core(BadRows)");
+            explain_row(rt, &row, words.store.unwrap_or(""));
+        }
+    }
+}
+
+/// Says which row of a store shows that no such node has its rows, and what is wrong with it.
+fn explain_row(rt: &HostRuntime, row: &BadRow, place: &str) {
+    let kind = RowKind::of_key(&row.key).word();
+    let reason = words_for_reason(row.reason);
+    match write_key(rt.alloc(), &row.key) {
+        Ok(key) => {
+            let _ = eprintln!(rt; "{place}: {kind} {}: {reason}", key.as_str());
+        }
+        Err(_) => {
+            let _ = eprintln!(rt; "{place}: a {kind} row: {reason}");
+        }
     }
 }
 

@@ -1,6 +1,7 @@
 //! Why a store refused, in words, and what to do about it.
 
 use node_store::{Cause, StoreFault};
+use stored_rows::BadReason;
 
 /// The words for a refusal. They follow the name of the file or of its folder.
 pub fn words_for(fault: StoreFault) -> &'static str {
@@ -22,7 +23,7 @@ fn words_for_cause(cause: Cause) -> &'static str {
             "it exists already, and a run makes new files: move it away, or name another folder"
         }
         Cause::FolderNotFound => "its folder does not exist: make that first",
-        Cause::NotFound => "there is no such file: name one that `ocpi_nodes play --store` made",
+        Cause::NotFound => "there is no such file: name one that a run with --store made",
         Cause::NotAFile =>
             "it is a folder, or no plain file: name the file of a store, as node1.db",
         Cause::PermissionDenied => {
@@ -41,5 +42,45 @@ fn words_for_cause(cause: Cause) -> &'static str {
             "it has rows already, which a -wal file held that lay there: move it away, or name another folder",
         Cause::NoKeeper => "no file is that of the node whose rows changed",
         Cause::Other => "the database refused it: keep a copy of the file, and report this",
+    }
+}
+
+/// The words for what is wrong with a row of which no node of the setup is made. They follow its kind and its key.
+pub fn words_for_reason(reason: BadReason) -> &'static str {
+    match reason {
+        BadReason::Repeated => "another row has this kind and this key",
+        BadReason::OfOtherRole => {
+            "a node of this role stores no such row: name the party whose store this is"
+        }
+        BadReason::NothingCounted => "a counter that has given no number has no row",
+        BadReason::NotGiven => {
+            "its number, or that of its id or reference, is above the last that the counter gave"
+        }
+        BadReason::NumberShared => "a push and a command have its number",
+        BadReason::OfOtherParty => {
+            "it is of another party than this node's: name the party whose store this is"
+        }
+        BadReason::NotOwnId => {
+            "its id or its reference is none that this node gives: name the party whose store this is"
+        }
+        BadReason::UnknownParty => {
+            "it is of or to a party with which this node does not deal: give the setup of the store"
+        }
+        BadReason::TokenOfOtherParty => "the token of the open start is another provider's",
+        BadReason::UnknownPlace => {
+            "the site has no such EVSE, connector or location: give the setup of the store"
+        }
+        BadReason::ClaimedTwice => "another row claims its EVSE",
+        BadReason::Unanswered => "the command has no reply",
+        BadReason::OpenWithResult => "the command is open, and has a result",
+        BadReason::PushedTwice => "another push is about the same, to the same party",
+        BadReason::CannotGoOn => {
+            "the session has a status that no session has, or a cost that is not that of its energy"
+        }
+        BadReason::BilledTwice => "another charge detail record is of the same session",
+        BadReason::BilledEarly => {
+            "the session of the charge detail record is not there as completed"
+        }
+        BadReason::Unbilled => "the completed session has no charge detail record",
     }
 }

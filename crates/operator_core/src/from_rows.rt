@@ -1,6 +1,7 @@
 //! An operator that is made of rows.
 
 ghost use Rattle.std.specs.Prelude.{◌≡◌, IfErr, IfOk};
+ghost use Rattle.stored_rows.specs.Faults.{IfBadRows};
 ghost use Rattle.operator_rows.specs.Sound.{IsConsistent, with_rows};
 ghost use Rattle.operator_rows.specs.State.{State, opening};
 ghost use Rattle.operator_rows.specs.Steps.{restarted};
@@ -17,10 +18,11 @@ use stored_rows::RowsFault;
 impl Operator {
     /// The operator of a site that has just these rows, in whatever order they come: each push is due at once, and no
     /// authorization is awaited. So of all that an operator stored (`stored`) the very same is made, as it starts
-    /// again. Refused (`BadRows`) where no operator of that site has just these rows.
+    /// again. Refused (`BadRows`) where no operator of that site has just these rows: with the key of a row that shows
+    /// it, and with the reason.
     pub fn from_rows(alloc: Global, line: SiteLine, rows: Vec<Row>) -> Result<Operator, RowsFault>
         ensures made { IfOk result (λ o. IsMadeOf line rows.items o.state) }
-        ensures bad { IfErr result (λ e. e ≡ RowsFault.BadRows → IsBad line rows.items) }
+        ensures bad { IfErr result (IfBadRows (IsBad line rows.items)) }
         ensures again { (s : State) → IsConsistent s → StartsAgain line rows.items s → IfOk result (λ o. o.state ≡ restarted s) }
         ensures good { (s : State) → IsConsistent s → StartsAgain line rows.items s → IfErr result (λ e. e ≡ RowsFault.Memory) }
     {

@@ -4,7 +4,7 @@ ghost use Rattle.std.specs.Prelude.{◌≡◌, IfOk, IfErr, IsOk, OnErr, OnOk};
 ghost use Rattle.operator_rows.specs.State.{opening};
 
 use node_steps::{NodeFault, Stepped, copies};
-use ocpi_text::{CiKey, Moment};
+use ocpi_text::{CiKey, Moment, Whole};
 use ocpi_types::{ChargerEvent, Packet, Row, SiteLine};
 use operator_rows::{Books, FullPlan};
 use std::alloc::{AllocError, Global};
@@ -67,6 +67,18 @@ impl Operator {
         ensures { IsConsistent self.now.state }
     {
         self.books.consistency();
+    }
+
+    /// The serial of the last packet that it sent, 0 where it sent none.
+    pub fn last_serial(&self) -> Whole
+        ensures { result ≡ self.now.state.rows.serial }
+    {
+        self.books.serial()
+    }
+
+    /// Where it takes its memory from.
+    pub fn allocator(&self) -> Global {
+        self.alloc
     }
 
     /// All rows that stand, each once. An error is want of memory.

@@ -1,7 +1,8 @@
 -- Rows that are bad are those of no operator of the site, and those of an operator make the very same.
 use Rattle.std.proofs.Common.{◌≡◌, ◌≢◌, ◌≤◌, ℕ, zero, suc, List, inl, inr, refl, sym, ap, subst, ◌∙◌, arith}
-use Rattle.std.specs.Prelude.{Some, Contains, IsTrue, is_some}
+use Rattle.std.specs.Prelude.{Some, Contains, IsTrue, is_some, slice_get}
 use Rattle.std.specs.FinMap.{get, contains_key}
+use Rattle.std.proofs.lemmas.Option.{slice_get_within, get_or_from_slice_get}
 use Rattle.ocpi_text.specs.Text.{key}
 use Rattle.ocpi_text.specs.declared.own_ids.OwnIdKind.TheVariants as own
 use Rattle.ocpi_types.specs.declared.cdrs.Cdr.{Cdr}
@@ -11,12 +12,17 @@ use Rattle.ocpi_types.specs.declared.rows.Counter.{Counter}
 use Rattle.ocpi_types.specs.declared.rows.Counter.TheVariants as counter
 use Rattle.ocpi_types.specs.declared.rows.Row.{Row}
 use Rattle.ocpi_types.specs.declared.rows.Row.TheVariants as row
+use Rattle.ocpi_types.specs.declared.rows.RowKey.{RowKey}
+use Rattle.ocpi_types.specs.declared.rows.RowKey.TheVariants as keys
+use Rattle.ocpi_types.specs.declared.stored.OpenCommand.{OpenCommand}
 use Rattle.ocpi_types.specs.declared.stored.Reply.{Reply}
+use Rattle.ocpi_types.specs.declared.words.CommandResultType.{CommandResultType}
 use Rattle.ocpi_types.specs.declared.words.SessionStatus.TheVariants.{Completed}
 use Rattle.site_book.specs.declared.claim.Claim.{Claim}
 use Rattle.tables.proofs.Options.{known, none_contained, not_both}
 use Rattle.token_desk.specs.Tokens.{token_key}
 use Rattle.stored_rows.specs.Given.{IsNotGiven, IsOwnId}
+use Rattle.stored_rows.specs.declared.fault.BadReason.{BadReason}
 use Rattle.stored_rows.proofs.Repeated.{none_repeated}
 use Rattle.operator_rows.specs.Rows.{AreRowsOf, HasRow}
 use Rattle.operator_rows.specs.Sound.{IsSound, with_rows}
@@ -26,8 +32,9 @@ use Rattle.operator_rows.proofs.KeepingTimes.{restarted_consistent}
 use Rattle.operator_stored.specs.Bad.{IsBad, IsForeign, MakesClaim}
 use Rattle.operator_stored.specs.Bad.{Repeated, Foreign, NothingCounted, PushNotGiven, SessionNotGiven, CdrNotGiven, SessionOfOther, CdrOfOther, SessionIdNotOwn, CdrIdNotOwn}
 use Rattle.operator_stored.specs.Bad.{PushToStranger, TokenOfStranger, CommandOfStranger, SessionOfStranger, StartOfOtherToken, ServiceNowhere, ReservationNowhere}
-use Rattle.operator_stored.specs.Bad.{StartNowhere, SessionNowhere, ClaimedTwice, OpenUnanswered, ResultUnanswered, OpenWithResult, PushedTwice, Stuck, BilledTwice}
+use Rattle.operator_stored.specs.Bad.{StartNowhere, SessionNowhere, ClaimedTwice, OpenUnanswered, ResultUnanswered, OpenWithResult, ResultOfOpen, PushedTwice, Stuck, BilledTwice}
 use Rattle.operator_stored.specs.Bad.{BilledEarly, Unbilled}
+use Rattle.operator_stored.specs.Bills.{BillsTwice}
 use Rattle.operator_stored.specs.Making.{BadRowsAreOfNone, IsMadeOf, RowsMakeAgain, StartsAgain}
 use Rattle.operator_stored.specs.Whole.{IsWhole}
 use Rattle.operator_stored.proofs.RowsTell.{rows_tell}
@@ -64,6 +71,10 @@ makes_claim s (row.Reservation p id r) evse c h m = subst (HasClaim s evse) (sym
 makes_claim s (row.Session v) evse c h m = subst (HasClaim s evse) (sym m.2) (v, h, m.1)
 makes_claim s other evse c h m = absurd m
 
+-- an element at a place is one of the list
+pub at_place : {X : Type 0} (xs : List X) (k : ℕ) (x : X) → slice_get xs k ≡ Some x → Contains xs x
+at_place xs k x is = (k, slice_get_within xs k x is, get_or_from_slice_get xs k x x is)
+
 -- rows of an operator of the site, each reason in turn
 module _ (line : SiteLine) (list : List Row) (rows : Rows) (all : AreRowsOf list rows) where
   abbrev state : State
@@ -96,47 +107,70 @@ module _ (line : SiteLine) (list : List Row) (rows : Rows) (all : AreRowsOf list
     cdr_given x n has own_id =
         sound.numbered.cdrs n own_id.is_number (subst (λ id. IsTrue (contains_key rows.charged.cdrs (key id))) own_id.made (ap is_some has))
 
-    pub not_bad : IsBad line list → ⊥
-    not_bad (Repeated r) = none_repeated list all.apart r
-    not_bad (Foreign r h f) = not_foreign rows r (stands r h) f
-    not_bad (NothingCounted c h) = not_zero rows c (stands (row.Count c 0) h)
-    not_bad (PushNotGiven n to push h not) =
+    -- two rows at different places of the list have different keys, so they are not two records of one session
+    not_twice : BillsTwice list → ⊥
+    not_twice t =
+        let one = stands (row.Cdr t.one) (at_place list t.first (row.Cdr t.one) t.one_is) in
+        let other = stands (row.Cdr t.other) (at_place list t.second (row.Cdr t.other) t.other_is) in
+        let id : key t.one.id ≡ key t.other.id = whole.billed.once (key t.one.id) (key t.other.id) t.one t.other one other t.same in
+        let party : key t.one.party ≡ key t.other.party = sound.cdrs (key t.one.id) t.one one ∙ sym (sound.cdrs (key t.other.id) t.other other) in
+        none_repeated list all.apart (record {
+          first = t.first;
+          second = t.second;
+          one = row.Cdr t.one;
+          other = row.Cdr t.other;
+          apart = t.apart;
+          one_is = t.one_is;
+          other_is = t.other_is;
+          same = λ i. keys.Cdr (party i) (id i);
+        })
+
+    not_open_with_result : (p : List ℕ) (n : ℕ) (o : OpenCommand) (x : CommandResultType) → Contains list (row.Pending p n o) → Contains list (row.Result p n x) → ⊥
+    not_open_with_result p n o x h k =
+        not_both x (get rows.commands.results (p, n)) (sound.pending p n o (stands (row.Pending p n o) h)).unsettled (stands (row.Result p n x) k)
+
+    pub not_bad : (k : RowKey) (reason : BadReason) → IsBad line list k reason → ⊥
+    not_bad _ _ (Repeated r) = none_repeated list all.apart r
+    not_bad _ _ (Foreign r h f) = not_foreign rows r (stands r h) f
+    not_bad _ _ (NothingCounted c h) = not_zero rows c (stands (row.Count c 0) h)
+    not_bad _ _ (PushNotGiven n to push h not) =
         was_given list counter.Request n rows.request (λ m. (all.exact (row.Count counter.Request m)).1)
         (sound.outbox.pushes_counted n (ap is_some (stands (row.Push n to push) h))) not
-    not_bad (SessionNotGiven v n h own_id not) =
+    not_bad _ _ (SessionNotGiven v n h own_id not) =
         was_given list counter.Session n rows.charged.last_session (λ m. (all.exact (row.Count counter.Session m)).1) (session_given v n (stands (row.Session v) h) own_id) not
-    not_bad (CdrNotGiven x n h own_id not) =
+    not_bad _ _ (CdrNotGiven x n h own_id not) =
         was_given list counter.Cdr n rows.charged.last_cdr (λ m. (all.exact (row.Count counter.Cdr m)).1) (cdr_given x n (stands (row.Cdr x) h) own_id) not
-    not_bad (SessionOfOther v h other) = other (sound.sessions (key v.id) v (stands (row.Session v) h)).own
-    not_bad (CdrOfOther x h other) = other (sound.cdrs (key x.id) x (stands (row.Cdr x) h))
-    not_bad (SessionIdNotOwn v h none) = let made = whole.sessions (key v.id) v (stands (row.Session v) h) in none made.0 made.1
-    not_bad (CdrIdNotOwn x h none) = let made = whole.cdrs (key x.id) x (stands (row.Cdr x) h) in none made.0 made.1
-    not_bad (PushToStranger n to push h stranger) = stranger (sound.pushes n (record { to = to; push = push }) (stands (row.Push n to push) h))
-    not_bad (TokenOfStranger t h stranger) = stranger (sound.tokens (token_key t) t (stands (row.Token t) h))
-    not_bad (CommandOfStranger p n o h stranger) = stranger (sound.pending p n o (stands (row.Pending p n o) h)).provider
-    not_bad (SessionOfStranger v h live stranger) = stranger ((sound.sessions (key v.id) v (stands (row.Session v) h)).going live).provider
-    not_bad (StartOfOtherToken p n o h other) = other (sound.pending p n o (stands (row.Pending p n o) h)).own
-    not_bad (ServiceNowhere evse h nowhere) = nowhere (sound.service evse (ap is_some (stands (row.Service evse) h)))
-    not_bad (ReservationNowhere p id r h nowhere) = nowhere (sound.reservations p id r (stands (row.Reservation p id r) h))
-    not_bad (StartNowhere p n o h start nowhere) = nowhere ((sound.pending p n o (stands (row.Pending p n o) h)).place start)
-    not_bad (SessionNowhere v h live nowhere) = nowhere ((sound.sessions (key v.id) v (stands (row.Session v) h)).going live).place
-    not_bad (ClaimedTwice a b evse c d h k m n other) =
+    not_bad _ _ (SessionOfOther v h other) = other (sound.sessions (key v.id) v (stands (row.Session v) h)).own
+    not_bad _ _ (CdrOfOther x h other) = other (sound.cdrs (key x.id) x (stands (row.Cdr x) h))
+    not_bad _ _ (SessionIdNotOwn v h none) = let made = whole.sessions (key v.id) v (stands (row.Session v) h) in none made.0 made.1
+    not_bad _ _ (CdrIdNotOwn x h none) = let made = whole.cdrs (key x.id) x (stands (row.Cdr x) h) in none made.0 made.1
+    not_bad _ _ (PushToStranger n to push h stranger) = stranger (sound.pushes n (record { to = to; push = push }) (stands (row.Push n to push) h))
+    not_bad _ _ (TokenOfStranger t h stranger) = stranger (sound.tokens (token_key t) t (stands (row.Token t) h))
+    not_bad _ _ (CommandOfStranger p n o h stranger) = stranger (sound.pending p n o (stands (row.Pending p n o) h)).provider
+    not_bad _ _ (SessionOfStranger v h live stranger) = stranger ((sound.sessions (key v.id) v (stands (row.Session v) h)).going live).provider
+    not_bad _ _ (StartOfOtherToken p n o h other) = other (sound.pending p n o (stands (row.Pending p n o) h)).own
+    not_bad _ _ (ServiceNowhere evse h nowhere) = nowhere (sound.service evse (ap is_some (stands (row.Service evse) h)))
+    not_bad _ _ (ReservationNowhere p id r h nowhere) = nowhere (sound.reservations p id r (stands (row.Reservation p id r) h))
+    not_bad _ _ (StartNowhere p n o h start nowhere) = nowhere ((sound.pending p n o (stands (row.Pending p n o) h)).place start)
+    not_bad _ _ (SessionNowhere v h live nowhere) = nowhere ((sound.sessions (key v.id) v (stands (row.Session v) h)).going live).place
+    not_bad _ _ (ClaimedTwice a b evse c d h k m n other) =
         other (sound.one_claim evse c d (makes_claim rows a evse c (stands a h) m) (makes_claim rows b evse d (stands b k) n))
-    not_bad (OpenUnanswered p n o h none) = has_reply p n (sound.pending p n o (stands (row.Pending p n o) h)).answered none
-    not_bad (ResultUnanswered p n x h none) = has_reply p n (sound.results (p, n) x (stands (row.Result p n x) h)) none
-    not_bad (OpenWithResult p n o x h k) =
-        not_both x (get rows.commands.results (p, n)) (sound.pending p n o (stands (row.Pending p n o) h)).unsettled (stands (row.Result p n x) k)
-    not_bad (PushedTwice m n to at a b u other h k is also) =
+    not_bad _ _ (OpenUnanswered p n o h none) = has_reply p n (sound.pending p n o (stands (row.Pending p n o) h)).answered none
+    not_bad _ _ (ResultUnanswered p n x h none) = has_reply p n (sound.results (p, n) x (stands (row.Result p n x) h)) none
+    not_bad _ _ (OpenWithResult p n o x h k) = not_open_with_result p n o x h k
+    not_bad _ _ (ResultOfOpen p n o x h k) = not_open_with_result p n o x h k
+    not_bad _ _ (PushedTwice m n to at a b u other h k is also) =
         other (sound.outbox.one_each u m n (record { to = to; push = a }, stands (row.Push m to a) h, is) (record { to = at; push = b }, stands (row.Push n at b) k, also))
-    not_bad (Stuck v h stuck) = whole.resumable (key v.id) v (stands (row.Session v) h) stuck
-    not_bad (BilledTwice x y h k other same) = other (whole.billed.once (key x.id) (key y.id) x y (stands (row.Cdr x) h) (stands (row.Cdr y) k) same)
-    not_bad (BilledEarly x h none) = let found = has_session x (stands (row.Cdr x) h) in none found.0 found.1 found.2 found.3
-    not_bad (Unbilled v h done none) =
+    not_bad _ _ (Stuck v h stuck) = whole.resumable (key v.id) v (stands (row.Session v) h) stuck
+    not_bad _ _ (BilledTwice t) = not_twice t
+    not_bad _ _ (BilledEarly x h none) = let found = has_session x (stands (row.Cdr x) h) in none found
+    not_bad _ _ (Unbilled v h done none) =
         let found = whole.billed.each (key v.id) v (stands (row.Session v) h) done in
-        none found.0 ((all.exact (row.Cdr found.0)).1 found.1) found.2
+        none (found.0, (all.exact (row.Cdr found.0)).1 found.1, found.2)
 
 pub bad_of_none : BadRowsAreOfNone
-bad_of_none line list is s sound made = not_bad line list s.rows made.has_rows (subst IsSound made.of_site sound) (subst IsWhole made.of_site made.whole) is
+bad_of_none line list k reason is s sound made =
+    not_bad line list s.rows made.has_rows (subst IsSound made.of_site sound) (subst IsWhole made.of_site made.whole) k reason is
 
 -- what an operator starts again as is made of its rows
 pub made_again : (line : SiteLine) (list : List Row) (s : State) → StartsAgain line list s → IsMadeOf line list (restarted s)
@@ -156,6 +190,6 @@ make_again line list s consistent again =
     let sound = (restarted_consistent s consistent).sound in
     let made = made_again line list s again in
     record {
-      good = λ is. bad_of_none line list is (restarted s) sound made;
+      good = λ k reason is. bad_of_none line list k reason is (restarted s) sound made;
       same = λ t also of_t. made_same line list t (restarted s) also sound of_t made;
     }

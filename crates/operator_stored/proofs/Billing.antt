@@ -9,13 +9,17 @@ use Rattle.std.proofs.lemmas.Option.{slice_get-get_or}
 use Rattle.tables.proofs.Maps.{equal_of_is_eq}
 use Rattle.tables.specs.Keys.{text_cmp, text_exact, text_total}
 use Rattle.ocpi_text.specs.Text.{key}
+use Rattle.ocpi_types.specs.Rows.{key_of}
 use Rattle.ocpi_types.specs.declared.cdrs.Cdr.{Cdr}
 use Rattle.ocpi_types.specs.declared.rows.Row.{Row}
 use Rattle.ocpi_types.specs.declared.rows.Row.TheVariants as row
+use Rattle.ocpi_types.specs.declared.rows.RowKey.{RowKey}
 use Rattle.ocpi_types.specs.declared.sessions.Session.{Session}
 use Rattle.ocpi_types.specs.declared.words.SessionStatus.TheVariants.{Completed}
-use Rattle.operator_stored.proofs.MadeOf.{at_place}
-use Rattle.operator_stored.specs.Bills.{Agrees, AreBilledBy, AreBillsOf, AreIdsOf, BillOf, BillsTwice, EndOf, HasEnded, HaveAlso, IsEarly, IsMisbilled, IsUnbilled, Early, Never}
+use Rattle.stored_rows.specs.declared.fault.BadReason.{BadReason}
+use Rattle.stored_rows.specs.declared.fault.BadReason.TheVariants as reason
+use Rattle.operator_stored.proofs.BadRows.{at_place}
+use Rattle.operator_stored.specs.Bills.{Agrees, AreBilledBy, AreBillsOf, AreIdsOf, BillOf, BillsTwice, Disagrees, EndOf, HasEnded, HaveAlso, IsMisbilled, Early, Never, Twice}
 
 either_true : (a b : Bool) → (a || b) ≡ true → (a ≡ true) ⊎ (b ≡ true)
 either_true true b h = inl refl
@@ -129,13 +133,13 @@ module _ (rows : List Row) (n : ℕ) (r : Row) (here : slice_get rows n ≡ Some
     ]
   ]
 
-  pub twice_of : (id : List ℕ) × BillOf r id × IsTrue (contains old id) → BillsTwice rows
+  pub twice_of : (id : List ℕ) × BillOf r id × IsTrue (contains old id) → IsMisbilled rows (key_of r) reason.BilledTwice
   twice_of h =
       let b = (ids h.0).0 h.2 in
       let bill = h.1 in
       let before = b.4 in
       let under : b.0 < n = b.2 in
-      record {
+      let twice : BillsTwice rows = record {
         first = b.0;
         second = n;
         one = before.0;
@@ -144,7 +148,8 @@ module _ (rows : List Row) (n : ℕ) (r : Row) (here : slice_get rows n ≡ Some
         one_is = b.3 ∙ ap (λ (q : Row). Some q) before.1;
         other_is = here ∙ ap (λ (q : Row). Some q) bill.1;
         same = before.2 ∙ sym bill.2;
-      }
+      } in
+      subst (λ (k : RowKey). IsMisbilled rows k reason.BilledTwice) (ap key_of (sym bill.1)) (Twice twice)
 
 pub billed_by : (rows : List Row) (n : ℕ) (s : FinSet text_cmp) → length rows ≤ n → AreIdsOf s (Below BillOf rows n) → OnceBelow rows n → AreBilledBy s rows
 billed_by rows n s all ids once = record {
@@ -193,9 +198,14 @@ module _ (billed ended : FinSet text_cmp) (rows : List Row) (bills : AreBilledBy
     once = bills.once;
   }
 
-  pub misbilled : (k : ℕ) (r : Row) → slice_get rows k ≡ Some r → IsEarly ended r ⊎ IsUnbilled billed r → IsMisbilled rows
-  misbilled k r at (inl h) = Early h.0 (at_place rows k (row.Cdr h.0) (at ∙ ap (λ (q : Row). Some q) h.1)) (λ e. true≢false (sym ((ends (key h.0.session_id)).1 e) ∙ h.2))
-  misbilled k r at (inr h) = Never h.0 (at_place rows k (row.Session h.0) (at ∙ ap (λ (q : Row). Some q) h.1)) h.2 (λ b. true≢false (sym ((bills.all (key h.0.id)).1 b) ∙ h.3))
+  pub misbilled : (k : ℕ) (r : Row) → slice_get rows k ≡ Some r → (why : BadReason) → Disagrees billed ended r why → IsMisbilled rows (key_of r) why
+  misbilled k r at reason.BilledEarly h =
+      subst (λ (k : RowKey). IsMisbilled rows k reason.BilledEarly) (ap key_of (sym h.1))
+      (Early h.0 (at_place rows k (row.Cdr h.0) (at ∙ ap (λ (q : Row). Some q) h.1)) (λ e. true≢false (sym ((ends (key h.0.session_id)).1 e) ∙ h.2)))
+  misbilled k r at reason.Unbilled h =
+      subst (λ (k : RowKey). IsMisbilled rows k reason.Unbilled) (ap key_of (sym h.1))
+      (Never h.0 (at_place rows k (row.Session h.0) (at ∙ ap (λ (q : Row). Some q) h.1)) h.2 (λ b. true≢false (sym ((bills.all (key h.0.id)).1 b) ∙ h.3)))
+  misbilled k r at other h = absurd h
 
 pub if_true : (P Q : Type 0) (b : Bool) → MatchBool b P Q → b ≡ true → P
 if_true P Q true h e = h

@@ -31,6 +31,7 @@ use Rattle.ocpi_types.specs.declared.words.CommandResultType.{CommandResultType}
 use Rattle.outbox.specs.declared.push_book.Outgoing.{Outgoing}
 use Rattle.token_desk.specs.Tokens.{TokenKey, token_key}
 use Rattle.token_desk.specs.TypeOrder.{tokens_total, tokens_exact}
+use Rattle.stored_rows.specs.declared.fault.BadReason.{BadReason}
 use Rattle.stored_rows.proofs.Repeated.{all_apart}
 use Rattle.operator_rows.specs.Rows.{AreRowsOf, HasRow}
 use Rattle.operator_rows.specs.State.{Rows}
@@ -279,15 +280,15 @@ gathered_rows rows = record {
 }
 
 -- of rows that are not bad
-module _ (line : SiteLine) (rows : List Row) (good : IsBad line rows → ⊥) where
+module _ (line : SiteLine) (rows : List Row) (good : (k : RowKey) (reason : BadReason) → IsBad line rows k reason → ⊥) where
   apart : AllPairs (λ a b. key_of a ≢ key_of b) rows
-  apart = all_apart rows (λ r. good (Repeated r))
+  apart = all_apart rows (λ r. good _ _ (Repeated r))
 
   pub own_session : (v : Session) → Contains rows (row.Session v) → key v.party ≡ key line.parties.operator
-  own_session v h = elim (told text_total text_exact (key v.party) (key line.parties.operator)) [ inl same ↦ same | inr other ↦ absurd (good (SessionOfOther v h other)) ]
+  own_session v h = elim (told text_total text_exact (key v.party) (key line.parties.operator)) [ inl same ↦ same | inr other ↦ absurd (good _ _ (SessionOfOther v h other)) ]
 
   pub own_cdr : (x : Cdr) → Contains rows (row.Cdr x) → key x.party ≡ key line.parties.operator
-  own_cdr x h = elim (told text_total text_exact (key x.party) (key line.parties.operator)) [ inl same ↦ same | inr other ↦ absurd (good (CdrOfOther x h other)) ]
+  own_cdr x h = elim (told text_total text_exact (key x.party) (key line.parties.operator)) [ inl same ↦ same | inr other ↦ absurd (good _ _ (CdrOfOther x h other)) ]
 
   session_named : (r : Row) (e : List ℕ × Session) → Contains rows r → session_of r ≡ Some e → key_of r ≡ keys.Session (key line.parties.operator) e.0
   session_named r e h at =
@@ -308,7 +309,7 @@ module _ (line : SiteLine) (rows : List Row) (good : IsBad line rows → ⊥) wh
   count_exact c n =
       let all = exact_of nat_cmp_total nat_cmp-IsAntisymmetric count_of (λ e. row.Count (counter_at e.0) e.1) count_is rows apart (λ k. keys.Count (counter_at k))
       (λ r e h at. ap key_of (count_is r e at)) in (
-        λ h. (ap number_or_none ((all (row.Count c n) (place_of c, n) refl).0 h), λ z. good (NothingCounted c (subst (λ m. Contains rows (row.Count c m)) z h))),
+        λ h. (ap number_or_none ((all (row.Count c n) (place_of c, n) refl).0 h), λ z. good _ _ (NothingCounted c (subst (λ m. Contains rows (row.Count c m)) z h))),
         λ h. elim (known (get (gathered nat_cmp_total nat_cmp-IsAntisymmetric count_of rows) (place_of c))) [
           | inl none ↦ absurd (h.1 (sym h.0 ∙ ap number_or_none none))
           | inr found ↦
@@ -322,7 +323,7 @@ module _ (line : SiteLine) (rows : List Row) (good : IsBad line rows → ⊥) wh
   gathered_exact (row.Count counter.Request n) = count_exact counter.Request n
   gathered_exact (row.Count counter.Session n) = count_exact counter.Session n
   gathered_exact (row.Count counter.Cdr n) = count_exact counter.Cdr n
-  gathered_exact (row.Count counter.Reference n) = (λ h. good (Foreign (row.Count counter.Reference n) h tt), λ h. absurd h)
+  gathered_exact (row.Count counter.Reference n) = (λ h. good _ _ (Foreign (row.Count counter.Reference n) h tt), λ h. absurd h)
   gathered_exact (row.Reply p n x) =
       exact_of text_number_total text_number_exact reply_of (λ e. row.Reply e.0.0 e.0.1 e.1) reply_is rows apart (λ k. keys.Reply k.0 k.1) (λ r e h at. ap key_of (reply_is r e at))
       (row.Reply p n x) ((p, n), x) refl
@@ -354,7 +355,7 @@ module _ (line : SiteLine) (rows : List Row) (good : IsBad line rows → ⊥) wh
       (row.Session v) (key v.id, v) refl
   gathered_exact (row.Cdr x) =
       exact_of text_total text_exact cdr_of (λ e. row.Cdr e.1) cdr_is rows apart (λ k. keys.Cdr (key line.parties.operator) k) cdr_named (row.Cdr x) (key x.id, x) refl
-  gathered_exact (row.Command n x) = (λ h. good (Foreign (row.Command n x) h tt), λ h. absurd h)
+  gathered_exact (row.Command n x) = (λ h. good _ _ (Foreign (row.Command n x) h tt), λ h. absurd h)
 
   pub gathered_are : AreRowsOf rows (gathered_rows rows)
   gathered_are = record { exact = gathered_exact; apart = apart }

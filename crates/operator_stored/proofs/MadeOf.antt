@@ -1,19 +1,18 @@
 -- The operator that is made of rows, once they are put and their bills are seen to be right.
 use Rattle.std.proofs.Common.{◌≡◌, ℕ, List, inl, inr, refl, sym, ap, subst, ◌∙◌}
-use Rattle.std.specs.Prelude.{Some, Contains, slice_get}
+use Rattle.std.specs.Prelude.{Some}
 use Rattle.std.specs.FinMap.{get}
 use Rattle.std.specs.List.Sorted.{IsPermutation}
 use Rattle.std.proofs.lemmas.List.Sorted.{Contains-permutation, IsPermutation-sym}
-use Rattle.std.proofs.lemmas.Option.{slice_get_within, get_or_from_slice_get}
 use Rattle.ocpi_text.specs.Text.{key}
-use Rattle.tables.specs.Keys.{text_total, text_exact}
-use Rattle.tables.proofs.Maps.{told}
 use Rattle.ocpi_types.specs.declared.cdrs.Cdr.{Cdr}
 use Rattle.ocpi_types.specs.declared.sessions.Session.{Session}
 use Rattle.ocpi_types.specs.declared.site.SiteLine.{SiteLine}
 use Rattle.ocpi_types.specs.declared.rows.Row.{Row}
 use Rattle.ocpi_types.specs.declared.rows.Row.TheVariants as row
-use Rattle.ocpi_types.specs.declared.rows.RowKey.TheVariants as keys
+use Rattle.ocpi_types.specs.declared.rows.RowKey.{RowKey}
+use Rattle.stored_rows.specs.Faults.{IfBadRows}
+use Rattle.stored_rows.specs.declared.fault.BadReason.{BadReason}
 use Rattle.stored_rows.specs.declared.fault.RowsFault.{RowsFault}
 use Rattle.stored_rows.specs.declared.fault.RowsFault.TheVariants.{BadRows, Memory}
 use Rattle.stored_rows.proofs.Repeated.{apart_permuted}
@@ -21,48 +20,25 @@ use Rattle.operator_rows.specs.Rows.{AreRowsOf}
 use Rattle.operator_rows.specs.Sound.{IsConsistent, IsSound}
 use Rattle.operator_rows.specs.State.{State}
 use Rattle.operator_rows.specs.Steps.{restarted}
-use Rattle.operator_stored.specs.Bad.{IsBad, BilledEarly, BilledTwice, CdrOfOther, Repeated, Unbilled}
-use Rattle.operator_stored.specs.Bills.{AreBillsOf, BillsTwice, IsMisbilled, Early, Never, Twice}
+use Rattle.operator_stored.specs.Bad.{IsBad, BilledEarly, BilledTwice, Unbilled}
+use Rattle.operator_stored.specs.Bills.{AreBillsOf, IsMisbilled, Early, Never, Twice}
 use Rattle.operator_stored.specs.Making.{IsMadeOf, StartsAgain}
 use Rattle.operator_stored.specs.Placing.{ArePut}
 use Rattle.operator_stored.specs.Whole.{AreBilled, IsWhole}
 use Rattle.operator_stored.proofs.BadRows.{make_again}
 
--- an element at a place is one of the list
-pub at_place : {X : Type 0} (xs : List X) (k : ℕ) (x : X) → slice_get xs k ≡ Some x → Contains xs x
-at_place xs k x is = (k, slice_get_within xs k x is, get_or_from_slice_get xs k x x is)
-
--- two charge detail records of one session are bad rows: they are two of one key, or one is of another operator, or
--- their ids differ
-billed_twice : (line : SiteLine) (rows : List Row) → BillsTwice rows → IsBad line rows
-billed_twice line rows t =
-    let first : Contains rows (row.Cdr t.one) = at_place rows t.first (row.Cdr t.one) t.one_is in
-    let second : Contains rows (row.Cdr t.other) = at_place rows t.second (row.Cdr t.other) t.other_is in
-    elim (told text_total text_exact (key t.one.id) (key t.other.id)) [
-      | inr apart ↦ BilledTwice t.one t.other first second apart t.same
-      | inl same ↦ elim (told text_total text_exact (key t.one.party) (key line.parties.operator)) [
-        | inr other ↦ CdrOfOther t.one first other
-        | inl own ↦ elim (told text_total text_exact (key t.other.party) (key line.parties.operator)) [
-          | inr other ↦ CdrOfOther t.other second other
-          | inl also ↦ Repeated (record {
-            first = t.first;
-            second = t.second;
-            one = row.Cdr t.one;
-            other = row.Cdr t.other;
-            apart = t.apart;
-            one_is = t.one_is;
-            other_is = t.other_is;
-            same = λ i. keys.Cdr ((own ∙ sym also) i) (same i);
-          })
-        ]
-      ]
-    ]
-
 -- rows that are billed wrongly are bad
-pub misbilled_is_bad : (line : SiteLine) (rows : List Row) → IsMisbilled rows → IsBad line rows
-misbilled_is_bad line rows (Twice t) = billed_twice line rows t
-misbilled_is_bad line rows (Early x h none) = BilledEarly x h (λ v i same done. none (v, i, same, done))
-misbilled_is_bad line rows (Never v h done none) = Unbilled v h done (λ x i same. none (x, i, same))
+pub misbilled_is_bad : (line : SiteLine) (rows : List Row) (k : RowKey) (reason : BadReason) → IsMisbilled rows k reason → IsBad line rows k reason
+misbilled_is_bad line rows _ _ (Twice t) = BilledTwice t
+misbilled_is_bad line rows _ _ (Early x h none) = BilledEarly x h none
+misbilled_is_bad line rows _ _ (Never v h done none) = Unbilled v h done none
+
+misbilled_fault : (line : SiteLine) (rows : List Row) (e : RowsFault) → IfBadRows (IsMisbilled rows) e → IfBadRows (IsBad line rows) e
+misbilled_fault line rows (BadRows bad) h = misbilled_is_bad line rows bad.key bad.reason h
+misbilled_fault line rows Memory h = tt
+
+pub misbilled_rows : (line : SiteLine) (rows all : List Row) (e : RowsFault) → rows ≡ all → IfBadRows (IsMisbilled rows) e → IfBadRows (IsBad line all) e
+misbilled_rows line rows all e same h = misbilled_fault line all e (subst (λ (l : List Row). IfBadRows (IsMisbilled l) e) same h)
 
 module _ (line : SiteLine) (rows : List Row) (s : State) (sound : IsSound s) (put : ArePut line rows s) where
   session_row : (id : List ℕ) (v : Session) → get s.rows.charged.sessions id ≡ Some v → get s.rows.charged.sessions (key v.id) ≡ Some v
@@ -113,6 +89,6 @@ pub same_again : (line : SiteLine) (rows : List Row) (s t : State) → IsConsist
 same_again line rows s t consistent again sound made = (make_again line rows s consistent again).same t sound made
 
 -- and a refusal of its rows is want of memory
-pub only_memory : (line : SiteLine) (rows : List Row) (s : State) (e : RowsFault) → IsConsistent s → StartsAgain line rows s → (e ≡ BadRows → IsBad line rows) → e ≡ Memory
-only_memory line rows s BadRows consistent again bad = absurd ((make_again line rows s consistent again).good (bad refl))
-only_memory line rows s Memory consistent again bad = refl
+pub only_memory : (line : SiteLine) (rows : List Row) (s : State) (e : RowsFault) → IsConsistent s → StartsAgain line rows s → IfBadRows (IsBad line rows) e → e ≡ Memory
+only_memory line rows s (BadRows bad) consistent again is = absurd ((make_again line rows s consistent again).good bad.key bad.reason is)
+only_memory line rows s Memory consistent again is = refl

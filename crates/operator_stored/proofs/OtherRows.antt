@@ -1,10 +1,11 @@
 -- Rows that are those of no operator of the site are bad: of rows that are not bad one is made.
 use Rattle.std.proofs.Common.{◌≡◌, ◌≢◌, ◌<◌, ◌≤◌, ℕ, List, [], ◌∷◌, ◌⊎◌, inl, inr, refl, sym, ap, subst, ◌∙◌, arith}
-use Rattle.std.specs.Prelude.{Some, Ok, Contains, IsTrue, is_some}
+use Rattle.std.specs.Prelude.{Some, Ok, Contains, IsTrue, is_some, slice_get}
 use Rattle.std.specs.Cmp.{nat_cmp_total}
 use Rattle.std.specs.Ordering.{nat_cmp}
 use Rattle.std.specs.FinMap.{nat_cmp-IsAntisymmetric, get, contains_key}
 use Rattle.std.proofs.lemmas.Bool.{cases_lt}
+use Rattle.std.proofs.lemmas.Option.{slice_get-get_or}
 use Rattle.ocpi_text.specs.Party.{party_at}
 use Rattle.ocpi_text.specs.Text.{key}
 use Rattle.ocpi_text.specs.Whole.{max_whole}
@@ -22,6 +23,7 @@ use Rattle.ocpi_types.specs.declared.rows.Counter.{Counter}
 use Rattle.ocpi_types.specs.declared.rows.Counter.TheVariants as counter
 use Rattle.ocpi_types.specs.declared.rows.Row.{Row}
 use Rattle.ocpi_types.specs.declared.rows.Row.TheVariants as row
+use Rattle.ocpi_types.specs.declared.rows.RowKey.{RowKey}
 use Rattle.ocpi_types.specs.declared.stored.OpenCommand.{OpenCommand}
 use Rattle.ocpi_types.specs.declared.stored.Reply.{Reply}
 use Rattle.ocpi_types.specs.declared.stored.SentCommand.{SentCommand}
@@ -38,6 +40,7 @@ use Rattle.token_desk.specs.Tokens.{TokenKey, token_key}
 use Rattle.token_desk.specs.TypeOrder.{tokens_total, tokens_exact}
 use Rattle.node_steps.specs.Peers.{HasPeer}
 use Rattle.stored_rows.specs.Given.{IsNotGiven, IsOwnId}
+use Rattle.stored_rows.specs.declared.fault.BadReason.{BadReason}
 use Rattle.operator_rows.specs.Rows.{HasRow}
 use Rattle.operator_rows.specs.Sound.{HasPlace, IsOwnStart, IsSound, MayBeOpen, MayStand, with_rows}
 use Rattle.operator_rows.specs.State.{HasClaim, IsLive, IsStart, Rows, State, as_outbox, opening}
@@ -45,6 +48,7 @@ use Rattle.operator_rows.proofs.RowChanges.{of_cons, in_later}
 use Rattle.operator_stored.specs.Bad.{IsBad, MakesClaim, PushNotGiven, SessionNotGiven, CdrNotGiven, SessionIdNotOwn, CdrIdNotOwn, PushToStranger, TokenOfStranger}
 use Rattle.operator_stored.specs.Bad.{CommandOfStranger, SessionOfStranger, StartOfOtherToken, ServiceNowhere, ReservationNowhere, StartNowhere, SessionNowhere}
 use Rattle.operator_stored.specs.Bad.{ClaimedTwice, OpenUnanswered, ResultUnanswered, OpenWithResult, PushedTwice, Stuck, BilledTwice, BilledEarly, Unbilled}
+use Rattle.operator_stored.specs.Bills.{BillsTwice}
 use Rattle.operator_stored.specs.Making.{OtherRowsAreBad}
 use Rattle.operator_stored.specs.Whole.{AreBilled, IsWhole}
 use Rattle.operator_stored.proofs.Gathered.{gathered_rows, gathered_exact, gathered_are, comes_of, own_session, own_cdr}
@@ -105,36 +109,36 @@ same_claim (Reserved p n) (Reserved q m) = elim (told text_pair_total text_pair_
 same_claim (Reserved p n) d = inr (λ e. cc)
 
 -- rows that are not bad
-module _ (line : SiteLine) (rows : List Row) (good : IsBad line rows → ⊥) where
+module _ (line : SiteLine) (rows : List Row) (good : (k : RowKey) (reason : BadReason) → IsBad line rows k reason → ⊥) where
   fits_open : (p : List ℕ) (n : ℕ) (o : OpenCommand) → Contains rows (row.Pending p n o) → NotNot (FitsOpen line rows p n o)
   fits_open p n o h refuted =
-      good (CommandOfStranger p n o h (λ provider.
-      good (OpenUnanswered p n o h (λ reply i.
-      good (StartOfOtherToken p n o h (λ own_token.
-      given (λ (start : IsStart o.command). λ (nowhere : HasPlace line.site o → ⊥). good (StartNowhere p n o h start nowhere)) (λ place.
+      good _ _ (CommandOfStranger p n o h (λ provider.
+      good _ _ (OpenUnanswered p n o h (λ reply i.
+      good _ _ (StartOfOtherToken p n o h (λ own_token.
+      given (λ (start : IsStart o.command). λ (nowhere : HasPlace line.site o → ⊥). good _ _ (StartNowhere p n o h start nowhere)) (λ place.
       refuted (record { provider = provider; answered = (reply, i); own_token = own_token; place = place }))))))))
 
   fits_session : (v : Session) → Contains rows (row.Session v) → NotNot (FitsSession line rows v)
   fits_session v h refuted =
-      good (SessionIdNotOwn v h (λ n made.
-      good (Stuck v h (inr (λ priced.
-      given (λ (live : IsLive v.status). λ (stranger : HasPeer line.parties.providers (key v.cdr_token.party) → ⊥). good (SessionOfStranger v h live stranger)) (λ provider.
+      good _ _ (SessionIdNotOwn v h (λ n made.
+      good _ _ (Stuck v h (inr (λ priced.
+      given (λ (live : IsLive v.status). λ (stranger : HasPeer line.parties.providers (key v.cdr_token.party) → ⊥). good _ _ (SessionOfStranger v h live stranger)) (λ provider.
       given (λ (live : IsLive v.status). λ (nowhere : IsConnectorOf line.site.locations (key v.evse_uid) (key v.connector_id) → ⊥).
-      good (SessionNowhere v h live nowhere)) (λ place.
+      good _ _ (SessionNowhere v h live nowhere)) (λ place.
       given (λ (done : v.status ≡ Completed). λ (none : (x : Cdr) × Contains rows (row.Cdr x) × (key x.session_id ≡ key v.id) → ⊥).
-      good (Unbilled v h done (λ x i same. none (x, i, same)))) (λ billed.
+      good _ _ (Unbilled v h done none)) (λ billed.
       refuted (record { made = (n, made); priced = priced; provider = provider; place = place; billed = billed })))))))))
 
   fits_cdr : (x : Cdr) → Contains rows (row.Cdr x) → NotNot (FitsCdr line rows x)
-  fits_cdr x h refuted = good (CdrIdNotOwn x h (λ n made. good (BilledEarly x h (λ v i same done. refuted (record { made = (n, made); ended = (v, i, same, done) })))))
+  fits_cdr x h refuted = good _ _ (CdrIdNotOwn x h (λ n made. good _ _ (BilledEarly x h (λ ended. refuted (record { made = (n, made); ended = ended })))))
 
   fits : (r : Row) → Contains rows r → NotNot (Fits line rows r)
-  fits (row.Token t) h refuted = good (TokenOfStranger t h refuted)
-  fits (row.Push n to push) h refuted = good (PushToStranger n to push h refuted)
-  fits (row.Service evse) h refuted = good (ServiceNowhere evse h refuted)
-  fits (row.Reservation p id r) h refuted = good (ReservationNowhere p id r h refuted)
+  fits (row.Token t) h refuted = good _ _ (TokenOfStranger t h refuted)
+  fits (row.Push n to push) h refuted = good _ _ (PushToStranger n to push h refuted)
+  fits (row.Service evse) h refuted = good _ _ (ServiceNowhere evse h refuted)
+  fits (row.Reservation p id r) h refuted = good _ _ (ReservationNowhere p id r h refuted)
   fits (row.Pending p n o) h refuted = fits_open p n o h refuted
-  fits (row.Result p n x) h refuted = good (ResultUnanswered p n x h (λ reply i. refuted (reply, i)))
+  fits (row.Result p n x) h refuted = good _ _ (ResultUnanswered p n x h (λ reply i. refuted (reply, i)))
   fits (row.Session v) h refuted = fits_session v h refuted
   fits (row.Cdr x) h refuted = fits_cdr x h refuted
   fits r h refuted = refuted tt
@@ -184,7 +188,7 @@ module _ (line : SiteLine) (rows : List Row) (good : IsBad line rows → ⊥) wh
   one_claim evse c d h k =
       let a = claim_in evse c h in
       let b = claim_in evse d k in
-      elim (same_claim c d) [ inl same ↦ same | inr apart ↦ absurd (good (ClaimedTwice a.0 b.0 evse c d a.1 b.1 a.2 b.2 apart)) ]
+      elim (same_claim c d) [ inl same ↦ same | inr apart ↦ absurd (good _ _ (ClaimedTwice a.0 b.0 evse c d a.1 b.1 a.2 b.2 apart)) ]
 
   not_given : (c : Counter) (n last : ℕ) → ((m : ℕ) → Contains rows (row.Count c m) → last ≡ m) → last < n → IsNotGiven rows c n
   not_given c n last is below = record { some_number = λ e. omega arith; above = λ m h. let e : last ≡ m = is m h in omega arith }
@@ -193,7 +197,7 @@ module _ (line : SiteLine) (rows : List Row) (good : IsBad line rows → ⊥) wh
   pushes_counted n h =
       let o = has_some (get stored.pushes n) h in
       elim (cases_lt stored.request n) [
-        | inl below ↦ absurd (good (PushNotGiven n o.0.to o.0.push (listed (row.Push n o.0.to o.0.push) o.1)
+        | inl below ↦ absurd (good _ _ (PushNotGiven n o.0.to o.0.push (listed (row.Push n o.0.to o.0.push) o.1)
             (not_given counter.Request n stored.request (λ m i. (stands (row.Count counter.Request m) i).0) below)))
         | inr up_to ↦ omega arith
       ]
@@ -205,7 +209,7 @@ module _ (line : SiteLine) (rows : List Row) (good : IsBad line rows → ⊥) wh
     apart = λ n h k. has_none SentCommand nat_cmp n k;
     one_each = λ u n q x y. elim (told nat_cmp_total nat_cmp-IsAntisymmetric n q) [
       | inl same ↦ same
-      | inr apart ↦ absurd (good (PushedTwice n q x.0.to y.0.to x.0.push y.0.push u apart
+      | inr apart ↦ absurd (good _ _ (PushedTwice n q x.0.to y.0.to x.0.push y.0.push u apart
           (listed (row.Push n x.0.to x.0.push) x.1) (listed (row.Push q y.0.to y.0.push) y.1) x.2 y.2))
     ];
   }
@@ -221,7 +225,7 @@ module _ (line : SiteLine) (rows : List Row) (good : IsBad line rows → ⊥) wh
         record {
           provider = f.provider;
           answered = has_reply p n f.answered;
-          unsettled = none_else (get stored.commands.results (p, n)) (λ x e. good (OpenWithResult p n o x h (listed (row.Result p n x) e)));
+          unsettled = none_else (get stored.commands.results (p, n)) (λ x e. good _ _ (OpenWithResult p n o x h (listed (row.Result p n x) e)));
           own = f.own_token;
           place = f.place;
         }
@@ -247,7 +251,7 @@ module _ (line : SiteLine) (rows : List Row) (good : IsBad line rows → ⊥) wh
           let m = (all (row.Session v.0) i).made in
           let is : n ≡ m.0 = same_number own.Session v.0.id n m.0 below m.1 (key_of_session id v.0 v.1) in
           elim (cases_lt stored.charged.last_session n) [
-            | inl over ↦ absurd (good (SessionNotGiven v.0 n i (subst (IsOwnId own.Session line.parties.operator v.0.id) (sym is) m.1)
+            | inl over ↦ absurd (good _ _ (SessionNotGiven v.0 n i (subst (IsOwnId own.Session line.parties.operator v.0.id) (sym is) m.1)
                 (not_given counter.Session n stored.charged.last_session (λ q j. (stands (row.Count counter.Session q) j).0) over)))
             | inr up_to ↦ omega arith
           ]
@@ -260,7 +264,7 @@ module _ (line : SiteLine) (rows : List Row) (good : IsBad line rows → ⊥) wh
           let m = (all (row.Cdr x.0) i).made in
           let is : n ≡ m.0 = same_number own.Cdr x.0.id n m.0 below m.1 (key_of_cdr id x.0 x.1) in
           elim (cases_lt stored.charged.last_cdr n) [
-            | inl over ↦ absurd (good (CdrNotGiven x.0 n i (subst (IsOwnId own.Cdr line.parties.operator x.0.id) (sym is) m.1)
+            | inl over ↦ absurd (good _ _ (CdrNotGiven x.0 n i (subst (IsOwnId own.Cdr line.parties.operator x.0.id) (sym is) m.1)
                 (not_given counter.Cdr n stored.charged.last_cdr (λ q j. (stands (row.Count counter.Cdr q) j).0) over)))
             | inr up_to ↦ omega arith
           ]
@@ -282,6 +286,25 @@ module _ (line : SiteLine) (rows : List Row) (good : IsBad line rows → ⊥) wh
         numbered = record { sessions = session_counted; cdrs = cdr_counted };
       }
 
+    -- two charge detail records of different ids stand at different places
+    two_bills : (x y : Cdr) → Contains rows (row.Cdr x) → Contains rows (row.Cdr y) → key x.id ≢ key y.id → key x.session_id ≡ key y.session_id → BillsTwice rows
+    two_bills x y h k apart same =
+        let here = slice_get-get_or rows h.0 (row.Cdr x) h.1 ∙ ap (λ (r : Row). Some r) h.2 in
+        let there = slice_get-get_or rows k.0 (row.Cdr y) k.1 ∙ ap (λ (r : Row). Some r) k.2 in
+        record {
+          first = h.0;
+          second = k.0;
+          one = x;
+          other = y;
+          apart = λ at.
+              let e : Some (row.Cdr x) ≡ Some (row.Cdr y) = sym here ∙ ap (slice_get rows) at ∙ there in
+              let is : x ≡ y = cc in
+              apart (ap (λ (z : Cdr). key z.id) is);
+          one_is = here;
+          other_is = there;
+          same = same;
+        }
+
     made_billed : AreBilled stored
     made_billed = record {
       each = λ id v has done.
@@ -292,14 +315,14 @@ module _ (line : SiteLine) (rows : List Row) (good : IsBad line rows → ⊥) wh
           (ended.0, subst (λ k. get stored.charged.sessions k ≡ Some ended.0) ended.2 (stands (row.Session ended.0) ended.1), ended.3);
       once = λ i j x y hx hy same. elim (told text_total text_exact (key x.id) (key y.id)) [
         | inl is ↦ key_of_cdr i x hx ∙ is ∙ sym (key_of_cdr j y hy)
-        | inr apart ↦ absurd (good (BilledTwice x y (cdr_in i x hx) (cdr_in j y hy) apart same))
+        | inr apart ↦ absurd (good _ _ (BilledTwice (two_bills x y (cdr_in i x hx) (cdr_in j y hy) apart same)))
       ];
     }
 
     made_whole : IsWhole made_state
     made_whole = record {
       sessions = λ id v has. (all (row.Session v) (session_in id v has)).made;
-      resumable = λ id v has stuck. good (Stuck v (session_in id v has) stuck);
+      resumable = λ id v has stuck. good _ _ (Stuck v (session_in id v has) stuck);
       cdrs = λ id x has. (all (row.Cdr x) (cdr_in id x has)).made;
       billed = made_billed;
     }

@@ -17,6 +17,7 @@ use Rattle.ocpi_types.specs.declared.rows.Change.TheVariants.{Put}
 use Rattle.ocpi_types.specs.declared.rows.Counter.TheVariants as counter
 use Rattle.ocpi_types.specs.declared.rows.Row.{Row}
 use Rattle.ocpi_types.specs.declared.rows.Row.TheVariants as row
+use Rattle.ocpi_types.specs.declared.rows.RowKey.{RowKey}
 use Rattle.ocpi_types.specs.declared.site.SiteLine.{SiteLine}
 use Rattle.outbox.specs.Outbox.{request_of, without}
 use Rattle.outbox.specs.Resend.{Resend}
@@ -27,11 +28,15 @@ use Rattle.operator_rows.specs.State.{State, no_rows, opening}
 use Rattle.operator_rows.specs.Steps.{after_change}
 use Rattle.operator_rows.specs.Stored.{put_row}
 use Rattle.operator_rows.proofs.RowChanges.{row_changes}
-use Rattle.operator_stored.specs.Bad.{Repeated}
-use Rattle.operator_stored.specs.Placing.{ArePut, IsFit, IsInTurn, IsNew, IsPlaced, MayAdd, ShowsBad, Stands}
+use Rattle.operator_stored.specs.Bad.{IsBad, Repeated}
+use Rattle.operator_stored.specs.Placing.{ArePut, IsFit, IsInTurn, IsNew, IsPlaced, MayAdd, ShowsAs, ShowsBad, Stands}
+use Rattle.stored_rows.specs.Faults.{IfBadRows}
 use Rattle.stored_rows.specs.Turns.{turn_of}
+use Rattle.stored_rows.specs.declared.fault.BadReason.TheVariants as reason
+use Rattle.stored_rows.specs.declared.fault.RowsFault.{RowsFault}
+use Rattle.stored_rows.specs.declared.fault.RowsFault.TheVariants.{BadRows, Memory}
 use Rattle.stored_rows.proofs.Growing.{is_no_later, none_stand, one_more, stands_before}
-use Rattle.stored_rows.proofs.Repeated.{repeats, repeats_in_other_order}
+use Rattle.stored_rows.proofs.Repeated.{repeats_this, this_in_other_order}
 
 -- no counter gave a number, and nothing else stands
 none_at_first : (r : Row) → HasRow no_rows r → ⊥
@@ -125,12 +130,21 @@ module _ (line : SiteLine) (before rest : List Row) (s : State) (r : Row) (put :
       here = listed r (Contains-append_right before (r ∷ rest) r (in_front r rest));
       among = λ q h. listed q (Contains-append_left before (r ∷ rest) q ((put.has_rows.exact q).1 h));
       earlier = λ q i below. (put.has_rows.exact q).0 (stands_before before rest r q order (Contains-permutation all (before ++ r ∷ rest) q same i) below);
-      twice = λ q h key. repeats_in_other_order all (before ++ r ∷ rest) same (repeats before rest r q ((put.has_rows.exact q).1 h) key);
+      twice = λ q h key.
+          let again = this_in_other_order (key_of r) all (before ++ r ∷ rest) same (repeats_this before rest r q ((put.has_rows.exact q).1 h) key) in
+          (again.twice, again.is);
     }
 
 -- a row of a key that stands is bad
-pub repeated : (s : State) (r : Row) → Stands s r → ShowsBad s r
-repeated s r h line rows p = Repeated (p.twice h.0 h.1 h.2)
+pub repeated : (s : State) (r : Row) → Stands s r → ShowsBad s r reason.Repeated
+repeated s r h line rows p =
+    let again = p.twice h.0 h.1 h.2 in
+    subst (λ (k : RowKey). IsBad line rows k reason.Repeated) again.1 (Repeated again.0)
+
+-- what is shown of each fault of a row that is placed
+pub shown : (s : State) (r : Row) (line : SiteLine) (rows : List Row) (e : RowsFault) → IsPlaced line rows s r → IfBadRows (ShowsAs s r) e → IfBadRows (IsBad line rows) e
+shown s r line rows (BadRows bad) placed h = h line rows placed
+shown s r line rows Memory placed h = tt
 
 -- what a `?` returns is the fault that it passes on
 pub err_one : {T E : Type 0} (P : E → Type 0) (r : Result T E) (f : E) → IsErrAnd r (λ e. e ≡ f) → P f → IfErr r P

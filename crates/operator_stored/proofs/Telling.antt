@@ -1,6 +1,6 @@
 -- What tells that a row may be put, and what that the rows are bad.
-use Rattle.std.proofs.Common.{◌≡◌, ◌≢◌, ℕ, ◌≤◌, ◌<◌, List, Bool, true, false, not, true≢false, is_gt, nat_eq, MatchBool, inl, inr, refl, sym, ap, subst, ◌∙◌, arith}
-use Rattle.std.specs.Prelude.{Option, Some, None, IsTrue, is_some, Contains}
+use Rattle.std.proofs.Common.{◌≡◌, ◌≢◌, ℕ, ◌≤◌, ◌<◌, List, Bool, true, false, not, true≢false, is_gt, MatchBool, inl, inr, refl, sym, ap, subst, ◌∙◌, arith}
+use Rattle.std.specs.Prelude.{Option, Some, None, Result, IsTrue, is_some, Contains}
 use Rattle.std.specs.FinMap.{get, contains_key, get-empty}
 use Rattle.std.specs.Ordering.{nat_cmp}
 use Rattle.ocpi_text.specs.Text.{key}
@@ -25,24 +25,17 @@ use Rattle.site_book.specs.Sites.{Claims, IsEvse, IsSiteOf}
 use Rattle.site_book.specs.declared.claim.Claim.{Claim}
 use Rattle.site_book.specs.declared.claim.Claim.TheVariants.{OpenStart, Live, Reserved}
 use Rattle.stored_rows.specs.Turns.{turn_of}
+use Rattle.stored_rows.specs.declared.fault.BadReason.{BadReason}
+use Rattle.stored_rows.specs.declared.fault.BadReason.TheVariants as reason
 use Rattle.tables.proofs.Options.{none_some, known}
 use Rattle.operator_rows.specs.Rows.{HasCount, HasRow}
 use Rattle.operator_rows.specs.Sound.{IsSound, MayClaim}
 use Rattle.operator_rows.specs.State.{HasClaim, IsFree, State, Rows, as_outbox}
 use Rattle.operator_rows.specs.Claimed.{IsIndexed}
-use Rattle.operator_stored.proofs.StandingRows.{is_other, is_zero, some_of, zero_or_not}
+use Rattle.operator_stored.proofs.StandingRows.{some_of, zero_or_not}
 use Rattle.operator_stored.specs.Bad.{MakesClaim}
 use Rattle.operator_stored.specs.Bad.{Foreign, NothingCounted, PushNotGiven, PushToStranger, TokenOfStranger, ServiceNowhere, ReservationNowhere, ClaimedTwice, PushedTwice}
 use Rattle.operator_stored.specs.Placing.{ComesNext, IsPlaced, MayAdd, ShowsBad, Tells}
-
--- the answer, told by cases
-pub tells : (b : Bool) (s : State) (r : Row) → (b ≡ true → MayAdd s r) → (b ≡ false → ShowsBad s r) → Tells b s r
-tells true s r may not = may refl
-tells false s r may not = not refl
-
-pub tells_by : {P Q : Type 0} (b : Bool) (s : State) (r : Row) → MatchBool b P Q → (P → MayAdd s r) → (Q → ShowsBad s r) → Tells b s r
-tells_by true s r h may not = may h
-tells_by false s r h may not = not h
 
 module _ (s : State) (r : Row) (line : SiteLine) (rows : List Row) (p : IsPlaced line rows s r) where
   pub party_of : s.party ≡ line.parties.operator
@@ -62,10 +55,10 @@ module _ (s : State) (r : Row) (line : SiteLine) (rows : List Row) (p : IsPlaced
   count_of c n later h = p.earlier (row.Count c n) h later
 
 -- ---- counters
-pub no_reference : (s : State) (n : ℕ) → ShowsBad s (row.Count counter.Reference n)
+pub no_reference : (s : State) (n : ℕ) → ShowsBad s (row.Count counter.Reference n) reason.OfOtherRole
 no_reference s n line rows p = Foreign (row.Count counter.Reference n) p.here tt
 
-pub nothing_counted : (s : State) (c : Counter) (n : ℕ) → n ≡ 0 → ShowsBad s (row.Count c n)
+pub nothing_counted : (s : State) (c : Counter) (n : ℕ) → n ≡ 0 → ShowsBad s (row.Count c n) reason.NothingCounted
 nothing_counted s c n none line rows p = NothingCounted c (subst (λ (m : ℕ). Contains rows (row.Count c m)) none p.here)
 
 module _ (s : State) (c : Counter) (last : ℕ) (next : ComesNext s (row.Count c last)) where
@@ -134,23 +127,15 @@ counted_may s counter.Cdr last known given next =
     }
 counted_may s counter.Reference last known given next = absurd (known refl)
 
-pub count_tells : (s : State) (c : Counter) (last value : ℕ) → ComesNext s (row.Count c last) → c ≢ counter.Reference → value ≡ last →
-    Tells (not (nat_eq value 0)) s (row.Count c last)
-count_tells s c last value next known same =
-    tells (not (nat_eq value 0)) s (row.Count c last)
-    (λ h. counted_may s c last known (subst (λ (n : ℕ). n ≢ 0) same (is_other value h)) next)
-    (λ h. nothing_counted s c last (sym same ∙ is_zero value h))
-
 -- ---- tokens and pushes
-pub token_tells : (b : Bool) (s : State) (t : Token) → MatchBool b (HasPeer s.providers (key t.party)) (¬ HasPeer s.providers (key t.party)) → Tells b s (row.Token t)
-token_tells b s t h = tells_by b s (row.Token t) h (λ peer. record { may = peer; fit = tt })
-    (λ not line rows p. TokenOfStranger t p.here (stranger s (row.Token t) line rows p (key t.party) not))
+pub token_of_stranger : (s : State) (t : Token) → ¬ HasPeer s.providers (key t.party) → ShowsBad s (row.Token t) reason.UnknownParty
+token_of_stranger s t not line rows p = TokenOfStranger t p.here (stranger s (row.Token t) line rows p (key t.party) not)
 
 module _ (s : State) (n : ℕ) (to : List ℕ) (push : Push) where
-  pub push_of_stranger : ¬ HasPeer s.providers (key to) → ShowsBad s (row.Push n to push)
+  pub push_of_stranger : ¬ HasPeer s.providers (key to) → ShowsBad s (row.Push n to push) reason.UnknownParty
   push_of_stranger not line rows p = PushToStranger n to push p.here (stranger s (row.Push n to push) line rows p (key to) not)
 
-  pub push_not_given : s.rows.request < n → ShowsBad s (row.Push n to push)
+  pub push_not_given : s.rows.request < n → ShowsBad s (row.Push n to push) reason.NotGiven
   push_not_given above line rows p = PushNotGiven n to push p.here (record {
     some_number = λ e. absurd (omega arith);
     above = λ last h. let is = count_of s (row.Push n to push) line rows p counter.Request last (omega arith) h in let same : s.rows.request ≡ last = is.0 in omega arith;
@@ -164,14 +149,14 @@ module _ (s : State) (n : ℕ) (to : List ℕ) (push : Push) where
     fit = tt;
   }
 
-  pub pushed_twice : (q : ℕ) → ComesNext s (row.Push n to push) → IsReplaced s.rows.pushes (subject to push) (Some q) → ShowsBad s (row.Push n to push)
+  pub pushed_twice : (q : ℕ) → ComesNext s (row.Push n to push) → IsReplaced s.rows.pushes (subject to push) (Some q) → ShowsBad s (row.Push n to push) reason.PushedTwice
   pushed_twice q next h line rows p = elim (known (subject to push)) [
     | inl none ↦ absurd (none_some q (sym (subst (λ (o : Option Subject). IsReplaced s.rows.pushes o (Some q)) none h)))
     | inr some ↦
         let about : IsAbout s.rows.pushes some.0 q = subst (λ (o : Option Subject). IsReplaced s.rows.pushes o (Some q)) some.1 h in
-        PushedTwice q n about.0.to to about.0.push push some.0
-        (λ same. next.is_new (row.Push q about.0.to about.0.push) about.1 (ap keys.Push same))
-        (p.among (row.Push q about.0.to about.0.push) about.1) p.here about.2 some.1
+        PushedTwice n q to about.0.to push about.0.push some.0
+        (λ same. next.is_new (row.Push q about.0.to about.0.push) about.1 (ap keys.Push (sym same)))
+        p.here (p.among (row.Push q about.0.to about.0.push) about.1) some.1 about.2
   ]
 
   pub not_pushed : (o : Option ℕ) → o ≡ None → IsReplaced s.rows.pushes (subject to push) o → (u : Subject) (q : ℕ) → subject to push ≡ Some u → IsAbout s.rows.pushes u q → ⊥
@@ -179,12 +164,13 @@ module _ (s : State) (n : ℕ) (to : List ℕ) (push : Push) where
       (subst (λ (r : Option ℕ). IsReplaced s.rows.pushes (Some u) r) none (subst (λ (w : Option Subject). IsReplaced s.rows.pushes w o) is h)) q about
 
 -- ---- places
-pub service_tells : (b : Bool) (s : State) (site : Site) (evse : List ℕ) → site ≡ s.site → (b ≡ true → IsEvse site.locations evse) → (IsEvse site.locations evse → b ≡ true) →
-    Tells b s (row.Service evse)
-service_tells b s site evse same is also =
-    tells b s (row.Service evse) (λ h. record { may = subst (λ (z : Site). IsEvse z.locations evse) same (is h); fit = tt })
-    (λ h line rows p. ServiceNowhere evse p.here
-    (λ e. true≢false (sym (also (subst (λ (z : Site). IsEvse z.locations evse) (sym (site_of s (row.Service evse) line rows p) ∙ sym same) e)) ∙ h)))
+module _ (b : Bool) (s : State) (site : Site) (evse : List ℕ) (same : site ≡ s.site) where
+  pub service_may : (b ≡ true → IsEvse site.locations evse) → b ≡ true → MayAdd s (row.Service evse)
+  service_may is h = record { may = subst (λ (z : Site). IsEvse z.locations evse) same (is h); fit = tt }
+
+  pub service_nowhere : (IsEvse site.locations evse → b ≡ true) → b ≡ false → ShowsBad s (row.Service evse) reason.UnknownPlace
+  service_nowhere also h line rows p = ServiceNowhere evse p.here
+      (λ e. true≢false (sym (also (subst (λ (z : Site). IsEvse z.locations evse) (sym (site_of s (row.Service evse) line rows p) ∙ sym same) e)) ∙ h))
 
 -- whether an EVSE is at the location of a reservation
 module _ (b : Bool) (site : Site) (s : State) (r : Reservation) (evse : List ℕ) (same : site ≡ s.site) (is : evse ≡ key r.evse_uid) where
@@ -217,7 +203,8 @@ claims_of s evse (Live p id) sound h =
       makes = (p, h.2, ap (λ (k : List ℕ). Live p k) same);
     }
 
-pub claimed_twice : (s : State) (r : Row) (evse : List ℕ) (c d : Claim) → ComesNext s r → MakesClaim r evse c → HasClaim s.rows evse d → (HasClaim s.rows evse c → ⊥) → ShowsBad s r
+pub claimed_twice : (s : State) (r : Row) (evse : List ℕ) (c d : Claim) → ComesNext s r → MakesClaim r evse c → HasClaim s.rows evse d → (HasClaim s.rows evse c → ⊥) →
+    ShowsBad s r reason.ClaimedTwice
 claimed_twice s r evse c d next makes has other line rows p =
     let by = claims_of s evse d next.in_turn.sound has in
     ClaimedTwice r by.claiming evse c d p.here (p.among by.claiming by.stands) makes by.makes (λ same. other (subst (HasClaim s.rows evse) (sym same) has))
@@ -226,18 +213,23 @@ pub free_may : (s : State) (evse : List ℕ) (c : Claim) → IsFree s.rows evse 
 free_may s evse c free d h = absurd (free d h)
 
 module _ (s : State) (p id : List ℕ) (r : Reservation) (next : ComesNext s (row.Reservation p id r)) where
-  pub reservation_nowhere : ¬ IsSiteOf s.site.locations (key r.evse_uid) (key r.location_id) → ShowsBad s (row.Reservation p id r)
+  pub reservation_nowhere : ¬ IsSiteOf s.site.locations (key r.evse_uid) (key r.location_id) → ShowsBad s (row.Reservation p id r) reason.UnknownPlace
   reservation_nowhere not line rows h = ReservationNowhere p id r h.here
       (λ e. not (subst (λ z. IsSiteOf z.locations (key r.evse_uid) (key r.location_id)) (sym (site_of s (row.Reservation p id r) line rows h)) e))
 
   not_held : HasClaim s.rows (key r.evse_uid) (Reserved p id) → ⊥
   not_held h = next.is_new (row.Reservation p id h.0) h.1 refl
 
-  pub reservation_tells : (b : Bool) → IsSiteOf s.site.locations (key r.evse_uid) (key r.location_id) →
-      MatchBool b (IsFree s.rows (key r.evse_uid)) ((c : Claim) × HasClaim s.rows (key r.evse_uid) c) → Tells b s (row.Reservation p id r)
-  reservation_tells b place h = tells_by b s (row.Reservation p id r) h
-      (λ free. record { may = record { place = place; alone = free_may s (key r.evse_uid) (Reserved p id) free }; fit = tt })
-      (λ c. claimed_twice s (row.Reservation p id r) (key r.evse_uid) (Reserved p id) c.0 next (refl, refl) c.1 not_held)
+  pub reservation_may : (evse : List ℕ) → evse ≡ key r.evse_uid → IsSiteOf s.site.locations (key r.evse_uid) (key r.location_id) → IsFree s.rows evse →
+      MayAdd s (row.Reservation p id r)
+  reservation_may evse is place free = record {
+    may = record { place = place; alone = free_may s (key r.evse_uid) (Reserved p id) (subst (λ (k : List ℕ). IsFree s.rows k) is free) };
+    fit = tt;
+  }
+
+  pub reservation_claimed : (evse : List ℕ) → evse ≡ key r.evse_uid → (c : Claim) × HasClaim s.rows evse c → ShowsBad s (row.Reservation p id r) reason.ClaimedTwice
+  reservation_claimed evse is c =
+      claimed_twice s (row.Reservation p id r) (key r.evse_uid) (Reserved p id) c.0 next (refl, refl) (subst (λ (k : List ℕ). HasClaim s.rows k c.0) is c.1) not_held
 
 -- whether an EVSE is claimed, by the claims that are kept
 pub unclaimed_tells : (b : Bool) (c : Option Claim) (claims : Claims) (s : Rows) (evse : List ℕ) → IsIndexed claims s → c ≡ get claims evse → is_some c ≡ not b →
@@ -261,18 +253,26 @@ is_none_told b (Some x) h e = absurd (true≢false (h ∙ ap not e))
 pub is_some_told : {X : Type 0} (b : Bool) (o : Option X) → is_some o ≡ not b → b ≡ false → (x : X) × (o ≡ Some x)
 is_some_told b o h e = some_of o (h ∙ ap not e)
 
+pub none_of : {X : Type 0} (o : Option X) → is_some o ≡ false → o ≡ None
+none_of None h = refl
+none_of (Some x) h = absurd (true≢false h)
+
 module _ (s : State) (n : ℕ) (to : List ℕ) (push : Push) (next : ComesNext s (row.Push n to push)) where
-  pub push_tells : (b : Bool) (o : Option ℕ) (rows : OutboxRows) → rows ≡ as_outbox s.rows → HasPeer s.providers (key to) → n ≤ s.rows.request →
-      IsReplaced rows.pushes (subject to push) o → is_some o ≡ not b → Tells b s (row.Push n to push)
-  push_tells b o rows same peer given h is =
-      let at : IsReplaced s.rows.pushes (subject to push) o = subst (λ (r : OutboxRows). IsReplaced r.pushes (subject to push) o) same h in
-      tells b s (row.Push n to push)
-      (λ e. push_may s n to push peer given (not_pushed s n to push o (is_none_told b o is e) at))
-      (λ e. let q = is_some_told b o is e in pushed_twice s n to push q.0 next (subst (λ (w : Option ℕ). IsReplaced s.rows.pushes (subject to push) w) q.1 at))
+  module _ (b : Bool) (o : Option ℕ) (rows : OutboxRows) (same : rows ≡ as_outbox s.rows) (h : IsReplaced rows.pushes (subject to push) o) (is : b ≡ is_some o) where
+    its_own : IsReplaced s.rows.pushes (subject to push) o
+    its_own = subst (λ (r : OutboxRows). IsReplaced r.pushes (subject to push) o) same h
+
+    pub push_alone : HasPeer s.providers (key to) → n ≤ s.rows.request → b ≡ false → MayAdd s (row.Push n to push)
+    push_alone peer given none = push_may s n to push peer given (not_pushed s n to push o (none_of o (sym is ∙ none)) its_own)
+
+    pub push_again : b ≡ true → ShowsBad s (row.Push n to push) reason.PushedTwice
+    push_again some =
+        let q = some_of o (sym is ∙ some) in
+        pushed_twice s n to push q.0 next (subst (λ (w : Option ℕ). IsReplaced s.rows.pushes (subject to push) w) q.1 its_own)
 
 -- the answer of a row that is known to be another
-pub tells_as : (b : Bool) (s : State) (r q : Row) → r ≡ q → Tells b s q → Tells b s r
-tells_as b s r q same h = subst (λ (x : Row). Tells b s x) (sym same) h
+pub tells_as : (answer : Result (Unit {0}) BadReason) (s : State) (r q : Row) → r ≡ q → Tells answer s q → Tells answer s r
+tells_as answer s r q same h = subst (λ (x : Row). Tells answer s x) (sym same) h
 
-pub command_foreign : (s : State) (r : Row) (n : ℕ) (x : SentCommand) → r ≡ row.Command n x → ShowsBad s r
-command_foreign s r n x is line rows p = Foreign (row.Command n x) (subst (λ (q : Row). Contains rows q) is p.here) tt
+pub command_foreign : (s : State) (r : Row) (n : ℕ) (x : SentCommand) → r ≡ row.Command n x → ShowsBad s r reason.OfOtherRole
+command_foreign s r n x is = subst (λ (q : Row). ShowsBad s q reason.OfOtherRole) (sym is) (λ line rows p. Foreign (row.Command n x) p.here tt)

@@ -1,9 +1,8 @@
 -- What tells that a session or a charge detail record may stand, and what that the rows are bad.
-use Rattle.std.proofs.Common.{◌≡◌, ◌≢◌, ℤ, ℕ, ◌≤◌, ◌<◌, List, Bool, true, false, not, true≢false, MatchBool, ◌⊎◌, inl, inr, refl, sym, ap, subst, ◌∙◌, arith, is_le, nat_cmp}
+use Rattle.std.proofs.Common.{◌≡◌, ◌≢◌, ℤ, ℕ, ◌≤◌, ◌<◌, List, Bool, true, false, not, true≢false, MatchBool, ◌⊎◌, inl, inr, refl, sym, ap, subst, ◌∙◌, arith}
 use Rattle.std.specs.Prelude.{Option, Some, None, IfSome, Ok}
 use Rattle.std.specs.FinMap.{get}
 use Rattle.std.proofs.lemmas.Bool.{cases_lt}
-use Rattle.std.proofs.lemmas.Bool.Decides.{nat_tests}
 use Rattle.ocpi_text.specs.OwnIds.{own_id_text}
 use Rattle.ocpi_text.specs.Party.{party_at}
 use Rattle.ocpi_text.specs.Text.{key}
@@ -23,10 +22,11 @@ use Rattle.site_book.specs.Sites.{IsConnectorOf}
 use Rattle.site_book.specs.declared.claim.Claim.{Claim}
 use Rattle.site_book.specs.declared.claim.Claim.TheVariants.{Live}
 use Rattle.stored_rows.specs.Given.{IsOwnId}
+use Rattle.stored_rows.specs.declared.fault.BadReason.TheVariants as reason
 use Rattle.operator_rows.specs.State.{HasClaim, IsFree, IsLive, State}
-use Rattle.operator_stored.proofs.Telling.{claimed_twice, count_of, free_may, party_of, site_of, stranger, tells}
+use Rattle.operator_stored.proofs.Telling.{claimed_twice, count_of, free_may, party_of, site_of, stranger}
 use Rattle.operator_stored.specs.Bad.{CdrIdNotOwn, CdrNotGiven, CdrOfOther, SessionIdNotOwn, SessionNotGiven, SessionNowhere, SessionOfOther, SessionOfStranger, Stuck}
-use Rattle.operator_stored.specs.Placing.{ComesNext, IsOwn, MayCharge, ShowsBad, Tells}
+use Rattle.operator_stored.specs.Placing.{ComesNext, IsOwn, MayAdd, MayCharge, ShowsBad}
 
 equal_or_not : (m n : ℕ) → (m ≡ n) ⊎ (m ≢ n)
 equal_or_not m n = elim (cases_lt m n) [
@@ -46,12 +46,6 @@ sole_number (Some n) k p q id same fine h = λ m fits is. elim (equal_or_not m n
   | inr apart ↦ absurd (ids_differ k q m n fine fits h.is_number apart (is ∙ ap key h.made ∙ ap (λ (z : List ℕ). key (own_id_text k z n)) same))
 ]
 
-pub is_at_most : (n last now : ℕ) (b : Bool) → b ≡ is_le (nat_cmp n last) → last ≡ now → b ≡ true → n ≤ now
-is_at_most n last now b h same e = let t : is_le (nat_cmp n last) ≡ true = sym h ∙ e in grind (arith, nat_tests)
-
-pub is_beyond : (n last now : ℕ) (b : Bool) → b ≡ is_le (nat_cmp n last) → last ≡ now → b ≡ false → now < n
-is_beyond n last now b h same e = let t : is_le (nat_cmp n last) ≡ false = sym h ∙ e in grind (arith, nat_tests)
-
 pub own_of : (s : State) (k : OwnIdKind) (last n : ℕ) (party id : List ℕ) → key party ≡ key s.party → IsOwnId k s.party id n →
     ((m : ℕ) → m ≤ max_whole → key (own_id_text k s.party m) ≡ key id → m ≡ n) → n ≤ last → IsOwn s k last party id
 own_of s k last n party id of made sole most = record {
@@ -62,14 +56,14 @@ own_of s k last n party id of made sole most = record {
 }
 
 module _ (s : State) (v : Session) where
-  pub session_of_other : (key v.party ≡ key s.party → ⊥) → ShowsBad s (row.Session v)
+  pub session_of_other : (key v.party ≡ key s.party → ⊥) → ShowsBad s (row.Session v) reason.OfOtherParty
   session_of_other other line rows h = SessionOfOther v h.here (λ e. other (e ∙ ap key (sym (party_of s (row.Session v) line rows h))))
 
-  pub session_not_own : ((n : ℕ) → IsOwnId own.Session s.party v.id n → ⊥) → ShowsBad s (row.Session v)
+  pub session_not_own : ((n : ℕ) → IsOwnId own.Session s.party v.id n → ⊥) → ShowsBad s (row.Session v) reason.NotOwnId
   session_not_own none line rows h =
       SessionIdNotOwn v h.here (λ n is. none n (subst (λ (p : List ℕ). IsOwnId own.Session p v.id n) (sym (party_of s (row.Session v) line rows h)) is))
 
-  pub session_not_given : (n : ℕ) → IsOwnId own.Session s.party v.id n → s.rows.charged.last_session < n → ShowsBad s (row.Session v)
+  pub session_not_given : (n : ℕ) → IsOwnId own.Session s.party v.id n → s.rows.charged.last_session < n → ShowsBad s (row.Session v) reason.NotGiven
   session_not_given n is beyond line rows h =
       SessionNotGiven v n h.here (subst (λ (p : List ℕ). IsOwnId own.Session p v.id n) (party_of s (row.Session v) line rows h) is) (record {
         some_number = λ e. absurd (omega arith);
@@ -77,24 +71,15 @@ module _ (s : State) (v : Session) where
             let same : s.rows.charged.last_session ≡ last = c.0 in omega arith;
       })
 
-  pub own_session : (b : Bool) (n last : ℕ) → b ≡ is_le (nat_cmp n last) → last ≡ s.rows.charged.last_session → key v.party ≡ key s.party → IsOwnId own.Session s.party v.id n →
-      ((m : ℕ) → m ≤ max_whole → key (own_id_text own.Session s.party m) ≡ key v.id → m ≡ n) →
-      MatchBool b (IsOwn s own.Session s.rows.charged.last_session v.party v.id) (ShowsBad s (row.Session v))
-  own_session b n last is same of made sole = cases b refl
-    where
-      cases : (c : Bool) → b ≡ c → MatchBool c (IsOwn s own.Session s.rows.charged.last_session v.party v.id) (ShowsBad s (row.Session v))
-      cases true e = own_of s own.Session s.rows.charged.last_session n v.party v.id of made sole (is_at_most n last s.rows.charged.last_session b is same e)
-      cases false e = session_not_given n made (is_beyond n last s.rows.charged.last_session b is same e)
-
-  pub session_of_stranger : IsLive v.status → ¬ HasPeer s.providers (key v.cdr_token.party) → ShowsBad s (row.Session v)
+  pub session_of_stranger : IsLive v.status → ¬ HasPeer s.providers (key v.cdr_token.party) → ShowsBad s (row.Session v) reason.UnknownParty
   session_of_stranger live not line rows h = SessionOfStranger v h.here live (stranger s (row.Session v) line rows h (key v.cdr_token.party) not)
 
-  pub session_nowhere : IsLive v.status → ¬ IsConnectorOf s.site.locations (key v.evse_uid) (key v.connector_id) → ShowsBad s (row.Session v)
+  pub session_nowhere : IsLive v.status → ¬ IsConnectorOf s.site.locations (key v.evse_uid) (key v.connector_id) → ShowsBad s (row.Session v) reason.UnknownPlace
   session_nowhere live not line rows h =
       SessionNowhere v h.here live (λ e. not (subst (λ (z : Site). IsConnectorOf z.locations (key v.evse_uid) (key v.connector_id))
       (sym (site_of s (row.Session v) line rows h)) e))
 
-  pub stuck : (price : ℤ) → price ≡ s.site.price → CannotResume price v → ShowsBad s (row.Session v)
+  pub stuck : (price : ℤ) → price ≡ s.site.price → CannotResume price v → ShowsBad s (row.Session v) reason.CannotGoOn
   stuck price same cannot line rows h = Stuck v h.here (subst (λ (z : ℤ). CannotResume z v) (same ∙ ap (λ (z : Site). z.price) (site_of s (row.Session v) line rows h)) cannot)
 
   not_charged : ComesNext s (row.Session v) → key v.party ≡ key s.party → (p evse : List ℕ) → HasClaim s.rows evse (Live p (key v.id)) → ⊥
@@ -104,28 +89,31 @@ module _ (s : State) (v : Session) where
       next.is_new (row.Session h.0) (subst (λ k. get s.rows.charged.sessions k ≡ Some h.0) keyed h.1)
       (ap (λ (k : List ℕ). keys.Session k (key h.0.id)) (its ∙ sym of) ∙ ap (λ (k : List ℕ). keys.Session (key v.party) k) (sym keyed))
 
-  pub charge_tells : (b : Bool) (evse : List ℕ) → evse ≡ key v.evse_uid → ComesNext s (row.Session v) → IsLive v.status → key v.party ≡ key s.party →
-      HasPeer s.providers (key v.cdr_token.party) → IsConnectorOf s.site.locations (key v.evse_uid) (key v.connector_id) →
-      MatchBool b (IsFree s.rows evse) ((d : Claim) × HasClaim s.rows evse d) → MatchBool b (MayCharge s v) (ShowsBad s (row.Session v))
-  charge_tells true evse is next live of peer place h = record {
-    provider = peer;
-    place = place;
-    alone = free_may s (key v.evse_uid) _ (subst (λ (k : List ℕ). IsFree s.rows k) is h);
-  }
-  charge_tells false evse is next live of peer place h =
-      claimed_twice s (row.Session v) (key v.evse_uid) (Live (key v.cdr_token.party) (key v.id)) h.0 next
-      (key v.cdr_token.party, record { live = live; here = refl; of_provider = refl }, refl)
-      (subst (λ (k : List ℕ). HasClaim s.rows k h.0) is h.1) (not_charged next of (key v.cdr_token.party) (key v.evse_uid))
+  module _ (evse : List ℕ) (is : evse ≡ key v.evse_uid) where
+    pub charge_may : HasPeer s.providers (key v.cdr_token.party) → IsConnectorOf s.site.locations (key v.evse_uid) (key v.connector_id) → IsFree s.rows evse →
+        MayCharge s v
+    charge_may peer place free = record {
+      provider = peer;
+      place = place;
+      alone = free_may s (key v.evse_uid) _ (subst (λ (k : List ℕ). IsFree s.rows k) is free);
+    }
+
+    pub charge_claimed : ComesNext s (row.Session v) → IsLive v.status → key v.party ≡ key s.party → (d : Claim) × HasClaim s.rows evse d →
+        ShowsBad s (row.Session v) reason.ClaimedTwice
+    charge_claimed next live of d =
+        claimed_twice s (row.Session v) (key v.evse_uid) (Live (key v.cdr_token.party) (key v.id)) d.0 next
+        (key v.cdr_token.party, record { live = live; here = refl; of_provider = refl }, refl)
+        (subst (λ (k : List ℕ). HasClaim s.rows k d.0) is d.1) (not_charged next of (key v.cdr_token.party) (key v.evse_uid))
 
 module _ (s : State) (x : Cdr) where
-  pub cdr_of_other : (key x.party ≡ key s.party → ⊥) → ShowsBad s (row.Cdr x)
+  pub cdr_of_other : (key x.party ≡ key s.party → ⊥) → ShowsBad s (row.Cdr x) reason.OfOtherParty
   cdr_of_other other line rows h = CdrOfOther x h.here (λ e. other (e ∙ ap key (sym (party_of s (row.Cdr x) line rows h))))
 
-  pub cdr_not_own : ((n : ℕ) → IsOwnId own.Cdr s.party x.id n → ⊥) → ShowsBad s (row.Cdr x)
+  pub cdr_not_own : ((n : ℕ) → IsOwnId own.Cdr s.party x.id n → ⊥) → ShowsBad s (row.Cdr x) reason.NotOwnId
   cdr_not_own none line rows h =
       CdrIdNotOwn x h.here (λ n is. none n (subst (λ (p : List ℕ). IsOwnId own.Cdr p x.id n) (sym (party_of s (row.Cdr x) line rows h)) is))
 
-  pub cdr_not_given : (n : ℕ) → IsOwnId own.Cdr s.party x.id n → s.rows.charged.last_cdr < n → ShowsBad s (row.Cdr x)
+  pub cdr_not_given : (n : ℕ) → IsOwnId own.Cdr s.party x.id n → s.rows.charged.last_cdr < n → ShowsBad s (row.Cdr x) reason.NotGiven
   cdr_not_given n is beyond line rows h =
       CdrNotGiven x n h.here (subst (λ (p : List ℕ). IsOwnId own.Cdr p x.id n) (party_of s (row.Cdr x) line rows h) is) (record {
         some_number = λ e. absurd (omega arith);
@@ -133,12 +121,11 @@ module _ (s : State) (x : Cdr) where
             let same : s.rows.charged.last_cdr ≡ last = c.0 in omega arith;
       })
 
-  pub own_cdr : (b : Bool) (n last : ℕ) → b ≡ is_le (nat_cmp n last) → last ≡ s.rows.charged.last_cdr → key x.party ≡ key s.party → IsOwnId own.Cdr s.party x.id n →
-      ((m : ℕ) → m ≤ max_whole → key (own_id_text own.Cdr s.party m) ≡ key x.id → m ≡ n) → Tells b s (row.Cdr x)
-  own_cdr b n last is same of made sole = tells b s (row.Cdr x)
-      (λ e. let o = own_of s own.Cdr s.rows.charged.last_cdr n x.party x.id of made sole (is_at_most n last s.rows.charged.last_cdr b is same e) in
-      record { may = record { own = of; number = o.given }; fit = (n, made) })
-      (λ e. cdr_not_given n made (is_beyond n last s.rows.charged.last_cdr b is same e))
+  pub own_cdr : (n : ℕ) → key x.party ≡ key s.party → IsOwnId own.Cdr s.party x.id n →
+      ((m : ℕ) → m ≤ max_whole → key (own_id_text own.Cdr s.party m) ≡ key x.id → m ≡ n) → n ≤ s.rows.charged.last_cdr → MayAdd s (row.Cdr x)
+  own_cdr n of made sole most =
+      let o = own_of s own.Cdr s.rows.charged.last_cdr n x.party x.id of made sole most in
+      record { may = record { own = of; number = o.given }; fit = (n, made) }
 
 -- whether the EVSE of a session has its connector
 module _ (b : Bool) (site : Site) (s : State) (v : Session) (evse : List ℕ) (same : site ≡ s.site) (is : evse ≡ key v.evse_uid) where

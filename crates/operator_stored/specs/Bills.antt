@@ -3,11 +3,15 @@ use Rattle.std.specs.Prelude.{◌≡◌, ◌≢◌, ◌↔◌, ◌⊎◌, ℕ, L
 use Rattle.std.specs.FinSet.{FinSet, contains}
 use Rattle.tables.specs.Keys.{text_cmp}
 use Rattle.ocpi_text.specs.Text.{key}
+use Rattle.ocpi_types.specs.Rows.{key_of}
 use Rattle.ocpi_types.specs.declared.cdrs.Cdr.{Cdr}
 use Rattle.ocpi_types.specs.declared.rows.Row.{Row}
 use Rattle.ocpi_types.specs.declared.rows.Row.TheVariants as row
+use Rattle.ocpi_types.specs.declared.rows.RowKey.{RowKey}
 use Rattle.ocpi_types.specs.declared.sessions.Session.{Session}
 use Rattle.ocpi_types.specs.declared.words.SessionStatus.TheVariants.{Completed}
+use Rattle.stored_rows.specs.declared.fault.BadReason.{BadReason}
+use Rattle.stored_rows.specs.declared.fault.BadReason.TheVariants as reason
 
 -- a charge detail record of the session of that key is among the rows
 abbrev pub HasBill : List Row → List ℕ → Type 0
@@ -33,10 +37,12 @@ pub record AreBillsOf (rows : List Row) : Type 0 where
   pub only : (x : Cdr) → Contains rows (row.Cdr x) → HasEnded rows (key x.session_id)
   pub once : (x y : Cdr) → Contains rows (row.Cdr x) → Contains rows (row.Cdr y) → key x.session_id ≡ key y.session_id → x ≡ y
 
-pub data IsMisbilled (rows : List Row) : Type 0 where
-  Twice : BillsTwice rows → IsMisbilled rows
-  Early : (x : Cdr) → Contains rows (row.Cdr x) → ¬ HasEnded rows (key x.session_id) → IsMisbilled rows
-  Never : (v : Session) → Contains rows (row.Session v) → v.status ≡ Completed → ¬ HasBill rows (key v.id) → IsMisbilled rows
+-- which row shows that these are not the bills, and why
+pub data IsMisbilled (rows : List Row) : RowKey → BadReason → Type 0 where
+  Twice : (twice : BillsTwice rows) → IsMisbilled rows (key_of (row.Cdr twice.other)) reason.BilledTwice
+  Early : (x : Cdr) → Contains rows (row.Cdr x) → ¬ HasEnded rows (key x.session_id) → IsMisbilled rows (key_of (row.Cdr x)) reason.BilledEarly
+  Never : (v : Session) → Contains rows (row.Session v) → v.status ≡ Completed → ¬ HasBill rows (key v.id) →
+      IsMisbilled rows (key_of (row.Session v)) reason.Unbilled
 
 -- the row is a charge detail record of the session of that key
 abbrev pub BillOf : Row → List ℕ → Type 0
@@ -69,3 +75,9 @@ IsEarly ended r = (x : Cdr) × (r ≡ row.Cdr x) × (contains ended (key x.sessi
 
 abbrev pub IsUnbilled : FinSet text_cmp → Row → Type 0
 IsUnbilled billed r = (v : Session) × (r ≡ row.Session v) × (v.status ≡ Completed) × (contains billed (key v.id) ≡ false)
+
+-- what the row asks of them that is not so
+abbrev pub Disagrees : FinSet text_cmp → FinSet text_cmp → Row → BadReason → Type 0
+Disagrees billed ended r reason.BilledEarly = IsEarly ended r
+Disagrees billed ended r reason.Unbilled = IsUnbilled billed r
+Disagrees billed ended r other = ⊥

@@ -1,5 +1,5 @@
+pub mod Bills
 pub mod Bad
 pub mod Whole
 pub mod Making
 pub mod Placing
-pub mod Bills

@@ -2,7 +2,9 @@
 use Rattle.std.specs.Prelude.{◌≡◌, List, Ok}
 use Rattle.ocpi_text.specs.Party.{party_at}
 use Rattle.ocpi_types.specs.declared.rows.Row.{Row}
+use Rattle.ocpi_types.specs.declared.rows.RowKey.{RowKey}
 use Rattle.ocpi_types.specs.declared.site.SiteLine.{SiteLine}
+use Rattle.stored_rows.specs.declared.fault.BadReason.{BadReason}
 use Rattle.operator_rows.specs.Rows.{AreRowsOf}
 use Rattle.operator_rows.specs.Sound.{IsConsistent, IsSound, with_rows}
 use Rattle.operator_rows.specs.State.{State, opening}
@@ -18,13 +20,14 @@ pub record IsMadeOf (line : SiteLine) (rows : List Row) (s : State) : Type 0 whe
 
 -- rows that are bad are those of no operator of the site
 abbrev pub BadRowsAreOfNone : Type 0
-BadRowsAreOfNone = (line : SiteLine) (rows : List Row) → IsBad line rows → (s : State) → IsSound s → IsMadeOf line rows s → ⊥
+BadRowsAreOfNone =
+    (line : SiteLine) (rows : List Row) (k : RowKey) (reason : BadReason) → IsBad line rows k reason → (s : State) → IsSound s → IsMadeOf line rows s → ⊥
 
 -- and rows that are those of no operator of the site are bad: no reason is missing
 abbrev pub OtherRowsAreBad : Type 0
 OtherRowsAreBad =
     (line : SiteLine) (rows : List Row) → party_at line.parties.operator ≡ Ok line.parties.operator → ((s : State) → IsSound s → IsMadeOf line rows s → ⊥) →
-    (IsBad line rows → ⊥) → ⊥
+    ((k : RowKey) (reason : BadReason) → IsBad line rows k reason → ⊥) → ⊥
 
 -- and rows tell all that is stored
 abbrev pub RowsTellAll : Type 0
@@ -38,7 +41,7 @@ pub record StartsAgain (line : SiteLine) (rows : List Row) (s : State) : Type 0 
 
 -- so the rows of an operator are not bad, and of them the very same is made, as it starts again
 pub record MakesAgain (line : SiteLine) (rows : List Row) (s : State) : Type 0 where
-  pub good : IsBad line rows → ⊥
+  pub good : (k : RowKey) (reason : BadReason) → IsBad line rows k reason → ⊥
   pub same : (t : State) → IsSound t → IsMadeOf line rows t → t ≡ restarted s
 
 abbrev pub RowsMakeAgain : Type 0

@@ -1,5 +1,5 @@
 -- A row that is put beside those that stand, none of which is of a later turn.
-use Rattle.std.specs.Prelude.{◌≡◌, ◌≢◌, ◌≤◌, ◌<◌, ℕ, List, Bool, Contains, MatchBool, ⊤}
+use Rattle.std.specs.Prelude.{◌≡◌, ◌≢◌, ◌≤◌, ◌<◌, ℕ, List, Contains, Result, Ok, Err, ⊤}
 use Rattle.ocpi_text.specs.OwnIds.{own_id_text}
 use Rattle.ocpi_text.specs.Text.{key}
 use Rattle.ocpi_text.specs.Whole.{max_whole}
@@ -8,6 +8,7 @@ use Rattle.ocpi_text.specs.declared.own_ids.OwnIdKind.TheVariants as own
 use Rattle.ocpi_types.specs.Rows.{key_of}
 use Rattle.ocpi_types.specs.declared.rows.Row.{Row}
 use Rattle.ocpi_types.specs.declared.rows.Row.TheVariants as row
+use Rattle.ocpi_types.specs.declared.rows.RowKey.{RowKey}
 use Rattle.ocpi_types.specs.declared.site.SiteLine.{SiteLine}
 use Rattle.ocpi_types.specs.declared.sessions.Session.{Session}
 use Rattle.ocpi_types.specs.declared.stored.OpenCommand.{OpenCommand}
@@ -17,6 +18,7 @@ use Rattle.site_book.specs.declared.claim.Claim.TheVariants.{Live, OpenStart}
 use Rattle.session_state.specs.Resuming.{CannotResume}
 use Rattle.stored_rows.specs.Given.{IsOwnId, RepeatsKey}
 use Rattle.stored_rows.specs.Turns.{turn_of}
+use Rattle.stored_rows.specs.declared.fault.BadReason.{BadReason}
 use Rattle.operator_rows.specs.Rows.{AreRowsOf, HasRow}
 use Rattle.operator_rows.specs.Sound.{HasPlace, IsSound, MayClaim, MayPut, with_rows}
 use Rattle.operator_rows.specs.State.{IsStart, State, Takes, opening}
@@ -45,7 +47,7 @@ pub record IsPlaced (line : SiteLine) (rows : List Row) (s : State) (r : Row) : 
   pub here : Contains rows r
   pub among : (q : Row) → HasRow s.rows q → Contains rows q
   pub earlier : (q : Row) → Contains rows q → turn_of q < turn_of r → HasRow s.rows q
-  pub twice : (q : Row) → HasRow s.rows q → key_of q ≡ key_of r → RepeatsKey rows
+  pub twice : (q : Row) → HasRow s.rows q → key_of q ≡ key_of r → (t : RepeatsKey rows) × (key_of t.other ≡ key_of r)
 
 -- what is asked of a row beside what the books keep
 abbrev pub IsFit : State → Row → Type 0
@@ -75,13 +77,22 @@ pub record IsOwn (s : State) (kind : OwnIdKind) (last : ℕ) (party id : List �
   pub made : IsOwnId kind s.party id number
   pub given : (n : ℕ) → n ≤ max_whole → key (own_id_text kind s.party n) ≡ key id → n ≤ last
 
--- the rows are bad, whichever the others are
-abbrev pub ShowsBad : State → Row → Type 0
-ShowsBad s r = (line : SiteLine) (rows : List Row) → IsPlaced line rows s r → IsBad line rows
+-- the row of that key shows that the rows are bad, and why, whichever the others are
+abbrev pub ShowsAs : State → Row → RowKey → BadReason → Type 0
+ShowsAs s r k reason = (line : SiteLine) (rows : List Row) → IsPlaced line rows s r → IsBad line rows k reason
+
+-- the row itself does
+abbrev pub ShowsBad : State → Row → BadReason → Type 0
+ShowsBad s r reason = ShowsAs s r (key_of r) reason
+
+-- the answer to whether that holds, where the row shows for what reason the rows are bad if it does not
+abbrev pub Answers : Result (Unit {0}) BadReason → Type 0 → State → Row → Type 0
+Answers (Ok x) P s r = P
+Answers (Err reason) P s r = ShowsBad s r reason
 
 -- the answer to whether the row may be put
-abbrev pub Tells : Bool → State → Row → Type 0
-Tells may s r = MatchBool may (MayAdd s r) (ShowsBad s r)
+abbrev pub Tells : Result (Unit {0}) BadReason → State → Row → Type 0
+Tells answer s r = Answers answer (MayAdd s r) s r
 
 -- just these rows stand, each once, and nothing else differs from the opening
 pub record ArePut (line : SiteLine) (rows : List Row) (s : State) : Type 0 where

@@ -1,29 +1,31 @@
 //! Rows that are put back one by one, each once it is seen that it may stand.
 
 ghost use Rattle.std.specs.Prelude.{◌≡◌, IfErr, List, OnOk};
+ghost use Rattle.ocpi_types.specs.Rows.{key_of};
 ghost use Rattle.ocpi_types.specs.declared.rows.Change.TheVariants as change;
 ghost use Rattle.ocpi_types.specs.declared.site.SiteLine.{SiteLine};
+ghost use Rattle.stored_rows.specs.Faults.{IfBadRows};
+ghost use Rattle.stored_rows.specs.declared.fault.BadReason.TheVariants as reason;
 ghost use Rattle.operator_rows.specs.Steps.{after_change};
-ghost use Rattle.operator_stored.specs.Bad.{IsBad};
-ghost use Rattle.operator_stored.specs.Placing.{ComesNext, IsInTurn, IsNew, MayAdd, ShowsBad, Tells};
+ghost use Rattle.operator_stored.specs.Placing.{ComesNext, IsInTurn, IsNew, MayAdd, ShowsAs, Tells};
 
 use crate::commands::{may_open, may_settle};
 use crate::places::{may_reserve, may_stop};
 use crate::pushes::{may_count, may_know, may_push};
-use crate::sessions::{is_own_cdr, may_stand};
+use crate::sessions::{may_own_cdr, may_stand};
 use crate::standing::stands;
 use ocpi_types::Row;
 use operator_rows::Books;
-use stored_rows::RowsFault;
+use stored_rows::{BadReason, BadRow, RowsFault};
 
-/// Whether a row may be put beside those that stand.
-fn may_add(books: &Books, row: &Row) -> bool
+/// Whether a row may be put beside those that stand. Else why the rows are bad.
+fn may_add(books: &Books, row: &Row) -> Result<(), BadReason>
     requires { ComesNext books.now.state row.now }
     ensures { Tells result books.now.state row.now }
 {
     match row {
         Row::Count { counter, last } => may_count(books, *counter, *last),
-        Row::Reply { .. } | Row::Spent { .. } | Row::Mark { .. } => true,
+        Row::Reply { .. } | Row::Spent { .. } | Row::Mark { .. } => Ok(()),
         Row::Token { token } => may_know(books, token),
         Row::Push { number, to, push } => may_push(books, *number, to, push),
         Row::Service { evse_uid } => may_stop(books, *evse_uid),
@@ -43,24 +45,28 @@ fn may_add(books: &Books, row: &Row) -> bool
             result: outcome,
         } => may_settle(books, *provider, *number, *outcome),
         Row::Session { session } => may_stand(books, session),
-        Row::Cdr { cdr } => is_own_cdr(books, cdr),
-        Row::Command { .. } => false,
+        Row::Cdr { cdr } => may_own_cdr(books, cdr),
+        Row::Command { .. } => Err(BadReason::OfOtherRole),
     }
 }
 
-/// Puts a row beside those that stand, where it may be. Else the rows are bad, and it is refused.
-pub fn add_row(books: &mut Books, row: Row) -> Result<(), RowsFault>
-    requires { IsInTurn books.old.state row }
+/// Puts a row beside those that stand, where it may be. Else the rows are bad, and it is refused: it is the row that
+/// shows it. `repeated` is what is told where a row of its key stands.
+pub fn add_row(books: &mut Books, row: Row, repeated: BadRow) -> Result<(), RowsFault>
+    requires turn { IsInTurn books.old.state row }
+    requires key { repeated.key ≡ key_of row }
+    requires reason { repeated.reason ≡ reason.Repeated }
     ensures new { OnOk result (IsNew books.old.state row) }
     ensures may { OnOk result (MayAdd books.old.state row) }
     ensures state { OnOk result (books.new.state ≡ after_change (change.Put row) books.old.state) }
-    ensures bad { IfErr result (λ e. e ≡ RowsFault.BadRows → ShowsBad books.old.state row) }
+    ensures bad { IfErr result (IfBadRows (ShowsAs books.old.state row)) }
 {
     if stands(books, &row) {
-        return Err(RowsFault::BadRows);
+        return Err(RowsFault::BadRows(repeated));
     }
-    if !may_add(books, &row) {
-        return Err(RowsFault::BadRows);
+    if let Err(reason) = may_add(books, &row) {
+        let key = repeated.key;
+        return Err(RowsFault::BadRows(BadRow { key, reason }));
     }
     books.add_row(row)?;
     Ok(())

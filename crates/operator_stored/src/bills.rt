@@ -1,26 +1,26 @@
 //! Whether each session that is to be billed is billed, and once.
 
-ghost use Rattle.std.specs.Prelude.{◌≡◌, ◌⊎◌, IfOk, IsTrue, List, MatchBool, OnOk, ℕ};
+ghost use Rattle.std.specs.Prelude.{◌≡◌, IfErr, IfOk, IsTrue, List, MatchBool, OnOk, ℕ};
 ghost use Rattle.std.specs.FinSet as set;
 ghost use Rattle.ocpi_types.specs.declared.words.SessionStatus.TheVariants.{Completed};
 ghost use Rattle.ocpi_types.specs.declared.rows.Row.TheVariants as row;
+ghost use Rattle.stored_rows.specs.Faults.{IfBadRows};
 ghost use Rattle.operator_stored.specs.Bills.{
   Agrees,
   AreBilledBy,
   AreBillsOf,
   AreIdsOf,
   BillOf,
-  BillsTwice,
+  Disagrees,
   EndOf,
   HasEnded,
   HaveAlso,
-  IsEarly,
   IsMisbilled,
-  IsUnbilled,
 };
 
 use ocpi_types::{IdSet, Row, Session, SessionStatus};
 use std::alloc::{AllocError, Global};
+use stored_rows::{BadReason, BadRow, RowsFault};
 
 /// Adds the session of a charge detail record, and answers whether it was not there. Other rows add nothing.
 fn add_bill(row: &Row, billed: &mut IdSet) -> Result<bool, AllocError>
@@ -36,17 +36,21 @@ fn add_bill(row: &Row, billed: &mut IdSet) -> Result<bool, AllocError>
     }
 }
 
-/// Adds the sessions of the charge detail records to an empty set, and answers whether no two are of one session.
-fn add_bills(rows: &[Row], billed: &mut IdSet) -> Result<bool, AllocError>
+/// Adds the sessions of the charge detail records to an empty set. Refused where two are of one session.
+fn add_bills(rows: &[Row], billed: &mut IdSet) -> Result<(), RowsFault>
     requires { billed.old ≡ set.empty }
-    ensures { IfOk result (λ once. MatchBool once (AreBilledBy billed.new rows.now) (BillsTwice rows.now)) }
+    ensures all { OnOk result (AreBilledBy billed.new rows.now) }
+    ensures bad { IfErr result (IfBadRows (IsMisbilled rows.now)) }
 {
     for row in rows {
         if !add_bill(row, billed)? {
-            return Ok(false);
+            return Err(RowsFault::BadRows(BadRow {
+                key: row.key(),
+                reason: BadReason::BilledTwice,
+            }));
         }
     }
-    Ok(true)
+    Ok(())
 }
 
 /// Whether a session with that status is COMPLETED.
@@ -91,46 +95,58 @@ fn add_ends(rows: &[Row], ended: &mut IdSet) -> Result<(), AllocError>
     Ok(())
 }
 
-/// Whether a session that is COMPLETED is billed, and what is billed is COMPLETED.
-fn agrees(row: &Row, billed: &IdSet, ended: &IdSet) -> bool
-    ensures { MatchBool result (Agrees billed.now ended.now row.now) (IsEarly ended.now row.now ⊎ IsUnbilled billed.now row.now) }
+/// Whether a session that is COMPLETED is billed, and what is billed is COMPLETED. Else which of both is not so.
+fn agrees(row: &Row, billed: &IdSet, ended: &IdSet) -> Result<(), BadReason>
+    ensures all { OnOk result (Agrees billed.now ended.now row.now) }
+    ensures not { IfErr result (Disagrees billed.now ended.now row.now) }
 {
     match row {
         Row::Session { session } => {
-            if !is_completed(session.status) {
-                return true;
+            if is_completed(session.status) && !billed.contains(&session.id) {
+                return Err(BadReason::Unbilled);
             }
-            billed.contains(&session.id)
+            Ok(())
         }
-        Row::Cdr { cdr } => ended.contains(&cdr.session_id),
-        _ => true,
+        Row::Cdr { cdr } => {
+            if !ended.contains(&cdr.session_id) {
+                return Err(BadReason::BilledEarly);
+            }
+            Ok(())
+        }
+        _ => Ok(()),
     }
 }
 
-/// Whether that is so of all rows.
-fn all_agree(rows: &[Row], billed: &IdSet, ended: &IdSet) -> bool
+/// Whether that is so of all rows. Refused where it is not.
+fn all_agree(rows: &[Row], billed: &IdSet, ended: &IdSet) -> Result<(), BadRow>
     requires billed { AreBilledBy billed.now rows.now }
     requires ended { AreIdsOf ended.now (HasEnded rows.now) }
-    ensures { MatchBool result (AreBillsOf rows.now) (IsMisbilled rows.now) }
+    ensures all { OnOk result (AreBillsOf rows.now) }
+    ensures bad { IfErr result (λ b. IsMisbilled rows.now b.key b.reason) }
 {
     for row in rows {
-        if !agrees(row, billed, ended) {
-            return false;
+        if let Err(reason) = agrees(row, billed, ended) {
+            return Err(BadRow {
+                key: row.key(),
+                reason,
+            });
         }
     }
-    true
+    Ok(())
 }
 
 /// Whether each session that is COMPLETED has a charge detail record among the rows, none has two, and no other
-/// session has one. An error is want of memory.
-pub fn are_billed(alloc: Global, rows: &[Row]) -> Result<bool, AllocError>
-    ensures { IfOk result (λ b. MatchBool b (AreBillsOf rows.now) (IsMisbilled rows.now)) }
+/// session has one. Refused as `BadRows` where that is not so, with a row that shows it.
+pub fn check_bills(alloc: Global, rows: &[Row]) -> Result<(), RowsFault>
+    ensures all { OnOk result (AreBillsOf rows.now) }
+    ensures bad { IfErr result (IfBadRows (IsMisbilled rows.now)) }
 {
     let mut billed = IdSet::new(alloc);
-    if !add_bills(rows, &mut billed)? {
-        return Ok(false);
-    }
+    add_bills(rows, &mut billed)?;
     let mut ended = IdSet::new(alloc);
     add_ends(rows, &mut ended)?;
-    Ok(all_agree(rows, &billed, &ended))
+    match all_agree(rows, &billed, &ended) {
+        Ok(()) => Ok(()),
+        Err(bad) => Err(RowsFault::BadRows(bad)),
+    }
 }

@@ -4,13 +4,14 @@ ghost use Rattle.std.specs.Prelude.{◌≡◌, MatchBool};
 ghost use Rattle.ocpi_types.specs.declared.rows.Row.TheVariants as row;
 ghost use Rattle.operator_rows.specs.Sound.{IsOwnStart};
 ghost use Rattle.operator_rows.specs.State.{IsStart};
-ghost use Rattle.operator_stored.specs.Placing.{ComesNext, MayTake, ShowsBad, Tells};
+ghost use Rattle.operator_stored.specs.Placing.{Answers, ComesNext, MayTake, Tells};
 
 use crate::places::{has_place, is_unclaimed};
 use crate::pushes::is_provider;
 use ocpi_text::{PartyKey, Whole};
 use ocpi_types::{Command, CommandResultType, OpenCommand};
 use operator_rows::Books;
+use stored_rows::BadReason;
 
 /// Whether a command is a start.
 fn is_start(command: &Command) -> bool
@@ -30,38 +31,53 @@ fn is_own(provider: PartyKey, command: &Command) -> bool
 }
 
 /// Whether a command, where it is a start, has its place to itself.
-fn may_take(books: &Books, provider: PartyKey, number: Whole, order: &OpenCommand) -> bool
+fn may_take(
+    books: &Books,
+    provider: PartyKey,
+    number: Whole,
+    order: &OpenCommand,
+) -> Result<(), BadReason>
     requires { ComesNext books.now.state (row.Pending provider number order.now) }
-    ensures { MatchBool result (MayTake books.now.state provider number order.now) (ShowsBad books.now.state (row.Pending provider number order.now)) }
+    ensures { Answers result (MayTake books.now.state provider number order.now) books.now.state (row.Pending provider number order.now) }
 {
     if !is_start(&order.command) {
-        return true;
+        return Ok(());
     }
     if !has_place(books, order) {
-        return false;
+        return Err(BadReason::UnknownPlace);
     }
     match order.evse_uid {
-        Some(evse_uid) => is_unclaimed(books, evse_uid.key()),
-        None => false,
+        Some(evse_uid) => {
+            if !is_unclaimed(books, evse_uid.key()) {
+                return Err(BadReason::ClaimedTwice);
+            }
+            Ok(())
+        }
+        None => Err(BadReason::UnknownPlace),
     }
 }
 
 /// Whether an open command that was stored may stand beside the rows that were put so far.
-pub fn may_open(books: &Books, provider: PartyKey, number: Whole, order: &OpenCommand) -> bool
+pub fn may_open(
+    books: &Books,
+    provider: PartyKey,
+    number: Whole,
+    order: &OpenCommand,
+) -> Result<(), BadReason>
     requires { ComesNext books.now.state (row.Pending provider number order.now) }
     ensures { Tells result books.now.state (row.Pending provider number order.now) }
 {
     if !is_provider(books, provider) {
-        return false;
+        return Err(BadReason::UnknownParty);
     }
     if books.reply(provider, number).is_none() {
-        return false;
+        return Err(BadReason::Unanswered);
     }
     if books.commands().answered(provider, number).is_some() {
-        return false;
+        return Err(BadReason::OpenWithResult);
     }
     if !is_own(provider, &order.command) {
-        return false;
+        return Err(BadReason::TokenOfOtherParty);
     }
     may_take(books, provider, number, order)
 }
@@ -72,12 +88,15 @@ pub fn may_settle(
     provider: PartyKey,
     number: Whole,
     outcome: CommandResultType,
-) -> bool
+) -> Result<(), BadReason>
     requires { ComesNext books.now.state (row.Result provider number outcome) }
     ensures { Tells result books.now.state (row.Result provider number outcome) }
 {
     if books.reply(provider, number).is_none() {
-        return false;
+        return Err(BadReason::Unanswered);
     }
-    books.commands().opened(provider, number).is_none()
+    if books.commands().opened(provider, number).is_some() {
+        return Err(BadReason::OpenWithResult);
+    }
+    Ok(())
 }

@@ -10,6 +10,7 @@ ghost use Rattle.operator_stored.specs.Placing.{ComesNext, Tells};
 use ocpi_text::{CiKey, PartyKey};
 use ocpi_types::{OpenCommand, Reservation};
 use operator_rows::Books;
+use stored_rows::BadReason;
 
 /// Whether no row that stands claims an EVSE.
 pub fn is_unclaimed(books: &Books, evse: CiKey<36>) -> bool
@@ -19,11 +20,14 @@ pub fn is_unclaimed(books: &Books, evse: CiKey<36>) -> bool
 }
 
 /// Whether an EVSE may be out of service.
-pub fn may_stop(books: &Books, evse: CiKey<36>) -> bool
+pub fn may_stop(books: &Books, evse: CiKey<36>) -> Result<(), BadReason>
     requires { ComesNext books.now.state (row.Service evse) }
     ensures { Tells result books.now.state (row.Service evse) }
 {
-    books.site_book().has_evse(evse)
+    if !books.site_book().has_evse(evse) {
+        return Err(BadReason::UnknownPlace);
+    }
+    Ok(())
 }
 
 /// Whether a reservation that was stored may stand beside the rows that were put so far.
@@ -32,15 +36,18 @@ pub fn may_reserve(
     provider: PartyKey,
     id: CiKey<36>,
     reservation: &Reservation,
-) -> bool
+) -> Result<(), BadReason>
     requires { ComesNext books.now.state (row.Reservation provider id reservation.now) }
     ensures { Tells result books.now.state (row.Reservation provider id reservation.now) }
 {
     let evse = reservation.evse_uid.key();
     if !books.site_book().is_at(evse, &reservation.location_id) {
-        return false;
+        return Err(BadReason::UnknownPlace);
     }
-    is_unclaimed(books, evse)
+    if !is_unclaimed(books, evse) {
+        return Err(BadReason::ClaimedTwice);
+    }
+    Ok(())
 }
 
 /// Whether an open start has an EVSE and a connector, which are of the site.

@@ -10,7 +10,7 @@ ghost use Rattle.operator_rows.specs.State.{IsLive};
 ghost use Rattle.session_state.specs.Resuming.{CannotResume};
 ghost use Rattle.session_state.specs.Versions.{HasCost};
 ghost use Rattle.stored_rows.specs.Given.{IsOwnId};
-ghost use Rattle.operator_stored.specs.Placing.{ComesNext, IsOwn, MayCharge, ShowsBad, Tells};
+ghost use Rattle.operator_stored.specs.Placing.{Answers, ComesNext, IsOwn, MayCharge, Tells};
 
 use crate::places::is_unclaimed;
 use crate::pushes::is_provider;
@@ -18,7 +18,7 @@ use ocpi_text::{OwnIdKind, Whole};
 use ocpi_types::{Cdr, PricePerKwh, Session, SessionStatus};
 use operator_rows::Books;
 use session_state::resume;
-use stored_rows::own_number;
+use stored_rows::{BadReason, own_number};
 
 /// Whether a session with that status has not ended.
 fn is_live(status: SessionStatus) -> bool
@@ -52,61 +52,72 @@ fn number_of(books: &Books, kind: OwnIdKind, id: &str) -> Option<Whole>
 }
 
 /// Whether a session is the operator's own, by its party and its id, whose number was given.
-fn is_own_session(books: &Books, session: &Session) -> bool
-    ensures { MatchBool result (IsOwn books.now.state own.Session books.now.state.rows.charged.last_session session.now.party session.now.id) (ShowsBad books.now.state (row.Session session.now)) }
+fn may_own_session(books: &Books, session: &Session) -> Result<(), BadReason>
+    ensures { Answers result (IsOwn books.now.state own.Session books.now.state.rows.charged.last_session session.now.party session.now.id) books.now.state (row.Session session.now) }
 {
     if !session.party.is_same(&books.party()) {
-        return false;
+        return Err(BadReason::OfOtherParty);
     }
     match number_of(books, OwnIdKind::Session, session.id.as_str()) {
-        Some(number) => number <= books.charged().last_session(),
-        None => false,
+        Some(number) => {
+            if number > books.charged().last_session() {
+                return Err(BadReason::NotGiven);
+            }
+            Ok(())
+        }
+        None => Err(BadReason::NotOwnId),
     }
 }
 
 /// Whether a session that has not ended has its place to itself.
-fn may_charge(books: &Books, session: &Session) -> bool
+fn may_charge(books: &Books, session: &Session) -> Result<(), BadReason>
     requires next { ComesNext books.now.state (row.Session session.now) }
     requires live { IsLive session.now.status }
     requires own { key session.now.party ≡ key books.now.state.party }
-    ensures { MatchBool result (MayCharge books.now.state session.now) (ShowsBad books.now.state (row.Session session.now)) }
+    ensures { Answers result (MayCharge books.now.state session.now) books.now.state (row.Session session.now) }
 {
     let evse = session.evse_uid.key();
     if !is_provider(books, session.cdr_token.party.key()) {
-        return false;
+        return Err(BadReason::UnknownParty);
     }
     if !books.site_book().has_connector(evse, &session.connector_id) {
-        return false;
+        return Err(BadReason::UnknownPlace);
     }
-    is_unclaimed(books, evse)
+    if !is_unclaimed(books, evse) {
+        return Err(BadReason::ClaimedTwice);
+    }
+    Ok(())
 }
 
 /// Whether the newest version of a session that was stored may stand beside the rows that were put so far.
-pub fn may_stand(books: &Books, session: &Session) -> bool
+pub fn may_stand(books: &Books, session: &Session) -> Result<(), BadReason>
     requires { ComesNext books.now.state (row.Session session.now) }
     ensures { Tells result books.now.state (row.Session session.now) }
 {
-    if !is_own_session(books, session) {
-        return false;
-    }
+    may_own_session(books, session)?;
     if !can_go_on(session, books.site_book().site().price) {
-        return false;
+        return Err(BadReason::CannotGoOn);
     }
     if !is_live(session.status) {
-        return true;
+        return Ok(());
     }
     may_charge(books, session)
 }
 
 /// Whether a charge detail record is the operator's own, by its party and its id, whose number was given.
-pub fn is_own_cdr(books: &Books, cdr: &Cdr) -> bool
+pub fn may_own_cdr(books: &Books, cdr: &Cdr) -> Result<(), BadReason>
     ensures { Tells result books.now.state (row.Cdr cdr.now) }
 {
     if !cdr.party.is_same(&books.party()) {
-        return false;
+        return Err(BadReason::OfOtherParty);
     }
     match number_of(books, OwnIdKind::Cdr, cdr.id.as_str()) {
-        Some(number) => number <= books.charged().last_cdr(),
-        None => false,
+        Some(number) => {
+            if number > books.charged().last_cdr() {
+                return Err(BadReason::NotGiven);
+            }
+            Ok(())
+        }
+        None => Err(BadReason::NotOwnId),
     }
 }

@@ -7,6 +7,7 @@ ghost use Rattle.provider_rows.specs.State.{State, opening};
 ghost use Rattle.provider_rows.specs.Steps.{restarted};
 ghost use Rattle.provider_stored.specs.Bad.{IsBad};
 ghost use Rattle.provider_stored.specs.Making.{IsMadeOf, StartsAgain};
+ghost use Rattle.stored_rows.specs.Faults.{IfBadRows};
 
 use crate::provider::Provider;
 use ocpi_types::Row;
@@ -18,10 +19,11 @@ use stored_rows::RowsFault;
 impl Provider {
     /// The provider with these peers that has just these rows, in whatever order they come: each request that waits is
     /// due at once. So of all that a provider stored (`stored`) the very same is made, as it starts again. Refused
-    /// (`BadRows`) where no provider with these peers has just these rows.
+    /// (`BadRows`) where no provider with these peers has just these rows: the fault tells which row shows it, and for
+    /// what reason.
     pub fn from_rows(alloc: Global, peers: Peers, rows: Vec<Row>) -> Result<Provider, RowsFault>
         ensures made { IfOk result (λ p. IsMadeOf peers rows.items p.state) }
-        ensures bad { IfErr result (λ e. e ≡ RowsFault.BadRows → IsBad peers rows.items) }
+        ensures bad { IfErr result (IfBadRows (IsBad peers rows.items)) }
         ensures again { (s : State) → IsConsistent s → AreKeyed s.rows → StartsAgain peers rows.items s → IfOk result (λ p. p.state ≡ restarted s) }
         ensures good { (s : State) → IsConsistent s → AreKeyed s.rows → StartsAgain peers rows.items s → IfErr result (λ e. e ≡ RowsFault.Memory) }
     {

@@ -6,7 +6,7 @@ ghost use Rattle.handover.specs.Owed.{owed};
 ghost use Rattle.provider_rows.specs.State.{opening};
 
 use node_steps::{NodeFault, Plan, Stepped, copies};
-use ocpi_text::{Moment, Party, ShortText};
+use ocpi_text::{Moment, Party, ShortText, Whole};
 use ocpi_types::{Order, Packet, Row, Token};
 use provider_rows::{Books, Peers, rows_change};
 use std::alloc::{AllocError, Global};
@@ -87,6 +87,18 @@ impl Provider {
         ensures { result ≡ owed (key operator.now, currency) (map.values self.now.state.rows.inbox.cdrs) }
     {
         self.books.inbox().settlement(operator, currency)
+    }
+
+    /// The serial of the last packet that it sent, 0 where it sent none.
+    pub fn last_serial(&self) -> Whole
+        ensures { result ≡ self.now.state.rows.serial }
+    {
+        self.books.serial()
+    }
+
+    /// Where it takes its memory from.
+    pub fn allocator(&self) -> Global {
+        self.alloc
     }
 
     /// All rows that stand, each once. An error is want of memory.

@@ -1,7 +1,6 @@
 -- Rows that may be put beside those that stand, kind by kind.
-use Rattle.std.proofs.Common.{◌≡◌, ◌≢◌, ℕ, ◌≤◌, List, inl, inr, refl, sym, ap, subst, ◌∙◌, arith, Bool, true, false, not, nat_eq}
-use Rattle.std.proofs.lemmas.Bool.{eqb-true, eq-eqb}
-use Rattle.std.specs.Prelude.{Option, Some, None, Ok, IsTrue}
+use Rattle.std.proofs.Common.{◌≡◌, ◌≢◌, ℕ, ◌≤◌, List, inl, inr, refl, sym, ap, subst, ◌∙◌, arith}
+use Rattle.std.specs.Prelude.{Option, Some, None, Ok}
 use Rattle.std.specs.Cmp.{nat_cmp_total}
 use Rattle.std.specs.FinMap.{get, insert, nat_cmp-IsAntisymmetric}
 use Rattle.ocpi_text.specs.Party.{party_at}
@@ -20,6 +19,7 @@ use Rattle.ocpi_types.specs.declared.stored.Reply.{Reply}
 use Rattle.ocpi_types.specs.declared.stored.SentCommand.{SentCommand}
 use Rattle.ocpi_types.specs.declared.token.Token.{Token}
 use Rattle.token_desk.specs.Tokens.{token_key}
+use Rattle.token_desk.specs.TypeOrder.{tokens_total, tokens_exact}
 use Rattle.outbox.specs.Outbox as outbox
 use Rattle.outbox.specs.Pushes.{IsAbout, IsReplaced, Pushes, subject}
 use Rattle.outbox.specs.declared.push_book.Subject.{Subject}
@@ -62,11 +62,11 @@ may_count s counter.Session g last e none some next = absurd (cc)
 may_count s counter.Cdr g last e none some next = absurd (cc)
 
 whole_count : (s : State) (c : Counter) (last : ℕ) → IsWhole s → IsWhole (after_change (Put (row.Count c last)) s)
-whole_count s counter.Serial last w = record { references = w.references; once = w.once }
-whole_count s counter.Request last w = record { references = w.references; once = w.once }
-whole_count s counter.Reference last w = record { references = w.references; once = w.once }
-whole_count s counter.Session last w = record { references = w.references; once = w.once }
-whole_count s counter.Cdr last w = record { references = w.references; once = w.once }
+whole_count s counter.Serial last w = record { references = w.references; tokens = w.tokens; sessions = w.sessions; cdrs = w.cdrs; once = w.once }
+whole_count s counter.Request last w = record { references = w.references; tokens = w.tokens; sessions = w.sessions; cdrs = w.cdrs; once = w.once }
+whole_count s counter.Reference last w = record { references = w.references; tokens = w.tokens; sessions = w.sessions; cdrs = w.cdrs; once = w.once }
+whole_count s counter.Session last w = record { references = w.references; tokens = w.tokens; sessions = w.sessions; cdrs = w.cdrs; once = w.once }
+whole_count s counter.Cdr last w = record { references = w.references; tokens = w.tokens; sessions = w.sessions; cdrs = w.cdrs; once = w.once }
 
 pub count_fits : (s : State) (c : Counter) (g last : ℕ) → given_last s.rows c ≡ Some g → g ≡ 0 → last ≢ 0 → IsNext s (row.Count c last) → IsFit s (row.Count c last)
 count_fits s c g last e none some next = record {
@@ -79,23 +79,41 @@ pub reply_fits : (s : State) (p : List ℕ) (n : ℕ) (reply : Reply) → get s.
 reply_fits s p n reply none = record {
   may = tt;
   new = λ x h same. let (v, is) = is_reply x p n same in not_both v (get s.rows.replies (p, n)) none (subst (λ y. HasRow s.rows y) is h);
-  whole = λ w. record { references = w.references; once = w.once };
+  whole = λ w. record { references = w.references; tokens = w.tokens; sessions = w.sessions; cdrs = w.cdrs; once = w.once };
 }
 
-pub token_fits : (s : State) (t : Token) → get s.rows.desk.tokens (token_key t) ≡ None → IsFit s (row.Token t)
-token_fits s t none = record {
+pub token_fits : (s : State) (t : Token) → key t.party ≡ key s.party → get s.rows.desk.tokens (token_key t) ≡ None → IsFit s (row.Token t)
+token_fits s t own none = record {
   may = tt;
   new = λ x h same. let (u, is, keyed) = is_token x t same in
       not_both u (get s.rows.desk.tokens (token_key t)) none (ap (get s.rows.desk.tokens) (sym keyed) ∙ subst (λ y. HasRow s.rows y) is h);
-  whole = λ w. record { references = w.references; once = w.once };
+  whole = λ w. record {
+    references = w.references;
+    tokens = λ u h. elim (of_insert tokens_total tokens_exact s.rows.desk.tokens (token_key t) t (token_key u) u h) [
+      | inl new ↦ ap (λ (z : Token). key z.party) (sym new.1) ∙ own
+      | inr stood ↦ w.tokens u stood
+    ];
+    sessions = w.sessions;
+    cdrs = w.cdrs;
+    once = w.once;
+  };
 }
 
-pub session_fits : (s : State) (v : Session) → get s.rows.inbox.sessions (session_key v) ≡ None → IsFit s (row.Session v)
-session_fits s v none = record {
+pub session_fits : (s : State) (v : Session) → key v.cdr_token.party ≡ key s.party → get s.rows.inbox.sessions (session_key v) ≡ None → IsFit s (row.Session v)
+session_fits s v own none = record {
   may = tt;
   new = λ x h same. let (u, is, keyed) = is_session x v same in
       not_both u (get s.rows.inbox.sessions (session_key v)) none (ap (get s.rows.inbox.sessions) (sym keyed) ∙ subst (λ y. HasRow s.rows y) is h);
-  whole = λ w. record { references = w.references; once = w.once };
+  whole = λ w. record {
+    references = w.references;
+    tokens = w.tokens;
+    sessions = λ u h. elim (of_insert text_pair_total text_pair_exact s.rows.inbox.sessions (session_key v) v (session_key u) u h) [
+      | inl new ↦ ap (λ (z : Session). key z.cdr_token.party) (sym new.1) ∙ own
+      | inr stood ↦ w.sessions u stood
+    ];
+    cdrs = w.cdrs;
+    once = w.once;
+  };
 }
 
 -- no record that is held is of the session of one that is in conflict with none
@@ -109,7 +127,7 @@ no_other m v y j none quiet stands session own = quiet (record {
   differs = λ same. not_both y (get m (cdr_key v)) none (ap (get m) (ap cdr_key (sym same) ∙ sym (own (key v.party, j) y stands)) ∙ stands);
 })
 
-one_per_session : (m : Cdrs) (v : Cdr) → AreOwnCdrs m → get m (cdr_key v) ≡ None → (IsInConflict m v → ⊥) → HasOnePerSession m → HasOnePerSession (insert m (cdr_key v) v)
+pub one_per_session : (m : Cdrs) (v : Cdr) → AreOwnCdrs m → get m (cdr_key v) ≡ None → (IsInConflict m v → ⊥) → HasOnePerSession m → HasOnePerSession (insert m (cdr_key v) v)
 one_per_session m v own none quiet once operator i j x y hx hy session =
     elim (of_insert text_pair_total text_pair_exact m (cdr_key v) v (operator, i) x hx) [
       | inl (at, is) ↦ elim (of_insert text_pair_total text_pair_exact m (cdr_key v) v (operator, j) y hy) [
@@ -124,12 +142,21 @@ one_per_session m v own none quiet once operator i j x y hx hy session =
       ]
     ]
 
-pub cdr_fits : (s : State) (v : Cdr) → AreOwnCdrs s.rows.inbox.cdrs → get s.rows.inbox.cdrs (cdr_key v) ≡ None → (IsInConflict s.rows.inbox.cdrs v → ⊥) → IsFit s (row.Cdr v)
-cdr_fits s v own none quiet = record {
+pub cdr_fits : (s : State) (v : Cdr) → key v.cdr_token.party ≡ key s.party → AreOwnCdrs s.rows.inbox.cdrs → get s.rows.inbox.cdrs (cdr_key v) ≡ None → (IsInConflict s.rows.inbox.cdrs v → ⊥) → IsFit s (row.Cdr v)
+cdr_fits s v own at_own none quiet = record {
   may = tt;
   new = λ x h same. let (u, is, keyed) = is_cdr x v same in
       not_both u (get s.rows.inbox.cdrs (cdr_key v)) none (ap (get s.rows.inbox.cdrs) (sym keyed) ∙ subst (λ y. HasRow s.rows y) is h);
-  whole = λ w. record { references = w.references; once = one_per_session s.rows.inbox.cdrs v own none quiet w.once };
+  whole = λ w. record {
+    references = w.references;
+    tokens = w.tokens;
+    sessions = w.sessions;
+    cdrs = λ u h. elim (of_insert text_pair_total text_pair_exact s.rows.inbox.cdrs (cdr_key v) v (cdr_key u) u h) [
+      | inl new ↦ ap (λ (z : Cdr). key z.cdr_token.party) (sym new.1) ∙ own
+      | inr stood ↦ w.cdrs u stood
+    ];
+    once = one_per_session s.rows.inbox.cdrs v at_own none quiet w.once;
+  };
 }
 
 none_about : (m : Pushes) (o : Option Subject) (u : Subject) (q : ℕ) → IsReplaced m o None → o ≡ Some u → IsAbout m u q → ⊥
@@ -149,7 +176,7 @@ push_fits s n to push free peer alone = record {
   };
   new = λ x h same. let (at, v, is) = is_push x n same in
       not_both (record { to = at; push = v }) (get s.rows.outbox.pushes n) free.no_push (subst (λ y. HasRow s.rows y) is h);
-  whole = λ w. record { references = w.references; once = w.once };
+  whole = λ w. record { references = w.references; tokens = w.tokens; sessions = w.sessions; cdrs = w.cdrs; once = w.once };
 }
 
 -- a reference that is the party's own has no other number
@@ -176,17 +203,9 @@ command_fits s n c party free peer own = record {
       | inl new ↦ let g = own r (ap (λ (z : SentCommand). reference_of z.command) new.1 ∙ is) in (g.number, g.own)
       | inr stood ↦ w.references m d stood r is
     ];
+    tokens = w.tokens;
+    sessions = w.sessions;
+    cdrs = w.cdrs;
     once = w.once;
   };
 }
-
--- what tests of a number tell
-pub not_zero : (n : ℕ) → IsTrue (not (nat_eq n 0)) → n ≢ 0
-not_zero n passes none = let same : nat_eq n 0 ≡ true = eq-eqb n 0 none in let f : false ≡ true = sym (ap not same) ∙ passes in cc
-
-pub is_zero : (n : ℕ) → not (nat_eq n 0) ≡ false → n ≡ 0
-is_zero n e = eqb-true n 0 (twice (nat_eq n 0) e)
-  where
-    twice : (b : Bool) → not b ≡ false → b ≡ true
-    twice true h = refl
-    twice false h = absurd (cc)

@@ -14,6 +14,7 @@ use Rattle.ocpi_types.specs.declared.rows.Counter.{Counter}
 use Rattle.ocpi_types.specs.declared.rows.Counter.TheVariants as counter
 use Rattle.ocpi_types.specs.declared.rows.Row.{Row}
 use Rattle.ocpi_types.specs.declared.rows.Row.TheVariants as row
+use Rattle.ocpi_types.specs.declared.rows.RowKey.{RowKey}
 use Rattle.outbox.specs.Outbox.{request_of, without}
 use Rattle.outbox.specs.Resend.{Resend}
 use Rattle.node_steps.specs.Changes.{Each}
@@ -24,15 +25,18 @@ use Rattle.provider_rows.specs.Stored.{put_row}
 use Rattle.provider_rows.proofs.RowChanges.{row_changes}
 use Rattle.provider_stored.specs.Bad.{IsBad}
 use Rattle.provider_stored.specs.Bad.IsBad.{Repeated, Foreign, NothingCounted, PushNotGiven, CommandNotGiven, ReferenceNotGiven, NumberShared}
-use Rattle.provider_stored.specs.Bad.IsBad.{ReferenceNotOwn, PushToStranger, CommandToStranger, PushedTwice, BilledTwice}
+use Rattle.provider_stored.specs.Bad.IsBad.{OtherToken, OtherSession, OtherCdr, ReferenceNotOwn, PushToStranger, CommandToStranger, PushedTwice, BilledTwice}
 use Rattle.provider_stored.specs.Fitting.{IsFit, IsNext}
 use Rattle.provider_stored.specs.Making.{IsMadeOf}
-use Rattle.stored_rows.specs.Given.{IsNotGiven}
+use Rattle.stored_rows.specs.Faults.{IfBadRows}
+use Rattle.stored_rows.specs.Given.{IsNotGiven, RepeatsKey}
 use Rattle.stored_rows.specs.Turns.{turn_of}
+use Rattle.stored_rows.specs.declared.fault.BadReason.{BadReason}
+use Rattle.stored_rows.specs.declared.fault.BadReason.TheVariants as reason
 use Rattle.stored_rows.specs.declared.fault.RowsFault.{RowsFault}
 use Rattle.stored_rows.specs.declared.fault.RowsFault.TheVariants.{BadRows, Memory}
 use Rattle.stored_rows.proofs.Growing.{is_no_later, none_stand, one_more}
-use Rattle.stored_rows.proofs.Repeated.{apart_permuted, repeats_in_other_order}
+use Rattle.stored_rows.proofs.Repeated.{apart_permuted, this_in_other_order}
 
 -- no counter gave a number, and nothing else stands
 none_at_first : (r : Row) → HasRow no_rows r → ⊥
@@ -60,6 +64,9 @@ made_of_none p s is = subst (IsMadeOf p []) (sym is) (record {
   has_rows = let all = none_stand (HasRow no_rows) none_at_first in record { exact = all.exact; apart = all.apart };
   whole = record {
     references = λ n c h. absurd (not_both c _ (get-empty _ n) h);
+    tokens = λ t h. absurd (not_both t _ (get-empty _ _) h);
+    sessions = λ x h. absurd (not_both x _ (get-empty _ _) h);
+    cdrs = λ x h. absurd (not_both x _ (get-empty _ _) h);
     once = λ operator i j x y h. absurd (not_both x _ (get-empty _ (operator, i)) h);
   };
 })
@@ -111,24 +118,39 @@ not_given xs ys h c n g = record {
   above = λ last i. g.above last (Contains-permutation xs ys (row.Count c last) h i);
 }
 
-pub bad_in_other_order : (p : Peering) (xs ys : List Row) → IsPermutation xs ys → IsBad p ys → IsBad p xs
-bad_in_other_order p xs ys h (Repeated r) = Repeated (repeats_in_other_order xs ys h r)
-bad_in_other_order p xs ys h (Foreign r i f) = Foreign r (there xs ys h r i) f
-bad_in_other_order p xs ys h (NothingCounted c i) = NothingCounted c (there xs ys h (row.Count c 0) i)
-bad_in_other_order p xs ys h (PushNotGiven n to push i g) = PushNotGiven n to push (there xs ys h (row.Push n to push) i) (not_given xs ys h counter.Request n g)
-bad_in_other_order p xs ys h (CommandNotGiven n c i g) = CommandNotGiven n c (there xs ys h (row.Command n c) i) (not_given xs ys h counter.Request n g)
-bad_in_other_order p xs ys h (ReferenceNotGiven n c r number i is own g) =
+-- one of a key that is repeated
+repeated_in_other_order : (p : Peering) (xs ys : List Row) → IsPermutation xs ys → (twice : RepeatsKey ys) → IsBad p xs (key_of twice.other) reason.Repeated
+repeated_in_other_order p xs ys h twice =
+    let again = this_in_other_order (key_of twice.other) xs ys h (record { twice = twice; is = refl }) in
+    subst (λ (k : RowKey). IsBad p xs k reason.Repeated) again.is (Repeated again.twice)
+
+pub bad_in_other_order : (p : Peering) (xs ys : List Row) → IsPermutation xs ys → (k : RowKey) (why : BadReason) → IsBad p ys k why → IsBad p xs k why
+bad_in_other_order p xs ys h _ _ (Repeated r) = repeated_in_other_order p xs ys h r
+bad_in_other_order p xs ys h _ _ (Foreign r i f) = Foreign r (there xs ys h r i) f
+bad_in_other_order p xs ys h _ _ (NothingCounted c i) = NothingCounted c (there xs ys h (row.Count c 0) i)
+bad_in_other_order p xs ys h _ _ (PushNotGiven n to push i g) =
+    PushNotGiven n to push (there xs ys h (row.Push n to push) i) (not_given xs ys h counter.Request n g)
+bad_in_other_order p xs ys h _ _ (CommandNotGiven n c i g) = CommandNotGiven n c (there xs ys h (row.Command n c) i) (not_given xs ys h counter.Request n g)
+bad_in_other_order p xs ys h _ _ (ReferenceNotGiven n c r number i is own g) =
     ReferenceNotGiven n c r number (there xs ys h (row.Command n c) i) is own (not_given xs ys h counter.Reference number g)
-bad_in_other_order p xs ys h (NumberShared n to push c i j) = NumberShared n to push c (there xs ys h (row.Push n to push) i) (there xs ys h (row.Command n c) j)
-bad_in_other_order p xs ys h (ReferenceNotOwn n c r i is never) = ReferenceNotOwn n c r (there xs ys h (row.Command n c) i) is never
-bad_in_other_order p xs ys h (PushToStranger n to push i strange) = PushToStranger n to push (there xs ys h (row.Push n to push) i) strange
-bad_in_other_order p xs ys h (CommandToStranger n c i strange) = CommandToStranger n c (there xs ys h (row.Command n c) i) strange
-bad_in_other_order p xs ys h (PushedTwice m n to other a b u apart i j one two) =
+bad_in_other_order p xs ys h _ _ (NumberShared n to push c k i j which) =
+    NumberShared n to push c k (there xs ys h (row.Push n to push) i) (there xs ys h (row.Command n c) j) which
+bad_in_other_order p xs ys h _ _ (OtherToken t i apart) = OtherToken t (there xs ys h (row.Token t) i) apart
+bad_in_other_order p xs ys h _ _ (OtherSession x i apart) = OtherSession x (there xs ys h (row.Session x) i) apart
+bad_in_other_order p xs ys h _ _ (OtherCdr x i apart) = OtherCdr x (there xs ys h (row.Cdr x) i) apart
+bad_in_other_order p xs ys h _ _ (ReferenceNotOwn n c r i is never) = ReferenceNotOwn n c r (there xs ys h (row.Command n c) i) is never
+bad_in_other_order p xs ys h _ _ (PushToStranger n to push i strange) = PushToStranger n to push (there xs ys h (row.Push n to push) i) strange
+bad_in_other_order p xs ys h _ _ (CommandToStranger n c i strange) = CommandToStranger n c (there xs ys h (row.Command n c) i) strange
+bad_in_other_order p xs ys h _ _ (PushedTwice m n to other a b u apart i j one two) =
     PushedTwice m n to other a b u apart (there xs ys h (row.Push m to a) i) (there xs ys h (row.Push n other b) j) one two
-bad_in_other_order p xs ys h (BilledTwice x y i j party ids session) =
+bad_in_other_order p xs ys h _ _ (BilledTwice x y i j party ids session) =
     BilledTwice x y (there xs ys h (row.Cdr x) i) (there xs ys h (row.Cdr y) j) party ids session
 
--- a refusal of another kind is want of memory
-pub is_memory : (e : RowsFault) → (e ≡ BadRows → ⊥) → e ≡ Memory
-is_memory BadRows other = absurd (other refl)
-is_memory Memory other = refl
+pub fault_in_other_order : (p : Peering) (xs ys : List Row) → IsPermutation xs ys → (e : RowsFault) → IfBadRows (IsBad p ys) e → IfBadRows (IsBad p xs) e
+fault_in_other_order p xs ys h (BadRows bad) told = bad_in_other_order p xs ys h bad.key bad.reason told
+fault_in_other_order p xs ys h Memory told = tt
+
+-- a refusal of rows of which none is bad is want of memory
+pub is_memory : (p : Peering) (rows : List Row) → ((k : RowKey) (why : BadReason) → IsBad p rows k why → ⊥) → (e : RowsFault) → IfBadRows (IsBad p rows) e → e ≡ Memory
+is_memory p rows good (BadRows bad) told = absurd (good bad.key bad.reason told)
+is_memory p rows good Memory told = refl

@@ -14,6 +14,7 @@ use Rattle.ocpi_types.specs.declared.rows.Counter.{Counter}
 use Rattle.ocpi_types.specs.declared.rows.Counter.TheVariants as counter
 use Rattle.ocpi_types.specs.declared.rows.Row.{Row}
 use Rattle.ocpi_types.specs.declared.rows.Row.TheVariants as row
+use Rattle.ocpi_types.specs.declared.rows.RowKey.{RowKey}
 use Rattle.ocpi_types.specs.declared.rows.RowKey.TheVariants as keys
 use Rattle.ocpi_types.specs.declared.sessions.Session.{Session}
 use Rattle.ocpi_types.specs.declared.stored.Push.{Push}
@@ -29,18 +30,25 @@ use Rattle.node_steps.specs.Peers.{HasPeer}
 use Rattle.provider_rows.specs.Rows.{AreKeyed, HasRow}
 use Rattle.provider_rows.specs.State.{Peering, Rows, State}
 use Rattle.provider_stored.specs.Bad.{IsForeign}
+use Rattle.provider_stored.specs.Bad.{IsBad}
 use Rattle.provider_stored.specs.Bad.IsBad.{Repeated, Foreign, NothingCounted, PushNotGiven, CommandNotGiven, ReferenceNotGiven, NumberShared}
-use Rattle.provider_stored.specs.Bad.IsBad.{ReferenceNotOwn, PushToStranger, CommandToStranger, PushedTwice, BilledTwice}
-use Rattle.provider_stored.specs.Fitting.{HasStrangeReference, IsStrange, IsTaken, Spoils, given_last}
+use Rattle.provider_stored.specs.Bad.IsBad.{OtherToken, OtherSession, OtherCdr, ReferenceNotOwn, PushToStranger, CommandToStranger, PushedTwice, BilledTwice}
+use Rattle.provider_stored.specs.Fitting.{HasStrangeReference, IsTaken, Spoils, given_last}
+use Rattle.provider_stored.specs.Fitting.HasStrangeReference.{OfOther, NotGivenYet}
+use Rattle.provider_stored.specs.Fitting.IsTaken.{NotCounted, HasPush, HasCommand}
 use Rattle.provider_stored.specs.Making.{IsMadeOf}
 use Rattle.stored_rows.specs.Given.{IsNotGiven, IsOwnId}
 use Rattle.stored_rows.specs.Turns.{turn_of}
-use Rattle.stored_rows.proofs.Repeated.{repeats}
+use Rattle.stored_rows.specs.declared.fault.BadReason.{BadReason}
+use Rattle.stored_rows.specs.declared.fault.BadReason.TheVariants as reason
+use Rattle.stored_rows.proofs.Repeated.{repeats_this}
 use Rattle.stored_rows.proofs.Growing.{stands_before}
 
 -- a row of the same key stands
-pub repeated : (s : State) (r x : Row) → HasRow s.rows x → key_of x ≡ key_of r → Spoils s r
-repeated s r x h same peers before rest made order = Repeated (repeats before rest r x ((made.has_rows.exact x).1 h) same)
+pub repeated : (s : State) (r x : Row) → HasRow s.rows x → key_of x ≡ key_of r → Spoils s r reason.Repeated
+repeated s r x h same peers before rest made order =
+    let again = repeats_this before rest r x ((made.has_rows.exact x).1 h) same in
+    subst (λ (k : RowKey). IsBad peers (before ++ r ∷ rest) k reason.Repeated) again.is (Repeated again.twice)
 
 -- the row is in the list, and so is each that stands
 here : (before rest : List Row) (r : Row) → Contains (before ++ r ∷ rest) r
@@ -55,7 +63,7 @@ party_is p before s made = ap (λ (t : State). t.party) made.with_peers
 operators_are : (p : Peering) (before : List Row) (s : State) → IsMadeOf p before s → s.operators ≡ p.operators
 operators_are p before s made = ap (λ (t : State). t.operators) made.with_peers
 
-pub foreign : (s : State) (r : Row) → IsForeign r → Spoils s r
+pub foreign : (s : State) (r : Row) → IsForeign r → Spoils s r reason.OfOtherRole
 foreign s r h peers before rest made order = Foreign r (here before rest r) h
 
 -- what a counter that has a row gave last
@@ -80,13 +88,13 @@ not_counted s counter.Reference n e = absurd (cc)
 not_counted s counter.Session n e = tt
 not_counted s counter.Cdr n e = tt
 
-pub other_counter : (s : State) (c : Counter) (last : ℕ) → given_last s.rows c ≡ None → Spoils s (row.Count c last)
+pub other_counter : (s : State) (c : Counter) (last : ℕ) → given_last s.rows c ≡ None → Spoils s (row.Count c last) reason.OfOtherRole
 other_counter s c last e = foreign s (row.Count c last) (not_counted s.rows c last e)
 
-pub counted_before : (s : State) (c : Counter) (g last : ℕ) → given_last s.rows c ≡ Some g → g ≢ 0 → Spoils s (row.Count c last)
+pub counted_before : (s : State) (c : Counter) (g last : ℕ) → given_last s.rows c ≡ Some g → g ≢ 0 → Spoils s (row.Count c last) reason.Repeated
 counted_before s c g last e some = repeated s (row.Count c last) (row.Count c g) (has_count s.rows c g e some) refl
 
-pub nothing_counted : (s : State) (c : Counter) (last : ℕ) → last ≡ 0 → Spoils s (row.Count c last)
+pub nothing_counted : (s : State) (c : Counter) (last : ℕ) → last ≡ 0 → Spoils s (row.Count c last) reason.NothingCounted
 nothing_counted s c last none peers before rest made order =
     NothingCounted c (subst (λ (n : ℕ). Contains (before ++ row.Count c last ∷ rest) (row.Count c n)) none (here before rest (row.Count c last)))
 
@@ -101,25 +109,25 @@ not_given p before rest s r c g n made order turn e above = record {
       omega arith;
 }
 
-pub replied_before : (s : State) (p : List ℕ) (n : ℕ) (v reply : Reply) → get s.rows.replies (p, n) ≡ Some v → Spoils s (row.Reply p n reply)
+pub replied_before : (s : State) (p : List ℕ) (n : ℕ) (v reply : Reply) → get s.rows.replies (p, n) ≡ Some v → Spoils s (row.Reply p n reply) reason.Repeated
 replied_before s p n v reply h = repeated s (row.Reply p n reply) (row.Reply p n v) h refl
 
-pub token_before : (s : State) (t u : Token) → AreKeyed s.rows → get s.rows.desk.tokens (token_key t) ≡ Some u → Spoils s (row.Token t)
+pub token_before : (s : State) (t u : Token) → AreKeyed s.rows → get s.rows.desk.tokens (token_key t) ≡ Some u → Spoils s (row.Token t) reason.Repeated
 token_before s t u keyed h =
     let same : token_key t ≡ token_key u = keyed.tokens (token_key t) u h in
     repeated s (row.Token t) (row.Token u) (subst (λ k. get s.rows.desk.tokens k ≡ Some u) same h) (let back = sym same in λ i. keys.Token (back i).1 (back i).0.0 (back i).0.1)
 
-pub session_before : (s : State) (v u : Session) → AreKeyed s.rows → get s.rows.inbox.sessions (session_key v) ≡ Some u → Spoils s (row.Session v)
+pub session_before : (s : State) (v u : Session) → AreKeyed s.rows → get s.rows.inbox.sessions (session_key v) ≡ Some u → Spoils s (row.Session v) reason.Repeated
 session_before s v u keyed h =
     let same : session_key v ≡ session_key u = keyed.inbox.of_sessions (session_key v) u h in
     repeated s (row.Session v) (row.Session u) (subst (λ k. get s.rows.inbox.sessions k ≡ Some u) same h) (let back = sym same in λ i. keys.Session (back i).0 (back i).1)
 
-pub cdr_before : (s : State) (v u : Cdr) → AreKeyed s.rows → get s.rows.inbox.cdrs (cdr_key v) ≡ Some u → Spoils s (row.Cdr v)
+pub cdr_before : (s : State) (v u : Cdr) → AreKeyed s.rows → get s.rows.inbox.cdrs (cdr_key v) ≡ Some u → Spoils s (row.Cdr v) reason.Repeated
 cdr_before s v u keyed h =
     let same : cdr_key v ≡ cdr_key u = keyed.inbox.of_cdrs (cdr_key v) u h in
     repeated s (row.Cdr v) (row.Cdr u) (subst (λ k. get s.rows.inbox.cdrs k ≡ Some u) same h) (let back = sym same in λ i. keys.Cdr (back i).0 (back i).1)
 
-pub billed_before : (s : State) (v : Cdr) → AreKeyed s.rows → get s.rows.inbox.cdrs (cdr_key v) ≡ None → IsInConflict s.rows.inbox.cdrs v → Spoils s (row.Cdr v)
+pub billed_before : (s : State) (v : Cdr) → AreKeyed s.rows → get s.rows.inbox.cdrs (cdr_key v) ≡ None → IsInConflict s.rows.inbox.cdrs v → Spoils s (row.Cdr v) reason.BilledTwice
 billed_before s v keyed none h peers before rest made order =
     let u = h.held in
     let own : (key v.party, h.id) ≡ cdr_key u = keyed.inbox.of_cdrs (key v.party, h.id) u h.stands in
@@ -131,51 +139,67 @@ billed_before s v keyed none h peers before rest made order =
           (ap (λ (k : List ℕ × List ℕ). k.0) own) (λ same. other (same ∙ sym (ap (λ (k : List ℕ × List ℕ). k.1) own))) (sym session)
     ]
 
-pub push_taken : (s : State) (n : ℕ) (to : List ℕ) (push : Push) → IsTaken s.rows.outbox n → Spoils s (row.Push n to push)
-push_taken s n to push (inl above) peers before rest made order =
+-- what is of another party's tokens
+other_party : (p : Peering) (before : List Row) (s : State) (party : List ℕ) → IsMadeOf p before s → key party ≢ key s.party → key party ≢ key p.provider
+other_party p before s party made apart same = apart (same ∙ sym (ap key (party_is p before s made)))
+
+pub token_of_other : (s : State) (t : Token) → key t.party ≢ key s.party → Spoils s (row.Token t) reason.OfOtherParty
+token_of_other s t apart peers before rest made order = OtherToken t (here before rest (row.Token t)) (other_party peers before s t.party made apart)
+
+pub session_of_other : (s : State) (v : Session) → key v.cdr_token.party ≢ key s.party → Spoils s (row.Session v) reason.OfOtherParty
+session_of_other s v apart peers before rest made order =
+    OtherSession v (here before rest (row.Session v)) (other_party peers before s v.cdr_token.party made apart)
+
+pub cdr_of_other : (s : State) (v : Cdr) → key v.cdr_token.party ≢ key s.party → Spoils s (row.Cdr v) reason.OfOtherParty
+cdr_of_other s v apart peers before rest made order = OtherCdr v (here before rest (row.Cdr v)) (other_party peers before s v.cdr_token.party made apart)
+
+pub push_taken : (s : State) (n : ℕ) (to : List ℕ) (push : Push) (why : BadReason) → IsTaken s.rows.outbox n reason.Repeated reason.NumberShared why
+    → Spoils s (row.Push n to push) why
+push_taken s n to push _ (NotCounted above) peers before rest made order =
     PushNotGiven n to push (here before rest (row.Push n to push))
     (not_given peers before rest s (row.Push n to push) counter.Request s.rows.outbox.last n made order refl refl above)
-push_taken s n to push (inr (inl h)) peers before rest made order = repeated s (row.Push n to push) (row.Push n h.0.to h.0.push) h.1 refl peers before rest made order
-push_taken s n to push (inr (inr h)) peers before rest made order =
-    NumberShared n to push h.0 (here before rest (row.Push n to push)) (there peers before rest s (row.Push n to push) (row.Command n h.0) made h.1)
+push_taken s n to push _ (HasPush x stands) peers before rest made order = repeated s (row.Push n to push) (row.Push n x.to x.push) stands refl peers before rest made order
+push_taken s n to push _ (HasCommand c stands) peers before rest made order =
+    NumberShared n to push c (keys.Push n) (here before rest (row.Push n to push)) (there peers before rest s (row.Push n to push) (row.Command n c) made stands) (inl refl)
 
-pub command_taken : (s : State) (n : ℕ) (c : SentCommand) → IsTaken s.rows.outbox n → Spoils s (row.Command n c)
-command_taken s n c (inl above) peers before rest made order =
+pub command_taken : (s : State) (n : ℕ) (c : SentCommand) (why : BadReason) → IsTaken s.rows.outbox n reason.NumberShared reason.Repeated why
+    → Spoils s (row.Command n c) why
+command_taken s n c _ (NotCounted above) peers before rest made order =
     CommandNotGiven n c (here before rest (row.Command n c)) (not_given peers before rest s (row.Command n c) counter.Request s.rows.outbox.last n made order refl refl above)
-command_taken s n c (inr (inl h)) peers before rest made order =
-    NumberShared n h.0.to h.0.push c (there peers before rest s (row.Command n c) (row.Push n h.0.to h.0.push) made h.1) (here before rest (row.Command n c))
-command_taken s n c (inr (inr h)) peers before rest made order = repeated s (row.Command n c) (row.Command n h.0) h.1 refl peers before rest made order
+command_taken s n c _ (HasPush x stands) peers before rest made order =
+    NumberShared n x.to x.push c (keys.Command n) (there peers before rest s (row.Command n c) (row.Push n x.to x.push) made stands) (here before rest (row.Command n c)) (inr refl)
+command_taken s n c _ (HasCommand d stands) peers before rest made order = repeated s (row.Command n c) (row.Command n d) stands refl peers before rest made order
 
-pub push_to_stranger : (s : State) (n : ℕ) (to : List ℕ) (push : Push) → ¬ HasPeer s.operators (key to) → Spoils s (row.Push n to push)
+pub push_to_stranger : (s : State) (n : ℕ) (to : List ℕ) (push : Push) → ¬ HasPeer s.operators (key to) → Spoils s (row.Push n to push) reason.UnknownParty
 push_to_stranger s n to push strange peers before rest made order =
     PushToStranger n to push (here before rest (row.Push n to push))
     (λ known. strange (subst (λ (l : List (List ℕ)). HasPeer l (key to)) (sym (operators_are peers before s made)) known))
 
-pub command_to_stranger : (s : State) (n : ℕ) (c : SentCommand) → ¬ HasPeer s.operators (key c.to) → Spoils s (row.Command n c)
+pub command_to_stranger : (s : State) (n : ℕ) (c : SentCommand) → ¬ HasPeer s.operators (key c.to) → Spoils s (row.Command n c) reason.UnknownParty
 command_to_stranger s n c strange peers before rest made order =
     CommandToStranger n c (here before rest (row.Command n c))
     (λ known. strange (subst (λ (l : List (List ℕ)). HasPeer l (key c.to)) (sym (operators_are peers before s made)) known))
 
 -- a push about the same stands under another number
 pub pushed_before : (s : State) (n q : ℕ) (to : List ℕ) (push : Push) → get s.rows.outbox.pushes n ≡ None → IsReplaced s.rows.outbox.pushes (subject to push) (Some q)
-    → Spoils s (row.Push n to push)
+    → Spoils s (row.Push n to push) reason.PushedTwice
 pushed_before s n q to push free about = go (subject to push) refl about
   where
-    go : (o : Option Subject) → subject to push ≡ o → IsReplaced s.rows.outbox.pushes o (Some q) → Spoils s (row.Push n to push)
+    go : (o : Option Subject) → subject to push ≡ o → IsReplaced s.rows.outbox.pushes o (Some q) → Spoils s (row.Push n to push) reason.PushedTwice
     go None e h = let none : ◌≡◌ {A = Option ℕ} (Some q) None = h in absurd (cc)
     go (Some u) e (x, stands, same) = λ peers before rest made order.
         PushedTwice n q to x.to push x.push u (λ is. not_both x (get s.rows.outbox.pushes n) free (ap (get s.rows.outbox.pushes) is ∙ stands))
         (here before rest (row.Push n to push)) (there peers before rest s (row.Push n to push) (row.Push q x.to x.push) made stands) e same
 
-pub strange_reference : (s : State) (n : ℕ) (c : SentCommand) → HasStrangeReference s.party s.rows.desk.references c.command → Spoils s (row.Command n c)
-strange_reference s n c (r, is, why) = go why
-  where
-    own_party : (peers : Peering) (before : List Row) (m : ℕ) → IsMadeOf peers before s → IsOwnId AuthorizationReference peers.provider r m
-        → IsOwnId AuthorizationReference s.party r m
-    own_party peers before m made own = subst (λ (p : List ℕ). IsOwnId AuthorizationReference p r m) (sym (party_is peers before s made)) own
+-- what is no reference of the provider's own is none of its party's
+own_party : (p : Peering) (before : List Row) (s : State) (r : List ℕ) (m : ℕ) → IsMadeOf p before s → IsOwnId AuthorizationReference p.provider r m
+    → IsOwnId AuthorizationReference s.party r m
+own_party p before s r m made own = subst (λ (q : List ℕ). IsOwnId AuthorizationReference q r m) (sym (party_is p before s made)) own
 
-    go : IsStrange s.party s.rows.desk.references r → Spoils s (row.Command n c)
-    go (inl never) peers before rest made order = ReferenceNotOwn n c r (here before rest (row.Command n c)) is (λ m own. never m (own_party peers before m made own))
-    go (inr (m, own, above)) peers before rest made order =
-        ReferenceNotGiven n c r m (here before rest (row.Command n c)) is (subst (λ (p : List ℕ). IsOwnId AuthorizationReference p r m) (party_is peers before s made) own)
-        (not_given peers before rest s (row.Command n c) counter.Reference s.rows.desk.references m made order refl refl above)
+pub strange_reference : (s : State) (n : ℕ) (c : SentCommand) (why : BadReason) → HasStrangeReference s.party s.rows.desk.references c.command why
+    → Spoils s (row.Command n c) why
+strange_reference s n c _ (OfOther r is never) peers before rest made order =
+    ReferenceNotOwn n c r (here before rest (row.Command n c)) is (λ m own. never m (own_party peers before s r m made own))
+strange_reference s n c _ (NotGivenYet r m is own above) peers before rest made order =
+    ReferenceNotGiven n c r m (here before rest (row.Command n c)) is (subst (λ (p : List ℕ). IsOwnId AuthorizationReference p r m) (party_is peers before s made) own)
+    (not_given peers before rest s (row.Command n c) counter.Reference s.rows.desk.references m made order refl refl above)

@@ -12,6 +12,7 @@ use Rattle.ocpi_types.specs.declared.rows.Counter.{Counter}
 use Rattle.ocpi_types.specs.declared.rows.Counter.TheVariants as counter
 use Rattle.ocpi_types.specs.declared.rows.Row.{Row}
 use Rattle.ocpi_types.specs.declared.rows.Row.TheVariants as row
+use Rattle.ocpi_types.specs.declared.rows.RowKey.{RowKey}
 use Rattle.token_desk.specs.Tokens as tokens
 use Rattle.token_desk.specs.TypeOrder.{tokens_total, tokens_exact}
 use Rattle.outbox.specs.OutboxListing as outbox_rows
@@ -25,10 +26,11 @@ use Rattle.provider_rows.specs.State.{Peering, Rows, State, opening}
 use Rattle.provider_rows.specs.Steps.{restarted}
 use Rattle.provider_stored.specs.Bad.{IsBad, IsForeign}
 use Rattle.provider_stored.specs.Bad.IsBad.{Repeated, Foreign, NothingCounted, PushNotGiven, CommandNotGiven, ReferenceNotGiven, NumberShared}
-use Rattle.provider_stored.specs.Bad.IsBad.{ReferenceNotOwn, PushToStranger, CommandToStranger, PushedTwice, BilledTwice}
+use Rattle.provider_stored.specs.Bad.IsBad.{OtherToken, OtherSession, OtherCdr, ReferenceNotOwn, PushToStranger, CommandToStranger, PushedTwice, BilledTwice}
 use Rattle.provider_stored.specs.Fitting.{given_last}
 use Rattle.provider_stored.specs.Making.{BadRowsAreOfNone, IsMadeOf, RowsMakeAgain, RowsTellAll, StartsAgain}
 use Rattle.stored_rows.specs.Given.{IsNotGiven, IsOwnId}
+use Rattle.stored_rows.specs.declared.fault.BadReason.{BadReason}
 use Rattle.stored_rows.proofs.Repeated.{none_repeated}
 use Rattle.provider_stored.proofs.Spoiled.{has_count}
 
@@ -73,34 +75,37 @@ module _ (p : Peering) (rows : List Row) (s : State) (made : IsMadeOf p rows s) 
       let above : suc g < n = h.above (suc g) ((made.has_rows.exact (row.Count c (suc g))).1 (has_count s.rows c (suc g) e (λ none. omega arith))) in
       omega arith
 
-  none_bad : IsBad p rows → ⊥
-  none_bad (Repeated r) = none_repeated rows made.has_rows.apart r
-  none_bad (Foreign r i f) = no_foreign s.rows r f (stands r i)
-  none_bad (NothingCounted c i) = some_counted s.rows c (stands (row.Count c 0) i)
-  none_bad (PushNotGiven n to push i g) =
+  none_bad : (k : RowKey) (why : BadReason) → IsBad p rows k why → ⊥
+  none_bad _ _ (Repeated r) = none_repeated rows made.has_rows.apart r
+  none_bad _ _ (Foreign r i f) = no_foreign s.rows r f (stands r i)
+  none_bad _ _ (NothingCounted c i) = some_counted s.rows c (stands (row.Count c 0) i)
+  none_bad _ _ (PushNotGiven n to push i g) =
       was_given counter.Request s.rows.outbox.last n refl (sound.outbox.pushes_counted n (ap is_some (stands (row.Push n to push) i))) g
-  none_bad (CommandNotGiven n c i g) =
+  none_bad _ _ (CommandNotGiven n c i g) =
       was_given counter.Request s.rows.outbox.last n refl (sound.outbox.commands_counted n (ap is_some (stands (row.Command n c) i))) g
-  none_bad (ReferenceNotGiven n c r number i is own g) =
+  none_bad _ _ (ReferenceNotGiven n c r number i is own g) =
       let mine = subst (λ (q : List ℕ). IsOwnId AuthorizationReference q r number) (sym party_is) own in
       was_given counter.Reference s.rows.desk.references number refl (sound.references n c (stands (row.Command n c) i) r number is own.is_number (ap key mine.made)) g
-  none_bad (NumberShared n to push c i j) =
+  none_bad _ _ (NumberShared n to push c k i j which) =
       sound.outbox.apart n (ap is_some (stands (row.Push n to push) i)) (ap is_some (stands (row.Command n c) j))
-  none_bad (ReferenceNotOwn n c r i is never) =
+  none_bad _ _ (OtherToken t i apart) = apart (made.whole.tokens t (stands (row.Token t) i) ∙ ap key party_is)
+  none_bad _ _ (OtherSession x i apart) = apart (made.whole.sessions x (stands (row.Session x) i) ∙ ap key party_is)
+  none_bad _ _ (OtherCdr x i apart) = apart (made.whole.cdrs x (stands (row.Cdr x) i) ∙ ap key party_is)
+  none_bad _ _ (ReferenceNotOwn n c r i is never) =
       let (number, own) = made.whole.references n c (stands (row.Command n c) i) r is in
       never number (subst (λ (q : List ℕ). IsOwnId AuthorizationReference q r number) party_is own)
-  none_bad (PushToStranger n to push i strange) =
+  none_bad _ _ (PushToStranger n to push i strange) =
       strange (subst (λ (t : State). HasPeer t.operators (key to)) made.with_peers (sound.pushes n (record { to = to; push = push }) (stands (row.Push n to push) i)))
-  none_bad (CommandToStranger n c i strange) =
+  none_bad _ _ (CommandToStranger n c i strange) =
       strange (subst (λ (t : State). HasPeer t.operators (key c.to)) made.with_peers (sound.commands n c (stands (row.Command n c) i)))
-  none_bad (PushedTwice m n to other a b u apart i j one two) =
+  none_bad _ _ (PushedTwice m n to other a b u apart i j one two) =
       apart (sound.outbox.one_each u m n (record { to = to; push = a }, stands (row.Push m to a) i, one) (record { to = other; push = b }, stands (row.Push n other b) j, two))
-  none_bad (BilledTwice x y i j party ids session) =
+  none_bad _ _ (BilledTwice x y i j party ids session) =
       ids (made.whole.once (key y.party) (key x.id) (key y.id) x y
       (subst (λ (o : List ℕ). get s.rows.inbox.cdrs (o, key x.id) ≡ Some x) party (stands (row.Cdr x) i)) (stands (row.Cdr y) j) session)
 
 pub bad_of_none : BadRowsAreOfNone
-bad_of_none p rows bad s _ sound made = none_bad p rows s made sound bad
+bad_of_none p rows k why bad s _ sound made = none_bad p rows s made sound k why bad
 
 -- numbers that have the same rows
 same_count : (m n : ℕ) → ((k : ℕ) → (m ≡ k) × (k ≢ 0) → (n ≡ k) × (k ≢ 0)) → ((k : ℕ) → (n ≡ k) × (k ≢ 0) → (m ≡ k) × (k ≢ 0)) → m ≡ n
@@ -159,7 +164,13 @@ module _ (p : Peering) (rows : List Row) (s : State) (consistent : IsConsistent 
   as_made = record {
     with_peers = again.with_peers;
     has_rows = again.has_rows;
-    whole = record { references = again.whole.references; once = again.whole.once };
+    whole = record {
+      references = again.whole.references;
+      tokens = again.whole.tokens;
+      sessions = again.whole.sessions;
+      cdrs = again.whole.cdrs;
+      once = again.whole.once;
+    };
   }
 
   still_sound : IsSound (restarted s)
@@ -170,7 +181,7 @@ module _ (p : Peering) (rows : List Row) (s : State) (consistent : IsConsistent 
     outbox = consistent.sound.outbox;
   }
 
-  not_bad : IsBad p rows → ⊥
+  not_bad : (k : RowKey) (why : BadReason) → IsBad p rows k why → ⊥
   not_bad = none_bad p rows (restarted s) as_made still_sound
 
   the_same : (t : State) → AreKeyed t.rows → IsMadeOf p rows t → t ≡ restarted s

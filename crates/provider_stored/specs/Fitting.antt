@@ -1,5 +1,5 @@
 -- Which rows may be put beside those that stand, one after the other.
-use Rattle.std.specs.Prelude.{◌≡◌, ◌≢◌, ◌⊎◌, ◌<◌, ◌≤◌, ℕ, List, ◌∷◌, ◌++◌, Option, Some, None}
+use Rattle.std.specs.Prelude.{◌≡◌, ◌≢◌, ◌<◌, ◌≤◌, ℕ, List, ◌∷◌, ◌++◌, Option, Some, None}
 use Rattle.std.specs.List.Sorted.{IsNonDecreasingBy}
 use Rattle.std.specs.FinMap.{get}
 use Rattle.ocpi_text.specs.declared.own_ids.OwnIdKind.TheVariants.{AuthorizationReference}
@@ -21,6 +21,8 @@ use Rattle.provider_stored.specs.Making.{IsMadeOf}
 use Rattle.provider_stored.specs.Whole.{IsWhole}
 use Rattle.stored_rows.specs.Given.{IsOwnId}
 use Rattle.stored_rows.specs.Turns.{turn_of}
+use Rattle.stored_rows.specs.declared.fault.BadReason.{BadReason}
+use Rattle.stored_rows.specs.declared.fault.BadReason.TheVariants as reason
 
 -- no row that stands is of a later turn
 abbrev pub IsNext : State → Row → Type 0
@@ -32,10 +34,10 @@ pub record IsFit (s : State) (r : Row) : Type 0 where
   pub new : (x : Row) → HasRow s.rows x → key_of x ≢ key_of r
   pub whole : IsWhole s → IsWhole (after_change (Put r) s)
 
--- no provider has the row beside those that stand, whatever comes after it in turn
-abbrev pub Spoils : State → Row → Type 0
-Spoils s r = (peers : Peering) (before rest : List Row) → IsMadeOf peers before s → IsNonDecreasingBy turn_of (before ++ r ∷ rest) →
-    IsBad peers (before ++ r ∷ rest)
+-- no provider has the row beside those that stand, whatever comes after it in turn: the row shows it, for that reason
+abbrev pub Spoils : State → Row → BadReason → Type 0
+Spoils s r why = (peers : Peering) (before rest : List Row) → IsMadeOf peers before s → IsNonDecreasingBy turn_of (before ++ r ∷ rest) →
+    IsBad peers (before ++ r ∷ rest) (key_of r) why
 
 -- the number that a counter gave last, 0 where it gave none; a provider has no other counters
 abbrev pub given_last : Rows → Counter → Option ℕ
@@ -51,9 +53,11 @@ pub record IsFree (r : OutboxRows) (n : ℕ) : Type 0 where
   pub no_push : get r.pushes n ≡ None
   pub no_command : get r.commands n ≡ None
 
--- the number was not given, or a push or a command stands under it
-abbrev pub IsTaken : OutboxRows → ℕ → Type 0
-IsTaken r n = (r.last < n) ⊎ (((x : Outgoing) × (get r.pushes n ≡ Some x)) ⊎ ((c : SentCommand) × (get r.commands n ≡ Some c)))
+-- it was not given, or a push or a command stands under it, and this is said of the one, of the other
+pub data IsTaken (r : OutboxRows) (n : ℕ) (of_push of_command : BadReason) : BadReason → Type 0 where
+  NotCounted : r.last < n → IsTaken r n of_push of_command reason.NotGiven
+  HasPush : (x : Outgoing) → get r.pushes n ≡ Some x → IsTaken r n of_push of_command of_push
+  HasCommand : (c : SentCommand) → get r.commands n ≡ Some c → IsTaken r n of_push of_command of_command
 
 -- the reference of the command, if it has one, is the party's own by a number that was given
 pub record IsOwnGiven (party : List ℕ) (last : ℕ) (r : List ℕ) : Type 0 where
@@ -64,10 +68,9 @@ pub record IsOwnGiven (party : List ℕ) (last : ℕ) (r : List ℕ) : Type 0 wh
 abbrev pub HasOwnReference : List ℕ → ℕ → Command → Type 0
 HasOwnReference party last c = (r : List ℕ) → reference_of c ≡ Some r → IsOwnGiven party last r
 
--- the reference is not the party's own, or its number was not given
-abbrev pub IsStrange : List ℕ → ℕ → List ℕ → Type 0
-IsStrange party last r =
-    ((n : ℕ) → IsOwnId AuthorizationReference party r n → ⊥) ⊎ ((n : ℕ) × IsOwnId AuthorizationReference party r n × (last < n))
-
-abbrev pub HasStrangeReference : List ℕ → ℕ → Command → Type 0
-HasStrangeReference party last c = (r : List ℕ) × (reference_of c ≡ Some r) × IsStrange party last r
+-- the command has a reference that is not the party's own, or whose number was not given
+pub data HasStrangeReference (party : List ℕ) (last : ℕ) (c : Command) : BadReason → Type 0 where
+  OfOther : (r : List ℕ) → reference_of c ≡ Some r → ((n : ℕ) → IsOwnId AuthorizationReference party r n → ⊥) →
+      HasStrangeReference party last c reason.NotOwnId
+  NotGivenYet : (r : List ℕ) (n : ℕ) → reference_of c ≡ Some r → IsOwnId AuthorizationReference party r n → last < n →
+      HasStrangeReference party last c reason.NotGiven

@@ -1,12 +1,14 @@
 -- The provider that is made of rows, and the laws of it.
 use Rattle.std.specs.Prelude.{◌≡◌, List}
 use Rattle.ocpi_types.specs.declared.rows.Row.{Row}
+use Rattle.ocpi_types.specs.declared.rows.RowKey.{RowKey}
 use Rattle.provider_rows.specs.Rows.{AreKeyed, AreRowsOf}
 use Rattle.provider_rows.specs.Sound.{IsConsistent, IsSound, with_rows}
 use Rattle.provider_rows.specs.State.{ArePeers, Peering, State, opening}
 use Rattle.provider_rows.specs.Steps.{restarted}
 use Rattle.provider_stored.specs.Bad.{IsBad}
 use Rattle.provider_stored.specs.Whole.{IsWhole}
+use Rattle.stored_rows.specs.declared.fault.BadReason.{BadReason}
 
 -- a provider with these peers that has just these rows: each request that waits is due at once
 pub record IsMadeOf (peers : Peering) (rows : List Row) (s : State) : Type 0 where
@@ -14,9 +16,9 @@ pub record IsMadeOf (peers : Peering) (rows : List Row) (s : State) : Type 0 whe
   pub has_rows : AreRowsOf rows s.rows
   pub whole : IsWhole s
 
--- rows that are bad are those of no provider with these peers
+-- rows of which one is bad for some reason are those of no provider with these peers
 abbrev pub BadRowsAreOfNone : Type 0
-BadRowsAreOfNone = (peers : Peering) (rows : List Row) → IsBad peers rows → (s : State) → ArePeers peers → IsSound s → IsMadeOf peers rows s → ⊥
+BadRowsAreOfNone = (peers : Peering) (rows : List Row) (k : RowKey) (why : BadReason) → IsBad peers rows k why → (s : State) → ArePeers peers → IsSound s → IsMadeOf peers rows s → ⊥
 
 -- and rows tell all that is stored
 abbrev pub RowsTellAll : Type 0
@@ -28,9 +30,9 @@ pub record StartsAgain (peers : Peering) (rows : List Row) (s : State) : Type 0 
   pub has_rows : AreRowsOf rows s.rows
   pub whole : IsWhole s
 
--- so the rows of a provider are not bad, and of them the very same is made, as it starts again
+-- so none of the rows of a provider is bad, and of them the very same is made, as it starts again
 pub record MakesAgain (peers : Peering) (rows : List Row) (s : State) : Type 0 where
-  pub good : IsBad peers rows → ⊥
+  pub good : (k : RowKey) (why : BadReason) → IsBad peers rows k why → ⊥
   pub same : (t : State) → AreKeyed t.rows → IsMadeOf peers rows t → t ≡ restarted s
 
 abbrev pub RowsMakeAgain : Type 0

@@ -1,6 +1,6 @@
-//! Which rows may be put beside those that stand.
+//! Which rows may be put beside those that stand, and what is wrong with the others.
 
-ghost use Rattle.std.specs.Prelude.{◌≡◌, ◌↔◌, IsTrue, false, option_copied};
+ghost use Rattle.std.specs.Prelude.{◌≡◌, ◌↔◌, IfNone, IfSome, IsTrue, option_copied};
 ghost use Rattle.ocpi_text.specs.Text.{key};
 ghost use Rattle.ocpi_types.specs.declared.rows.Row.TheVariants as row;
 ghost use Rattle.node_steps.specs.Peers.{HasPeer};
@@ -23,7 +23,7 @@ use ocpi_text::{CiText, OwnIdKind, Party, PartyKey, Whole};
 use ocpi_types::{Cdr, Command, Counter, Push, Reply, Row, SentCommand, Session, Token};
 use outbox::Outbox;
 use provider_rows::Books;
-use stored_rows::own_number;
+use stored_rows::{BadReason, own_number};
 
 /// The number that a counter gave last, 0 where it gave none. A provider has no counters of sessions and charge detail
 /// records.
@@ -38,48 +38,66 @@ fn given_last(books: &Books, counter: Counter) -> Option<Whole>
     }
 }
 
-/// Whether a counter may get a row: it has none yet, and a number was given.
-fn fits_count(books: &Books, counter: Counter, last: Whole) -> bool
+/// What is wrong with a row of a counter: no provider has the counter, it has a row already, or no number was given.
+fn count_fault(books: &Books, counter: Counter, last: Whole) -> Option<BadReason>
     requires { IsNext books.now.state (row.Count counter last) }
-    ensures fits { IsTrue result → IsFit books.now.state (row.Count counter last) }
-    ensures spoils { result ≡ false → Spoils books.now.state (row.Count counter last) }
+    ensures fits { IfNone result (IsFit books.now.state (row.Count counter last)) }
+    ensures spoils { IfSome result (Spoils books.now.state (row.Count counter last)) }
 {
     let Some(given) = given_last(books, counter) else {
-        return false;
+        return Some(BadReason::OfOtherRole);
     };
     if given.value() != 0 {
-        return false;
+        return Some(BadReason::Repeated);
     }
-    last.value() != 0
+    if last.value() == 0 {
+        return Some(BadReason::NothingCounted);
+    }
+    None
 }
 
-/// Whether a request has no reply yet.
-fn fits_reply(books: &Books, sender: PartyKey, number: Whole, reply: &Reply) -> bool
-    ensures fits { IsTrue result → IsFit books.now.state (row.Reply sender number reply.now) }
-    ensures spoils { result ≡ false → Spoils books.now.state (row.Reply sender number reply.now) }
+/// What is wrong with a reply: the request has one already.
+fn reply_fault(books: &Books, sender: PartyKey, number: Whole, reply: &Reply) -> Option<BadReason>
+    ensures fits { IfNone result (IsFit books.now.state (row.Reply sender number reply.now)) }
+    ensures spoils { IfSome result (Spoils books.now.state (row.Reply sender number reply.now)) }
 {
-    books.reply(sender, number).is_none()
+    if books.reply(sender, number).is_some() {
+        return Some(BadReason::Repeated);
+    }
+    None
 }
 
-/// Whether no token of that party, type and uid is held.
-fn fits_token(books: &Books, token: &Token) -> bool
-    ensures fits { IsTrue result → IsFit books.now.state (row.Token token.now) }
-    ensures spoils { result ≡ false → Spoils books.now.state (row.Token token.now) }
-{
-    books.keys_are_own();
-    books
-        .desk()
-        .find(token.party.key(), token.uid.key(), token.token_type)
-        .is_none()
-}
-
-/// Whether no session of that operator and id is held.
-fn fits_session(books: &Books, session: &Session) -> bool
-    ensures fits { IsTrue result → IsFit books.now.state (row.Session session.now) }
-    ensures spoils { result ≡ false → Spoils books.now.state (row.Session session.now) }
+/// What is wrong with a token: it is another party's, or one of that type and uid is held.
+fn token_fault(books: &Books, token: &Token) -> Option<BadReason>
+    ensures fits { IfNone result (IsFit books.now.state (row.Token token.now)) }
+    ensures spoils { IfSome result (Spoils books.now.state (row.Token token.now)) }
 {
     books.keys_are_own();
-    books.inbox().held(&session.party, &session.id).is_none()
+    if !token.party.is_same(&books.party()) {
+        return Some(BadReason::OfOtherParty);
+    }
+    let desk = books.desk();
+    let held = desk.find(token.party.key(), token.uid.key(), token.token_type);
+    if held.is_some() {
+        return Some(BadReason::Repeated);
+    }
+    None
+}
+
+/// What is wrong with a session: its token is another party's, or one of that operator and id is held.
+fn session_fault(books: &Books, session: &Session) -> Option<BadReason>
+    ensures fits { IfNone result (IsFit books.now.state (row.Session session.now)) }
+    ensures spoils { IfSome result (Spoils books.now.state (row.Session session.now)) }
+{
+    books.keys_are_own();
+    if !session.cdr_token.party.is_same(&books.party()) {
+        return Some(BadReason::OfOtherParty);
+    }
+    let held = books.inbox().held(&session.party, &session.id);
+    if held.is_some() {
+        return Some(BadReason::Repeated);
+    }
+    None
 }
 
 /// Whether a charge detail record that differs is held of that operator's record or session.
@@ -92,31 +110,47 @@ fn is_in_conflict(inbox: &Inbox, cdr: &Cdr) -> bool
     )
 }
 
-/// Whether no charge detail record of that operator and id is held, and none of its session.
-fn fits_cdr(books: &Books, cdr: &Cdr) -> bool
-    ensures fits { IsTrue result → IsFit books.now.state (row.Cdr cdr.now) }
-    ensures spoils { result ≡ false → Spoils books.now.state (row.Cdr cdr.now) }
+/// What is wrong with a charge detail record: its token is another party's, or one of that operator and id is held, or
+/// one of its session.
+fn cdr_fault(books: &Books, cdr: &Cdr) -> Option<BadReason>
+    ensures fits { IfNone result (IsFit books.now.state (row.Cdr cdr.now)) }
+    ensures spoils { IfSome result (Spoils books.now.state (row.Cdr cdr.now)) }
 {
     books.keys_are_own();
+    if !cdr.cdr_token.party.is_same(&books.party()) {
+        return Some(BadReason::OfOtherParty);
+    }
     let inbox = books.inbox();
     if inbox.held_cdr(&cdr.party, &cdr.id).is_some() {
-        return false;
+        return Some(BadReason::Repeated);
     }
-    !is_in_conflict(inbox, cdr)
+    if is_in_conflict(inbox, cdr) {
+        return Some(BadReason::BilledTwice);
+    }
+    None
 }
 
-/// Whether the number was given to a request, and no push and no command stands under it.
-fn is_free(outbox: &Outbox, number: Whole) -> bool
-    ensures free { IsTrue result → IsFree outbox.now.rows number }
-    ensures taken { result ≡ false → IsTaken outbox.now.rows number }
+/// What is wrong with a number for a request: it was not given, or a push or a command stands under it, and then what
+/// is to be said of that.
+fn number_fault(
+    outbox: &Outbox,
+    number: Whole,
+    of_push: BadReason,
+    of_command: BadReason,
+) -> Option<BadReason>
+    ensures free { IfNone result (IsFree outbox.now.rows number) }
+    ensures taken { IfSome result (IsTaken outbox.now.rows number of_push of_command) }
 {
     if outbox.last_number() < number {
-        return false;
+        return Some(BadReason::NotGiven);
     }
     if outbox.get(number).is_some() {
-        return false;
+        return Some(of_push);
     }
-    outbox.command(number).is_none()
+    if outbox.command(number).is_some() {
+        return Some(of_command);
+    }
+    None
 }
 
 /// Whether that party is an operator that the provider deals with.
@@ -126,19 +160,27 @@ fn knows(books: &Books, party: &Party) -> bool
     peer_of(books.operators(), party.key()).is_some()
 }
 
-/// Whether a push may stand: its number is free, its addressee is known, and none that stands is about the same.
-fn fits_push(books: &Books, number: Whole, to: &Party, push: &Push) -> bool
-    ensures fits { IsTrue result → IsFit books.now.state (row.Push number to.now push.now) }
-    ensures spoils { result ≡ false → Spoils books.now.state (row.Push number to.now push.now) }
+/// What is wrong with a push: its number, its addressee is unknown, or one that stands is about the same.
+fn push_fault(books: &Books, number: Whole, to: &Party, push: &Push) -> Option<BadReason>
+    ensures fits { IfNone result (IsFit books.now.state (row.Push number to.now push.now)) }
+    ensures spoils { IfSome result (Spoils books.now.state (row.Push number to.now push.now)) }
 {
     let outbox = books.outbox();
-    if !is_free(outbox, number) {
-        return false;
+    if let Some(reason) = number_fault(
+        outbox,
+        number,
+        BadReason::Repeated,
+        BadReason::NumberShared,
+    ) {
+        return Some(reason);
     }
     if !knows(books, to) {
-        return false;
+        return Some(BadReason::UnknownParty);
     }
-    outbox.replaced(to, push).is_none()
+    if outbox.replaced(to, push).is_some() {
+        return Some(BadReason::PushedTwice);
+    }
+    None
 }
 
 /// The authorization reference of a start.
@@ -154,60 +196,68 @@ fn reference_of(command: &Command) -> Option<&CiText<36>>
     }
 }
 
-/// Whether a command has no reference, or one of the party's own by a number that was given.
-fn has_own_reference(party: &Party, last: Whole, command: &Command) -> bool
-    ensures own { IsTrue result → HasOwnReference party.now last command.now }
-    ensures strange { result ≡ false → HasStrangeReference party.now last command.now }
+/// What is wrong with the reference of a command: it is not the party's own, or its number was not given.
+fn reference_fault(party: &Party, last: Whole, command: &Command) -> Option<BadReason>
+    ensures own { IfNone result (HasOwnReference party.now last command.now) }
+    ensures strange { IfSome result (HasStrangeReference party.now last command.now) }
 {
     let Some(reference) = reference_of(command) else {
-        return true;
+        return None;
     };
-    match own_number(OwnIdKind::AuthorizationReference, party, reference.as_str()) {
-        Some(number) => number <= last,
-        None => false,
+    let kind = OwnIdKind::AuthorizationReference;
+    let Some(number) = own_number(kind, party, reference.as_str()) else {
+        return Some(BadReason::NotOwnId);
+    };
+    if last < number {
+        return Some(BadReason::NotGiven);
     }
+    None
 }
 
-/// Whether a command may stand: its number is free, its addressee is known, and its reference is the provider's own
-/// and was given.
-fn fits_command(books: &Books, number: Whole, command: &SentCommand) -> bool
-    ensures fits { IsTrue result → IsFit books.now.state (row.Command number command.now) }
-    ensures spoils { result ≡ false → Spoils books.now.state (row.Command number command.now) }
+/// What is wrong with a command: its number, its addressee is unknown, or its reference.
+fn command_fault(books: &Books, number: Whole, command: &SentCommand) -> Option<BadReason>
+    ensures fits { IfNone result (IsFit books.now.state (row.Command number command.now)) }
+    ensures spoils { IfSome result (Spoils books.now.state (row.Command number command.now)) }
 {
     books.consistency();
     let party = books.party();
-    if !is_free(books.outbox(), number) {
-        return false;
+    if let Some(reason) = number_fault(
+        books.outbox(),
+        number,
+        BadReason::NumberShared,
+        BadReason::Repeated,
+    ) {
+        return Some(reason);
     }
     if !knows(books, &command.to) {
-        return false;
+        return Some(BadReason::UnknownParty);
     }
-    has_own_reference(&party, books.desk().references(), &command.command)
+    reference_fault(&party, books.desk().references(), &command.command)
 }
 
-/// Whether a row may be put beside those that stand.
-pub(crate) fn fits(books: &Books, row: &Row) -> bool
+/// What is wrong with a row beside those that stand, if it may not be put.
+pub(crate) fn row_fault(books: &Books, row: &Row) -> Option<BadReason>
     requires { IsNext books.now.state row.now }
-    ensures fits { IsTrue result → IsFit books.now.state row.now }
-    ensures spoils { result ≡ false → Spoils books.now.state row.now }
+    ensures fits { IfNone result (IsFit books.now.state row.now) }
+    ensures spoils { IfSome result (Spoils books.now.state row.now) }
 {
     match row {
-        Row::Count { counter, last } => fits_count(books, *counter, *last),
+        Row::Count { counter, last } => count_fault(books, *counter, *last),
         Row::Reply {
             sender,
             number,
             reply,
-        } => fits_reply(books, *sender, *number, reply),
-        Row::Token { token } => fits_token(books, token),
-        Row::Push { number, to, push } => fits_push(books, *number, to, push),
-        Row::Session { session } => fits_session(books, session),
-        Row::Cdr { cdr } => fits_cdr(books, cdr),
-        Row::Command { number, command } => fits_command(books, *number, command),
+        } => reply_fault(books, *sender, *number, reply),
+        Row::Token { token } => token_fault(books, token),
+        Row::Push { number, to, push } => push_fault(books, *number, to, push),
+        Row::Session { session } => session_fault(books, session),
+        Row::Cdr { cdr } => cdr_fault(books, cdr),
+        Row::Command { number, command } => command_fault(books, *number, command),
         Row::Service { .. }
         | Row::Spent { .. }
         | Row::Mark { .. }
         | Row::Reservation { .. }
         | Row::Pending { .. }
-        | Row::Result { .. } => false,
+        | Row::Result { .. } => Some(BadReason::OfOtherRole),
     }
 }

@@ -2,7 +2,7 @@
 
 ghost use Rattle.provider_stored.specs.Making.{BadRowsAreOfNone, RowsMakeAgain, RowsTellAll};
 
-/// Rows that are bad are those of no provider with these peers.
+/// Rows of which one is bad for some reason are those of no provider with these peers.
 pub fn bad_rows_are_of_none()
     ensures { BadRowsAreOfNone }
 {}

@@ -2,4 +2,6 @@
 #![tactic(auto)]
 
 #[cfg(test)]
+mod numbered;
+#[cfg(test)]
 mod tests;

@@ -1,3 +1,5 @@
-pub mod LastVersions
+pub mod OperatorSteps
 pub mod Operators
+pub mod ProviderSteps
 pub mod Providers
+pub mod Starting

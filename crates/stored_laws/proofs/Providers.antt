@@ -1,56 +1,39 @@
--- Each provider of a traced world is whole.
-use Rattle.std.proofs.Common.{◌≡◌, ℕ, List, refl, sym, subst, ◌∙◌}
-use Rattle.std.specs.Prelude.{Some}
-use Rattle.std.specs.FinMap.{get}
-use Rattle.ocpi_text.specs.declared.own_ids.OwnIdKind.TheVariants.{AuthorizationReference}
+-- Each provider of a setup can be made again of its rows, from before its first event on, and so can each provider of a
+-- traced world.
+use Rattle.std.proofs.Common.{List, ℕ, ap, subst, ◌∙◌}
+use Rattle.std.specs.Prelude.{Some, Contains}
+use Rattle.std.proofs.lemmas.Option.{slice_get-get_or}
 use Rattle.ocpi_types.specs.declared.setup.Node.{Node}
-use Rattle.ocpi_types.specs.declared.stored.SentCommand.{SentCommand}
+use Rattle.ocpi_types.specs.declared.setup.Node.TheVariants as node
 use Rattle.node_laws.proofs.Runs.{kept_runs}
-use Rattle.provider_laws.specs.Laws.{Run}
-use Rattle.provider_laws.specs.References.{InCommand}
-use Rattle.provider_laws.proofs.events.Doing.{same_party}
-use Rattle.provider_laws.proofs.references.Carrying.{references_are_own}
 use Rattle.provider_rows.specs.State as provider
-use Rattle.provider_rows.specs.State.{reference_of}
-use Rattle.provider_steps.specs.Events.{Event, Happens}
+use Rattle.provider_steps.specs.Events.{Happens}
 use Rattle.stored_laws.specs.Laws.{ProvidersAreWhole}
-use Rattle.stored_rows.specs.Given.{IsOwnId}
+use Rattle.stored_laws.proofs.ProviderSteps.{CanBeMadeAgain, happening_stays, opening_can}
 use Rattle.world_laws.specs.Laws.{IsSetup}
 use Rattle.world_laws.specs.Nodes.{ProviderOf}
 use Rattle.world_laws.proofs.NodeRuns.{peering_of, provider_at}
-use Rattle.world_laws.proofs.Right.{worlds_are_right}
+use Rattle.world_laws.proofs.Setups.{are_peers_of}
 use Rattle.world_steps.specs.Traces.{Histories, Traces}
 use Rattle.world_steps.specs.World.{Place, World}
 use Rattle.world_steps.proofs.Tracing.{traced}
 
--- each authorization reference in a command of the provider is its own
-abbrev HasOwnReferences : provider.State → Type 0
-HasOwnReferences s = (n : ℕ) (c : SentCommand) → get s.rows.outbox.commands n ≡ Some c → (r : List ℕ) → reference_of c.command ≡ Some r →
-    (number : ℕ) × IsOwnId AuthorizationReference s.party r number
+-- before the first event
+pub provider_openings : (setup : List Node) → IsSetup setup → (party : List ℕ) → Contains setup (node.Provider party) → CanBeMadeAgain (provider.opening (peering_of setup party))
+provider_openings setup is_setup party (i, within, is) =
+    let at = slice_get-get_or setup i (node.Provider party) within ∙ ap (λ (n : Node). Some n) is in
+    opening_can (peering_of setup party) (are_peers_of setup is_setup i party at)
 
--- the party of a provider is its own from the opening on
-party_stays : (p : provider.Peering) (es : List Event) (t : provider.State) → Run (provider.opening p) es t → t.party ≡ p.provider
-party_stays p es t run =
-    kept_runs Happens (λ (z : provider.State). z.party ≡ p.provider) (λ a b e happens before. same_party a b e happens ∙ before) (provider.opening p) t es run refl
-
-own_references : (p : provider.Peering) (es : List Event) (t : provider.State) → provider.ArePeers p → Run (provider.opening p) es t → HasOwnReferences t
-own_references p es t peers run n c has r is =
-    let h = references_are_own p es t peers run (InCommand n) r (c, has, is) in
-    subst (λ (party : List ℕ). (number : ℕ) × IsOwnId AuthorizationReference party r number) (sym (party_stays p es t run))
-    (h.number, record { is_number = h.within; made = h.text_is })
-
-references : (setup : List Node) (is_setup : IsSetup setup) (w : World) (hs : Histories) → Traces setup w hs → (o : List ℕ) (p : Place) (s : provider.State) →
-    ProviderOf w o p s → HasOwnReferences s
-references setup is_setup w hs traces o p s of =
+-- and from there on
+provider_can : (setup : List Node) (is_setup : IsSetup setup) (w : World) (hs : Histories) → Traces setup w hs → (o : List ℕ) (p : Place) (s : provider.State) →
+    ProviderOf w o p s → CanBeMadeAgain s
+provider_can setup is_setup w hs traces o p s of =
     let at = provider_at setup is_setup w hs traces o p s of in
-    subst HasOwnReferences at.state_is (own_references (peering_of setup at.trace.party) at.trace.events at.trace.state at.trace.are_peers at.trace.run)
+    let first = provider.opening (peering_of setup at.trace.party) in
+    subst CanBeMadeAgain at.state_is
+    (kept_runs Happens CanBeMadeAgain happening_stays first at.trace.state at.trace.events at.trace.run (opening_can (peering_of setup at.trace.party) at.trace.are_peers))
 
 pub providers_are_whole : ProvidersAreWhole
 providers_are_whole w reached o p s of =
     let (hs, traces) = traced reached.setup reached.events w reached.run in
-    let right = worlds_are_right w reached in
-    record {
-      references = references reached.setup reached.is_setup w hs traces o p s of;
-      once = λ operator i j x y has also same.
-          right.safe.records_once o operator i j x y (record { place = p; state = s; at = of; held = has }) (record { place = p; state = s; at = of; held = also }) same;
-    }
+    (provider_can reached.setup reached.is_setup w hs traces o p s of).whole

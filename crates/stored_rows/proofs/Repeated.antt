@@ -11,6 +11,7 @@ use Rattle.std.proofs.lemmas.List.Edits.{swapped_from_swap, length-swap}
 use Rattle.std.proofs.lemmas.Option.{slice_get-get_or, slice_get_within, get_or_from_slice_get}
 use Rattle.ocpi_types.specs.Rows.{key_of}
 use Rattle.ocpi_types.specs.declared.rows.Row.{Row}
+use Rattle.ocpi_types.specs.declared.rows.RowKey.{RowKey}
 use Rattle.stored_rows.specs.Given.{RepeatsKey}
 
 below_or_above : (m n : ℕ) → m ≢ n → (m < n) ⊎ (n < m)
@@ -58,22 +59,33 @@ all_apart rows none i j d below bound same = none (record {
   same = same;
 })
 
+-- two rows of the list have this kind and key
+pub record RepeatsThis (k : RowKey) (rows : List Row) : Type 0 where
+  pub twice : RepeatsKey rows
+  pub is : key_of twice.other ≡ k
+
 -- a row like one of those before it
-pub repeats : (before rest : List Row) (x y : Row) → Contains before y → key_of y ≡ key_of x → RepeatsKey (before ++ x ∷ rest)
-repeats before rest x y h same =
+pub repeats_this : (before rest : List Row) (x y : Row) → Contains before y → key_of y ≡ key_of x → RepeatsThis (key_of x) (before ++ x ∷ rest)
+repeats_this before rest x y h same =
     let all = before ++ x ∷ rest in
     let long : length all ≡ length before + length (x ∷ rest) = length-append before (x ∷ rest) in
     let within : h.0 < length before = h.1 in
     record {
-      first = h.0;
-      second = length before;
-      one = y;
-      other = x;
-      apart = omega arith;
-      one_is = at_place all h.0 y y (omega arith) (get_or_append_left before (x ∷ rest) y h.0 within ∙ h.2);
-      other_is = at_place all (length before) x x (omega arith) (get_or-append_seam before x rest x);
-      same = same;
+      twice = record {
+        first = h.0;
+        second = length before;
+        one = y;
+        other = x;
+        apart = omega arith;
+        one_is = at_place all h.0 y y (omega arith) (get_or_append_left before (x ∷ rest) y h.0 within ∙ h.2);
+        other_is = at_place all (length before) x x (omega arith) (get_or-append_seam before x rest x);
+        same = same;
+      };
+      is = refl;
     }
+
+pub repeats : (before rest : List Row) (x y : Row) → Contains before y → key_of y ≡ key_of x → RepeatsKey (before ++ x ∷ rest)
+repeats before rest x y h same = (repeats_this before rest x y h same).twice
 
 -- the place of an element once two are exchanged
 abbrev IsPlace : ℕ → ℕ → ℕ → ℕ → Type 0
@@ -122,24 +134,34 @@ places_differ a b k l p q apart h g same =
       ]
     ]
 
-repeats_swapped : (rows : List Row) (a b : ℕ) → a < length rows → b < length rows → RepeatsKey rows → RepeatsKey (swap rows a b)
-repeats_swapped rows a b in_a in_b r =
+repeats_swapped : (k : RowKey) (rows : List Row) (a b : ℕ) → a < length rows → b < length rows → RepeatsThis k rows → RepeatsThis k (swap rows a b)
+repeats_swapped k rows a b in_a in_b h =
+    let r = h.twice in
     let one = moved rows a b r.first r.one in_a in_b r.one_is in
     let other = moved rows a b r.second r.other in_a in_b r.other_is in
     record {
-      first = one.place;
-      second = other.place;
-      one = r.one;
-      other = r.other;
-      apart = places_differ a b r.first r.second one.place other.place r.apart one.how other.how;
-      one_is = one.stands;
-      other_is = other.stands;
-      same = r.same;
+      twice = record {
+        first = one.place;
+        second = other.place;
+        one = r.one;
+        other = r.other;
+        apart = places_differ a b r.first r.second one.place other.place r.apart one.how other.how;
+        one_is = one.stands;
+        other_is = other.stands;
+        same = r.same;
+      };
+      is = h.is;
     }
 
 -- a key that is repeated is so in each order
+this_permuted : (k : RowKey) (xs ys : List Row) → IsPermutation xs ys → RepeatsThis k xs → RepeatsThis k ys
+this_permuted k xs ys h r = IsPermutation-keeps xs (RepeatsThis k) r (repeats_swapped k) ys h
+
+pub this_in_other_order : (k : RowKey) (xs ys : List Row) → IsPermutation xs ys → RepeatsThis k ys → RepeatsThis k xs
+this_in_other_order k xs ys h r = this_permuted k ys xs (IsPermutation-sym xs ys h) r
+
 pub repeats_permuted : (xs ys : List Row) → IsPermutation xs ys → RepeatsKey xs → RepeatsKey ys
-repeats_permuted xs ys h r = IsPermutation-keeps xs RepeatsKey r repeats_swapped ys h
+repeats_permuted xs ys h r = (this_permuted (key_of r.other) xs ys h (record { twice = r; is = refl })).twice
 
 pub repeats_in_other_order : (xs ys : List Row) → IsPermutation xs ys → RepeatsKey ys → RepeatsKey xs
 repeats_in_other_order xs ys h = repeats_permuted ys xs (IsPermutation-sym xs ys h)

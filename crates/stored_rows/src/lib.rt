@@ -5,6 +5,6 @@ mod fault;
 mod own_numbers;
 mod turns;
 
-pub use fault::RowsFault;
+pub use fault::{BadReason, BadRow, RowsFault};
 pub use own_numbers::own_number;
 pub use turns::in_turn;

@@ -165,7 +165,7 @@ fn operator_again(alloc: Global, operator: &Operator) -> Result<Operator, AllocE
     match Operator::from_rows(alloc, line, rows) {
         Ok(again) => Ok(again),
         Err(RowsFault::Memory) => Err(AllocError),
-        Err(RowsFault::BadRows) => unreachable!(),
+        Err(RowsFault::BadRows(_)) => unreachable!(),
     }
 }
 
@@ -181,7 +181,7 @@ fn provider_again(alloc: Global, provider: &Provider) -> Result<Provider, AllocE
     match Provider::from_rows(alloc, peers, rows) {
         Ok(again) => Ok(again),
         Err(RowsFault::Memory) => Err(AllocError),
-        Err(RowsFault::BadRows) => unreachable!(),
+        Err(RowsFault::BadRows(_)) => unreachable!(),
     }
 }
 

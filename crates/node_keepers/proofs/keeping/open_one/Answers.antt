@@ -4,7 +4,7 @@ use Rattle.node_keepers.proofs.keeping.open_one.Goals as goal
 
 pub returns-in_err-keep-clause-err : goal.returns-in_err-keep-clause-err
 returns-in_err-keep-clause-err g c =
-    err_one (IsUnopened (keeping_of g.S.Kept.Keep.content g.S.Kept.Keep.is_honest g.S.Kept.Keep.refusals) g.S.Keeps.may_refuse c.args.place) c.from_residual.result _ c.from_residual.ensures.1 (Not_opened c.in_err-keep.ensures)
+    err_one (IsUnopened (keeping_of g.S.Kept.Keep.content g.S.Kept.Keep.is_honest g.S.Kept.Keep.refusals) g.S.Keeps.may_refuse c.args.place) c.from_residual.result _ c.from_residual.ensures.1 (Not_opened c.in_err-keep.ensures.fault)
 
 pub returns-in-Err-clause-err : goal.returns-in-Err-clause-err
 returns-in-Err-clause-err g c =

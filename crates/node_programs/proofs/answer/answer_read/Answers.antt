@@ -3,8 +3,8 @@ use Rattle.node_steps.specs.FaultText.{fault_text}
 use Rattle.operator_core.specs.Requests.{out_of}
 use Rattle.line_runs.specs.declared.run.Turn.TheVariants.{Taken, Refused}
 use Rattle.node_programs.specs.Answer.{Answered, Unanswered}
-use Rattle.node_programs.specs.Writing.{packet_lines, refusal_line}
-use Rattle.node_programs.proofs.PlayLemmas.{of_each}
+use Rattle.program_lines.specs.Writing.{packet_lines, refusal_line}
+use Rattle.program_lines.proofs.FaultLemmas.{of_each}
 use Rattle.node_programs.proofs.answer.answer_read.Goals as goal
 
 pub returns-in_ok-write_packets-in-Ok-clause-ok : goal.returns-in_ok-write_packets-in-Ok-clause-ok

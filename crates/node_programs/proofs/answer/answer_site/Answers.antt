@@ -3,8 +3,8 @@ use Rattle.std.proofs.lemmas.List.{append-nil}
 use Rattle.json_text.specs.Fault.{fault_text}
 use Rattle.line_runs.specs.declared.run.Turn.TheVariants.{Ended}
 use Rattle.node_programs.specs.Answer.{Opened, NoSite}
-use Rattle.node_programs.specs.Writing.{refusal_line}
-use Rattle.node_programs.proofs.PlayLemmas.{of_each}
+use Rattle.program_lines.specs.Writing.{refusal_line}
+use Rattle.program_lines.proofs.FaultLemmas.{of_each}
 use Rattle.node_programs.proofs.answer.answer_site.Goals as goal
 
 pub returns-in-Ok-clause-ok : goal.returns-in-Ok-clause-ok

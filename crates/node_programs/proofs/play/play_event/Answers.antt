@@ -3,8 +3,8 @@ use Rattle.std.proofs.lemmas.Result.{IfOk-weaker}
 use Rattle.json_text.specs.Fault.{fault_text}
 use Rattle.line_runs.specs.declared.run.Turn.TheVariants.{Refused}
 use Rattle.node_programs.specs.Play.{Unread}
-use Rattle.node_programs.specs.Writing.{refusal_line}
-use Rattle.node_programs.proofs.PlayLemmas.{if_err_then, of_each}
+use Rattle.program_lines.specs.Writing.{refusal_line}
+use Rattle.program_lines.proofs.FaultLemmas.{if_err_then, of_each}
 use Rattle.node_programs.proofs.play.play_event.Goals as goal
 
 pub returns-in_ok-refuse-in-Err-clause-ok : goal.returns-in_ok-refuse-in-Err-clause-ok

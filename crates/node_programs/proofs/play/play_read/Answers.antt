@@ -9,10 +9,11 @@ use Rattle.world.specs.Seen.{told}
 use Rattle.world.specs.State.{WorldState}
 use Rattle.world_steps.specs.Steps.{Gives}
 use Rattle.line_runs.specs.declared.run.Turn.TheVariants.{Ended, Refused}
-use Rattle.node_programs.proofs.PlayLemmas.{of_each, told_changes}
+use Rattle.node_programs.proofs.PlayLemmas.{told_changes}
+use Rattle.program_lines.proofs.FaultLemmas.{of_each}
 use Rattle.node_keepers.specs.Keeping.{KeeperTakes, keeping_of}
 use Rattle.node_programs.specs.Play.{EventTurn, Happened, Lost, Playing, Stage, Starved, changes_told, outcome_lines, turn_of}
-use Rattle.node_programs.specs.Writing.{refusal_line}
+use Rattle.program_lines.specs.Writing.{refusal_line}
 use Rattle.node_programs.proofs.play.play_read.Goals as goal
 
 pub returns-clause-ok : goal.returns-clause-ok

@@ -35,8 +35,8 @@ returns-in-Session c = tells_as c.may_stand.result c.args.books.now.state c.args
     (c.in-Session.is ∙ ap (λ v. row.Session v) (sym c.deref-in-Session.ensures)) c.may_stand.ensures
 
 pub returns-in-Cdr : goal.returns-in-Cdr
-returns-in-Cdr c = tells_as c.is_own_cdr.result c.args.books.now.state c.args.row.now (row.Cdr c.deref-in-Cdr.result.now)
-    (c.in-Cdr.is ∙ ap (λ x. row.Cdr x) (sym c.deref-in-Cdr.ensures)) c.is_own_cdr.ensures
+returns-in-Cdr c = tells_as c.may_own_cdr.result c.args.books.now.state c.args.row.now (row.Cdr c.deref-in-Cdr.result.now)
+    (c.in-Cdr.is ∙ ap (λ x. row.Cdr x) (sym c.deref-in-Cdr.ensures)) c.may_own_cdr.ensures
 
 pub returns-in-Command : goal.returns-in-Command
 returns-in-Command c = command_foreign c.args.books.now.state c.args.row.now c.in-Command.number c.in-Command.command c.in-Command.is

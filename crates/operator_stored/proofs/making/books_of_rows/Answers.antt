@@ -1,25 +1,26 @@
 use Rattle.std.proofs.Common.{◌≡◌, subst}
-use Rattle.stored_rows.specs.declared.fault.RowsFault.TheVariants.{BadRows, Memory}
+use Rattle.stored_rows.specs.Faults.{IfBadRows}
+use Rattle.stored_rows.specs.declared.fault.RowsFault.TheVariants.{Memory}
 use Rattle.operator_stored.specs.Bad.{IsBad}
-use Rattle.operator_stored.specs.Bills.{AreBillsOf, IsMisbilled}
-use Rattle.operator_stored.proofs.Billing.{if_false, if_true}
-use Rattle.operator_stored.proofs.MadeOf.{made_of, misbilled_is_bad, only_memory, put_in_other_order, same_again}
+use Rattle.operator_stored.specs.Bills.{AreBillsOf}
+use Rattle.operator_stored.proofs.MadeOf.{made_of, misbilled_rows, only_memory, put_in_other_order, same_again}
 use Rattle.operator_stored.proofs.Putting.{err_one}
 use Rattle.operator_stored.proofs.making.books_of_rows.Goals as goal
 
-pub returns-then-not-branch-clause-bad : goal.returns-then-not-branch-clause-bad
-returns-then-not-branch-clause-bad c = λ e.
-    misbilled_is_bad c.args.line c.args.rows.items
-    (subst IsMisbilled c.as_slice.ensures.value (if_false _ _ c.in_ok-are_billed.field-0 c.in_ok-are_billed.ensures c.if-not-branch.true))
+pub returns-in_err-check_bills-clause-bad : goal.returns-in_err-check_bills-clause-bad
+returns-in_err-check_bills-clause-bad c =
+    err_one (IfBadRows (IsBad c.args.line c.args.rows.items)) c.from_residual.result _ c.from_residual.ensures.1
+    (misbilled_rows c.args.line _ c.args.rows.items _ c.as_slice.ensures.value c.in_err-check_bills.ensures.bad)
 
-pub returns-then-not-branch-clause-good : goal.returns-then-not-branch-clause-good
-returns-then-not-branch-clause-good c = λ s consistent again.
-    only_memory c.args.line c.args.rows.items s BadRows consistent again (λ e. misbilled_is_bad c.args.line c.args.rows.items
-    (subst IsMisbilled c.as_slice.ensures.value (if_false _ _ c.in_ok-are_billed.field-0 c.in_ok-are_billed.ensures c.if-not-branch.true)))
+pub returns-in_err-check_bills-clause-good : goal.returns-in_err-check_bills-clause-good
+returns-in_err-check_bills-clause-good c = λ s consistent again.
+    err_one (λ e. e ≡ Memory) c.from_residual.result _ c.from_residual.ensures.1
+    (only_memory c.args.line c.args.rows.items s _ consistent again
+    (misbilled_rows c.args.line _ c.args.rows.items _ c.as_slice.ensures.value c.in_err-check_bills.ensures.bad))
 
 pub returns-in_err-put_all-clause-bad : goal.returns-in_err-put_all-clause-bad
 returns-in_err-put_all-clause-bad c =
-    err_one (λ e. e ≡ BadRows → IsBad c.args.line c.args.rows.items) c.from_residual-in_err-put_all.result _ c.from_residual-in_err-put_all.ensures.1
+    err_one (IfBadRows (IsBad c.args.line c.args.rows.items)) c.from_residual-in_err-put_all.result _ c.from_residual-in_err-put_all.ensures.1
     (c.in_err-put_all.ensures.bad c.args.line c.args.rows.items c.in_ok-books.ensures c.in_turn.ensures.same)
 
 pub returns-in_err-put_all-clause-good : goal.returns-in_err-put_all-clause-good
@@ -29,14 +30,14 @@ returns-in_err-put_all-clause-good c = λ s consistent again.
 
 pub returns-clause-made : goal.returns-clause-made
 returns-clause-made c =
-    let bills = subst AreBillsOf c.as_slice.ensures.value (if_true _ _ c.in_ok-are_billed.field-0 c.in_ok-are_billed.ensures c.if-not-branch.false) in
+    let bills = subst AreBillsOf c.as_slice.ensures.value c.in_ok-check_bills.ensures.all in
     let put = put_in_other_order c.args.line c.args.rows.items c.in_turn.result.items c.put_all.new.books.state c.in_turn.ensures.same
     (c.in_ok-put_all.ensures.put c.args.line c.in_ok-books.ensures) in
     made_of c.args.line c.args.rows.items c.put_all.new.books.state c.consistency.ensures.sound put bills
 
 pub returns-clause-again : goal.returns-clause-again
 returns-clause-again c = λ s consistent again.
-    let bills = subst AreBillsOf c.as_slice.ensures.value (if_true _ _ c.in_ok-are_billed.field-0 c.in_ok-are_billed.ensures c.if-not-branch.false) in
+    let bills = subst AreBillsOf c.as_slice.ensures.value c.in_ok-check_bills.ensures.all in
     let put = put_in_other_order c.args.line c.args.rows.items c.in_turn.result.items c.put_all.new.books.state c.in_turn.ensures.same
     (c.in_ok-put_all.ensures.put c.args.line c.in_ok-books.ensures) in
     same_again c.args.line c.args.rows.items s c.put_all.new.books.state consistent again c.consistency.ensures.sound

@@ -3,10 +3,10 @@ use Rattle.std.specs.List.Sorted.{IsNonDecreasingBy, IsPermutation}
 use Rattle.std.specs.Vec.Iter.{into_iter_items}
 use Rattle.std.proofs.lemmas.List.{append-nil, nil_from_length}
 use Rattle.ocpi_types.specs.declared.rows.Row.{Row}
-use Rattle.stored_rows.specs.declared.fault.RowsFault.TheVariants.{BadRows}
+use Rattle.stored_rows.specs.Faults.{IfBadRows}
 use Rattle.operator_stored.specs.Bad.{IsBad}
 use Rattle.operator_stored.specs.Placing.{ArePut}
-use Rattle.operator_stored.proofs.Putting.{err_one, is_in_turn, is_placed, none_put, one_put}
+use Rattle.operator_stored.proofs.Putting.{err_one, is_in_turn, is_placed, none_put, one_put, shown}
 use Rattle.stored_rows.specs.Turns.{turn_of}
 use Rattle.operator_stored.proofs.making.put_all.Goals as goal
 
@@ -17,8 +17,8 @@ loop-row-init c = record {
   long = search rules;
 }
 
-pub add_row-requires : goal.add_row-requires
-add_row-requires c =
+pub add_row-requires-clause-turn : goal.add_row-requires-clause-turn
+add_row-requires-clause-turn c =
     let at = c.loop-row in
     let row = c.in-Some.row in
     let rest = into_iter_items c.next.new.self in
@@ -60,4 +60,4 @@ returns-in_err-add_row-clause-bad c = λ line all is same.
     let split : at.yielded ++ row ∷ rest ≡ c.args.rows.items = ap (λ (l : List Row). at.yielded ++ l) (sym steps) ∙ at.invariant.split in
     let order = subst (IsNonDecreasingBy turn_of) (sym split) c.requires.sorted in
     let placed = is_placed line at.yielded rest at.books.state row (at.invariant.put line is) order all (subst (IsPermutation all) (sym split) same) in
-    err_one (λ e. e ≡ BadRows → IsBad line all) c.from_residual.result _ c.from_residual.ensures.1 (λ e. c.in_err-add_row.ensures.bad e line all placed)
+    err_one (IfBadRows (IsBad line all)) c.from_residual.result _ c.from_residual.ensures.1 (shown at.books.state row line all _ placed c.in_err-add_row.ensures.bad)

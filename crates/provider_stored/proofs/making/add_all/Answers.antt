@@ -2,11 +2,12 @@ use Rattle.std.proofs.Common.{rules, ◌≡◌, List, [], ◌∷◌, ◌++◌, l
 use Rattle.std.specs.List.Sorted.{IsNonDecreasingBy}
 use Rattle.std.specs.Vec.Iter.{into_iter_items}
 use Rattle.std.proofs.lemmas.List.{append-nil, nil_from_length}
+use Rattle.ocpi_types.specs.Rows.{key_of}
 use Rattle.ocpi_types.specs.declared.rows.Row.{Row}
-use Rattle.stored_rows.specs.declared.fault.RowsFault.TheVariants.{BadRows}
+use Rattle.ocpi_types.specs.declared.rows.RowKey.{RowKey}
 use Rattle.provider_stored.specs.Bad.{IsBad}
 use Rattle.provider_stored.specs.Making.{IsMadeOf}
-use Rattle.provider_stored.proofs.Looked.{err_one}
+use Rattle.provider_stored.proofs.Looked.{if_none, if_some}
 use Rattle.provider_stored.proofs.Made.{is_next, made_of_none}
 use Rattle.stored_rows.specs.Turns.{turn_of}
 use Rattle.provider_stored.proofs.making.add_all.Goals as goal
@@ -36,7 +37,9 @@ loop-row-preserved c =
     let steps : into_iter_items at.row-iterator ≡ row ∷ rest = c.in-Some.ensures.steps.0 in
     record {
       split = append_assoc at.yielded (row ∷ []) rest ∙ ap (λ (l : List Row). at.yielded ++ l) (sym steps) ∙ at.invariant.split;
-      made = λ peers is. c.in_ok-add.ensures.ok peers at.yielded (at.invariant.made peers is);
+      made = λ peers is.
+          if_none (IsMadeOf peers (at.yielded ++ row ∷ []) c.add.new.books.state) c.in_ok-reason.field-0 c.in_default.is
+          (c.in_ok-reason.ensures.fits peers at.yielded (at.invariant.made peers is));
       long =
           let was = at.invariant.long in
           let gone = c.in-Some.ensures.steps.1 in
@@ -44,16 +47,19 @@ loop-row-preserved c =
           omega arith;
     }
 
-pub returns-in_err-add-clause-bad : goal.returns-in_err-add-clause-bad
-returns-in_err-add-clause-bad c = λ peers is.
+pub returns-in-Some-2-clause-bad : goal.returns-in-Some-2-clause-bad
+returns-in-Some-2-clause-bad c = λ peers is.
     let at = c.loop-row in
     let row = c.in-Some.row in
     let rest = into_iter_items c.next.new.self in
     let steps : into_iter_items at.row-iterator ≡ row ∷ rest = c.in-Some.ensures.steps.0 in
     let split : at.yielded ++ row ∷ rest ≡ c.args.rows.items = ap (λ (l : List Row). at.yielded ++ l) (sym steps) ∙ at.invariant.split in
     let order = subst (IsNonDecreasingBy turn_of) (sym split) c.requires.order in
-    let bad = c.in_err-add.ensures.bad peers at.yielded rest (at.invariant.made peers is) order in
-    err_one (λ e. e ≡ BadRows → IsBad peers c.args.rows.items) c.from_residual.result _ c.from_residual.ensures.1 (λ e. subst (IsBad peers) split (bad e))
+    let why = c.in-Some-2.reason in
+    let bad = if_some (IsBad peers (at.yielded ++ row ∷ rest) (key_of row)) c.in_ok-reason.field-0 why c.in-Some-2.is
+    (c.in_ok-reason.ensures.bad peers at.yielded rest (at.invariant.made peers is) order) in
+    let told = subst (λ (k : RowKey). IsBad peers (at.yielded ++ row ∷ rest) k why) (sym c.key-key.ensures) bad in
+    subst (λ (rows : List Row). IsBad peers rows c.key-key.result why) split told
 
 pub returns-clause-ok : goal.returns-clause-ok
 returns-clause-ok c = λ peers is.

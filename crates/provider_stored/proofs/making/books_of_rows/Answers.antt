@@ -1,23 +1,24 @@
 use Rattle.std.proofs.Common.{◌≡◌}
-use Rattle.stored_rows.specs.declared.fault.RowsFault.TheVariants.{BadRows, Memory}
+use Rattle.stored_rows.specs.Faults.{IfBadRows}
+use Rattle.stored_rows.specs.declared.fault.RowsFault.TheVariants.{Memory}
 use Rattle.provider_stored.specs.Bad.{IsBad}
 use Rattle.provider_stored.proofs.Looked.{err_one}
-use Rattle.provider_stored.proofs.Made.{bad_in_other_order, made_of_other_order, is_memory}
+use Rattle.provider_stored.proofs.Made.{fault_in_other_order, made_of_other_order, is_memory}
 use Rattle.provider_stored.proofs.Told.{make_again}
 use Rattle.provider_stored.proofs.making.books_of_rows.Goals as goal
 
 pub returns-in_err-add_all-clause-bad : goal.returns-in_err-add_all-clause-bad
 returns-in_err-add_all-clause-bad c =
     let bad = c.in_err-add_all.ensures.bad c.args.peers c.new-books.ensures in
-    err_one (λ e. e ≡ BadRows → IsBad c.args.peers c.args.rows.items) c.from_residual.result _ c.from_residual.ensures.1
-    (λ e. bad_in_other_order c.args.peers c.args.rows.items c.in_turn.result.items c.in_turn.ensures.same (bad e))
+    err_one (IfBadRows (IsBad c.args.peers c.args.rows.items)) c.from_residual.result _ c.from_residual.ensures.1
+    (fault_in_other_order c.args.peers c.args.rows.items c.in_turn.result.items c.in_turn.ensures.same _ bad)
 
 pub returns-in_err-add_all-clause-good : goal.returns-in_err-add_all-clause-good
 returns-in_err-add_all-clause-good c = λ s consistent keyed again.
     let bad = c.in_err-add_all.ensures.bad c.args.peers c.new-books.ensures in
     err_one (λ e. e ≡ Memory) c.from_residual.result _ c.from_residual.ensures.1
-    (is_memory _ (λ e. (make_again c.args.peers c.args.rows.items s consistent keyed again).good
-    (bad_in_other_order c.args.peers c.args.rows.items c.in_turn.result.items c.in_turn.ensures.same (bad e))))
+    (is_memory c.args.peers c.args.rows.items (make_again c.args.peers c.args.rows.items s consistent keyed again).good _
+    (fault_in_other_order c.args.peers c.args.rows.items c.in_turn.result.items c.in_turn.ensures.same _ bad))
 
 pub returns-clause-made : goal.returns-clause-made
 returns-clause-made c =

@@ -1,0 +1,27 @@
+//! Why a node over its keeper did not do what it was asked.
+
+use node_steps::NodeFault;
+use node_store::StoreFault;
+use stored_rows::BadRow;
+
+/// Why an event changed nothing.
+#[derive(Clone, Copy)]
+pub enum ApplyFault {
+    /// The keeper refused the event's changes.
+    Store(StoreFault),
+    /// The node refuses the event.
+    Core(NodeFault),
+    /// Memory ran out, also for the keeper or in the node.
+    Memory,
+}
+
+/// Why a node was not made of what is kept.
+#[derive(Clone, Copy)]
+pub enum ReopenFault {
+    /// The keeper did not tell its rows.
+    Store(StoreFault),
+    /// No such node has just these rows. This row shows it.
+    BadRows(BadRow),
+    /// Memory ran out, also for the keeper.
+    Memory,
+}

@@ -1,0 +1,5 @@
+pub mod States
+pub mod Inputs
+pub mod Works
+pub mod Members
+pub mod Laws

@@ -1,0 +1,179 @@
+-- What the lines of a run make of its node.
+use Rattle.std.proofs.Common.{◌≡◌, ◌++◌, ◌∙◌, ℕ, suc, Bool, List, [], ◌∷◌, Option, Some, None, refl, sym, ap, subst, inl, inr}
+use Rattle.node_laws.specs.Runs.{Run}
+use Rattle.ocpi_types.specs.Setups.{party_of}
+use Rattle.ocpi_types.specs.declared.node_events.NodeEventKind.{NodeEventKind}
+use Rattle.ocpi_types.specs.declared.rows.Row.{Row}
+use Rattle.ocpi_types.specs.declared.setup.Node.{Node}
+use Rattle.ocpi_types.specs.declared.setup.Node.TheVariants as node
+use Rattle.operator_rows.specs.Steps as operator_steps
+use Rattle.operator_steps.specs.Events as operator
+use Rattle.provider_rows.specs.Steps as provider_steps
+use Rattle.provider_steps.specs.Events as provider
+use Rattle.world_steps.specs.Steps.{AtOperator, AtProvider, NodeEvent, NodeStep}
+use Rattle.world_steps.specs.Steps as steps
+use Rattle.world_steps.specs.World.{NodeState, Operates, Provides, opening_of}
+use Rattle.line_runs.specs.Numbered.{AreNumbered, empty_line, none_numbered, refused_line, taken_line}
+use Rattle.line_runs.specs.declared.outcome.Ran.{Ran}
+use Rattle.line_runs.specs.declared.run.Turn.{Turn}
+use Rattle.line_runs.specs.declared.run.Turn.TheVariants.{Refused, Taken}
+use Rattle.node_store.specs.declared.fault.StoreFault.{StoreFault}
+use Rattle.node_cell.specs.Keepers.{Keeper}
+use Rattle.node_cell.specs.Stored.{Fails, IsKeptFor, IsStored, Loses, Stored}
+use Rattle.node_cell.specs.declared.fault.ApplyFault.TheVariants as apply
+use Rattle.node_core.specs.Members.{IsMadeOfRows, IsOfMember}
+use Rattle.node_rows.specs.Holds.{HoldsRows, IsOfOpening}
+use Rattle.node_rows.specs.Laws.{NodesKeepOpenings}
+use Rattle.stored_laws.specs.Nodes.{restarted}
+use Rattle.node_runs.specs.NodeTurns.{EventTurn, GoesOn, IsMember, NodeLineGives, NodeTurn, Running, Stage, Starts, opening}
+use Rattle.node_runs.specs.NodeTurns as turns
+use Rattle.node_runs.specs.NodeHistories.{As_left, HasHistory, One_more, RunsAreHistories, StopsGoOn, TwoRunsAreOne, WasRun, restart_of}
+use Rattle.node_runs.specs.declared.fault.NodeStop.{NodeStop}
+
+-- ---- runs
+
+joined : (s u t : NodeState) (xs ys : List NodeEvent) → Run NodeStep s xs u → Run NodeStep u ys t → Run NodeStep s (xs ++ ys) t
+joined s u t [] ys is more = subst (λ (n : NodeState). Run NodeStep n ys t) is more
+joined s u t (x ∷ xs) ys did more = (did.0, did.1, joined did.0 u t xs ys did.2 more)
+
+-- the node goes on, by one step or none
+module _ {K : Type 0} (keeper : Keeper K) (wanted : Option (List ℕ)) where
+  stayed : (now next : Running K) → next.party ≡ now.party → next.node.state ≡ now.node.state → HasHistory keeper wanted now → HasHistory keeper wanted next
+  stayed now next party same h =
+      let was = h.was in
+      record {
+        setup = h.setup;
+        member = h.member;
+        asked = h.asked;
+        events = h.events;
+        was = record { rows = was.rows; start = was.start; starts = was.starts; did = subst (Run NodeStep was.start.state h.events) (sym same) was.did; party = party ∙ was.party };
+      }
+
+  stepped : (now next : Running K) (x : NodeEvent) → next.party ≡ now.party → NodeStep now.node.state x next.node.state → HasHistory keeper wanted now → HasHistory keeper wanted next
+  stepped now next x party step h =
+      let was = h.was in
+      let did = joined was.start.state now.node.state next.node.state h.events (x ∷ []) was.did (next.node.state, step, refl) in
+      record {
+        setup = h.setup;
+        member = h.member;
+        asked = h.asked;
+        events = h.events ++ x ∷ [];
+        was = record { rows = was.rows; start = was.start; starts = was.starts; did = did; party = party ∙ was.party };
+      }
+
+  lost : (now next : Running K) (k : NodeEventKind) (rise : ℕ → ℕ) → next.party ≡ now.party → Loses keeper now.node k rise next.node → HasHistory keeper wanted now → HasHistory keeper wanted next
+  lost now next k rise party loses h = stayed now next party loses.state h
+
+  one_event : (now next : Running K) (stop later : Option NodeStop) (number : ℕ) (line : List ℕ) (turn : Turn) (out : List ℕ) →
+      EventTurn keeper now stop number line turn out next later → HasHistory keeper wanted now → HasHistory keeper wanted next
+  one_event now next stop later number line turn out (turns.DidStep x is packets changed does some taken written party same) h = stepped now next does.event party does.step h
+  one_event now next stop later number line turn out (turns.WasIdle x is does taken written party same) h = stepped now next does.event party does.step h
+  one_event now next stop later number line turn out (turns.WasUnstored x is refused taken written left same) h = subst (HasHistory keeper wanted) (sym left) h
+  one_event now next stop later number line turn out (turns.IsElsewhere x read other taken written left same) h = subst (HasHistory keeper wanted) (sym left) h
+  one_event now next stop later number line turn out (turns.IsOfOtherRole x is passes taken written party same) h =
+      stayed now next party (ap (λ (n : Stored K). n.state) passes.same) h
+  one_event now next stop later number line turn out (turns.IsMalformed fault fails refused written left same) h = subst (HasHistory keeper wanted) (sym left) h
+  one_event now next stop later number line turn out (turns.IsRefused x is fault refuses refused written party same) h =
+      stayed now next party (ap (λ (n : Stored K). n.state) refuses.same) h
+  one_event now next stop later number line turn out (turns.IsStarved x is (inl left) refused written party same) h =
+      stayed now next party (ap (λ (n : Stored K). n.state) left) h
+  one_event now next stop later number line turn out (turns.IsStarved x is (inr loses) refused written party same) h = lost now next x.kind (λ n. n) party loses h
+  one_event now next stop later number line turn out (turns.IsLost x is fault fails ended written party same) h = lost now next x.kind suc party fails.1 h
+
+  -- what is known of the node that runs, where one does
+  abbrev Known : Option (List ℕ) → Option (Running K) → Type 0
+  Known asked None = Unit {0}
+  Known asked (Some now) = HasHistory keeper asked now
+
+  module _ (may_refuse : ℕ → StoreFault → Type 0) where
+    record IsKnown (s : Stage K) : Type 0 where
+      wanted_so : s.wanted ≡ wanted
+      known : Known wanted s.running
+
+    one_line : (now : Option (Running K)) (s : Stage K) (number : ℕ) (line : List ℕ) (turn : Turn) (out : List ℕ) (t : Stage K) →
+        NodeTurn keeper may_refuse now s number line turn out t → IsKnown s → Known wanted now → IsKnown t
+    one_line None s number line turn out t (turns.Opened setup read member is rows start starts taken written left) whole known =
+        let member_is = subst (λ (w : Option (List ℕ)). IsMember setup w member) whole.wanted_so is in
+        let was : WasRun keeper setup member [] (record { party = party_of member; node = start }) = record { rows = rows; start = start; starts = starts; did = refl; party = refl } in
+        subst IsKnown (sym left) (record { wanted_so = whole.wanted_so; known = record { setup = setup; member = member; asked = member_is; events = []; was = was } })
+    one_line None s number line turn out t (turns.Unbegun setup read places spare stop unbegun ended written left) whole known =
+        subst IsKnown (sym left) (record { wanted_so = whole.wanted_so; known = tt })
+    one_line None s number line turn out t (turns.NoSetup fault fails ended written left) whole known = subst IsKnown (sym left) whole
+    one_line (Some now) s number line turn out t gives whole known =
+        subst IsKnown (sym gives.left) (record { wanted_so = whole.wanted_so; known = one_event now gives.next s.stop gives.stopped number line turn out gives.is known })
+
+    all_known : {echo : Bool} {opened : List ℕ} {all : List (List ℕ)} {ran : Ran} {out : List ℕ} {s : Stage K} →
+        AreNumbered (NodeLineGives keeper may_refuse) echo (opening wanted opened) all ran out s → IsKnown s
+    all_known none_numbered = record { wanted_so = refl; known = tt }
+    all_known (empty_line before) = all_known before
+    all_known (taken_line {s = s} {t = t} {line = line} {more = more} before some gives) =
+        let whole = all_known before in one_line s.running s _ line Taken more t gives whole whole.known
+    all_known (refused_line {s = s} {t = t} {line = line} {more = more} before some gives) =
+        let whole = all_known before in one_line s.running s _ line Refused more t gives whole whole.known
+
+    known_of : (q : Option (Running K)) (now : Running K) → q ≡ Some now → Known wanted q → HasHistory keeper wanted now
+    known_of q now is known = subst (Known wanted) is known
+
+pub runs_are_histories : {K : Type 0} (keeper : Keeper K) (may_refuse : ℕ → StoreFault → Type 0) → RunsAreHistories keeper may_refuse
+runs_are_histories keeper may_refuse echo wanted opened all ran out s now answered is =
+    let whole = all_known keeper wanted may_refuse answered in known_of keeper wanted may_refuse s.running now is whole.known
+
+-- ---- two runs
+
+restarts : (n : NodeState) → NodeStep n (restart_of n) (restarted n)
+restarts (Operates s) = steps.Restarted refl refl
+restarts (Provides s) = steps.Restarted refl refl
+
+-- a node that was made of rows is of its opening
+made_of_opening : (setup : List Node) (member : Node) (rows : List Row) (n : NodeState) → IsMadeOfRows setup member rows n → IsOfOpening (opening_of setup member) n
+made_of_opening setup (node.Operator party site) rows (Operates s) made = ap operator_steps.restarted made.of_site
+made_of_opening setup (node.Operator party site) rows (Provides s) made = absurd made
+made_of_opening setup (node.Provider party) rows (Operates s) made = absurd made
+made_of_opening setup (node.Provider party) rows (Provides s) made = ap provider_steps.restarted made.with_peers
+
+-- and what is of the opening of a member is of the member
+is_of_member : (setup : List Node) (member : Node) (n : NodeState) → IsOfOpening (opening_of setup member) n → IsOfMember setup member n
+is_of_member setup (node.Operator party site) (Operates s) is = is
+is_of_member setup (node.Operator party site) (Provides s) is = absurd is
+is_of_member setup (node.Provider party) (Operates s) is = absurd is
+is_of_member setup (node.Provider party) (Provides s) is = is
+
+module _ (keep : NodesKeepOpenings) where
+  run_of_opening : (first s t : NodeState) (xs : List NodeEvent) → IsOfOpening first s → Run NodeStep s xs t → IsOfOpening first t
+  run_of_opening first s t [] is did = subst (IsOfOpening first) (sym did) is
+  run_of_opening first s t (x ∷ xs) is did = run_of_opening first did.0 t xs (keep.by_steps first s did.0 x is did.1) did.2
+
+  pub two_runs_are_one : {K : Type 0} (keeper : Keeper K) → TwoRunsAreOne keeper
+  two_runs_are_one keeper setup member xs ys ended now first second stored honest later over =
+      let state = ended.node.state in
+      let of_opening = run_of_opening (opening_of setup member) first.start.state state xs (made_of_opening setup member first.starts.reopens.list first.start.state first.starts.reopens.made) first.did in
+      let held = subst (λ c. HoldsRows c state) (sym over) (stored.holds honest) in
+      let again = second.starts.again later state (record { starts = stored.starts; of_member = is_of_member setup member state of_opening; holds = held }) in
+      let did = subst (λ (n : NodeState). Run NodeStep n ys now.node.state) again second.did in
+      joined first.start.state state now.node.state xs (restart_of state ∷ ys) first.did (restarted state, restarts state, did)
+
+  -- what is of an opening, and what stores alike
+  alike_of_opening : (first u n : NodeState) → restarted u ≡ restarted n → IsOfOpening first n → IsOfOpening first u
+  alike_of_opening first u n alike is = unrestarted first u (subst (IsOfOpening first) (sym alike) (keep.by_restarts first n is))
+    where
+      unrestarted : (first u : NodeState) → IsOfOpening first (restarted u) → IsOfOpening first u
+      unrestarted (Operates first) (Operates s) is = is
+      unrestarted (Provides first) (Provides s) is = is
+      unrestarted (Operates first) (Provides s) is = absurd is
+      unrestarted (Provides first) (Operates s) is = absurd is
+
+  pub stops_go_on : {K : Type 0} (keeper : Keeper K) → StopsGoOn keeper
+  stops_go_on keeper setup member xs ys stopped now first second stored honest later left =
+      let state = stopped.node.state in
+      let made = made_of_opening setup member first.starts.reopens.list first.start.state first.starts.reopens.made in
+      let of_opening = run_of_opening (opening_of setup member) first.start.state state xs made first.did in
+      elim (stored.stops honest (keeper.content second.starts.fresh) left) [
+        | inl same ↦
+            let held = subst (λ c. HoldsRows c state) (sym same) (stored.holds honest) in
+            As_left (second.starts.again later state (record { starts = stored.starts; of_member = is_of_member setup member state of_opening; holds = held }))
+        | inr more ↦
+            let of_u = alike_of_opening (opening_of setup member) more.u state more.alike of_opening in
+            let of_v = keep.by_steps (opening_of setup member) more.u more.v more.event of_u more.step in
+            One_more more.u more.v more.event more.alike more.step
+            (second.starts.again later more.v (record { starts = more.starts; of_member = is_of_member setup member more.v of_v; holds = more.holds }))
+      ]

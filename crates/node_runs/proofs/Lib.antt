@@ -1,0 +1,3 @@
+mod NodeLemmas
+mod EndLemmas
+mod HistoryLemmas

@@ -1,0 +1,71 @@
+-- What a run made of its node, told by the steps that the node did: each run is a chain of them, and two runs over one
+-- store are one chain with a restart between.
+use Rattle.std.specs.Prelude.{◌≡◌, ℕ, Bool, List, [], ◌∷◌, ◌++◌, Option, Some}
+use Rattle.node_laws.specs.Runs.{Run}
+use Rattle.ocpi_types.specs.Setups.{party_of}
+use Rattle.ocpi_types.specs.declared.setup.Node.{Node}
+use Rattle.operator_steps.specs.Events as operator
+use Rattle.provider_steps.specs.Events as provider
+use Rattle.world_steps.specs.Steps.{AtOperator, AtProvider, NodeEvent, NodeStep}
+use Rattle.world_steps.specs.World.{NodeState, Operates, Provides}
+use Rattle.line_runs.specs.Numbered.{AreNumbered}
+use Rattle.line_runs.specs.declared.outcome.Ran.{Ran}
+use Rattle.node_store.specs.declared.fault.StoreFault.{StoreFault}
+use Rattle.node_cell.specs.Keepers.{Keeper}
+use Rattle.node_cell.specs.Stored.{IsStored, Stored}
+use Rattle.node_rows.specs.Holds.{StoresAlike}
+use Rattle.stored_laws.specs.Nodes.{restarted}
+use Rattle.node_runs.specs.NodeTurns.{IsMember, NodeLineGives, Running, Stage, Starts, opening}
+
+-- The node of that member of the setup was made of what a keeper kept, and then did these one after another, and nothing
+-- else.
+pub record WasRun {K : Type 0} (keeper : Keeper K) (setup : List Node) (member : Node) (xs : List NodeEvent) (now : Running K) : Type 0 where
+  pub rows : ℕ
+  pub start : Stored K
+  pub starts : Starts keeper setup member rows start
+  pub did : Run NodeStep start.state xs now.node.state
+  pub party : now.party ≡ party_of member
+
+-- what the lines of a run up to any one made of its node
+pub record HasHistory {K : Type 0} (keeper : Keeper K) (wanted : Option (List ℕ)) (now : Running K) : Type 0 where
+  pub setup : List Node
+  pub member : Node
+  pub asked : IsMember setup wanted member
+  pub events : List NodeEvent
+  pub was : WasRun keeper setup member events now
+
+abbrev pub RunsAreHistories : {K : Type 0} → Keeper K → (ℕ → StoreFault → Type 0) → Type 0
+RunsAreHistories {K} keeper may_refuse =
+    (echo : Bool) (wanted : Option (List ℕ)) (opened : List ℕ) (all : List (List ℕ)) (ran : Ran) (out : List ℕ) (s : Stage K) (now : Running K)
+    → AreNumbered (NodeLineGives keeper may_refuse) echo (opening wanted opened) all ran out s → s.running ≡ Some now → HasHistory keeper wanted now
+
+-- ---- two runs
+
+-- that a node of either role starts again, which changes no row and sends nothing
+abbrev pub restart_of : NodeState → NodeEvent
+restart_of (Operates s) = AtOperator (record { input = operator.Restarts; changes = []; packets = [] })
+restart_of (Provides s) = AtProvider (record { input = provider.Restarts; changes = []; packets = [] })
+
+-- Of two runs of one node of a setup, the second of which was made of what the keeper of the first kept at its end: the
+-- node of the second goes on where that of the first ended, as after a restart.
+abbrev pub TwoRunsAreOne : {K : Type 0} → Keeper K → Type 0
+TwoRunsAreOne {K} keeper =
+    (setup : List Node) (member : Node) (xs ys : List NodeEvent) (ended now : Running K) (first : WasRun keeper setup member xs ended) (second : WasRun keeper setup member ys now)
+    → IsStored keeper ended.node → keeper.is_honest ended.node.keep → keeper.is_honest second.start.keep
+    → keeper.content second.starts.fresh ≡ keeper.content ended.node.keep
+    → Run NodeStep first.start.state (xs ++ restart_of ended.node.state ∷ ys) now.node.state
+
+-- The node starts again where the other stood; or where one event more had brought it, which was asked of one that
+-- stored what that one stores.
+pub data GoesOnFrom (left start : NodeState) : Type 0 where
+  As_left : start ≡ restarted left → GoesOnFrom left start
+  One_more : (u v : NodeState) (x : NodeEvent) → StoresAlike u left → NodeStep u x v → start ≡ restarted v → GoesOnFrom left start
+
+-- Of two runs of one node of a setup, the second of which was made of what a stop left of the keeper of the first: the
+-- node of the second goes on as after the lines that the first carried out, or as after one more.
+abbrev pub StopsGoOn : {K : Type 0} → Keeper K → Type 0
+StopsGoOn {K} keeper =
+    (setup : List Node) (member : Node) (xs ys : List NodeEvent) (stopped now : Running K) (first : WasRun keeper setup member xs stopped) (second : WasRun keeper setup member ys now)
+    → IsStored keeper stopped.node → keeper.is_honest stopped.node.keep → keeper.is_honest second.start.keep
+    → keeper.may_leave stopped.node.keep (keeper.content second.starts.fresh)
+    → GoesOnFrom stopped.node.state second.start.state

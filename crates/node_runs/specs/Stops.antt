@@ -1,0 +1,37 @@
+-- What is said of what stopped a run of one node, and the exit status.
+use Rattle.std.specs.Prelude.{ℕ, Result, Ok, Err}
+use Rattle.line_runs.specs.Outcome as run
+use Rattle.line_runs.specs.declared.outcome.Ran.{Ran}
+use Rattle.line_runs.specs.declared.outcome.RunFault.{RunFault}
+use Rattle.node_cell.specs.declared.fault.ReopenFault.{ReopenFault}
+use Rattle.node_cell.specs.declared.fault.ReopenFault.TheVariants as reopen
+use Rattle.node_runs.specs.declared.fault.NodeRunFault.{NodeRunFault}
+use Rattle.node_runs.specs.declared.fault.NodeRunFault.TheVariants.{Run, Stop}
+use Rattle.node_runs.specs.declared.fault.NodeStop.{NodeStop}
+use Rattle.node_runs.specs.declared.fault.NodeStop.TheVariants.{UnknownParty, Store, BadRows}
+use Rattle.node_store.specs.declared.fault.StoreFault.TheVariants.{Memory}
+
+-- 2 where the setup has no such party, 3 where the store or its rows stopped the run; else 0 where no line was refused,
+-- and 1 where one was, or where reading or writing failed
+abbrev pub node_status : Result Ran NodeRunFault → ℕ
+node_status (Ok ran) = run.exit_status (Ok ran)
+node_status (Err (Run fault)) = run.exit_status (Err fault)
+node_status (Err (Stop UnknownParty)) = 2
+node_status (Err (Stop (Store fault))) = 3
+node_status (Err (Stop (BadRows bad))) = 3
+
+-- why no node was made of what is kept: want of memory is told as that of the store
+abbrev pub stop_of : ReopenFault → NodeStop
+stop_of (reopen.Store fault) = Store fault
+stop_of (reopen.BadRows bad) = BadRows bad
+stop_of reopen.Memory = Store Memory
+
+-- where reading or writing stopped the run
+abbrev pub IfRun : (RunFault → Type 0) → NodeRunFault → Type 0
+IfRun P (Run fault) = P fault
+IfRun P (Stop stop) = Unit {0}
+
+-- where the node did
+abbrev pub IfStop : (NodeStop → Type 0) → NodeRunFault → Type 0
+IfStop P (Run fault) = Unit {0}
+IfStop P (Stop stop) = P stop

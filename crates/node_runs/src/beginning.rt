@@ -1,0 +1,154 @@
+//! How the node of a run begins: its party is found in the setup, its keeper is opened, and it is made of what is kept.
+
+ghost use Rattle.std.specs.Prelude.{◌≡◌, ◌++◌, Contains, List, Some, ℕ};
+ghost use Rattle.std.specs.Prelude.{IfErr, IfNone, IfOk, IfSome, OnOk};
+ghost use Rattle.node_cell.specs.Keepers.{IsSettled, keeper_of};
+ghost use Rattle.node_cell.specs.Stored.{IsStored};
+ghost use Rattle.node_cell.specs.declared.fault.ReopenFault.{ReopenFault as ReopenFaultOf};
+ghost use Rattle.ocpi_types.specs.Setups.{party_of};
+ghost use Rattle.ocpi_types.specs.declared.setup.Node.{Node as NodeOf};
+ghost use Rattle.world_laws.specs.Laws.{IsSetup};
+ghost use Rattle.node_runs.specs.NodeTurns.{IsMember, IsUnbegun, Starts, Unmade, first_place};
+ghost use Rattle.node_runs.specs.Stops.{stop_of};
+
+use crate::fault::{NodeStop, stop_of};
+use node_cell::{Reopened, StoredNode, Unopened};
+use node_core::nodes_of;
+use node_keepers::Keeps;
+use node_store::Keep;
+use ocpi_text::Party;
+use ocpi_types::{Node, Setup};
+use std::alloc::Global;
+use std::marker::Model;
+
+/// A node over its keeper, and its party as the setup spells it.
+pub struct Running<K: Keep> {
+    pub party: Party,
+    pub node: StoredNode<K>,
+}
+
+/// What a derive would do, in a function of its own: so it is proved once.
+impl<K: Keep + Drop> Drop for Running<K> {
+    fn drop(self) {
+        let Running { party: _, node } = self;
+        drop(node);
+    }
+}
+
+impl<K: Keep> Model for Running<K> {
+    ghost use Rattle.std.specs.Coded.{codes};
+    ghost use Rattle.std.specs.FinMap as map;
+    ghost use Rattle.node_runs.specs.NodeTurns.{Running};
+
+    ghost Value = { Running K };
+
+    ghost coded = { Prim.hlevel (codes, map.code, K.code) };
+
+    ghost view = { λ r. record { party = r.party; node = r.node } };
+}
+
+impl<K: Keep> Running<K> {
+    /// Its keeper. The node ends.
+    pub fn into_keep(self) -> K
+        ensures value { result ≡ self.node.keep }
+        ensures stored { IsStored (keeper_of K.content K.is_honest K.refusals K.may_leave) self.node }
+    {
+        let Running { party: _, node } = self;
+        node.into_keep()
+    }
+}
+
+/// A node that was opened.
+#[derive(Drop)]
+pub struct Begun<K: Keep> {
+    pub running: Running<K>,
+    /// The number of rows that were kept.
+    pub rows: usize,
+}
+
+/// A node that was not opened: why, and its keeper, where that was opened.
+#[derive(Drop)]
+pub struct Unbegun<K> {
+    pub keep: Option<K>,
+    pub stop: NodeStop,
+}
+
+/// The node of a setup of that party. Parties are compared without case.
+fn member_of<'a>(nodes: &'a [Node], wanted: &Option<Party>) -> Option<&'a Node>
+    ensures some { IfSome result (λ member. IsMember nodes.now wanted.now member.now) }
+    ensures none { IfNone result ((member : NodeOf) → IsMember nodes.now wanted.now member → ⊥) }
+{
+    let Some(party) = wanted else {
+        return None;
+    };
+    for node in nodes {
+        if node.party().is_same(party) {
+            return Some(node);
+        }
+    }
+    None
+}
+
+/// Opens the keeper of the party's node, and makes the node of what is kept. Where the setup has no such node, no keeper
+/// is opened.
+pub fn begin<S: Keeps>(
+    alloc: Global,
+    keeps: &mut S,
+    wanted: &Option<Party>,
+    setup: Setup,
+) -> Result<Begun<S::Kept>, Unbegun<S::Kept>>
+    ensures ok { IfOk result (λ b. (member : NodeOf) × IsMember setup wanted.now member
+        × (b.running.party ≡ party_of member) × Starts (keeper_of S.Kept.content S.Kept.is_honest S.Kept.refusals S.Kept.may_leave) setup member b.rows b.running.node) }
+    ensures err { IfErr result (λ u. (asked : List ℕ) × (S.opened keeps.new ≡ S.opened keeps.old ++ asked)
+        × IsUnbegun (keeper_of S.Kept.content S.Kept.is_honest S.Kept.refusals S.Kept.may_leave) S.may_refuse setup wanted.now asked u.keep u.stop) }
+    ensures opened { OnOk result (S.opened keeps.new ≡ S.opened keeps.old ++ first_place) }
+{
+    let nodes = nodes_of(&setup);
+    let Some(member) = member_of(nodes, wanted) else {
+        return Err(Unbegun {
+            keep: None,
+            stop: NodeStop::UnknownParty,
+        });
+    };
+    match keeps.open(1) {
+        Ok(keep) => begin_over(alloc, nodes, member, keep),
+        Err(fault) => Err(Unbegun {
+            keep: None,
+            stop: NodeStop::Store(fault),
+        }),
+    }
+}
+
+/// Makes a node of what is kept.
+fn begin_over<K: Keep>(
+    alloc: Global,
+    nodes: &[Node],
+    member: &Node,
+    keep: K,
+) -> Result<Begun<K>, Unbegun<K>>
+    requires setup { IsSetup nodes.now }
+    requires member { Contains nodes.now member.now }
+    requires settled { IsSettled (keeper_of K.content K.is_honest K.refusals K.may_leave) keep }
+    ensures party { IfOk result (λ b. b.running.party ≡ party_of member.now) }
+    ensures ok { IfOk result (λ b. Starts (keeper_of K.content K.is_honest K.refusals K.may_leave) nodes.now member.now b.rows b.running.node) }
+    ensures err { IfErr result (λ u. (fault : ReopenFaultOf) × (k : K) × Unmade (keeper_of K.content K.is_honest K.refusals K.may_leave) nodes.now member.now fault k
+        × (u.keep ≡ Some k) × (u.stop ≡ stop_of fault)) }
+{
+    match StoredNode::reopen(alloc, nodes, member, keep) {
+        Ok(reopened) => {
+            let Reopened { node, rows } = reopened;
+            let party = *member.party();
+            Ok(Begun {
+                running: Running { party, node },
+                rows,
+            })
+        }
+        Err(unopened) => {
+            let Unopened { keep, fault } = unopened;
+            Err(Unbegun {
+                keep: Some(keep),
+                stop: stop_of(fault),
+            })
+        }
+    }
+}

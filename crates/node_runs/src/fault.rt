@@ -1,0 +1,58 @@
+//! What stops a run of one node.
+
+ghost use Rattle.std.specs.Prelude.{◌≡◌};
+ghost use Rattle.node_runs.specs.Stops.{node_status, stop_of};
+
+use line_runs::{Ran, RunFault, status_of};
+use node_cell::ReopenFault;
+use node_store::StoreFault;
+use stored_rows::BadRow;
+
+/// The exit status where the setup has no node of the party.
+pub const UNKNOWN_PARTY: u8 = 2;
+
+/// The exit status where a store would not do what it was asked, or has rows of which no such node is made.
+const STORE_REFUSED: u8 = 3;
+
+/// Why a node did not begin, or did not go on.
+#[derive(Clone, Copy)]
+pub enum NodeStop {
+    /// The setup has no node of the party.
+    UnknownParty,
+    /// The store of the node refused, or memory ran out while it was opened.
+    Store(StoreFault),
+    /// No such node has just the rows that are stored. This row shows it.
+    BadRows(BadRow),
+}
+
+/// What stopped a run.
+#[derive(Clone, Copy)]
+pub enum NodeRunFault {
+    /// Reading or writing.
+    Run(RunFault),
+    /// The node.
+    Stop(NodeStop),
+}
+
+/// Why no node was made of what is kept.
+pub fn stop_of(fault: ReopenFault) -> NodeStop
+    ensures { result ≡ stop_of fault }
+{
+    match fault {
+        ReopenFault::Store(fault) => NodeStop::Store(fault),
+        ReopenFault::BadRows(row) => NodeStop::BadRows(row),
+        ReopenFault::Memory => NodeStop::Store(StoreFault::Memory),
+    }
+}
+
+/// The exit status of a run: 2 where the setup had no such party, 3 where the store stopped it, and else as of any run.
+pub fn status_after_node(ran: Result<Ran, NodeRunFault>) -> u8
+    ensures { result ≡ node_status ran }
+{
+    match ran {
+        Ok(ran) => status_of(Ok(ran)),
+        Err(NodeRunFault::Run(fault)) => status_of(Err(fault)),
+        Err(NodeRunFault::Stop(NodeStop::UnknownParty)) => UNKNOWN_PARTY,
+        Err(NodeRunFault::Stop(_)) => STORE_REFUSED,
+    }
+}

@@ -1,0 +1,27 @@
+//! What a run makes of its node.
+
+ghost use Rattle.node_cell.specs.Keepers.{keeper_of};
+ghost use Rattle.node_runs.specs.NodeHistories.{RunsAreHistories, StopsGoOn, TwoRunsAreOne};
+
+use node_keepers::Keeps;
+use node_rows::laws::nodes_keep_openings;
+use node_store::Keep;
+
+/// A run is a chain of steps of its node from what that was opened with, whatever the lines are.
+pub fn runs_are_histories<S: Keeps>()
+    ensures { RunsAreHistories (keeper_of S.Kept.content S.Kept.is_honest S.Kept.refusals S.Kept.may_leave) S.may_refuse }
+{}
+
+/// Two runs of one node of a setup, one after the other over one store, are one run with a restart between.
+pub fn two_runs_are_one<K: Keep>()
+    ensures { TwoRunsAreOne (keeper_of K.content K.is_honest K.refusals K.may_leave) }
+{
+    nodes_keep_openings();
+}
+
+/// A run over what a stop left of another goes on as after the lines that this one carried out, or as after one more.
+pub fn stops_go_on<K: Keep>()
+    ensures { StopsGoOn (keeper_of K.content K.is_honest K.refusals K.may_leave) }
+{
+    nodes_keep_openings();
+}

@@ -1,0 +1,204 @@
+-- An event of an operator, wherever the operator comes from: what is consistent and whole stays so.
+use Rattle.std.proofs.Common.{◌≡◌, ◌≢◌, ◌+◌, ℕ, ℤ, List, [], ◌∷◌, inl, inr, refl, sym, ap, subst, ◌∙◌}
+use Rattle.std.specs.Prelude.{Option, Some, None, Ok, Contains}
+use Rattle.std.specs.FinMap.{get, get-empty}
+use Rattle.tables.specs.Keys.{text_cmp}
+use Rattle.tables.proofs.Options.{not_both}
+use Rattle.ocpi_text.specs.OwnIds.{own_id_text}
+use Rattle.ocpi_text.specs.Party.{party_at}
+use Rattle.ocpi_text.specs.Text.{key}
+use Rattle.ocpi_text.specs.declared.own_ids.OwnIdKind.TheVariants as own
+use Rattle.ocpi_types.specs.declared.cdrs.Cdr.{Cdr}
+use Rattle.ocpi_types.specs.declared.events.ChargerEvent.{ChargerEvent}
+use Rattle.ocpi_types.specs.declared.events.ChargerEvent.TheVariants as event
+use Rattle.ocpi_types.specs.declared.rows.Change.TheVariants.{Put}
+use Rattle.ocpi_types.specs.declared.rows.Row.TheVariants as row
+use Rattle.ocpi_types.specs.declared.sessions.Session.{Session}
+use Rattle.ocpi_types.specs.declared.setup.Node.{Node}
+use Rattle.ocpi_types.specs.declared.setup.Node.TheVariants as node
+use Rattle.ocpi_types.specs.declared.site.Site.{Site}
+use Rattle.ocpi_types.specs.declared.site.SiteLine.{SiteLine}
+use Rattle.ocpi_types.specs.declared.words.SessionStatus.{SessionStatus}
+use Rattle.ocpi_types.specs.declared.words.SessionStatus.TheVariants.{Active, Completed, Invalid, Pending, Reservation}
+use Rattle.session_state.specs.Pasts.{IsTurn, MayFollow}
+use Rattle.session_state.specs.Resuming.{CannotResume}
+use Rattle.session_tables.specs.Moves.{Ends, Makes}
+use Rattle.stored_rows.specs.Given.{IsOwnId}
+use Rattle.operator_rows.specs.State.{State, opening}
+use Rattle.operator_rows.specs.Sound.{IsConsistent}
+use Rattle.operator_rows.specs.Steps.{IsNextOf}
+use Rattle.operator_rows.proofs.KeepingTimes.{opening_consistent}
+use Rattle.operator_steps.specs.Events as events
+use Rattle.operator_steps.specs.Events.{Event, Happens}
+use Rattle.operator_stored.specs.Whole.{AreBilled, IsWhole}
+use Rattle.session_laws.proofs.Billing.{puts_records, record_from, records_stay, session_from}
+use Rattle.session_laws.proofs.Caused.{cdr_cause, session_cause}
+use Rattle.session_laws.proofs.Causes.{Begun, Billed, CdrCause, Moved, SessionCause}
+use Rattle.session_laws.proofs.Doing.{does}
+use Rattle.session_laws.proofs.Versions.{stands, stays}
+use Rattle.stored_laws.specs.Nodes.{CanStartAgain}
+use Rattle.world_laws.specs.Laws.{IsSetup}
+use Rattle.world_steps.specs.Steps as steps
+use Rattle.world_steps.specs.Steps.{OperatorDoes}
+use Rattle.world_steps.specs.World.{providers_of, Operates, opening_of}
+
+-- no status turns to RESERVATION, and COMPLETED turns to none
+never_reserved : (a : SessionStatus) → IsTurn a Reservation → ⊥
+never_reserved Active turn = turn
+never_reserved Completed turn = turn
+never_reserved Invalid turn = turn
+never_reserved Pending turn = turn
+never_reserved Reservation turn = turn
+
+completed_is_last : (b : SessionStatus) → IsTurn Completed b → ⊥
+completed_is_last Active turn = turn
+completed_is_last Completed turn = turn
+completed_is_last Invalid turn = turn
+completed_is_last Pending turn = turn
+completed_is_last Reservation turn = turn
+
+pending_differs : Pending ≡ Reservation → ⊥
+pending_differs is = cc
+
+-- a session can go on from a version that may come next
+next_resumes : (price : ℤ) (o : Option Session) (v : Session) → IsNextOf price o v → ¬ CannotResume price v
+next_resumes price None v next (inl reserved) = pending_differs (sym next.0 ∙ reserved)
+next_resumes price None v next (inr unpriced) = unpriced next.1
+next_resumes price (Some w) v next (inl reserved) = never_reserved w.status (subst (IsTurn w.status) reserved next.turn)
+next_resumes price (Some w) v next (inr unpriced) = unpriced next.priced
+
+-- a version that a report makes is of the session that it was
+ended_of : (at : ℕ) (v w : Session) → Ends at v w → w.id ≡ v.id
+ended_of at v w (inl completes) = ap (λ (z : Session). z.id) completes.1
+ended_of at v w (inr voids) = ap (λ (z : Session). z.id) voids.1
+
+made_of : (price : ℤ) (at : ℕ) (report : ChargerEvent) (v w : Session) → Makes price at report v w → w.id ≡ v.id
+made_of price at (event.Starts evse) v w made = ap (λ (z : Session). z.id) made.1
+made_of price at (event.Meter evse kwh) v w made = ap (λ (z : Session). z.id) made.2
+made_of price at (event.Stops evse) v w made = ended_of at v w made
+made_of price at (event.Fault evse) v w made = ended_of at v w made
+made_of price at (event.Accepts provider number) v w made = absurd made
+made_of price at (event.Refuses provider number) v w made = absurd made
+made_of price at (event.Unlocked provider number) v w made = absurd made
+made_of price at (event.Swipe evse connector uid type) v w made = absurd made
+
+module _ (s t : State) (e : Event) (fine : IsConsistent s) (whole : IsWhole s) (happens : Happens s e t) where
+  -- the ids of what the event puts are the operator's own
+  own_session : (v : Session) → SessionCause s e.input (does s t e fine happens).acts v → (n : ℕ) × IsOwnId own.Session s.party v.id n
+  own_session v (Begun at n b how above within is reference) = (n, record { is_number = within; made = ap (λ (z : Session). z.id) is })
+  own_session v (Moved at report reports m is) =
+      let made : v.id ≡ m.before.id = ap (λ (z : Session). z.id) is ∙ made_of s.site.price at report m.before m.after m.moves.makes in
+      subst (λ (id : List ℕ). (n : ℕ) × IsOwnId own.Session s.party id n) (sym made) (whole.sessions (key m.before.id) m.before m.moves.here.stands)
+
+  own_cdr : (x : Cdr) → CdrCause s e.input (does s t e fine happens).acts x → (n : ℕ) × IsOwnId own.Cdr s.party x.id n
+  own_cdr x (Billed at report reports m complete l c k place within is) =
+      (s.rows.charged.last_cdr + 1, record { is_number = within; made = ap (λ (z : Cdr). z.id) is })
+
+  sessions_stay : (id : List ℕ) (v : Session) → get t.rows.charged.sessions id ≡ Some v → (n : ℕ) × IsOwnId own.Session t.party v.id n
+  sessions_stay id v has =
+      let d = does s t e fine happens in
+      subst (λ (p : List ℕ). (n : ℕ) × IsOwnId own.Session p v.id n) (sym d.party) (elim (session_from s t e fine d id v has) [
+        | inl old ↦ whole.sessions id v old
+        | inr i ↦ own_session v (session_cause s t e fine d v i)
+      ])
+
+  resumable_stay : (id : List ℕ) (v : Session) → get t.rows.charged.sessions id ≡ Some v → ¬ CannotResume t.site.price v
+  resumable_stay id v has =
+      let d = does s t e fine happens in
+      subst (λ (z : Site). ¬ CannotResume z.price v) (sym d.site) (elim (session_from s t e fine d id v has) [
+        | inl old ↦ whole.resumable id v old
+        | inr i ↦ next_resumes s.site.price (get s.rows.charged.sessions (key v.id)) v (d.sessions v i)
+      ])
+
+  cdrs_stay : (id : List ℕ) (x : Cdr) → get t.rows.charged.cdrs id ≡ Some x → (n : ℕ) × IsOwnId own.Cdr t.party x.id n
+  cdrs_stay id x has =
+      let d = does s t e fine happens in
+      subst (λ (p : List ℕ). (n : ℕ) × IsOwnId own.Cdr p x.id n) (sym d.party) (elim (record_from s t e fine d id x has) [
+        | inl old ↦ whole.cdrs id x old
+        | inr i ↦ own_cdr x (cdr_cause s t e fine d x i)
+      ])
+
+  -- no version is put of a session that is COMPLETED, which stays
+  none_after : (id : List ℕ) (v w : Session) → get s.rows.charged.sessions id ≡ Some v → v.status ≡ Completed → Contains e.changes (Put (row.Session w)) → key w.id ≢ id
+  none_after id v w has complete i at =
+      let next : IsNextOf s.site.price (get s.rows.charged.sessions id) w =
+      subst (λ (k : List ℕ). IsNextOf s.site.price (get s.rows.charged.sessions k) w) at ((does s t e fine happens).sessions w i) in
+      let follows : MayFollow s.site.price v w = subst (λ (o : Option Session). IsNextOf s.site.price o w) has next in
+      completed_is_last w.status (subst (λ (a : SessionStatus). IsTurn a w.status) complete follows.turn)
+
+  completed_stays : (id : List ℕ) (v : Session) → get s.rows.charged.sessions id ≡ Some v → v.status ≡ Completed → get t.rows.charged.sessions id ≡ Some v
+  completed_stays id v has complete = stays s t e (does s t e fine happens) id fine (λ w i. none_after id v w has complete i) ∙ has
+
+  -- a charge detail record that the event puts is of a session that had none, and has one id
+  had_none : (x y : Cdr) (j : List ℕ) → Contains e.changes (Put (row.Cdr x)) → get s.rows.charged.cdrs j ≡ Some y → key x.session_id ≢ key y.session_id
+  had_none x y j i has same =
+      let (v, put, r) = (puts_records s t e fine (does s t e fine happens)).only x i in
+      let (w, had, complete) = whole.billed.only j y has in
+      none_after (key y.session_id) w v had complete put (ap key (sym r.bills.session) ∙ same)
+
+  next_id : (x : Cdr) → Contains e.changes (Put (row.Cdr x)) → x.id ≡ own_id_text own.Cdr s.party (s.rows.charged.last_cdr + 1)
+  next_id x i = let (v, put, r) = (puts_records s t e fine (does s t e fine happens)).only x i in ap (λ (z : Cdr). z.id) r.record_is
+
+  billed_stay : AreBilled t.rows
+  billed_stay =
+      let d = does s t e fine happens in
+      record {
+        each = λ id v has complete. elim (session_from s t e fine d id v has) [
+          | inl old ↦ (let (x, had, same) = whole.billed.each id v old complete in (x, records_stay s t (e ∷ []) fine (t, happens, refl) (key x.id) x had, same))
+          | inr i ↦ (let (x, put, r) = (puts_records s t e fine d).each v i complete in (x, (d.rows (row.Cdr x)).1 (inl put), ap key r.bills.session))
+        ];
+        only = λ id x has. elim (record_from s t e fine d id x has) [
+          | inl old ↦ (let (v, had, complete) = whole.billed.only id x old in (v, completed_stays (key x.session_id) v had complete, complete))
+          | inr i ↦
+              (let (v, put, r) = (puts_records s t e fine d).only x i in (v, stands s t e d (key x.session_id) v put (ap key (sym r.bills.session)), r.bills.completed))
+        ];
+        once = λ i j x y has_x has_y same. elim (record_from s t e fine d i x has_x) [
+          | inl old_x ↦ elim (record_from s t e fine d j y has_y) [
+            | inl old_y ↦ whole.billed.once i j x y old_x old_y same
+            | inr new_y ↦ absurd (had_none y x i new_y old_x (sym same))
+          ]
+          | inr new_x ↦ elim (record_from s t e fine d j y has_y) [
+            | inl old_y ↦ absurd (had_none x y j new_x old_y same)
+            | inr new_y ↦
+                d.consistent.sound.charged_keyed.cdrs i x has_x ∙ ap key (next_id x new_x ∙ sym (next_id y new_y)) ∙ sym (d.consistent.sound.charged_keyed.cdrs j y has_y)
+          ]
+        ];
+      }
+
+  pub happens_stays : IsConsistent t × IsWhole t
+  happens_stays = (
+    (does s t e fine happens).consistent,
+    record { sessions = sessions_stay; resumable = resumable_stay; cdrs = cdrs_stay; billed = billed_stay },
+  )
+
+-- so it is after all that an operator of a world does
+pub operators_stay : (s t : State) (e : Event) → IsConsistent s → IsWhole s → OperatorDoes s e t → IsConsistent t × IsWhole t
+operators_stay s t e fine whole (steps.Done by) = happens_stays s t e fine whole (events.Done by)
+operators_stay s t e fine whole (steps.Restarted restarts is) = happens_stays s t e fine whole (events.Restarted restarts is)
+
+-- and at the opening
+pub opening_is_whole : (line : SiteLine) → party_at line.parties.operator ≡ Ok line.parties.operator → IsConsistent (opening line) × IsWhole (opening line)
+opening_is_whole line party = (
+  opening_consistent line party,
+  record {
+    sessions = λ id v has. absurd (not_both v _ (get-empty text_cmp id) has);
+    resumable = λ id v has. absurd (not_both v _ (get-empty text_cmp id) has);
+    cdrs = λ id x has. absurd (not_both x _ (get-empty text_cmp id) has);
+    billed = record {
+      each = λ id v has complete. absurd (not_both v _ (get-empty text_cmp id) has);
+      only = λ id x has. absurd (not_both x _ (get-empty text_cmp id) has);
+      once = λ i j x y has_x has_y same. absurd (not_both x _ (get-empty text_cmp i) has_x);
+    };
+  },
+)
+
+-- an operator that can start again can after what it does, and so can each operator of a setup before its first event
+pub operators_can_start_again : (s t : State) (e : Event) → CanStartAgain (Operates s) → OperatorDoes s e t → CanStartAgain (Operates t)
+operators_can_start_again s t e can step = let h = operators_stay s t e can.sound can.whole step in record { sound = h.0; whole = h.1 }
+
+pub operator_openings_can_start_again : (setup : List Node) → IsSetup setup → (party : List ℕ) (site : Site) → Contains setup (node.Operator party site) →
+    CanStartAgain (opening_of setup (node.Operator party site))
+operator_openings_can_start_again setup is_setup party site i =
+    let line : SiteLine = record { at = 0; parties = record { operator = party; providers = providers_of setup }; site = site } in
+    let h = opening_is_whole line (is_setup.parties (node.Operator party site) i) in
+    record { sound = h.0; whole = h.1 }

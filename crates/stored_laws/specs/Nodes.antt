@@ -1,0 +1,42 @@
+-- What holds of one node of either role, wherever it comes from: what its own code keeps, what is tested of its rows
+-- before it is made again of them, and what it is as it starts again.
+use Rattle.std.specs.Prelude.{ℕ, List, Contains}
+use Rattle.ocpi_types.specs.declared.setup.Node.{Node}
+use Rattle.operator_rows.specs.Sound as operator_sound
+use Rattle.operator_rows.specs.Steps as operator_steps
+use Rattle.operator_stored.specs.Whole as operator_whole
+use Rattle.provider_rows.specs.Rows.{AreKeyed}
+use Rattle.provider_rows.specs.Sound as provider_sound
+use Rattle.provider_rows.specs.Steps as provider_steps
+use Rattle.provider_stored.specs.Whole as provider_whole
+use Rattle.world_laws.specs.Laws.{IsSetup}
+use Rattle.world_steps.specs.Steps.{NodeEvent, NodeStep}
+use Rattle.world_steps.specs.World.{NodeState, Operates, Provides, opening_of}
+
+-- the node as it starts again: what it stored stays, and nothing else
+abbrev pub restarted : NodeState → NodeState
+restarted (Operates s) = Operates (operator_steps.restarted s)
+restarted (Provides s) = Provides (provider_steps.restarted s)
+
+-- what the type of each node keeps
+abbrev pub IsSound : NodeState → Type 0
+IsSound (Operates s) = operator_sound.IsConsistent s
+IsSound (Provides s) = provider_sound.IsConsistent s × AreKeyed s.rows
+
+-- what its rows are tested for beside
+abbrev pub IsWhole : NodeState → Type 0
+IsWhole (Operates s) = operator_whole.IsWhole s
+IsWhole (Provides s) = provider_whole.IsWhole s
+
+-- so it can be made again of its rows
+pub record CanStartAgain (n : NodeState) : Type 0 where
+  pub sound : IsSound n
+  pub whole : IsWhole n
+
+-- each node of a setup can, before its first event
+abbrev pub OpeningsCanStartAgain : Type 0
+OpeningsCanStartAgain = (setup : List Node) → IsSetup setup → (n : Node) → Contains setup n → CanStartAgain (opening_of setup n)
+
+-- and each can that did something, wherever it came from
+abbrev pub NodesCanStartAgain : Type 0
+NodesCanStartAgain = (n m : NodeState) (x : NodeEvent) → CanStartAgain n → NodeStep n x m → CanStartAgain m
