@@ -321,30 +321,35 @@ fn and_node_closed(
 fn report_node(rt: &HostRuntime, ran: Result<Ran, NodeRunFault>, words: &NodeWords<'_>) -> u8
     ensures { result ≡ node_status ran }
 {
-    match ran {
-        Ok(_) => {}
-        Err(NodeRunFault::Run(fault)) => {
-            let _ = eprintln!(rt; "{fault}");
-        }
-        Err(NodeRunFault::Stop(stop)) => explain_stop(rt, stop, words),
-    }
+    explain_run(rt, &ran, words);
     status_after_node(ran)
 }
 
+/// Says what stopped a run of one node, if anything did.
+fn explain_run(rt: &HostRuntime, ran: &Result<Ran, NodeRunFault>, words: &NodeWords<'_>) {
+    match ran {
+        Ok(_) => {}
+        Err(NodeRunFault::Run(fault)) => {
+            let _ = eprintln!(rt; "{}", *fault);
+        }
+        Err(NodeRunFault::Stop(stop)) => explain_stop(rt, stop, words),
+    }
+}
+
 /// Says why a node did not begin, or did not go on.
-fn explain_stop(rt: &HostRuntime, stop: NodeStop, words: &NodeWords<'_>) {
+fn explain_stop(rt: &HostRuntime, stop: &NodeStop, words: &NodeWords<'_>) {
     match stop {
         NodeStop::UnknownParty => {
             let _ = eprintln!(rt; "node: no {} in the setup", words.party);
         }
         NodeStop::Store(fault) => {
-            let fault = PlayFault::Store(fault);
+            let fault = PlayFault::Store(*fault);
             let _ = eprintln!(rt; "{fault}");
             explain(rt, fault, words.store.unwrap_or(""));
         }
         NodeStop::BadRows(row) => {
             let _ = eprintln!(rt; "store: 4 Core(BadRows)");
-            explain_row(rt, &row, words.store.unwrap_or(""));
+            explain_row(rt, row, words.store.unwrap_or(""));
         }
     }
 }
