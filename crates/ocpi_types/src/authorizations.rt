@@ -12,7 +12,7 @@ use ocpi_text::{CiText, Moment};
 use std::alloc::AllocError;
 
 /// Where a token is to be used (OCPI 2.2.1, Tokens: LocationReferences object).
-#[derive(Drop)]
+#[derive(PartialEq, Drop)]
 pub struct LocationReferences {
     pub location_id: CiText<36>,
     pub evse_uids: Option<EvseUids>,
@@ -36,7 +36,7 @@ impl LocationReferences {
 }
 
 /// An operator's question whether a token may be used now.
-#[derive(Drop)]
+#[derive(PartialEq, Drop)]
 pub struct Authorize {
     pub token_uid: CiText<36>,
     /// The member `type`. Where it is absent, `RFID` is meant.
@@ -63,7 +63,7 @@ impl Authorize {
 }
 
 /// What a provider says of a token (OCPI 2.2.1, Tokens: AuthorizationInfo object).
-#[derive(Clone, Copy)]
+#[derive(Clone, Copy, PartialEq)]
 pub struct AuthorizationInfo {
     pub allowed: AllowedType,
     pub token: Token,
@@ -72,7 +72,7 @@ pub struct AuthorizationInfo {
 }
 
 /// The reply to `Authorize` (OCPI 2.2.1, Transport and format: Response format).
-#[derive(Clone, Copy)]
+#[derive(Clone, Copy, PartialEq)]
 pub enum Authorization {
     /// Status 1000.
     Done {

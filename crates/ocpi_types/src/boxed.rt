@@ -33,6 +33,17 @@ impl<T> Deref for Boxed<T> {
     }
 }
 
+/// Value by value, wherever they stand.
+impl<T: PartialEq> PartialEq for Boxed<T> {
+    ghost eq = { T.eq };
+
+    ghost laws = { T.laws };
+
+    fn eq(&self, other: &Self) -> bool {
+        *self.inner == *other.inner
+    }
+}
+
 impl<T> Boxed<T> {
     /// The value, without its place on the heap.
     pub fn into_inner(self) -> T

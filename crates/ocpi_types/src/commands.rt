@@ -9,7 +9,7 @@ use std::alloc::AllocError;
 
 /// A START_SESSION: a provider asks an operator to start a session for a token (OCPI 2.2.1, Commands: StartSession
 /// object).
-#[derive(Drop)]
+#[derive(PartialEq, Drop)]
 pub struct StartSession {
     pub response_url: FreeText<255>,
     pub token: Token,
@@ -37,7 +37,7 @@ impl StartSession {
 }
 
 /// A STOP_SESSION: a provider asks an operator to end a session (OCPI 2.2.1, Commands: StopSession object).
-#[derive(Drop)]
+#[derive(PartialEq, Drop)]
 pub struct StopSession {
     pub response_url: FreeText<255>,
     pub session_id: CiText<36>,
@@ -57,7 +57,7 @@ impl StopSession {
 
 /// A RESERVE_NOW: a provider asks an operator to keep an EVSE for a token, or moves the reservation of that id
 /// (OCPI 2.2.1, Commands: ReserveNow object).
-#[derive(Drop)]
+#[derive(PartialEq, Drop)]
 pub struct ReserveNow {
     pub response_url: FreeText<255>,
     pub token: Token,
@@ -87,7 +87,7 @@ impl ReserveNow {
 
 /// A CANCEL_RESERVATION: a provider asks an operator to end a reservation (OCPI 2.2.1, Commands: CancelReservation
 /// object).
-#[derive(Drop)]
+#[derive(PartialEq, Drop)]
 pub struct CancelReservation {
     pub response_url: FreeText<255>,
     pub reservation_id: CiText<36>,
@@ -107,7 +107,7 @@ impl CancelReservation {
 
 /// An UNLOCK_CONNECTOR: a provider asks an operator to unlock a connector (OCPI 2.2.1, Commands: UnlockConnector
 /// object).
-#[derive(Drop)]
+#[derive(PartialEq, Drop)]
 pub struct UnlockConnector {
     pub response_url: FreeText<255>,
     pub location_id: CiText<36>,

@@ -5,7 +5,7 @@ use crate::words::TokenType;
 use ocpi_text::{CiText, Moment, Party, Quantity, Whole};
 
 /// What a charge point reports to its operator, or a driver does there.
-#[derive(Clone, Copy)]
+#[derive(Clone, Copy, PartialEq)]
 pub enum ChargerEvent {
     /// A driver shows a token.
     Swipe {
@@ -50,7 +50,7 @@ pub enum ChargerEvent {
 
 /// What a provider orders of an operator: a command without what the provider adds itself, such as the stored token
 /// (OCPI 2.2.1, Commands).
-#[derive(Clone, Copy)]
+#[derive(Clone, Copy, PartialEq)]
 pub enum Order {
     StartSession {
         token_uid: CiText<36>,

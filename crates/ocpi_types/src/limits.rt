@@ -6,7 +6,7 @@ use ocpi_text::Whole;
 use std::marker::Model;
 
 /// A status code from 1001 to 9999: of a reply without data (OCPI 2.2.1, Transport and format: Status codes).
-#[derive(Clone, Copy)]
+#[derive(Clone, Copy, PartialEq)]
 pub struct RefusalCode {
     code: u64,
 }
@@ -24,7 +24,7 @@ impl Model for RefusalCode {
 }
 
 /// A status code from 1000, the success, to 9999 (OCPI 2.2.1, Transport and format: Status codes).
-#[derive(Clone, Copy)]
+#[derive(Clone, Copy, PartialEq)]
 pub struct StatusCode {
     code: u64,
 }

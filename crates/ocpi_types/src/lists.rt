@@ -1,7 +1,8 @@
 //! Lists of records.
 
-ghost use Rattle.std.specs.Prelude.{◌≡◌, ◌≤◌, IfOk, SomeIff, length};
-ghost use Rattle.std.specs.Cmp.Lexicographic.{lists_per, pointwise};
+ghost use Rattle.std.specs.Prelude.{◌≡◌, ◌≤◌, IfOk, SomeIff, length, nat_eq};
+ghost use Rattle.std.specs.Cmp.{partial_equiv_from_equiv};
+ghost use Rattle.std.specs.Cmp.Lexicographic.{lists_per, nat_list_eq_equiv, pointwise};
 
 use crate::copies::{ListItem, copy_all};
 use ocpi_text::CiText;
@@ -105,5 +106,16 @@ impl EvseUids {
     {
         let uids = copy_all(*self.uids.allocator(), self.uids.as_slice())?;
         Ok(EvseUids { uids })
+    }
+}
+
+/// Uid by uid, as spelled, in order.
+impl PartialEq for EvseUids {
+    ghost eq = { λ s t. pointwise (pointwise nat_eq) s t };
+
+    ghost laws = { lists_per (partial_equiv_from_equiv nat_list_eq_equiv) };
+
+    fn eq(&self, other: &Self) -> bool {
+        self.uids == other.uids
     }
 }

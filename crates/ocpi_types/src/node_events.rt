@@ -9,7 +9,7 @@ use ocpi_text::{CiText, Moment, Party};
 use std::alloc::AllocError;
 
 /// What happens at a node: as [`EventKind`](crate::EventKind), but a delivery holds the packet that arrives.
-#[derive(Drop)]
+#[derive(PartialEq, Drop)]
 pub enum NodeEventKind {
     /// A provider orders a command of an operator.
     Submit {
@@ -89,7 +89,7 @@ impl NodeEventKind {
 }
 
 /// What happens, and at which node, by its party. A node serves the events of its own role.
-#[derive(Drop)]
+#[derive(PartialEq, Drop)]
 pub struct NodeEvent {
     pub node: Party,
     pub kind: NodeEventKind,

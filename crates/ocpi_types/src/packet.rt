@@ -16,7 +16,7 @@ use ocpi_text::{Party, Whole};
 use std::alloc::AllocError;
 
 /// What a packet carries. What is large is on the heap, so that packets are small.
-#[derive(Drop)]
+#[derive(PartialEq, Drop)]
 pub enum Body {
     StartSession(Boxed<StartSession>),
     StopSession(StopSession),
@@ -79,7 +79,7 @@ impl Body {
 }
 
 /// A message of one node to another.
-#[derive(Drop)]
+#[derive(PartialEq, Drop)]
 pub struct Packet {
     pub from: Party,
     pub to: Party,

@@ -9,7 +9,7 @@ use std::alloc::AllocError;
 
 /// What a command is answered: whether it is taken up, and within how many seconds its result follows
 /// (OCPI 2.2.1, Commands: CommandResponse object).
-#[derive(Clone, Copy)]
+#[derive(Clone, Copy, PartialEq)]
 pub struct ResponseData {
     pub result: CommandResponseType,
     /// Seconds.
@@ -17,7 +17,7 @@ pub struct ResponseData {
 }
 
 /// The reply to a command (OCPI 2.2.1, Transport and format: Response format).
-#[derive(Clone, Copy)]
+#[derive(Clone, Copy, PartialEq)]
 pub enum CommandResponse {
     /// Status 1000.
     Done {
@@ -32,7 +32,7 @@ pub enum CommandResponse {
 }
 
 /// What became of a command. It is posted to the command's address (OCPI 2.2.1, Commands: CommandResult object).
-#[derive(Drop)]
+#[derive(PartialEq, Drop)]
 pub struct CommandResult {
     pub response_url: FreeText<255>,
     pub result: CommandResultType,
@@ -52,7 +52,7 @@ impl CommandResult {
 
 /// The reply to what is pushed: a command's result, a session, a charge detail record, a token. It has no data
 /// (OCPI 2.2.1, Transport and format: Response format).
-#[derive(Clone, Copy)]
+#[derive(Clone, Copy, PartialEq)]
 pub struct Ack {
     /// 1000, where what was pushed is taken.
     pub status_code: StatusCode,

@@ -15,7 +15,7 @@ pub struct Price {
 }
 
 /// A version of a charging session.
-#[derive(Clone, Copy)]
+#[derive(Clone, Copy, PartialEq)]
 pub struct Session {
     /// The operator: `country_code` and `party_id`.
     pub party: Party,

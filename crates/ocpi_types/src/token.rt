@@ -6,7 +6,7 @@ use ocpi_text::{CiText, Moment, Party, ShortText};
 use std::alloc::AllocError;
 
 /// What a driver shows, by the contract with a provider.
-#[derive(Clone, Copy)]
+#[derive(Clone, Copy, PartialEq)]
 pub struct Token {
     /// The provider of the contract: `country_code` and `party_id`.
     pub party: Party,

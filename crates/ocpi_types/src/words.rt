@@ -72,7 +72,7 @@ impl Word for TokenType {
 }
 
 /// When a token may be used without asking the provider (OCPI 2.2.1, Tokens: WhitelistType).
-#[derive(Clone, Copy)]
+#[derive(Clone, Copy, PartialEq)]
 pub enum WhitelistType {
     Always,
     Allowed,
@@ -106,7 +106,7 @@ impl Word for WhitelistType {
 }
 
 /// What an operator answers to a command, before it is carried out (OCPI 2.2.1, Commands: CommandResponseType).
-#[derive(Clone, Copy)]
+#[derive(Clone, Copy, PartialEq)]
 pub enum CommandResponseType {
     NotSupported,
     Rejected,
@@ -140,7 +140,7 @@ impl Word for CommandResponseType {
 }
 
 /// What became of a command that was carried out, or why it was not (OCPI 2.2.1, Commands: CommandResultType).
-#[derive(Clone, Copy)]
+#[derive(Clone, Copy, PartialEq)]
 pub enum CommandResultType {
     Accepted,
     CanceledReservation,
@@ -189,7 +189,7 @@ impl Word for CommandResultType {
 }
 
 /// Whether a token may be used now (OCPI 2.2.1, Tokens: AllowedType).
-#[derive(Clone, Copy)]
+#[derive(Clone, Copy, PartialEq)]
 pub enum AllowedType {
     Allowed,
     Blocked,
@@ -226,7 +226,7 @@ impl Word for AllowedType {
 }
 
 /// How far a session is (OCPI 2.2.1, Sessions: SessionStatus).
-#[derive(Clone, Copy)]
+#[derive(Clone, Copy, PartialEq)]
 pub enum SessionStatus {
     Active,
     Completed,
