@@ -8,10 +8,10 @@ use Rattle.ocpi_types.specs.declared.setup.Node.{Node}
 use Rattle.ocpi_types.specs.declared.setup.Node.TheVariants as node
 use Rattle.node_core.specs.Members.{IsMadeOfRows}
 use Rattle.node_store.specs.Contents.{Content, IsReadAgain, changed_all, rows_of}
-use Rattle.node_rows.specs.Holds.{HoldsRows, NodeRows, StoresAlike}
+use Rattle.node_rows.specs.Holds.{HoldsRows, StoresAlike}
 use Rattle.node_rows.specs.Laws.{AreClasses, ChangesAreHeld, RestartsAreHeld}
 use Rattle.node_rows.proofs.Telling.{empty_is_held}
-use Rattle.stored_laws.specs.Nodes.{CanStartAgain, IsSound, IsWhole, NodesCanStartAgain}
+use Rattle.stored_laws.specs.Nodes.{AreNodeRows, CanStartAgain, IsSound, IsWhole, NodesCanStartAgain}
 use Rattle.stored_laws.proofs.Starting.{openings_can_start_again}
 use Rattle.world_laws.specs.Laws.{IsSetup}
 use Rattle.world_steps.specs.Steps.{NodeEvent, NodeStep, changes_of}
@@ -100,7 +100,7 @@ made_whole setup (node.Operator party site) rows (Provides s) made = absurd made
 made_whole setup (node.Provider party) rows (Operates s) made = absurd made
 made_whole setup (node.Provider party) rows (Provides s) made = made.whole
 
-made_rows : (setup : List Node) (m : Node) (rows : List Row) (n : NodeState) → IsMadeOfRows setup m rows n → NodeRows rows n
+made_rows : (setup : List Node) (m : Node) (rows : List Row) (n : NodeState) → IsMadeOfRows setup m rows n → AreNodeRows rows n
 made_rows setup (node.Operator party site) rows (Operates s) made = made.has_rows
 made_rows setup (node.Operator party site) rows (Provides s) made = absurd made
 made_rows setup (node.Provider party) rows (Operates s) made = absurd made

@@ -11,8 +11,8 @@ use Rattle.operator_steps.specs.Events as operator
 use Rattle.provider_steps.specs.Events as provider
 use Rattle.world_steps.specs.Network.{Input, OfOperator, OfProvider}
 use Rattle.world_steps.specs.Steps.{NodeEvent, NodeRefuses, NodeStep, changes_of, input_of, packets_of}
-use Rattle.world_steps.specs.World.{NodeState, Operates, Provides}
-use Rattle.stored_laws.specs.Nodes.{CanStartAgain}
+use Rattle.world_steps.specs.World.{NodeState, Operates, Provides, opening_of}
+use Rattle.stored_laws.specs.Nodes.{CanStartAgain, IsOfOpening}
 use Rattle.stored_rows.specs.declared.fault.RowsFault.{RowsFault}
 use Rattle.stored_rows.specs.declared.fault.RowsFault.TheVariants as rows_fault
 use Rattle.node_store.specs.Contents.{Content, rows_of}
@@ -22,7 +22,7 @@ use Rattle.node_core.specs.Inputs.{Gets}
 use Rattle.node_core.specs.declared.input.NodeInput.{NodeInput}
 use Rattle.node_core.specs.Works.{changes_by, packets_by}
 use Rattle.node_core.specs.declared.work.NodeWork.{NodeWork}
-use Rattle.node_core.specs.Members.{IsBadFor, IsMadeOfRows, IsOfMember}
+use Rattle.node_core.specs.Members.{IsBadFor, IsMadeOfRows}
 use Rattle.ocpi_types.specs.declared.setup.Node.{Node as SetupNode}
 use Rattle.node_cell.specs.Keepers.{Commits, Declines, Keeper, KeepsOn}
 use Rattle.node_cell.specs.declared.fault.ApplyFault.{ApplyFault}
@@ -213,5 +213,5 @@ IsNotBad reopen_fault.Memory = Unit {0}
 -- what is kept are the rows of that node of the setup, which can start again
 pub record IsKeptFor (setup : List SetupNode) (member : SetupNode) (c : Content) (s : NodeState) : Type 0 where
   pub starts : CanStartAgain s
-  pub of_member : IsOfMember setup member s
+  pub of_member : IsOfOpening (opening_of setup member) s
   pub holds : HoldsRows c s

@@ -1,13 +1,12 @@
 -- The laws of a node's work.
 use Rattle.std.specs.Prelude.{List}
-use Rattle.node_core.specs.Members.{IsOfMember}
 use Rattle.node_core.specs.States.{AreNodeChanges}
 use Rattle.node_core.specs.Works.{Does, IsWork, MayDo, changes_by, node_after}
 use Rattle.node_core.specs.declared.input.NodeInput.{NodeInput}
 use Rattle.node_core.specs.declared.work.NodeWork.{NodeWork}
 use Rattle.node_steps.specs.Changes.{AreApart}
 use Rattle.ocpi_types.specs.declared.setup.Node.{Node}
-use Rattle.stored_laws.specs.Nodes.{IsSound}
+use Rattle.stored_laws.specs.Nodes.{IsOfOpening, IsSound}
 use Rattle.world_steps.specs.World.{NodeState, opening_of}
 
 -- work that was planned may be done, and is a step of the node
@@ -20,5 +19,5 @@ WorkChangesRows = (n : NodeState) (x : NodeWork) → IsSound n → MayDo n x →
 
 -- the node of a member of a setup is so from its opening on, whatever it does
 pub record MembersStay : Type 0 where
-  pub at_first : (nodes : List Node) (m : Node) → IsOfMember nodes m (opening_of nodes m)
-  pub by_work : (nodes : List Node) (m : Node) (n : NodeState) (x : NodeWork) → IsOfMember nodes m n → IsOfMember nodes m (node_after x n)
+  pub at_first : (nodes : List Node) (m : Node) → IsOfOpening (opening_of nodes m) (opening_of nodes m)
+  pub by_work : (nodes : List Node) (m : Node) (n : NodeState) (x : NodeWork) → IsOfOpening (opening_of nodes m) n → IsOfOpening (opening_of nodes m) (node_after x n)

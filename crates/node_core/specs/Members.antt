@@ -1,25 +1,19 @@
 -- A node of a setup: what it is opened with, and what of its rows a node is made.
-use Rattle.std.specs.Prelude.{◌≡◌, ℕ, List}
-use Rattle.node_core.specs.States.{AreNodeRows}
+use Rattle.std.specs.Prelude.{ℕ, List}
 use Rattle.ocpi_types.specs.declared.rows.Row.{Row}
 use Rattle.ocpi_types.specs.declared.rows.RowKey.{RowKey}
 use Rattle.ocpi_types.specs.declared.setup.Node.{Node}
 use Rattle.ocpi_types.specs.declared.setup.Node.TheVariants as member
 use Rattle.ocpi_types.specs.declared.site.Site.{Site}
 use Rattle.ocpi_types.specs.declared.site.SiteLine.{SiteLine}
-use Rattle.operator_rows.specs.Sound as operator_sound
-use Rattle.operator_rows.specs.State as operator
-use Rattle.operator_rows.specs.Steps as operator_steps
 use Rattle.operator_stored.specs.Bad as operator_bad
 use Rattle.operator_stored.specs.Making as operator_making
-use Rattle.provider_rows.specs.Sound as provider_sound
-use Rattle.provider_rows.specs.State as provider
 use Rattle.provider_rows.specs.State.{Peering}
-use Rattle.provider_rows.specs.Steps as provider_steps
 use Rattle.provider_stored.specs.Bad as provider_bad
 use Rattle.provider_stored.specs.Making as provider_making
+use Rattle.stored_laws.specs.Nodes.{AreNodeRows, IsOfOpening}
 use Rattle.stored_rows.specs.declared.fault.BadReason.{BadReason}
-use Rattle.world_steps.specs.World.{NodeState, Operates, Provides, operators_of, providers_of}
+use Rattle.world_steps.specs.World.{NodeState, Operates, Provides, opening_of, operators_of, providers_of}
 
 -- what an operator of the setup is opened with: its site, and all providers
 abbrev pub line_of : List Node → List ℕ → Site → SiteLine
@@ -28,13 +22,6 @@ line_of nodes party site = record { at = 0; parties = record { operator = party;
 -- and a provider: all operators
 abbrev pub peers_of : List Node → List ℕ → Peering
 peers_of nodes party = record { provider = party; operators = operators_of nodes }
-
--- the node is that of the member, whatever its rows: it was opened with what the member has
-abbrev pub IsOfMember : List Node → Node → NodeState → Type 0
-IsOfMember nodes (member.Operator party site) (Operates s) = operator_steps.restarted s ≡ operator_sound.with_rows s.rows (operator.opening (line_of nodes party site))
-IsOfMember nodes (member.Operator party site) (Provides s) = ⊥
-IsOfMember nodes (member.Provider party) (Operates s) = ⊥
-IsOfMember nodes (member.Provider party) (Provides s) = provider_steps.restarted s ≡ provider_sound.with_rows s.rows (provider.opening (peers_of nodes party))
 
 -- the node is that of the member, and has just these rows: each request that waits is due at once, and no authorization
 -- is awaited
@@ -51,5 +38,5 @@ IsBadFor nodes (member.Provider party) rows = provider_bad.IsBad (peers_of nodes
 
 -- a node of the member that has just these rows, whatever stands in no row
 pub record StartsAgainFrom (nodes : List Node) (m : Node) (rows : List Row) (n : NodeState) : Type 0 where
-  pub of_member : IsOfMember nodes m n
+  pub of_member : IsOfOpening (opening_of nodes m) n
   pub has_rows : AreNodeRows rows n

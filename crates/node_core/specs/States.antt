@@ -1,11 +1,10 @@
 -- What the values of the code stand for, and what is told of a node.
-use Rattle.std.specs.Prelude.{ℕ, ℤ, pos, List}
+use Rattle.std.specs.Prelude.{ℤ, pos, List}
 use Rattle.std.specs.FinMap.{values}
 use Rattle.handover.specs.Owed.{Account, owed}
 use Rattle.node_core.specs.declared.node.Node.{Node}
 use Rattle.node_core.specs.declared.node.Node.TheVariants as node
 use Rattle.ocpi_types.specs.declared.rows.Change.{Change}
-use Rattle.ocpi_types.specs.declared.rows.Row.{Row}
 use Rattle.operator_rows.specs.Rows as operator
 use Rattle.provider_rows.specs.Rows as provider
 use Rattle.world_steps.specs.World.{NodeState, Operates, Provides}
@@ -13,11 +12,6 @@ use Rattle.world_steps.specs.World.{NodeState, Operates, Provides}
 abbrev pub state_of : Node → NodeState
 state_of (node.Operator o) = Operates o.state
 state_of (node.Provider p) = Provides p.state
-
--- the list has exactly the rows of the node, each once
-abbrev pub AreNodeRows : List Row → NodeState → Type 0
-AreNodeRows rows (Operates s) = operator.AreRowsOf rows s.rows
-AreNodeRows rows (Provides s) = provider.AreRowsOf rows s.rows
 
 -- the changes lead from the rows of one node to those of the other
 abbrev pub AreNodeChanges : NodeState → List Change → NodeState → Type 0
@@ -30,8 +24,3 @@ AreNodeChanges (Provides s) changes (Provides t) = provider.AreChanges s.rows ch
 abbrev pub owed_of : NodeState → Account → ℤ
 owed_of (Operates s) a = pos 0
 owed_of (Provides s) a = owed a (values s.rows.inbox.cdrs)
-
--- the number of the last packet that it sent, 0 where it sent none
-abbrev pub serial_of : NodeState → ℕ
-serial_of (Operates s) = s.rows.serial
-serial_of (Provides s) = s.rows.serial

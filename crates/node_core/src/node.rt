@@ -2,8 +2,8 @@
 
 ghost use Rattle.std.specs.Prelude.{◌≡◌, IfOk};
 ghost use Rattle.ocpi_text.specs.Text.{key};
-ghost use Rattle.node_core.specs.States.{AreNodeRows, owed_of, serial_of, state_of};
-ghost use Rattle.stored_laws.specs.Nodes.{IsSound};
+ghost use Rattle.node_core.specs.States.{owed_of, state_of};
+ghost use Rattle.stored_laws.specs.Nodes.{AreNodeRows, IsSound, last_serial};
 
 use ocpi_text::{Party, ShortText, Whole};
 use ocpi_types::Row;
@@ -61,7 +61,7 @@ impl Node {
 
     /// The serial of the last packet that it sent, 0 where it sent none.
     pub fn last_serial(&self) -> Whole
-        ensures { result ≡ serial_of (state_of self.now) }
+        ensures { result ≡ last_serial (state_of self.now) }
     {
         match self {
             Node::Operator(operator) => operator.last_serial(),

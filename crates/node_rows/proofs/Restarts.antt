@@ -21,11 +21,11 @@ use Rattle.provider_rows.specs.Stored as provider_stored
 use Rattle.provider_rows.proofs.KeepingTimes as provider_times
 use Rattle.provider_steps.specs.Events as provider_events
 use Rattle.provider_steps.specs.Moves as provider_moves
-use Rattle.stored_laws.specs.Nodes.{CanStartAgain, restarted}
+use Rattle.stored_laws.specs.Nodes.{CanStartAgain, IsOfOpening, restarted}
 use Rattle.world_steps.specs.Steps as steps
 use Rattle.world_steps.specs.Steps.{AtOperator, AtProvider, NodeEvent, NodeStep, OperatorDoes, ProviderDoes, changes_of}
 use Rattle.world_steps.specs.World.{NodeState, Operates, Provides, opening_of}
-use Rattle.node_rows.specs.Holds.{HoldsRows, IsOfOpening, StoresAlike}
+use Rattle.node_rows.specs.Holds.{HoldsRows, StoresAlike}
 use Rattle.node_rows.specs.Laws.{AreClasses, NodesKeepOpenings, RestartsAreHeld, RestartsCanStartAgain}
 
 -- ---- what is held

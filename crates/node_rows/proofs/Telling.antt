@@ -28,11 +28,11 @@ use Rattle.provider_steps.specs.Events as provider_events
 use Rattle.provider_stored.specs.Making as provider_making
 use Rattle.provider_stored.proofs.Made.{made_of_none}
 use Rattle.provider_stored.proofs.Told.{tell_all}
-use Rattle.stored_laws.specs.Nodes.{CanStartAgain, IsSound}
+use Rattle.stored_laws.specs.Nodes.{CanStartAgain, IsOfOpening, IsSound}
 use Rattle.world_steps.specs.Steps as steps
 use Rattle.world_steps.specs.Steps.{AtOperator, AtProvider}
 use Rattle.world_steps.specs.World.{NodeState, Operates, Provides, opening_of, operators_of, providers_of}
-use Rattle.node_rows.specs.Holds.{HasRow, HoldsRows, IsOfOpening, StoresAlike}
+use Rattle.node_rows.specs.Holds.{HasRow, HoldsRows, StoresAlike}
 use Rattle.node_rows.specs.Laws.{EmptyIsHeld, HeldRowsStartAgain, RowsAreOfOne, SerialsAreInOrder, SerialsFollow}
 use Rattle.node_rows.proofs.Held.{some_of}
 use Rattle.node_rows.proofs.Readings.{IsKept, rows_kept}

@@ -14,10 +14,10 @@ use Rattle.operator_stored.specs.Making as operator_making
 use Rattle.provider_rows.specs.State as provider
 use Rattle.provider_rows.specs.Steps as provider_steps
 use Rattle.provider_stored.specs.Making as provider_making
-use Rattle.stored_laws.specs.Nodes.{CanStartAgain, IsSound, restarted}
+use Rattle.stored_laws.specs.Nodes.{CanStartAgain, IsOfOpening, IsSound, last_serial, restarted}
 use Rattle.world_steps.specs.Steps.{NodeEvent, NodeStep, changes_of, packets_of}
 use Rattle.world_steps.specs.World.{NodeState, Operates, Provides, opening_of}
-use Rattle.node_rows.specs.Holds.{HasRow, HoldsRows, IsOfOpening, StoresAlike, last_serial}
+use Rattle.node_rows.specs.Holds.{HasRow, HoldsRows, StoresAlike}
 
 -- where a content holds the rows of a node, the changes of a step make it one that holds those of the node after it
 abbrev pub ChangesAreHeld : Type 0

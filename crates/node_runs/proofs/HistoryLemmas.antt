@@ -21,10 +21,10 @@ use Rattle.node_store.specs.declared.fault.StoreFault.{StoreFault}
 use Rattle.node_cell.specs.Keepers.{Keeper}
 use Rattle.node_cell.specs.Stored.{Fails, IsKeptFor, IsStored, Loses, Stored}
 use Rattle.node_cell.specs.declared.fault.ApplyFault.TheVariants as apply
-use Rattle.node_core.specs.Members.{IsMadeOfRows, IsOfMember}
-use Rattle.node_rows.specs.Holds.{HoldsRows, IsOfOpening}
+use Rattle.node_core.specs.Members.{IsMadeOfRows}
+use Rattle.node_rows.specs.Holds.{HoldsRows}
 use Rattle.node_rows.specs.Laws.{NodesKeepOpenings}
-use Rattle.stored_laws.specs.Nodes.{restarted}
+use Rattle.stored_laws.specs.Nodes.{IsOfOpening, restarted}
 use Rattle.node_runs.specs.NodeTurns.{EventTurn, GoesOn, IsMember, NodeLineGives, NodeTurn, Running, Stage, Starts, opening}
 use Rattle.node_runs.specs.NodeTurns as turns
 use Rattle.node_runs.specs.NodeHistories.{As_left, HasHistory, One_more, RunsAreHistories, StopsGoOn, TwoRunsAreOne, WasRun, restart_of}
@@ -131,13 +131,6 @@ made_of_opening setup (node.Operator party site) rows (Provides s) made = absurd
 made_of_opening setup (node.Provider party) rows (Operates s) made = absurd made
 made_of_opening setup (node.Provider party) rows (Provides s) made = ap provider_steps.restarted made.with_peers
 
--- and what is of the opening of a member is of the member
-is_of_member : (setup : List Node) (member : Node) (n : NodeState) → IsOfOpening (opening_of setup member) n → IsOfMember setup member n
-is_of_member setup (node.Operator party site) (Operates s) is = is
-is_of_member setup (node.Operator party site) (Provides s) is = absurd is
-is_of_member setup (node.Provider party) (Operates s) is = absurd is
-is_of_member setup (node.Provider party) (Provides s) is = is
-
 module _ (keep : NodesKeepOpenings) where
   run_of_opening : (first s t : NodeState) (xs : List NodeEvent) → IsOfOpening first s → Run NodeStep s xs t → IsOfOpening first t
   run_of_opening first s t [] is did = subst (IsOfOpening first) (sym did) is
@@ -148,7 +141,7 @@ module _ (keep : NodesKeepOpenings) where
       let state = ended.node.state in
       let of_opening = run_of_opening (opening_of setup member) first.start.state state xs (made_of_opening setup member first.starts.reopens.list first.start.state first.starts.reopens.made) first.did in
       let held = subst (λ c. HoldsRows c state) (sym over) (stored.holds honest) in
-      let again = second.starts.again later state (record { starts = stored.starts; of_member = is_of_member setup member state of_opening; holds = held }) in
+      let again = second.starts.again later state (record { starts = stored.starts; of_member = of_opening; holds = held }) in
       let did = subst (λ (n : NodeState). Run NodeStep n ys now.node.state) again second.did in
       joined first.start.state state now.node.state xs (restart_of state ∷ ys) first.did (restarted state, restarts state, did)
 
@@ -170,10 +163,10 @@ module _ (keep : NodesKeepOpenings) where
       elim (stored.stops honest (keeper.content second.starts.fresh) left) [
         | inl same ↦
             let held = subst (λ c. HoldsRows c state) (sym same) (stored.holds honest) in
-            As_left (second.starts.again later state (record { starts = stored.starts; of_member = is_of_member setup member state of_opening; holds = held }))
+            As_left (second.starts.again later state (record { starts = stored.starts; of_member = of_opening; holds = held }))
         | inr more ↦
             let of_u = alike_of_opening (opening_of setup member) more.u state more.alike of_opening in
             let of_v = keep.by_steps (opening_of setup member) more.u more.v more.event of_u more.step in
             One_more more.u more.v more.event more.alike more.step
-            (second.starts.again later more.v (record { starts = more.starts; of_member = is_of_member setup member more.v of_v; holds = more.holds }))
+            (second.starts.again later more.v (record { starts = more.starts; of_member = of_v; holds = more.holds }))
       ]

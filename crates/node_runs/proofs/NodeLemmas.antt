@@ -12,13 +12,13 @@ use Rattle.node_cell.specs.declared.fault.ApplyFault.{ApplyFault}
 use Rattle.node_cell.specs.declared.fault.ApplyFault.TheVariants as apply
 use Rattle.node_cell.specs.declared.stored_node.Applied.{Applied}
 use Rattle.node_cell.specs.declared.stored_node.Applied.TheVariants.{Skipped, Stepped}
+use Rattle.stored_laws.specs.Nodes.{last_serial}
 use Rattle.program_lines.specs.Writing.{packet_lines}
 use Rattle.json_text.specs.Fault.{Read}
 use Rattle.ocpi_json.specs.SetupForms.{setup_in}
 use Rattle.ocpi_types.specs.Setups.{party_of}
 use Rattle.ocpi_types.specs.declared.setup.Node.{Node}
 use Rattle.line_runs.specs.declared.run.Turn.{Turn}
-use Rattle.node_core.specs.States.{serial_of}
 use Rattle.node_store.specs.declared.fault.StoreFault.{StoreFault}
 use Rattle.node_runs.specs.DoneLines.{opened_line, stepped_line}
 use Rattle.node_runs.specs.NodeTurns.{DidStep, EventTurn, IsLost, IsOfNode, IsMember, IsOfOtherRole, IsRefused, IsStarved, Opened, Running, SetupTurn, Stage, Starts, WasIdle, WasUnstored, applied_lines, fault_lines, fault_turn, first_place, step_line, stop_after}
@@ -54,12 +54,12 @@ module _ {K : Type 0} (keeper : Keeper K) (now : Running K) (node : Stored K) (s
 pub begins : {K : Type 0} (keeper : Keeper K) (may_refuse : ℕ → StoreFault → Type 0) (s : Stage K) (number : ℕ) (line : List ℕ) (setup : List Node) (member : Node) (rows : ℕ) (b : Running K)
     (turn : Turn) (next : Stage K) (opened : List ℕ) → setup_in line ≡ Ok setup → IsMember setup s.wanted member → b.party ≡ party_of member → Starts keeper setup member rows b.node → turn ≡ Taken
     → opened ≡ s.opened ++ first_place → next ≡ record { wanted = s.wanted; opened = opened; running = Some b; spare = s.spare; stop = s.stop }
-    → SetupTurn keeper may_refuse s number line turn (opened_line number b.party rows (serial_of b.node.state)) next
+    → SetupTurn keeper may_refuse s number line turn (opened_line number b.party rows (last_serial b.node.state)) next
 begins {K} keeper may_refuse s number line setup member rows b turn next opened read is party starts taken more left =
     let same : record { wanted = s.wanted; opened = opened; running = Some b; spare = s.spare; stop = s.stop }
     ≡ record { wanted = s.wanted; opened = s.opened ++ first_place; running = Some (record { party = party_of member; node = b.node }); spare = s.spare; stop = s.stop } =
     λ i. record { wanted = s.wanted; opened = more i; running = Some (record { party = party i; node = b.node }); spare = s.spare; stop = s.stop } in
-    Opened setup read member is rows b.node starts taken (ap (λ (p : List ℕ). opened_line number p rows (serial_of b.node.state)) party) (left ∙ same)
+    Opened setup read member is rows b.node starts taken (ap (λ (p : List ℕ). opened_line number p rows (last_serial b.node.state)) party) (left ∙ same)
 
 abbrev pub stage_of : {K : Type 0} → Option (List ℕ) → List ℕ → Option (Running K) → Option K → Option NodeStop → Stage K
 stage_of wanted opened running spare stop = record { wanted = wanted; opened = opened; running = running; spare = spare; stop = stop }

@@ -26,9 +26,8 @@ use Rattle.node_cell.specs.declared.fault.ApplyFault.TheVariants as apply
 use Rattle.node_cell.specs.declared.stored_node.Applied.{Applied}
 use Rattle.node_cell.specs.declared.stored_node.Applied.TheVariants.{Skipped, Stepped}
 use Rattle.node_cell.specs.declared.fault.ReopenFault.{ReopenFault}
-use Rattle.node_core.specs.States.{serial_of}
 use Rattle.program_lines.specs.Writing.{packet_lines}
-use Rattle.stored_laws.specs.Nodes.{restarted}
+use Rattle.stored_laws.specs.Nodes.{last_serial, restarted}
 use Rattle.world_steps.specs.World.{NodeState}
 use Rattle.node_runs.specs.DoneLines.{idle_line, malformed_line, opened_line, refused_line, skipped_line, stepped_line}
 use Rattle.node_runs.specs.Stops.{stop_of}
@@ -104,7 +103,7 @@ pub data SetupTurn {K : Type 0} (keeper : Keeper K) (may_refuse : ℕ → StoreF
     (number : ℕ) (line : List ℕ) (turn : Turn) (out : List ℕ) (next : Stage K) : Type 0 where
   Opened : (setup : List Node) → setup_in line ≡ Ok setup → (member : Node) → IsMember setup s.wanted member
       → (rows : ℕ) (node : Stored K) → Starts keeper setup member rows node
-      → turn ≡ Taken → out ≡ opened_line number (party_of member) rows (serial_of node.state)
+      → turn ≡ Taken → out ≡ opened_line number (party_of member) rows (last_serial node.state)
       → next ≡ record { wanted = s.wanted; opened = s.opened ++ first_place; running = Some (record { party = party_of member; node = node }); spare = s.spare; stop = s.stop }
       → SetupTurn keeper may_refuse s number line turn out next
   Unbegun : (setup : List Node) → setup_in line ≡ Ok setup

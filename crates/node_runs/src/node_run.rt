@@ -7,11 +7,11 @@ ghost use Rattle.line_runs.specs.declared.outcome.Ran.TheVariants.{WithRefusals}
 ghost use Rattle.line_runs.specs.declared.run.Turn.{Turn as TurnOf};
 ghost use Rattle.line_runs.specs.declared.run.Turn.TheVariants.{Taken};
 ghost use Rattle.node_cell.specs.Keepers.{keeper_of};
-ghost use Rattle.node_core.specs.States.{serial_of};
 ghost use Rattle.node_runs.specs.DoneLines.{opened_line};
 ghost use Rattle.node_runs.specs.NodeOutputs.{IsKept, NodeBegins, NodeOutputs, NodeStops, asked_for};
 ghost use Rattle.node_runs.specs.NodeTurns.{NodeEndGives, NodeLineGives, SetupTurn, keep_in, opening};
 ghost use Rattle.node_runs.specs.Stops.{IfRun, IfStop};
+ghost use Rattle.stored_laws.specs.Nodes.{last_serial};
 
 use crate::beginning::{Begun, Running, Unbegun, begin};
 use crate::done_lines::{write_malformed, write_opened};
@@ -179,7 +179,7 @@ impl<K: Keep + Drop, S: Keeps<Kept = K>> Program<K, S> {
     ) -> Result<Turn, AllocError>
         ensures stage { self.new ≡ record { wanted = self.old.wanted; opened = self.old.opened; running = Some begun.running; spare = self.old.spare; stop = self.old.stop } }
         ensures ok { IfOk result (λ turn. (turn ≡ Taken) × (string_bytes output.new ≡ string_bytes output.old
-            ++ opened_line number begun.running.party begun.rows (serial_of begun.running.node.state))) }
+            ++ opened_line number begun.running.party begun.rows (last_serial begun.running.node.state))) }
     {
         let Begun { running, rows } = begun;
         let party = running.party;

@@ -1,10 +1,13 @@
--- What holds of one node of either role, wherever it comes from: what its own code keeps, what is tested of its rows
--- before it is made again of them, and what it is as it starts again.
-use Rattle.std.specs.Prelude.{ℕ, List, Contains}
+-- What holds of one node of either role, wherever it comes from: its rows, what its own code keeps, what is tested of
+-- its rows before it is made again of them, and what it is as it starts again.
+use Rattle.std.specs.Prelude.{◌≡◌, ℕ, List, Contains}
+use Rattle.ocpi_types.specs.declared.rows.Row.{Row}
 use Rattle.ocpi_types.specs.declared.setup.Node.{Node}
+use Rattle.operator_rows.specs.Rows as operator_rows
 use Rattle.operator_rows.specs.Sound as operator_sound
 use Rattle.operator_rows.specs.Steps as operator_steps
 use Rattle.operator_stored.specs.Whole as operator_whole
+use Rattle.provider_rows.specs.Rows as provider_rows
 use Rattle.provider_rows.specs.Rows.{AreKeyed}
 use Rattle.provider_rows.specs.Sound as provider_sound
 use Rattle.provider_rows.specs.Steps as provider_steps
@@ -13,10 +16,27 @@ use Rattle.world_laws.specs.Laws.{IsSetup}
 use Rattle.world_steps.specs.Steps.{NodeEvent, NodeStep}
 use Rattle.world_steps.specs.World.{NodeState, Operates, Provides, opening_of}
 
+-- the list has exactly the rows of the node, each once
+abbrev pub AreNodeRows : List Row → NodeState → Type 0
+AreNodeRows rows (Operates s) = operator_rows.AreRowsOf rows s.rows
+AreNodeRows rows (Provides s) = provider_rows.AreRowsOf rows s.rows
+
+-- the number of the last packet that it sent, 0 where it sent none
+abbrev pub last_serial : NodeState → ℕ
+last_serial (Operates s) = s.rows.serial
+last_serial (Provides s) = s.rows.serial
+
 -- the node as it starts again: what it stored stays, and nothing else
 abbrev pub restarted : NodeState → NodeState
 restarted (Operates s) = Operates (operator_steps.restarted s)
 restarted (Provides s) = Provides (provider_steps.restarted s)
+
+-- the second node, as it starts again, is the first with other rows: both were opened alike
+abbrev pub IsOfOpening : NodeState → NodeState → Type 0
+IsOfOpening (Operates first) (Operates s) = operator_steps.restarted s ≡ operator_sound.with_rows s.rows first
+IsOfOpening (Provides first) (Provides s) = provider_steps.restarted s ≡ provider_sound.with_rows s.rows first
+IsOfOpening (Operates first) (Provides s) = ⊥
+IsOfOpening (Provides first) (Operates s) = ⊥
 
 -- what the type of each node keeps
 abbrev pub IsSound : NodeState → Type 0

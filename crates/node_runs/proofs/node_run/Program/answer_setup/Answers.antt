@@ -4,9 +4,9 @@ use Rattle.std.proofs.lemmas.Result.{IfOk-weaker}
 use Rattle.line_runs.specs.declared.run.Turn.{Turn}
 use Rattle.line_runs.specs.declared.run.Turn.TheVariants.{Ended, Taken}
 use Rattle.node_cell.specs.Keepers.{keeper_of}
-use Rattle.node_core.specs.States.{serial_of}
 use Rattle.node_runs.specs.DoneLines.{malformed_line, opened_line}
 use Rattle.node_runs.specs.NodeTurns.{NoSetup, Running, SetupTurn, Stage, Unbegun}
+use Rattle.stored_laws.specs.Nodes.{last_serial}
 use Rattle.program_lines.proofs.FaultLemmas.{of_each}
 use Rattle.node_runs.proofs.NodeLemmas.{begins, left_unbegun, stage_of}
 use Rattle.node_runs.proofs.node_run.Program.answer_setup.Goals as goal
@@ -26,7 +26,7 @@ returns-in-Ok-begin-clause-ok g c =
     let s : Stage g.row.K.Denot = record { wanted = c.self.inside.wanted; opened = g.S.Keeps.opened c.self.inside.keeps; running = c.self.inside.running; spare = c.self.inside.spare; stop = c.self.inside.stop } in
     let b = c.in-Ok-begin.begun in
     let found = c.in-Ok-begin.ensures.ok in
-    let out = opened_line c.args.number b.running.party b.rows (serial_of b.running.node.state) in
+    let out = opened_line c.args.number b.running.party b.rows (last_serial b.running.node.state) in
     IfOk-weaker c.take_begun.result _ _ (λ turn r. (
       out,
       r.1,
@@ -42,7 +42,7 @@ returns-in-Ok-begin-clause-err g c =
     let s : Stage g.row.K.Denot = record { wanted = c.self.inside.wanted; opened = g.S.Keeps.opened c.self.inside.keeps; running = c.self.inside.running; spare = c.self.inside.spare; stop = c.self.inside.stop } in
     let b = c.in-Ok-begin.begun in
     let found = c.in-Ok-begin.ensures.ok in
-    let out = opened_line c.args.number b.running.party b.rows (serial_of b.running.node.state) in
+    let out = opened_line c.args.number b.running.party b.rows (last_serial b.running.node.state) in
     of_each c.take_begun.result (
       Taken,
       out,
