@@ -10,6 +10,7 @@
 #![tactic(auto)]
 
 mod answer;
+mod debts;
 mod fault;
 mod play;
 mod settle;

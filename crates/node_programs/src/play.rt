@@ -1,7 +1,7 @@
 //! The program `play`: a world of nodes, which the first line sets up and at one of which each other line is an event.
 
 ghost use Rattle.std.specs.Prelude.{◌≡◌, ◌≢◌, ◌++◌, ℕ, List, Option, None, Some, Ok, Err, true};
-ghost use Rattle.std.specs.Prelude.{IfOk, IfErr, IsOk, OnOk, codes, flat_map, string_bytes};
+ghost use Rattle.std.specs.Prelude.{IfOk, IfErr, IsOk, OnOk, codes, string_bytes};
 ghost use Rattle.json_text.specs.Fault.{Fails};
 ghost use Rattle.ocpi_json.specs.EventForms.{event_in};
 ghost use Rattle.ocpi_json.specs.SetupForms.{setup_in};
@@ -12,9 +12,6 @@ ghost use Rattle.node_programs.specs.Play.{EventTurn, PlayBegins, PlayEndGives, 
 ghost use Rattle.node_programs.specs.Play.{
   SetupTurn,
   Stage,
-  debt_line,
-  debt_lines,
-  debts_of,
   kept_in,
   opening,
   outcome_lines,
@@ -22,23 +19,21 @@ ghost use Rattle.node_programs.specs.Play.{
   played_from,
   turn_of,
 };
-ghost use Rattle.ocpi_text.specs.Text.{key};
 ghost use Rattle.world.specs.Seen.{told};
-ghost use Rattle.world.specs.State.{owed_by};
 ghost use Rattle.world_steps.specs.World.{opened};
 ghost use Rattle.line_runs.specs.Run.{ReadsFewLines};
 ghost use Rattle.line_runs.specs.declared.outcome.Ran.TheVariants.{WithRefusals};
 ghost use Rattle.line_runs.specs.declared.run.Turn.{Turn as TurnOf};
 ghost use Rattle.node_programs.specs.Stops.{IfRun, IfStore};
 
+use crate::debts::write_all_debts;
 use crate::fault::PlayFault;
 use line_runs::{AnswerLines, LineReader, Ran, RunFault, Turn, run_whole};
 use node_keepers::{Keeps, KeptNode, commit, open_all};
 use node_steps::NodeFault;
 use node_store::{Keep, StoreFault};
 use ocpi_json::{JsonFault, Scratch, read_event, read_setup};
-use ocpi_text::{FreeText, Party, ShortText, write_sum};
-use ocpi_types::{Event, Node, Packet, Setup};
+use ocpi_types::{Event, Packet, Setup};
 use program_lines::{refuse, write_packets};
 use std::alloc::{AllocError, Global};
 use std::io::{BufRead, Write};
@@ -335,111 +330,6 @@ fn play_event<K: Keep>(
             Ok(Turn::Refused)
         }
     }
-}
-
-/// A currency without memory of its own: three characters take at most twelve bytes.
-fn short_currency(currency: &FreeText<3>) -> ShortText<3, 12>
-    ensures { result ≡ currency.now }
-{
-    let Ok(text) = ShortText::new(currency.as_str()) else {
-        unreachable!()
-    };
-    text
-}
-
-/// Adds the line of what a provider owes an operator in a currency.
-fn write_debt(
-    alloc: Global,
-    world: &World,
-    provider: &Party,
-    operator: &Party,
-    currency: ShortText<3, 12>,
-    output: &mut String,
-) -> Result<(), AllocError>
-    ensures { OnOk result (string_bytes output.new ≡ string_bytes output.old
-        ++ debt_line provider.now operator.now currency (owed_by world.now.places provider.now (key operator.now, currency))) }
-{
-    let sum = write_sum(alloc, world.settlement(provider, operator, currency))?;
-    writeln!(
-        output,
-        "owed {} {} {} {}",
-        provider.as_str(),
-        operator.as_str(),
-        currency.as_str(),
-        sum.as_str()
-    )
-}
-
-/// Adds the line of what a provider owes a node, where that is an operator.
-fn write_debt_to(
-    alloc: Global,
-    world: &World,
-    provider: &Party,
-    node: &Node,
-    output: &mut String,
-) -> Result<(), AllocError>
-    ensures { OnOk result (string_bytes output.new ≡ string_bytes output.old ++ debt_lines world.now.places provider.now node.now) }
-{
-    match node {
-        Node::Operator { party, site } => {
-            write_debt(
-                alloc,
-                world,
-                provider,
-                party,
-                short_currency(&site.currency),
-                output,
-            )
-        }
-        Node::Provider { .. } => Ok(()),
-    }
-}
-
-/// Adds the lines of what a node owes, where it is a provider.
-fn write_debts_of(
-    alloc: Global,
-    world: &World,
-    setup: &[Node],
-    node: &Node,
-    output: &mut String,
-) -> Result<(), AllocError>
-    ensures { OnOk result (string_bytes output.new ≡ string_bytes output.old ++ debts_of world.now.places setup.now node.now) }
-{
-    match node {
-        Node::Operator { .. } => Ok(()),
-        Node::Provider { party } => write_debts(alloc, world, setup, party, output),
-    }
-}
-
-/// Adds a line for each operator: what a provider owes it.
-fn write_debts(
-    alloc: Global,
-    world: &World,
-    setup: &[Node],
-    provider: &Party,
-    output: &mut String,
-) -> Result<(), AllocError>
-    ensures { OnOk result (string_bytes output.new ≡ string_bytes output.old ++ flat_map (debt_lines world.now.places provider.now) setup.now) }
-{
-    for node in setup {
-        write_debt_to(alloc, world, provider, node, output)?;
-    }
-    Ok(())
-}
-
-/// Adds a line for each provider and each operator of a setup: what is owed in its world.
-fn write_all_debts(
-    alloc: Global,
-    world: &World,
-    setup: &[Node],
-    output: &mut String,
-) -> Result<(), AllocError>
-    ensures { OnOk result (string_bytes output.new ≡ string_bytes output.old ++ flat_map (debts_of world.now.places setup.now) setup.now) }
-{
-    for node in setup {
-        write_debts_of(alloc, world, setup, node, output)?;
-    }
-    Ok(())
 }
 
 /// Adds a line for each provider and each operator: what is owed.

@@ -1,6 +1,6 @@
 use Rattle.std.proofs.Common.{◌≡◌, ◌++◌, flat_map, take, string_bytes}
 use Rattle.node_programs.specs.Play.{debts_of}
-use Rattle.node_programs.proofs.play.write_all_debts.Given as goal
+use Rattle.node_programs.proofs.debts.write_all_debts.Given as goal
 
 -- what the nodes before this one owe is written
 abbrev pub invariant-loop-node : goal.invariant-loop-node
