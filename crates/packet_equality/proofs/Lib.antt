@@ -1,0 +1,5 @@
+pub mod Same
+pub mod SameValues
+pub mod SameRecords
+pub mod SamePackets
+pub mod SameEvents
