@@ -41,9 +41,9 @@ from stop_in_store import EVSES, OPERATOR, PROVIDER, Drawing, Run, line_of, setu
 QUICK = "/dev/shm" if os.path.isdir("/dev/shm") else None
 
 BEFORE, INSIDE, AFTER = "before the commit of a line", "in or right behind it", "after its first packet"
-UNCHANGED, BETWEEN = "in a line that changes no row", "between two lines"
+BETWEEN, UNCHANGED = "after its `done`", "in a line that changes no row"
 OPENING, CLOSING = "while the store was opened", "when the input had ended"
-PLACES = (BEFORE, INSIDE, AFTER, UNCHANGED, BETWEEN, OPENING, CLOSING)
+PLACES = (BEFORE, INSIDE, AFTER, BETWEEN, UNCHANGED, OPENING, CLOSING)
 
 
 class WideDrawing(Drawing):
