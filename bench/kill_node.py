@@ -7,7 +7,7 @@ PROGRAM is `ocpi_nodes`. For each run the events of an operator and a provider a
 them become the lines of `node`, in which a delivery has the packet that its sender wrote in `play`. Runs take turns:
 operator and provider; each line given once the one before has its `done`, and all lines read from a file. The program
 is killed (SIGKILL) as often as --stops says in each run, mostly while it carries out a line, at times while it opens
-its store. After each stop it is fed on by the rule of docs/NODE.md. Then
+its store, or when its input has ended and it closes it. After each stop it is fed on by the rule of docs/NODE.md. Then
 
 - stock SQLite reads a copy of the store, `PRAGMA integrity_check` is ok, and the rows are those before or after the
   line at which it was stopped, of runs over other stores that end there by themselves;
@@ -18,8 +18,8 @@ its store. After each stop it is fed on by the rule of docs/NODE.md. Then
   that was fed again may be `idle`;
 - the rows at the end are those of that run.
 
-A try of a minute: `--runs 4 --stops 5 --events 200`. The last three lines tell the stops that passed, where they fell,
-and what they cost. The status is 0 where all passed.
+A try of a minute: `--runs 4 --stops 5 --events 200`. Standard error has a line for each run. The last three lines of
+the output tell the stops that passed, where they fell, and what they cost. The status is 0 where all passed.
 """
 
 import argparse
@@ -41,7 +41,9 @@ from stop_in_store import EVSES, OPERATOR, PROVIDER, Drawing, Run, line_of, setu
 QUICK = "/dev/shm" if os.path.isdir("/dev/shm") else None
 
 BEFORE, INSIDE, AFTER = "before the commit of a line", "in or right behind it", "after its first packet"
-UNCHANGED, BETWEEN, OPENING = "in a line that changes no row", "between two lines", "while the store was opened"
+BETWEEN, UNCHANGED = "after its `done`", "in a line that changes no row"
+OPENING, CLOSING = "while the store was opened", "when the input had ended"
+PLACES = (BEFORE, INSIDE, AFTER, BETWEEN, UNCHANGED, OPENING, CLOSING)
 
 
 class WideDrawing(Drawing):
@@ -166,14 +168,15 @@ def has_open_frames(store):
 class Stop:
     """What was seen when the program had been killed."""
 
-    def __init__(self, feeding, store):
+    def __init__(self, feeding, store, place=None):
         self.at = feeding.done
         self.given = feeding.given
         self.seen = bool(feeding.packets) or feeding.cut
         self.rows, self.wrong = rows_of(store)
         self.open_frames = has_open_frames(store)
         self.carried_out = False
-        self.opening = not feeding.is_open
+        # Of a stop in no line.
+        self.place = place if feeding.is_open else OPENING
 
 
 class Feeding:
@@ -218,9 +221,9 @@ class Feeding:
             self.done += 1
         self.open_stops, self.given, self.packets, self.cut, self.serial = [], False, [], False, said["serial"]
 
-    def take_stop(self, store):
+    def take_stop(self, store, place=None):
         """After a kill, and after all that was written has been taken."""
-        stop = Stop(self, store)
+        stop = Stop(self, store, place)
         self.stops.append(stop)
         self.open_stops.append(stop)
 
@@ -245,6 +248,10 @@ class Node:
                 sys.exit(f"kill_node: the program ended by itself with status {self.program.wait()}, after {lines}")
         return lines
 
+    def end_input(self):
+        if self.program.stdin:
+            self.program.stdin.close()
+
     def kill(self):
         """Kills it, and answers what it had written that was not read yet."""
         self.program.kill()
@@ -258,8 +265,7 @@ class Node:
 
     def end(self):
         """Ends its input, and answers what it wrote until its end."""
-        if self.program.stdin:
-            self.program.stdin.close()
+        self.end_input()
         rest = self.program.stdout.readlines()
         if self.program.wait() not in (0, 1):
             sys.exit(f"kill_node: the program ended with status {self.program.returncode}")
@@ -299,20 +305,26 @@ class Killer:
     def took(self, seconds):
         self.seconds += (seconds - self.seconds) / 20
 
-    def stop(self, node):
+    def stop(self, node, place=None):
         self.feeding.take(node.kill())
-        self.feeding.take_stop(self.store)
+        self.feeding.take_stop(self.store, place)
+
+    def stop_closing(self, node):
+        """Kills it a little after its input has ended, of which all lines have their `done`."""
+        node.end_input()
+        time.sleep(self.draw.random() * 0.03)
+        self.stop(node, CLOSING)
 
     def feed_all(self):
         """Feeds all lines, and kills the program at each of the targets."""
         while self.targets:
-            target = self.targets.pop(0)
-            if self.draw.random() < 0.1:
+            target, drawn = self.targets.pop(0), self.draw.random()
+            if drawn < 0.1:
                 self.stop_opening()
             elif self.by_file:
-                self.feed_file(target)
+                self.feed_file(target, drawn < 0.2)
             else:
-                self.feed_pipe(target)
+                self.feed_pipe(target, drawn < 0.2)
         self.feed_file(None) if self.by_file else self.feed_pipe(None)
 
     def stop_opening(self):
@@ -323,13 +335,16 @@ class Killer:
         time.sleep(self.draw.random() * 0.02)
         self.stop(node)
 
-    def feed_pipe(self, target):
-        """Gives line by line, and kills the program while it carries out the target."""
+    def feed_pipe(self, target, closing=False):
+        """Gives line by line, and kills the program while it carries out the target, or when its input ends before."""
         feeding, node = self.feeding, Node(self.given, self.party, self.store)
         feeding.is_open = False
         node.give(setup_line())
         feeding.take(node.answer())
         while feeding.done < len(feeding.lines):
+            if closing and feeding.done >= target:
+                self.stop_closing(node)
+                return
             begun = time.perf_counter()
             node.give(feeding.lines[feeding.done])
             feeding.given = True
@@ -341,30 +356,34 @@ class Killer:
             self.took(time.perf_counter() - begun)
         feeding.take(node.end())
 
-    def feed_file(self, target):
+    def feed_file(self, target, closing=False):
         """Asks by a run without lines what was carried out. Then gives all other lines in a file, and kills the program
-        when it has gone on a little behind the target."""
+        when it has gone on a little behind the target; or those before the target, and kills it when they have ended.
+        """
         feeding = self.feeding
         feeding.is_open = False
         with file_with([setup_line()]) as source:
             feeding.take(Node(self.given, self.party, self.store, source).end())
         begun, first = time.perf_counter(), feeding.done
-        with file_with([setup_line(), *feeding.lines[first:]]) as source:
+        last = max(target, first) if closing else len(feeding.lines)
+        with file_with([setup_line(), *feeding.lines[first:last]]) as source:
             node = Node(self.given, self.party, self.store, source)
             feeding.take(node.answer())
-            feeding.given = first < len(feeding.lines)
-            while target is not None and feeding.done < min(target, len(feeding.lines)):
+            feeding.given = first < last
+            while target is not None and feeding.done < min(target, last):
                 feeding.take(node.answer())
-                feeding.given = feeding.done < len(feeding.lines)
+                feeding.given = feeding.done < last
             if feeding.done > first:
                 self.took((time.perf_counter() - begun) / (feeding.done - first))
             if target is None:
                 feeding.take(node.end())
-                return
-            self.pause()
-            feeding.take(node.kill())
-            feeding.given = feeding.done < len(feeding.lines)
-            feeding.take_stop(self.store)
+            elif closing:
+                self.stop_closing(node)
+            else:
+                self.pause()
+                feeding.take(node.kill())
+                feeding.given = feeding.done < last
+                feeding.take_stop(self.store)
 
 
 def run_to_end(given, party, store, lines):
@@ -385,12 +404,10 @@ def copy_of(store, name):
 
 
 def place_of(stop, before, after):
-    """Where a stop fell, by the rows of the store, those before its line and those after it; none where it has neither.
-    Where a commit stands and nothing of its line came out, the stop fell in its end or right behind it."""
-    if stop.rows != before and stop.rows != after:
-        return None
+    """Where a stop fell, by the rows of the store, which are those before its line or those after it. Where a commit
+    stands and nothing of its line came out, the stop fell in its end or right behind it."""
     if not stop.given:
-        return BETWEEN if stop.rows == before else None
+        return BETWEEN
     if before == after:
         return UNCHANGED
     if stop.rows == before:
@@ -404,7 +421,7 @@ def look_at_stops(given, party, feeding, room):
     last_rows = []
     for stop in feeding.stops:
         wrong += [f"line {stop.at}: {it}" for it in stop.wrong]
-        if stop.opening:
+        if stop.place == OPENING:
             places.append(OPENING)
             if stop.rows != last_rows:
                 wrong.append(f"line {stop.at}: the rows changed while the store was opened")
@@ -415,11 +432,10 @@ def look_at_stops(given, party, feeding, room):
             run_to_end(given, party, store, feeding.lines[first:end])
             rows.append(rows_of(store)[0])
             stores.append(store)
-        place = place_of(stop, *rows)
-        if place is None:
-            wrong.append(f"line {stop.at}: the rows are neither those before the line nor those after it")
+        if stop.rows in rows:
+            places.append(stop.place or place_of(stop, *rows))
         else:
-            places.append(place)
+            wrong.append(f"line {stop.at}: the rows are neither those before the line nor those after it")
         base = copy_of(stores[stop.carried_out], "base.db")
         first, last_rows = stop.at + stop.carried_out, stop.rows
     return places, wrong
@@ -483,11 +499,12 @@ def main():
                 wrong.append("the rows at the end are not those of the run that nobody stopped")
         for it in wrong[:5]:
             print(f"{name}: {it[:600]}", flush=True)
+        print(f"{name}: {len(killer.feeding.stops)} stops, {len(wrong)} wrong", file=sys.stderr, flush=True)
         fell.update(places)
         stops, lost, again = stops + len(killer.feeding.stops), lost + lost_here, again + again_here
         passed += 0 if wrong else len(killer.feeding.stops)
     print(f"{passed} of {stops} stops, in {given.runs} runs of {given.events} events, were as wanted")
-    print("They fell " + ", ".join(f"{fell[it]} {it}" for it in (BEFORE, INSIDE, AFTER, UNCHANGED, BETWEEN, OPENING)))
+    print("They fell " + ", ".join(f"{fell[it]} {it}" for it in PLACES))
     print(f"{again} lines were fed again, and {lost} packets were never written")
     return 0 if passed == stops == given.runs * given.stops else 1
 

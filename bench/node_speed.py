@@ -3,25 +3,27 @@
 
     bench/node_speed.py PROGRAM INPUT [--party PARTY] [--runs 5] [--stored 10000] [--starts 15] [--records 100000]
 
-PROGRAM is `ocpi_nodes`, and INPUT one of `play` in which a charge ends, as `examples/charge.jsonl`. PARTY is a node of
-its setup, the first operator where none is named. The lines of `node` are the events of that node; a delivery has the
+PROGRAM is `ocpi_nodes`, and INPUT one of `play` in which a charge ends, as `examples/charge.jsonl`. It is cut into an
+input of `node` for each node of its setup, or for PARTY alone: the events of that node, in which a delivery has the
 packet that its sender wrote in `play`. It tells
 
-- the processor time of a line in memory, without that of the setup, beside one of `play`;
+- the processor time of a line in memory, without that of the setup, over the lines of all those nodes, beside that of
+  an event of `play` over the whole INPUT; then that of a line at an operator and at a provider;
 - the same with stores, over the first so many events of INPUT;
-- the time from the start of `node` to its first `done`, in memory and with a new store, for a setup of that node alone;
-  beside the second, the whole run of `play --store` for that setup;
-- the time from the start to the first `done` over a store of so many charge detail records of a provider, and no other
-  rows; beside it, the whole run of `settle`.
+- the time from the start of `node` to its first `done`, in memory and with a new store, for a setup of one operator
+  alone; beside the second, the whole run of `play --store` for that setup;
+- over a store of so many charge detail records of a provider, and no other rows: the time from the start to the first
+  `done`, and the processor time of a run without events; beside each that of `settle`.
 
 Each figure is a median, and behind each pair stands the ratio of the two. Stores lie in memory where there is such a
-folder (or in FOLDER, by --folder).
+folder (or in FOLDER, by --folder). The machine should have nothing else to do.
 """
 
 import argparse
 import contextlib
 import json
 import os
+import shutil
 import sqlite3
 import statistics
 import subprocess
@@ -53,9 +55,8 @@ class Input:
                 packet = json.loads(line)
                 self.packets[key_of(packet["from"]), packet["serial"]] = line
 
-    def party(self, has_site):
-        """The first operator or provider."""
-        return next(node["party"] for node in self.nodes if bool(node.get("site")) == has_site)
+    def first_operator(self):
+        return next(node["party"] for node in self.nodes if node.get("site"))
 
     def setup_of(self, party):
         """A setup of that node alone. Numbers are spelled as Python spells them."""
@@ -64,18 +65,19 @@ class Input:
     def delivery(self, node, at, packet):
         return dump({"event": "deliver", "node": node, "at": at, "packet": None}).replace(b"null", packet)
 
-    def lines_of(self, party, number):
-        """The lines of `node` for the events of a node, among the first so many."""
-        lines = []
+    def lines_of(self, parties, number):
+        """The lines of `node` for the events of each of these nodes, among the first so many."""
+        lines = {key_of(party): [] for party in parties}
         for line in self.events[:number]:
             event = json.loads(line)
-            if key_of(event.get("node", "")) != key_of(party):
+            own = lines.get(key_of(event.get("node", "")))
+            if own is None:
                 continue
             if event["event"] != "deliver":
-                lines.append(line)
+                own.append(line)
             elif (key_of(event["from"]), event["serial"]) in self.packets:
                 packet = self.packets[key_of(event["from"]), event["serial"]]
-                lines.append(self.delivery(event["node"], event["at"], packet))
+                own.append(self.delivery(event["node"], event["at"], packet))
         return lines
 
 
@@ -88,6 +90,13 @@ class Room:
     def new(self, end=""):
         self.count += 1
         return os.path.join(self.folder, f"{self.count}{end}")
+
+    def remove(self, path):
+        """Removes a store, of one file or of a folder."""
+        if os.path.isdir(path):
+            shutil.rmtree(path)
+        else:
+            os.remove(path)
 
     def file_of(self, lines):
         path = self.new()
@@ -137,33 +146,69 @@ def medians(number, *measured):
     return [statistics.median(column) for column in zip(*taken)]
 
 
+class Work:
+    """Runs of one command over some lines, and over the setup alone: what the lines take is the difference."""
+
+    def __init__(self, given, room, words, stored, lines):
+        self.given, self.room, self.words, self.stored, self.number = given, room, words, stored, len(lines)
+        self.setup, self.source = room.file_of([lines.setup]), room.file_of([lines.setup, *lines])
+
+    def once(self, source):
+        words = [self.given.program, *self.words]
+        if self.stored:
+            store = self.room.new()
+            if self.words[0] == "play":
+                os.mkdir(store)
+            words += ["--store", store]
+        seconds = processor_time(words, source)
+        if self.stored:
+            self.room.remove(store)
+        return seconds
+
+    def take(self):
+        """The seconds that the lines take."""
+        return self.once(self.source) - self.once(self.setup)
+
+
+class Lines(list):
+    """The lines behind a setup."""
+
+    def __init__(self, setup, lines):
+        super().__init__(lines)
+        self.setup = setup
+
+
+def a_line(works, seconds):
+    """The microseconds of a line, by what all lines of some runs take."""
+    return sum(seconds) / max(sum(work.number for work in works), 1) * 1e6
+
+
 def compare_lines(given, room, read, number, stored):
     """The processor time of a line, in memory or with stores."""
-    own = read.lines_of(given.party, number)
-    events = read.events[:number]
-    sources = [room.file_of([read.setup, *lines]) for lines in (own, [], events, [])]
+    parties = [given.party] if given.party else [node["party"] for node in read.nodes]
+    operators = {key_of(node["party"]) for node in read.nodes if node.get("site")}
+    own = read.lines_of(parties, number)
+    works = [Work(given, room, ["node", party], stored, Lines(read.setup, own[key_of(party)])) for party in parties]
+    play = Work(given, room, ["play"], stored, Lines(read.setup, read.events[:number]))
+    rounds = [([work.take() for work in works], play.take()) for _ in range(given.runs)]
 
-    def run(command, words, store, source):
-        def take():
-            if not stored:
-                return processor_time([given.program, command, *words], source)
-            path = room.new(store)
-            if command == "play":
-                os.mkdir(path)
-            return processor_time([given.program, command, *words, "--store", path], source)
-        return take
+    def of(is_counted):
+        some = [at for at, party in enumerate(parties) if is_counted(key_of(party) in operators)]
+        them = [works[at] for at in some]
+        return statistics.median(a_line(them, [taken[at] for at in some]) for taken, _ in rounds)
 
-    commands = [("node", [given.party], ".db")] * 2 + [("play", [], "")] * 2
-    runs = [run(*it, source) for it, source in zip(commands, sources)]
-    node, opened, play, set_up = medians(given.runs, *runs)
-    a_line, an_event = max(node - opened, 1e-9) / max(len(own), 1), max(play - set_up, 1e-9) / max(len(events), 1)
-    print(f"{'with stores' if stored else 'in memory'}: node {a_line * 1e6:.1f} us a line ({len(own)} lines), "
-          f"play {an_event * 1e6:.1f} us ({len(events)} events): {a_line / an_event:.2f}", flush=True)
+    whole, an_event = of(lambda is_operator: True), statistics.median(a_line([play], [taken]) for _, taken in rounds)
+    number = sum(work.number for work in works)
+    print(f"{'with stores' if stored else 'in memory'}: node {whole:.1f} us a line ({number} lines of {len(works)} nodes), "
+          f"play {an_event:.1f} us ({play.number} events): {whole / an_event:.2f}; a line at an operator "
+          f"{of(lambda is_operator: is_operator):.1f} us, at a provider {of(lambda is_operator: not is_operator):.1f} us",
+          flush=True)
 
 
 def compare_starts(given, room, read):
     """The time to the first `done`."""
-    line = read.setup_of(given.party)
+    party = given.party or read.first_operator()
+    line = read.setup_of(party)
 
     def new_folder():
         path = room.new()
@@ -172,9 +217,9 @@ def compare_starts(given, room, read):
 
     memory, whole, store, play = medians(
         given.starts,
-        lambda: time_to_done([given.program, "node", given.party], line),
-        lambda: time_to_done([given.program, "node", given.party], read.setup),
-        lambda: time_to_done([given.program, "node", given.party, "--store", room.new(".db")], line),
+        lambda: time_to_done([given.program, "node", party], line),
+        lambda: time_to_done([given.program, "node", party], read.setup),
+        lambda: time_to_done([given.program, "node", party, "--store", room.new(".db")], line),
         lambda: wall_time([given.program, "play", "--store", new_folder()], line))
     print(f"first done in memory: {memory * 1e3:.1f} ms; for a setup of {len(read.nodes)} nodes {whole * 1e3:.1f} ms")
     print(f"first done with a new store: {store * 1e3:.1f} ms, play --store {play * 1e3:.1f} ms: {store / play:.2f}")
@@ -209,12 +254,17 @@ def store_of_records(given, room, read):
 def compare_records(given, room, read):
     """How long a store of records alone takes to open."""
     party, store = store_of_records(given, room, read)
-    node, settle = medians(
+    node, settle = [given.program, "node", party, "--store", store], [given.program, "settle", store]
+    source = room.file_of([read.setup])
+    opens, ends, opens_works, ends_works = medians(
         given.runs,
-        lambda: time_to_done([given.program, "node", party, "--store", store], read.setup),
-        lambda: wall_time([given.program, "settle", store], b""))
-    print(f"a store of {given.records} records: node opens it in {node * 1e3:.1f} ms, settle {settle * 1e3:.1f} ms: "
-          f"{node / settle:.2f}", flush=True)
+        lambda: time_to_done(node, read.setup),
+        lambda: wall_time(settle, b""),
+        lambda: processor_time(node, source),
+        lambda: processor_time(settle, os.devnull))
+    print(f"a store of {given.records} records: node opens it in {opens * 1e3:.1f} ms, settle {ends * 1e3:.1f} ms: "
+          f"{opens / ends:.2f}; in processor time {opens_works * 1e3:.1f} ms and {ends_works * 1e3:.1f} ms: "
+          f"{opens_works / ends_works:.2f}", flush=True)
 
 
 def main():
@@ -231,7 +281,6 @@ def main():
     given.program = os.path.abspath(given.program)
     with tempfile.TemporaryDirectory(dir=given.folder) as folder:
         room, read = Room(folder), Input(given.program, given.input)
-        given.party = given.party or read.party(True)
         compare_lines(given, room, read, len(read.events), False)
         compare_lines(given, room, read, given.stored, True)
         compare_starts(given, room, read)

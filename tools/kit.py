@@ -1,9 +1,15 @@
-"""The command `rt` of the kit as a module, for the scripts beside this one."""
+#!/usr/bin/env python3
+"""The command `rt` of the kit as a module, for the scripts beside this one; as a program it is that command: kit.py WORD..
+
+A crate's sum has those of the crates below it in it. Some kits take the sum of a crate once for each path that leads to it,
+which at the upper crates is tens of thousands of times. Here it is taken once for each question.
+"""
 import importlib.machinery
 import importlib.util
 import os
 import shutil
 import sys
+import threading
 
 
 def load_rt():
@@ -12,4 +18,29 @@ def load_rt():
     loader = importlib.machinery.SourceFileLoader("rt", path)
     made = importlib.util.module_from_spec(importlib.util.spec_from_loader("rt", loader))
     loader.exec_module(made)
+    made.rtlib.Crate.stamp = taken_once(made.rtlib.Crate.stamp)
     return made
+
+
+def taken_once(stamp):
+    """How a crate's sum is taken, so that while one is, each below it is taken once."""
+    here = threading.local()
+
+    def taken(crate):
+        is_first = not hasattr(here, "sums")
+        if is_first:
+            here.sums = {}
+        try:
+            if crate.folder not in here.sums:
+                here.sums[crate.folder] = stamp(crate)
+            return here.sums[crate.folder]
+        finally:
+            if is_first:
+                del here.sums
+
+    return taken
+
+
+if __name__ == "__main__":
+    sys.dont_write_bytecode = True
+    sys.exit(load_rt().main(sys.argv[1:]))
