@@ -1,10 +1,10 @@
 #!/usr/bin/env bash
 # Runs the program case_lines, built at the path $1 with bench/fail_allocation.c (tools/try_cases), once for each allocation
-# that it makes on each of some cases of an operator, a provider or nodes that are made of rows, with that allocation failing. Its
-# output must be what the case wants, or a beginning of it where the program then ends with status 1: a step, or the making of a
-# node, that finds no memory is tried again there, and must give the answer and the rows that it gives with ample memory. No run
-# may try more than one again, and none where no allocation failed. Where one run fails, so does this. The cases are the files of
-# bench/fail_allocations, each with what it must give. The last line says what was tried.
+# that it makes on each of some cases of an operator, a provider, and nodes that are made of rows or are over a keeper, with
+# that allocation failing. Its output must be what the case wants, or a beginning of it where the program then ends with status
+# 1: a step, or the making of a node, that finds no memory is tried again there, and must give the answer and the rows that it
+# gives with ample memory. No run may try more than one again, and none where no allocation failed. Where one run fails, so does
+# this. The cases are the files of bench/fail_allocations, each with what it must give. The last line says what was tried.
 set -euo pipefail
 top=$(cd "$(dirname "${BASH_SOURCE[0]}")/.." && pwd)
 program=$1

@@ -5,7 +5,8 @@ choice of them into bench/fail_allocations, of which it tells the names.
     cases/makers/make_lines.py [FOLDER]
 
 Both folders are those of this repository, or of FOLDER where it is given. What each part holds is told in `call_cases`,
-`packet_cases`, `book_cases`, `operator_cases`, `provider_cases`, `stored_cases` and `world_cases`. To see where the program differs:
+`packet_cases`, `book_cases`, `operator_cases`, `provider_cases`, `stored_cases`, `world_cases`, `kept_cases` and
+`store_cases`. To see where the program differs:
 
     tools/try_cases
 """
@@ -15,9 +16,11 @@ import sys
 
 import book_cases
 import call_cases
+import kept_cases
 import operator_cases
 import packet_cases
 import provider_cases
+import store_cases
 import stored_cases
 import world_cases
 
@@ -30,6 +33,8 @@ PARTS = {
     "provider": provider_cases,
     "nodes": stored_cases,
     "worlds": world_cases,
+    "kept_nodes": kept_cases,
+    "stores": store_cases,
 }
 
 
@@ -54,7 +59,7 @@ def main():
         write(lines / name, part(name, given))
         write(lines / f"{name}.stdout", gives)
         print(f"{name}: {len(given)} lines")
-    without_memory = [(role, *case) for role in ("operator", "provider", "nodes") for case in PARTS[role].cases_without_memory()]
+    without_memory = [(role, *case) for role in ("operator", "provider", "nodes", "kept_nodes") for case in PARTS[role].cases_without_memory()]
     for at, (role, name, given, gives) in enumerate(without_memory, 1):
         write(failing / f"{at}", part(role, given))
         write(failing / f"{at}.stdout", gives)

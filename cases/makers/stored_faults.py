@@ -38,6 +38,8 @@ from stored_case import (
 from stored_rules import LAST_NUMBER
 
 STRANGER = "AT/XXX"
+# Of the rows for which one is named another is shown beside it.
+SHOWN_BESIDE = {"ResultOfOpen": "OpenWithResult"}
 CRATES = pathlib.Path(__file__).resolve().parents[2] / "crates"
 
 
@@ -293,5 +295,5 @@ def add_faults():
     for crate in (operators.crate, providers.crate):
         _, reasons = (CRATES / crate / "specs" / "Bad.antt").read_text(encoding="utf-8").split("pub data IsBad", 1)
         for reason in re.findall(r"^  ([A-Z]\w*) :", reasons, re.MULTILINE):
-            if (crate, reason) not in ALONE:
+            if (crate, SHOWN_BESIDE.get(reason, reason)) not in ALONE:
                 sys.exit(f"no rows of {crate} are bad for {reason} alone")

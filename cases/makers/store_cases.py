@@ -1,0 +1,309 @@
+"""The part `stores` of the cases of the program `case_lines`: stores on disks that stop at any call, nodes over them, and stores of
+which no node is made.
+
+A stop before a store is opened leaves it as it was, or as a new one where there was none. One while a commit is made leaves what
+was before or what is then; one behind that leaves what is then.
+"""
+import pathlib
+import re
+import sys
+
+from kept_cases import delivery, events_of
+from operator_case import text
+from stored_case import (
+    SITE,
+    Operators,
+    Providers,
+    acknowledged,
+    bill,
+    command,
+    count,
+    held_bill,
+    held_session,
+    mark,
+    open_start,
+    open_unlock,
+    out_of_service,
+    own_reference,
+    puts,
+    reply,
+    reserved,
+    result_push,
+    session,
+    session_push,
+    settled,
+    spent,
+    stop_command,
+    token_push,
+    token_row,
+)
+from stored_charge import SETUP, rows_of_charge
+
+CRATES = pathlib.Path(__file__).resolve().parents[2] / "crates"
+STRANGER = "AT/XXX"
+# The setup of `Operators` and of `Providers`.
+BOTH = text({"nodes": [{"party": "BE/BEC", "site": SITE["site"]}, {"party": "NL/TNM"}, {"party": "DE/EMP"}, {"party": "Lu/Lum"},
+                       {"party": "FR/FRC", "site": {**SITE["site"], "locations": SITE["site"]["locations"][1:]}}]})
+LINES, WANTED = [], []
+
+
+def line(given, *gives):
+    """The next line, and what it gives; an empty line ends that, also where it is nothing."""
+    LINES.append(given)
+    WANTED.extend([*gives, ""])
+
+
+def stops(changes):
+    """What stops leave while a store is opened, while something is done, and while it is closed."""
+    if not changes:
+        return ["a stop while it opens leaves before", "a stop while it closes leaves before"]
+    return ["a stop while it opens leaves before", "a stop while it works leaves before after", "a stop while it closes leaves after"]
+
+
+def new_store(setup):
+    line("setup " + setup)
+    line("new", "a stop while it opens leaves before after", "a stop while it closes leaves after")
+
+
+def opened(setup):
+    """A store without rows, where the stops do not matter."""
+    line("setup " + setup)
+    line("texts")
+
+
+def tabbed(row):
+    return "\t".join([row[0], row[1], text(row[2])])
+
+
+def kept(rows):
+    """The texts of a store, in the order of their kinds and keys."""
+    return ["%s %s %s" % (kind, key, text(tree)) for kind, key, tree in sorted(rows, key=lambda row: row[:2])]
+
+
+# ---- stops
+
+
+def commit(stand, put, dropped=()):
+    """Rows are put and dropped in one commit. Answers the rows that stand then."""
+    for row in put:
+        line("put " + tabbed(row))
+    for row in dropped:
+        line("drop " + tabbed(row))
+    line("commit", *stops(True))
+    gone = [row[:2] for row in [*put, *dropped]]
+    stand = [row for row in stand if row[:2] not in gone] + list(put)
+    line("texts", *kept(stand))
+    return stand
+
+
+def commits():
+    new_store(BOTH)
+    line("texts")
+    started = [count("serial", 7), count("session", 1), reply(1), out_of_service("E2"), session(1)]
+    rows = commit([], started)
+    ended = [count("serial", 9), count("cdr", 1), token_row(), session(1, "COMPLETED", "12.3456", "3.0864"), bill(1), settled(1)]
+    rows = commit(rows, ended, [out_of_service("E2")])
+    # So many that they are on several pages; then most of them are dropped.
+    many = [reply(number, party) for party in ("NL/TNM", "DE/EMP") for number in range(2, 42)]
+    rows = commit(rows, many)
+    commit(rows, [count("serial", 99)], many[:70])
+
+
+def charge(party):
+    """Each event of the charge, at its node over a store."""
+    new_store(SETUP)
+    for given, gives, rows in events_of(party):
+        line(given, *gives, *rows, *stops("changed" in gives))
+
+
+# ---- stores of which no node is made
+
+
+def store(setup, rows):
+    """A store with these rows."""
+    opened(setup)
+    for row in rows:
+        line("text " + tabbed(row))
+
+
+def found_bad(party, shows):
+    """No node of that party is made: one of these rows shows it, for that reason."""
+    told = ["%s %s %s" % (kind, key, reason) for kind, key, reason in shows]
+    line("\t".join(["reopen " + party, *told]), "bad rows, as told")
+
+
+def bad(node, reason, *rows, shows=None):
+    """No node is made of these rows: the last one shows it, or one of those of which the places are told."""
+    party = "BE/BEC" if node is Operators else "NL/TNM"
+    names = {REASONS[fault] for fault in node().faults(rows)}
+    if names != {reason}:
+        sys.exit(f"other faults than {reason}: {names}")
+    TOLD.add(reason)
+    store(BOTH, rows)
+    found_bad(party, [(*rows[place][:2], reason) for place in shows or [-1]])
+    line("texts", *kept(rows))
+
+
+# What is wrong with a row, by the faults of `stored_rules`.
+REASONS = {
+    "Repeated": "Repeated", "Foreign": "OfOtherRole", "NothingCounted": "NothingCounted", "PushNotGiven": "NotGiven",
+    "SessionNotGiven": "NotGiven", "CdrNotGiven": "NotGiven", "CommandNotGiven": "NotGiven", "ReferenceNotGiven": "NotGiven",
+    "NumberShared": "NumberShared", "SessionOfOther": "OfOtherParty", "CdrOfOther": "OfOtherParty", "OtherToken": "OfOtherParty",
+    "OtherSession": "OfOtherParty", "OtherCdr": "OfOtherParty", "SessionIdNotOwn": "NotOwnId", "CdrIdNotOwn": "NotOwnId",
+    "ReferenceNotOwn": "NotOwnId", "PushToStranger": "UnknownParty", "TokenOfStranger": "UnknownParty",
+    "CommandOfStranger": "UnknownParty", "SessionOfStranger": "UnknownParty", "CommandToStranger": "UnknownParty",
+    "StartOfOtherToken": "TokenOfOtherParty", "ServiceNowhere": "UnknownPlace", "ReservationNowhere": "UnknownPlace",
+    "StartNowhere": "UnknownPlace", "SessionNowhere": "UnknownPlace", "ClaimedTwice": "ClaimedTwice", "OpenUnanswered": "Unanswered",
+    "ResultUnanswered": "Unanswered", "OpenWithResult": "OpenWithResult", "PushedTwice": "PushedTwice", "Stuck": "CannotGoOn",
+    "BilledTwice": "BilledTwice", "BilledEarly": "BilledEarly", "Unbilled": "Unbilled",
+}
+# Those of which a store was told.
+TOLD = set()
+
+
+def bad_operators():
+    sessions, cdrs, requests = count("session", 9), count("cdr", 9), count("request", 9)
+    done = session(1, "COMPLETED")
+    bad(Operators, "OfOtherRole", reply(1), count("reference", 1))
+    bad(Operators, "OfOtherRole", reply(1), command(0))
+    bad(Operators, "NothingCounted", count("serial", 0))
+    bad(Operators, "NotGiven", count("request", 6), result_push(7))
+    bad(Operators, "NotGiven", count("session", 6), session(7, "PENDING"))
+    bad(Operators, "NotGiven", sessions, done, bill(1))
+    bad(Operators, "OfOtherParty", sessions, session(1, party="FR/FRC"))
+    bad(Operators, "OfOtherParty", sessions, cdrs, done, bill(1, party="FR/FRC"), shows=[-1])
+    bad(Operators, "NotOwnId", sessions, session(1, name="S1"))
+    bad(Operators, "UnknownParty", token_row(), token_row(party=STRANGER))
+    bad(Operators, "UnknownParty", requests, result_push(1, to=STRANGER))
+    bad(Operators, "UnknownParty", reply(1, STRANGER), open_unlock(1, STRANGER))
+    bad(Operators, "UnknownParty", sessions, session(1, owner=STRANGER))
+    bad(Operators, "TokenOfOtherParty", reply(1), open_start(1, owner="DE/EMP"))
+    bad(Operators, "UnknownPlace", out_of_service("E2"), out_of_service("E4"))
+    bad(Operators, "UnknownPlace", reserved("R1", "E3", "LOC1"))
+    bad(Operators, "UnknownPlace", reply(1), open_start(1, "E4"))
+    bad(Operators, "UnknownPlace", sessions, session(1, connector="2"))
+    bad(Operators, "ClaimedTwice", reserved("R1", "E1"), reserved("R2", "E1"), shows=[0, 1])
+    bad(Operators, "ClaimedTwice", sessions, reply(1), session(1), open_start(1, "E1"), shows=[2, 3])
+    bad(Operators, "Unanswered", reply(2), open_start(1))
+    bad(Operators, "Unanswered", reply(2), settled(1))
+    bad(Operators, "OpenWithResult", reply(1), open_unlock(1), settled(1), shows=[1, 2])
+    bad(Operators, "PushedTwice", requests, sessions, session_push(1, done), session_push(2, done), shows=[2, 3])
+    bad(Operators, "CannotGoOn", sessions, session(1, kwh="12.3456", cost="3.0865"))
+    bad(Operators, "CannotGoOn", sessions, session(1, "RESERVATION"))
+    bad(Operators, "BilledTwice", sessions, cdrs, done, bill(1), bill(2, 1), shows=[3, 4])
+    bad(Operators, "BilledEarly", sessions, cdrs, session(1, "ACTIVE"), bill(1))
+    bad(Operators, "Unbilled", sessions, cdrs, done)
+
+
+def bad_providers():
+    requests, references = count("request", 9), count("reference", 9)
+    for row in (out_of_service("E1"), spent(1), mark(), reserved(), settled(1, "BE/BEC"), count("session", 1)):
+        bad(Providers, "OfOtherRole", token_row(), row)
+    bad(Providers, "NothingCounted", count("reference", 0))
+    bad(Providers, "NotGiven", count("request", 2), token_push(3))
+    bad(Providers, "NotGiven", count("request", 2), stop_command(3))
+    bad(Providers, "NotGiven", requests, command(3, own_reference(1)))
+    bad(Providers, "NumberShared", requests, token_push(3), stop_command(3), shows=[1, 2])
+    bad(Providers, "OfOtherParty", token_row("AA02"), token_row(party="DE/EMP"))
+    bad(Providers, "OfOtherParty", held_session("S2"), held_session(owner="DE/EMP"))
+    bad(Providers, "OfOtherParty", held_bill("C2", "S2"), held_bill(owner="DE/EMP"))
+    bad(Providers, "NotOwnId", requests, references, command(3, own_reference(1, "DE/EMP")))
+    bad(Providers, "UnknownParty", requests, token_push(1, to=STRANGER))
+    bad(Providers, "UnknownParty", requests, stop_command(1, STRANGER))
+    bad(Providers, "PushedTwice", requests, token_push(1), token_push(2), shows=[1, 2])
+    bad(Providers, "BilledTwice", held_bill(), held_bill("C2", "S1"), shows=[0, 1])
+
+
+def each_reason_is_told():
+    """Each reason but `Repeated`, since a store has one row of a kind and a key."""
+    source = (CRATES / "stored_rows" / "src" / "fault.rt").read_text(encoding="utf-8")
+    body = source.split("pub enum BadReason {", 1)[1].split("}", 1)[0]
+    missing = set(re.findall(r"^    (\w+),", body, re.MULTILINE)) - TOLD - {"Repeated"}
+    if missing:
+        sys.exit(f"no store is bad for {missing}")
+
+
+# What may be wrong with rows at a node that did not store them: at an operator a record stands beside no session that is complete,
+# and a complete session has no record of the operator's own.
+WRONG_ELSEWHERE = {
+    "cdr": ["OfOtherParty", "NotOwnId", "NotGiven", "BilledEarly"], "session": ["OfOtherParty", "NotOwnId", "NotGiven", "Unbilled"],
+    "command": ["OfOtherRole", "NotOwnId"], "spent": ["OfOtherRole"], "result": ["OfOtherRole"], "token": ["OfOtherParty"],
+}
+# Counters of one role.
+COUNTERS = ("session", "cdr", "reference")
+
+
+def wrong_elsewhere(rows):
+    counters = [(kind, key, "OfOtherRole") for kind, key, _ in rows if kind == "count" and key in COUNTERS]
+    return counters + [(kind, key, reason) for kind, key, _ in rows for reason in WRONG_ELSEWHERE.get(kind, [])]
+
+
+def of_other_parties():
+    """The stores of a charge, as they are opened under each party of a setup."""
+    for party in ("BE/BEC", "NL/TNM"):
+        rows = rows_of_charge(party).behind[22]
+        store(BOTH, rows)
+        line("reopen " + party, "reopened %d" % len(rows), *puts(rows))
+        for other in sorted({"BE/BEC", "FR/FRC", "NL/TNM", "DE/EMP"} - {party}):
+            found_bad(other, wrong_elsewhere(rows))
+        line("texts", *kept(rows))
+
+
+def no_rows():
+    """Texts that are no rows of their kind and key, each beside one that is. What is kept stays."""
+    good = count("serial", 7)
+    wrong = [("session", "BE/BEC/S1", "{"), ("count", "serial", "7"), ("count", "serial", '{"last":01}'),
+             ("count", "serials", '{"last":7}'), ("counter", "serial", '{"last":7}'), ("mark", "NL/TNM/R1", "{}"), ("mark", "nl/tnm/R1", '{"number":1}'),
+             ("push", "01", '{"body":{},"kind":"ack","to":"NL/TNM"}'), ("service", "E1", ""), ("spent", "NL/TNM", "{}"), ("", "", "{}")]
+    for kind, key, words in wrong:
+        opened(BOTH)
+        line("text " + tabbed(good))
+        line("\t".join(["text " + kind, key, words]))
+        for party in ("BE/BEC", "NL/TNM"):
+            line("reopen " + party, "store 2 BadRow")
+        beside = sorted([("count", "serial", text(good[2])), (kind, key, words)])
+        line("texts", *["%s %s %s" % it for it in beside if it[:2] != (kind, key) or it[2] == words])
+    # Spaces, and members in another order, make no difference.
+    opened(BOTH)
+    line('text count\tserial\t { "more" : [ ] , "last" : 7 } ')
+    line("reopen NL/TNM", "reopened 1", *puts([good]))
+
+
+def old_layouts():
+    """Stores of other versions are refused, and stay as they are."""
+    rows = [count("serial", 7), token_row()]
+    store(BOTH, rows)
+    for version in (7, 0, 2):
+        line("version %d" % version)
+        line("reopen NL/TNM", "store 3 OldLayout")
+        line("texts", *kept(rows))
+    line("version 1")
+    line("reopen NL/TNM", "reopened 2", *puts(rows))
+
+
+def no_lines():
+    """What is no line, and no node."""
+    line("new", "no setup")
+    line("setup {}", "refused 4 Missing(nodes)")
+    line("setup " + SETUP)
+    line("reopen FR/FRC", "no such node")
+    line("reopen", "no such line")
+    line('{"event":"restart","node":"FR/FRC"}', "no such node")
+    line("put result\tNL/TNM/1\t{}", "refused 4 Missing(result)")
+
+
+def cases():
+    """The lines, and what they must give."""
+    LINES.clear()
+    WANTED.clear()
+    no_lines()
+    commits()
+    for party in ("BE/BEC", "NL/TNM"):
+        charge(party)
+    bad_operators()
+    bad_providers()
+    each_reason_is_told()
+    of_other_parties()
+    no_rows()
+    old_layouts()
+    return LINES, WANTED
