@@ -1,5 +1,5 @@
 pub mod Lists
 pub mod Delivering
-pub mod OpeningSetups
+pub mod Bringing
 pub mod Steps
 pub mod Asking

@@ -1,133 +1,53 @@
 -- What comes of a plan, and one event of a world.
-use Rattle.std.proofs.Common.{◌≡◌, ℕ, List, [], ◌∷◌, ◌++◌, drop, get_or, length, refl, sym, ap, subst, ◌∙◌}
-use Rattle.std.specs.Prelude.{Result, Ok, Err, None, Some, IfOk, IfErr, OnErr, Option, option_map, slice_get, slice_set}
+use Rattle.std.proofs.Common.{◌≡◌, ◌≢◌, ℕ, List, [], ◌∷◌, ◌++◌, drop, get_or, length, refl, sym, ap, subst, ◌∙◌}
+use Rattle.std.specs.Prelude.{Result, Ok, Err, None, Some, OnErr, Option, option_map, slice_get, slice_set}
 use Rattle.std.proofs.Math.Seq.{map-set_same}
 use Rattle.std.proofs.lemmas.List.{drop_at, map-set}
 use Rattle.std.proofs.lemmas.Option.{same_Some, slice_get-map, slice_get_read, slice_get_within}
+use Rattle.node_core.proofs.Doing as doing
+use Rattle.node_core.specs.Inputs.{Gets}
+use Rattle.node_core.specs.States.{state_of}
+use Rattle.node_core.specs.Works as nodes
+use Rattle.node_core.specs.Works.{IsWork, MayDo, changes_by, packets_by, versions_by}
+use Rattle.node_core.specs.declared.input.NodeInput.{NodeInput}
+use Rattle.node_core.specs.declared.work.NodeWork.{NodeWork}
+use Rattle.node_laws.proofs.Runs.{run_join}
+use Rattle.node_steps.specs.declared.fault.NodeFault.{NodeFault}
 use Rattle.ocpi_text.specs.Text.{key}
 use Rattle.ocpi_types.specs.declared.events.Event.{Event}
 use Rattle.ocpi_types.specs.declared.events.EventKind.{EventKind}
+use Rattle.ocpi_types.specs.declared.events.EventKind.TheVariants as kind
 use Rattle.ocpi_types.specs.declared.rows.Change.{Change}
-use Rattle.node_laws.proofs.Runs.{run_join}
-use Rattle.node_steps.specs.Drafts.{step_of}
-use Rattle.node_steps.specs.declared.fault.NodeFault.{NodeFault}
-use Rattle.node_steps.specs.declared.plan.Plan.{Plan}
-use Rattle.operator_rows.specs.FullSteps.{full_step_of}
-use Rattle.operator_rows.specs.State as operator_state
-use Rattle.operator_rows.specs.Steps as operator_rows
-use Rattle.operator_rows.specs.declared.full_plan.FullPlan.{FullPlan}
-use Rattle.operator_steps.specs.Events as operator
-use Rattle.operator_steps.specs.Moves as operator_moves
-use Rattle.provider_rows.specs.State as provider_state
-use Rattle.provider_rows.specs.Steps as provider_rows
-use Rattle.provider_steps.specs.Events as provider
-use Rattle.provider_steps.specs.Moves as provider_moves
 use Rattle.stored_laws.specs.Laws.{OperatorsAreWhole, ProvidersAreWhole}
+use Rattle.stored_laws.specs.Nodes.{IsWhole}
 use Rattle.world.specs.Deliveries.{IsPlaceOf}
-use Rattle.world.specs.Seen.{node_seen, packets_sent, place_seen, places_seen, sent_from, told, told_in}
-use Rattle.world.specs.Works.{ComesOf, ComesOfFull, IsIdle, IsPlanned, IsWhole, IsWork, MayDo, changes_by, node_after, packets_by, place_after, versions_by}
+use Rattle.world.specs.Seen.{packets_sent, place_seen, places_seen, sent_from, told, told_in}
+use Rattle.world.specs.Works.{AsksFor, Brings, IsIdle, IsPlanned, place_after}
 use Rattle.world.specs.declared.place.Place as declared
 use Rattle.world.specs.declared.planned.Outcome as outcomes
 use Rattle.world.specs.declared.planned.Outcome.TheVariants as outcome
-use Rattle.world.specs.declared.planned.Planned.{Planned}
+use Rattle.world.specs.declared.planned.Planned.TheVariants.{Acts, Idle}
 use Rattle.world.specs.declared.planned.Sending.{Sending}
 use Rattle.world.specs.declared.planned.Told.{Told}
-use Rattle.world.specs.declared.planned.Work.{Work}
-use Rattle.world.specs.declared.planned.Work.TheVariants as work
 use Rattle.world_laws.specs.Later.{IsLater}
 use Rattle.world_laws.specs.Laws.{IsReached, IsRight, WorldsGoOn}
-use Rattle.world_steps.specs.Network.{OfOperator, OfProvider, OperatorInput, ProviderInput, Reaches}
+use Rattle.world_steps.specs.Network.{Input}
 use Rattle.world_steps.specs.Steps as steps
-use Rattle.world_steps.specs.Steps.{AtOperator, AtProvider, Does, Gives, IsForNone, Loses, NoNode, NodeEvent, NodeStep, NothingReaches, OperatorRefuses, Passes, PlaceStep, ProviderRefuses, Refuses, WorldRun, WorldStep, changes_of, input_of, packets_of, versions_of}
+use Rattle.world_steps.specs.Steps.{Does, Gives, IsForNone, Loses, NoNode, NothingReaches, Passes, PlaceStep, Refuses, WorldRun, WorldStep, changes_of, input_of}
 use Rattle.world_steps.specs.World.{IsAt, NodeState, Operates, Place, Provides, World, opened}
 use Rattle.world_steps.proofs.Places.{of_mapped, set_same}
 
--- what an operator plans is what the event asks for, and its refusal is one of the event
-operator_came : (w : World) (party : List ℕ) (s : operator_state.State) (k : EventKind) (i : operator.Input) → OperatorInput w party k i → (r : Result FullPlan NodeFault) →
-    IfOk r (λ x. operator_moves.PlannedBy (operator.Asks s i) s (full_step_of x)) → IfOk r (λ x. operator_rows.MayFollowFull s (full_step_of x)) → IfErr r (OperatorRefuses s i) →
-    (x : Planned) → ComesOfFull r x → IsPlanned w party (Operates s) k x
-operator_came w party s k i reaches (Ok plan) planned may refused x came =
-    subst (λ (y : Planned). IsPlanned w party (Operates s) k y) (sym came) (record { input = i; reaches = reaches; planned = planned; may = may })
-operator_came w party s k i reaches (Err fault) planned may refused x came =
-    subst (λ (y : Planned). IsPlanned w party (Operates s) k y) (sym came.0) (record { input = OfOperator i; reaches = reaches; refuses = refused; other = came.1 })
+-- what the node is asked for by what an event brings
+pub asks_for : (w : World) (party : List ℕ) (n : NodeState) (k : EventKind) (i : NodeInput) (x : NodeWork) → Brings w party k i → IsWork n i x → IsPlanned w party n k (Acts x)
+asks_for w party n k i x brings h = record { input = i; brings = brings; is_work = h }
 
-provider_came : (w : World) (party : List ℕ) (s : provider_state.State) (k : EventKind) (i : provider.Input) → ProviderInput w party k i → (r : Result Plan NodeFault) →
-    IfOk r (λ x. provider_moves.PlannedBy (provider.Asks s i) s (step_of x)) → IfOk r (λ x. provider_rows.MayFollow s (step_of x)) → IfErr r (ProviderRefuses s i) →
-    (x : Planned) → ComesOf r x → IsPlanned w party (Provides s) k x
-provider_came w party s k i reaches (Ok plan) planned may refused x came =
-    subst (λ (y : Planned). IsPlanned w party (Provides s) k y) (sym came) (record { input = i; reaches = reaches; planned = planned; may = may })
-provider_came w party s k i reaches (Err fault) planned may refused x came =
-    subst (λ (y : Planned). IsPlanned w party (Provides s) k y) (sym came.0) (record { input = OfProvider i; reaches = reaches; refuses = refused; other = came.1 })
+pub passes : (w : World) (party : List ℕ) (n : NodeState) (k : EventKind) (i : NodeInput) → k ≢ kind.Refused → Brings w party k i → ((x : Input) → Gets n i x → ⊥) →
+    IsPlanned w party n k (Idle outcome.Skipped)
+passes w party n k i taken brings none = record { taken = taken; nothing = brings.nothing n none }
 
-if_ok_each : {X E : Type 0} (P Q : X → Type 0) → ((x : X) → P x → Q x) → (r : Result X E) → IfOk r P → IfOk r Q
-if_ok_each P Q all (Ok x) h = all x h
-if_ok_each P Q all (Err e) h = h
-
-pub operator_planned : (w : World) (party : List ℕ) (s : operator_state.State) (k : EventKind) (i : operator.Input) → OperatorInput w party k i → (r : Result FullPlan NodeFault) →
-    IfOk r (λ x. operator_moves.PlannedBy (operator.Asks s i) s (full_step_of x)) → IfOk r (λ x. operator_rows.MayFollowFull s (full_step_of x)) → IfErr r (OperatorRefuses s i) →
-    {E : Type 0} (q : Result Planned E) → IfOk q (λ x. ComesOfFull r x) → IfOk q (λ x. IsPlanned w party (Operates s) k x)
-operator_planned w party s k i reaches r planned may refused q h =
-    if_ok_each (ComesOfFull r) (IsPlanned w party (Operates s) k) (operator_came w party s k i reaches r planned may refused) q h
-
-pub provider_planned : (w : World) (party : List ℕ) (s : provider_state.State) (k : EventKind) (i : provider.Input) → ProviderInput w party k i → (r : Result Plan NodeFault) →
-    IfOk r (λ x. provider_moves.PlannedBy (provider.Asks s i) s (step_of x)) → IfOk r (λ x. provider_rows.MayFollow s (step_of x)) → IfErr r (ProviderRefuses s i) →
-    {E : Type 0} (q : Result Planned E) → IfOk q (λ x. ComesOf r x) → IfOk q (λ x. IsPlanned w party (Provides s) k x)
-provider_planned w party s k i reaches r planned may refused q h =
-    if_ok_each (ComesOf r) (IsPlanned w party (Provides s) k) (provider_came w party s k i reaches r planned may refused) q h
-
--- work that an event asks for may be done
-pub may_do : (w : World) (party : List ℕ) (n : NodeState) (k : EventKind) (x : Work) → IsWhole n → IsWork w party n k x → MayDo n x
-may_do w party (Operates s) k (work.Operator x) whole h = h.may
-may_do w party (Operates s) k (work.Provider x) whole h = h
-may_do w party (Operates s) k work.Restart whole h = whole
-may_do w party (Provides s) k (work.Operator x) whole h = h
-may_do w party (Provides s) k (work.Provider x) whole h = h.may
-may_do w party (Provides s) k work.Restart whole h = whole
-
--- what a node does by its work
-record Doing (w : World) (party : List ℕ) (n : NodeState) (k : EventKind) (x : Work) : Type 0 where
-  event : NodeEvent
-  reaches : Reaches w party n k (input_of event)
-  step : NodeStep n event (node_after x n)
-  packets : packets_of event ≡ packets_by x
-  changes : changes_of event ≡ changes_by x
-  versions : versions_of event ≡ versions_by x
-
-doing : (w : World) (party : List ℕ) (n : NodeState) (k : EventKind) (x : Work) → IsWork w party n k x → Doing w party n k x
-doing w party (Operates s) k (work.Operator x) h = record {
-  event = AtOperator (record { input = h.input; changes = x.plan.changes.items; packets = x.plan.packets.items });
-  reaches = h.reaches;
-  step = steps.OperatorDoes.Done (record { work = h.planned.work; line = h.planned.line; in_range = h.planned.in_range; out_is = ap (operator_moves.carried s) h.planned.step_is });
-  packets = refl;
-  changes = refl;
-  versions = refl;
-}
-doing w party (Operates s) k (work.Provider x) h = absurd h
-doing w party (Operates s) k work.Restart h = record {
-  event = AtOperator (record { input = operator.Restarts; changes = []; packets = [] });
-  reaches = subst (λ (z : EventKind). OperatorInput w party z operator.Restarts) (sym h) refl;
-  step = steps.OperatorDoes.Restarted refl refl;
-  packets = refl;
-  changes = refl;
-  versions = refl;
-}
-doing w party (Provides s) k (work.Operator x) h = absurd h
-doing w party (Provides s) k (work.Provider x) h = record {
-  event = AtProvider (record { input = h.input; changes = x.changes.items; packets = x.packets.items });
-  reaches = h.reaches;
-  step = steps.ProviderDoes.Done (record { acts = h.planned.acts; line = h.planned.line; in_range = h.planned.in_range; out_is = ap (provider_moves.carried s) h.planned.step_is });
-  packets = refl;
-  changes = refl;
-  versions = refl;
-}
-doing w party (Provides s) k work.Restart h = record {
-  event = AtProvider (record { input = provider.Restarts; changes = []; packets = [] });
-  reaches = subst (λ (z : EventKind). ProviderInput w party z provider.Restarts) (sym h) refl;
-  step = steps.ProviderDoes.Restarted refl refl;
-  packets = refl;
-  changes = refl;
-  versions = refl;
-}
+pub refuses : (w : World) (party : List ℕ) (n : NodeState) (k : EventKind) (i : NodeInput) (fault : NodeFault) → Brings w party k i → nodes.Refuses n i fault →
+    IsPlanned w party n k (Idle (outcome.Refused fault))
+refuses w party n k i fault brings h = record { input = h.input; reaches = brings.reaches n h.input h.gets; refuses = h.refuses; other = h.other }
 
 -- the place of a party, as it is seen
 seen_at : (ps : List declared.Place) (party : List ℕ) (i : ℕ) (x : declared.Place) → IsPlaceOf ps party i x → IsAt (places_seen ps) party i (place_seen x)
@@ -135,10 +55,10 @@ seen_at ps party i x at = record { here = slice_get-map place_seen ps i ∙ ap (
 
 -- each node of a world that is reached is whole
 pub is_whole : OperatorsAreWhole → ProvidersAreWhole → (ps : List declared.Place) (party : List ℕ) (i : ℕ) (x : declared.Place) → IsReached (places_seen ps) → IsPlaceOf ps party i x →
-    IsWhole (node_seen x.node)
-is_whole operators providers ps party i x reached at = by (node_seen x.node) refl
+    IsWhole (state_of x.node)
+is_whole operators providers ps party i x reached at = by (state_of x.node) refl
   where
-    by : (n : NodeState) → node_seen x.node ≡ n → IsWhole n
+    by : (n : NodeState) → state_of x.node ≡ n → IsWhole n
     by (Operates s) is = operators (places_seen ps) reached (key x.party) (place_seen x) s (record { number = i; here = (seen_at ps party i x at).here; party = refl; node = is })
     by (Provides s) is = providers (places_seen ps) reached (key x.party) (place_seen x) s (record { number = i; here = (seen_at ps party i x at).here; party = refl; node = is })
 
@@ -149,19 +69,23 @@ none_gives ps e none = Passes (NoNode (λ i p at.
     none i x (record { here = here; same = subst (λ (z : Place). key z.party ≡ key e.node) (sym is) at.same }))) refl refl
 
 -- the event leads to no work
-pub idle_gives : (ps : List declared.Place) (e : Event) (i : ℕ) (x : declared.Place) (o : outcomes.Outcome) → IsPlaceOf ps e.node i x → IsIdle (places_seen ps) x.party (node_seen x.node) e.kind o →
+pub idle_gives : (ps : List declared.Place) (e : Event) (i : ℕ) (x : declared.Place) (o : outcomes.Outcome) → IsPlaceOf ps e.node i x → IsIdle (places_seen ps) x.party (state_of x.node) e.kind o →
     Gives (places_seen ps) e (told o [] []) (places_seen ps)
 idle_gives ps e i x outcome.Stepped at h = Loses i (place_seen x) (seen_at ps e.node i x at) h refl refl
 idle_gives ps e i x outcome.Skipped at h = Passes (NothingReaches i (place_seen x) (seen_at ps e.node i x at) h.taken h.nothing) refl refl
 idle_gives ps e i x (outcome.Refused fault) at h = Refuses i (place_seen x) h.input fault (seen_at ps e.node i x at) h.reaches h.refuses h.other refl refl
 
+-- the node may do what it is asked for
+pub may_do : (w : World) (party : List ℕ) (n : NodeState) (k : EventKind) (x : NodeWork) → AsksFor w party n k x → MayDo n x
+may_do w party n k x h = doing.may_do n h.input x h.is_work
+
 -- the event leads to work
-pub work_gives : (ps : List declared.Place) (e : Event) (i : ℕ) (x y : declared.Place) (d : Work) → IsPlaceOf ps e.node i x → IsWork (places_seen ps) x.party (node_seen x.node) e.kind d →
+pub work_gives : (ps : List declared.Place) (e : Event) (i : ℕ) (x y : declared.Place) (d : NodeWork) → IsPlaceOf ps e.node i x → AsksFor (places_seen ps) x.party (state_of x.node) e.kind d →
     place_seen y ≡ place_after d (place_seen x) → Gives (places_seen ps) e (steps.Stepped (packets_by d) (changes_by d)) (places_seen (slice_set ps i y))
 work_gives ps e i x y d at h is =
-    let does = doing (places_seen ps) x.party (node_seen x.node) e.kind d h in
+    let does = doing.does (state_of x.node) h.input d h.is_work in
     let p = place_seen x in
-    Does i p (place_seen y) does.event (seen_at ps e.node i x at) does.reaches
+    Does i p (place_seen y) does.event (seen_at ps e.node i x at) (h.brings.reaches (state_of x.node) (input_of does.event) does.gets)
     (subst (PlaceStep p does.event) (sym is) (record { step = does.step; party = refl; sent = ap (λ (l : List _). p.sent ++ l) (sym does.packets); versions = ap (λ (l : List _). p.versions ++ l) (sym does.versions) }))
     (sym (ap (λ l. steps.Stepped l (changes_of does.event)) does.packets ∙ ap (steps.Stepped (packets_by d)) does.changes))
     (map-set place_seen ps i y)
@@ -179,7 +103,7 @@ told_idle w t o is no_packets no_changes =
     ∙ (ap (λ (z : Option Sending). told o (packets_sent w z) t.changes.items) no_packets ∙ ap (λ (z : List Change). told o [] z) no_changes)
 
 -- and where there is
-pub told_work : (ps : List declared.Place) (i from : ℕ) (y z : declared.Place) (d : Work) → slice_get ps i ≡ Some y → from ≡ length y.sent.items → place_seen z ≡ place_after d (place_seen y) →
+pub told_work : (ps : List declared.Place) (i from : ℕ) (y z : declared.Place) (d : NodeWork) → slice_get ps i ≡ Some y → from ≡ length y.sent.items → place_seen z ≡ place_after d (place_seen y) →
     sent_from from (slice_get (places_seen (slice_set ps i z)) i) ≡ packets_by d
 told_work ps i from y z d here len is =
     ap (sent_from from) (slice_get-map place_seen (slice_set ps i z) i ∙ ap (option_map place_seen) (set_same ps i y z here))

@@ -1,25 +1,20 @@
 -- What the values of the code stand for.
 use Rattle.std.specs.Prelude.{ℕ, List, [], Option, None, Some, drop, map, slice_get}
+use Rattle.node_core.specs.States.{state_of}
 use Rattle.ocpi_types.specs.declared.packet.Packet.{Packet}
 use Rattle.ocpi_types.specs.declared.rows.Change.{Change}
 use Rattle.ocpi_types.specs.declared.sessions.Session.{Session}
 use Rattle.world.specs.declared.past.Past.{Past}
-use Rattle.world.specs.declared.place.Node.{Node}
-use Rattle.world.specs.declared.place.Node.TheVariants as node
 use Rattle.world.specs.declared.place.Place as declared
 use Rattle.world.specs.declared.planned.Outcome as outcomes
 use Rattle.world.specs.declared.planned.Outcome.TheVariants as outcome
 use Rattle.world.specs.declared.planned.Sending.{Sending}
 use Rattle.world.specs.declared.planned.Told.{Told}
 use Rattle.world_steps.specs.Steps as steps
-use Rattle.world_steps.specs.World.{NodeState, Operates, Place, Provides, World, past_of}
-
-abbrev pub node_seen : Node → NodeState
-node_seen (node.Operator o) = Operates o.state
-node_seen (node.Provider p) = Provides p.state
+use Rattle.world_steps.specs.World.{Place, World, past_of}
 
 abbrev pub place_seen : declared.Place → Place
-place_seen p = record { party = p.party; node = node_seen p.node; sent = p.sent.items; versions = p.versions.items }
+place_seen p = record { party = p.party; node = state_of p.node; sent = p.sent.items; versions = p.versions.items }
 
 abbrev pub places_seen : List declared.Place → World
 places_seen ps = map place_seen ps

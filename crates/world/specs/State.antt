@@ -1,12 +1,12 @@
 -- What is seen of a world, and what is asked of it.
 use Rattle.std.specs.Prelude.{ℕ, ℤ, pos, List, [], ◌∷◌, cond, bytes_eq}
-use Rattle.std.specs.FinMap.{values}
-use Rattle.handover.specs.Owed.{Account, owed}
+use Rattle.handover.specs.Owed.{Account}
+use Rattle.node_core.specs.States.{owed_of}
 use Rattle.ocpi_text.specs.Text.{key}
 use Rattle.ocpi_types.specs.declared.packet.Packet.{Packet}
 use Rattle.ocpi_types.specs.declared.rows.Change.{Change}
 use Rattle.ocpi_types.specs.declared.sessions.Session.{Session}
-use Rattle.world_steps.specs.World.{NodeState, Operates, Provides, World, past_of}
+use Rattle.world_steps.specs.World.{World, past_of}
 
 -- the world, and of the last step the rows that it changed and the packets that it sent
 pub record WorldState : Type 0 where
@@ -14,12 +14,7 @@ pub record WorldState : Type 0 where
   pub changes : List Change
   pub packets : List Packet
 
--- what a node owes by an account; an operator owes nothing
-abbrev pub owed_of : NodeState → Account → ℤ
-owed_of (Operates s) a = pos 0
-owed_of (Provides s) a = owed a (values s.rows.inbox.cdrs)
-
--- and what the node of a party owes, where there is one
+-- what the node of a party owes by an account, where there is one
 abbrev pub owed_by : World → List ℕ → Account → ℤ
 owed_by [] party a = pos 0
 owed_by (p ∷ w) party a = cond (bytes_eq (key p.party) (key party)) (owed_of p.node a) (owed_by w party a)

@@ -1,99 +1,40 @@
--- What a node is to do, and what it leaves.
-use Rattle.std.specs.Prelude.{◌≡◌, ◌≢◌, ℕ, List, [], ◌++◌, Result, Ok, Err}
-use Rattle.node_steps.specs.Drafts.{step_of}
+-- What an event brings to a node, and what the node's work leaves of its place.
+use Rattle.std.specs.Prelude.{◌≡◌, ◌≢◌, ℕ, List, ◌++◌}
+use Rattle.node_core.specs.Inputs.{Gets}
+use Rattle.node_core.specs.Works.{IsWork, node_after, packets_by, versions_by}
+use Rattle.node_core.specs.declared.input.NodeInput.{NodeInput}
+use Rattle.node_core.specs.declared.work.NodeWork.{NodeWork}
 use Rattle.node_steps.specs.declared.fault.NodeFault.{NodeFault}
 use Rattle.node_steps.specs.declared.fault.NodeFault.TheVariants.{Memory}
-use Rattle.node_steps.specs.declared.plan.Plan.{Plan}
 use Rattle.ocpi_types.specs.declared.events.EventKind.{EventKind}
 use Rattle.ocpi_types.specs.declared.events.EventKind.TheVariants as kind
-use Rattle.ocpi_types.specs.declared.packet.Packet.{Packet}
-use Rattle.ocpi_types.specs.declared.rows.Change.{Change}
-use Rattle.ocpi_types.specs.declared.sessions.Session.{Session}
-use Rattle.operator_rows.specs.FullSteps.{full_step_of}
-use Rattle.operator_rows.specs.State as operator_state
-use Rattle.operator_rows.specs.Steps as operator_rows
-use Rattle.operator_rows.specs.declared.full_plan.FullPlan.{FullPlan}
-use Rattle.operator_stored.specs.Whole as operator_whole
-use Rattle.operator_steps.specs.Events as operator
-use Rattle.operator_steps.specs.Moves as operator_moves
-use Rattle.provider_rows.specs.State as provider_state
-use Rattle.provider_rows.specs.Steps as provider_rows
-use Rattle.provider_stored.specs.Whole as provider_whole
-use Rattle.provider_steps.specs.Events as provider
-use Rattle.provider_steps.specs.Moves as provider_moves
 use Rattle.world.specs.declared.planned.Outcome.{Outcome}
 use Rattle.world.specs.declared.planned.Outcome.TheVariants as outcome
 use Rattle.world.specs.declared.planned.Planned.{Planned}
 use Rattle.world.specs.declared.planned.Planned.TheVariants.{Acts, Idle}
-use Rattle.world.specs.declared.planned.Work.{Work}
-use Rattle.world.specs.declared.planned.Work.TheVariants as work
-use Rattle.world_steps.specs.Network.{Input, OperatorInput, ProviderInput, Reaches}
-use Rattle.world_steps.specs.Steps.{NodeRefuses, all_put}
-use Rattle.world_steps.specs.World.{NodeState, Operates, Place, Provides, World}
-
-abbrev pub node_after : Work → NodeState → NodeState
-node_after (work.Operator x) (Operates s) = Operates (operator_rows.after_full (full_step_of x) s)
-node_after (work.Operator x) (Provides s) = Provides s
-node_after (work.Provider x) (Operates s) = Operates s
-node_after (work.Provider x) (Provides s) = Provides (provider_rows.after (step_of x) s)
-node_after work.Restart (Operates s) = Operates (operator_rows.restarted s)
-node_after work.Restart (Provides s) = Provides (provider_rows.restarted s)
-
-abbrev pub packets_by : Work → List Packet
-packets_by (work.Operator x) = x.plan.packets.items
-packets_by (work.Provider x) = x.packets.items
-packets_by work.Restart = []
-
-abbrev pub changes_by : Work → List Change
-changes_by (work.Operator x) = x.plan.changes.items
-changes_by (work.Provider x) = x.changes.items
-changes_by work.Restart = []
-
-abbrev pub versions_by : Work → List Session
-versions_by (work.Operator x) = all_put x.plan.changes.items
-versions_by (work.Provider x) = []
-versions_by work.Restart = []
+use Rattle.world_steps.specs.Network.{Input, Reaches}
+use Rattle.world_steps.specs.Steps.{NodeRefuses}
+use Rattle.world_steps.specs.World.{NodeState, Place, World}
 
 -- the place once the work is done
-abbrev pub place_after : Work → Place → Place
+abbrev pub place_after : NodeWork → Place → Place
 place_after x p = record { party = p.party; node = node_after x p.node; sent = p.sent ++ packets_by x; versions = p.versions ++ versions_by x }
 
--- the node is whole: it may be made again of its rows
-abbrev pub IsWhole : NodeState → Type 0
-IsWhole (Operates s) = operator_whole.IsWhole s
-IsWhole (Provides s) = provider_whole.IsWhole s
+-- the event brings this to the node of that party, of either role: what the node gets of it reaches it, and where it
+-- gets nothing, nothing reaches it
+pub record Brings (w : World) (party : List ℕ) (k : EventKind) (i : NodeInput) : Type 0 where
+  pub reaches : (n : NodeState) (x : Input) → Gets n i x → Reaches w party n k x
+  pub nothing : (n : NodeState) → ((x : Input) → Gets n i x → ⊥) → (x : Input) → Reaches w party n k x → ⊥
 
--- the node may do the work
-abbrev pub MayDo : NodeState → Work → Type 0
-MayDo (Operates s) (work.Operator x) = operator_rows.MayFollowFull s (full_step_of x)
-MayDo (Operates s) (work.Provider x) = ⊥
-MayDo (Operates s) work.Restart = IsWhole (Operates s)
-MayDo (Provides s) (work.Operator x) = ⊥
-MayDo (Provides s) (work.Provider x) = provider_rows.MayFollow s (step_of x)
-MayDo (Provides s) work.Restart = IsWhole (Provides s)
-
--- an operator plans all that reaches it
-pub record OperatorPlans (w : World) (party : List ℕ) (s : operator_state.State) (k : EventKind) (x : FullPlan) : Type 0 where
-  pub input : operator.Input
-  pub reaches : OperatorInput w party k input
-  pub planned : operator_moves.PlannedBy (operator.Asks s input) s (full_step_of x)
-  pub may : operator_rows.MayFollowFull s (full_step_of x)
-
--- and a provider
-pub record ProviderPlans (w : World) (party : List ℕ) (s : provider_state.State) (k : EventKind) (x : Plan) : Type 0 where
-  pub input : provider.Input
-  pub reaches : ProviderInput w party k input
-  pub planned : provider_moves.PlannedBy (provider.Asks s input) s (step_of x)
-  pub may : provider_rows.MayFollow s (step_of x)
+-- nothing reaches a node of either role by it
+abbrev pub BringsNothing : World → List ℕ → EventKind → Type 0
+BringsNothing w party k = (n : NodeState) (x : Input) → Reaches w party n k x → ⊥
 
 -- the work is what the event asks the node of that party for
-abbrev pub IsWork : World → List ℕ → NodeState → EventKind → Work → Type 0
-IsWork w party (Operates s) k (work.Operator x) = OperatorPlans w party s k x
-IsWork w party (Operates s) k (work.Provider x) = ⊥
-IsWork w party (Operates s) k work.Restart = k ≡ kind.Restart
-IsWork w party (Provides s) k (work.Operator x) = ⊥
-IsWork w party (Provides s) k (work.Provider x) = ProviderPlans w party s k x
-IsWork w party (Provides s) k work.Restart = k ≡ kind.Restart
+pub record AsksFor (w : World) (party : List ℕ) (n : NodeState) (k : EventKind) (x : NodeWork) : Type 0 where
+  pub input : NodeInput
+  pub brings : Brings w party k input
+  pub is_work : IsWork n input x
 
 -- the node refuses the event, for a reason that is not want of memory
 pub record Refuses (w : World) (party : List ℕ) (n : NodeState) (k : EventKind) (fault : NodeFault) : Type 0 where
@@ -115,14 +56,4 @@ IsIdle w party n k (outcome.Refused fault) = Refuses w party n k fault
 
 abbrev pub IsPlanned : World → List ℕ → NodeState → EventKind → Planned → Type 0
 IsPlanned w party n k (Idle o) = IsIdle w party n k o
-IsPlanned w party n k (Acts x) = IsWork w party n k x
-
--- what comes of a plan of an operator, where memory does not run out
-abbrev pub ComesOfFull : Result FullPlan NodeFault → Planned → Type 0
-ComesOfFull (Ok x) planned = planned ≡ Acts (work.Operator x)
-ComesOfFull (Err fault) planned = (planned ≡ Idle (outcome.Refused fault)) × (fault ≢ Memory)
-
--- and of a provider
-abbrev pub ComesOf : Result Plan NodeFault → Planned → Type 0
-ComesOf (Ok x) planned = planned ≡ Acts (work.Provider x)
-ComesOf (Err fault) planned = (planned ≡ Idle (outcome.Refused fault)) × (fault ≢ Memory)
+IsPlanned w party n k (Acts x) = AsksFor w party n k x

@@ -1,136 +1,14 @@
 //! The places of a setup, before the first event.
 
-ghost use Rattle.std.specs.Prelude.{◌≡◌, ◌++◌, Contains, IfOk, Ok, OnOk, List, ℕ};
-ghost use Rattle.ocpi_text.specs.Party.{party_at};
-ghost use Rattle.ocpi_types.specs.Setups.{party_of};
-ghost use Rattle.ocpi_types.specs.declared.setup.Node.{Node as NodeOf};
-ghost use Rattle.ocpi_types.specs.declared.setup.Node.TheVariants as node;
-ghost use Rattle.operator_rows.specs.State as operator;
-ghost use Rattle.provider_rows.specs.State as provider;
-ghost use Rattle.world.specs.Seen.{node_seen, place_seen, places_seen};
+ghost use Rattle.std.specs.Prelude.{◌≡◌, Contains, IfOk};
+ghost use Rattle.world.specs.Seen.{place_seen, places_seen};
 ghost use Rattle.world_laws.specs.Laws.{IsSetup};
-ghost use Rattle.world_steps.specs.World.{
-  opened,
-  opening_of,
-  operator_of,
-  operators_of,
-  place_of,
-  provider_of,
-  providers_of,
-};
+ghost use Rattle.world_steps.specs.World.{opened, place_of};
 
-use crate::place::{Node, Place};
-use ocpi_text::{Moment, Party};
-use ocpi_types::{Node as SetupNode, Parties, Setup, Site, SiteLine};
-use operator_core::Operator;
-use provider_core::Provider;
-use provider_rows::Peers;
+use crate::place::Place;
+use node_core::Node;
+use ocpi_types::Node as SetupNode;
 use std::alloc::{AllocError, Global};
-
-/// Adds the party of a provider.
-fn push_provider(parties: &mut Vec<Party>, member: &SetupNode) -> Result<(), AllocError>
-    ensures { OnOk result (parties.new.items ≡ parties.old.items ++ provider_of member.now) }
-{
-    match member {
-        SetupNode::Operator { .. } => Ok(()),
-        SetupNode::Provider { party } => {
-            parties.push(*party)?;
-            Ok(())
-        }
-    }
-}
-
-/// Adds the party of an operator.
-fn push_operator(parties: &mut Vec<Party>, member: &SetupNode) -> Result<(), AllocError>
-    ensures { OnOk result (parties.new.items ≡ parties.old.items ++ operator_of member.now) }
-{
-    match member {
-        SetupNode::Operator { party, .. } => {
-            parties.push(*party)?;
-            Ok(())
-        }
-        SetupNode::Provider { .. } => Ok(()),
-    }
-}
-
-/// The providers among the nodes, in order. An error is want of memory.
-fn providers(alloc: Global, nodes: &[SetupNode]) -> Result<Vec<Party>, AllocError>
-    ensures { IfOk result (λ v. v.items ≡ providers_of nodes.now) }
-{
-    let mut parties = Vec::new(alloc);
-    for member in nodes {
-        push_provider(&mut parties, member)?;
-    }
-    Ok(parties)
-}
-
-/// The operators among the nodes, in order. An error is want of memory.
-fn operators(alloc: Global, nodes: &[SetupNode]) -> Result<Vec<Party>, AllocError>
-    ensures { IfOk result (λ v. v.items ≡ operators_of nodes.now) }
-{
-    let mut parties = Vec::new(alloc);
-    for member in nodes {
-        push_operator(&mut parties, member)?;
-    }
-    Ok(parties)
-}
-
-/// The first moment of all, at which a setup is opened.
-pub(crate) fn first_moment() -> Moment
-    ensures { result ≡ 0 }
-{
-    Moment::read("1970-01-01T00:00:00Z").unwrap()
-}
-
-/// An operator of that site, and all providers among the nodes. An error is want of memory.
-fn open_operator(
-    alloc: Global,
-    nodes: &[SetupNode],
-    party: &Party,
-    site: &Site,
-) -> Result<Operator, AllocError>
-    requires setup { IsSetup nodes.now }
-    requires member { Contains nodes.now (node.Operator party.now site.now) }
-    ensures { IfOk result (λ o. o.state ≡ operator.opening (record { at = 0; parties = record { operator = party.now; providers = providers_of nodes.now }; site = site.now })) }
-{
-    let Some(parties) = Parties::new(*party, providers(alloc, nodes)?) else {
-        unreachable!()
-    };
-    Operator::new(
-        alloc,
-        SiteLine {
-            at: first_moment(),
-            parties,
-            site: site.copy()?,
-        },
-    )
-}
-
-/// A provider, and all operators among the nodes. An error is want of memory.
-fn open_provider(alloc: Global, nodes: &[SetupNode], party: &Party) -> Result<Provider, AllocError>
-    requires setup { IsSetup nodes.now }
-    requires member { Contains nodes.now (node.Provider party.now) }
-    ensures { IfOk result (λ p. p.state ≡ provider.opening (record { provider = party.now; operators = operators_of nodes.now })) }
-{
-    let Some(peers) = Peers::new(*party, operators(alloc, nodes)?) else {
-        unreachable!()
-    };
-    Ok(Provider::new(alloc, peers))
-}
-
-/// A node among the nodes, before the first event. An error is want of memory.
-fn open_node(alloc: Global, nodes: &[SetupNode], member: &SetupNode) -> Result<Node, AllocError>
-    requires setup { IsSetup nodes.now }
-    requires member { Contains nodes.now member.now }
-    ensures { IfOk result (λ n. node_seen n ≡ opening_of nodes.now member.now) }
-{
-    match member {
-        SetupNode::Operator { party, site } => {
-            Ok(Node::Operator(open_operator(alloc, nodes, party, site)?))
-        }
-        SetupNode::Provider { party } => Ok(Node::Provider(open_provider(alloc, nodes, party)?)),
-    }
-}
 
 impl Place {
     /// The place of a node among the nodes, before the first event. An error is want of memory.
@@ -139,7 +17,7 @@ impl Place {
         requires member { Contains nodes.now member.now }
         ensures { IfOk result (λ p. place_seen p ≡ place_of nodes.now member.now) }
     {
-        let node = open_node(alloc, nodes, member)?;
+        let node = Node::open(alloc, nodes, member)?;
         Ok(Place {
             party: *member.party(),
             node,
@@ -147,25 +25,6 @@ impl Place {
             versions: Vec::new(alloc),
         })
     }
-}
-
-/// The party of each node is one by its form, which its type keeps.
-fn parties_are(nodes: &[SetupNode])
-    ensures { (n : NodeOf) → Contains nodes.now n → party_at (party_of n) ≡ Ok (party_of n) }
-{
-    for member in nodes {
-        let _text = member.party().as_str();
-    }
-}
-
-/// The nodes of a setup, and what its type keeps.
-pub(crate) fn nodes_of(setup: &Setup) -> &[SetupNode]
-    ensures value { result.now ≡ setup.now }
-    ensures is_setup { IsSetup setup.now }
-{
-    let nodes = setup.as_slice();
-    parties_are(nodes);
-    nodes
 }
 
 /// A place for each node, in order, before the first event. An error is want of memory.

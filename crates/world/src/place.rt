@@ -1,16 +1,8 @@
 //! A node, and all that it ever sent.
 
+use node_core::Node;
 use ocpi_text::Party;
 use ocpi_types::{Packet, Session};
-use operator_core::Operator;
-use provider_core::Provider;
-
-/// A node of either role.
-#[derive(Drop)]
-pub(crate) enum Node {
-    Operator(Operator),
-    Provider(Provider),
-}
 
 /// The node of a party, all packets that it ever sent, and all versions of its sessions that it ever stored, oldest
 /// first.

@@ -2,9 +2,9 @@
 
 ghost use Rattle.std.specs.Prelude.{◌≡◌, [], None};
 
-use node_steps::{NodeFault, Plan};
+use node_core::NodeWork;
+use node_steps::NodeFault;
 use ocpi_types::Change;
-use operator_rows::FullPlan;
 use std::alloc::Global;
 
 /// What is told of an event. The packets and the rows of a step are the world's (`packets`, `changes`).
@@ -18,19 +18,11 @@ pub enum Outcome {
     Refused(NodeFault),
 }
 
-/// What a node is to do.
-#[derive(Drop)]
-pub(crate) enum Work {
-    Operator(FullPlan),
-    Provider(Plan),
-    Restart,
-}
-
 /// What an event comes to at a node: nothing, of which this is told, or work.
 #[derive(Drop)]
 pub(crate) enum Planned {
     Idle(Outcome),
-    Acts(Work),
+    Acts(NodeWork),
 }
 
 /// Which packets a step sent: those of a place from there on.

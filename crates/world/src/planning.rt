@@ -1,107 +1,76 @@
 //! What an event comes to at a node. Nothing is changed here.
 
-ghost use Rattle.std.specs.Prelude.{IfOk};
-ghost use Rattle.world.specs.Seen.{node_seen, places_seen};
-ghost use Rattle.world.specs.Works.{ComesOf, ComesOfFull, IsPlanned};
-ghost use Rattle.world_steps.specs.World.{Operates, Provides};
+ghost use Rattle.std.specs.Prelude.{◌≡◌, ◌≢◌, IfNone, IfOk, IfSome};
+ghost use Rattle.node_core.specs.States.{state_of};
+ghost use Rattle.ocpi_types.specs.declared.events.EventKind.TheVariants as kinds;
+ghost use Rattle.world.specs.Seen.{places_seen};
+ghost use Rattle.world.specs.Works.{Brings, BringsNothing, IsPlanned};
 
 use crate::finding::delivered;
-use crate::place::{Node, Place};
-use crate::planned::{Outcome, Planned, Work};
-use node_steps::{NodeFault, Plan};
+use crate::place::Place;
+use crate::planned::{Outcome, Planned};
+use node_core::{NodeInput, Planned as NodePlanned};
 use ocpi_text::Party;
 use ocpi_types::EventKind;
-use operator_core::Operator;
-use operator_rows::FullPlan;
-use provider_core::Provider;
 use std::alloc::AllocError;
 
-/// What comes of a plan of an operator. An error is want of memory.
-fn of_operator(planned: Result<FullPlan, NodeFault>) -> Result<Planned, AllocError>
-    ensures { IfOk result (λ x. ComesOfFull planned x) }
-{
-    match planned {
-        Ok(plan) => Ok(Planned::Acts(Work::Operator(plan))),
-        Err(NodeFault::Memory) => Err(AllocError),
-        Err(fault) => Ok(Planned::Idle(Outcome::Refused(fault))),
-    }
-}
-
-/// What comes of a plan of a provider. An error is want of memory.
-fn of_provider(planned: Result<Plan, NodeFault>) -> Result<Planned, AllocError>
-    ensures { IfOk result (λ x. ComesOf planned x) }
-{
-    match planned {
-        Ok(plan) => Ok(Planned::Acts(Work::Provider(plan))),
-        Err(NodeFault::Memory) => Err(AllocError),
-        Err(fault) => Ok(Planned::Idle(Outcome::Refused(fault))),
-    }
-}
-
-/// What an event comes to at an operator of that party. An error is want of memory.
-fn plan_operator(
-    places: &[Place],
-    party: &Party,
-    operator: &Operator,
-    kind: &EventKind,
-) -> Result<Planned, AllocError>
-    ensures { IfOk result (λ x. IsPlanned (places_seen places.now) party.now (Operates operator.now.state) kind.now x) }
-{
-    match kind {
-        EventKind::Submit { .. } | EventKind::Token { .. } => Ok(Planned::Idle(Outcome::Skipped)),
-        EventKind::Service {
-            evse_uid,
-            in_service,
-        } => {
-            let plan = operator.plan_service(evse_uid.key(), *in_service)?;
-            Ok(Planned::Acts(Work::Operator(plan)))
-        }
-        EventKind::Charger { at, event } => of_operator(operator.plan_charger(*at, event)),
-        EventKind::Deliver { at, from, serial } => match delivered(places, party, from, *serial) {
-            Some(packet) => of_operator(operator.plan_packet(*at, packet)),
-            None => Ok(Planned::Idle(Outcome::Skipped)),
-        },
-        EventKind::Tick { at } => of_operator(operator.plan_tick(*at)),
-        EventKind::Restart => Ok(Planned::Acts(Work::Restart)),
-        EventKind::Refused => Ok(Planned::Idle(Outcome::Stepped)),
-    }
-}
-
-/// What an event comes to at a provider of that party. An error is want of memory.
-fn plan_provider(
-    places: &[Place],
-    party: &Party,
-    provider: &Provider,
-    kind: &EventKind,
-) -> Result<Planned, AllocError>
-    ensures { IfOk result (λ x. IsPlanned (places_seen places.now) party.now (Provides provider.now.state) kind.now x) }
+/// What an event that is not refused by the storing brings to the node of that party. None, where the packet that it
+/// would deliver was not sent, or not to that party.
+fn input_of<'w>(places: &'w [Place], party: &Party, kind: &'w EventKind) -> Option<NodeInput<'w>>
+    ensures some { IfSome result (λ i. Brings (places_seen places.now) party.now kind.now i) }
+    ensures none { IfNone result (BringsNothing (places_seen places.now) party.now kind.now) }
 {
     match kind {
         EventKind::Submit {
             at,
             operator,
             order,
-        } => of_provider(provider.plan_order(*at, operator, order)),
-        EventKind::Token { at, token } => of_provider(provider.plan_token(*at, token)),
-        EventKind::Service { .. } | EventKind::Charger { .. } => {
-            Ok(Planned::Idle(Outcome::Skipped))
+        } => Some(NodeInput::Submit {
+            at: *at,
+            operator,
+            order,
+        }),
+        EventKind::Token { at, token } => Some(NodeInput::Token { at: *at, token }),
+        EventKind::Service {
+            evse_uid,
+            in_service,
+        } => Some(NodeInput::Service {
+            evse_uid: evse_uid.key(),
+            in_service: *in_service,
+        }),
+        EventKind::Charger { at, event } => Some(NodeInput::Charger { at: *at, event }),
+        EventKind::Deliver { at, from, serial } => {
+            let packet = delivered(places, party, from, *serial)?;
+            Some(NodeInput::Arrives { at: *at, packet })
         }
-        EventKind::Deliver { at, from, serial } => match delivered(places, party, from, *serial) {
-            Some(packet) => of_provider(provider.plan_packet(*at, packet)),
-            None => Ok(Planned::Idle(Outcome::Skipped)),
-        },
-        EventKind::Tick { at } => of_provider(provider.plan_tick(*at)),
-        EventKind::Restart => Ok(Planned::Acts(Work::Restart)),
-        EventKind::Refused => Ok(Planned::Idle(Outcome::Stepped)),
+        EventKind::Tick { at } => Some(NodeInput::Tick { at: *at }),
+        EventKind::Restart => Some(NodeInput::Restart),
+        EventKind::Refused => None,
+    }
+}
+
+/// What an event comes to at a place, whose storing was not refused. An error is want of memory.
+fn plan_taken(places: &[Place], place: &Place, kind: &EventKind) -> Result<Planned, AllocError>
+    requires { kind.now ≢ kinds.Refused }
+    ensures { IfOk result (λ x. IsPlanned (places_seen places.now) place.now.party (state_of place.now.node) kind.now x) }
+{
+    let Some(input) = input_of(places, &place.party, kind) else {
+        return Ok(Planned::Idle(Outcome::Skipped));
+    };
+    let planned = place.node.plan(&input)?;
+    match planned {
+        NodePlanned::Skipped => Ok(Planned::Idle(Outcome::Skipped)),
+        NodePlanned::Refused(fault) => Ok(Planned::Idle(Outcome::Refused(fault))),
+        NodePlanned::Acts(work) => Ok(Planned::Acts(work)),
     }
 }
 
 /// What an event comes to at a place. An error is want of memory.
 pub(crate) fn plan(places: &[Place], place: &Place, kind: &EventKind) -> Result<Planned, AllocError>
-    ensures { IfOk result (λ x. IsPlanned (places_seen places.now) place.now.party (node_seen place.now.node) kind.now x) }
+    ensures { IfOk result (λ x. IsPlanned (places_seen places.now) place.now.party (state_of place.now.node) kind.now x) }
 {
-    match &place.node {
-        Node::Operator(operator) => plan_operator(places, &place.party, operator, kind),
-        Node::Provider(provider) => plan_provider(places, &place.party, provider, kind),
+    match kind {
+        EventKind::Refused => Ok(Planned::Idle(Outcome::Stepped)),
+        _ => plan_taken(places, place, kind),
     }
 }

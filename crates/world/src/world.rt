@@ -3,19 +3,20 @@
 ghost use Rattle.std.specs.Prelude.{◌≡◌, ◌≢◌, List, [], None, IfOk, OnErr, OnOk, drop};
 ghost use Rattle.ocpi_text.specs.Text.{key};
 ghost use Rattle.ocpi_types.specs.declared.events.Event.{Event as EventOf};
-ghost use Rattle.world.specs.Seen.{node_seen, packets_sent, places_seen, told, told_in, versions_left};
-ghost use Rattle.world.specs.State.{owed_by, owed_of, past_by};
+ghost use Rattle.world.specs.Seen.{packets_sent, places_seen, told, told_in, versions_left};
+ghost use Rattle.world.specs.State.{owed_by, past_by};
 ghost use Rattle.world_laws.specs.Later.{IsLater};
 ghost use Rattle.world_laws.specs.Laws.{IsReached, IsRight};
 ghost use Rattle.world_steps.specs.Steps.{Gives, WorldRun};
 ghost use Rattle.world_steps.specs.World.{World as WorldOf, opened};
 
 use crate::finding::{find, of_party};
-use crate::opening::{nodes_of, open_all};
+use crate::opening::open_all;
 use crate::past::Past;
-use crate::place::{Node, Place};
+use crate::place::Place;
 use crate::planned::{Outcome, Planned, Sending, Told};
 use crate::planning::plan;
+use node_core::nodes_of;
 use ocpi_text::{CiKey, Party, ShortText};
 use ocpi_types::{Change, Event, Packet, Session, Setup};
 use std::alloc::{AllocError, Global};
@@ -99,16 +100,6 @@ impl Place {
             &[]
         }
     }
-
-    /// What the node owes to an operator in a currency.
-    fn owed(&self, operator: &Party, currency: ShortText<3, 12>) -> i128
-        ensures { result ≡ owed_of (node_seen self.now.node) (key operator.now, currency) }
-    {
-        match &self.node {
-            Node::Operator(_) => 0,
-            Node::Provider(provider) => provider.settlement(operator, currency),
-        }
-    }
 }
 
 /// The packets that a step sent.
@@ -150,7 +141,7 @@ fn owed_among(
     ensures { result ≡ owed_by (places_seen places.now) provider.now (key operator.now, currency) }
 {
     match of_party(places, provider) {
-        Some(place) => place.owed(operator, currency),
+        Some(place) => place.node.settlement(operator, currency),
         None => 0,
     }
 }

@@ -1,5 +1,5 @@
 use Rattle.std.proofs.Common.{arith}
-use Rattle.world.proofs.Lists.{flat_step}
+use Rattle.node_core.proofs.Lists.{flat_step}
 use Rattle.world.proofs.carrying.versions_put.Goals as goal
 use Rattle.world_steps.specs.Steps.{version_put}
 

@@ -11,9 +11,9 @@ use mir.Val.{of_z, to_z}
 pub returns-in-Some : goal.returns-in-Some
 returns-in-Some c =
     let account : Account = (key c.args.operator.now, c.args.currency) in
-    let is : c.owed.result ≡ owed_by (places_seen c.args.places.now) c.args.provider.now account =
-    c.owed.ensures ∙ sym (owed_at c.args.provider.now account c.args.places.now c.in-Some.place.now c.in-Some.ensures.found) in
-    subst (λ (z : ℤ). to_z w128 (of_z w128 c.owed.result) ≡ z) is (search rules)
+    let is : c.settlement.result ≡ owed_by (places_seen c.args.places.now) c.args.provider.now account =
+    c.settlement.ensures ∙ sym (owed_at c.args.provider.now account c.args.places.now c.in-Some.place.now c.in-Some.ensures.found) in
+    subst (λ (z : ℤ). to_z w128 (of_z w128 c.settlement.result) ≡ z) is (search rules)
 
 pub returns-in-None : goal.returns-in-None
 returns-in-None c = sym (owed_nowhere c.args.provider.now (key c.args.operator.now, c.args.currency) c.args.places.now c.in-None.ensures.none)

@@ -1,13 +1,16 @@
 use Rattle.std.proofs.Common.{◌∙◌, ℕ, List, ap, arith, length, subst, sym}
 use Rattle.std.specs.Prelude.{slice_set}
 use Rattle.std.proofs.lemmas.Option.{same_Some, slice_get_within}
+use Rattle.node_core.specs.States.{state_of}
+use Rattle.node_core.specs.Works.{MayDo, packets_by}
 use Rattle.ocpi_types.specs.declared.packet.Packet.{Packet}
 use Rattle.ocpi_types.specs.declared.rows.Change.{Change}
+use Rattle.stored_laws.specs.Nodes.{IsWhole}
 use Rattle.world.proofs.Steps.{idle_gives, is_whole, may_do, none_gives, on_err_always, place_here, told_idle, told_work, unchanged, work_gives}
 use Rattle.world.proofs.world.step_places.Goals as goal
 use Rattle.world.specs.Deliveries.{IsPlaceOf}
-use Rattle.world.specs.Seen.{node_seen, places_seen}
-use Rattle.world.specs.Works.{IsPlanned, IsWork, MayDo, packets_by}
+use Rattle.world.specs.Seen.{places_seen}
+use Rattle.world.specs.Works.{AsksFor, IsPlanned}
 use Rattle.world.specs.declared.place.Place.{Place}
 use Rattle.world.specs.declared.planned.Outcome.TheVariants as outcome
 use Rattle.world.specs.declared.planned.Planned.{Planned}
@@ -46,14 +49,14 @@ returns-in-Idle-clause-ok c =
     let o = c.in-Idle.outcome in
     let found = subst (λ (l : List Place). (p : Place) × IsPlaceOf l e.node i p) c.as_slice.ensures.value c.in-Some.ensures.found in
     let at = place_here ps e.node i found.0 x found.1 c.index.ensures in
-    let planned = subst (λ (l : List Place). IsPlanned (places_seen l) x.party (node_seen x.node) e.kind c.in_ok-outcome.field-0) c.as_slice-2.ensures.value c.in_ok-outcome.ensures in
-    let idle = subst (λ (z : Planned). IsPlanned w x.party (node_seen x.node) e.kind z) c.in-Idle.is planned in
+    let planned = subst (λ (l : List Place). IsPlanned (places_seen l) x.party (state_of x.node) e.kind c.in_ok-outcome.field-0) c.as_slice-2.ensures.value c.in_ok-outcome.ensures in
+    let idle = subst (λ (z : Planned). IsPlanned w x.party (state_of x.node) e.kind z) c.in-Idle.is planned in
     let t = c.idle-in-Idle in
     subst (λ (z : steps.Outcome). Gives w e z w) (sym (told_idle w t.result o t.ensures.outcome t.ensures.sending t.ensures.changes)) (idle_gives ps e i x o at idle)
 
 -- the event leads to work
-pub carry_out-requires : goal.carry_out-requires
-carry_out-requires c =
+pub carry_out-requires-clause-may : goal.carry_out-requires-clause-may
+carry_out-requires-clause-may c =
     let ps = c.args.places.now.items in
     let w = places_seen ps in
     let e = c.args.event.now in
@@ -63,10 +66,19 @@ carry_out-requires c =
     let found = subst (λ (l : List Place). (p : Place) × IsPlaceOf l e.node i p) c.as_slice.ensures.value c.in-Some.ensures.found in
     let at = place_here ps e.node i found.0 x found.1 c.index.ensures in
     let there = place_here ps e.node i found.0 y found.1 c.index_mut-place.ensures.value in
-    let planned = subst (λ (l : List Place). IsPlanned (places_seen l) x.party (node_seen x.node) e.kind c.in_ok-outcome.field-0) c.as_slice-2.ensures.value c.in_ok-outcome.ensures in
-    let work = subst (λ (z : Planned). IsPlanned w x.party (node_seen x.node) e.kind z) c.in-Acts.is planned in
-    let whole = is_whole c.operators_are_whole.ensures c.providers_are_whole.ensures ps e.node i x c.requires at in
-    subst (λ (z : Place). MayDo (node_seen z.node) c.in-Acts.work) (same_Some x y (sym at.here ∙ there.here)) (may_do w x.party (node_seen x.node) e.kind c.in-Acts.work whole work)
+    let planned = subst (λ (l : List Place). IsPlanned (places_seen l) x.party (state_of x.node) e.kind c.in_ok-outcome.field-0) c.as_slice-2.ensures.value c.in_ok-outcome.ensures in
+    let asks = subst (λ (z : Planned). IsPlanned w x.party (state_of x.node) e.kind z) c.in-Acts.is planned in
+    subst (λ (z : Place). MayDo (state_of z.node) c.in-Acts.work) (same_Some x y (sym at.here ∙ there.here)) (may_do w x.party (state_of x.node) e.kind c.in-Acts.work asks)
+
+pub carry_out-requires-clause-whole : goal.carry_out-requires-clause-whole
+carry_out-requires-clause-whole c =
+    let ps = c.args.places.now.items in
+    let e = c.args.event.now in
+    let i = c.in-Some.i in
+    let y = c.index_mut-place.result.now in
+    let found = subst (λ (l : List Place). (p : Place) × IsPlaceOf l e.node i p) c.as_slice.ensures.value c.in-Some.ensures.found in
+    let there = place_here ps e.node i found.0 y found.1 c.index_mut-place.ensures.value in
+    is_whole c.operators_are_whole.ensures c.providers_are_whole.ensures ps e.node i y c.requires there
 
 pub returns-in_err-changes-in-Acts-clause-err : goal.returns-in_err-changes-in-Acts-clause-err
 returns-in_err-changes-in-Acts-clause-err c =
@@ -86,9 +98,9 @@ returns-in_ok-changes-in-Acts-clause-ok c =
     let found = subst (λ (l : List Place). (p : Place) × IsPlaceOf l e.node i p) c.as_slice.ensures.value c.in-Some.ensures.found in
     let at = place_here ps e.node i found.0 x found.1 c.index.ensures in
     let there = place_here ps e.node i found.0 y found.1 c.index_mut-place.ensures.value in
-    let planned = subst (λ (l : List Place). IsPlanned (places_seen l) x.party (node_seen x.node) e.kind c.in_ok-outcome.field-0) c.as_slice-2.ensures.value c.in_ok-outcome.ensures in
-    let at_x = subst (λ (q : Planned). IsPlanned w x.party (node_seen x.node) e.kind q) c.in-Acts.is planned in
-    let work = subst (λ (q : Place). IsWork w q.party (node_seen q.node) e.kind d) (same_Some x y (sym at.here ∙ there.here)) at_x in
+    let planned = subst (λ (l : List Place). IsPlanned (places_seen l) x.party (state_of x.node) e.kind c.in_ok-outcome.field-0) c.as_slice-2.ensures.value c.in_ok-outcome.ensures in
+    let at_x = subst (λ (q : Planned). IsPlanned w x.party (state_of x.node) e.kind q) c.in-Acts.is planned in
+    let work = subst (λ (q : Place). AsksFor w q.party (state_of q.node) e.kind d) (same_Some x y (sym at.here ∙ there.here)) at_x in
     let from = length c.as_slice-from.result.now in
     let len = ap length c.as_slice-from.ensures.value in
     let packets = told_work ps i from y z d there.here len c.in_ok-changes-in-Acts.ensures.ok in

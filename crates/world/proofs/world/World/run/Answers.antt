@@ -1,6 +1,6 @@
 use Rattle.std.proofs.Common.{List, arith, subst, sym, take}
+use Rattle.node_core.proofs.Lists.{front_more}
 use Rattle.ocpi_types.specs.declared.events.Event.{Event}
-use Rattle.world.proofs.Lists.{front_more}
 use Rattle.world.proofs.Steps.{run_more}
 use Rattle.world.proofs.world.World.run.Goals as goal
 use Rattle.world.specs.Seen.{told}

@@ -1,6 +1,0 @@
-use Rattle.std.proofs.Common.{◌≡◌, take}
-use Rattle.world.proofs.opening.operators.Given as goal
-use Rattle.world_steps.specs.World.{operators_of}
-
-abbrev pub invariant-loop-member : goal.invariant-loop-member
-invariant-loop-member l = l.parties.items ≡ operators_of (take l.member-index l.nodes)

@@ -1,6 +1,0 @@
-use Rattle.std.proofs.Common.{◌≡◌, take}
-use Rattle.world.proofs.opening.providers.Given as goal
-use Rattle.world_steps.specs.World.{providers_of}
-
-abbrev pub invariant-loop-member : goal.invariant-loop-member
-invariant-loop-member l = l.parties.items ≡ providers_of (take l.member-index l.nodes)
