@@ -1,5 +1,5 @@
 -- What an event brings to a node.
-use Rattle.std.proofs.Common.{◌≡◌, ℕ, Bool, List, refl}
+use Rattle.std.proofs.Common.{◌≡◌, ℕ, Bool, List, refl, subst, sym}
 use Rattle.std.specs.Borrow.{Bor}
 use Rattle.node_core.specs.Inputs.{Gets}
 use Rattle.node_core.specs.declared.input.NodeInput.{NodeInput}
@@ -19,13 +19,13 @@ use Rattle.world_steps.specs.World.{NodeState, Operates, Provides, World}
 
 module _ (w : World) (party : List ℕ) where
   -- what each node gets is just what reaches it
-  IsSame : EventKind → NodeInput → Type 0
+  abbrev IsSame : EventKind → NodeInput → Type 0
   IsSame k i = (n : NodeState) (x : Input) → (Gets n i x → Reaches w party n k x) × (Reaches w party n k x → Gets n i x)
 
   brings_same : (k : EventKind) (i : NodeInput) → IsSame k i → Brings w party k i
   brings_same k i same = record { reaches = λ n x. (same n x).0; nothing = λ n none x h. none x ((same n x).1 h) }
 
-  pub brings_order : (at : ℕ) (to : Bor (List ℕ)) (order : Bor Order) → Brings w party (kind.Submit at to.now order.now) (input.Submit at to order)
+  brings_order : (at : ℕ) (to : Bor (List ℕ)) (order : Bor Order) → Brings w party (kind.Submit at to.now order.now) (input.Submit at to order)
   brings_order at to order = brings_same (kind.Submit at to.now order.now) (input.Submit at to order) same
     where
       same : IsSame (kind.Submit at to.now order.now) (input.Submit at to order)
@@ -34,7 +34,10 @@ module _ (w : World) (party : List ℕ) where
       same (Provides s) (OfOperator x) = (λ h. h, λ h. h)
       same (Provides s) (OfProvider x) = (λ h. h, λ h. h)
 
-  pub brings_token : (at : ℕ) (token : Bor Token) → Brings w party (kind.Token at token.now) (input.Token at token)
+  pub order_brought : (k : EventKind) (at : ℕ) (to : Bor (List ℕ)) (order : Bor Order) → k ≡ kind.Submit at to.now order.now → Brings w party k (input.Submit at to order)
+  order_brought k at to order is = subst (λ (x : EventKind). Brings w party x (input.Submit at to order)) (sym is) (brings_order at to order)
+
+  brings_token : (at : ℕ) (token : Bor Token) → Brings w party (kind.Token at token.now) (input.Token at token)
   brings_token at token = brings_same (kind.Token at token.now) (input.Token at token) same
     where
       same : IsSame (kind.Token at token.now) (input.Token at token)
@@ -42,6 +45,9 @@ module _ (w : World) (party : List ℕ) where
       same (Operates s) (OfProvider x) = (λ h. h, λ h. h)
       same (Provides s) (OfOperator x) = (λ h. h, λ h. h)
       same (Provides s) (OfProvider x) = (λ h. h, λ h. h)
+
+  pub token_brought : (k : EventKind) (at : ℕ) (token : Bor Token) → k ≡ kind.Token at token.now → Brings w party k (input.Token at token)
+  token_brought k at token is = subst (λ (x : EventKind). Brings w party x (input.Token at token)) (sym is) (brings_token at token)
 
   pub brings_service : (evse : List ℕ) (in_service : Bool) → Brings w party (kind.Service evse in_service) (input.Service (key evse) in_service)
   brings_service evse in_service = brings_same (kind.Service evse in_service) (input.Service (key evse) in_service) same

@@ -16,6 +16,7 @@ use std::alloc::AllocError;
 
 /// What an event that is not refused by the storing brings to the node of that party. None, where the packet that it
 /// would deliver was not sent, or not to that party.
+#[tactic(auto, using(crate::proofs::Bringing::order_brought, crate::proofs::Bringing::token_brought, crate::proofs::Bringing::brings_service, crate::proofs::Bringing::brings_report, crate::proofs::Bringing::brings_packet, crate::proofs::Bringing::brings_tick, crate::proofs::Bringing::brings_restart))]
 fn input_of<'w>(places: &'w [Place], party: &Party, kind: &'w EventKind) -> Option<NodeInput<'w>>
     ensures some { IfSome result (λ i. Brings (places_seen places.now) party.now kind.now i) }
     ensures none { IfNone result (BringsNothing (places_seen places.now) party.now kind.now) }
