@@ -84,7 +84,7 @@ module _ {K : Type 0} (keeper : Keeper K) where
   unchanged : (old new : Stored K) → new.state ≡ old.state → new.keep ≡ old.keep → new ≡ old
   unchanged old new s k = ap (λ (n : NodeState). record { state = n; keep = new.keep }) s ∙ ap (λ (q : K). record { state = old.state; keep = q }) k
 
-  pub failed : (old new : Stored K) (k : NodeEventKind) (i : NodeInput) (x : NodeWork) (r : Result Applied ApplyFault) → SaysTheSame i k → IsWork old.state i x →
+  pub failed : {A : Type 0} (old new : Stored K) (k : NodeEventKind) (i : NodeInput) (x : NodeWork) (r : Result A ApplyFault) → SaysTheSame i k → IsWork old.state i x →
       OnErr r (new.state ≡ old.state) → IfErr r (λ f. IsNotCarriedOut keeper x old.keep f new.keep) → IfErr r (λ f. Fails keeper old k f new)
   failed old new k i x (Ok a) says is same err = tt
   failed old new k i x (Err (fault.Store refusal)) says is same err = (err.0, loses old new k i x suc says is same err.1)

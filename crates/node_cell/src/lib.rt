@@ -13,4 +13,4 @@ mod fault;
 mod stored_node;
 
 pub use fault::{ApplyFault, ReopenFault};
-pub use stored_node::{Applied, Reopened, StoredNode, Unopened};
+pub use stored_node::{Applied, Reopened, StoredNode, Unopened, input_of};

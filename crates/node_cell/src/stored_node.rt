@@ -12,6 +12,7 @@ ghost use Rattle.node_cell.specs.Stored.{
   IsNotBad,
   IsNotCarriedOut,
   IsReopenFault,
+  IsStored,
   Reopens,
   SaysTheSame,
   unloaded,
@@ -105,7 +106,7 @@ pub struct Unopened<K> {
 }
 
 /// What an event brings to a node, if anything: one whose storing was refused brings nothing.
-fn input_of(kind: &NodeEventKind) -> Option<NodeInput<'_>>
+pub fn input_of(kind: &NodeEventKind) -> Option<NodeInput<'_>>
     ensures some { IfSome result (λ i. SaysTheSame i kind.now) }
     ensures none { IfNone result (kind.now ≡ event.Refused) }
 {
@@ -286,14 +287,14 @@ impl<K: Keep> StoredNode<K> {
     }
 
     /// What comes of what reaches the node, before anything changes. An error is want of memory.
-    fn plan(&self, input: &NodeInput<'_>) -> Result<Planned, AllocError>
+    pub fn plan(&self, input: &NodeInput<'_>) -> Result<Planned, AllocError>
         ensures { IfOk result (λ x. IsPlanned self.now.state input.now x) }
     {
         self.node.plan(input)
     }
 
     /// The node does its work, once its changes are committed. A refusal changes nothing.
-    fn carry_out(&mut self, work: NodeWork) -> Result<Applied, ApplyFault>
+    pub fn carry_out(&mut self, work: NodeWork) -> Result<Applied, ApplyFault>
         requires { (i : NodeInputOf) × IsWork self.old.state i work }
         ensures state { OnOk result (self.new.state ≡ node_after work self.old.state) }
         ensures ok { IfOk result (λ a. IsCarriedOut (keeper_of K.content K.is_honest K.refusals K.may_leave) work self.old.keep a self.new.keep) }
@@ -305,6 +306,13 @@ impl<K: Keep> StoredNode<K> {
         restarts_are_held();
         alike_are_classes();
         carry_out(&mut self.node, &mut self.keep, work)
+    }
+
+    /// What holds of every node over its keeper at any time, which its type keeps. It does nothing.
+    pub fn is_stored(&self)
+        ensures { IsStored (keeper_of K.content K.is_honest K.refusals K.may_leave) self.now }
+    {
+        let _keep = &self.keep;
     }
 
     /// The node, as the last event left it.
