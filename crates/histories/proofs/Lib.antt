@@ -1,0 +1,3 @@
+pub mod Lists
+pub mod WovenLists
+pub mod Excluding

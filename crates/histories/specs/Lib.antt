@@ -1,0 +1,4 @@
+pub mod Entries
+pub mod Weaving
+pub mod Causes
+pub mod Laws
