@@ -1,12 +1,14 @@
 """The part `kept_nodes` of the cases of the program `case_lines`: nodes over keepers in lists, and what then happens at them.
 
-The events are those of the charge of `stored_charge` at each of its two nodes, with the packets and rows that are told there: it goes
-through; it goes on over what is kept behind each event; and each of its commits is refused in turn. Beside them stand events that
-change nothing.
+The events are those of the charge of `stored_charge` at each of its two nodes, with the packets and rows that are told there, and
+behind them one request that comes again: they go through; they go on over what is kept behind each event; and each of their commits
+is refused in turn. Beside them stand events that change nothing.
 """
-from operator_case import moment, reference, text, token
-from stored_charge import SETUP, rows_of_charge
+import re
+
+from operator_case import moment, text, token
 from stored_case import puts
+from stored_charge import REPLIES, SETUP, rows_of_charge
 
 PARTIES = ("BE/BEC", "NL/TNM")
 REFUSED = "store 1 Refused"
@@ -34,7 +36,17 @@ def events_of(party):
         events.append((event_line, [*sent, "changed" if rows else "unchanged"], puts(node.listed())))
 
     rows_of_charge(party, step)
-    return events
+    return [*events, repeated(events)]
+
+
+def repeated(events):
+    """The last request that was answered comes once more: its reply is sent again, under the next serial, and nothing else happens."""
+    sent = sum(len(gives) - 1 for _, gives, _ in events)
+    answered = [(given, gives[0]) for given, gives, _ in events if any('"kind":"%s"' % kind in gives[0] for kind in REPLIES)]
+    given, reply = answered[-1]
+    counted = 'put count serial {"last":%d}'
+    rows = [counted % (sent + 1) if row == counted % sent else row for row in events[-1][2]]
+    return given, [re.sub(r'"serial":\d+', '"serial":%d' % (sent + 1), reply), "changed"], rows
 
 
 def opened(party, setup=SETUP):
