@@ -24,7 +24,7 @@ use Rattle.node_history.specs.declared.fault.CellFault.TheVariants as fault
 
 -- what was noted at first is told, whatever the node is now
 first_stays : {K : Type 0} (noted : List (Stored K)) (s t : Stored K) → length noted ≡ 1 → first_of noted s ≡ first_of noted t
-first_stays [] s t one = omega (arith, one)
+first_stays [] s t one = absurd (omega (arith, one))
 first_stays (x ∷ xs) s t one = refl
 
 -- ---- what a stop may leave
@@ -66,7 +66,7 @@ module _ {K : Type 0} (keeper : Keeper K) where
   entry_step old new e (cells.StoredStep.Idle idle same) = histories.EntryStep.Idle idle
 
   -- what a stop may leave of a node over its keeper
-  Leaves : NodeState → Stored K → List Entry → Type 0
+  abbrev Leaves : NodeState → Stored K → List Entry → Type 0
   Leaves first s history = keeper.is_honest s.keep → (c : Content) → keeper.may_leave s.keep c → IsLeft first s.state history c
 
   -- ---- an event was entered
@@ -85,7 +85,7 @@ module _ {K : Type 0} (keeper : Keeper K) where
       left_quietly first old new history e h same (histories.EntryStep.Idle idle, tt)
 
   -- the cell, with its first state told
-  at : List ℕ → NodeState → List Entry → Bool → Stored K → Cell K
+  abbrev at : List ℕ → NodeState → List Entry → Bool → Stored K → Cell K
   at party first history is_fresh s = record { party = party; first = first; state = s.state; keep = s.keep; history = history; is_fresh = is_fresh }
 
   added : (party : List ℕ) (first : NodeState) (before after : List Entry) (is_fresh : Bool) (old new : Stored K) (e : Entry) → IsCell keeper (at party first before is_fresh old) → IsStored keeper new →
@@ -189,10 +189,13 @@ module _ {K : Type 0} (keeper : Keeper K) where
   }
 
   -- nothing has happened yet
-  pub begins : (party : List ℕ) (noted : List (Stored K)) (is_fresh : Bool) (s : Stored K) → noted ≡ s ∷ [] → IsStored keeper s → IsSettled keeper s.keep → (is_fresh ≡ true → IsOpening party s.state) →
-      IsCell keeper (cell_of party noted [] is_fresh s) × (length noted ≡ 1)
-  begins party noted is_fresh s is stored settled opens =
-      (subst (λ (l : List (Stored K)). IsCell keeper (cell_of party l [] is_fresh s)) (sym is) (at_first party is_fresh s stored settled opens), ap length is)
+  pub begins : (party : List ℕ) (noted : List (Stored K)) (history : List Entry) (is_fresh : Bool) (s : Stored K) → history ≡ [] → noted ≡ s ∷ [] → IsStored keeper s → IsSettled keeper s.keep →
+      (is_fresh ≡ true → IsOpening party s.state) → IsCell keeper (cell_of party noted history is_fresh s) × (length noted ≡ 1)
+  begins party noted history is_fresh s empty is stored settled opens = (
+    subst (λ (es : List Entry). IsCell keeper (cell_of party noted es is_fresh s)) (sym empty)
+        (subst (λ (l : List (Stored K)). IsCell keeper (cell_of party l [] is_fresh s)) (sym is) (at_first party is_fresh s stored settled opens)),
+    ap length is,
+  )
 
   -- of a keeper that was read a stop leaves no more than before
   pub settled_on : (before after : K) → IsSettled keeper before → KeepsOn keeper before after → IsSettled keeper after
