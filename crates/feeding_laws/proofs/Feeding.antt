@@ -1,5 +1,5 @@
 -- An event that reaches a node once more after a stop.
-use Rattle.std.proofs.Common.{◌≡◌, ◌+◌, ℕ, List, [], ◌∷◌, length, refl, sym, ap, subst, ◌∙◌, arith}
+use Rattle.std.proofs.Common.{◌≡◌, ◌+◌, ℕ, List, [], ◌∷◌, length, refl, ap, ◌∙◌, arith}
 use Rattle.std.specs.Prelude.{◌↔◌}
 use Rattle.tables.proofs.Elements.{not_none}
 use Rattle.ocpi_types.specs.declared.packet.Packet.{Packet}
@@ -11,8 +11,8 @@ use Rattle.provider_rows.specs.State as provider_state
 use Rattle.provider_rows.specs.Steps as provider_rows
 use Rattle.provider_steps.specs.Events as provider
 use Rattle.provider_laws.proofs.nodes.NodeSteps as provider_nodes
-use Rattle.stored_laws.specs.Nodes.{IsSound, last_serial, restarted}
-use Rattle.world_steps.specs.Network.{Input, OfOperator, OfProvider}
+use Rattle.stored_laws.specs.Nodes.{restarted}
+use Rattle.world_steps.specs.Network.{OfOperator, OfProvider}
 use Rattle.world_steps.specs.Steps as steps
 use Rattle.world_steps.specs.Steps.{AtOperator, AtProvider, NodeEvent, NodeRefuses, NodeStep, OperatorDoes, ProviderDoes, input_of, packets_of}
 use Rattle.world_steps.specs.World.{NodeState, Operates, Provides}

@@ -11,7 +11,7 @@ use Rattle.operator_rows.specs.Sound.{IsConsistent}
 use Rattle.operator_rows.specs.Steps.{restarted}
 use Rattle.operator_steps.specs.Events as events
 use Rattle.operator_steps.specs.Events.{Arrives, Asks, Event, Input, Reports, Restarts, Serves, Ticks, event_out}
-use Rattle.operator_steps.specs.Moves.{AreInRange, Out, StepBy, Work, acted, quiet}
+use Rattle.operator_steps.specs.Moves.{AreInRange, Out, StepBy, Work, acted}
 use Rattle.operator_laws.proofs.events.Standing.{consistent_stays}
 use Rattle.world_steps.specs.Steps.{Done, OperatorDoes, OperatorRefuses, Restarted}
 use Rattle.feeding_laws.proofs.OperatorFeeding.{IsSafe, packet_safe, report_silent, safe_same, service_safe, unchanged}

@@ -1,11 +1,11 @@
 -- An event that reaches an operator once more, where it sent nothing and no time passed.
-use Rattle.std.proofs.Common.{◌≡◌, ◌⊎◌, ℕ, Bool, true, false, not, List, [], ◌∷◌, ◌++◌, inl, inr, refl, sym, ap, subst, ◌∙◌}
-use Rattle.std.specs.Prelude.{◌↔◌, Contains, None, Some, Option, is_some}
+use Rattle.std.proofs.Common.{◌≡◌, ◌+◌, ℕ, Bool, true, false, not, List, [], ◌∷◌, length, inl, inr, refl, sym, ap, subst, ◌∙◌, arith}
+use Rattle.std.specs.Prelude.{◌↔◌, None, Some, Option, is_some}
 use Rattle.std.specs.Cmp.{nat_cmp_total}
 use Rattle.std.specs.Ordering.{nat_cmp}
-use Rattle.std.specs.FinMap.{contains_key, empty, get, get-empty, insert, nat_cmp-IsAntisymmetric, remove}
+use Rattle.std.specs.FinMap.{empty, get, get-empty, insert, nat_cmp-IsAntisymmetric, remove}
 use Rattle.tables.specs.Keys.{text_exact, text_total}
-use Rattle.tables.proofs.Elements.{in_front, in_none}
+use Rattle.tables.proofs.Elements.{in_none}
 use Rattle.tables.proofs.Maps.{get-insert_same, get-remove_same, remove_absent}
 use Rattle.tables.proofs.Options.{not_both}
 use Rattle.ocpi_text.specs.Text.{key}
@@ -23,10 +23,8 @@ use Rattle.ocpi_types.specs.declared.sessions.Session.{Session}
 use Rattle.ocpi_types.specs.declared.stored.Command.{Command}
 use Rattle.ocpi_types.specs.declared.stored.Command.TheVariants as command
 use Rattle.ocpi_types.specs.declared.token.Token.{Token}
-use Rattle.outbox.specs.Outbox.{IsTo, request_of, without}
-use Rattle.outbox.specs.Pushes.{Pushes}
+use Rattle.outbox.specs.Outbox.{request_of, without}
 use Rattle.outbox.specs.Resend.{Resend}
-use Rattle.outbox.specs.declared.push_book.Outgoing.{Outgoing}
 use Rattle.session_tables.specs.declared.beginning.Beginning.{Beginning}
 use Rattle.site_book.specs.Sites.{OutOfService, works}
 use Rattle.node_steps.specs.Acts as act
@@ -37,19 +35,19 @@ use Rattle.operator_rows.specs.State.{State}
 use Rattle.operator_rows.specs.Steps.{after, after_full, restarted, untimed, untimed_all}
 use Rattle.operator_rows.specs.Stored.{change_key, changed}
 use Rattle.operator_steps.specs.Acts.{spent, used}
-use Rattle.operator_steps.specs.Asking as asking
 use Rattle.operator_steps.specs.Asking.{AnswerActs}
 use Rattle.operator_steps.specs.Charger as charger
 use Rattle.operator_steps.specs.Charger.{ChargerLine}
 use Rattle.operator_steps.specs.Ends.{ends_acts}
-use Rattle.operator_steps.specs.Events.{Arrives, Asks, Input, Reports, Serves}
+use Rattle.operator_steps.specs.Events.{Arrives, Asks, Input, Serves}
 use Rattle.operator_steps.specs.Moves.{AreInRange, Work, acted, counters_of, quiet, step_of_acts}
 use Rattle.operator_steps.specs.Service as service
 use Rattle.operator_steps.specs.Service.{ServiceLine}
 use Rattle.operator_steps.specs.Sessions.{IsBegun, IsVersioned, numbered_sessions, replaced}
 use Rattle.operator_steps.specs.Steps as packets
 use Rattle.operator_steps.specs.Steps.{Acknowledges, Comes, PacketLine, TokenLine}
-use Rattle.feeding_laws.proofs.Sending.{Send, not_silent, send_left, send_right}
+use Rattle.operator_steps.proofs.Ends.{ends_send}
+use Rattle.feeding_laws.proofs.Sending.{Send, not_silent, send_first, send_left, send_right}
 
 -- what the input asks one operator for sends and leaves what it asks another for, and is in range where that is
 pub record Repeats (a b : State) (i : Input) (work : Work) : Type 0 where
@@ -159,14 +157,17 @@ module _ (s : State) (evse : List ℕ) (in_service : Bool) where
 
 module _ (s : State) (at : ℕ) where
   version_sends : (last : ℕ) (v : Session) (acts : List Act) → IsVersioned s at last v acts → Send acts
-  version_sends last v acts h = subst Send (sym h.acts_are) (send_right (replaced h.old) _ (_, in_front _ _))
+  version_sends last v acts h = subst Send (sym h.acts_are) (send_right (replaced h.old) _ (send_first _ _ _ _ refl))
 
-  begun_sends : (last n : ℕ) (b : Beginning) (acts : List Act) → IsBegun s at last n b acts → Send acts
+  pub begun_sends : (last n : ℕ) (b : Beginning) (acts : List Act) → IsBegun s at last n b acts → Send acts
   begun_sends last n b acts h = subst Send (sym h.acts_are) (send_right (used (key b.token.party) b.reservation_id) h.first (version_sends last _ h.first h.versioned))
 
   -- but for what is idle, each report sends something
   pub report_silent : (report : ChargerEvent) (work : Work) → ChargerLine s at report work → all_messages work.acts ≡ [] → work.acts ≡ []
-  report_silent report work (charger.Ended e ends is) none = not_silent work.acts (subst (λ (w : Work). Send w.acts) (sym is) (_, in_front _ _)) none
+  report_silent report work (charger.Ended e ends is) none =
+      let sent = ends_send at s.rows.commands.pending s.rows.request (e ∷ []) in
+      let zero = ap length (subst (λ (w : Work). all_messages w.acts ≡ []) is none) in
+      absurd (omega (arith, sent, zero))
   report_silent report work (charger.Started e b begun starts begins is) none =
       not_silent work.acts (subst (λ (w : Work). Send w.acts) (sym is) (send_right (numbered_sessions (s.rows.charged.last_session + 1) ∷ ends_acts at s.rows.commands.pending s.rows.request (e ∷ [])) begun
       (begun_sends (s.rows.request + 1) (s.rows.charged.last_session + 1) b begun begins))) none
@@ -174,7 +175,7 @@ module _ (s : State) (at : ℕ) where
       not_silent work.acts (subst (λ (w : Work). Send w.acts) (sym is) (subst Send (sym moved.acts_are) (send_left moved.version_acts moved.bill_acts (version_sends s.rows.request moved.after moved.version_acts moved.versioned)))) none
   report_silent report work (charger.Begun b begun shows begins is) none =
       not_silent work.acts (subst (λ (w : Work). Send w.acts) (sym is) (send_right (numbered_sessions (s.rows.charged.last_session + 1) ∷ []) begun (begun_sends s.rows.request (s.rows.charged.last_session + 1) b begun begins))) none
-  report_silent report work (charger.Asked t location place shows asked) none = not_silent work.acts (subst (λ (w : Work). Send w.acts) (sym asked.work_is) (_, in_front _ _)) none
+  report_silent report work (charger.Asked t location place shows asked) none = not_silent work.acts (subst (λ (w : Work). Send w.acts) (sym asked.work_is) (send_first _ _ _ _ refl)) none
   report_silent report work (charger.Idle ends starts moves shows is) none = ap (λ (w : Work). w.acts) is
 
 -- ---- packets
@@ -193,17 +194,17 @@ pub data PacketIsSilent (s : State) (q : Packet) (work : Work) : Type 0 where
 
 module _ (s : State) (at : ℕ) (q : Packet) where
   token_sends : (to sender : List ℕ) (n : ℕ) (t : Token) (acts : List Act) → TokenLine s at to sender n t acts → Send acts
-  token_sends to sender n t acts (packets.Foreign foreign is) = subst Send (sym is) (_, in_front _ _)
-  token_sends to sender n t acts (packets.Kept own older is) = subst Send (sym is) (_, in_front _ _)
-  token_sends to sender n t acts (packets.Stored own newer is) = subst Send (sym is) (_, in_front _ _)
+  token_sends to sender n t acts (packets.Foreign foreign is) = subst Send (sym is) (send_first _ _ _ _ refl)
+  token_sends to sender n t acts (packets.Kept own older is) = subst Send (sym is) (send_first _ _ _ _ refl)
+  token_sends to sender n t acts (packets.Stored own newer is) = subst Send (sym is) (send_first _ _ _ _ refl)
 
   answer_sends : (begins : Option Beginning) (acts : List Act) → AnswerActs s at begins acts → all_messages acts ≡ [] → acts ≡ []
   answer_sends None acts h none = h
   answer_sends (Some b) acts h none = not_silent acts (subst Send (sym h.2) (send_right (numbered_sessions (s.rows.charged.last_session + 1) ∷ spent (key b.token.party) b.authorization_reference) h.0 (begun_sends s at s.rows.request (s.rows.charged.last_session + 1) b h.0 h.1))) none
 
   pub packet_silent : (to : List ℕ) (work : Work) → PacketLine s at q to work → all_messages work.acts ≡ [] → PacketIsSilent s q work
-  packet_silent to work (packets.Again request r kept is) none = not_silent work.acts (subst (λ (w : Work). Send w.acts) (sym is) (_, in_front _ _)) none
-  packet_silent to work (packets.Decided c d decided is) none = not_silent work.acts (subst (λ (w : Work). Send w.acts) (sym is) (_, in_front _ _)) none
+  packet_silent to work (packets.Again request r kept is) none = not_silent work.acts (subst (λ (w : Work). Send w.acts) (sym is) (send_first _ _ _ _ refl)) none
+  packet_silent to work (packets.Decided c d decided is) none = not_silent work.acts (subst (λ (w : Work). Send w.acts) (sym is) (send_first _ _ _ _ refl)) none
   packet_silent to work (packets.Sent t acts token new line is) none = not_silent work.acts (subst (λ (w : Work). Send w.acts) (sym is) (token_sends to _ q.request t acts line)) none
   packet_silent to work (packets.Acknowledged a ack ends is) none = Ends_push a ack ends is
   packet_silent to work (packets.Idle a ack other is) none = Nothing (ap (λ (w : Work). w.acts) is)

@@ -1,9 +1,7 @@
 -- An event of a provider that sent nothing, once more.
 use Rattle.std.proofs.Common.{◌≡◌, ℕ, List, [], refl, sym, ap, subst, ◌∙◌}
 use Rattle.ocpi_text.specs.Text.{key}
-use Rattle.ocpi_types.specs.declared.events.Order.{Order}
 use Rattle.ocpi_types.specs.declared.packet.Packet.{Packet}
-use Rattle.ocpi_types.specs.declared.token.Token.{Token}
 use Rattle.node_steps.specs.Acts.{Act, all_messages}
 use Rattle.node_steps.specs.Peers.{IsPeer}
 use Rattle.node_steps.specs.declared.fault.NodeFault.{NodeFault}

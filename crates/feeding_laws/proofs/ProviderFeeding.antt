@@ -1,13 +1,13 @@
 -- An event that reaches a provider once more, where it sent nothing.
-use Rattle.std.proofs.Common.{◌≡◌, ◌≢◌, ◌+◌, ℕ, List, [], ◌∷◌, length, refl, sym, ap, subst, ◌∙◌, arith}
-use Rattle.std.specs.Prelude.{◌↔◌, Contains, None, Option, Some}
+use Rattle.std.proofs.Common.{◌≡◌, ℕ, List, [], ◌∷◌, length, refl, sym, ap, subst, ◌∙◌, arith}
+use Rattle.std.specs.Prelude.{◌↔◌, None, Option, Some}
 use Rattle.std.specs.Cmp.{nat_cmp_total}
 use Rattle.std.specs.Ordering.{nat_cmp}
-use Rattle.std.specs.FinMap.{empty, get, get-empty, nat_cmp-IsAntisymmetric, remove}
+use Rattle.std.specs.FinMap.{empty, get, get-empty, nat_cmp-IsAntisymmetric}
 use Rattle.std.proofs.lemmas.Option.{same_Some}
-use Rattle.tables.proofs.Elements.{in_front, in_none}
+use Rattle.tables.proofs.Elements.{in_none}
 use Rattle.tables.proofs.Maps.{get-insert_same, get-remove_same, remove_absent}
-use Rattle.tables.proofs.Options.{none_some, not_both}
+use Rattle.tables.proofs.Options.{not_both}
 use Rattle.ocpi_types.specs.declared.packet.Body.{Body}
 use Rattle.ocpi_types.specs.declared.packet.Body.TheVariants as body
 use Rattle.ocpi_types.specs.declared.packet.Packet.{Packet}
@@ -28,9 +28,9 @@ use Rattle.node_steps.specs.Acts.{Act, acknowledged, all_messages}
 use Rattle.node_steps.specs.Drafts.{Counters, IsInRange, Step, counted}
 use Rattle.node_steps.proofs.Gathering.{step_of_change, step_of_none}
 use Rattle.provider_rows.specs.State.{State}
-use Rattle.provider_rows.specs.Steps.{after, restarted, untimed}
+use Rattle.provider_rows.specs.Steps.{after, restarted}
 use Rattle.provider_rows.specs.Stored.{change_key, changed}
-use Rattle.provider_steps.specs.Acts.{kept, with_answer}
+use Rattle.provider_steps.specs.Acts.{with_answer}
 use Rattle.provider_steps.specs.Events.{Arrives, Asks, Gives, Input, Restarts, Submits, Ticks}
 use Rattle.provider_steps.specs.Moves.{AreInRange, acted, counters_of, step_of_acts}
 use Rattle.provider_steps.specs.Orders.{OrderLine}
@@ -41,7 +41,7 @@ use Rattle.provider_steps.specs.Tokens.{TokenLine}
 use Rattle.provider_steps.proofs.OrderSteps.{order_sends}
 use Rattle.provider_steps.proofs.TickSteps.{tick_sends}
 use Rattle.provider_steps.proofs.TokenSteps.{token_sends}
-use Rattle.feeding_laws.proofs.Sending.{Send, not_silent}
+use Rattle.feeding_laws.proofs.Sending.{Send, not_silent, send_first}
 
 -- what the input asks one provider for sends and leaves what it asks another for, and is in range where that is
 pub record Repeats (a b : State) (i : Input) (acts : List Act) : Type 0 where
@@ -168,8 +168,8 @@ module _ (at : ℕ) (q : Packet) where
 
     packet_by : (to : List ℕ) (acts : List Act) → PacketLine s at q to acts → AreInRange s acts → all_messages acts ≡ [] → ((again : List Act) → PacketLine (restarted s) at q to again → Comes (restarted s) at q again) →
         IsSafe (restarted s) (restarted (acted s acts).state) (Arrives at q)
-    packet_by to acts (packets.Again request r same is) range none comes = not_silent acts (subst Send (sym is) (_, in_front _ _)) none
-    packet_by to acts (packets.Answered new reply own answers is) range none comes = not_silent acts (subst Send (sym is) (_, in_front _ _)) none
+    packet_by to acts (packets.Again request r same is) range none comes = not_silent acts (subst Send (sym is) (send_first _ _ _ _ refl)) none
+    packet_by to acts (packets.Answered new reply own answers is) range none comes = not_silent acts (subst Send (sym is) (send_first _ _ _ _ refl)) none
     packet_by to acts (packets.Responded r response c awaited is) range none comes =
         safe_once s (Put (row.Command q.request (with_answer r c))) (Arrives at q) acts is refl range
         (comes _ (packets.Responded r response c (record { stands = awaited.stands; to_sender = awaited.to_sender; unanswered = awaited.unanswered }) refl))

@@ -1,5 +1,5 @@
 -- What an event does that reaches a node once more after a stop, and what tells that it may.
-use Rattle.std.specs.Prelude.{◌≡◌, ◌↔◌, ℕ, List, []}
+use Rattle.std.specs.Prelude.{◌≡◌, ◌↔◌, List, []}
 use Rattle.node_steps.specs.declared.fault.NodeFault.{NodeFault}
 use Rattle.ocpi_types.specs.declared.packet.Packet.{Packet}
 use Rattle.provider_steps.specs.Events as provider
