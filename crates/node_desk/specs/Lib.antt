@@ -1,0 +1,4 @@
+pub mod Logs
+pub mod Passes
+pub mod Guarded
+pub mod Faults
