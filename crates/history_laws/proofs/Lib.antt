@@ -1,0 +1,3 @@
+pub mod Replaying
+pub mod Standing
+pub mod Running
