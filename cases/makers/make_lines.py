@@ -5,8 +5,8 @@ choice of them into bench/fail_allocations, of which it tells the names.
     cases/makers/make_lines.py [FOLDER]
 
 Both folders are those of this repository, or of FOLDER where it is given. What each part holds is told in `call_cases`,
-`packet_cases`, `book_cases`, `operator_cases`, `provider_cases`, `stored_cases`, `world_cases`, `kept_cases` and
-`store_cases`. To see where the program differs:
+`packet_cases`, `book_cases`, `operator_cases`, `provider_cases`, `stored_cases`, `world_cases`, `kept_cases`,
+`store_cases` and `cell_cases`. To see where the program differs:
 
     tools/try_cases
 """
@@ -16,6 +16,7 @@ import sys
 
 import book_cases
 import call_cases
+import cell_cases
 import kept_cases
 import operator_cases
 import packet_cases
@@ -35,6 +36,7 @@ PARTS = {
     "worlds": world_cases,
     "kept_nodes": kept_cases,
     "stores": store_cases,
+    "cells": cell_cases,
 }
 
 
