@@ -1,4 +1,5 @@
-"""The part `cells` of the cases of the program `case_lines`: nodes with the history of all that happened at them, and receipts.
+"""The part `cells` of the cases of the program `case_lines`: nodes with the history of all that happened at them, alone and behind
+a desk, and receipts.
 
 The events are those of the charge of `kept_cases` at each of its two nodes: each is entered, also where it changes nothing. An
 event that is refused is not. A history takes 100,000 entries.
@@ -52,6 +53,21 @@ def what_changes_nothing():
     line("audit", "audited 3")
 
 
+def desk_of_two_passes():
+    """Each call has the next place; a desk closes with both passes alone; the receipts are the history."""
+    tick = text({"event": "tick", "node": "NL/TNM", "at": moment("10:32:00")})
+    opened("NL/TNM")
+    missing = "passes are missing"
+    line("desk 3 " + tick, *("place %d, seen %d" % (at, at + 1) for at in range(3)), missing, "audited 3", "fresh 3")
+    line("audit", "audited 3")
+    line("desk 1 " + tick, "place 3, seen 4", missing, "audited 1", "fresh 4")
+    order = text({"event": "submit", "node": "NL/TNM", "at": moment("10:32:00"), "operator": "FR/FRC", "order": "stop_session",
+                  "session_id": "S1"})
+    line("desk 2 " + order, *["refused 5 UnknownOperator"] * 2, missing, "audited 0", "fresh 4")
+    line("reopen NL/TNM", "again 0")
+    line("desk 1 " + tick, "place 0, seen 1", missing, "audited 1", "again 1")
+
+
 def full_history():
     """The last entry is entered, and no more: the packets of an event that is not entered are not sent."""
     opened("BE/BEC")
@@ -60,6 +76,7 @@ def full_history():
     line(first[0], *first[1][:-1], "entry %d" % (MOST_ENTRIES - 1))
     line(first[0], "full")
     line("times 2 " + text({"event": "refused", "node": "BE/BEC"}), "full", "fresh %d" % MOST_ENTRIES)
+    line("desk 1 " + text({"event": "refused", "node": "BE/BEC"}), "full", "passes are missing", "audited 0", "fresh %d" % MOST_ENTRIES)
     line("audit", "audited %d" % MOST_ENTRIES)
     line("reopen BE/BEC", "again 0")
 
@@ -69,6 +86,7 @@ def cases():
     for party in PARTIES:
         charge(party)
     what_changes_nothing()
+    desk_of_two_passes()
     full_history()
     return LINES, WANTED
 
