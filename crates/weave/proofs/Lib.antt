@@ -1,0 +1,6 @@
+pub mod Places
+pub mod Needing
+pub mod Reaching
+pub mod Sweeping
+pub mod Turning
+pub mod Telling

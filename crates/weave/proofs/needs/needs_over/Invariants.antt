@@ -1,0 +1,5 @@
+use Rattle.weave.specs.Needs.{AreAllNeeds}
+use Rattle.weave.proofs.needs.needs_over.Given as goal
+
+abbrev pub invariant-loop-number : goal.invariant-loop-number
+invariant-loop-number l = AreAllNeeds l.histories l.number l.rows.items

@@ -1,0 +1,8 @@
+use Rattle.std.proofs.Common.{◌≡◌, ◌<◌, ℕ}
+use Rattle.std.specs.Prelude.{Some, slice_get}
+use Rattle.ocpi_text.specs.Text.{key}
+use Rattle.histories.specs.declared.history.NodeHistory.{NodeHistory}
+use Rattle.weave.proofs.needs.number_of.Given as goal
+
+abbrev pub invariant-loop-number : goal.invariant-loop-number
+invariant-loop-number l = (k : ℕ) (h : NodeHistory) → k < l.number → slice_get l.histories k ≡ Some h → key h.party ≡ key l.party → ⊥

@@ -1,0 +1,57 @@
+-- What is told where histories are not woven.
+use Rattle.std.specs.Prelude.{◌≡◌, ◌<◌, ℕ, List, Some, slice_get}
+use Rattle.ocpi_types.specs.declared.packet.Packet.{Packet}
+use Rattle.histories.specs.declared.entry.Entry.{Entry}
+use Rattle.histories.specs.declared.history.NodeHistory.{NodeHistory}
+use Rattle.histories.specs.Causes.{AreAllGiven, IsBlock, IsDifferent, IsGiven, IsNeverSent, IsSentOtherwise, IsUnsent}
+use Rattle.histories.specs.Entries.{Delivers}
+use Rattle.weave.specs.declared.fault.WeaveFault.{WeaveFault}
+use Rattle.weave.specs.declared.fault.WeaveFault.TheVariants.{Differs, Memory, NeverSent, NoOrder}
+
+-- the entry of that number in the history of that number
+pub record EntryAt (hs : List NodeHistory) (i k : ℕ) (e : Entry) : Type 0 where
+  pub history : NodeHistory
+  pub here : slice_get hs i ≡ Some history
+  pub stands : slice_get history.entries.now k ≡ Some e
+
+-- the packet is that of the first delivery of one history that was not sent so
+pub record IsFirstIn (hs : List NodeHistory) (i : ℕ) (q : Packet) : Type 0 where
+  pub number : ℕ
+  pub entry : Entry
+  pub at : EntryAt hs i number entry
+  pub delivers : Delivers entry q
+  pub before : (l : ℕ) (e : Entry) → l < number → EntryAt hs i l e → (r : Packet) → Delivers e r → IsGiven hs r
+
+-- and of the first of all, histories in order
+pub record IsFirst (hs : List NodeHistory) (q : Packet) : Type 0 where
+  pub number : ℕ
+  pub inside : IsFirstIn hs number q
+  pub before : (j l : ℕ) (e : Entry) → j < number → EntryAt hs j l e → (r : Packet) → Delivers e r → IsGiven hs r
+
+-- what is told is so. That there is no order is told only where each packet that came was sent so
+abbrev pub Explains : List NodeHistory → WeaveFault → Type 0
+Explains hs (NeverSent q) = IsNeverSent hs q × IsFirst hs q
+Explains hs (Differs q) = IsDifferent hs q × IsFirst hs q
+Explains hs (NoOrder front) = IsBlock hs front.items × AreAllGiven hs
+Explains hs Memory = Unit {0}
+
+-- what is told of a packet that comes
+abbrev pub BlamesPacket : List NodeHistory → Packet → WeaveFault → Type 0
+BlamesPacket hs q (NeverSent r) = (r ≡ q) × IsUnsent hs q
+BlamesPacket hs q (Differs r) = (r ≡ q) × IsSentOtherwise hs q
+BlamesPacket hs q (NoOrder front) = ⊥
+BlamesPacket hs q Memory = Unit {0}
+
+-- and of an entry
+abbrev pub Blames : List NodeHistory → Entry → WeaveFault → Type 0
+Blames hs e (NeverSent q) = Delivers e q × IsUnsent hs q
+Blames hs e (Differs q) = Delivers e q × IsSentOtherwise hs q
+Blames hs e (NoOrder front) = ⊥
+Blames hs e Memory = Unit {0}
+
+-- and of a history
+abbrev pub BlamesIn : List NodeHistory → ℕ → WeaveFault → Type 0
+BlamesIn hs i (NeverSent q) = IsUnsent hs q × IsFirstIn hs i q
+BlamesIn hs i (Differs q) = IsSentOtherwise hs q × IsFirstIn hs i q
+BlamesIn hs i (NoOrder front) = ⊥
+BlamesIn hs i Memory = Unit {0}

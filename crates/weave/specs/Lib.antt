@@ -1,0 +1,5 @@
+pub mod Turns
+pub mod Needs
+pub mod Faults
+pub mod Reached
+pub mod Progress

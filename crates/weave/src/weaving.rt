@@ -1,0 +1,153 @@
+//! The weaving of histories: entries are placed while some history has one that can be placed.
+
+ghost use Rattle.std.specs.Prelude.{◌≡◌, ◌+◌, ◌<◌, ◌≤◌, ◌-◌, IfErr, IfOk, OnOk, Some as SomeOf, length, slice_get};
+ghost use Rattle.std.specs.Bool.{OnFalse, OnTrue};
+ghost use Rattle.histories.specs.declared.entry.Entry.{Entry as EntryOf};
+ghost use Rattle.histories.specs.Causes.{HasMore};
+ghost use Rattle.histories.specs.Weaving.{AreApart, AreNumbered};
+ghost use Rattle.weave.specs.Faults.{Explains};
+ghost use Rattle.weave.specs.Needs.{AreAllNeeds};
+ghost use Rattle.weave.specs.Progress.{AllStuck, AreDone, IsReached, IsStuckAt};
+ghost use Rattle.weave.specs.Reached.{serial_in};
+ghost use Rattle.weave.specs.Turns.{IsOrder};
+
+use crate::fault::WeaveFault;
+use crate::needs::Need;
+use crate::turn::Turn;
+use histories::{Entry, NodeHistory};
+use ocpi_types::Packet;
+use std::alloc::{AllocError, Global};
+
+/// How far histories are woven.
+#[derive(Drop)]
+pub struct Weaving {
+    /// For each history, how many of its entries are placed.
+    places: Vec<usize>,
+    /// For each history, the serial of the last packet that these sent, or 0.
+    newest: Vec<u64>,
+    turns: Vec<Turn>,
+}
+
+/// No entry is placed.
+fn start(alloc: Global, histories: &[NodeHistory<'_>]) -> Result<Weaving, AllocError>
+    ensures { IfOk result (λ w. IsReached histories.now w) }
+{
+    let places = vec![in alloc; 0; histories.len()]?;
+    let newest = vec![in alloc; 0; histories.len()]?;
+    Ok(Weaving {
+        places,
+        newest,
+        turns: Vec::new(alloc),
+    })
+}
+
+/// The serial of the last of the packets, or else the one before.
+fn serial_after(before: u64, packets: &[Packet]) -> u64
+    ensures { result ≡ serial_in before (slice_get packets.now (length packets.now - 1)) }
+{
+    match packets.last() {
+        Some(packet) => packet.serial.value(),
+        None => before,
+    }
+}
+
+/// The packets of an entry.
+fn packets_at(entries: &[Entry], place: usize) -> &[Packet]
+    requires { place < length entries.now }
+    ensures { (e : EntryOf) × (slice_get entries.now place ≡ SomeOf e) × (result.now ≡ e.packets) }
+{
+    entries[place].packets.as_slice()
+}
+
+/// Places the next entry of a history, where it has one and what this waits for was sent before.
+fn take_entry(
+    histories: &[NodeHistory<'_>],
+    needs: &[Vec<Need>],
+    weaving: &mut Weaving,
+    i: usize,
+) -> Result<bool, AllocError>
+    requires in_range { i < length histories.now }
+    requires apart { AreApart histories.now }
+    requires numbered { AreNumbered histories.now }
+    requires needs { AreAllNeeds histories.now (length histories.now) needs.now }
+    requires reached { IsReached histories.now weaving.old }
+    ensures reached { OnOk result (IsReached histories.now weaving.new) }
+    ensures taken { IfOk result (λ b. OnTrue b (length weaving.new.turns.items ≡ length weaving.old.turns.items + 1)) }
+    ensures stuck { IfOk result (λ b. OnFalse b ((weaving.new ≡ weaving.old) × IsStuckAt histories.now weaving.old i)) }
+{
+    let place = weaving.places[i];
+    let entries = histories[i].entries;
+    if place >= entries.len() {
+        return Ok(false);
+    }
+    let need = needs[i][place];
+    if weaving.newest[need.sender] < need.serial {
+        return Ok(false);
+    }
+    let turn = Turn {
+        history: i,
+        entry: place,
+    };
+    weaving.turns.push(turn)?;
+    weaving.places[i] = place + 1;
+    weaving.newest[i] = serial_after(weaving.newest[i], packets_at(entries, place));
+    Ok(true)
+}
+
+/// Goes once over the histories, and places what entries of each it can. Tells whether there were any.
+fn sweep(
+    histories: &[NodeHistory<'_>],
+    needs: &[Vec<Need>],
+    weaving: &mut Weaving,
+) -> Result<bool, AllocError>
+    requires apart { AreApart histories.now }
+    requires numbered { AreNumbered histories.now }
+    requires needs { AreAllNeeds histories.now (length histories.now) needs.now }
+    requires reached { IsReached histories.now weaving.old }
+    ensures reached { OnOk result (IsReached histories.now weaving.new) }
+    ensures moved { IfOk result (λ b. OnTrue b (length weaving.old.turns.items < length weaving.new.turns.items)) }
+    ensures stuck { IfOk result (λ b. OnFalse b (AllStuck histories.now weaving.new)) }
+{
+    let mut moved = false;
+    for i in 0..histories.len() {
+        while take_entry(histories, needs, weaving, i)? {
+            moved = true;
+        }
+    }
+    Ok(moved)
+}
+
+/// All entries are placed.
+fn is_done(histories: &[NodeHistory<'_>], weaving: &Weaving) -> bool
+    requires { IsReached histories.now weaving.now }
+    ensures done { OnTrue result (AreDone histories.now weaving.now) }
+    ensures more { OnFalse result (HasMore histories.now weaving.now.places.items) }
+{
+    for (i, history) in histories.iter().enumerate() {
+        if weaving.places[i] < history.entries.len() {
+            return false;
+        }
+    }
+    true
+}
+
+/// Places entries for as long as it can.
+pub fn order(
+    alloc: Global,
+    histories: &[NodeHistory<'_>],
+    needs: &[Vec<Need>],
+) -> Result<Vec<Turn>, WeaveFault>
+    requires apart { AreApart histories.now }
+    requires numbered { AreNumbered histories.now }
+    requires needs { AreAllNeeds histories.now (length histories.now) needs.now }
+    ensures order { IfOk result (λ turns. IsOrder histories.now turns.items) }
+    ensures fault { IfErr result (λ f. Explains histories.now f) }
+{
+    let mut weaving = start(alloc, histories)?;
+    while sweep(histories, needs, &mut weaving)? {}
+    if is_done(histories, &weaving) {
+        Ok(weaving.turns)
+    } else {
+        Err(WeaveFault::NoOrder(weaving.places))
+    }
+}
