@@ -91,5 +91,20 @@ def cases():
     return LINES, WANTED
 
 
+def without_memory(party):
+    """The charge, and then the node of what is kept."""
+    opened(party)
+    for place, (given, gives, _) in enumerate(events_of(party)):
+        line(given, *gives[:-1], "entry %d" % place)
+    line("reopen " + party, "again 0")
+
+
 def cases_without_memory():
-    return []
+    """The cases in which each allocation fails once: of each its name, the lines, and what they must give."""
+    found = []
+    for party in PARTIES:
+        lines, wanted = len(LINES), len(WANTED)
+        without_memory(party)
+        found.append(("a charge at %s with its history, which is then opened again" % party, LINES[lines:], WANTED[wanted:]))
+        del LINES[lines:], WANTED[wanted:]
+    return found
