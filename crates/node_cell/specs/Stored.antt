@@ -1,17 +1,15 @@
 -- A node whose rows a keeper keeps: what holds of it at any time, and what an event makes of it.
 use Rattle.std.specs.Prelude.{◌≡◌, ◌≢◌, ◌⊎◌, ◌↔◌, ℕ, suc, List, [], Bool, true, false, IsTrue, None, Some, length}
-use Rattle.ocpi_text.specs.Text.{key}
 use Rattle.ocpi_types.specs.declared.node_events.NodeEventKind.{NodeEventKind}
 use Rattle.ocpi_types.specs.declared.node_events.NodeEventKind.TheVariants as event
 use Rattle.ocpi_types.specs.declared.packet.Packet.{Packet}
 use Rattle.ocpi_types.specs.declared.rows.Row.{Row}
 use Rattle.node_steps.specs.declared.fault.NodeFault.{NodeFault}
 use Rattle.node_steps.specs.declared.fault.NodeFault.TheVariants.{Memory}
-use Rattle.operator_steps.specs.Events as operator
-use Rattle.provider_steps.specs.Events as provider
-use Rattle.world_steps.specs.Network.{Input, OfOperator, OfProvider}
+use Rattle.world_steps.specs.Network.{Input}
 use Rattle.world_steps.specs.Steps.{NodeEvent, NodeRefuses, NodeStep, changes_of, input_of, packets_of}
-use Rattle.world_steps.specs.World.{NodeState, Operates, Provides, opening_of}
+use Rattle.world_steps.specs.World.{NodeState, opening_of}
+use Rattle.history_laws.specs.Replays.{Brings}
 use Rattle.stored_laws.specs.Nodes.{CanStartAgain, IsOfOpening}
 use Rattle.stored_rows.specs.declared.fault.RowsFault.{RowsFault}
 use Rattle.stored_rows.specs.declared.fault.RowsFault.TheVariants as rows_fault
@@ -39,35 +37,7 @@ pub record Stored (K : Type 0) : Type 0 where
   pub state : NodeState
   pub keep : K
 
--- ---- what reaches a node by an event
-
-abbrev pub OperatorGets : NodeEventKind → operator.Input → Type 0
-OperatorGets (event.Submit at to order) x = ⊥
-OperatorGets (event.Token at token) x = ⊥
-OperatorGets (event.Service evse_uid in_service) x = x ≡ operator.Serves (key evse_uid) in_service
-OperatorGets (event.Charger at report) x = x ≡ operator.Reports at report
-OperatorGets (event.Deliver at packet) x = x ≡ operator.Arrives at packet
-OperatorGets (event.Tick at) x = x ≡ operator.Ticks at
-OperatorGets event.Restart x = x ≡ operator.Restarts
-OperatorGets event.Refused x = ⊥
-
-abbrev pub ProviderGets : NodeEventKind → provider.Input → Type 0
-ProviderGets (event.Submit at to order) x = x ≡ provider.Submits at to order
-ProviderGets (event.Token at token) x = x ≡ provider.Gives at token
-ProviderGets (event.Service evse_uid in_service) x = ⊥
-ProviderGets (event.Charger at report) x = ⊥
-ProviderGets (event.Deliver at packet) x = x ≡ provider.Arrives at packet
-ProviderGets (event.Tick at) x = x ≡ provider.Ticks at
-ProviderGets event.Restart x = x ≡ provider.Restarts
-ProviderGets event.Refused x = ⊥
-
--- what reaches a node of either role, if anything does: an event of the other role brings nothing, and neither does one
--- whose storing was refused
-abbrev pub Brings : NodeState → NodeEventKind → Input → Type 0
-Brings (Operates s) k (OfOperator x) = OperatorGets k x
-Brings (Operates s) k (OfProvider x) = ⊥
-Brings (Provides s) k (OfOperator x) = ⊥
-Brings (Provides s) k (OfProvider x) = ProviderGets k x
+-- ---- what an event asks for
 
 -- what a node gets is what the event brings, and its storing was not refused
 pub record SaysTheSame (i : NodeInput) (k : NodeEventKind) : Type 0 where

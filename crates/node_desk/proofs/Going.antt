@@ -9,8 +9,8 @@ use Rattle.node_desk.specs.declared.fault.DeskFault.{DeskFault}
 use Rattle.node_desk.specs.declared.fault.DeskFault.TheVariants.{Memory, Rewound, TraceFull}
 use Rattle.node_history.specs.Cells as cells
 use Rattle.node_history.specs.Cells.{Cell, Enters, IsNotEntered, StoredStep, most_entries, stored_of}
-use Rattle.node_history.specs.Histories as histories
-use Rattle.node_history.specs.Histories.{EntryStep, Replays}
+use Rattle.history_laws.specs.Replays as entries
+use Rattle.history_laws.specs.Replays.{EntryStep, Replays}
 use Rattle.histories.specs.declared.entry.Entry.{Entry}
 use Rattle.node_history.specs.declared.fault.CellFault.{CellFault}
 use Rattle.node_history.specs.declared.fault.CellFault.TheVariants as cell
@@ -19,8 +19,8 @@ use Rattle.ocpi_types.specs.declared.node_events.NodeEventKind.{NodeEventKind}
 use Rattle.ocpi_types.specs.declared.packet.Packet.{Packet}
 
 step_of : {K : Type 0} (keeper : Keeper K) (old new : Cell K) (e : Entry) → StoredStep keeper (stored_of old) e (stored_of new) → EntryStep old.state e new.state
-step_of keeper old new e (cells.Does x did commits) = histories.Does x did
-step_of keeper old new e (cells.Idle idle same) = histories.Idle idle
+step_of keeper old new e (cells.Does x did commits) = entries.Does x did
+step_of keeper old new e (cells.Idle idle same) = entries.Idle idle
 
 -- an entry more
 pub goes_on : {K : Type 0} (keeper : Keeper K) (before : Log) (old new : Cell K) (e : Entry) (n m : ℕ) → GoesOn before (log_of old) n → Enters keeper old e new → m ≡ n + 1 → GoesOn before (log_of new) m

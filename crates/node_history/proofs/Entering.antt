@@ -14,8 +14,9 @@ use Rattle.world_steps.specs.World.{NodeState}
 use Rattle.node_cell.specs.Keepers.{IsSettled, Keeper, KeepsOn, Nothing, Taken}
 use Rattle.node_cell.specs.Stored.{Fails, IsStored, Loses, Stored}
 use Rattle.node_cell.specs.declared.fault.ApplyFault.TheVariants as apply
-use Rattle.node_history.specs.Histories as histories
-use Rattle.node_history.specs.Histories.{EntryStep, IsLeft, QuietStep, Replays}
+use Rattle.history_laws.specs.Replays as entries
+use Rattle.history_laws.specs.Replays.{EntryStep, Replays}
+use Rattle.node_history.specs.Histories.{IsLeft, QuietStep}
 use Rattle.node_history.specs.Cells as cells
 use Rattle.node_history.specs.Cells.{Adds, Cell, Enters, IsCell, IsNotDone, IsNotEntered, IsOpening, StoredStep, cell_of, first_of}
 use Rattle.histories.specs.declared.entry.Entry.{Entry}
@@ -62,8 +63,8 @@ quietly first s t history e c step h = record {
 
 module _ {K : Type 0} (keeper : Keeper K) where
   entry_step : (old new : Stored K) (e : Entry) → StoredStep keeper old e new → EntryStep old.state e new.state
-  entry_step old new e (cells.StoredStep.Does x did commits) = histories.EntryStep.Does x did
-  entry_step old new e (cells.StoredStep.Idle idle same) = histories.EntryStep.Idle idle
+  entry_step old new e (cells.StoredStep.Does x did commits) = entries.EntryStep.Does x did
+  entry_step old new e (cells.StoredStep.Idle idle same) = entries.EntryStep.Idle idle
 
   -- what a stop may leave of a node over its keeper
   abbrev Leaves : NodeState → Stored K → List Entry → Type 0
@@ -78,11 +79,11 @@ module _ {K : Type 0} (keeper : Keeper K) where
   leaves : (first : NodeState) (old new : Stored K) (history : List Entry) (e : Entry) → Leaves first old history → IsStored keeper new → Replays first (history ++ e ∷ []) new.state →
       StoredStep keeper old e new → Leaves first new (history ++ e ∷ [])
   leaves first old new history e h stored replays (cells.StoredStep.Does x did (Nothing none same)) =
-      left_quietly first old new history e h same (histories.EntryStep.Does x did, none)
+      left_quietly first old new history e h same (entries.EntryStep.Does x did, none)
   leaves first old new history e h stored replays (cells.StoredStep.Does x did (Taken some takes)) = λ honest c may.
       whole first new.state new.state (history ++ e ∷ []) c replays (inl refl) (subst (λ (b : Content). HoldsRows b new.state) (sym (takes.settled honest c may)) (stored.holds honest)) stored.starts
   leaves first old new history e h stored replays (cells.StoredStep.Idle idle same) =
-      left_quietly first old new history e h same (histories.EntryStep.Idle idle, tt)
+      left_quietly first old new history e h same (entries.EntryStep.Idle idle, tt)
 
   -- the cell, with its first state told
   abbrev at : List ℕ → NodeState → List Entry → Bool → Stored K → Cell K

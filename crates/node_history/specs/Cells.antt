@@ -11,7 +11,8 @@ use Rattle.node_cell.specs.Keepers.{Commits, Keeper}
 use Rattle.node_cell.specs.Stored.{Fails, IsStored, Reopens, Stored}
 use Rattle.node_cell.specs.declared.fault.ApplyFault.{ApplyFault}
 use Rattle.node_cell.specs.declared.fault.ApplyFault.TheVariants as apply
-use Rattle.node_history.specs.Histories.{Did, IsLeft, Replays, WasIdle}
+use Rattle.history_laws.specs.Replays.{Did, Replays, WasIdle}
+use Rattle.node_history.specs.Histories.{IsLeft}
 use Rattle.histories.specs.declared.entry.Entry.{Entry}
 use Rattle.node_history.specs.declared.fault.CellFault.{CellFault}
 use Rattle.node_history.specs.declared.fault.CellFault.TheVariants.{Core, Memory, Store, TraceFull}
