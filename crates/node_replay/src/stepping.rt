@@ -1,0 +1,161 @@
+//! What an event makes of a node, with all memory for its entry taken before.
+
+ghost use Rattle.std.specs.Prelude.{◌≡◌, ◌≢◌, ◌≤◌, ◌+◌, ◌++◌, ◌∷◌, ◌↔◌, [], IfErr, IfOk, IsTrue, List, OnErr, OnOk, length, vec_capacity};
+ghost use Rattle.node_core.specs.States.{state_of};
+ghost use Rattle.node_core.specs.Works.{IsWork, changes_by, node_after, packets_by};
+ghost use Rattle.node_core.specs.declared.input.NodeInput.{NodeInput as NodeInputOf};
+ghost use Rattle.node_replay.specs.Replayed.{Adds, Fails, Foretells, IsStep, restart_entry};
+ghost use Rattle.stored_laws.specs.Nodes.{restarted};
+
+use crate::outcome::{ReplayFault, Replayed};
+use histories::{Entry, Packets};
+use node_cell::input_of;
+use node_core::{Node, NodeWork, Planned};
+use ocpi_types::NodeEventKind;
+use std::alloc::{AllocError, Global};
+
+/// What a node did: what it sent, and whether rows changed.
+#[derive(Drop)]
+pub(crate) struct Done {
+    packets: Packets,
+    changed: bool,
+}
+
+/// The node does its work. An error is want of memory, and changes nothing.
+fn carry_out(node: &mut Node, work: NodeWork) -> Result<Done, AllocError>
+    requires { (i : NodeInputOf) × IsWork (state_of node.old) i work }
+    ensures state { OnOk result (state_of node.new ≡ node_after work (state_of node.old)) }
+    ensures packets { IfOk result (λ d. d.packets ≡ packets_by work) }
+    ensures changed { IfOk result (λ d. IsTrue d.changed ↔ (changes_by work ≢ [])) }
+    ensures same { OnErr result (state_of node.new ≡ state_of node.old) }
+{
+    match node.make_room(&work) {
+        Ok(()) => {}
+        Err(_) => return Err(AllocError),
+    }
+    let changed = !work.changes().is_empty();
+    Ok(Done {
+        packets: Packets::new(node.apply(work)),
+        changed,
+    })
+}
+
+/// What comes of an event at a node, which is done where the node does it; nothing of one that is none of its role. A
+/// refusal changes nothing.
+fn step(
+    alloc: Global,
+    node: &mut Node,
+    event: &NodeEventKind,
+) -> Result<Option<Done>, ReplayFault>
+    ensures ok { IfOk result (λ d. IsStep (state_of node.old) event.now d (state_of node.new)) }
+    ensures err { IfErr result (Fails (state_of node.old) event.now) }
+    ensures same { OnErr result (state_of node.new ≡ state_of node.old) }
+{
+    let Some(input) = input_of(event) else {
+        return Ok(Some(Done {
+            packets: Packets::new(Vec::new(alloc)),
+            changed: false,
+        }));
+    };
+    match node.plan(&input) {
+        Ok(Planned::Skipped) => Ok(None),
+        Ok(Planned::Refused(fault)) => Err(ReplayFault::Core(fault)),
+        Ok(Planned::Acts(work)) => match carry_out(node, work) {
+            Ok(done) => Ok(Some(done)),
+            Err(_) => Err(ReplayFault::Memory),
+        },
+        Err(_) => Err(ReplayFault::Memory),
+    }
+}
+
+/// Adds an entry to entries that have room for it.
+fn push_entry(entries: &mut Vec<Entry>, event: NodeEventKind, packets: Packets)
+    requires { length entries.old.items + 1 ≤ vec_capacity entries.old }
+    ensures { entries.new.items ≡ entries.old.items ++ record { event = event; packets = packets } ∷ [] }
+{
+    match entries.push(Entry { event, packets }) {
+        Ok(()) => {}
+        Err(_) => unreachable!(),
+    }
+}
+
+/// Something happens at a node, and is entered with what the node sends, unless it is none of its role. A refusal
+/// enters nothing, and changes nothing.
+pub(crate) fn enter(
+    alloc: Global,
+    node: &mut Node,
+    entries: &mut Vec<Entry>,
+    event: NodeEventKind,
+) -> Result<Replayed, ReplayFault>
+    ensures ok { IfOk result (λ r. Adds (state_of node.old) entries.old.items event r (state_of node.new) entries.new.items) }
+    ensures err { IfErr result (Fails (state_of node.old) event) }
+    ensures state { OnErr result (state_of node.new ≡ state_of node.old) }
+    ensures entries { OnErr result (entries.new.items ≡ entries.old.items) }
+{
+    match entries.reserve(1) {
+        Ok(()) => {}
+        Err(_) => return Err(ReplayFault::Memory),
+    }
+    match step(alloc, node, &event) {
+        Ok(None) => Ok(Replayed::Skipped),
+        Ok(Some(done)) => {
+            let Done { packets, changed } = done;
+            push_entry(entries, event, packets);
+            Ok(Replayed::Stepped { changed })
+        }
+        Err(fault) => Err(fault),
+    }
+}
+
+/// Whether an event, if it is carried out, changes a row. An error is want of memory.
+pub(crate) fn foretell(node: &Node, event: &NodeEventKind) -> Result<bool, AllocError>
+    ensures { IfOk result (Foretells (state_of node.now) event.now) }
+{
+    let Some(input) = input_of(event) else {
+        return Ok(false);
+    };
+    match node.plan(&input) {
+        Ok(Planned::Skipped) => Ok(false),
+        Ok(Planned::Refused(_)) => Ok(false),
+        Ok(Planned::Acts(work)) => Ok(!work.changes().is_empty()),
+        Err(_) => Err(AllocError),
+    }
+}
+
+/// Adds an equal entry.
+fn push_copy(copies: &mut Vec<Entry>, entry: &Entry) -> Result<(), AllocError>
+    ensures { OnOk result (copies.new.items ≡ copies.old.items ++ entry.now ∷ []) }
+{
+    let event = entry.event.copy()?;
+    let packets = entry.packets.copy()?;
+    copies.push(Entry { event, packets })?;
+    Ok(())
+}
+
+/// Equal entries, in order, and behind them that the node starts again. An error is want of memory.
+pub(crate) fn restarted_copies(alloc: Global, entries: &[Entry]) -> Result<Vec<Entry>, AllocError>
+    ensures { IfOk result (λ v. v.items ≡ entries.now ++ restart_entry ∷ []) }
+{
+    let mut copies = Vec::new(alloc);
+    for entry in entries {
+        push_copy(&mut copies, entry)?;
+    }
+    copies.push(Entry {
+        event: NodeEventKind::Restart,
+        packets: Packets::new(Vec::new(alloc)),
+    })?;
+    Ok(copies)
+}
+
+/// A node starts again, which is entered. It sends nothing. An error is want of memory, and changes nothing.
+pub(crate) fn enter_restart(node: &mut Node, entries: &mut Vec<Entry>) -> Result<(), AllocError>
+    ensures state { OnOk result (state_of node.new ≡ restarted (state_of node.old)) }
+    ensures entered { OnOk result (entries.new.items ≡ entries.old.items ++ restart_entry ∷ []) }
+    ensures same { OnErr result (state_of node.new ≡ state_of node.old) }
+    ensures entries { OnErr result (entries.new.items ≡ entries.old.items) }
+{
+    entries.reserve(1)?;
+    let packets = Packets::new(node.apply(NodeWork::Restart));
+    push_entry(entries, NodeEventKind::Restart, packets);
+    Ok(())
+}
