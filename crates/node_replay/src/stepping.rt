@@ -21,6 +21,13 @@ pub(crate) struct Done {
     changed: bool,
 }
 
+/// Whether work changes a row.
+fn changes_rows(work: &NodeWork) -> bool
+    ensures { IsTrue result ↔ (changes_by work.now ≢ []) }
+{
+    !work.changes().is_empty()
+}
+
 /// The node does its work. An error is want of memory, and changes nothing.
 fn carry_out(node: &mut Node, work: NodeWork) -> Result<Done, AllocError>
     requires { (i : NodeInputOf) × IsWork (state_of node.old) i work }
@@ -33,7 +40,7 @@ fn carry_out(node: &mut Node, work: NodeWork) -> Result<Done, AllocError>
         Ok(()) => {}
         Err(_) => return Err(AllocError),
     }
-    let changed = !work.changes().is_empty();
+    let changed = changes_rows(&work);
     Ok(Done {
         packets: Packets::new(node.apply(work)),
         changed,
@@ -117,7 +124,7 @@ pub(crate) fn foretell(node: &Node, event: &NodeEventKind) -> Result<bool, Alloc
     match node.plan(&input) {
         Ok(Planned::Skipped) => Ok(false),
         Ok(Planned::Refused(_)) => Ok(false),
-        Ok(Planned::Acts(work)) => Ok(!work.changes().is_empty()),
+        Ok(Planned::Acts(work)) => Ok(changes_rows(&work)),
         Err(_) => Err(AllocError),
     }
 }
