@@ -1,5 +1,5 @@
 -- What comes of an event at a node is a step of its entry, and so a replay stays one.
-use Rattle.std.proofs.Common.{◌≡◌, ◌≢◌, ◌∙◌, ◌↔◌, List, [], Bool, IsTrue, false, inl, inr, refl, sym, ap, subst, Result, Ok, Err, IfOk, OnOk}
+use Rattle.std.proofs.Common.{◌≡◌, ◌≢◌, ◌∙◌, ◌↔◌, List, [], Bool, IsTrue, false, true, inl, refl, sym, subst}
 use Rattle.ocpi_types.specs.declared.node_events.NodeEventKind.{NodeEventKind}
 use Rattle.ocpi_types.specs.declared.node_events.NodeEventKind.TheVariants as event
 use Rattle.ocpi_types.specs.declared.packet.Packet.{Packet}
@@ -14,8 +14,7 @@ use Rattle.node_cell.specs.Stored.{SaysTheSame}
 use Rattle.history_laws.specs.Replays as entries
 use Rattle.world_steps.specs.Steps.{NodeStep, input_of}
 use Rattle.world_steps.specs.World.{NodeState}
-use Rattle.node_replay.specs.Replayed as replayed
-use Rattle.node_replay.specs.Replayed.{Foretells, Leads, Passes, Refuses}
+use Rattle.node_replay.specs.Replayed.{Leads, Refuses}
 
 -- work that is done is the step of an entry
 pub leads : (s t : NodeState) (k : NodeEventKind) (i : NodeInput) (x : NodeWork) (packets : List Packet) (changed : Bool) → SaysTheSame i k → IsWork s i x → packets ≡ packets_by x →
@@ -23,6 +22,7 @@ pub leads : (s t : NodeState) (k : NodeEventKind) (i : NodeInput) (x : NodeWork)
 leads s t k i x packets changed says is sends tells after =
     let w = does s i x is in
     record {
+      own = λ passes. passes.nothing (input_of w.event) (says.brings s (input_of w.event) w.gets);
       step = entries.EntryStep.Does w.event
           (record {
             brings = says.brings s (input_of w.event) w.gets;
@@ -35,8 +35,9 @@ leads s t k i x packets changed says is sends tells after =
 -- an event whose storing was refused is idle
 pub idles : (s : NodeState) (k : NodeEventKind) → k ≡ event.Refused → Leads s k [] false s
 idles s k is = record {
+  own = λ passes. passes.taken is;
   step = entries.EntryStep.Idle (record { why = inl is; sends = refl; same = refl });
-  tells = ((λ x. x), (λ x. x));
+  tells = ((λ changed. let bad : false ≡ true = changed in cc), (λ x. absurd x));
 }
 
 -- what the node refuses of what the event brings it refuses of the event

@@ -1,5 +1,5 @@
 -- A node of a setup with all that happened at it: what holds of it at any time, and what an event makes of it.
-use Rattle.std.specs.Prelude.{◌≡◌, ◌≢◌, ◌↔◌, List, [], ◌∷◌, ◌++◌, Option, None, Some, Bool, true, false, IsTrue, Contains}
+use Rattle.std.specs.Prelude.{◌≡◌, ◌≢◌, ◌↔◌, List, [], ◌∷◌, ◌++◌, Option, None, Some, Bool, false, IsTrue, Contains}
 use Rattle.ocpi_types.specs.declared.node_events.NodeEventKind.{NodeEventKind}
 use Rattle.ocpi_types.specs.declared.node_events.NodeEventKind.TheVariants as event
 use Rattle.ocpi_types.specs.declared.packet.Packet.{Packet}
@@ -8,7 +8,7 @@ use Rattle.node_steps.specs.declared.fault.NodeFault.{NodeFault}
 use Rattle.node_steps.specs.declared.fault.NodeFault.TheVariants.{Memory}
 use Rattle.world_laws.specs.Laws.{IsSetup}
 use Rattle.world_steps.specs.Network.{Input}
-use Rattle.world_steps.specs.Steps.{NodeEvent, NodeRefuses, NodeStep, changes_of, input_of}
+use Rattle.world_steps.specs.Steps.{NodeRefuses, changes_of}
 use Rattle.world_steps.specs.World.{NodeState, opening_of}
 use Rattle.histories.specs.declared.entry.Entry.{Entry}
 use Rattle.history_laws.specs.Replays.{Brings, Does, EntryStep, Idle, Replays}
@@ -44,15 +44,17 @@ abbrev pub ChangesRows : {s : NodeState} {e : Entry} {t : NodeState} → EntrySt
 ChangesRows (Does x did) = changes_of x ≢ []
 ChangesRows (Idle idle) = ⊥
 
--- an entry leads from one state to the other, and whether a row changes by it
-pub record Leads (s : NodeState) (k : NodeEventKind) (packets : List Packet) (changed : Bool) (t : NodeState) : Type 0 where
-  pub step : EntryStep s (record { event = k; packets = packets }) t
-  pub tells : IsTrue changed ↔ ChangesRows step
-
 -- the event is none of the node's role
 pub record Passes (s : NodeState) (k : NodeEventKind) : Type 0 where
   pub taken : k ≢ event.Refused
   pub nothing : (x : Input) → Brings s k x → ⊥
+
+-- An entry leads from one state to the other, and whether a row changes by it. Its event is one of the node's role, or
+-- its storing was refused.
+pub record Leads (s : NodeState) (k : NodeEventKind) (packets : List Packet) (changed : Bool) (t : NodeState) : Type 0 where
+  pub own : Passes s k → ⊥
+  pub step : EntryStep s (record { event = k; packets = packets }) t
+  pub tells : IsTrue changed ↔ ChangesRows step
 
 -- the node refuses the event for that reason, which is not want of memory
 pub record Refuses (s : NodeState) (k : NodeEventKind) (why : NodeFault) : Type 0 where

@@ -49,11 +49,7 @@ fn carry_out(node: &mut Node, work: NodeWork) -> Result<Done, AllocError>
 
 /// What comes of an event at a node, which is done where the node does it; nothing of one that is none of its role. A
 /// refusal changes nothing.
-fn step(
-    alloc: Global,
-    node: &mut Node,
-    event: &NodeEventKind,
-) -> Result<Option<Done>, ReplayFault>
+fn step(alloc: Global, node: &mut Node, event: &NodeEventKind) -> Result<Option<Done>, ReplayFault>
     ensures ok { IfOk result (λ d. IsStep (state_of node.old) event.now d (state_of node.new)) }
     ensures err { IfErr result (Fails (state_of node.old) event.now) }
     ensures same { OnErr result (state_of node.new ≡ state_of node.old) }
