@@ -1,1 +1,1 @@
-pub mod EventLemmas
+pub mod EventLines

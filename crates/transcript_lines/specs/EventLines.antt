@@ -1,11 +1,20 @@
--- The event lines that are written of deliveries and restarts, as objects with their members in byte order.
-use Rattle.std.specs.Prelude.{◌≢◌, ℕ, List, [], ◌∷◌, codes}
-use Rattle.json_text.specs.Members.{Member, moment, text, whole, object_of, json_text}
+-- Event lines of a run of all nodes: those that are written, and those of one node.
+use Rattle.std.specs.Prelude.{◌≡◌, ◌≤◌, ℕ, List, [], ◌∷◌, Ok, codes}
+use Rattle.json_text.specs.Members.{Member, json_text, moment, object_of, text, whole}
+use Rattle.ocpi_text.specs.Moment.{last_moment}
+use Rattle.ocpi_text.specs.Party.{party_at}
+use Rattle.ocpi_text.specs.Whole.{max_whole}
 use Rattle.ocpi_types.specs.declared.field.Field.TheVariants as field
-use Rattle.ocpi_types.specs.declared.node_events.NodeEventKind.{NodeEventKind}
+use Rattle.ocpi_types.specs.declared.node_events.NodeEvent.{NodeEvent}
 use Rattle.ocpi_types.specs.declared.node_events.NodeEventKind.TheVariants as event
 use Rattle.ocpi_types.specs.declared.packet.Packet.{Packet}
+use Rattle.histories.specs.Weaving.{kind_of}
+use Rattle.ocpi_json.specs.EventForms.{event_in}
+use Rattle.ocpi_json.specs.NodeEventForms.{node_event_in}
 
+-- ---- what is written
+
+-- that a packet comes, which is named by its sender and its serial
 unfoldable pub delivery_members : ℕ → List ℕ → List ℕ → ℕ → List Member
 delivery_members at from node serial =
     moment field.At at
@@ -15,19 +24,29 @@ delivery_members at from node serial =
     ∷ whole field.Serial serial
     ∷ []
 
--- that packet arrives at a node
-abbrev pub delivery_line : ℕ → List ℕ → List ℕ → ℕ → List ℕ
-delivery_line at from node serial = json_text (object_of (delivery_members at from node serial))
+abbrev pub delivery_text : ℕ → List ℕ → List ℕ → ℕ → List ℕ
+delivery_text at from node serial = json_text (object_of (delivery_members at from node serial))
 
+-- that a node starts again
 unfoldable pub restart_members : List ℕ → List Member
-restart_members node =
-    text field.Event (codes "restart")
-    ∷ text field.Node node
-    ∷ []
+restart_members node = text field.Event (codes "restart") ∷ text field.Node node ∷ []
 
--- a node starts again
-abbrev pub restart_line : List ℕ → List ℕ
-restart_line node = json_text (object_of (restart_members node))
+abbrev pub restart_text : List ℕ → List ℕ
+restart_text node = json_text (object_of (restart_members node))
 
-abbrev pub IsNoDelivery : NodeEventKind → Type 0
-IsNoDelivery kind = (at : ℕ) (packet : Packet) → kind ≢ event.Deliver at packet
+-- what their types keep
+abbrev pub PartyFits : List ℕ → Type 0
+PartyFits p = party_at p ≡ Ok p
+
+pub record DeliveryFits (at : ℕ) (from node : List ℕ) (serial : ℕ) : Type 0 where
+  pub moment_fits : at ≤ last_moment
+  pub sender_fits : PartyFits from
+  pub node_fits : PartyFits node
+  pub serial_fits : serial ≤ max_whole
+
+-- ---- what one node reads
+
+-- a line that one node reads as an event is one of a run of all nodes, where it is no delivery
+abbrev pub NodeLinesAreLines : Type 0
+NodeLinesAreLines = (line : List ℕ) (x : NodeEvent) → node_event_in line ≡ Ok x → ((at : ℕ) (q : Packet) → x.kind ≡ event.Deliver at q → ⊥)
+    → event_in line ≡ Ok (record { node = x.node; kind = kind_of x.kind })

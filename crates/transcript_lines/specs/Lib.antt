@@ -1,3 +1,4 @@
-pub mod Done
+pub mod Dones
 pub mod EventLines
 pub mod Faults
+pub mod Members

@@ -1,29 +1,23 @@
-//! The lines of transcripts: a `done` line of one node's program read, and the event lines that `weave` writes itself.
+//! The lines of transcripts: the line that says what became of an echoed line (`done`), and the event lines of a woven
+//! run that were in no transcript.
 //!
 //! ```
-//! let mut scratch = Scratch::new(alloc);
 //! match read_done(alloc, &mut scratch, line)? {
 //!     Some(Done::Stepped { packets }) => ..,
-//!     Some(done) if done.is_refused_by(NodeFault::NotForMe) => ..,
+//!     Some(Done::Refused(Some(fault))) => ..,
 //!     ..
 //! }
-//! let line = write_delivery(alloc, at, &from, &node, serial)?;
-//! let line = write_restart(alloc, &node)?;
+//! let line = delivery_line(alloc, at, &from, &node, serial)?;
+//! let line = restart_line(alloc, &node)?;
 //! ```
-//!
-//! What `weave` writes is read by `play` as the events that were meant: see [`write_delivery`], [`write_restart`] and
-//! [`other_events_are_read_alike`].
 #![tactic(auto)]
 
 mod done;
-mod done_lines;
+mod event_lines;
 mod faults;
-mod laws;
+mod fields;
+pub mod laws;
 mod members;
-mod writing;
 
-pub use done::{Done, ToldFault};
-pub use done_lines::{is_run_without_lines, read_done};
-pub use faults::{event_fault_name, event_fault_number, line_fault_field, line_fault_name, line_fault_number};
-pub use laws::other_events_are_read_alike;
-pub use writing::{write_delivery, write_restart};
+pub use done::{Done, DoneFault, is_run_without_lines, read_done};
+pub use event_lines::{delivery_line, restart_line};

@@ -3,7 +3,8 @@
 ghost use Rattle.std.specs.Prelude.{◌≡◌, drop, option_map, IsTrue};
 ghost use Rattle.json_text.specs.Tag.{is_tagged};
 ghost use Rattle.json_text.specs.Trees.{view};
-ghost use Rattle.transcript_lines.specs.Done.{
+ghost use Rattle.transcript_lines.specs.Dones.{
+  number_under,
   number_value,
   optional_text_under,
   party_under,
@@ -25,15 +26,7 @@ fn is_tagged(text: &str) -> bool
     }
 }
 
-/// The token behind the mark.
-fn behind_tag(text: &str) -> &str
-    requires { IsTrue (is_tagged text.now) }
-    ensures { result.now ≡ drop 1 text.now }
-{
-    &text[1..]
-}
-
-/// A text.
+/// A text that is no number token.
 fn text_value<'a>(value: &Tree<'a>) -> Option<&'a str>
     ensures { option_map (λ s. s.now) result ≡ text_value (view value.now) }
 {
@@ -49,7 +42,7 @@ fn number_value<'a>(value: &Tree<'a>) -> Option<&'a str>
 {
     match value {
         Tree::Number(token) => Some(*token),
-        Tree::Text(text) if is_tagged(text) => Some(behind_tag(text)),
+        Tree::Text(text) if is_tagged(text) => Some(&text[1..]),
         _ => None,
     }
 }
@@ -78,16 +71,26 @@ pub fn optional_text_under<'a>(object: &Tree<'a>, name: &str) -> Option<Option<&
     }
 }
 
+/// The token of a member that is a number.
+fn number_under<'a>(object: &Tree<'a>, name: &str) -> Option<&'a str>
+    ensures { option_map (λ s. s.now) result ≡ number_under name.now (view object.now) }
+{
+    match object.get(name) {
+        Some(value) => number_value(value),
+        None => None,
+    }
+}
+
 /// The whole number of a member.
 pub fn whole_under(object: &Tree<'_>, name: &str) -> Option<Whole>
     ensures { result ≡ whole_under name.now (view object.now) }
 {
-    match object.get(name) {
-        Some(value) => match number_value(value) {
-            Some(token) => Whole::read(token).ok(),
-            None => None,
-        },
-        None => None,
+    let Some(token) = number_under(object, name) else {
+        return None;
+    };
+    match Whole::read(token) {
+        Ok(number) => Some(number),
+        Err(_) => None,
     }
 }
 
@@ -95,8 +98,11 @@ pub fn whole_under(object: &Tree<'_>, name: &str) -> Option<Whole>
 pub fn party_under(object: &Tree<'_>, name: &str) -> Option<Party>
     ensures { result ≡ party_under name.now (view object.now) }
 {
-    match text_under(object, name) {
-        Some(text) => Party::read(text).ok(),
-        None => None,
+    let Some(text) = text_under(object, name) else {
+        return None;
+    };
+    match Party::read(text) {
+        Ok(party) => Some(party),
+        Err(_) => None,
     }
 }
