@@ -26,6 +26,14 @@ fn is_tagged(text: &str) -> bool
     }
 }
 
+/// The token behind the mark.
+fn behind_tag(text: &str) -> &str
+    requires { IsTrue (is_tagged text.now) }
+    ensures { result.now ≡ drop 1 text.now }
+{
+    &text[1..]
+}
+
 /// A text that is no number token.
 fn text_value<'a>(value: &Tree<'a>) -> Option<&'a str>
     ensures { option_map (λ s. s.now) result ≡ text_value (view value.now) }
@@ -42,7 +50,7 @@ fn number_value<'a>(value: &Tree<'a>) -> Option<&'a str>
 {
     match value {
         Tree::Number(token) => Some(*token),
-        Tree::Text(text) if is_tagged(text) => Some(&text[1..]),
+        Tree::Text(text) if is_tagged(text) => Some(behind_tag(text)),
         _ => None,
     }
 }
