@@ -5,7 +5,6 @@ ghost use Rattle.std.specs.FinMap.{empty};
 ghost use Rattle.node_cell.specs.Keepers.{Commits, IsSettled, KeepsOn, keeper_of};
 ghost use Rattle.node_cell.specs.Stored.{
   Applies,
-  Brings,
   Fails,
   IsCarriedOut,
   IsKeptFor,

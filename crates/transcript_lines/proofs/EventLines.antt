@@ -7,7 +7,7 @@ use Rattle.json.specs.Print.{print}
 use Rattle.json.specs.Token.{Token}
 use Rattle.serde_json.specs.Data.{Data}
 use Rattle.json_text.specs.Line.{max_line}
-use Rattle.json_text.specs.Members.{json_text, object_of, said}
+use Rattle.json_text.specs.Members.{object_of, said}
 use Rattle.json_text.proofs.MemberForms.{moment_form, party_begins, party_form, tree, whole_form, word_form}
 use Rattle.json_text.proofs.ReadAgain.{text_is, tree_again}
 use Rattle.json_text.proofs.Tagged.{ascends}
@@ -16,13 +16,12 @@ use Rattle.ocpi_types.specs.Fields.{name_of}
 use Rattle.ocpi_types.specs.declared.events.Event.{Event}
 use Rattle.ocpi_types.specs.declared.events.EventKind.TheVariants as kind
 use Rattle.ocpi_types.specs.declared.field.Field.TheVariants as field
-use Rattle.ocpi_types.specs.declared.node_events.NodeEvent.{NodeEvent}
 use Rattle.ocpi_types.specs.declared.node_events.NodeEventKind.{NodeEventKind}
 use Rattle.ocpi_types.specs.declared.node_events.NodeEventKind.TheVariants as event
 use Rattle.ocpi_types.specs.declared.packet.Packet.{Packet}
 use Rattle.histories.specs.Weaving.{kind_of}
-use Rattle.ocpi_json.specs.EventForms.{IsEvent, IsEventLine, event_in, event_of_word, word_of_kind}
-use Rattle.ocpi_json.specs.NodeEventForms.{IsNodeEvent, node_event_in}
+use Rattle.ocpi_json.specs.EventForms.{IsEvent, event_in, event_of_word, word_of_kind}
+use Rattle.ocpi_json.specs.NodeEventForms.{IsNodeEvent}
 use Rattle.ocpi_json.proofs.EventLemmas.{event_of_line_exact, event_only}
 use Rattle.ocpi_json.proofs.NodeEventLemmas.{node_event_found}
 use Rattle.transcript_lines.specs.EventLines.{DeliveryFits, NodeLinesAreLines, PartyFits, delivery_members, delivery_text, restart_members, restart_text}
