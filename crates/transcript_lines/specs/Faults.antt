@@ -20,6 +20,27 @@ line_fault_name (line.UnknownWord field) = codes "UnknownWord"
 line_fault_name line.UnknownKind = codes "UnknownKind"
 line_fault_name line.Memory = codes "Memory"
 
+abbrev pub line_fault_number : JsonFault → ℕ
+line_fault_number line.Syntax = 1
+line_fault_number line.BadNumberToken = 2
+line_fault_number line.TaggedText = 3
+line_fault_number (line.Missing field) = 4
+line_fault_number (line.WrongForm field) = 5
+line_fault_number (line.UnknownWord field) = 6
+line_fault_number line.UnknownKind = 7
+line_fault_number line.Memory = 8
+
+-- the member at fault, where there is one
+abbrev pub line_fault_field : JsonFault → Option Field
+line_fault_field line.Syntax = None
+line_fault_field line.BadNumberToken = None
+line_fault_field line.TaggedText = None
+line_fault_field (line.Missing field) = Some field
+line_fault_field (line.WrongForm field) = Some field
+line_fault_field (line.UnknownWord field) = Some field
+line_fault_field line.UnknownKind = None
+line_fault_field line.Memory = None
+
 -- because of no member
 abbrev pub line_fault_numbered : ℕ → Option JsonFault
 line_fault_numbered n =
@@ -53,6 +74,14 @@ event_fault_name event.StampEnd = codes "StampEnd"
 event_fault_name event.Memory = codes "Memory"
 event_fault_name event.UnknownOperator = codes "UnknownOperator"
 event_fault_name event.UnknownToken = codes "UnknownToken"
+
+abbrev pub event_fault_number : NodeFault → ℕ
+event_fault_number event.NotForMe = 1
+event_fault_number event.NumbersUsedUp = 2
+event_fault_number event.StampEnd = 3
+event_fault_number event.Memory = 4
+event_fault_number event.UnknownOperator = 5
+event_fault_number event.UnknownToken = 6
 
 abbrev pub event_fault_numbered : ℕ → Option NodeFault
 event_fault_numbered n =

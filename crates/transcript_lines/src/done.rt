@@ -32,7 +32,9 @@ pub enum Done {
         serial: Whole,
     },
     /// Rows were changed, or packets sent: so many.
-    Stepped { packets: Whole },
+    Stepped {
+        packets: Whole,
+    },
     /// The event was this node's, changed no row and sent nothing.
     Idle,
     /// The event is another node's, or of the other role.
