@@ -1,2 +1,4 @@
-pub mod EventLines
 pub mod Dones
+pub mod EventLines
+pub mod Faults
+pub mod Members
