@@ -6,7 +6,7 @@ choice of them into bench/fail_allocations, of which it tells the names.
 
 Both folders are those of this repository, or of FOLDER where it is given. What each part holds is told in `call_cases`,
 `packet_cases`, `book_cases`, `operator_cases`, `provider_cases`, `stored_cases`, `world_cases`, `kept_cases`,
-`store_cases` and `cell_cases`. To see where the program differs:
+`store_cases`, `cell_cases` and `woven_cases`. To see where the program differs:
 
     tools/try_cases
 """
@@ -24,6 +24,7 @@ import provider_cases
 import store_cases
 import stored_cases
 import world_cases
+import woven_cases
 
 TOP = pathlib.Path(__file__).resolve().parents[2]
 PARTS = {
@@ -37,6 +38,7 @@ PARTS = {
     "kept_nodes": kept_cases,
     "stores": store_cases,
     "cells": cell_cases,
+    "woven": woven_cases,
 }
 
 
@@ -61,7 +63,7 @@ def main():
         write(lines / name, part(name, given))
         write(lines / f"{name}.stdout", gives)
         print(f"{name}: {len(given)} lines")
-    without_memory = [(role, *case) for role in ("operator", "provider", "nodes", "kept_nodes", "cells") for case in PARTS[role].cases_without_memory()]
+    without_memory = [(role, *case) for role in ("operator", "provider", "nodes", "kept_nodes", "cells", "woven") for case in PARTS[role].cases_without_memory()]
     for at, (role, name, given, gives) in enumerate(without_memory, 1):
         write(failing / f"{at}", part(role, given))
         write(failing / f"{at}.stdout", gives)
