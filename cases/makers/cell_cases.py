@@ -4,11 +4,12 @@ a desk, and receipts.
 The events are those of the charge of `kept_cases` at each of its two nodes: each is entered, also where it changes nothing. An
 event that is refused is not. A history takes 100,000 entries.
 """
-from kept_cases import PARTIES, SETUP, events_of
+from kept_cases import PARTIES, REFUSED, SETUP, events_of
 from operator_case import moment, text
 
 LINES, WANTED = [], []
 MOST_ENTRIES = 100_000
+MISSING = "passes are missing"
 
 
 def line(given, *gives):
@@ -57,15 +58,60 @@ def desk_of_two_passes():
     """Each call has the next place; a desk closes with both passes alone; the receipts are the history."""
     tick = text({"event": "tick", "node": "NL/TNM", "at": moment("10:32:00")})
     opened("NL/TNM")
-    missing = "passes are missing"
-    line("desk 3 " + tick, *("place %d, seen %d" % (at, at + 1) for at in range(3)), missing, "audited 3", "fresh 3")
+    line("desk 3 " + tick, *("place %d, seen %d" % (at, at + 1) for at in range(3)), MISSING, "audited 3", "fresh 3")
     line("audit", "audited 3")
-    line("desk 1 " + tick, "place 3, seen 4", missing, "audited 1", "fresh 4")
+    line("desk 1 " + tick, "place 3, seen 4", MISSING, "audited 1", "fresh 4")
     order = text({"event": "submit", "node": "NL/TNM", "at": moment("10:32:00"), "operator": "FR/FRC", "order": "stop_session",
                   "session_id": "S1"})
-    line("desk 2 " + order, *["refused 5 UnknownOperator"] * 2, missing, "audited 0", "fresh 4")
+    line("desk 2 " + order, *["refused 5 UnknownOperator"] * 2, MISSING, "audited 0", "fresh 4")
     line("reopen NL/TNM", "again 0")
-    line("desk 1 " + tick, "place 0, seen 1", missing, "audited 1", "again 1")
+    line("desk 1 " + tick, "place 0, seen 1", MISSING, "audited 1", "again 1")
+
+
+def called(events, refused=None):
+    """The calls of a desk, one for each event, and what they give. The commit of one event is refused, if so told: all is as
+    before, and that event comes again."""
+    lines, gives = [], []
+    for place, (given, sent, _) in enumerate(events):
+        if place == refused:
+            lines.append(given)
+            gives.append(REFUSED)
+        lines.append(given)
+        gives += [*sent[:-1], "place %d, seen %d" % (place, place + 1)]
+    line("calls " + "\t".join(lines), *gives, MISSING, "audited %d" % len(events), "fresh %d" % len(events))
+
+
+def goes_on(party, events, number):
+    """What is kept of so many events is what the node is then made of: the next event gives what it gives without a stop."""
+    line("reopen " + party, "again 0")
+    for given, gives, _ in events[number : number + 1]:
+        line(given, *gives[:-1], "entry 0")
+
+
+def charge_behind_a_desk(party):
+    """Two passes bring the events of the charge in turn: the packets are those of a node without a desk."""
+    opened(party)
+    called(events_of(party))
+    goes_on(party, [], 0)
+
+
+def each_commit_refused_behind_a_desk(party):
+    """Each commit of the charge is refused in turn."""
+    events = events_of(party)
+    commits = [at for at, (_, gives, _) in enumerate(events) if "changed" in gives]
+    for number, at in enumerate(commits, 1):
+        opened(party)
+        line("refuse %d" % number)
+        called(events[: at + 2], at)
+        goes_on(party, events, at + 2)
+
+
+def calls_until_a_history_is_full():
+    """Each of 100,000 calls of one desk is entered, and the next one is refused."""
+    opened("BE/BEC")
+    told = range(9_999, MOST_ENTRIES, 10_000)
+    line("busy %d %s" % (MOST_ENTRIES + 1, text({"event": "refused", "node": "BE/BEC"})),
+         *("place %d, seen %d" % (at, at + 1) for at in told), "full", MISSING, "audited %d" % MOST_ENTRIES, "fresh %d" % MOST_ENTRIES)
 
 
 def full_history():
@@ -76,7 +122,7 @@ def full_history():
     line(first[0], *first[1][:-1], "entry %d" % (MOST_ENTRIES - 1))
     line(first[0], "full")
     line("times 2 " + text({"event": "refused", "node": "BE/BEC"}), "full", "fresh %d" % MOST_ENTRIES)
-    line("desk 1 " + text({"event": "refused", "node": "BE/BEC"}), "full", "passes are missing", "audited 0", "fresh %d" % MOST_ENTRIES)
+    line("desk 1 " + text({"event": "refused", "node": "BE/BEC"}), "full", MISSING, "audited 0", "fresh %d" % MOST_ENTRIES)
     line("audit", "audited %d" % MOST_ENTRIES)
     line("reopen BE/BEC", "again 0")
 
@@ -87,7 +133,11 @@ def cases():
         charge(party)
     what_changes_nothing()
     desk_of_two_passes()
+    for party in PARTIES:
+        charge_behind_a_desk(party)
+        each_commit_refused_behind_a_desk(party)
     full_history()
+    calls_until_a_history_is_full()
     return LINES, WANTED
 
 
@@ -99,12 +149,24 @@ def without_memory(party):
     line("reopen " + party, "again 0")
 
 
+def desk_without_memory(party):
+    """Three calls of a desk of two passes, which is then closed, and an audit; and then the node of what is kept."""
+    events = events_of(party)
+    opened(party)
+    called(events[:3])
+    goes_on(party, events, 3)
+
+
 def cases_without_memory():
     """The cases in which each allocation fails once: of each its name, the lines, and what they must give."""
     found = []
-    for party in PARTIES:
-        lines, wanted = len(LINES), len(WANTED)
-        without_memory(party)
-        found.append(("a charge at %s with its history, which is then opened again" % party, LINES[lines:], WANTED[wanted:]))
-        del LINES[lines:], WANTED[wanted:]
+    for name, told in (
+        ("a charge at %s with its history, which is then opened again", without_memory),
+        ("three calls of a desk of %s, which is then opened again", desk_without_memory),
+    ):
+        for party in PARTIES:
+            lines, wanted = len(LINES), len(WANTED)
+            told(party)
+            found.append((name % party, LINES[lines:], WANTED[wanted:]))
+            del LINES[lines:], WANTED[wanted:]
     return found
