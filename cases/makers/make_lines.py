@@ -6,7 +6,7 @@ choice of them into bench/fail_allocations, of which it tells the names.
 
 Both folders are those of this repository, or of FOLDER where it is given. What each part holds is told in `call_cases`,
 `packet_cases`, `book_cases`, `operator_cases`, `provider_cases`, `stored_cases`, `world_cases`, `kept_cases`,
-`store_cases`, `cell_cases` and `woven_cases`. To see where the program differs:
+`store_cases`, `cell_cases`, `woven_cases` and `thread_cases`. To see where the program differs:
 
     tools/try_cases
 """
@@ -23,6 +23,7 @@ import packet_cases
 import provider_cases
 import store_cases
 import stored_cases
+import thread_cases
 import world_cases
 import woven_cases
 
@@ -39,6 +40,7 @@ PARTS = {
     "stores": store_cases,
     "cells": cell_cases,
     "woven": woven_cases,
+    "threads": thread_cases,
 }
 
 
