@@ -2,7 +2,8 @@
 """The command `rt` of the kit as a module, for the scripts beside this one; as a program it is that command: kit.py WORD..
 
 A crate's sum has those of the crates below it in it. Some kits take the sum of a crate once for each path that leads to it,
-which at the upper crates is tens of thousands of times. Here it is taken once for each question.
+which at the upper crates is tens of thousands of times. Here it is taken once for each question. The same holds of the crates
+below a crate, which do not change: they are found once.
 """
 import importlib.machinery
 import importlib.util
@@ -19,7 +20,20 @@ def load_rt():
     made = importlib.util.module_from_spec(importlib.util.spec_from_loader("rt", loader))
     loader.exec_module(made)
     made.rtlib.Crate.stamp = taken_once(made.rtlib.Crate.stamp)
+    made.rtlib.Crate.below = found_once(made.rtlib.Crate.below)
     return made
+
+
+def found_once(below):
+    """How the crates below a crate are found, once for each crate."""
+    found = {}
+
+    def of(crate):
+        if crate.folder not in found:
+            found[crate.folder] = below(crate)
+        return list(found[crate.folder])
+
+    return of
 
 
 def taken_once(stamp):
