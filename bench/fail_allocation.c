@@ -1,5 +1,5 @@
 /* Linked into a program in place of malloc and realloc (tools/build_unproved): the allocation of the number that
-   FAIL_ALLOCATION names fails, counted from 1, and standard error says so. */
+   FAIL_ALLOCATION names fails, counted from 1 over all threads, and standard error says so. */
 #include <stdlib.h>
 #include <unistd.h>
 
@@ -7,7 +7,7 @@ extern void *__real_malloc(size_t);
 extern void *__real_realloc(void *, size_t);
 
 static int fails(void) {
-    static long count, wanted = -1;
+    static _Atomic long count, wanted = -1;
     if (wanted < 0) {
         const char *text = getenv("FAIL_ALLOCATION");
         wanted = text ? atol(text) : 0;

@@ -15,7 +15,7 @@ trap 'rm -rf "$room"' EXIT
 # `fails` to how many failed, which is 0 or 1, and `again` to how many steps were tried again.
 try_allocation() {
     local ended=0 size
-    FAIL_ALLOCATION=$2 "$program" < "$1" > "$room/out" 2> "$room/said" || ended=$?
+    FAIL_ALLOCATION=$2 timeout 60 "$program" < "$1" > "$room/out" 2> "$room/said" || ended=$?
     fails=$(grep -cx 'an allocation failed' "$room/said") || :
     again=$(sed -n 's/^steps that were made once more: //p' "$room/said")
     again=${again:-0}

@@ -56,6 +56,15 @@ def order_comes_twice():
     line("deliveries FR/FRC NL/TNM 3", "0")
 
 
+def two_nodes():
+    """A token goes to the one operator, and comes twice; so does each acknowledgement. Two nodes, in three rounds at most."""
+    line("setup " + text({"nodes": [
+        {"party": "BE/BEC", "site": site("BE/BEC", "EUR", 0.25, LOC1=["E1"])}, {"party": "NL/TNM"}]}))
+    token_told()
+    line("every twice")
+    ran(5, 7, BE_BEC=2, NL_TNM=5)
+
+
 def all_is_lost():
     """Where each packet is lost, the event of the node is the only entry."""
     line("setup " + SETUP)
@@ -78,15 +87,17 @@ def cases():
     """The lines, and what they give."""
     two_nodes_meet()
     order_comes_twice()
+    two_nodes()
     all_is_lost()
     held_back()
     return LINES, WANTED
 
 
 def cases_without_memory():
-    """The case in which each allocation fails once: its name, the lines, and what they must give."""
+    """The case in which each allocation fails once: its name, the lines, and what they must give. (Which allocation has a number
+    depends on the threads, but each number is one.)"""
     lines, wanted = len(LINES), len(WANTED)
-    order_comes_twice()
-    found = [("a token and an order on threads, each packet twice", LINES[lines:], WANTED[wanted:])]
+    two_nodes()
+    found = [("a token at two nodes on threads, where each packet comes twice", LINES[lines:], WANTED[wanted:])]
     del LINES[lines:], WANTED[wanted:]
     return found
