@@ -11,7 +11,7 @@ use std::alloc::Global;
 pub const WRONG_WORDS: u8 = 2;
 
 /// The programs, with what the command line says for each.
-#[derive(Clone, Copy, Debug, PartialEq, Eq)]
+#[derive(Drop)]
 pub enum Word<'a> {
     Answer,
     /// With the folder of the stores, where the nodes keep their rows in files.
@@ -19,6 +19,8 @@ pub enum Word<'a> {
     /// Of a store's file.
     Settle(&'a str),
     Node(NodeWords<'a>),
+    /// Of the files of transcripts, in their order, as they were given.
+    Weave(Vec<&'a str>),
 }
 
 /// What the command line says for a run of one node.
@@ -33,7 +35,7 @@ pub struct NodeWords<'a> {
 }
 
 /// Takes the command line `ocpi_nodes [answer | play [--store DIR] | node PARTY [--store FILE] [--echo] | settle FILE |
-/// help [COMMAND]]`, or gives clap's text: the help or the version that was asked for, or what is wrong.
+/// weave FILE.. | help [COMMAND]]`, or gives clap's text: the help or the version that was asked for, or what is wrong.
 pub fn take_words<'a>(alloc: Global, words: &'a [String]) -> Result<Word<'a>, Error> {
     let command = Command::new(alloc, "ocpi_nodes")
         .version("0.1.0")
@@ -43,8 +45,12 @@ pub fn take_words<'a>(alloc: Global, words: &'a [String]) -> Result<Word<'a>, Er
     let command = with_word(command, play(alloc))?;
     let command = with_word(command, node(alloc))?;
     let command = with_word(command, settle(alloc))?;
+    let command = with_word(command, weave(alloc))?;
     let matches = command.try_get_matches_from(words)?;
-    Ok(word_of(&matches))
+    match matches.subcommand_matches("weave") {
+        Some(given) => weave_word(alloc, given),
+        None => Ok(word_of(&matches)),
+    }
 }
 
 /// The command with one word more. It lets the command go by a call where there is no such word, since a `?` would
@@ -117,7 +123,31 @@ fn settle<'a>(alloc: Global) -> Result<Command<'a>, Error> {
     Ok(command)
 }
 
-/// The program that was named, and `answer` where none was.
+fn weave<'a>(alloc: Global) -> Result<Command<'a>, Error> {
+    let files = Arg::new(alloc, "files")
+        .value_name("FILE")
+        .required(true)
+        .action(ArgAction::Append)
+        .help("The transcript of a node, as `node --echo` wrote it");
+    let command = Command::new(alloc, "weave")
+        .about("Make one run of the transcripts of several nodes, as input of `play`")
+        .after_help(help::WEAVE)
+        .arg(files)?;
+    Ok(command)
+}
+
+/// `weave` with its files.
+fn weave_word<'a>(alloc: Global, given: &ArgMatches<'a>) -> Result<Word<'a>, Error> {
+    let mut files = Vec::new(alloc);
+    if let Some(names) = given.get_strs("files") {
+        for name in names {
+            files.push(*name)?;
+        }
+    }
+    Ok(Word::Weave(files))
+}
+
+/// The program that was named, and `answer` where none was; of those beside `weave`.
 fn word_of<'a>(matches: &ArgMatches<'a>) -> Word<'a> {
     if let Some(given) = matches.subcommand_matches("play") {
         return Word::Play(given.get_str("store"));

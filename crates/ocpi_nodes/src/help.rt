@@ -11,12 +11,13 @@ Examples, in the folder of the repository:
   mkdir stores && ./ocpi_nodes play --store stores < examples/charge.jsonl
   ./ocpi_nodes settle stores/node2.db
   ./ocpi_nodes node BE/BEC --store be.db < examples/operators_day.jsonl
+  ./ocpi_nodes weave be.transcript nl.transcript | ./ocpi_nodes play
 
 Exit status:
-  0  no line was refused
-  1  a line was refused, or reading or writing failed, which standard error says
+  0  nothing was refused
+  1  a line or a transcript was refused, or reading or writing failed, which standard error says
   2  the command line is wrong
-  3  a store refused: standard error says which, why, and what to do"#;
+  3  a store refused, or a file was not read: standard error says which, why, and what to do"#;
 
 /// After the help of `answer`.
 pub const ANSWER: &str =
@@ -128,3 +129,31 @@ Exit status:
 
 Example, after `ocpi_nodes play --store stores`:
   ./ocpi_nodes settle stores/node2.db"#;
+
+/// After the help of `weave`.
+pub const WEAVE: &str =
+    r#"Input: each FILE is a transcript, all that `node PARTY --echo` read and wrote for one node. Several
+  runs over one store stand in it one behind the other. The setups of all are equal, the parties
+  differ. A last line that has no end was cut, and is left out. Standard input is not read.
+
+Output, on standard output: one run in which all happened that the transcripts tell, as input of
+  `play`: the setup line of the first FILE, then an event a line, each delivery behind its sending.
+  Or why there is none, and nothing else:
+    refused 1 NeverSent(BE/BEC 9)        a packet of that serial came, which its sender never sent
+    refused 2 Differs(BE/BEC 9)          its sender sent another one under that serial
+    refused 3 NoOrder(FILE:12 FILE:7)    each of these lines waits for what is sent behind another
+    refused 4 Memory                     memory ran out
+    refused 5 NotARun(FILE:12)           the node would have answered that line otherwise
+    refused 6 WrongTranscript(FILE:12)   it is no line of one, or has another setup or party
+    refused 7 TooManyWays(FILE:12)       stops leave open what was carried out, in more than 64 ways
+  FILE:12 is a line of that file, from 1; at line 0 no run in it was opened. docs/DISPUTES.md says
+  what follows from each.
+
+Exit status:
+  0  a run was written
+  1  the transcripts were refused, or writing failed, which standard error says
+  2  the command line is wrong
+  3  a file was not read, which standard error says; nothing is said of the others
+
+Example, with the transcripts of two partners:
+  ./ocpi_nodes weave be.transcript nl.transcript | ./ocpi_nodes play"#;

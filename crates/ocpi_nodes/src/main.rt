@@ -9,6 +9,7 @@ ghost use Rattle.node_runs.specs.Stops.{node_status};
 mod command;
 mod help;
 mod refusal;
+mod weaving;
 
 use clap::Error;
 use clap::error::ErrorKind;
@@ -24,6 +25,7 @@ use refusal::{words_for, words_for_reason};
 use std::io::{self, BufReader, BufWriter, IsTerminal, Write};
 use std::process::ExitCode;
 use stored_rows::BadRow;
+use weaving::{report_weave, weave_files};
 
 /// What one read asks for, and what is written at once, in bytes.
 const BUFFER_BYTES: usize = 65_536;
@@ -113,6 +115,7 @@ fn run_word(rt: &HostRuntime, word: Word<'_>) -> u8 {
             let ran = run_one_node(rt, &words);
             return report_node(rt, ran, &words);
         }
+        Word::Weave(files) => return report_weave(rt, weave_files(rt, files.as_slice())),
     };
     report(rt, ran, place.as_str())
 }

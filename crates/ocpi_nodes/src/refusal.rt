@@ -1,6 +1,7 @@
-//! Why a store refused, in words, and what to do about it.
+//! Why a store refused, or a file was not read, in words, and what to do about it.
 
 use node_store::{Cause, StoreFault};
+use std::io::ErrorKind;
 use stored_rows::BadReason;
 
 /// The words for a refusal. They follow the name of the file or of its folder.
@@ -82,5 +83,18 @@ pub fn words_for_reason(reason: BadReason) -> &'static str {
             "the session of the charge detail record is not there as completed"
         }
         BadReason::Unbilled => "the completed session has no charge detail record",
+    }
+}
+
+/// The words for why the file of a transcript was not read. They follow its name.
+pub fn words_for_unread(kind: ErrorKind) -> &'static str {
+    match kind {
+        ErrorKind::NotFound | ErrorKind::NotADirectory => {
+            "there is no such file: name a transcript, as a run of `node --echo` wrote it"
+        }
+        ErrorKind::IsADirectory =>
+            "it is a folder: name a transcript, as a run of `node --echo` wrote it",
+        ErrorKind::PermissionDenied => "no permission: the file must be readable",
+        _ => "it cannot be read: the system's log says more",
     }
 }

@@ -1,0 +1,61 @@
+-- The lines of a file, found one by one at the next line feed.
+use Rattle.std.proofs.Common.{◌≡◌, ◌≢◌, ℕ, zero, suc, ◌+◌, ◌<◌, ◌≤◌, true, cond, eqb, List, [], ◌∷◌, ◌++◌, All, length, take, drop, refl, sym, ap, ◌∙◌, arith, ne_eqb, eqb-true, eq-eqb, length-append}
+use Rattle.std.proofs.lemmas.List.{append-nil, append_assoc}
+use Rattle.std.proofs.lemmas.List.Elements.{All-nil, All-cons, All-head, All-tail}
+use Rattle.std.specs.Prelude.{slice_index}
+use Rattle.memchr.specs.Find.{Nowhere, Passes, is_byte}
+use Rattle.transcript_parts.specs.Lines.{Line, and_line, lines_behind}
+
+-- what stands before a line feed is the rest of the line
+pub to_feed : (n : ℕ) (line front rest : List ℕ) → All (λ x. x ≢ 10) front
+    → lines_behind n line (front ++ 10 ∷ rest) ≡ and_line (n + 1) (line ++ front) (lines_behind (n + 1) [] rest)
+unfolding lines_behind
+to_feed n line [] rest plain = ap (λ l. and_line (n + 1) l (lines_behind (n + 1) [] rest)) (sym (append-nil line))
+to_feed n line (x ∷ xs) rest plain =
+    ap (λ b. cond b (and_line (n + 1) line (lines_behind (n + 1) [] (xs ++ 10 ∷ rest))) (lines_behind n (line ++ x ∷ []) (xs ++ 10 ∷ rest))) (ne_eqb x 10 (All-head (λ y. y ≢ 10) x xs plain))
+    ∙ to_feed n (line ++ x ∷ []) xs rest (All-tail (λ y. y ≢ 10) x xs plain)
+    ∙ ap (λ l. and_line (n + 1) l (lines_behind (n + 1) [] rest)) (append_assoc line (x ∷ []) xs)
+
+-- with no line feed there is no line
+pub no_feed : (n : ℕ) (line text : List ℕ) → All (λ x. x ≢ 10) text → lines_behind n line text ≡ []
+unfolding lines_behind
+no_feed n line [] plain = refl
+no_feed n line (x ∷ xs) plain =
+    ap (λ b. cond b (and_line (n + 1) line (lines_behind (n + 1) [] xs)) (lines_behind n (line ++ x ∷ []) xs)) (ne_eqb x 10 (All-head (λ y. y ≢ 10) x xs plain))
+    ∙ no_feed n (line ++ x ∷ []) xs (All-tail (λ y. y ≢ 10) x xs plain)
+
+-- where the search found no line feed up to a place, there is none
+pub plain_before : (text : List ℕ) (i : ℕ) → i ≤ length text → Nowhere (Passes (is_byte 10) text) 0 i → All (λ x. x ≢ 10) (take i text)
+plain_before text zero bound none = All-nil (λ x. x ≢ 10)
+plain_before [] (suc i) bound none = absurd (omega (arith, bound))
+plain_before (x ∷ xs) (suc i) bound none = All-cons (λ y. y ≢ 10) x (take i xs) (λ e. none 0 (omega arith) (omega arith) (eq-eqb x 10 e))
+    (plain_before xs i (omega (arith, bound)) (λ k low high is. none (suc k) (omega arith) (omega (arith, high)) is))
+
+-- a text is what stands before a line feed, that, and what stands behind it
+cut_behind : (text : List ℕ) (i : ℕ) → i < length text → Passes (is_byte 10) text i → text ≡ take i text ++ 10 ∷ drop (suc i) text
+cut_behind [] i bound is = absurd (omega (arith, bound))
+cut_behind (x ∷ xs) zero bound is = ap (λ y. y ∷ xs) (eqb-true x 10 is)
+cut_behind (x ∷ xs) (suc i) bound is = ap (λ l. x ∷ l) (cut_behind xs i (omega (arith, bound)) is)
+
+pub cut_at : (text : List ℕ) (i : ℕ) → i < length text → Passes (is_byte 10) text i → text ≡ take i text ++ 10 ∷ drop (i + 1) text
+cut_at text i bound is =
+    let next : suc i ≡ i + 1 = omega arith in
+    cut_behind text i bound is ∙ ap (λ n. take i text ++ 10 ∷ drop n text) next
+
+-- how long a text with a line feed is
+pub cut_length : (text front rest : List ℕ) → text ≡ front ++ 10 ∷ rest → length text ≡ length front + 1 + length rest
+cut_length text front rest e =
+    let whole = ap length e ∙ length-append front (10 ∷ rest) in
+    omega (arith, whole)
+
+-- the lines of a text with a line feed: where something stands before that, it is the first; else none is lost
+pub first_is : (n : ℕ) (text front rest : List ℕ) → text ≡ front ++ 10 ∷ rest → All (λ x. x ≢ 10) front → lines_behind n [] text ≡ and_line (n + 1) front (lines_behind (n + 1) [] rest)
+first_is n text front rest e plain = ap (lines_behind n []) e ∙ to_feed n [] front rest plain
+
+pub some_line : (n : ℕ) (front : List ℕ) (others : List Line) → 0 < length front → and_line n front others ≡ record { number = n; bytes = front } ∷ others
+some_line n [] others some = absurd (omega (arith, some))
+some_line n (c ∷ cs) others some = refl
+
+pub no_line : (n : ℕ) (front : List ℕ) (others : List Line) → length front ≡ 0 → and_line n front others ≡ others
+no_line n [] others none = refl
+no_line n (c ∷ cs) others none = absurd (omega (arith, none))

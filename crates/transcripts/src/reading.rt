@@ -1,0 +1,481 @@
+//! The reading of a transcript, part by part.
+
+ghost use Rattle.std.specs.Prelude.{◌≡◌, Contains, IfOk, IfSome, IsTrue, None, Ok, OnOk, [], ℕ};
+ghost use Rattle.ocpi_json.specs.NodeEventForms.{node_event_in};
+ghost use Rattle.ocpi_json.specs.SetupForms.{setup_in};
+ghost use Rattle.transcript_parts.specs.LineReads.{GivesNone};
+ghost use Rattle.ocpi_types.specs.Setups.{party_of};
+ghost use Rattle.transcripts.specs.Following.{
+  IsNew,
+  TakesLine,
+  TakesPart,
+};
+ghost use Rattle.transcript_parts.specs.declared.line_read.Ending.TheVariants.{Answered, FileEnd, NextRun};
+ghost use Rattle.transcript_parts.specs.declared.parts.Part.TheVariants.{Line as OfLine};
+ghost use Rattle.transcript_lines.specs.declared.done.Done.TheVariants as done;
+
+use crate::all_ways::{count_behind, go_on, happen_in_ways};
+use crate::transcript::Transcript;
+use crate::way::{Unanswered, Way};
+use json_text::JsonFault;
+use node_core::nodes_of;
+use node_steps::NodeFault;
+use ocpi_json::{Scratch, read_node_event};
+use ocpi_text::Party;
+use ocpi_types::{Node, NodeEvent, Setup};
+use setup_equality::are_equal;
+use std::alloc::Global;
+use std::marker::Model;
+use transcript_lines::Done;
+use transcript_parts::{
+    EchoedLine, Ending, LineRead, Opened, Part, TranscriptFault, is_refused_setup, opened_by,
+    opened_setup, pass_line,
+};
+
+/// The most ways that are followed.
+const MOST_WAYS: usize = 64;
+
+/// What the parts so far tell: the ways in which it may have happened, those first that are preferred.
+pub(crate) struct Reading<'a> {
+    alloc: Global,
+    setup: &'a Setup,
+    ways: Vec<Way<'a>>,
+    /// Whether a run is open.
+    within: bool,
+    /// What the last stop left open, until the next run is opened.
+    unanswered: Option<Unanswered<'a>>,
+}
+
+/// What a derive would do, in a function of its own: so it is proved once.
+impl<'a> Drop for Reading<'a> {
+    fn drop(self) {
+        let Reading {
+            alloc: _,
+            setup: _,
+            ways,
+            within: _,
+            unanswered,
+        } = self;
+        drop(ways);
+        drop(unanswered);
+    }
+}
+
+impl<'a> Model for Reading<'a> {
+    ghost use Rattle.std.specs.Coded.{codes};
+    ghost use Rattle.std.specs.FinMap as map;
+    ghost use Rattle.transcripts.specs.Following.{Reading};
+
+    ghost Value = { Reading };
+
+    ghost coded = { Prim.hlevel (codes, map.code) };
+
+    ghost view = { λ r. record { setup = r.setup.now; ways = r.ways.items; unanswered = r.unanswered } };
+}
+
+/// The node of a setup whose party is spelled so.
+fn member_spelled<'a>(nodes: &'a [Node], party: &Party) -> Option<&'a Node>
+    ensures { IfSome result (λ member. Contains nodes.now member.now × (party_of member.now ≡ party.now)) }
+{
+    for node in nodes {
+        if node.party().as_str() == party.as_str() {
+            return Some(node);
+        }
+    }
+    None
+}
+
+/// Whether none of the transcripts is of that party.
+fn is_new(transcripts: &[Transcript<'_>], party: &Party) -> bool
+    ensures { IsTrue result → IsNew transcripts.now party.now }
+{
+    for transcript in transcripts {
+        if transcript.party().is_same(party) {
+            return false;
+        }
+    }
+    true
+}
+
+/// The event of a line, which has to be one.
+fn event_of(
+    alloc: Global,
+    scratch: &mut Scratch,
+    part: &LineRead<'_>,
+) -> Result<NodeEvent, TranscriptFault>
+    ensures { IfOk result (λ event. node_event_in part.now.line.bytes ≡ Ok event) }
+{
+    match read_node_event(alloc, scratch, part.line().bytes) {
+        Ok(event) => Ok(event),
+        Err(JsonFault::Memory) => Err(TranscriptFault::Memory),
+        Err(_) => Err(TranscriptFault::NotARun(part.line().number)),
+    }
+}
+
+/// Whether an event line is refused so.
+fn is_refused_event(
+    alloc: Global,
+    scratch: &mut Scratch,
+    line: EchoedLine<'_>,
+    told: Option<JsonFault>,
+) -> Result<bool, TranscriptFault> {
+    match read_node_event(alloc, scratch, line.bytes) {
+        Ok(_) => Ok(false),
+        Err(JsonFault::Memory) => Err(TranscriptFault::Memory),
+        Err(fault) => Ok(told == Some(fault)),
+    }
+}
+
+impl<'a> Reading<'a> {
+    /// Nothing is read yet.
+    pub(crate) fn new(alloc: Global, setup: &'a Setup) -> Reading<'a>
+        ensures { result ≡ record { setup = setup.now; ways = []; unanswered = None } }
+    {
+        Reading {
+            alloc,
+            setup,
+            ways: Vec::new(alloc),
+            within: false,
+            unanswered: None,
+        }
+    }
+
+    /// The way that is preferred, where a run was opened.
+    pub(crate) fn into_first(self) -> Option<Way<'a>>
+        ensures { IfSome result (Contains self.entry.ways) }
+    {
+        let Reading {
+            alloc: _,
+            setup: _,
+            ways,
+            within: _,
+            unanswered,
+        } = self;
+        drop(unanswered);
+        let mut ways = ways;
+        if ways.is_empty() {
+            return None;
+        }
+        Some(ways.remove(0))
+    }
+
+    /// Takes a part. Where it is refused, what is read is of no use any more.
+    pub(crate) fn take(
+        &mut self,
+        scratch: &mut Scratch,
+        part: Part<'a>,
+        earlier: &[Transcript<'a>],
+    ) -> Result<(), TranscriptFault>
+        ensures { OnOk result (TakesPart earlier.now self.old part.entry self.new) }
+    {
+        match part {
+            Part::RunWithoutLines => {
+                self.end_run();
+                Ok(())
+            }
+            Part::Line(part) => self.take_line(scratch, &part, earlier),
+        }
+    }
+
+    /// No run is open any more.
+    fn end_run(&mut self)
+        ensures { self.new ≡ self.old }
+    {
+        self.within = false;
+    }
+
+    /// Takes an echoed line and what was written of it.
+    fn take_line(
+        &mut self,
+        scratch: &mut Scratch,
+        part: &LineRead<'a>,
+        earlier: &[Transcript<'a>],
+    ) -> Result<(), TranscriptFault>
+        ensures { OnOk result (TakesPart earlier.now self.old (OfLine part.now) self.new) }
+    {
+        if let Some(opened) = opened_by(part.ending()) {
+            return self.open(scratch, part, opened, earlier);
+        }
+        if self.within {
+            self.take_within(scratch, part)
+        } else {
+            self.take_outside(scratch, part)
+        }
+    }
+
+    /// Takes a line where no run is open, and none was opened.
+    #[tactic(auto, using(crate::proofs::FollowingLemmas::passes))]
+    fn take_outside(
+        &mut self,
+        scratch: &mut Scratch,
+        part: &LineRead<'a>,
+    ) -> Result<(), TranscriptFault>
+        ensures { OnOk result (TakesLine self.old part.now self.new) }
+    {
+        pass_line(self.alloc, scratch, part)
+    }
+
+    /// Takes a line within a run.
+    fn take_within(
+        &mut self,
+        scratch: &mut Scratch,
+        part: &LineRead<'a>,
+    ) -> Result<(), TranscriptFault>
+        ensures { OnOk result (TakesLine self.old part.now self.new) }
+    {
+        match part.ending() {
+            Ending::Answered { done, .. } => self.take_answered(scratch, part, done),
+            Ending::NextRun => self.take_stopped(scratch, part),
+            Ending::FileEnd => self.take_last(scratch, part),
+        }
+    }
+
+    /// Takes a line of which something was said.
+    fn take_answered(
+        &mut self,
+        scratch: &mut Scratch,
+        part: &LineRead<'a>,
+        done: &Done,
+    ) -> Result<(), TranscriptFault>
+        requires { (at : ℕ) × (part.now.ending ≡ Answered done.now at) }
+        ensures { OnOk result (TakesLine self.old part.now self.new) }
+    {
+        match done {
+            Done::Malformed(told) => self.take_malformed(scratch, part, *told),
+            Done::Refused(Some(NodeFault::Memory)) => self.take_unread(scratch, part),
+            _ => self.happen(scratch, part),
+        }
+    }
+
+    /// Takes a line that was refused as a line: as an event, or as the first one of a run, which then ended.
+    #[tactic(auto, using(crate::proofs::FollowingLemmas::passes))]
+    fn take_malformed(
+        &mut self,
+        scratch: &mut Scratch,
+        part: &LineRead<'a>,
+        told: Option<JsonFault>,
+    ) -> Result<(), TranscriptFault>
+        requires { GivesNone part.now.ending }
+        ensures { OnOk result (TakesLine self.old part.now self.new) }
+    {
+        if !part.packets().is_empty() {
+            return Err(TranscriptFault::NotARun(part.line().number));
+        }
+        match is_refused_event(self.alloc, scratch, part.line(), told) {
+            Ok(true) => return Ok(()),
+            Ok(false) => {}
+            Err(fault) => return Err(fault),
+        }
+        match is_refused_setup(self.alloc, scratch, part.line(), told) {
+            Ok(true) => {}
+            Ok(false) => return Err(TranscriptFault::NotARun(part.line().number)),
+            Err(fault) => return Err(fault),
+        }
+        self.within = told == Some(JsonFault::Memory);
+        Ok(())
+    }
+
+    /// Takes a line for which memory ran out: it may be any but a setup.
+    #[tactic(auto, using(crate::proofs::FollowingLemmas::passes))]
+    fn take_unread(
+        &mut self,
+        scratch: &mut Scratch,
+        part: &LineRead<'a>,
+    ) -> Result<(), TranscriptFault>
+        requires { GivesNone part.now.ending }
+        ensures { OnOk result (TakesLine self.old part.now self.new) }
+    {
+        if !part.packets().is_empty() {
+            return Err(TranscriptFault::NotARun(part.line().number));
+        }
+        let told = Some(JsonFault::Memory);
+        match is_refused_setup(self.alloc, scratch, part.line(), told) {
+            Ok(true) => Ok(()),
+            Ok(false) => Err(TranscriptFault::NotARun(part.line().number)),
+            Err(fault) => Err(fault),
+        }
+    }
+
+    /// Takes a line that a stop left without its answer, and that is not the last one of the file.
+    fn take_stopped(
+        &mut self,
+        scratch: &mut Scratch,
+        part: &LineRead<'a>,
+    ) -> Result<(), TranscriptFault>
+        requires { part.now.ending ≡ NextRun }
+        ensures { OnOk result (TakesLine self.old part.now self.new) }
+    {
+        self.within = false;
+        if part.packets().is_empty() {
+            self.leave_open(scratch, part)
+        } else {
+            self.happen(scratch, part)
+        }
+    }
+
+    /// Takes the last line of a file, which has no answer.
+    #[tactic(auto, using(crate::proofs::FollowingLemmas::passes))]
+    fn take_last(
+        &mut self,
+        scratch: &mut Scratch,
+        part: &LineRead<'a>,
+    ) -> Result<(), TranscriptFault>
+        requires { part.now.ending ≡ FileEnd }
+        ensures { OnOk result (TakesLine self.old part.now self.new) }
+    {
+        if part.packets().is_empty() {
+            return Ok(());
+        }
+        self.happen(scratch, part)
+    }
+
+    /// Takes an event that came to the node: the ways are left in which it did not give what the line has.
+    #[tactic(auto, using(crate::proofs::FollowingLemmas::happened))]
+    fn happen(&mut self, scratch: &mut Scratch, part: &LineRead<'a>) -> Result<(), TranscriptFault>
+        ensures { OnOk result (TakesLine self.old part.now self.new) }
+    {
+        let event = match event_of(self.alloc, scratch, part) {
+            Ok(event) => event,
+            Err(fault) => return Err(fault),
+        };
+        match happen_in_ways(self.alloc, &mut self.ways, &event, part) {
+            Ok(()) => {}
+            Err(_) => return Err(TranscriptFault::Memory),
+        }
+        if self.ways.is_empty() {
+            return Err(TranscriptFault::NotARun(part.line().number));
+        }
+        Ok(())
+    }
+
+    /// Takes a line of which a stop left nothing: whether it was carried out shows later.
+    #[tactic(auto, using(crate::proofs::FollowingLemmas::passes, crate::proofs::FollowingLemmas::left_open))]
+    fn leave_open(
+        &mut self,
+        scratch: &mut Scratch,
+        part: &LineRead<'a>,
+    ) -> Result<(), TranscriptFault>
+        requires stopped { part.now.ending ≡ NextRun }
+        requires nothing { part.now.packets ≡ [] }
+        ensures { OnOk result (TakesLine self.old part.now self.new) }
+    {
+        let event = match event_of(self.alloc, scratch, part) {
+            Ok(event) => event,
+            Err(TranscriptFault::NotARun(_)) => return Ok(()),
+            Err(fault) => return Err(fault),
+        };
+        match count_behind(self.ways.as_slice(), &event) {
+            Ok(count) => {
+                if count > MOST_WAYS {
+                    return Err(TranscriptFault::TooManyWays(part.line().number));
+                }
+            }
+            Err(_) => return Err(TranscriptFault::Memory),
+        }
+        let line = part.line();
+        self.unanswered = Some(Unanswered { line, event });
+        Ok(())
+    }
+
+    /// Takes a line behind which a run was opened.
+    fn open(
+        &mut self,
+        scratch: &mut Scratch,
+        part: &LineRead<'a>,
+        opened: Opened,
+        earlier: &[Transcript<'a>],
+    ) -> Result<(), TranscriptFault>
+        requires { part.now.ending ≡ Answered (done.Opened opened.party opened.rows opened.serial) opened.number }
+        ensures { OnOk result (TakesPart earlier.now self.old (OfLine part.now) self.new) }
+    {
+        match self.is_same_setup(scratch, part) {
+            Ok(true) => {}
+            Ok(false) => return Err(TranscriptFault::Wrong(part.line().number)),
+            Err(fault) => return Err(fault),
+        }
+        self.within = true;
+        if self.ways.is_empty() {
+            self.open_first(part, opened, earlier)
+        } else {
+            self.open_later(part, opened)
+        }
+    }
+
+    /// Whether a line is the setup.
+    fn is_same_setup(
+        &self,
+        scratch: &mut Scratch,
+        part: &LineRead<'a>,
+    ) -> Result<bool, TranscriptFault>
+        ensures { IfOk result (λ same. IsTrue same → setup_in part.now.line.bytes ≡ Ok self.now.setup) }
+    {
+        match opened_setup(self.alloc, scratch, part.line()) {
+            Ok(setup) => Ok(are_equal(&setup, self.setup)),
+            Err(fault) => Err(fault),
+        }
+    }
+
+    /// The first run of the file was opened, which is that of a node over a store without rows.
+    #[tactic(auto, using(crate::proofs::FollowingLemmas::opened_first))]
+    fn open_first(
+        &mut self,
+        part: &LineRead<'a>,
+        opened: Opened,
+        earlier: &[Transcript<'a>],
+    ) -> Result<(), TranscriptFault>
+        requires opened { part.now.ending ≡ Answered (done.Opened opened.party opened.rows opened.serial) opened.number }
+        requires setup { setup_in part.now.line.bytes ≡ Ok self.old.setup }
+        requires first { self.old.ways ≡ [] }
+        ensures { OnOk result (TakesPart earlier.now self.old (OfLine part.now) self.new) }
+    {
+        let nodes = nodes_of(self.setup);
+        let Some(member) = member_spelled(nodes, &opened.party) else {
+            return Err(TranscriptFault::Wrong(opened.number));
+        };
+        if !is_new(earlier, &opened.party) {
+            return Err(TranscriptFault::Wrong(opened.number));
+        }
+        if opened.rows.value() != 0 || opened.serial.value() != 0 || !part.packets().is_empty() {
+            return Err(TranscriptFault::NotARun(part.line().number));
+        }
+        let way = match Way::open(self.alloc, nodes, member) {
+            Ok(way) => way,
+            Err(_) => return Err(TranscriptFault::Memory),
+        };
+        match self.ways.push(way) {
+            Ok(()) => {}
+            Err(_) => return Err(TranscriptFault::Memory),
+        }
+        self.unanswered = None;
+        Ok(())
+    }
+
+    /// A run was opened behind another.
+    #[tactic(auto, using(crate::proofs::FollowingLemmas::opened_later))]
+    fn open_later(&mut self, part: &LineRead<'a>, opened: Opened) -> Result<(), TranscriptFault>
+        requires opened { part.now.ending ≡ Answered (done.Opened opened.party opened.rows opened.serial) opened.number }
+        requires setup { setup_in part.now.line.bytes ≡ Ok self.old.setup }
+        ensures { OnOk result (TakesLine self.old part.now self.new) }
+    {
+        if !self.is_of(&opened.party) {
+            return Err(TranscriptFault::Wrong(opened.number));
+        }
+        match go_on(self.alloc, &mut self.ways, &self.unanswered, &opened) {
+            Ok(()) => {}
+            Err(_) => return Err(TranscriptFault::Memory),
+        }
+        self.unanswered = None;
+        if self.ways.is_empty() || !part.packets().is_empty() {
+            return Err(TranscriptFault::NotARun(part.line().number));
+        }
+        Ok(())
+    }
+
+    /// Whether the node that is read is of that party, as it is spelled.
+    fn is_of(&self, party: &Party) -> bool {
+        match self.ways.first() {
+            Some(way) => way.party().as_str() == party.as_str(),
+            None => false,
+        }
+    }
+}

@@ -1,0 +1,281 @@
+//! One way in which what a transcript tells may have happened.
+
+ghost use Rattle.std.specs.Prelude.{◌≡◌, ◌≤◌, ◌+◌, ◌++◌, ◌∷◌, Contains, IfOk, IsTrue, List, Ok, OnOk, [], length, vec_capacity};
+ghost use Rattle.histories.specs.declared.entry.Entry.{Entry as EntryOf};
+ghost use Rattle.ocpi_json.specs.NodeEventForms.{node_event_in};
+ghost use Rattle.ocpi_types.specs.Setups.{party_of};
+ghost use Rattle.ocpi_types.specs.declared.packet.Packet.{Packet as PacketOf};
+ghost use Rattle.transcripts.specs.Following.{FitsEntry, Gives, opening_told, restarted};
+ghost use Rattle.transcript_parts.specs.LineReads.{GivesNone};
+ghost use Rattle.transcripts.specs.Told.{IsTold};
+ghost use Rattle.transcript_parts.specs.declared.line_read.Ending.TheVariants.{Answered};
+ghost use Rattle.world_laws.specs.Laws.{IsSetup};
+
+use crate::source::Source;
+use histories::Entry;
+use node_replay::{NodeReplay, ReplayFault, Replayed};
+use node_steps::NodeFault;
+use ocpi_text::Party;
+use ocpi_types::{Node, NodeEvent, Packet};
+use packet_equality::is_equal_packets;
+use std::alloc::{AllocError, Global};
+use std::marker::Model;
+use transcript_lines::Done;
+use transcript_parts::{EchoedLine, Ending, Opened};
+
+/// An event that a stop left without its answer.
+pub(crate) struct Unanswered<'a> {
+    pub(crate) line: EchoedLine<'a>,
+    pub(crate) event: NodeEvent,
+}
+
+/// What a derive would do, in a function of its own: so it is proved once, and not in each function that drops one.
+impl<'a> Drop for Unanswered<'a> {
+    fn drop(self) {
+        let Unanswered { line: _, event } = self;
+        drop(event);
+    }
+}
+
+impl<'a> Model for Unanswered<'a> {
+    ghost use Rattle.transcripts.specs.Following.{IsLeft, Unanswered};
+
+    ghost Value = { Unanswered };
+
+    ghost view = { λ u. record { line = u.line; event = u.event } };
+
+    ghost invariant = { λ u. IsLeft (record { line = u.line; event = u.event }) };
+}
+
+/// The node as its lines made it, and where each of its entries comes from.
+pub(crate) struct Way<'a> {
+    replay: NodeReplay<'a>,
+    sources: Vec<Source<'a>>,
+}
+
+/// What a derive would do, in a function of its own: so it is proved once, and not in each function that drops one.
+impl<'a> Drop for Way<'a> {
+    fn drop(self) {
+        let Way { replay, sources } = self;
+        drop(replay);
+        drop(sources);
+    }
+}
+
+impl<'a> Model for Way<'a> {
+    ghost use Rattle.std.specs.Coded.{codes};
+    ghost use Rattle.std.specs.FinMap as map;
+    ghost use Rattle.transcripts.specs.Told.{HasSources, Told};
+
+    ghost Value = { Told };
+
+    ghost coded = { Prim.hlevel (codes, map.code) };
+
+    ghost view = { λ w. record { replay = w.replay; sources = w.sources.items } };
+
+    ghost invariant = { λ w. HasSources (record { replay = w.replay; sources = w.sources.items }) };
+}
+
+/// Whether packets are the first of others.
+fn begin(packets: &[Packet], others: &[Packet]) -> bool
+    ensures { IsTrue result → (rest : List PacketOf) × (others.now ≡ packets.now ++ rest) }
+{
+    if packets.len() > others.len() {
+        return false;
+    }
+    let (first, _) = others.split_at(packets.len());
+    is_equal_packets(packets, first)
+}
+
+/// Whether an entry is what a line says of it.
+fn fits_done(done: &Done, number: usize, packets: &[Packet], changed: bool, sent: &[Packet]) -> bool
+    ensures { IsTrue result → FitsEntry (Answered done.now number) packets.now changed sent.now }
+{
+    let _ = number;
+    match done {
+        Done::Stepped { packets: count } => {
+            count.value() == packets.len() as u64
+                && (changed || !packets.is_empty())
+                && is_equal_packets(packets, sent)
+        }
+        Done::Idle => !changed && packets.is_empty() && sent.is_empty(),
+        _ => false,
+    }
+}
+
+/// Whether an entry is what is told of it.
+fn fits_entry(ending: &Ending, packets: &[Packet], changed: bool, sent: &[Packet]) -> bool
+    ensures { IsTrue result → FitsEntry ending.now packets.now changed sent.now }
+{
+    match ending {
+        Ending::Answered { done, number } => fits_done(done, *number, packets, changed, sent),
+        Ending::NextRun | Ending::FileEnd => begin(packets, sent),
+    }
+}
+
+/// Whether it is told that the event was another node's, or of the other role.
+fn is_skipped(ending: &Ending) -> bool
+    ensures { IsTrue result → GivesNone ending.now }
+{
+    match ending {
+        Ending::Answered { done, .. } => matches!(done, Done::Skipped),
+        Ending::NextRun | Ending::FileEnd => false,
+    }
+}
+
+/// Whether it is told that the node refused the event so.
+fn is_refused(ending: &Ending, fault: NodeFault) -> bool
+    ensures { IsTrue result → GivesNone ending.now }
+{
+    match ending {
+        Ending::Answered { done, .. } => match done {
+            Done::Refused(Some(told)) => *told == fault,
+            _ => false,
+        },
+        Ending::NextRun | Ending::FileEnd => false,
+    }
+}
+
+impl<'a> Way<'a> {
+    /// A node before its first event. An error is want of memory.
+    pub(crate) fn open(
+        alloc: Global,
+        nodes: &'a [Node],
+        member: &'a Node,
+    ) -> Result<Way<'a>, AllocError>
+        requires setup { IsSetup nodes.now }
+        requires member { Contains nodes.now member.now }
+        ensures { IfOk result (λ w. w ≡ opening_told nodes.now member.now) }
+    {
+        let replay = NodeReplay::open(alloc, nodes, member)?;
+        Ok(Way {
+            replay,
+            sources: Vec::new(alloc),
+        })
+    }
+
+    /// What holds of each at any time, which its type keeps. It does nothing.
+    pub(crate) fn is_told(&self)
+        ensures { IsTold self.now }
+    {
+        self.replay.is_replay();
+        let _sources = &self.sources;
+    }
+
+    /// Whose node it is, as its setup spells it.
+    pub(crate) fn party(&self) -> &Party
+        ensures { result.now ≡ party_of self.now.replay.member }
+    {
+        self.replay.party()
+    }
+
+    /// What happened at it, oldest first.
+    pub(crate) fn entries(&self) -> &[Entry]
+        ensures { result.now ≡ self.now.replay.entries }
+    {
+        self.replay.entries()
+    }
+
+    /// Where each entry comes from.
+    pub(crate) fn sources(&self) -> &[Source<'a>]
+        ensures { result.now ≡ self.now.sources }
+    {
+        self.sources.as_slice()
+    }
+
+    /// Whether an event changes a row of the node, if it is carried out. An error is want of memory.
+    pub(crate) fn would_change(&self, event: &NodeEvent) -> Result<bool, AllocError> {
+        if event.node.is_same(self.party()) {
+            self.replay.would_change(&event.kind)
+        } else {
+            Ok(false)
+        }
+    }
+
+    /// An event of a line comes to the node. Whether it gave what is told of it. An error is want of memory.
+    pub(crate) fn happen(
+        &mut self,
+        event: &NodeEvent,
+        line: EchoedLine<'a>,
+        ending: &Ending,
+        packets: &[Packet],
+    ) -> Result<bool, AllocError>
+        requires { node_event_in line.bytes.now ≡ Ok event.now }
+        ensures { IfOk result (λ fits. IsTrue fits → Gives self.old line.entry ending.now packets.now self.new) }
+    {
+        if !event.node.is_same(self.party()) {
+            return Ok(is_skipped(ending) && packets.is_empty());
+        }
+        self.sources.reserve(1)?;
+        let kind = event.kind.copy()?;
+        match self.replay.apply(kind) {
+            Ok(Replayed::Stepped { changed }) => {
+                push_source(&mut self.sources, Source::Echoed(line));
+                Ok(fits_entry(
+                    ending,
+                    packets,
+                    changed,
+                    last_packets(self.replay.entries()),
+                ))
+            }
+            Ok(Replayed::Skipped) => Ok(is_skipped(ending) && packets.is_empty()),
+            Err(ReplayFault::Core(fault)) => Ok(is_refused(ending, fault) && packets.is_empty()),
+            Err(ReplayFault::Memory) => Err(AllocError),
+        }
+    }
+
+    /// The node starts again, as a run begins where one had ended. An error is want of memory.
+    pub(crate) fn restart(&mut self) -> Result<(), AllocError>
+        ensures { OnOk result (self.new ≡ restarted self.old) }
+    {
+        self.sources.reserve(1)?;
+        self.replay.restart()?;
+        push_source(&mut self.sources, Source::Restarted);
+        Ok(())
+    }
+
+    /// An equal one, at which then the node starts again. An error is want of memory.
+    pub(crate) fn restarted_copy(&self, alloc: Global) -> Result<Way<'a>, AllocError>
+        ensures { IfOk result (λ w. w ≡ restarted self.now) }
+    {
+        let mut sources = Vec::from_slice(alloc, self.sources.as_slice())?;
+        sources.push(Source::Restarted)?;
+        let replay = self.replay.restarted_copy()?;
+        Ok(Way { replay, sources })
+    }
+
+    /// Whether the node is that of a run that was opened: of its party, with so many rows, and a last packet of that
+    /// serial. An error is want of memory.
+    pub(crate) fn stands_at(&self, opened: &Opened) -> Result<bool, AllocError>
+        ensures { IfOk result (λ fits. IsTrue fits → party_of self.now.replay.member ≡ opened.now.party) }
+    {
+        if self.party().as_str() != opened.party.as_str()
+            || opened.serial != self.replay.last_serial()
+        {
+            return Ok(false);
+        }
+        let stored = self.replay.rows()?;
+        Ok(opened.rows.value() == stored as u64)
+    }
+}
+
+/// The packets of the last entry.
+fn last_packets(entries: &[Entry]) -> &[Packet]
+    ensures { (es : List EntryOf) → (e : EntryOf) → entries.now ≡ es ++ e ∷ [] → result.now ≡ e.packets }
+{
+    match entries.last() {
+        Some(entry) => entry.packets.as_slice(),
+        None => &[],
+    }
+}
+
+/// Adds a source to sources that have room for it.
+fn push_source<'a>(sources: &mut Vec<Source<'a>>, source: Source<'a>)
+    requires { length sources.old.items + 1 ≤ vec_capacity sources.old }
+    ensures { sources.new.items ≡ sources.old.items ++ source.entry ∷ [] }
+{
+    match sources.push(source) {
+        Ok(()) => {}
+        Err(_) => unreachable!(),
+    }
+}

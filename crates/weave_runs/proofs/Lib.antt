@@ -1,0 +1,5 @@
+mod ToldLemmas
+mod RunLemmas
+mod StepLemmas
+mod RefusalLemmas
+mod OutputLemmas

@@ -1,0 +1,4 @@
+pub mod Histories
+pub mod Steps
+pub mod Refusals
+pub mod Outputs
