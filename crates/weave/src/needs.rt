@@ -68,6 +68,17 @@ fn number_of(histories: &[NodeHistory<'_>], party: &Party) -> Option<usize>
     None
 }
 
+/// The same. What is guessed is looked at first, since packets often come from one sender after another.
+fn sender_of(histories: &[NodeHistory<'_>], party: &Party, guess: usize) -> Option<usize>
+    ensures found { IfSome result (λ j. (h : HistoryOf) × (slice_get histories.now j ≡ SomeOf h) × (key h.party ≡ key party.now)) }
+    ensures none { IfNone result ((h : HistoryOf) → Contains histories.now h → key h.party ≡ key party.now → ⊥) }
+{
+    if guess < histories.len() && histories[guess].party.is_same(party) {
+        return Some(guess);
+    }
+    number_of(histories, party)
+}
+
 /// The packet of a row at a serial.
 fn packet_at<'a>(row: &[&'a Packet], serial: u64) -> Option<&'a Packet>
     ensures found { IfSome result (λ r. StandsAt (now_of row.now) serial r.now) }
@@ -127,11 +138,12 @@ fn need_of_sender(
     }
 }
 
-/// That a packet which comes was sent.
+/// That a packet which comes was sent. `guess`: whose it may be.
 fn need_of_packet(
     histories: &[NodeHistory<'_>],
     table: &[Vec<&Packet>],
     packet: &Packet,
+    guess: usize,
 ) -> Result<Need, WeaveFault>
     requires table { IsTable histories.now table.now }
     requires apart { AreApart histories.now }
@@ -139,7 +151,7 @@ fn need_of_packet(
     ensures need { IfOk result (λ n. IsGivenBy histories.now n packet.now) }
     ensures fault { IfErr result (λ f. BlamesPacket histories.now packet.now f) }
 {
-    match number_of(histories, &packet.from) {
+    match sender_of(histories, &packet.from, guess) {
         None => Err(never_sent(packet)),
         Some(sender) => need_of_sender(histories, table, packet, sender),
     }
@@ -162,12 +174,13 @@ fn delivered(entry: &Entry) -> Option<&Packet>
     }
 }
 
-/// What an entry of the history of that number waits for.
+/// What an entry of the history of that number waits for. `guess`: whose packet it may deliver.
 fn need_of(
     histories: &[NodeHistory<'_>],
     table: &[Vec<&Packet>],
     entry: &Entry,
     number: usize,
+    guess: usize,
 ) -> Result<Need, WeaveFault>
     requires table { IsTable histories.now table.now }
     requires apart { AreApart histories.now }
@@ -177,7 +190,7 @@ fn need_of(
     ensures fault { IfErr result (λ f. Blames histories.now entry.now f) }
 {
     match delivered(entry) {
-        Some(packet) => need_of_packet(histories, table, packet),
+        Some(packet) => need_of_packet(histories, table, packet, guess),
         None => Ok(Need {
             sender: number,
             serial: 0,
@@ -202,8 +215,12 @@ fn needs_of(
     ensures fault { IfErr result (λ f. BlamesIn histories.now number f) }
 {
     let mut needs = Vec::new(alloc);
+    let mut guess = number;
     for entry in entries {
-        let need = need_of(histories, table, entry, number)?;
+        let need = need_of(histories, table, entry, number, guess)?;
+        if need.serial > 0 {
+            guess = need.sender;
+        }
         needs.push(need)?;
     }
     Ok(needs)

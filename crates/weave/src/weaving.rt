@@ -7,7 +7,7 @@ ghost use Rattle.histories.specs.Causes.{HasMore};
 ghost use Rattle.histories.specs.Weaving.{AreApart, AreNumbered};
 ghost use Rattle.weave.specs.Faults.{Explains};
 ghost use Rattle.weave.specs.Needs.{AreAllNeeds};
-ghost use Rattle.weave.specs.Progress.{AllStuck, AreDone, IsReached, IsStuckAt};
+ghost use Rattle.weave.specs.Progress.{AllStuck, AreDone, AreFirst, IsReached, IsStuckAt, IsUnderWay};
 ghost use Rattle.weave.specs.Reached.{serial_in};
 ghost use Rattle.weave.specs.Turns.{IsOrder};
 
@@ -23,19 +23,50 @@ use std::alloc::{AllocError, Global};
 pub struct Weaving {
     /// For each history, how many of its entries are placed.
     places: Vec<usize>,
+    /// For each history, what its next entry waits for, where it has one.
+    waits: Vec<Option<Need>>,
     /// For each history, the serial of the last packet that these sent, or 0.
     newest: Vec<u64>,
     turns: Vec<Turn>,
 }
 
+/// What the entry at a place waits for, where there is one.
+fn need_at(needs: &[Need], place: usize) -> Option<Need>
+    ensures { result ≡ slice_get needs.now place }
+{
+    if place < needs.len() {
+        Some(needs[place])
+    } else {
+        None
+    }
+}
+
+/// What the first entry of each history waits for.
+fn first_waits(alloc: Global, needs: &[Vec<Need>]) -> Result<Vec<Option<Need>>, AllocError>
+    ensures { IfOk result (λ waits. AreFirst needs.now waits.items) }
+{
+    let mut waits = Vec::new(alloc);
+    for row in needs {
+        waits.push(need_at(row, 0))?;
+    }
+    Ok(waits)
+}
+
 /// No entry is placed.
-fn start(alloc: Global, histories: &[NodeHistory<'_>]) -> Result<Weaving, AllocError>
-    ensures { IfOk result (λ w. IsReached histories.now w) }
+fn start(
+    alloc: Global,
+    histories: &[NodeHistory<'_>],
+    needs: &[Vec<Need>],
+) -> Result<Weaving, AllocError>
+    requires { length needs.now ≡ length histories.now }
+    ensures { IfOk result (λ w. IsUnderWay histories.now needs.now w) }
 {
     let places = vec![in alloc; 0; histories.len()]?;
     let newest = vec![in alloc; 0; histories.len()]?;
+    let waits = first_waits(alloc, needs)?;
     Ok(Weaving {
         places,
+        waits,
         newest,
         turns: Vec::new(alloc),
     })
@@ -70,27 +101,27 @@ fn take_entry(
     requires apart { AreApart histories.now }
     requires numbered { AreNumbered histories.now }
     requires needs { AreAllNeeds histories.now (length histories.now) needs.now }
-    requires reached { IsReached histories.now weaving.old }
-    ensures reached { OnOk result (IsReached histories.now weaving.new) }
+    requires under_way { IsUnderWay histories.now needs.now weaving.old }
+    ensures under_way { OnOk result (IsUnderWay histories.now needs.now weaving.new) }
     ensures taken { IfOk result (λ b. OnTrue b (length weaving.new.turns.items ≡ length weaving.old.turns.items + 1)) }
     ensures stuck { IfOk result (λ b. OnFalse b ((weaving.new ≡ weaving.old) × IsStuckAt histories.now weaving.old i)) }
 {
-    let place = weaving.places[i];
-    let entries = histories[i].entries;
-    if place >= entries.len() {
-        return Ok(false);
-    }
-    let need = needs[i][place];
+    let need = match weaving.waits[i] {
+        None => return Ok(false),
+        Some(need) => need,
+    };
     if weaving.newest[need.sender] < need.serial {
         return Ok(false);
     }
+    let place = weaving.places[i];
     let turn = Turn {
         history: i,
         entry: place,
     };
     weaving.turns.push(turn)?;
     weaving.places[i] = place + 1;
-    weaving.newest[i] = serial_after(weaving.newest[i], packets_at(entries, place));
+    weaving.waits[i] = need_at(&needs[i], place + 1);
+    weaving.newest[i] = serial_after(weaving.newest[i], packets_at(histories[i].entries, place));
     Ok(true)
 }
 
@@ -103,8 +134,8 @@ fn sweep(
     requires apart { AreApart histories.now }
     requires numbered { AreNumbered histories.now }
     requires needs { AreAllNeeds histories.now (length histories.now) needs.now }
-    requires reached { IsReached histories.now weaving.old }
-    ensures reached { OnOk result (IsReached histories.now weaving.new) }
+    requires under_way { IsUnderWay histories.now needs.now weaving.old }
+    ensures under_way { OnOk result (IsUnderWay histories.now needs.now weaving.new) }
     ensures moved { IfOk result (λ b. OnTrue b (length weaving.old.turns.items < length weaving.new.turns.items)) }
     ensures stuck { IfOk result (λ b. OnFalse b (AllStuck histories.now weaving.new)) }
 {
@@ -143,7 +174,7 @@ pub fn order(
     ensures order { IfOk result (λ turns. IsOrder histories.now turns.items) }
     ensures fault { IfErr result (λ f. Explains histories.now f) }
 {
-    let mut weaving = start(alloc, histories)?;
+    let mut weaving = start(alloc, histories, needs)?;
     while sweep(histories, needs, &mut weaving)? {}
     if is_done(histories, &weaving) {
         Ok(weaving.turns)
