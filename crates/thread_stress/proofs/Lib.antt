@@ -1,0 +1,2 @@
+mod OfNodes
+mod WhatIsLeft

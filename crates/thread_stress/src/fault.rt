@@ -1,0 +1,67 @@
+//! What may fail.
+
+ghost use Rattle.std.specs.Prelude.{◌≡◌};
+ghost use Rattle.thread_stress.specs.declared.fault.Failed.TheVariants.{Memory};
+
+use node_harness::RunFault;
+use std::alloc::{AllocError, AllocFailed};
+
+/// What failed.
+#[derive(Clone, Copy, PartialEq, Eq)]
+pub enum Failed {
+    /// The input is no setup with events of nodes.
+    BadInput,
+    /// The run stopped: a desk refused, or a node's receipts or events are not those that were asked for.
+    Stopped,
+    /// The nodes have fewer entries than wanted.
+    FewEntries,
+    /// The histories are not one run.
+    NotWoven,
+    /// In a world an event of that run sends something else.
+    NotPlayed,
+    /// Memory ran out, also for a thread.
+    Memory,
+}
+
+impl Failed {
+    /// The line that is written.
+    pub fn words(self) -> &'static str {
+        match self {
+            Failed::BadInput => "the input cannot be read",
+            Failed::Stopped => "the run stopped",
+            Failed::FewEntries => "too little happened",
+            Failed::NotWoven => "the histories are not one run",
+            Failed::NotPlayed => "a world plays it otherwise",
+            Failed::Memory => "memory ran out",
+        }
+    }
+}
+
+impl From<AllocError> for Failed {
+    ghost from_gives = { λ _ e. e ≡ Memory };
+
+    fn from(_e: AllocError) -> Failed {
+        Failed::Memory
+    }
+}
+
+impl<T: Drop> From<AllocFailed<T>> for Failed {
+    ghost from_gives = { λ _ e. e ≡ Memory };
+
+    fn from(_e: AllocFailed<T>) -> Failed {
+        Failed::Memory
+    }
+}
+
+impl From<RunFault> for Failed {
+    ghost use Rattle.thread_stress.specs.Faults.{of_run};
+
+    ghost from_gives = { λ f e. e ≡ of_run f };
+
+    fn from(fault: RunFault) -> Failed {
+        match fault {
+            RunFault::Stopped => Failed::Stopped,
+            RunFault::Memory => Failed::Memory,
+        }
+    }
+}
