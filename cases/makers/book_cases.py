@@ -12,7 +12,9 @@ from book_values import (
     LAST_NUMBER,
     LOCATION,
     cdr,
+    credit,
     decimal,
+    in_packet,
     moment,
     number,
     own_key,
@@ -447,6 +449,7 @@ DIFFERENCES = {
     "last_updated": moment(1801),
     "session_id": "S2",
     "id": "c1",
+    "credit": True,
 }
 
 
@@ -460,7 +463,7 @@ def add_cdrs():
     take(one, "kept")
     owed("3.0864")
     for name, value in DIFFERENCES.items():
-        take(one | {name: value}, "conflict")
+        take(one | {name: value, "credit_reference_id": "C1"}, "conflict")
     for name, value in LOCATION.items():
         other = {"latitude": "1", "longitude": "2"} if name == "coordinates" else f"{value[:-1]}#"[:3]
         take(one | {"cdr_location": LOCATION | {name: other}}, "conflict")
@@ -495,6 +498,66 @@ def add_cdrs():
     owed(decimal(10**15 - 1 - 19_136))
 
 
+def add_credits():
+    """Of a session a bill and a credit are taken, in either order; any other of that session is in conflict."""
+    fresh()
+    one, other = credit(), cdr()
+    take(one, "taken")
+    owed("-3.0864")
+    take(one, "kept")
+    owed("-3.0864")
+    take(other, "taken")
+    owed("0.0000")
+    for held in (one, other):
+        take(held, "kept")
+    other_members = DIFFERENCES | {"id": "c1-c", "credit": False, "credit_reference_id": "c1", "last_updated": moment(1800)}
+    for name, value in other_members.items():
+        take(one | {name: value}, "conflict")
+    take(one | {"credit_reference_id": "C2"}, "conflict")
+    for more in (credit("C2-C"), credit("C9", "s1", "C9"), cdr("C2"), cdr("C2", "s1", cost=-30_864)):
+        take(more, "conflict")
+    # An id is of one record, whether or not it is a credit.
+    for more in (cdr("C1-C", "S2"), credit("C1", "S2", "C0"), cdr("c1-c", "S2")):
+        take(more, "conflict")
+    owed("0.0000")
+    case("inbox held_cdr cdr=c1-c", text(one))
+    case("inbox held_cdr cdr=C1", text(other))
+    add_more_credits(one)
+
+
+def add_more_credits(one):
+    """Credits of other sessions, operators and currencies, and of other parties' tokens."""
+    take(cdr("C2", "S2", cost=7), "taken")
+    take(credit("C2-C", "s2", "C2", cost=-7), "taken")
+    owed("0.0000")
+    take(credit("C1-C", "S1", party="FR/FRC", cost=-1), "taken", sender="fr/frc")
+    take(cdr("C1", "S1", party="FR/FRC", cost=1), "taken", sender="FR/FRC")
+    take(credit("C2-C", "S1", party="FR/FRC", cost=-1), "conflict", sender="FR/FRC")
+    owed("0.0000", sender="FR/FRC")
+    take(credit("C3-C", "S3", "C3"), "1 WrongParty", sender="FR/FRC")
+    take(credit("C3-C", "S3", "C3", provider="DE/EMP"), "1 WrongParty")
+    take(credit("C3-C", "S3", "C3"), "1 WrongParty", own="DE/EMP")
+    case("inbox held_cdr cdr=C3-C", "none")
+    # What a credit says of its bill is not compared with it.
+    take(credit("C4-C", "S4", "C4", cost=-5, currency="USD"), "taken")
+    take(cdr("C4", "S4", cost=5), "taken")
+    take(credit("C5", "S5", "C6", cost=9), "taken")
+    owed("0.0014")
+    owed("-0.0005", currency="USD")
+    take(credit("C7-C", "S7", "C7", cost=1 - 10**15), "taken")
+    take(credit("C8-C", "S8", "C8", cost=1 - 10**15), "taken")
+    owed(decimal(14 + 2 - 2 * 10**15))
+    rows = (cdr("C1", "S1"), one, credit("C2-C", "S2", "C2"))
+    fresh()
+    for tree in rows:
+        with_row("inbox row", "cdr", own_key(tree), tree, "done")
+    owed("-3.0864")
+    take(cdr("C9"), "conflict")
+    take(credit("C9-C", "s2"), "conflict")
+    take(cdr("C2", "S2"), "taken")
+    owed("0.0000")
+
+
 def add_settlements():
     """What is owed by a list: each record counts, as often as it stands there."""
     fresh()
@@ -508,6 +571,9 @@ def add_settlements():
     ):
         with_row("bills add", "cdr", own_key(one), one, "done")
     case("bills settle", "AT/AAA EUR 0.0005 BE/BEC EUR 6.1734 BE/BEC USD -0.0001 .")
+    for one in (credit(), credit("C4-C", "S4", "C4", party="AT/AAA", cost=-7), credit("C9-C", "S9", party="FR/FRC", currency="SEK")):
+        with_row("bills add", "cdr", own_key(one), one, "done")
+    case("bills settle", "AT/AAA EUR -0.0002 BE/BEC EUR 3.0870 BE/BEC USD -0.0001 FR/FRC SEK -3.0864 .")
 
 
 def push_row(counted, tree, wanted="done"):
@@ -533,11 +599,14 @@ def add_outbox():
     case("outbox unacked", ".")
     session_push = push("NL/TNM", "put_session", session())
     token_push = push("BE/BEC", "put_token", token())
-    result_push, cdr_push = push("NL/TNM", "command_result", result()), push("NL/TNM", "post_cdr", cdr())
+    result_push, cdr_push = push("NL/TNM", "command_result", result()), push("NL/TNM", "post_cdr", in_packet(cdr()))
     push_row(4, session_push, "may not")
     counter(12)
     for counted, one in ((4, session_push), (3, token_push), (5, result_push), (12, cdr_push)):
         push_row(counted, one)
+    push_row(11, push("NL/TNM", "post_cdr", credit()))
+    case("outbox get number=11", text(push("NL/TNM", "post_cdr", credit())))
+    case("outbox drop number=11", "done")
     case("outbox last_number", "12")
     counter(11, "may not")
     push_row(6, push("DE/EMP", "put_session", session("s1", status="ACTIVE")), "may not")
@@ -583,11 +652,13 @@ def add_inbox_rows():
     """An inbox has the rows that are added, and so has its copy."""
     fresh()
     case("inbox rows", "0")
-    one, other, bill = session(), session("S2", status="COMPLETED"), cdr()
+    one, other, bill, back = session(), session("S2", status="COMPLETED"), cdr(), credit()
     with_row("inbox row", "session", own_key(one), one, "done")
     with_row("inbox row", "session", own_key(other), other, "done")
+    with_row("inbox row", "cdr", own_key(back), back, "done")
     with_row("inbox row", "cdr", own_key(bill), bill, "done")
-    has_rows("inbox", ("session", own_key(one), one), ("session", own_key(other), other), ("cdr", own_key(bill), bill))
+    records = [("cdr", own_key(bill), bill), ("cdr", own_key(back), back)]
+    has_rows("inbox", ("session", own_key(one), one), ("session", own_key(other), other), *records)
 
 
 def add_pushes():
@@ -719,7 +790,7 @@ def cases():
     for add in (
         add_lives_and_sites, add_reservations,
         add_expiries, add_uses, add_reservation_rows, add_tokens, add_swipes, add_authorizations, add_own_tokens, add_commands,
-        add_due, add_replies, add_versions, add_cdrs, add_settlements, add_outbox, add_inbox_rows, add_pushes,
+        add_due, add_replies, add_versions, add_cdrs, add_credits, add_settlements, add_outbox, add_inbox_rows, add_pushes,
         add_sent_commands, add_other_lines,
     ):
         add()

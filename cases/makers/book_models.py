@@ -326,7 +326,8 @@ class Inboxes:
             line = with_row(f"inbox take sender={sender}", "session", own_key(tree), tree)
             return line, self.take_session((party, identity), tree, sender == party and own == "NL/TNM")
         cost = draw.choice((-50_000, 0, 30_864, 10**15 - 1))
-        tree = cdr(identity, f"X{draw.randrange(6)}", party, own, cost=cost, currency=draw.choice(("EUR", "USD")))
+        taken = draw.choice(({}, {}, {"credit": True, "credit_reference_id": f"S{draw.randrange(6)}"}))
+        tree = cdr(identity, f"X{draw.randrange(6)}", party, own, cost=cost, currency=draw.choice(("EUR", "USD")), **taken)
         if draw.random() < 0.3 and (party, identity) in self.cdrs:
             tree, own, cost = self.cdrs[party, identity], "NL/TNM", self.costs[party, identity]
         line = with_row(f"inbox take sender={sender}", "cdr", own_key(tree), tree)
@@ -344,7 +345,9 @@ class Inboxes:
     def take_cdr(self, key, tree, cost, fits):
         if not fits:
             return "1 WrongParty"
-        same = [held for other, held in self.cdrs.items() if other == key or (other[0], held["session_id"]) == (key[0], tree["session_id"])]
+        # (one of that id, or of that session that is alike a credit or not)
+        like = (key[0], tree["session_id"], tree["credit"])
+        same = [held for other, held in self.cdrs.items() if other == key or (other[0], held["session_id"], held["credit"]) == like]
         if any(text(held) != text(tree) for held in same):
             return "conflict"
         if same:

@@ -105,7 +105,7 @@ LOCATION = {
 
 
 def cdr(identity="C1", session_id="S1", party="BE/BEC", provider="NL/TNM", kwh=123_456, cost=30_864, hours=5_000, **members):
-    """A charge detail record of an energy, a cost and a time in ten-thousandths."""
+    """A charge detail record of an energy, a cost and a time in ten-thousandths, as its row has it. It is a bill."""
     start = members.get("start_date_time", moment(0))
     period = {"start_date_time": start, "dimensions": [{"type": "ENERGY", "volume": number(kwh)}]}
     given = {
@@ -114,6 +114,7 @@ def cdr(identity="C1", session_id="S1", party="BE/BEC", provider="NL/TNM", kwh=1
         "session_id": session_id,
         "auth_method": "COMMAND",
         "authorization_reference": "ref-1",
+        "credit": False,
         "cdr_location": LOCATION,
         "currency": "EUR",
         "charging_periods": [period],
@@ -123,6 +124,17 @@ def cdr(identity="C1", session_id="S1", party="BE/BEC", provider="NL/TNM", kwh=1
         "last_updated": moment(1800),
     }
     return {**party_members(party), "id": identity, "cdr_token": cdr_token(provider), **given, **members}
+
+
+def credit(identity="C1-C", session_id="S1", taken_back="C1", cost=-30_864, **members):
+    """The credit that takes back the record of that id."""
+    taken = {"credit": True, "credit_reference_id": taken_back, "last_updated": moment(3600)}
+    return cdr(identity, session_id, **{"cost": cost, **taken, **members})
+
+
+def in_packet(record):
+    """A charge detail record as a packet has it, which says no more of a bill."""
+    return record | {"credit": record["credit"] or None}
 
 
 def reservation(evse="E1", location="LOC1", expiry=3600, **members):

@@ -65,7 +65,7 @@ def main():
         write(lines / name, part(name, given))
         write(lines / f"{name}.stdout", gives)
         print(f"{name}: {len(given)} lines")
-    roles = ("operator", "provider", "nodes", "kept_nodes", "cells", "woven", "threads")
+    roles = ("operator", "provider", "nodes", "kept_nodes", "cells", "woven", "threads", "stores")
     without_memory = [(role, *case) for role in roles for case in PARTS[role].cases_without_memory()]
     for at, (role, name, given, gives) in enumerate(without_memory, 1):
         write(failing / f"{at}", part(role, given))

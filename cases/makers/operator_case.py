@@ -52,6 +52,11 @@ def reference(number, party="NL/TNM"):
     return own_id(b"A", number, party)
 
 
+def stored_record(record):
+    """The text of the row of a charge detail record that a packet has: it also says so where that is no credit."""
+    return {"credit": False, **record}
+
+
 def url(number, party="NL/TNM"):
     return "https://node.invalid/%s/%d" % (party, number)
 

@@ -1,7 +1,7 @@
 """What the cases of sessions, tokens and authorizations at an operator are told in, beside `operator_case`."""
 from decimal import Decimal
 
-from operator_case import OPERATOR, PROVIDERS, Case, enter, moment, own_id, reference, text, token
+from operator_case import OPERATOR, PROVIDERS, Case, enter, moment, own_id, reference, stored_record, text, token
 
 LAST_MOMENT = "9999-12-31T23:59:59.999"
 
@@ -194,6 +194,6 @@ class Charging(Case):
             cdr_location=at_place or place(last["evse_uid"], last["location_id"]), total_time=Decimal(hours),
         )
         self.put("count", "cdr", {"last": cdr})
-        self.put("cdr", "%s/%s" % (OPERATOR, record["id"].upper()), record)
+        self.put("cdr", "%s/%s" % (OPERATOR, record["id"].upper()), stored_record(record))
         self.pushes_one(serial + 1, request + 1, "post_cdr", record, self.pushes[request][2])
         return text(record)

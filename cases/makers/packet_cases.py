@@ -22,6 +22,7 @@ from packet_forms import (
     SYNTAX,
     TAGGED_TEXT,
     UNKNOWN_KIND,
+    CiString,
     Items,
     Kind,
     Member,
@@ -292,21 +293,59 @@ def add_replies():
                 case(spell(refusal | {"body": body}), spell(refusal))
 
 
+def with_credit(tree, **members):
+    """A charge detail record's packet with these members in its body, which stand there in the order of their names."""
+    return {**tree, "body": dict(sorted({**tree["body"], **members}.items()))}
+
+
+NO_TRUTHS = ["x", "true", "", *map(Number, ("1", "0")), [], [True], {}, {"credit": True}]
+
+
 def add_credits():
-    """A credit is refused after all other faults. Any other value of that member is read past."""
+    """A credit names the record that it takes back. A bill says neither, and what stands there beside false is read past. All
+    that is told behind the faults of other members."""
     tree = sample_packet("post_cdr")
-    for value in (False, None, "x", "true", Number("1"), [], [True], {}, {"credit": True}):
-        case(spell(replaced(tree, ["body", "credit"], value)), spell(tree))
-    credit = replaced(tree, ["body", "credit"], True)
-    refused(spell(credit), wrong_form("credit"))
-    for name in ("country_code", "charging_periods", "total_time", "last_updated"):
-        refused(spell(replaced(credit, ["body", name], None)), missing(name))
-    case(changed(CDR, '"country_code":"BE"', '"country_code":"BE","credit":true,"credit":false'), CDR)
-    repeated = changed(CDR, '"country_code":"BE"', '"country_code":"BE","credit":null,"credit":true')
-    refused(repeated, wrong_form("credit"))
+    for credit in ({}, {"credit": None}, {"credit": False}):
+        for value in (None, "C1", "x" * 40, "\u00e9", Number("5"), False, [], {}):
+            case(spell(with_credit(tree, **credit, credit_reference_id=value)), spell(tree))
+        case(spell(with_credit(tree, **credit)), spell(tree))
+    credit = with_credit(tree, credit=True, credit_reference_id="C1")
+    case(spell(credit), spell(credit))
+    case(spell(with_credit(tree, credit=True)), f"refused {missing('credit_reference_id')}")
+    refused(spell(with_credit(credit, credit_reference_id=None)), missing("credit_reference_id"))
+    wrong, more = wrong_values(CiString(39))
+    for value in (*other_kinds(CiString(39)), *wrong, *more):
+        refused(spell(with_credit(credit, credit_reference_id=value)), wrong_form("credit_reference_id"))
+    for value in ("", "a-C", "~" * 39, '"\\/'):
+        given = spell(with_credit(credit, credit_reference_id=value))
+        case(given, given)
+    for value in NO_TRUTHS:
+        for given in (tree, credit, with_credit(credit, credit_reference_id=None)):
+            refused(spell(with_credit(given, credit=value)), wrong_form("credit"))
+    # Each other member is read before.
+    for given in (with_credit(tree, credit="x"), with_credit(tree, credit=True)):
+        for member in BODIES["post_cdr"].members:
+            if not member.optional:
+                refused(spell(with_credit(given, **{member.name: None})), missing(member.name))
+            refused(spell(with_credit(given, **{member.name: other_kinds(member.form)[0]})), wrong_form(member.name))
+    add_repeated_credits(tree)
+
+
+def add_repeated_credits(tree):
+    """Of repeated members the last counts, and elsewhere these members are unknown."""
+    behind = '"country_code":"BE"'
+    case(changed(CDR, behind, f'{behind},"credit":true,"credit":false'), CDR)
+    case(changed(CDR, behind, f'{behind},"credit":"x","credit":null'), CDR)
+    refused(changed(CDR, behind, f'{behind},"credit":null,"credit":true'), missing("credit_reference_id"))
+    credit = changed(CDR, behind, f'{behind},"credit":true,"credit_reference_id":"C1"')
+    case(credit, credit)
+    case(changed(credit, '"credit":true', '"credit":[],"credit":true'), credit)
+    case(changed(credit, '"credit_reference_id":"C1"', '"credit_reference_id":5,"credit_reference_id":"C1"'), credit)
+    refused(changed(credit, '"credit":true', '"Credit":true,"credit":5'), wrong_form("credit"))
+    case(changed(credit, '"credit":true', '"Credit":true'), CDR)
     for path in (["credit"], ["body", "cdr_location", "credit"], ["body", "charging_periods", 0, "credit"]):
         case(spell(replaced(tree, path, True)), spell(tree))
-    case(changed(SESSION, '"country_code":"BE"', '"country_code":"BE","credit":true'), SESSION)
+    case(changed(SESSION, behind, f'{behind},"credit":true'), SESSION)
 
 
 def add_members_about():

@@ -229,13 +229,23 @@ class Reply(Record):
 
 
 class ChargeDetailRecord(Record):
-    """As long as there are no credits, one that is marked as a credit is refused, after all its other faults."""
+    """A charge detail record, which is a credit where `credit` is true, and otherwise a bill. That is read behind all other
+    members: it may be wanting, unless it is told that it may not, and the record that a credit takes back stands behind it. Of
+    a bill `credit_reference_id` is not looked at. Of a bill nothing is written, unless it is told that `credit` is."""
+
+    TAKEN_BACK = Member("credit_reference_id", CiString(39))
+
+    def __init__(self, *members, wants_credit=False, writes_credit=False):
+        super().__init__(*members)
+        self.wants_credit = wants_credit
+        self.writes_credit = writes_credit
 
     def read_members(self, tree):
         texts = super().read_members(tree)
-        if tree.get("credit") is True:
-            raise wrong_form("credit")
-        return texts
+        credit = Member("credit", Truth(), optional=not self.wants_credit).read(tree)
+        if credit == "true":
+            return {**texts, "credit": credit, self.TAKEN_BACK.name: self.TAKEN_BACK.read(tree)}
+        return {**texts, "credit": "false"} if self.writes_credit else texts
 
 
 class Items:
@@ -341,7 +351,7 @@ DIMENSION = Record(Member("type", String(64)), Member("volume", Decimal(negative
 
 PERIOD = Record(Member("start_date_time", Moment()), Member("dimensions", Items(DIMENSION, least=1)))
 
-CDR = ChargeDetailRecord(
+CDR_MEMBERS = (
     *PARTY_HALVES,
     Member("id", CiString(39)),
     Member("start_date_time", Moment()),
@@ -358,6 +368,8 @@ CDR = ChargeDetailRecord(
     Member("total_time", POWER),
     Member("last_updated", Moment()),
 )
+
+CDR = ChargeDetailRecord(*CDR_MEMBERS)
 
 RESPONSE_DATA = Record(
     Member("result", Word("NOT_SUPPORTED", "REJECTED", "ACCEPTED", "UNKNOWN_SESSION")), Member("timeout", Whole())

@@ -7,6 +7,7 @@ where a form is met for the first time.
 import itertools
 
 from packet_forms import (
+    ChargeDetailRecord,
     CiString,
     Decimal,
     Items,
@@ -69,14 +70,24 @@ def sample(form, size):
 
 
 def sample_record(record, size):
-    """The least has no optional member; the others have all."""
+    """The least has no optional member; the others have all. Of charge detail records the greatest is a credit."""
     there = [member for member in record.members if size != LEAST or not member.optional]
-    tree = {member.name: sample(member.form, size) for member in sorted(there, key=lambda member: member.name)}
+    tree = {member.name: sample(member.form, size) for member in there}
+    if isinstance(record, ChargeDetailRecord):
+        tree |= sample_credit(record, size)
+    tree = dict(sorted(tree.items()))
     if isinstance(record, Reply):
         tree["status_code"] = Number("9999" if size == LEAST else "1000")
         if size == LEAST:
             del tree["data"]
     return tree
+
+
+def sample_credit(record, size):
+    """What is written of whether a charge detail record is a credit."""
+    if size == GREATEST:
+        return {"credit": True, record.TAKEN_BACK.name: sample(record.TAKEN_BACK.form, size)}
+    return {"credit": False} if record.writes_credit else {}
 
 
 def other_kinds(form):

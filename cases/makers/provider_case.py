@@ -2,7 +2,7 @@
 import json
 from decimal import Decimal
 
-from operator_case import moment, reference, text, token
+from operator_case import moment, reference, stored_record, text, token
 
 PROVIDER = "NL/TNM"
 OPERATORS = ["BE/BEC", "FR/FRC"]
@@ -53,6 +53,11 @@ def cdr(name="C1", of="S1", cost="3.0864", currency="EUR", party="BE/BEC", owner
         "start_date_time": moment("10:00:10"), "total_cost": {"excl_vat": Decimal(cost)},
         "total_energy": Decimal("12.3456"), "total_time": Decimal("0.5000"), **more,
     }
+
+
+def credit(name="C1-C", of="S1", cost="-3.0864", currency="EUR", taken_back="C1", **more):
+    """The charge detail record that takes back the one of that id."""
+    return cdr(name, of, cost, currency, credit=True, credit_reference_id=taken_back, last_updated=moment("11:00:00"), **more)
 
 
 def version(uid, updated, **more):
@@ -247,8 +252,11 @@ class Case:
 
     def held(self, value):
         """A session or a charge detail record is held."""
-        key = "%s/%s/%s" % (value["country_code"], value["party_id"], value["id"])
-        self.put("cdr" if "session_id" in value else "session", key.upper(), value)
+        key = ("%s/%s/%s" % (value["country_code"], value["party_id"], value["id"])).upper()
+        if "session_id" in value:
+            self.put("cdr", key, stored_record(value))
+        else:
+            self.put("session", key, value)
 
     def commanded(self, serial, number, carried=None, ref=None, to="BE/BEC"):
         """The order that was submitted last is sent as a command, a start or a reservation with that token."""

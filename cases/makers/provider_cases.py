@@ -14,6 +14,7 @@ from provider_case import (
     WANTED,
     Case,
     cdr,
+    credit,
     end,
     open_parties,
     refused,
@@ -31,6 +32,7 @@ WITHOUT_MEMORY = [
     "a reference goes to one addressee, also across a restart, and all that waits is sent again after it",
     "a token is allowed, with the same reference when the question comes again; one is blocked; one is unknown",
     "another charge detail record of an id that is held is refused, and what is owed stays",
+    "a credit may come before its bill, each counts once, and no other of that session is taken",
 ]
 
 
@@ -302,6 +304,72 @@ def charge_detail_records():
     c.owed("BE/BEC", "", "0.0000")
     c.owed("FR/FRC", "EUR", "0.0000")
     c.owed("AT/XXX", "EUR", "0.0000")
+    c.stored()
+
+
+def credits():
+    c = Case("a credit may come before its bill, each counts once, and no other of that session is taken")
+    c.post_cdr(1, credit())
+    c.acked(1, 1)
+    c.held(credit())
+    c.owed("BE/BEC", "EUR", "-3.0864")
+    c.post_cdr(1, credit(), at="10:00:30")
+    c.again(2, 1)
+    c.owed("BE/BEC", "EUR", "-3.0864")
+    c.post_cdr(2, cdr())
+    c.acked(3, 2)
+    c.held(cdr())
+    c.owed("BE/BEC", "EUR", "0.0000")
+    c.post_cdr(2, cdr())
+    c.again(4, 2)
+    for number, same in enumerate((credit(), cdr()), 3):
+        c.post_cdr(number, same)
+        c.acked(number + 2, number)
+    others = [
+        credit("C2-C", taken_back="C2"), credit("C2-C", "s1"), cdr("C2"), cdr("C2", "s1", "-3.0864"), credit("c1-c"),
+        credit(cost="-3.0863"), credit(currency="USD"), credit(taken_back="c1"), credit(taken_back="C2"), credit(of="S2"),
+        cdr("C1-C"), cdr("C1-C", "S2"), credit("C1", "S2"), {**cdr(), "credit": True, "credit_reference_id": "C1"},
+    ]
+    for number, other in enumerate(others, 5):
+        c.post_cdr(number, other)
+        c.acked(number + 2, number, 2001)
+    c.owed("BE/BEC", "EUR", "0.0000")
+    c.stored()
+    c = Case("a credit behind its bill, of several sessions and operators")
+    for number, (name, of, cost) in enumerate([("C1", "S1", "3.0864"), ("C2", "S2", "1.0001"), ("C3", "S3", "0.0001")], 1):
+        c.post_cdr(number, cdr(name, of, cost))
+        c.acked(number, number)
+        c.held(cdr(name, of, cost))
+    c.owed("BE/BEC", "EUR", "4.0866")
+    back = credit("C2-C", "S2", "-1.0001", taken_back="C2")
+    c.post_cdr(4, back)
+    c.acked(4, 4)
+    c.held(back)
+    c.owed("BE/BEC", "EUR", "3.0865")
+    c.post_cdr(1, credit("C2-C", "S2", "-1.0001", taken_back="C2", party="FR/FRC"), party="FR/FRC")
+    c.acked(5, 1, party="FR/FRC")
+    c.held({**back, "country_code": "FR", "party_id": "FRC"})
+    c.owed("FR/FRC", "EUR", "-1.0001")
+    c.owed("BE/BEC", "EUR", "3.0865")
+    c.stored()
+    c = Case("credits of other parties are refused; what a credit says of its bill is not compared with it")
+    c.post_cdr(1, credit(owner="DE/EMP"))
+    c.acked(1, 1, 2001)
+    c.post_cdr(2, credit(party="FR/FRC"))
+    c.acked(2, 2, 2001)
+    c.owed("BE/BEC", "EUR", "0.0000")
+    c.post_cdr(3, cdr())
+    c.acked(3, 3)
+    c.held(cdr())
+    c.post_cdr(4, credit(currency="SEK"))
+    c.acked(4, 4)
+    c.held(credit(currency="SEK"))
+    c.owed("BE/BEC", "EUR", "3.0864")
+    c.owed("BE/BEC", "SEK", "-3.0864")
+    c.post_cdr(5, credit("C9", "S9", "0.5000", taken_back="C8"))
+    c.acked(5, 5)
+    c.held(credit("C9", "S9", "0.5000", taken_back="C8"))
+    c.owed("BE/BEC", "EUR", "3.5864")
     c.stored()
 
 
@@ -587,6 +655,7 @@ def cases():
     responses()
     sessions()
     charge_detail_records()
+    credits()
     authorizations()
     acknowledgements()
     orders()

@@ -1,6 +1,6 @@
 """The cases of rows of which a provider is made, and of rows that are those of no provider."""
-from operator_case import moment, token
-from provider_case import Case, cdr, refused, session
+from operator_case import moment, stored_record, token
+from provider_case import Case, cdr, credit, refused, session
 
 BAD = "7 BadRows"
 
@@ -27,7 +27,11 @@ def held_session(name="S1", party="BE/BEC", **more):
 
 
 def held_cdr(name="C1", of="S1", party="BE/BEC"):
-    return "cdr", "%s/%s" % (party, name), cdr(name, of, party=party)
+    return "cdr", "%s/%s" % (party, name), stored_record(cdr(name, of, party=party))
+
+
+def held_credit(name="C1-C", of="S1", party="BE/BEC"):
+    return "cdr", "%s/%s" % (party, name), credit(name, of, party=party)
 
 
 def push(number, uid="AA01", to="BE/BEC", **more):
@@ -50,7 +54,7 @@ def start(number, given=None):
 
 GOOD = [
     held(), push(3), push(4, "AA02"), push(5, to="FR/FRC"), stop(6), start(7, reference(2)), start(8), held_session(),
-    held_session("S2"), held_cdr(), held_cdr("C2", "S2"), held_cdr("C2", party="FR/FRC"), reply(1), reply(1, "FR/FRC"),
+    held_session("S2"), held_cdr(), held_cdr("C2", "S2"), held_cdr("C2", party="FR/FRC"), held_credit(), reply(1), reply(1, "FR/FRC"),
     count("serial", 9), count("request", 8), count("reference", 2),
 ]
 
@@ -61,6 +65,10 @@ MADE = {
     "a push to an operator in small letters": [push(3, to="be/bec"), count("request", 3)],
     "a push of one token to each of two operators": [count("request", 3), push(3), push(2, to="FR/FRC")],
     "a charge detail record without its session": [held_cdr()],
+    "a credit without its bill": [held_credit()],
+    "a credit before its bill": [held_credit(), held_cdr()],
+    "a bill before its credit": [held_cdr(), held_credit()],
+    "credits of two operators": [held_credit(), held_credit(party="FR/FRC")],
 }
 
 REFUSED = {
@@ -90,6 +98,8 @@ REFUSED = {
     "a command to another than the operators": [stop(3, "DE/EMP"), count("request", 3)],
     "two pushes of one token to one operator": [push(3), push(2, valid=False), count("request", 3)],
     "two charge detail records of one session": [held_cdr(), held_cdr("C2")],
+    "two credits of one session": [held_credit(), held_cdr(), held_credit("C2-C")],
+    "a bill and a credit of one id": [held_cdr("C1"), held_credit("C1")],
 }
 
 

@@ -1,37 +1,38 @@
 """The cases of `packet_cases` that are rows: `CASES` has each line, a kind, a key and a text behind `row ` with tabs between
-them, and what it must give: these three as they are written, or why the row is refused. Each case says what it must give,
-and the tables in `row_forms` say it once more. `packet_cases` writes them behind its own."""
+them, and what it must give: these three as they are written, or why the row is refused. Behind `row_1 ` stand rows of layout
+1. Each case says what it must give, and the tables in `row_forms` say it once more. `packet_cases` writes them behind its
+own."""
 
 import sys
 
-from packet_forms import BODIES, Kind, Member, Number, Record, Word, missing, spell, unknown_word, wrong_form
+from packet_forms import BODIES, CDR, Kind, Member, Number, Record, Word, missing, spell, unknown_word, wrong_form
 from packet_forms import BAD_NUMBER_TOKEN, SYNTAX, TAGGED_TEXT, UNKNOWN_KIND
 from packet_values import GREATEST, LEAST, USUAL, other_kinds, right_values, sample, sample_record, wrong_values
-from row_forms import ROW_MARK, ROWS, Carried, answer
+from row_forms import ROW_1_MARK, ROW_MARK, ROWS, ROWS_1, Carried, answer
 
 CASES = []
 
 
-def line_of(kind, key, tree):
+def line_of(kind, key, tree, mark=ROW_MARK):
     text = tree if isinstance(tree, str) else spell(tree)
-    return f"{ROW_MARK}{kind}\t{key}\t{text}"
+    return f"{mark}{kind}\t{key}\t{text}"
 
 
-def case(kind, key, tree, wanted):
-    line = line_of(kind, key, tree)
+def case(kind, key, tree, wanted, mark=ROW_MARK):
+    line = line_of(kind, key, tree, mark)
     found = answer(line)
     if found != wanted:
         sys.exit(f"the tables give another answer\nline   {line}\nwanted {wanted}\nfound  {found}")
     CASES.append((line, wanted))
 
 
-def taken(kind, key, tree, written):
+def taken(kind, key, tree, written, mark=ROW_MARK):
     """The row is taken, and its text written so."""
-    case(kind, key, tree, line_of(kind, key, written).removeprefix(ROW_MARK))
+    case(kind, key, tree, line_of(kind, key, written, ""), mark)
 
 
-def refused(kind, key, tree, fault):
-    case(kind, key, tree, f"refused {fault}")
+def refused(kind, key, tree, fault, mark=ROW_MARK):
+    case(kind, key, tree, f"refused {fault}", mark)
 
 
 def sample_text(kind, carried, size):
@@ -74,6 +75,80 @@ def add_rows():
             for size in (LEAST, USUAL, GREATEST):
                 tree = sample_text(kind, carried, size)
                 taken(kind, sample_key(kind, tree, size), tree, tree)
+
+
+def with_credit(tree, **members):
+    """A text with these members, in the order of their names."""
+    return dict(sorted({**tree, **members}.items()))
+
+
+NO_TRUTHS = ["x", "true", *map(Number, ("1", "0")), [], {}]
+
+
+def add_credits():
+    """A stored charge detail record says whether it is a credit; of layout 1 a bill need not. A credit names the record that it
+    takes back."""
+    bill = sample_text("cdr", None, USUAL)
+    key = ROWS["cdr"][1](bill)
+    without = {name: value for name, value in bill.items() if name != "credit"}
+    reference = CDR.TAKEN_BACK.name
+    credit = with_credit(bill, credit=True, **{reference: "C1"})
+    for absent in (without, with_credit(without, credit=None)):
+        for tree in (absent, with_credit(absent, **{reference: "C1"}), with_credit(absent, **{reference: Number("5")})):
+            refused("cdr", key, tree, missing("credit"))
+            refused("cdr", "no key", tree, missing("credit"))
+            taken("cdr", key, tree, bill, ROW_1_MARK)
+            refused("cdr", "no key", tree, wrong_form("key"), ROW_1_MARK)
+            refused("cdr", key, tree | {"last_updated": None}, missing("last_updated"))
+    for mark in (ROW_MARK, ROW_1_MARK):
+        for value in (None, "C1", "x" * 40, Number("5"), []):
+            taken("cdr", key, with_credit(bill, **{reference: value}), bill, mark)
+        taken("cdr", key, bill, bill, mark)
+        taken("cdr", key, credit, credit, mark)
+        try_credit(key, credit, mark)
+
+
+def try_credit(key, credit, mark):
+    """What is wrong with a credit, behind the faults of the other members and before that of the key."""
+    reference = CDR.TAKEN_BACK.name
+    for tree in (with_credit(credit, **{reference: None}), {name: credit[name] for name in credit if name != reference}):
+        refused("cdr", key, tree, missing(reference), mark)
+        refused("cdr", "no key", tree, missing(reference), mark)
+    for value in (*other_kinds(CDR.TAKEN_BACK.form), *wrong_values(CDR.TAKEN_BACK.form)[0]):
+        refused("cdr", key, with_credit(credit, **{reference: value}), wrong_form(reference), mark)
+    for value in NO_TRUTHS:
+        for tree in (credit, with_credit(credit, **{reference: None})):
+            refused("cdr", "no key", with_credit(tree, credit=value), wrong_form("credit"), mark)
+    for member in CDR.members:
+        wrong = {member.name: other_kinds(member.form)[0]}
+        refused("cdr", key, with_credit(credit, credit="x", **wrong), wrong_form(member.name), mark)
+        refused("cdr", key, with_credit(credit, **{reference: None}, **wrong), wrong_form(member.name), mark)
+    refused("cdr", "no key", credit, wrong_form("key"), mark)
+
+
+def add_layout_1():
+    """Rows of other kinds than charge detail records are alike in both layouts; and what is no row of either."""
+    for kind in ROWS_1:
+        tree = sample_text(kind, kinds_carried(kind)[0], USUAL)
+        key = sample_key(kind, tree, USUAL)
+        taken(kind, key, tree, tree, ROW_1_MARK)
+        for text, fault in (("5", wrong_form("line")), ("{", SYNTAX), ('{"last":01}', BAD_NUMBER_TOKEN), (r'{"\u0001":1}', TAGGED_TEXT)):
+            refused(kind, key, text, fault, ROW_1_MARK)
+        first = ROWS_1[kind][0].members[:1]
+        for member in (it for it in first if not it.optional):
+            refused(kind, key, tree | {member.name: None}, missing(member.name), ROW_1_MARK)
+        if kind != "service":
+            refused(kind, "no key/", tree, wrong_form("key"), ROW_1_MARK)
+    # A push carries a record as it is sent.
+    for credit in ({}, {"credit": True, CDR.TAKEN_BACK.name: "C1"}):
+        tree = sample_text("push", "post_cdr", USUAL)
+        tree["body"] = with_credit(tree["body"], **credit)
+        for mark in (ROW_MARK, ROW_1_MARK):
+            taken("push", "7", tree, tree, mark)
+            taken("push", "7", {**tree, "body": {"credit": None, **tree["body"]}}, tree, mark)
+    for word in ("", "Count", "rows", "put_token"):
+        refused(word, "serial", '{"last":1}', UNKNOWN_KIND, ROW_1_MARK)
+        refused(word, "", "no text", UNKNOWN_KIND, ROW_1_MARK)
 
 
 def members_of(kind):
@@ -212,6 +287,8 @@ def add_texts():
 
 
 add_rows()
+add_credits()
+add_layout_1()
 add_members()
 add_first_faults()
 add_kinds()

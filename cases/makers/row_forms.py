@@ -1,8 +1,9 @@
 """The rows as tables: which members the text of each kind has, in which order faults are told, and which keys it may have.
 
 `answer(line)` gives what a line of `packet_cases` must give that is a kind, a key and a text behind `row `, with tabs between
-them: these three as they are written, or `refused` and the first fault. Written from the rules (docs/PROTOCOL.md), as
-`packet_forms` is, and beside it.
+them: these three as they are written, or `refused` and the first fault. Behind `row_1 ` they are those of layout 1, in which
+the text of a charge detail record is that of a packet (docs/STORE.md); they are written as in layout 2. Written from the rules
+(docs/PROTOCOL.md), as `packet_forms` is, and beside it.
 """
 
 import re
@@ -12,9 +13,10 @@ from packet_forms import (
     ID,
     RESULT,
     TOKEN,
-    CDR,
+    CDR_MEMBERS,
     SESSION,
     UNKNOWN_KIND,
+    ChargeDetailRecord,
     Fault,
     Kind,
     Member,
@@ -29,6 +31,7 @@ from packet_forms import (
 )
 
 ROW_MARK = "row "
+ROW_1_MARK = "row_1 "
 
 COMMANDS = ["start_session", "stop_session", "reserve_now", "cancel_reservation", "unlock_connector"]
 REPLIES = ["command_response", "authorization", "ack"]
@@ -108,7 +111,7 @@ ROWS = {
     ),
     "result": (Record(Member("result", RESULT)), PARTY_NUMBER),
     "session": (SESSION, own_key),
-    "cdr": (CDR, own_key),
+    "cdr": (ChargeDetailRecord(*CDR_MEMBERS, wants_credit=True, writes_credit=True), own_key),
     "command": (
         Carried(
             COMMANDS,
@@ -120,10 +123,14 @@ ROWS = {
 }
 
 
-def read_row(kind, key, text):
-    if kind not in ROWS:
+# The same of layout 1.
+ROWS_1 = {**ROWS, "cdr": (ChargeDetailRecord(*CDR_MEMBERS, writes_credit=True), own_key)}
+
+
+def read_row(rows, kind, key, text):
+    if kind not in rows:
         raise Fault(UNKNOWN_KIND)
-    record, form = ROWS[kind]
+    record, form = rows[kind]
     tree = read_tree(text)
     written = record.read(tree, "line")
     fits = key == form(tree) if callable(form) else re.fullmatch(form, key)
@@ -135,6 +142,8 @@ def read_row(kind, key, text):
 def answer(line):
     """What the line must give."""
     try:
-        return read_row(*line.removeprefix(ROW_MARK).split("\t", 2))
+        if line.startswith(ROW_1_MARK):
+            return read_row(ROWS_1, *line.removeprefix(ROW_1_MARK).split("\t", 2))
+        return read_row(ROWS, *line.removeprefix(ROW_MARK).split("\t", 2))
     except Fault as fault:
         return f"refused {fault}"

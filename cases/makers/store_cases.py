@@ -1,15 +1,18 @@
-"""The part `stores` of the cases of the program `case_lines`: stores on disks that stop at any call, nodes over them, and stores of
-which no node is made.
+"""The part `stores` of the cases of the program `case_lines`: stores on disks that stop at any call, nodes over them, stores of
+which no node is made, and stores of version 1, which are moved to version 2.
 
-A stop before a store is opened leaves it as it was, or as a new one where there was none. One while a commit is made leaves what
-was before or what is then; one behind that leaves what is then.
+A stop before a store is opened leaves it as it was, or as a new one where there was none. So does one while a store of version 1
+is opened: it leaves version 1 with its texts, or version 2 with those in their place. One while a commit is made leaves what was
+before or what is then; one behind that leaves what is then.
 """
+import json
 import pathlib
 import re
 import sys
+from decimal import Decimal
 
 from kept_cases import delivery, events_of
-from operator_case import text
+from operator_case import moment, text
 from stored_case import (
     SITE,
     Operators,
@@ -18,7 +21,9 @@ from stored_case import (
     bill,
     command,
     count,
+    credit,
     held_bill,
+    held_credit,
     held_session,
     mark,
     open_start,
@@ -155,7 +160,7 @@ REASONS = {
     "StartOfOtherToken": "TokenOfOtherParty", "ServiceNowhere": "UnknownPlace", "ReservationNowhere": "UnknownPlace",
     "StartNowhere": "UnknownPlace", "SessionNowhere": "UnknownPlace", "ClaimedTwice": "ClaimedTwice", "OpenUnanswered": "Unanswered",
     "ResultUnanswered": "Unanswered", "OpenWithResult": "OpenWithResult", "PushedTwice": "PushedTwice", "Stuck": "CannotGoOn",
-    "BilledTwice": "BilledTwice", "BilledEarly": "BilledEarly", "Unbilled": "Unbilled",
+    "BilledTwice": "BilledTwice", "BilledEarly": "BilledEarly", "Unbilled": "Unbilled", "CreditWithoutBill": "CreditWithoutBill",
 }
 # Those of which a store was told.
 TOLD = set()
@@ -193,6 +198,14 @@ def bad_operators():
     bad(Operators, "BilledTwice", sessions, cdrs, done, bill(1), bill(2, 1), shows=[3, 4])
     bad(Operators, "BilledEarly", sessions, cdrs, session(1, "ACTIVE"), bill(1))
     bad(Operators, "Unbilled", sessions, cdrs, done)
+    twice = [sessions, count("cdr", 20), done, session(2, "COMPLETED"), bill(1), bill(2, 2)]
+    bad(Operators, "CreditWithoutBill", *twice, credit(2, 1))
+    bad(Operators, "CreditWithoutBill", *twice, credit(3, 1))
+    bad(Operators, "CreditWithoutBill", *twice, credit(2, 2, taken_back=bill(1)[2]["id"]))
+    bad(Operators, "BilledTwice", *twice, bill(3, 1), credit(1), credit(3, 1), shows=[4, 6, 7, 8])
+    bad(Operators, "BilledEarly", sessions, cdrs, session(1, "ACTIVE"), bill(1), credit(1), shows=[3, 4])
+    bad(Operators, "NotGiven", sessions, done, bill(1), credit(1), shows=[2, 3])
+    bad(Operators, "NotOwnId", sessions, cdrs, done, bill(1, name="C1"), credit(1, name="C1-C", taken_back="C1"), shows=[3, 4])
 
 
 def bad_providers():
@@ -212,6 +225,8 @@ def bad_providers():
     bad(Providers, "UnknownParty", requests, stop_command(1, STRANGER))
     bad(Providers, "PushedTwice", requests, token_push(1), token_push(2), shows=[1, 2])
     bad(Providers, "BilledTwice", held_bill(), held_bill("C2", "S1"), shows=[0, 1])
+    bad(Providers, "BilledTwice", held_bill(), held_credit(), held_credit("C2-C", "s1"), shows=[1, 2])
+    bad(Providers, "OfOtherParty", held_credit(owner="DE/EMP"))
 
 
 def each_reason_is_told():
@@ -249,13 +264,19 @@ def of_other_parties():
         line("texts", *kept(rows))
 
 
+# Texts that are no rows of their kind and key, in either layout.
+NO_ROWS = [
+    ("session", "BE/BEC/S1", "{"), ("count", "serial", "7"), ("count", "serial", '{"last":01}'), ("count", "serials", '{"last":7}'),
+    ("counter", "serial", '{"last":7}'), ("mark", "NL/TNM/R1", "{}"), ("mark", "nl/tnm/R1", '{"number":1}'),
+    ("push", "01", '{"body":{},"kind":"ack","to":"NL/TNM"}'), ("service", "E1", ""), ("spent", "NL/TNM", "{}"), ("", "", "{}"),
+]
+
+
 def no_rows():
-    """Texts that are no rows of their kind and key, each beside one that is. What is kept stays."""
+    """Texts that are no rows, each beside one that is. What is kept stays."""
     good = count("serial", 7)
-    wrong = [("session", "BE/BEC/S1", "{"), ("count", "serial", "7"), ("count", "serial", '{"last":01}'),
-             ("count", "serials", '{"last":7}'), ("counter", "serial", '{"last":7}'), ("mark", "NL/TNM/R1", "{}"), ("mark", "nl/tnm/R1", '{"number":1}'),
-             ("push", "01", '{"body":{},"kind":"ack","to":"NL/TNM"}'), ("service", "E1", ""), ("spent", "NL/TNM", "{}"), ("", "", "{}")]
-    for kind, key, words in wrong:
+    unsaid = ("cdr", "BE/BEC/C1", old_text(held_bill()))
+    for kind, key, words in [*NO_ROWS, unsaid]:
         opened(BOTH)
         line("text " + tabbed(good))
         line("\t".join(["text " + kind, key, words]))
@@ -269,16 +290,193 @@ def no_rows():
     line("reopen NL/TNM", "reopened 1", *puts([good]))
 
 
-def old_layouts():
+def other_layouts():
     """Stores of other versions are refused, and stay as they are."""
     rows = [count("serial", 7), token_row()]
     store(BOTH, rows)
-    for version in (7, 0, 2):
+    line("layout", "version 2")
+    for version in (7, 0, 3):
         line("version %d" % version)
-        line("reopen NL/TNM", "store 3 OldLayout")
+        for word in ("reopen", "open"):
+            line(word + " NL/TNM", "store 3 OldLayout")
+        line("layout", "version %d" % version)
         line("texts", *kept(rows))
+    for version in (2, 1):
+        line("version %d" % version)
+        line("reopen NL/TNM", "reopened 2", *puts(rows))
+        line("layout", "version %d" % version)
+
+
+# ---- stores of version 1
+
+
+def old_text(row):
+    """The text of a row as it is written in layout 1, in which that of a charge detail record is that of a packet."""
+    kind, _, tree = row
+    is_bill = kind == "cdr" and not tree["credit"]
+    return text({name: value for name, value in tree.items() if name != "credit"} if is_bill else tree)
+
+
+def turned(row):
+    """The same with its members in the other order, with spaces, and with others that are read past."""
+    members = json.loads(old_text(row), parse_float=Decimal)
+    told = ['"%s" : %s' % (name, text(members[name])) for name in sorted(members, reverse=True)]
+    return " { %s } " % " , ".join(['"more" : [ ]', *told])
+
+
+def with_members(row, members):
+    """The same with members in front, as they are spelled."""
+    return "{" + members + "," + old_text(row)[1:]
+
+
+def old_store(setup, rows, texts):
+    """A store of version 1 with these rows, of which each has that text."""
+    opened(setup)
+    for row, words in zip(rows, texts):
+        line("\t".join(["text " + row[0], row[1], words]))
     line("version 1")
-    line("reopen NL/TNM", "reopened 2", *puts(rows))
+    holds_old(rows, texts)
+
+
+def holds_old(rows, texts):
+    line("layout", "version 1")
+    line("texts", *("%s %s %s" % it for it in sorted((row[0], row[1], words) for row, words in zip(rows, texts))))
+
+
+def holds_new(rows, texts):
+    """Records have the texts of today, and the others those that they had."""
+    line("layout", "version 2")
+    words = [text(row[2]) if row[0] == "cdr" else words for row, words in zip(rows, texts)]
+    line("texts", *("%s %s %s" % it for it in sorted((row[0], row[1], words) for row, words in zip(rows, words))))
+
+
+MOVED = ["opened", "a stop while it opens leaves before after", "a stop while it closes leaves after"]
+
+
+def moves(party, setup, rows, texts):
+    """A store of version 1 is moved where it is opened, and then is one of today."""
+    old_store(setup, rows, texts)
+    line("reopen " + party, "reopened %d" % len(rows), *puts(rows))
+    holds_old(rows, texts)
+    line("open " + party, *MOVED)
+    holds_new(rows, texts)
+    line("reopen " + party, "reopened %d" % len(rows), *puts(rows))
+    line("open " + party, "opened", *stops(False))
+    holds_new(rows, texts)
+
+
+def credited(row):
+    """The credit of a bill."""
+    kind, key, bill = row
+    cost = {"excl_vat": -bill["total_cost"]["excl_vat"]}
+    taken_back = {"credit": True, "credit_reference_id": bill["id"], "id": bill["id"] + "-C"}
+    return kind, key + "-C", {**bill, **taken_back, "last_updated": moment("11:00:00"), "total_cost": cost}
+
+
+def moved_charges():
+    """The stores of a charge with the credit of its bill, and without."""
+    for party in ("BE/BEC", "NL/TNM"):
+        rows = rows_of_charge(party).behind[22]
+        moves(party, SETUP, rows, list(map(old_text, rows)))
+        rows = [*rows, *(credited(row) for row in rows if row[0] == "cdr")]
+        moves(party, BOTH, rows, list(map(turned, rows)))
+
+
+def moved_records():
+    """Records in each spelling, and so many that they are on several pages."""
+    moves("NL/TNM", BOTH, [], [])
+    bills = [held_bill("C%d" % number, "S%d" % number) for number in range(1, 6)]
+    credits = [held_credit("C%d-C" % number, "S%d" % number, "C%d" % number) for number in range(3, 9)]
+    first = [
+        with_members(bills[0], '"credit":null'), with_members(bills[1], '"credit":false,"credit_reference_id":5'),
+        with_members(bills[2], '"credit_reference_id":"C1"'), with_members(bills[3], '"credit":true,"credit":null'), turned(bills[4]),
+    ]
+    beside = [count("serial", 7), token_row(), held_session()]
+    moves("NL/TNM", BOTH, [*beside, *bills, *credits], [*map(turned, beside), *first, *map(old_text, credits)])
+    many = [make(number) for number in range(10, 34) for make in (
+        lambda number: held_bill("C%d" % number, "S%d" % number),
+        lambda number: held_credit("C%d-C" % number, "S%d" % number, "C%d" % number),
+    )]
+    moves("NL/TNM", BOTH, many, list(map(old_text, many)))
+
+
+def moved_by_an_event():
+    """An event at a node over a store of version 1: the store is moved, and the credit of its bill is taken."""
+    rows = rows_of_charge("NL/TNM").behind[22]
+    old_store(SETUP, rows, list(map(old_text, rows)))
+    (back,) = [credited(row) for row in rows if row[0] == "cdr"]
+    (sent,) = [tree["last"] for kind, key, tree in rows if (kind, key) == ("count", "serial")]
+    packet = {"body": back[2], "from": "BE/BEC", "kind": "post_cdr", "request": 9, "serial": 99, "to": "NL/TNM"}
+    answer = {"status_code": 1000, "timestamp": moment("11:00:01")}
+    ack = {"body": answer, "from": "NL/TNM", "kind": "ack", "request": 9, "serial": sent + 1, "to": "BE/BEC"}
+    stand = [row for row in rows if row[:2] != ("count", "serial")]
+    stand += [count("serial", sent + 1), back, ("reply", "BE/BEC/9", {"body": answer, "kind": "ack"})]
+    given = delivery("NL/TNM", moment("11:00:01"), text(packet))
+    line(given, text(ack), "changed", *puts(stand), *stops(True))
+    line("layout", "version 2")
+    line("texts", *kept(stand))
+
+
+def not_moved():
+    """Texts of which one is no row of layout 1: the store stays, with its version."""
+    beside = [count("request", 7), held_bill("C1"), held_session()]
+    record = ("cdr", "BE/BEC/C9", old_text(held_bill("C9", "S9")))
+    wrong = [
+        *NO_ROWS, ("cdr", "BE/BEC/C9", "{"), ("cdr", "BE/BEC/C8", record[2]), ("cdr", "be/bec/C9", record[2]),
+        *(("cdr", "BE/BEC/C9", with_members(held_bill("C9", "S9"), members)) for members in (
+            '"credit":"x"', '"credit":1', '"credit":true', '"credit":true,"credit_reference_id":null', '"credit":true,"credit_reference_id":5',
+        )),
+        ("cdr", "BE/BEC/C9", old_text(held_bill("C9", "S9")).replace('"last_updated"', '"updated"')),
+        ("push", "3", '{"body":%s,"kind":"post_cdr","to":"BE/BEC"}' % with_members(held_bill("C9", "S9"), '"credit":true')),
+    ]
+    for kind, key, words in wrong:
+        rows = [row for row in beside if row[:2] != (kind, key)]
+        rows, texts = [*rows, (kind, key, None)], [*map(old_text, rows), words]
+        old_store(BOTH, rows, texts)
+        for word in ("reopen NL/TNM", "open NL/TNM", "open BE/BEC"):
+            line(word, "store 2 BadRow")
+        holds_old(rows, texts)
+
+
+# The cases in which each allocation fails once: bench/fail_allocations.sh.
+
+
+def small_old_store(*texts):
+    """A store of version 1, told in few lines: each text behind its kind and its key."""
+    line("setup " + SETUP)
+    line("text " + "\t".join(part for it in texts for part in it))
+    line("version 1")
+
+
+def moved_without_memory():
+    rows = [held_bill(), held_credit()]
+    small_old_store(*((row[0], row[1], old_text(row)) for row in rows))
+    line("reopen NL/TNM", "reopened %d" % len(rows), *puts(rows))
+
+
+def not_moved_without_memory():
+    small_old_store((*held_bill()[:2], old_text(held_bill())), ("cdr", "BE/BEC/C2", "{"))
+    line("reopen NL/TNM", "store 2 BadRow")
+
+
+WITHOUT_MEMORY = [
+    ("a store of version 1 is moved, and a provider is made of it", moved_without_memory),
+    ("a store of version 1 has a text that is no row", not_moved_without_memory),
+]
+
+
+def cases_without_memory():
+    """The cases in which each allocation fails once: of each its name, the lines, and what they must give."""
+    return [(name, *recorded(told)) for name, told in WITHOUT_MEMORY]
+
+
+def recorded(told):
+    """What is told in words: the lines, and what they give, which are not kept."""
+    lines, wanted = len(LINES), len(WANTED)
+    told()
+    found = LINES[lines:], WANTED[wanted:]
+    del LINES[lines:], WANTED[wanted:]
+    return found
 
 
 def no_lines():
@@ -288,6 +486,7 @@ def no_lines():
     line("setup " + SETUP)
     line("reopen FR/FRC", "no such node")
     line("reopen", "no such line")
+    line("open FR/FRC", "no such node")
     line('{"event":"restart","node":"FR/FRC"}', "no such node")
     line("put result\tNL/TNM/1\t{}", "refused 4 Missing(result)")
 
@@ -305,5 +504,9 @@ def cases():
     each_reason_is_told()
     of_other_parties()
     no_rows()
-    old_layouts()
+    other_layouts()
+    moved_charges()
+    moved_records()
+    moved_by_an_event()
+    not_moved()
     return LINES, WANTED

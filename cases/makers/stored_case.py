@@ -2,7 +2,7 @@
 import sys
 from decimal import Decimal
 
-from operator_case import OPERATOR, PROVIDERS, location, moment, own_id, reference, text, token, url
+from operator_case import OPERATOR, PROVIDERS, location, moment, own_id, reference, stored_record, text, token, url
 from operator_charge_case import cdr_id, halves, named, place, session_id
 from provider_case import OPERATORS, PROVIDER
 from stored_rules import operator_faults, provider_faults
@@ -150,15 +150,26 @@ def session(number=1, status="ACTIVE", kwh="0.0000", cost="0.0000", evse="E1", c
     return own_row("session", tree)
 
 
-def bill(number=1, of=1, party=OPERATOR, name=None, session_name=None, owner="NL/TNM"):
+def record(number=1, of=1, party=OPERATOR, name=None, session_name=None, owner="NL/TNM"):
+    """A charge detail record as a packet has it."""
     period = {"dimensions": [{"type": "ENERGY", "volume": Decimal("0.0000")}], "start_date_time": moment("10:00:05")}
-    return own_row("cdr", {
+    return {
         **halves(party), "auth_method": "WHITELIST", "cdr_location": place(), "cdr_token": named(token(party=owner)),
         "charging_periods": [period], "currency": "EUR", "end_date_time": moment("10:00:10"),
         "id": cdr_id(number) if name is None else name, "last_updated": moment("10:00:10"),
         "session_id": session_id(of) if session_name is None else session_name, "start_date_time": moment("10:00:05"),
         "total_cost": {"excl_vat": Decimal("0.0000")}, "total_energy": Decimal("0.0000"), "total_time": Decimal("0.0013"),
-    })
+    }
+
+
+def bill(*numbers, **more):
+    return own_row("cdr", stored_record(record(*numbers, **more)))
+
+
+def credit(number=1, of=1, name=None, taken_back=None, **more):
+    """The credit of the bill of that number, unless another is told."""
+    name, taken_back = (cdr_id(number) + "-C" if name is None else name), (cdr_id(number) if taken_back is None else taken_back)
+    return own_row("cdr", {**record(number, of, name=name, **more), "credit": True, "credit_reference_id": taken_back})
 
 
 def session_push(number, row, to="NL/TNM"):
@@ -236,6 +247,10 @@ def held_session(name="S1", party="BE/BEC", **more):
 
 def held_bill(name="C1", of="S1", party="BE/BEC", **more):
     return bill(party=party, name=name, session_name=of, **more)
+
+
+def held_credit(name="C1-C", of="S1", taken_back="C1", party="BE/BEC", **more):
+    return credit(party=party, name=name, session_name=of, taken_back=taken_back, **more)
 
 
 def own_reference(number, party=PROVIDER):

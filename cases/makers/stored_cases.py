@@ -25,7 +25,9 @@ from stored_case import (
     bill,
     command,
     count,
+    credit,
     held_bill,
+    held_credit,
     held_session,
     line,
     make,
@@ -153,7 +155,7 @@ def drawn_of_operators():
         reserved("R2", "E3", "LOC2"), reserved("R3", "E2"), open_start(1), open_start(2, "E2"), open_start(1, "E3", "DE/EMP"),
         open_unlock(2), settled(1), settled(2), settled(1, "DE/EMP"), done, other, live, session(4, "PENDING"),
         session(5, "INVALID"), session(9, "INVALID"), session(1, "INVALID", party="DE/EMP"), bill(1), bill(2, 2), bill(3, 2),
-        bill(9, 3), token_row(party="AT/XXX"), command(1),
+        bill(9, 3), token_row(party="AT/XXX"), command(1), credit(1), credit(2, 2), credit(3, 2), credit(1, 2), credit(9, 3),
     ]
     drawn(Operators(), [count("serial", 7), count("request", 6), count("session", 6), count("cdr", 6)], pool)
 
@@ -166,7 +168,7 @@ def drawn_of_providers():
         stop_command(3), stop_command(5), stop_command(6, "AT/XXX"), held_session(), held_session("S2"),
         held_session(party="FR/FRC"), held_bill(), held_bill("C2"), held_bill("C3", "S2"), held_bill(party="FR/FRC"), spent(1),
         reserved(), settled(1, "BE/BEC"), token_row(party="DE/EMP"), held_session("S3", owner="DE/EMP"),
-        held_bill("C4", "S4", owner="DE/EMP"),
+        held_bill("C4", "S4", owner="DE/EMP"), held_credit(), held_credit("C2-C"), held_credit("C3-C", "S3"), held_credit("C2"),
     ]
     drawn(Providers(), [count("serial", 7), count("request", 6), count("reference", 6)], pool)
 

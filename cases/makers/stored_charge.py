@@ -7,7 +7,7 @@ of the rows are what the packets carry.
 import json
 from decimal import Decimal
 
-from operator_case import moment
+from operator_case import moment, stored_record
 from stored_case import Operators, Providers, line, make, makes, puts, session, session_push, tell
 from world_cases import CHARGE, PACKETS, SETUP, STEPS
 
@@ -50,7 +50,7 @@ class Node:
         if kind == "session":
             return carried["put_session"]["body"]
         if kind == "cdr":
-            return carried["post_cdr"]["body"]
+            return stored_record(carried["post_cdr"]["body"])
         if kind == "reply":
             return next({"body": it["body"], "kind": it["kind"]} for it in sent if it["kind"] in REPLIES)
         if kind == "push":

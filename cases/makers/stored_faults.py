@@ -15,7 +15,9 @@ from stored_case import (
     bill,
     command,
     count,
+    credit,
     held_bill,
+    held_credit,
     held_session,
     makes,
     mark,
@@ -24,6 +26,7 @@ from stored_case import (
     out_of_service,
     own_reference,
     push,
+    record,
     reply,
     reserved,
     result_push,
@@ -191,7 +194,7 @@ def pushes(node):
         for apart in (token_push(2, to="DE/EMP"), token_push(2, "AA02", "NL/TNM"), token_push(2, to="NL/TNM", kind="OTHER")):
             beside(node, [*counted, one, apart], [*counted, one, other], "PushedTwice")
     # Results and charge detail records replace nothing.
-    bills = [push(3, "post_cdr", bill(1)[2]), push(4, "post_cdr", bill(1)[2])]
+    bills = [push(3, "post_cdr", record(1)), push(4, "post_cdr", record(1))]
     makes(node, [*counted, result_push(1), result_push(2), *bills])
 
 
@@ -214,6 +217,55 @@ def sessions(node):
     beside(node, [*counted, *charged(1)], [*counted, *charged(1), bill(2, 2)], "BilledEarly")
     beside(node, [*counted, *charged(1)], [*counted, bill(1)], "BilledEarly")
     beside(node, [*counted, *charged(1)], [*counted, session(1, "COMPLETED")], "Unbilled")
+
+
+def credits(node):
+    """A credit has its bill, of its session; a session has one bill, and one credit at most."""
+    counted = [count("session", 19), count("cdr", 19)]
+    one, two = charged(1), charged(10)
+    both = [*counted, *one, *two]
+    for put in ([credit(1)], [credit(10, 10)], [credit(10, 10), credit(1)]):
+        makes(node, [*both, *put])
+        makes(node, [*put, *both])
+    # The bill is not there, or is of another session, or another is named, or it is spelled otherwise.
+    for other in (
+        credit(2, 10), credit(1, 10), credit(10, 10, taken_back=cdr_id(1)), credit(1, 10, taken_back=cdr_id(10)),
+        credit(10, 10, taken_back=cdr_id(10).upper()), credit(10, 10, taken_back=cdr_id(10) + "-C"), credit(10, 10, taken_back=""),
+    ):
+        beside(node, [*both, credit(10, 10)], [*both, other], "CreditWithoutBill")
+    capitals = credit(10, session_name=session_id(10).upper())
+    beside(node, [*both, capitals], [*both, credit(10, session_name=session_id(1))], "CreditWithoutBill")
+    beside(node, [*both, credit(1)], [*counted, *one[:1], *two, credit(1)], "CreditWithoutBill", "Unbilled")
+    # A credit bills no session.
+    beside(node, [*both, credit(1)], [*counted, *two, one[0], bill(2), credit(1)], "CreditWithoutBill")
+    twice = [*both, bill(11, 10), credit(10, 10), credit(11, 10)]
+    beside(node, [*both, credit(10, 10), credit(1)], twice, "BilledTwice")
+    beside(node, [*both, credit(10, 10)], [*both, credit(10, 10), credit(11, 10)], "BilledTwice", "CreditWithoutBill")
+    for status in ("PENDING", "ACTIVE", "INVALID"):
+        beside(node, [*both, credit(1)], [*counted, *two, session(1, status), bill(1), credit(1)], "BilledEarly")
+    add_ids_of_credits(node, counted, two)
+
+
+def add_ids_of_credits(node, counted, ended):
+    """The id of a credit is that of a bill that the operator makes, and `-C`."""
+    complete, of_it = ended
+    for name in (cdr_id(10), cdr_id(10) + "-c", cdr_id(10) + "-CC", cdr_id(10) + "C", "-C", "C1-C", ""):
+        inside = [*counted, complete, of_it, credit(10, 10)]
+        # (that has the key of the bill)
+        shared = [complete, bill(11, 10)] if name == cdr_id(10) else ended
+        beside(node, inside, [*counted, *shared, credit(10, 10, name=name)], "CdrIdNotOwn", "CreditWithoutBill")
+    for name in (own_id(b"C", 10, "BE/BED"), own_id(b"S", 10, "BE/BEC"), own_id(b"C", LAST_NUMBER + 1, "BE/BEC"), "C1", ""):
+        outside = [*counted, complete, bill(10, 10, name=name), credit(10, 10, name=name + "-C", taken_back=name)]
+        beside(node, [*counted, *ended, credit(10, 10)], outside, "CdrIdNotOwn")
+    other = [bill(10, 10, party="FR/FRC"), credit(10, 10, party="FR/FRC")]
+    beside(node, [*counted, *ended, credit(10, 10)], [*counted, complete, *other], "CdrOfOther")
+    for last in (7, LAST_NUMBER):
+        rows = [count("session", 10), complete, bill(last, 10), credit(last, 10)]
+        beside(node, [*rows, count("cdr", last)], [*rows, count("cdr", last - 1)], "CdrNotGiven")
+    # A push of a credit is one of a record.
+    request = count("request", 9)
+    sent = [push(8, "post_cdr", record(10, 10)), push(9, "post_cdr", credit(10, 10)[2])]
+    makes(node, [*counted, request, *ended, credit(10, 10), *sent])
 
 
 def kinds_of_providers(node):
@@ -279,6 +331,17 @@ def parties_of_providers(node):
             beside(node, [*counted, one, apart], [*counted, one, other], "PushedTwice")
     for apart in (held_bill("C2", "S2"), held_bill("C2", "S1", "FR/FRC"), held_bill("C1", "S1", "FR/FRC")):
         beside(node, [held_bill(), apart], [held_bill(), held_bill("C2", "s1")], "BilledTwice")
+    # Of a session there may be a bill and a credit, each with or without the other.
+    for rows in ([held_credit()], [held_credit(), held_bill()], [held_credit("C9", taken_back="C8"), held_bill("C2")]):
+        makes(node, rows)
+        makes(node, [*rows, held_credit("C2-C", "S2"), held_credit("C2-C", "S1", party="FR/FRC"), held_bill("C3", "S3")])
+    for other in (held_credit("C2-C", "s1"), held_credit("C2", "S1", taken_back="C2")):
+        for beside_it in ([], [held_bill()]):
+            apart = [held_credit(), held_credit("C2-C", "S2"), *beside_it]
+            beside(node, apart, [held_credit(), other, *beside_it], "BilledTwice")
+    beside(node, [held_credit(), held_bill()], [held_credit("c1"), held_bill()], "Repeated")
+    for owner in (STRANGER, "BE/BEC"):
+        beside(node, [held_bill(), held_credit()], [held_bill(), held_credit(owner=owner)], "OtherCdr")
     # What is wrong in sessions and records is told when they come, not here.
     makes(node, [held_session(status="RESERVATION"), held_session("S2", cost=None), held_session("S3", cost="9.0000"), held_bill()])
     result = push(1, "command_result", {"response_url": url(1), "result": "ACCEPTED"}, "BE/BEC")
@@ -287,7 +350,7 @@ def parties_of_providers(node):
 
 def add_faults():
     operators = Operators()
-    for cases in (repeated_rows, numbers_of_operators, parties_of_operators, places_of_operators, claims, commands, pushes, sessions):
+    for cases in (repeated_rows, numbers_of_operators, parties_of_operators, places_of_operators, claims, commands, pushes, sessions, credits):
         cases(operators)
     providers = Providers()
     for cases in (kinds_of_providers, numbers_of_providers, parties_of_providers):

@@ -26,6 +26,16 @@ def number_of(letter, party, name):
     return number if number <= LAST_NUMBER and own_id(letter, number, party) == name else None
 
 
+def session_number(party, session):
+    return number_of(b"S", party, session["id"])
+
+
+def record_number(party, record):
+    """The number of which a party made the id of a charge detail record, if it did. The id of a credit is that of its bill and `-C`."""
+    bill, end = (record["id"][:-2], record["id"][-2:]) if record["credit"] else (record["id"], "-C")
+    return number_of(b"C", party, bill) if end == "-C" else None
+
+
 def owner_and_rest(key):
     """The party of a key, and what stands behind it."""
     return key[:6], key[7:]
@@ -117,10 +127,10 @@ def is_foreign_to_operator(kind, key):
     return kind == "command" or (kind, key) == ("count", "reference")
 
 
-def own_faults(rows, site, kind, letter, name):
-    """What is asked of the ids of sessions, and of those of charge detail records."""
+def own_faults(rows, site, kind, number, name):
+    """What is asked of the ids of sessions, and of those of charge detail records, whose numbers that finds."""
     trees = [tree for _, tree in of_kind(rows, kind)]
-    numbers = [number_of(letter, site.operator, tree["id"]) for tree in trees]
+    numbers = [number(site.operator, tree) for tree in trees]
     if any(party_of(tree) != site.operator for tree in trees):
         yield f"{name}OfOther"
     if None in numbers:
@@ -168,26 +178,36 @@ def place_faults(rows, site):
 
 def bill_faults(rows, site):
     sessions = [tree for _, tree in of_kind(rows, "session")]
-    bills = [(tree["id"].upper(), tree["session_id"].upper()) for _, tree in of_kind(rows, "cdr")]
+    records = [tree for _, tree in of_kind(rows, "cdr")]
+    told = [(tree["id"].upper(), tree["session_id"].upper(), tree["credit"]) for tree in records]
     ended = [tree["id"].upper() for tree in sessions if tree["status"] == "COMPLETED"]
     for tree in sessions:
         cost = tree.get("total_cost", {}).get("excl_vat")
         if tree["status"] == "RESERVATION" or cost is None or int(Decimal(cost) * 10**4) != site.cost(tree["kwh"]):
             yield "Stuck"
-    if any(one[0] != other[0] and one[1] == other[1] for one, other in pairs(bills)):
+    if any(one[0] != other[0] and one[1:] == other[1:] for one, other in pairs(told)):
         yield "BilledTwice"
-    if any(session not in ended for _, session in bills):
+    if any(session not in ended for _, session, _ in told):
         yield "BilledEarly"
-    if any(session not in [it for _, it in bills] for session in ended):
+    if any(session not in [it for _, it, is_credit in told if not is_credit] for session in ended):
         yield "Unbilled"
+    bills = [tree for tree in records if not tree["credit"]]
+    if any(tree["credit"] and not any(takes_back(tree, bill) for bill in bills) for tree in records):
+        yield "CreditWithoutBill"
+
+
+def takes_back(credit, bill):
+    """It is the credit of that bill."""
+    of_it = credit["credit_reference_id"] == bill["id"] and credit["id"] == bill["id"] + "-C"
+    return of_it and credit["session_id"].upper() == bill["session_id"].upper()
 
 
 def operator_faults(site_line, rows):
     site = Site(site_line)
     return {
         *shared_faults(rows, site.providers, is_foreign_to_operator),
-        *own_faults(rows, site, "session", b"S", "Session"),
-        *own_faults(rows, site, "cdr", b"C", "Cdr"),
+        *own_faults(rows, site, "session", session_number, "Session"),
+        *own_faults(rows, site, "cdr", record_number, "Cdr"),
         *command_faults(rows, site),
         *place_faults(rows, site),
         *bill_faults(rows, site),
@@ -212,7 +232,8 @@ def provider_faults(parties, rows):
     bodies = [tree["body"] for _, tree in commands]
     references = [body["authorization_reference"] for body in bodies if "authorization_reference" in body]
     made = [number_of(b"A", provider, name) for name in references]
-    bills = [(party_of(tree), tree["id"].upper(), tree["session_id"].upper()) for _, tree in of_kind(rows, "cdr")]
+    records = [tree for _, tree in of_kind(rows, "cdr")]
+    told = [(party_of(tree), tree["id"].upper(), tree["session_id"].upper(), tree["credit"]) for tree in records]
     faults = set(shared_faults(rows, operators, is_foreign_to_provider))
     if not all(is_given(rows, "request", int(key)) for key, _ in commands):
         faults.add("CommandNotGiven")
@@ -224,12 +245,12 @@ def provider_faults(parties, rows):
         faults.add("NumberShared")
     if any(tree["to"].upper() not in operators for _, tree in commands):
         faults.add("CommandToStranger")
-    if any(one[0] == other[0] and one[1] != other[1] and one[2] == other[2] for one, other in pairs(bills)):
+    if any(one[0] == other[0] and one[1] != other[1] and one[2:] == other[2:] for one, other in pairs(told)):
         faults.add("BilledTwice")
     if any(party_of(tree) != provider for _, tree in of_kind(rows, "token")):
         faults.add("OtherToken")
     if any(party_of(tree["cdr_token"]) != provider for _, tree in of_kind(rows, "session")):
         faults.add("OtherSession")
-    if any(party_of(tree["cdr_token"]) != provider for _, tree in of_kind(rows, "cdr")):
+    if any(party_of(tree["cdr_token"]) != provider for tree in records):
         faults.add("OtherCdr")
     return faults

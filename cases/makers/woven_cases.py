@@ -104,6 +104,21 @@ def differs():
     line("weave", "2 Differs(NL/TNM 1)")
 
 
+def differs_in_a_credit():
+    """NL/TNM got the bill of the charge as a credit, and nothing else differs."""
+    opened(*PARTIES)
+    said, serials = '"country_code":"BE","currency"', set()
+    for party in PARTIES:
+        for given, gives, _ in events_of(party):
+            if party == "NL/TNM" and '"kind":"post_cdr"' in given:
+                assert given.count(said) == 1
+                given = given.replace(said, '"country_code":"BE","credit":true,"credit_reference_id":"C1","currency"')
+                serials.add(json.loads(given)["packet"]["serial"])
+            line(given, *gives[:-1])
+    (serial,) = serials
+    line("weave", "2 Differs(BE/BEC %d)" % serial)
+
+
 def no_order():
     """Each of two nodes begins with what the other sends by its next event, or by that very one."""
     stored, put = events_of("NL/TNM")[0][:2]
@@ -122,6 +137,7 @@ def cases():
     never_sent()
     without_its_sender()
     differs()
+    differs_in_a_credit()
     no_order()
     return LINES, WANTED
 

@@ -8,7 +8,7 @@ use Rattle.ocpi_types.specs.declared.rows.Row.{Row}
 use Rattle.ocpi_types.specs.declared.rows.Row.TheVariants as row
 use Rattle.ocpi_types.specs.declared.rows.RowKey.{RowKey}
 use Rattle.ocpi_types.specs.declared.rows.RowKey.TheVariants as keys
-use Rattle.ocpi_types.specs.declared.stored.Command.{Command}
+use Rattle.ocpi_types.specs.declared.commands.Command.{Command}
 use Rattle.ocpi_types.specs.declared.stored.OpenCommand.{OpenCommand}
 use Rattle.ocpi_types.specs.declared.stored.Reply.{Reply}
 use Rattle.ocpi_types.specs.declared.words.CommandResultType.{CommandResultType}

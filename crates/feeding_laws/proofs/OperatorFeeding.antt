@@ -9,7 +9,6 @@ use Rattle.tables.proofs.Elements.{in_none}
 use Rattle.tables.proofs.Maps.{get-insert_same, get-remove_same, remove_absent}
 use Rattle.tables.proofs.Options.{not_both}
 use Rattle.ocpi_text.specs.Text.{key}
-use Rattle.ocpi_types.specs.Stored.{body_of_command}
 use Rattle.ocpi_types.specs.declared.events.ChargerEvent.{ChargerEvent}
 use Rattle.ocpi_types.specs.declared.packet.Body.{Body}
 use Rattle.ocpi_types.specs.declared.packet.Body.TheVariants as body
@@ -20,8 +19,7 @@ use Rattle.ocpi_types.specs.declared.rows.Change.TheVariants.{Drop, Put}
 use Rattle.ocpi_types.specs.declared.rows.Row.TheVariants as row
 use Rattle.ocpi_types.specs.declared.rows.RowKey.TheVariants as keys
 use Rattle.ocpi_types.specs.declared.sessions.Session.{Session}
-use Rattle.ocpi_types.specs.declared.stored.Command.{Command}
-use Rattle.ocpi_types.specs.declared.stored.Command.TheVariants as command
+use Rattle.ocpi_types.specs.declared.commands.Command.{Command}
 use Rattle.ocpi_types.specs.declared.token.Token.{Token}
 use Rattle.outbox.specs.Outbox.{request_of, without}
 use Rattle.outbox.specs.Resend.{Resend}
@@ -180,12 +178,8 @@ module _ (s : State) (at : ℕ) where
 
 -- ---- packets
 
-no_command : {A : Type 0} (c : Command) (a : Ack) (b : Body) → b ≡ body_of_command c → b ≡ body.Ack a → A
-no_command (command.StartSession c) a b is ack = let bad : body.StartSession c ≡ body.Ack a = sym is ∙ ack in absurd (cc)
-no_command (command.StopSession c) a b is ack = let bad : body.StopSession c ≡ body.Ack a = sym is ∙ ack in absurd (cc)
-no_command (command.ReserveNow c) a b is ack = let bad : body.ReserveNow c ≡ body.Ack a = sym is ∙ ack in absurd (cc)
-no_command (command.CancelReservation c) a b is ack = let bad : body.CancelReservation c ≡ body.Ack a = sym is ∙ ack in absurd (cc)
-no_command (command.UnlockConnector c) a b is ack = let bad : body.UnlockConnector c ≡ body.Ack a = sym is ∙ ack in absurd (cc)
+no_command : {A : Type 0} (c : Command) (a : Ack) (b : Body) → b ≡ body.Command c → b ≡ body.Ack a → A
+no_command c a b is ack = let bad : body.Command c ≡ body.Ack a = sym is ∙ ack in absurd (cc)
 
 -- a packet that sends nothing changes no row, or ends a push
 pub data PacketIsSilent (s : State) (q : Packet) (work : Work) : Type 0 where

@@ -38,6 +38,7 @@ same_methods x y = search (rules)
 same_prices : (x y : Price) → Decides ((price.ghosts).eq x y) (x ≡ y)
 same_prices x y = search (rules)
 
+-- an authorization reference, or the id of the record that a credit takes back
 same_references : (x y : Option (List ℕ)) → Decides (option_eq (pointwise nat_eq) x y) (x ≡ y)
 same_references x y = search (rules)
 
@@ -63,5 +64,6 @@ same_cdrs x y =
     (both _ _ (same_prices x.total_cost y.total_cost)
     (both _ _ (signed_Decides x.total_energy y.total_energy)
     (both _ _ (signed_Decides x.total_time y.total_time)
-    (unsigned_Decides x.last_updated y.last_updated)))))))))))))) in
+    (both _ _ (unsigned_Decides x.last_updated y.last_updated)
+    (same_references x.credit_reference_id y.credit_reference_id))))))))))))))) in
     (λ e. let all = fields.0 e in search (rules, all), λ is. fields.1 (search (rules, is)))

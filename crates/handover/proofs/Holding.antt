@@ -5,11 +5,12 @@ use Rattle.std.specs.FinMap.{FinMap, get, insert, remove, empty, get-empty, cont
 use Rattle.ocpi_text.specs.Text.{key}
 use Rattle.tables.specs.Keys.{text_pair_cmp, text_pair_total, text_pair_exact, text_total, text_exact}
 use Rattle.tables.proofs.Maps.{of_insert, told, of_remove}
+use Rattle.ocpi_types.specs.Credits.{AreAlike, is_credit}
 use Rattle.ocpi_types.specs.declared.sessions.Session.{Session}
 use Rattle.ocpi_types.specs.declared.cdrs.Cdr.{Cdr}
 use Rattle.ocpi_types.specs.declared.rows.Row.TheVariants as row
 use Rattle.ocpi_types.specs.declared.rows.RowKey.TheVariants as keys
-use Rattle.handover.specs.Cdrs.{Cdrs, CdrRooms, AreOwnCdrs, HasOther, HasOnePerSession, cdr_key}
+use Rattle.handover.specs.Cdrs.{Cdrs, CdrRooms, AreOwnCdrs, HasOther, HasOnePerSession, cdr_key, group_of}
 use Rattle.handover.specs.Inbox.{Sessions, AreOwnSessions, KeepsRoom, KeepsOtherRoom, IsInConflict, session_key}
 use Rattle.handover.specs.declared.takings.CdrTaking.{CdrTaking}
 use Rattle.handover.specs.declared.takings.CdrTaking.TheVariants.{Taken, Kept, Conflict}
@@ -61,43 +62,43 @@ keeps_other_sessions s t c k is (row.Pending provider number open_command) apart
 keeps_other_sessions s t c k is (row.Result provider number result) apart h = h
 keeps_other_sessions s t c k is (row.Command number command) apart h = h
 
--- one of the session under another id is in conflict
-pub other_conflict : (m : Cdrs) (x : Cdr) → AreOwnCdrs m → HasOther m (key x.party, key x.session_id) (key x.id) → IsInConflict m x
+-- one of the session that is alike, under another id, is in conflict
+pub other_conflict : (m : Cdrs) (x : Cdr) → AreOwnCdrs m → HasOther m (group_of x) (key x.id) → IsInConflict m x
 other_conflict m x own h = record {
   id = h.0;
   held = h.1.0;
   stands = h.1.1;
-  alike = inr h.1.2;
+  shares = inr (h.1.2, h.1.3);
   differs = λ same. h.2 (ap (λ (k : Texts). k.1) (own (key x.party, h.0) h.1.0 h.1.1) ∙ ap (λ (y : Cdr). key y.id) same);
 }
 
 pub held_conflict : (m : Cdrs) (x y : Cdr) → get m (cdr_key x) ≡ Some y → y ≢ x → IsInConflict m x
-held_conflict m x y had apart = record { id = key x.id; held = y; stands = had; alike = inl refl; differs = apart }
+held_conflict m x y had apart = record { id = key x.id; held = y; stands = had; shares = inl refl; differs = apart }
 
 -- and nothing else is
-pub no_conflict : (m : Cdrs) (x : Cdr) → (HasOther m (key x.party, key x.session_id) (key x.id) → ⊥) → ((y : Cdr) → get m (cdr_key x) ≡ Some y → y ≡ x) → IsInConflict m x → ⊥
+pub no_conflict : (m : Cdrs) (x : Cdr) → (HasOther m (group_of x) (key x.id) → ⊥) → ((y : Cdr) → get m (cdr_key x) ≡ Some y → y ≡ x) → IsInConflict m x → ⊥
 no_conflict m x none same c = elim (told text_total text_exact c.id (key x.id)) [
   | inl is ↦ c.differs (same c.held (ap (λ (i : List ℕ). get m (key x.party, i)) (sym is) ∙ c.stands))
-  | inr apart ↦ elim c.alike [ inl is ↦ apart is | inr session ↦ none (c.id, (c.held, c.stands, session), apart) ]
+  | inr apart ↦ elim c.shares [ inl is ↦ apart is | inr session ↦ none (c.id, (c.held, c.stands, session.0, session.1), apart) ]
 ]
 
 -- one record for each session, also with one more that is in no conflict
 pub one_more_session : (m : Cdrs) (x : Cdr) → AreOwnCdrs m → (IsInConflict m x → ⊥) → HasOnePerSession m → HasOnePerSession (insert m (cdr_key x) x)
-one_more_session m x own clear one operator i j a b at also same = elim (of_insert text_pair_total text_pair_exact m (cdr_key x) x (operator, i) a at) [
+one_more_session m x own clear one operator i j a b at also same alike = elim (of_insert text_pair_total text_pair_exact m (cdr_key x) x (operator, i) a at) [
   | inl p ↦ elim (of_insert text_pair_total text_pair_exact m (cdr_key x) x (operator, j) b also) [
     | inl q ↦ ap (λ (k : Texts). k.1) (p.0 ∙ sym q.0)
-    | inr stood ↦ ap (λ (k : Texts). k.1) p.0 ∙ sym (its_own j b (ap (λ (k : Texts). get m (k.0, j)) (sym p.0) ∙ stood) (sym same ∙ ap (λ (y : Cdr). key y.session_id) (sym p.1)))
+    | inr stood ↦ ap (λ (k : Texts). k.1) p.0 ∙ sym (its_own j b (ap (λ (k : Texts). get m (k.0, j)) (sym p.0) ∙ stood) (sym same ∙ ap (λ (y : Cdr). key y.session_id) (sym p.1)) (sym alike ∙ ap is_credit (sym p.1)))
   ]
   | inr had ↦ elim (of_insert text_pair_total text_pair_exact m (cdr_key x) x (operator, j) b also) [
-    | inl q ↦ its_own i a (ap (λ (k : Texts). get m (k.0, i)) (sym q.0) ∙ had) (same ∙ ap (λ (y : Cdr). key y.session_id) (sym q.1)) ∙ ap (λ (k : Texts). k.1) (sym q.0)
-    | inr stood ↦ one operator i j a b had stood same
+    | inl q ↦ its_own i a (ap (λ (k : Texts). get m (k.0, i)) (sym q.0) ∙ had) (same ∙ ap (λ (y : Cdr). key y.session_id) (sym q.1)) (alike ∙ ap is_credit (sym q.1)) ∙ ap (λ (k : Texts). k.1) (sym q.0)
+    | inr stood ↦ one operator i j a b had stood same alike
   ]
 ]
   where
-    its_own : (k : List ℕ) (y : Cdr) → get m (key x.party, k) ≡ Some y → key y.session_id ≡ key x.session_id → k ≡ key x.id
-    its_own k y stands session = elim (told text_total text_exact k (key x.id)) [
+    its_own : (k : List ℕ) (y : Cdr) → get m (key x.party, k) ≡ Some y → key y.session_id ≡ key x.session_id → AreAlike y x → k ≡ key x.id
+    its_own k y stands session alike = elim (told text_total text_exact k (key x.id)) [
       | inl is ↦ is
-      | inr apart ↦ absurd (clear (other_conflict m x own (k, (y, stands, session), apart)))
+      | inr apart ↦ absurd (clear (other_conflict m x own (k, (y, stands, session, alike), apart)))
     ]
 
 -- a record that is taken is neither in conflict nor held

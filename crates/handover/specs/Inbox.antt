@@ -3,6 +3,7 @@ use Rattle.std.specs.Prelude.{◌≡◌, ◌≢◌, ◌⊎◌, ◌<◌, ℕ, Lis
 use Rattle.std.specs.FinMap.{FinMap, get, insert, remove, contains_key, empty}
 use Rattle.ocpi_text.specs.Text.{key}
 use Rattle.tables.specs.Keys.{text_pair_cmp}
+use Rattle.ocpi_types.specs.Credits.{AreAlike}
 use Rattle.ocpi_types.specs.declared.cdrs.Cdr.{Cdr}
 use Rattle.ocpi_types.specs.declared.sessions.Session.{Session}
 use Rattle.ocpi_types.specs.declared.words.SessionStatus.{SessionStatus}
@@ -37,12 +38,12 @@ abbrev pub IsNews : Option Session → Session → Type 0
 IsNews None s = ⊤
 IsNews (Some held) s = (¬ IsFinal held.status) × (held.last_updated < s.last_updated)
 
--- a record of the same id or session of that operator is held, and differs
+-- a record of that operator is held that differs, of the same id, or of the same session and as well a bill or a credit
 pub record IsInConflict (m : Cdrs) (x : Cdr) : Type 0 where
   pub id : List ℕ
   pub held : Cdr
   pub stands : get m (key x.party, id) ≡ Some held
-  pub alike : (id ≡ key x.id) ⊎ (key held.session_id ≡ key x.session_id)
+  pub shares : (id ≡ key x.id) ⊎ ((key held.session_id ≡ key x.session_id) × AreAlike held x)
   pub differs : held ≢ x
 
 pub record InboxRows : Type 0 where

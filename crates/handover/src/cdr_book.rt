@@ -20,6 +20,7 @@ ghost use Rattle.ocpi_text.specs.Decimal.{e4_limit};
 ghost use Rattle.ocpi_types.specs.declared.cdrs.Cdr.{Cdr};
 ghost use Rattle.handover.specs.Owed.{owed};
 ghost use Rattle.handover.specs.Cdrs.{
+  group_of,
   AreOwnCdrs,
   HasRoomOfCdr,
   KeepsCdrRoom,
@@ -37,12 +38,15 @@ use std::alloc::{AllocError, Global};
 use std::marker::Model;
 use tables::{Table, least_text};
 
-/// Charge detail records by operator and id, those of a session, and the sums of their costs.
+/// The operator and the session of a record, and whether it is a credit.
+pub(crate) type Group = ((PartyKey, CiKey<36>), bool);
+
+/// Charge detail records by operator and id, the bills and credits of a session, and the sums of their costs.
 #[derive(Drop)]
 pub(crate) struct CdrBook {
     cdrs: Table<(PartyKey, CiKey<39>), Cdr>,
-    /// The ids of the records of each operator and session.
-    sessions: Table<((PartyKey, CiKey<36>), CiKey<39>), ()>,
+    /// The ids of the bills, and those of the credits, of each operator and session.
+    sessions: Table<(Group, CiKey<39>), ()>,
     sums: Sums,
 }
 
@@ -69,14 +73,14 @@ impl Model for CdrBook {
     ghost invariant = { λ b. IsKept (shown_of text_pair_cmp b.cdrs) (shown_of session_cmp b.sessions) (shown_of text_pair_cmp b.sums) (rooms_of text_pair_cmp b.sums) };
 }
 
-/// The operator and the session of a record.
-fn session_of(cdr: &Cdr) -> (PartyKey, CiKey<36>)
-    ensures { result ≡ (key cdr.now.party, key cdr.now.session_id) }
+/// The operator and the session of a record, and whether it is a credit.
+pub(crate) fn group_of(cdr: &Cdr) -> Group
+    ensures { result ≡ group_of cdr.now }
 {
-    (cdr.party.key(), cdr.session_id.key())
+    ((cdr.party.key(), cdr.session_id.key()), cdr.is_credit())
 }
 
-/// The cost of a record, in ten-thousandths.
+/// The cost of a record, in ten-thousandths. It may be negative, as that of a credit is.
 pub(crate) fn cost_of(cdr: &Cdr) -> i64
     ensures value { result ≡ cdr.now.total_cost.excl_vat }
     ensures bound { unsigned_abs result < e4_limit }
@@ -132,33 +136,33 @@ impl CdrBook {
         self.cdrs.get((operator, id))
     }
 
-    /// Whether a record of a session is held under a later id.
-    fn has_later(&self, session: &(PartyKey, CiKey<36>), id: &CiKey<39>) -> bool
-        ensures { IsTrue result ↔ HasLaterId self.now.cdrs session.now id.now }
+    /// Whether one of the bills, or of the credits, of a session is held under a later id.
+    fn has_later(&self, group: &Group, id: &CiKey<39>) -> bool
+        ensures { IsTrue result ↔ HasLaterId self.now.cdrs group.now id.now }
     {
-        let Some(next) = self.sessions.first_after((*session, *id)) else {
+        let Some(next) = self.sessions.first_after((*group, *id)) else {
             return false;
         };
-        next.0.0.cmp(session).is_eq()
+        next.0.0.cmp(group).is_eq()
     }
 
-    /// Whether a record of a session is held under another id.
-    pub(crate) fn has_other(&self, session: &(PartyKey, CiKey<36>), id: &CiKey<39>) -> bool
-        ensures others { IsTrue result ↔ HasOther self.now.cdrs session.now id.now }
+    /// Whether one of the bills, or of the credits, of a session is held under another id.
+    pub(crate) fn has_other(&self, group: &Group, id: &CiKey<39>) -> bool
+        ensures others { IsTrue result ↔ HasOther self.now.cdrs group.now id.now }
         ensures own { AreOwnCdrs self.now.cdrs }
     {
-        let Some(first) = self.sessions.first_with(*session, least_text()) else {
+        let Some(first) = self.sessions.first_with(*group, least_text()) else {
             return false;
         };
         let is_itself = first.0.cmp(id).is_eq();
         if is_itself {
-            self.has_later(session, id)
+            self.has_later(group, id)
         } else {
             true
         }
     }
 
-    /// What is owed to an operator in a currency.
+    /// What is owed to an operator in a currency, by bills and by credits.
     pub(crate) fn owed(&self, operator: PartyKey, currency: Currency) -> i128
         ensures { result ≡ owed (operator, currency) (map.values self.now.cdrs) }
     {
@@ -174,9 +178,9 @@ impl CdrBook {
     {
         let operator = cdr.party.key();
         let id = cdr.id.key();
-        let session = (operator, cdr.session_id.key());
+        let group = group_of(cdr);
         self.cdrs.reserve((operator, id))?;
-        self.sessions.reserve((session, id))?;
+        self.sessions.reserve((group, id))?;
         self.sums.reserve((operator, cdr.currency))?;
         Ok(())
     }
@@ -189,12 +193,12 @@ impl CdrBook {
         let Some(cdr) = self.cdrs.get((operator, id)) else {
             return;
         };
-        let session = session_of(cdr);
+        let group = group_of(cdr);
         let currency = cdr.currency;
         let cost = cost_of(cdr);
         let _most = self.cdrs.room_count();
         self.cdrs.clear((operator, id));
-        self.sessions.clear((session, id));
+        self.sessions.clear((group, id));
         add_to(&mut self.sums, operator, currency, -cost);
     }
 
@@ -207,12 +211,12 @@ impl CdrBook {
     {
         let operator = cdr.party.key();
         let id = cdr.id.key();
-        let session = session_of(&cdr);
+        let group = group_of(&cdr);
         let currency = cdr.currency;
         let cost = cost_of(&cdr);
         let _most = self.cdrs.room_count();
         self.cdrs.put((operator, id), cdr);
-        self.sessions.put((session, id), ());
+        self.sessions.put((group, id), ());
         add_to(&mut self.sums, operator, currency, cost);
     }
 
@@ -236,10 +240,10 @@ impl CdrBook {
         let Some(cdr) = self.cdrs.remove((operator, id)) else {
             return;
         };
-        let session = session_of(&cdr);
+        let group = group_of(&cdr);
         let currency = cdr.currency;
         let cost = cost_of(&cdr);
-        self.sessions.remove((session, id));
+        self.sessions.remove((group, id));
         add_to(&mut self.sums, operator, currency, 0 - cost);
     }
 }

@@ -25,7 +25,7 @@ ghost use Rattle.handover.specs.declared.fault.HandoverFault.TheVariants.{WrongP
 ghost use Rattle.handover.specs.declared.takings.SessionTaking.TheVariants as session_taking;
 ghost use Rattle.handover.specs.declared.takings.CdrTaking.TheVariants as cdr_taking;
 
-use crate::cdr_book::CdrBook;
+use crate::cdr_book::{CdrBook, group_of};
 use crate::equality::is_equal;
 use crate::fault::HandoverFault;
 use crate::sums::Currency;
@@ -136,8 +136,9 @@ impl Inbox {
     }
 
     /// What becomes of a charge detail record that a sender hands over to the party `own`. It is in conflict where one
-    /// of the same id or session of that operator is held and differs in any field as spelled; it is kept where an
-    /// equal one is held, and else taken. Refused is one whose token is of another party than `own`, or that is of
+    /// of that operator is held that differs in any field as spelled and has the same id, or is of the same session and
+    /// as well a bill or a credit; it is kept where an equal one is held, and else taken. So one bill and one credit of
+    /// a session may be held, in either order. Refused is one whose token is of another party than `own`, or that is of
     /// another party than the sender (`WrongParty`).
     pub fn cdr_taking(
         &self,
@@ -161,10 +162,9 @@ impl Inbox {
         ensures conflict { (result ≡ cdr_taking.Conflict) ↔ IsInConflict self.now.rows.cdrs cdr.now }
         ensures kept { (result ≡ cdr_taking.Kept) ↔ ((map.get self.now.rows.cdrs (cdr_key cdr.now) ≡ Some cdr.now) × (IsInConflict self.now.rows.cdrs cdr.now → ⊥)) }
     {
-        let operator = cdr.party.key();
+        let group = group_of(cdr);
         let id = cdr.id.key();
-        let session = (operator, cdr.session_id.key());
-        if self.cdrs.has_other(&session, &id) {
+        if self.cdrs.has_other(&group, &id) {
             return CdrTaking::Conflict;
         }
         match self.held_cdr(&cdr.party, &cdr.id) {
@@ -254,7 +254,8 @@ impl Inbox {
 
     /// Takes a charge detail record that a sender hands over to the party `own`, where `cdr_taking` says so. Refused
     /// are what it refuses (`WrongParty`), and want of memory for one that is to be taken and has no room (`Memory`).
-    /// Where no two records that are held are of one session of an operator, it stays so: no session is billed twice.
+    /// Where no session of an operator has two bills or two credits that are held, it stays so: no session is billed
+    /// twice, and none is credited twice.
     pub fn take_cdr(
         &mut self,
         own: &Party,
@@ -281,8 +282,9 @@ impl Inbox {
     }
 
     /// What is owed to an operator in a currency, in ten-thousandths: the sum of the costs of its charge detail
-    /// records in that currency that are held, and 0 where none is. The operator is compared without case, the
-    /// currency as spelled. It takes no memory.
+    /// records in that currency that are held, bills and credits, and 0 where none is. The costs of credits are
+    /// negative, and a credit may be held before its bill, so the sum may be negative. The operator is compared without
+    /// case, the currency as spelled. It takes no memory.
     pub fn settlement(&self, operator: &Party, currency: Currency) -> i128
         ensures { result ≡ owed (key operator.now, currency) (map.values self.now.rows.cdrs) }
     {

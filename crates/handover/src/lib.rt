@@ -12,7 +12,7 @@
 //! ```
 //!
 //! What is `owed` is the sum of the costs of the records that are held, each once, in ten-thousandths, however often
-//! each came.
+//! each came. The cost of a credit is its bill's, negated, so that both come to 0.
 #![tactic(auto)]
 
 mod cdr_book;

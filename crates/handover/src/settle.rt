@@ -19,8 +19,9 @@ fn number_of(cdrs: &[Cdr]) -> usize
 }
 
 /// What is owed to each operator in each currency of which there is a record, in ten-thousandths: the sum of the costs
-/// of the records of both, each as often as it stands in the list, by operator and then by currency. Operators are
-/// compared without case, currencies as spelled. An error is want of memory; an empty list needs none.
+/// of the records of both, bills and credits, each as often as it stands in the list, by operator and then by currency.
+/// Costs may be negative, as those of credits are. Operators are compared without case, currencies as spelled. An error
+/// is want of memory; an empty list needs none.
 pub fn settle_all(alloc: Global, cdrs: &[Cdr]) -> Result<Sums, AllocError>
     ensures ok { IfOk result (λ t. AreOwed cdrs.now (shown_of text_pair_cmp t)) }
     ensures err { OnErr result (cdrs.now ≢ []) }

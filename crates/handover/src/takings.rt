@@ -16,6 +16,7 @@ pub enum CdrTaking {
     Taken,
     /// An equal one was held before.
     Kept,
-    /// One of the same id or session of that operator is held, and differs. What was held before stays.
+    /// One of that operator is held that differs, of the same id, or of the same session and as well a bill or a
+    /// credit. What was held before stays.
     Conflict,
 }

@@ -1,11 +1,10 @@
 -- Which bodies are replies, and which are requests.
 use Rattle.std.proofs.Common.{◌≡◌, inl, inr, sym, ap, ◌∙◌}
-use Rattle.ocpi_types.specs.Stored.{body_of_command, body_of_reply, body_of_push}
+use Rattle.ocpi_types.specs.Stored.{body_of_reply, body_of_push}
 use Rattle.ocpi_types.specs.declared.authorizations.Authorize.{Authorize}
 use Rattle.ocpi_types.specs.declared.packet.Body.{Body}
 use Rattle.ocpi_types.specs.declared.packet.Body.TheVariants as body
-use Rattle.ocpi_types.specs.declared.stored.Command.{Command}
-use Rattle.ocpi_types.specs.declared.stored.Command.TheVariants as command
+use Rattle.ocpi_types.specs.declared.commands.Command.{Command}
 use Rattle.ocpi_types.specs.declared.stored.Push.{Push}
 use Rattle.ocpi_types.specs.declared.stored.Push.TheVariants as push
 use Rattle.ocpi_types.specs.declared.stored.Reply.{Reply}
@@ -40,45 +39,17 @@ no_push (reply.Ack x) (push.PutSession a) e = cc
 no_push (reply.Ack x) (push.PostCdr a) e = cc
 
 -- nor a command
-pub no_command : (r : Reply) (c : Command) → body_of_reply r ≡ body_of_command c → ⊥
-no_command (reply.CommandResponse x) (command.StartSession a) e = cc
-no_command (reply.CommandResponse x) (command.StopSession a) e = cc
-no_command (reply.CommandResponse x) (command.ReserveNow a) e = cc
-no_command (reply.CommandResponse x) (command.CancelReservation a) e = cc
-no_command (reply.CommandResponse x) (command.UnlockConnector a) e = cc
-no_command (reply.Authorization x) (command.StartSession a) e = cc
-no_command (reply.Authorization x) (command.StopSession a) e = cc
-no_command (reply.Authorization x) (command.ReserveNow a) e = cc
-no_command (reply.Authorization x) (command.CancelReservation a) e = cc
-no_command (reply.Authorization x) (command.UnlockConnector a) e = cc
-no_command (reply.Ack x) (command.StartSession a) e = cc
-no_command (reply.Ack x) (command.StopSession a) e = cc
-no_command (reply.Ack x) (command.ReserveNow a) e = cc
-no_command (reply.Ack x) (command.CancelReservation a) e = cc
-no_command (reply.Ack x) (command.UnlockConnector a) e = cc
+pub no_command : (r : Reply) (c : Command) → body_of_reply r ≡ body.Command c → ⊥
+no_command (reply.CommandResponse x) c e = cc
+no_command (reply.Authorization x) c e = cc
+no_command (reply.Ack x) c e = cc
 
 -- a command is no push
-pub command_or_push : (c : Command) (p : Push) → body_of_command c ≡ body_of_push p → ⊥
-command_or_push (command.StartSession x) (push.CommandResult a) e = cc
-command_or_push (command.StartSession x) (push.PutToken a) e = cc
-command_or_push (command.StartSession x) (push.PutSession a) e = cc
-command_or_push (command.StartSession x) (push.PostCdr a) e = cc
-command_or_push (command.StopSession x) (push.CommandResult a) e = cc
-command_or_push (command.StopSession x) (push.PutToken a) e = cc
-command_or_push (command.StopSession x) (push.PutSession a) e = cc
-command_or_push (command.StopSession x) (push.PostCdr a) e = cc
-command_or_push (command.ReserveNow x) (push.CommandResult a) e = cc
-command_or_push (command.ReserveNow x) (push.PutToken a) e = cc
-command_or_push (command.ReserveNow x) (push.PutSession a) e = cc
-command_or_push (command.ReserveNow x) (push.PostCdr a) e = cc
-command_or_push (command.CancelReservation x) (push.CommandResult a) e = cc
-command_or_push (command.CancelReservation x) (push.PutToken a) e = cc
-command_or_push (command.CancelReservation x) (push.PutSession a) e = cc
-command_or_push (command.CancelReservation x) (push.PostCdr a) e = cc
-command_or_push (command.UnlockConnector x) (push.CommandResult a) e = cc
-command_or_push (command.UnlockConnector x) (push.PutToken a) e = cc
-command_or_push (command.UnlockConnector x) (push.PutSession a) e = cc
-command_or_push (command.UnlockConnector x) (push.PostCdr a) e = cc
+pub command_or_push : (c : Command) (p : Push) → body.Command c ≡ body_of_push p → ⊥
+command_or_push c (push.CommandResult a) e = cc
+command_or_push c (push.PutToken a) e = cc
+command_or_push c (push.PutSession a) e = cc
+command_or_push c (push.PostCdr a) e = cc
 
 -- what is repeated until it is settled is no reply
 pub reply_or_repeated : (b : Body) → IsReply b → IsRepeated b → ⊥
@@ -94,12 +65,8 @@ asked_once b a e = (λ h. no_answer h.0 (sym h.1 ∙ e), λ h. not_again h)
     no_answer (reply.Authorization x) is = cc
     no_answer (reply.Ack x) is = cc
 
-    of_command : (c : Command) → body_of_command c ≡ body.Authorize a → ⊥
-    of_command (command.StartSession x) is = cc
-    of_command (command.StopSession x) is = cc
-    of_command (command.ReserveNow x) is = cc
-    of_command (command.CancelReservation x) is = cc
-    of_command (command.UnlockConnector x) is = cc
+    of_command : (c : Command) → body.Command c ≡ body.Authorize a → ⊥
+    of_command c is = cc
 
     of_push : (p : Push) → body_of_push p ≡ body.Authorize a → ⊥
     of_push (push.CommandResult x) is = cc

@@ -4,7 +4,7 @@ use Rattle.std.specs.List.{flat_map}
 use Rattle.std.specs.FinMap.{FinMap, get}
 use Rattle.ocpi_text.specs.Text.{key}
 use Rattle.tables.specs.Keys.{text_number_cmp}
-use Rattle.ocpi_types.specs.Stored.{body_of_command, body_of_reply, body_of_push}
+use Rattle.ocpi_types.specs.Stored.{body_of_reply, body_of_push}
 use Rattle.ocpi_types.specs.declared.authorizations.Authorize.{Authorize}
 use Rattle.ocpi_types.specs.declared.packet.Packet.{Packet}
 use Rattle.ocpi_types.specs.declared.packet.Body.{Body}
@@ -13,8 +13,8 @@ use Rattle.ocpi_types.specs.declared.replies.Ack.{Ack}
 use Rattle.ocpi_types.specs.declared.replies.CommandResponse.{CommandResponse}
 use Rattle.ocpi_types.specs.declared.replies.CommandResult.{CommandResult}
 use Rattle.ocpi_types.specs.declared.sessions.Session.{Session}
-use Rattle.ocpi_types.specs.declared.stored.Command.{Command}
-use Rattle.ocpi_types.specs.declared.stored.Command.TheVariants as command
+use Rattle.ocpi_types.specs.declared.commands.Command.{Command}
+use Rattle.ocpi_types.specs.declared.commands.Command.TheVariants as command
 use Rattle.ocpi_types.specs.declared.stored.Push.{Push}
 use Rattle.ocpi_types.specs.declared.stored.Reply.{Reply}
 use Rattle.ocpi_types.specs.declared.stored.Reply.TheVariants as reply
@@ -64,12 +64,12 @@ IsReply b = (r : Reply) × (b ≡ body_of_reply r)
 
 -- the body is a request that is sent again until it is settled: a command or a push
 abbrev pub IsRepeated : Body → Type 0
-IsRepeated b = ((c : Command) × (b ≡ body_of_command c)) ⊎ ((p : Push) × (b ≡ body_of_push p))
+IsRepeated b = ((c : Command) × (b ≡ body.Command c)) ⊎ ((p : Push) × (b ≡ body_of_push p))
 
 -- which reply answers which request (OCPI 2.2.1, Commands: CommandResponse; Tokens: AuthorizationInfo; Transport and
 -- format: the response to what is handed over)
 abbrev pub Answers : Reply → Body → Type 0
-Answers (reply.CommandResponse r) b = (c : Command) × (b ≡ body_of_command c)
+Answers (reply.CommandResponse r) b = (c : Command) × (b ≡ body.Command c)
 Answers (reply.Authorization r) b = (a : Authorize) × (b ≡ body.Authorize a)
 Answers (reply.Ack r) b = (p : Push) × (b ≡ body_of_push p)
 
@@ -119,9 +119,9 @@ posted_to (command.UnlockConnector c) = c.response_url
 pub data IsSettled (e : Exchange) (n : ℕ) (r : Request) : Type 0 where
   Acknowledged : (q : Packet) → Contains e.came q → (a : Ack) → q.body ≡ body.Ack a → a.status_code ≡ 1000 → key q.from ≡ key r.to → q.request ≡ n → IsSettled e n r
   Replaced : (x : Packet) → Contains e.packets x → n < x.request → AreAboutSame r (request_of x) → IsSettled e n r
-  Responded : (c : Command) → r.body ≡ body_of_command c → (q : Packet) → Contains e.came q → (w : CommandResponse) → q.body ≡ body.CommandResponse w → key q.from ≡ key r.to → q.request ≡ n →
+  Responded : (c : Command) → r.body ≡ body.Command c → (q : Packet) → Contains e.came q → (w : CommandResponse) → q.body ≡ body.CommandResponse w → key q.from ≡ key r.to → q.request ≡ n →
       IsSettled e n r
-  Resulted : (c : Command) → r.body ≡ body_of_command c → (q : Packet) → Contains e.came q → (w : CommandResult) → q.body ≡ body.CommandResult w → key q.from ≡ key r.to →
+  Resulted : (c : Command) → r.body ≡ body.Command c → (q : Packet) → Contains e.came q → (w : CommandResult) → q.body ≡ body.CommandResult w → key q.from ≡ key r.to →
       w.response_url ≡ posted_to c → IsSettled e n r
 
 -- the request was made under that number, and sent

@@ -2,13 +2,14 @@
 -- sends, and what it does to what stands in no row. A later kind of event is a further act, and changes none of these.
 use Rattle.std.specs.Prelude.{ℕ, ◌+◌, List, [], ◌∷◌, ◌++◌, None}
 use Rattle.std.specs.List.{flat_map}
-use Rattle.ocpi_types.specs.Stored.{body_of_command, body_of_reply, body_of_push}
+use Rattle.ocpi_types.specs.Stored.{body_of_reply, body_of_push}
 use Rattle.ocpi_types.specs.declared.packet.Body.{Body}
+use Rattle.ocpi_types.specs.declared.packet.Body.TheVariants as body
 use Rattle.ocpi_types.specs.declared.rows.Change.{Change}
 use Rattle.ocpi_types.specs.declared.rows.Change.TheVariants.{Put, Drop}
 use Rattle.ocpi_types.specs.declared.rows.Row.TheVariants as row
 use Rattle.ocpi_types.specs.declared.rows.RowKey.TheVariants as keys
-use Rattle.ocpi_types.specs.declared.stored.Command.{Command}
+use Rattle.ocpi_types.specs.declared.commands.Command.{Command}
 use Rattle.ocpi_types.specs.declared.stored.Push.{Push}
 use Rattle.ocpi_types.specs.declared.stored.Reply.{Reply}
 use Rattle.ocpi_types.specs.declared.stored.SentCommand.{SentCommand}
@@ -58,7 +59,7 @@ unanswered to c = record { to = to; command = c; answer = None; result = None }
 
 -- the message that carries a command
 abbrev pub command_message : ℕ → List ℕ → Command → Message
-command_message n to c = record { to = to; request = n; body = body_of_command c }
+command_message n to c = record { to = to; request = n; body = body.Command c }
 
 -- the next request, of number n, is a command, which is sent at a moment
 abbrev pub commanded : ℕ → ℕ → List ℕ → Command → Act

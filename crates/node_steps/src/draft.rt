@@ -303,7 +303,7 @@ impl Draft {
         requires { HasNumbers 1 1 self.old }
         ensures { OnOk result (self.new ≡ with_acts (commanded at (self.old.counters.request + 1) to command ∷ []) self.old) }
     {
-        let body = command.copy()?.into_body();
+        let body = Body::Command(command.copy()?);
         let sent = SentCommand {
             to,
             command,
@@ -327,7 +327,7 @@ impl Draft {
         requires { HasNumbers 1 0 self.old }
         ensures { OnOk result (self.new ≡ with_acts (command_resent at number command.now.to command.now.command ∷ []) self.old) }
     {
-        let body = command.command.copy()?.into_body();
+        let body = Body::Command(command.command.copy()?);
         self.send(command.to, number, body)?;
         self.note(at, number)
     }

@@ -2,5 +2,9 @@ pub mod Places
 pub mod Placed
 pub mod KeptRows
 pub mod Edited
+pub mod Alike
+pub mod MovedTexts
 pub mod Layouts
 pub mod Opening
+pub mod MovedRows
+pub mod MovedStores

@@ -6,26 +6,34 @@ use Rattle.sqlite.specs.Held.{Held}
 use Rattle.sqlite.specs.Files.{file_state, IsOpened}
 use Rattle.sqlite.specs.Start.{FindsIn}
 use Rattle.row_table.specs.Contents as table
-use Rattle.row_table.specs.Opening.{Finds, IsOldLayout, IsSpared}
+use Rattle.row_table.specs.Opening.{IsOldLayout}
+use Rattle.node_store.specs.Moved.{OpensAs, SparesStore, WasBad}
 
--- an open found the database that the file holds, with this in its tables
+-- an open found the database that the file holds, and a keeper has this of it
 pub record FindsInFile {D : Type 0} {g : Ghosts D} (image : Image) (now : Held (FileStore D g)) (content : table.Content) : Type 0 where
   pub was : Held (FileStore D g)
   pub opened : IsOpened was
   pub found : FindsIn image (file_state was)
-  pub finds : Finds 1 (file_state was).now content
+  pub opens : OpensAs (file_state was).now content
 
 -- An open found the database that the file holds, and was refused. The connection shows what was found, if it is still
--- open, and a stop leaves that, or a whole new store where there was nothing.
+-- open. A stop leaves that, or all that the opening would have made.
 pub record SparesFile {D : Type 0} {g : Ghosts D} (image : Image) (now : Held (FileStore D g)) : Type 0 where
   pub was : Held (FileStore D g)
   pub opened : IsOpened was
   pub found : FindsIn image (file_state was)
-  pub spared : IsSpared 1 (file_state was) (file_state now)
+  pub spared : SparesStore (file_state was) (file_state now)
 
 -- an open found the database that the file holds, laid out for other rows
 pub record WasOldInFile {D : Type 0} {g : Ghosts D} (image : Image) (now : Held (FileStore D g)) : Type 0 where
   pub was : Held (FileStore D g)
   pub opened : IsOpened was
   pub found : FindsIn image (file_state was)
-  pub old : IsOldLayout 1 (file_state was).now
+  pub old : IsOldLayout 2 1 (file_state was).now
+
+-- an open found the database that the file holds, of layout 1 and with a text that is no row
+pub record WasBadInFile {D : Type 0} {g : Ghosts D} (image : Image) (now : Held (FileStore D g)) : Type 0 where
+  pub was : Held (FileStore D g)
+  pub opened : IsOpened was
+  pub found : FindsIn image (file_state was)
+  pub bad : WasBad (file_state was).now

@@ -12,12 +12,15 @@ mod closing;
 mod editing;
 mod fault;
 mod keep;
+mod laws;
 mod list_keep;
+mod moving;
 mod stored;
 mod table_keep;
 mod table_opening;
 
 pub use fault::{Cause, StoreFault};
 pub use keep::Keep;
+pub use laws::opening_keeps_rows;
 pub use list_keep::ListKeep;
 pub use table_keep::TableKeep;

@@ -1,14 +1,16 @@
 //! The places and the texts under which rows are kept.
 
-ghost use Rattle.std.specs.Prelude.{◌≡◌, IfOk, Ok, string_bytes};
-ghost use Rattle.ocpi_json.specs.RowForms.{row_in, row_text};
+ghost use Rattle.std.specs.Prelude.{◌≡◌, Err, IfOk, Ok, string_bytes};
+ghost use Rattle.json_text.specs.Fault.{Fails, Read};
+ghost use Rattle.ocpi_json.specs.RowForms.{row_in, row_in_1, row_text};
 ghost use Rattle.ocpi_json.specs.RowKeys.{KeyFits, key_text, kind_of_key, row_kind_word};
 ghost use Rattle.ocpi_types.specs.Rows.{key_of};
+ghost use Rattle.ocpi_types.specs.declared.rows.Row.{Row};
 ghost use Rattle.node_store.specs.Contents.{AnswersRow, IsReadAgain, place_of};
 ghost use Rattle.node_store.specs.Placing.{placed_of};
 
 use crate::fault::StoreFault;
-use ocpi_json::{JsonFault, RowKind, Scratch, read_row, write_key, write_row};
+use ocpi_json::{JsonFault, RowKind, Scratch, read_row, read_row_1, write_key, write_row};
 use ocpi_text::CiText;
 use ocpi_types::{Change, Row, RowKey, Word};
 use std::alloc::{AllocError, Global};
@@ -94,6 +96,16 @@ pub(crate) fn placed_of(alloc: Global, change: &Change) -> Result<Placed, AllocE
     }
 }
 
+/// What is told of a text that is no row.
+fn text_fault(fault: JsonFault) -> StoreFault
+    ensures { (read : Read Row) → Fails fault read → AnswersRow (Err result) read }
+{
+    match fault {
+        JsonFault::Memory => StoreFault::Memory,
+        _ => StoreFault::BadRow,
+    }
+}
+
 /// The row of a text that is kept.
 pub(crate) fn row_of(
     alloc: Global,
@@ -106,7 +118,23 @@ pub(crate) fn row_of(
 {
     match read_row(alloc, scratch, kind, name, text) {
         Ok(row) => Ok(row),
-        Err(JsonFault::Memory) => Err(StoreFault::Memory),
-        Err(_) => Err(StoreFault::BadRow),
+        Err(fault) => Err(text_fault(fault)),
+    }
+}
+
+/// The row of a text that was kept in layout 1.
+pub(crate) fn row_of_1(
+    alloc: Global,
+    scratch: &mut Scratch,
+    kind: &str,
+    name: &str,
+    text: &[u8],
+) -> Result<Row, StoreFault>
+    ensures row { AnswersRow result (row_in_1 kind.now name.now text.now) }
+    ensures place { IfOk result (λ r. place_of (key_of r) ≡ (kind.now, name.now)) }
+{
+    match read_row_1(alloc, scratch, kind, name, text) {
+        Ok(row) => Ok(row),
+        Err(fault) => Err(text_fault(fault)),
     }
 }

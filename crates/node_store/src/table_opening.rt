@@ -1,25 +1,26 @@
 //! Keepers in SQLite databases are opened.
 
-ghost use Rattle.std.specs.Prelude.{◌≡◌, ◌≢◌, IfErr, IfOk, IfSome, None};
+ghost use Rattle.std.specs.Prelude.{◌≡◌, ◌≢◌, ◌⊎◌, IfErr, IfOk, IfSome, None};
 ghost use Rattle.std.specs.FinMap.{empty};
 ghost use Rattle.sqlite.specs.State.{HasCleanDisk};
+ghost use Rattle.sqlite.specs.Tree.{Trees};
 ghost use Rattle.sqlite.specs.Held.{state};
 ghost use Rattle.sqlite.specs.Steps.{over_memory};
 ghost use Rattle.sqlite.specs.Files.{file_state, over_files};
 ghost use Rattle.sqlite.specs.WalFiles.{image_at};
-ghost use Rattle.row_table.specs.Kept.{IsClean, MayLeave, content, texts};
-ghost use Rattle.row_table.specs.Opening.{Finds, IsOldLayout, IsSpared};
+ghost use Rattle.row_table.specs.Contents.{IsWhole, content_of};
+ghost use Rattle.row_table.specs.Kept.{IsClean, Leaves, MayLeave, content, texts};
+ghost use Rattle.row_table.specs.Opening.{IsOldLayout, ShowsTheSame};
 ghost use Rattle.node_store.specs.Contents.{Content};
-ghost use Rattle.node_store.specs.Opened.{FindsInFile, SparesFile, WasOldInFile};
+ghost use Rattle.node_store.specs.Moved.{HasBadText, IsMovedTo, OpensAs, SparesStore, WasBad};
+ghost use Rattle.node_store.specs.Opened.{FindsInFile, SparesFile, WasBadInFile, WasOldInFile};
 
 use crate::fault::StoreFault;
+use crate::moving::{LAYOUT, OLDER, move_texts};
 use crate::table_keep::{TableKeep, fault_of};
 use row_table::{OpenFault, TextTable};
 use sqlite::{Alter, Connection, File, FileFrom, FileStore, MemStore, Start, Unknown};
 use std::alloc::Global;
-
-/// The layout of the tables: the version that stands in them.
-const LAYOUT: u32 = 1;
 
 fn opening_fault(fault: OpenFault) -> StoreFault
     ensures old { result ≡ StoreFault.OldLayout → fault ≡ OpenFault.OldLayout }
@@ -33,25 +34,54 @@ fn opening_fault(fault: OpenFault) -> StoreFault
 
 impl<S: Alter> TableKeep<S> {
     /// Takes a connection over, of which a stop leaves just what it holds, as of one that was just opened. A store
-    /// with nothing gets both tables, in one transaction. A refusal hands the connection back.
+    /// with nothing gets both tables, in one transaction. A store of layout 1 is moved to layout 2, in one transaction
+    /// too; `BadRow` where a text of it is no row of its kind and key. A refusal hands the connection back.
     pub fn adopt(
         alloc: Global,
         connection: Connection<S>,
     ) -> Result<TableKeep<S>, (StoreFault, Connection<S>)>
-        // The texts are those of the table, or none where there was no table.
-        ensures content { IfOk result (λ k. IsClean S.Store k.0 → Finds 1 (state S.Store connection).now (content S.Store k.0)) }
+        // The texts are those of the table as they are in layout 2, or none where there was no table.
+        ensures content { IfOk result (λ k. IsClean S.Store k.0 → OpensAs (state S.Store connection).now (content S.Store k.0)) }
         ensures refusals { IfOk result (λ k. k.1 ≡ 0) }
         ensures stops { IfOk result (λ k. IsClean S.Store k.0 → (c : Content) → MayLeave S.Store k.0 c → c ≡ texts S.Store k.0) }
         ensures honest { IfOk result (λ k. IsClean S.Store k.0 → HasCleanDisk (state S.Store connection)) }
         ensures unharmed { IfErr result (λ e. HasCleanDisk (state S.Store e.1) → HasCleanDisk (state S.Store connection)) }
-        // The store is as it was, or a whole new one where there was none, and a stop leaves one of these.
-        ensures spared { IfErr result (λ e. HasCleanDisk (state S.Store e.1) → IsSpared 1 (state S.Store connection) (state S.Store e.1)) }
-        ensures old { IfErr result (λ e. HasCleanDisk (state S.Store e.1) → e.0 ≡ StoreFault.OldLayout → IsOldLayout 1 (state S.Store connection).now) }
-        ensures bad { IfErr result (λ e. e.0 ≢ StoreFault.BadRow) }
+        // The store is as it was. A stop leaves that, or all that the opening would have made of it.
+        ensures spared { IfErr result (λ e. HasCleanDisk (state S.Store e.1) → SparesStore (state S.Store connection) (state S.Store e.1)) }
+        ensures old { IfErr result (λ e. HasCleanDisk (state S.Store e.1) → e.0 ≡ StoreFault.OldLayout → IsOldLayout 2 1 (state S.Store connection).now) }
+        ensures bad { IfErr result (λ e. HasCleanDisk (state S.Store e.1) → e.0 ≡ StoreFault.BadRow → WasBad (state S.Store connection).now) }
     {
-        match TextTable::adopt(alloc, connection, LAYOUT) {
-            Ok(table) => Ok(TableKeep::over(alloc, table)),
+        match TextTable::adopt(alloc, connection, LAYOUT, OLDER) {
+            Ok((table, found)) => {
+                if found == LAYOUT {
+                    Ok(TableKeep::over(alloc, table))
+                } else {
+                    TableKeep::moved(alloc, table)
+                }
+            }
             Err((fault, connection)) => Err((opening_fault(fault), connection)),
+        }
+    }
+
+    /// Moves a table of layout 1, or hands its connection back.
+    fn moved(
+        alloc: Global,
+        mut table: TextTable<S>,
+    ) -> Result<TableKeep<S>, (StoreFault, Connection<S>)>
+        ensures content { IfOk result (λ k. IsClean S.Store k.0 → IsMovedTo (texts S.Store table) (content S.Store k.0)) }
+        ensures refusals { IfOk result (λ k. k.1 ≡ 0) }
+        ensures settled { IfOk result (λ k. IsClean S.Store k.0 → (c : Content) → MayLeave S.Store k.0 c → c ≡ texts S.Store k.0) }
+        ensures honest { IfOk result (λ k. IsClean S.Store k.0 → IsClean S.Store table) }
+        ensures unharmed { IfErr result (λ e. HasCleanDisk (state S.Store e.1) → IsClean S.Store table) }
+        ensures shown { IfErr result (λ e. HasCleanDisk (state S.Store e.1) → ShowsTheSame (state S.Store table.conn) (state S.Store e.1)) }
+        ensures stops { IfErr result (λ e. HasCleanDisk (state S.Store e.1) → (trees : Trees) → (state S.Store e.1).may_leave trees
+            → Leaves S.Store table trees ⊎ (IsWhole trees × IsMovedTo (texts S.Store table) (content_of trees))) }
+        ensures fault { IfErr result (λ e. e.0 ≢ StoreFault.OldLayout) }
+        ensures bad { IfErr result (λ e. HasCleanDisk (state S.Store e.1) → e.0 ≡ StoreFault.BadRow → HasBadText (texts S.Store table)) }
+    {
+        match move_texts(alloc, &mut table) {
+            Ok(()) => Ok(TableKeep::over(alloc, table)),
+            Err(fault) => Err((fault, table.into_connection())),
         }
     }
 }
@@ -81,7 +111,8 @@ impl TableKeep<MemStore> {
 }
 
 impl<S: Start> TableKeep<FileStore<FileFrom<S>>> {
-    /// A keeper in the file at the path, where `S` stands for what the file holds. A file that is missing is made.
+    /// A keeper in the file at the path, where `S` stands for what the file holds. A file that is missing is made, and
+    /// one of layout 1 is moved to layout 2.
     /// `open_file` names no file, so this is the call of which the content is proved.
     pub fn open_file_from(
         rt: &HostRuntime,
@@ -91,14 +122,15 @@ impl<S: Start> TableKeep<FileStore<FileFrom<S>>> {
         TableKeep<FileStore<FileFrom<S>>>,
         (StoreFault, Option<Connection<FileStore<FileFrom<S>>>>),
     >
+        // The texts are those of the file as they are in layout 2, or none where there was no table.
         ensures content { IfOk result (λ k. IsClean over_files k.0 → FindsInFile (image_at S.Start) k.0.conn (content over_files k.0)) }
         ensures refusals { IfOk result (λ k. k.1 ≡ 0) }
         ensures stops { IfOk result (λ k. IsClean over_files k.0 → (c : Content) → MayLeave over_files k.0 c → c ≡ texts over_files k.0) }
-        // The file is as it was, or a whole new store where there was nothing, and a stop leaves one of these.
+        // The file is as it was. A stop leaves that, or all that the opening would have made of it.
         ensures spared { IfErr result (λ e. IfSome e.1 (λ c. HasCleanDisk (file_state c) → SparesFile (image_at S.Start) c)) }
         ensures old { IfErr result (λ e. IfSome e.1 (λ c. HasCleanDisk (file_state c) → e.0 ≡ StoreFault.OldLayout → WasOldInFile (image_at S.Start) c)) }
-        ensures unopened { IfErr result (λ e. e.1 ≡ None → e.0 ≢ StoreFault.OldLayout) }
-        ensures bad { IfErr result (λ e. e.0 ≢ StoreFault.BadRow) }
+        ensures bad { IfErr result (λ e. IfSome e.1 (λ c. HasCleanDisk (file_state c) → e.0 ≡ StoreFault.BadRow → WasBadInFile (image_at S.Start) c)) }
+        ensures unopened { IfErr result (λ e. e.1 ≡ None → (e.0 ≢ StoreFault.OldLayout) × (e.0 ≢ StoreFault.BadRow)) }
     {
         let connection = match Connection::open_from(rt, path, false, start) {
             Ok(connection) => connection,
@@ -112,11 +144,11 @@ impl<S: Start> TableKeep<FileStore<FileFrom<S>>> {
 }
 
 impl TableKeep<FileStore<File>> {
-    /// A keeper in the file at the path. A file that is missing is made.
+    /// A keeper in the file at the path. A file that is missing is made, and one of layout 1 is moved to layout 2:
+    /// `BadRow` where a text of it is no row of its kind and key.
     pub fn open_file(rt: &HostRuntime, path: &str) -> Result<TableKeep<FileStore<File>>, StoreFault>
         ensures refusals { IfOk result (λ k. k.1 ≡ 0) }
         ensures stops { IfOk result (λ k. IsClean over_files k.0 → (c : Content) → MayLeave over_files k.0 c → c ≡ texts over_files k.0) }
-        ensures bad { IfErr result (λ e. e ≢ StoreFault.BadRow) }
     {
         match TableKeep::open_file_from(rt, path, Unknown) {
             Ok(keep) => Ok(keep),

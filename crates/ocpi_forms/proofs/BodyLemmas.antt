@@ -2,25 +2,30 @@
 use Rattle.std.proofs.Common.{◌≡◌, ℕ, ◌≤◌, Ok, refl, sym, subst, ap, ◌∙◌, arith}
 use Rattle.json.specs.Json as json
 use Rattle.serde_json.specs.Data.{Data}
-use Rattle.ocpi_types.specs.Kinds.{kind_of}
+use Rattle.ocpi_types.specs.Kinds.{kind_of, kind_of_command}
+use Rattle.ocpi_types.specs.declared.commands.Command.{Command}
+use Rattle.ocpi_types.specs.declared.commands.Command.TheVariants as command
 use Rattle.ocpi_types.specs.declared.packet.Body.{Body}
 use Rattle.ocpi_types.specs.declared.packet.Body.TheVariants as body
 use Rattle.ocpi_types.specs.declared.words.PacketKind.{PacketKind}
 use Rattle.ocpi_types.specs.declared.words.PacketKind.TheVariants as kind
+use Rattle.ocpi_forms.specs.declared.any_command.CommandKind.{CommandKind}
+use Rattle.ocpi_forms.specs.declared.any_command.CommandKind.TheVariants as order
+use Rattle.json_text.specs.Fault.{◌>>=◌}
 use Rattle.json_text.specs.Members.{object_of}
 use Rattle.json_text.proofs.Exact.{Exact, ok_is, bind_ok}
 use Rattle.json_text.proofs.MemberForms.{tree}
 use Rattle.json_text.proofs.WellFormed.{IsWell}
+use Rattle.ocpi_forms.specs.AnyCommand.{command_kind, command_at, IsCommand}
 use Rattle.ocpi_forms.specs.AuthorizationForms.{authorize_at, authorization_at}
 use Rattle.ocpi_forms.specs.CdrForms.{cdr_at}
-use Rattle.ocpi_forms.specs.CommandForms.{start_session_at, stop_session_at, reserve_now_at, cancel_reservation_at, unlock_connector_at}
 use Rattle.ocpi_forms.specs.ReplyForms.{command_response_at, command_result_at, ack_at}
 use Rattle.ocpi_forms.specs.SessionForms.{session_at}
 use Rattle.ocpi_forms.specs.Tokens.{token_at}
 use Rattle.ocpi_forms.specs.Bodies.{body_at, IsBody, body_members, BodyFits}
+use Rattle.ocpi_forms.proofs.AnyCommandLemmas.{command_exact, command_form, command_well}
 use Rattle.ocpi_forms.proofs.AuthorizationLemmas.{authorize_exact, authorization_exact, authorize_form, authorization_form, authorize_well, authorization_well}
 use Rattle.ocpi_forms.proofs.CdrLemmas.{cdr_exact, cdr_form, cdr_well}
-use Rattle.ocpi_forms.proofs.CommandLemmas.{start_session_exact, stop_session_exact, reserve_now_exact, cancel_reservation_exact, unlock_connector_exact, start_session_form, stop_session_form, reserve_now_form, cancel_reservation_form, unlock_connector_form, start_session_well, stop_session_well, reserve_now_well, cancel_reservation_well, unlock_connector_well}
 use Rattle.ocpi_forms.proofs.ReplyLemmas.{command_response_exact, command_result_exact, ack_exact, command_response_form, command_result_form, ack_form, command_response_well, command_result_well, ack_well}
 use Rattle.ocpi_forms.proofs.SessionLemmas.{session_exact, session_form, session_well}
 use Rattle.ocpi_forms.proofs.TokenLemmas.{token_exact, token_form, token_well}
@@ -31,13 +36,42 @@ use Rattle.ocpi_forms.proofs.TokenLemmas.{token_exact, token_form, token_well}
 abbrev pub OfKind : PacketKind → Data → Body → Type 0
 OfKind k d b = IsBody d b × (kind_of b ≡ k)
 
+-- the kind of the packet that carries a command of that kind
+abbrev packet_kind : CommandKind → PacketKind
+packet_kind order.StartSession = kind.StartSession
+packet_kind order.StopSession = kind.StopSession
+packet_kind order.ReserveNow = kind.ReserveNow
+packet_kind order.CancelReservation = kind.CancelReservation
+packet_kind order.UnlockConnector = kind.UnlockConnector
+
+carried_by : (c : Command) → kind_of_command c ≡ packet_kind (command_kind c)
+carried_by (command.StartSession c) = refl
+carried_by (command.StopSession c) = refl
+carried_by (command.ReserveNow c) = refl
+carried_by (command.CancelReservation c) = refl
+carried_by (command.UnlockConnector c) = refl
+
+carries : (k : CommandKind) (d : Data) (b : Body) → (command_at k d >>= λ c. Ok (body.Command c)) ≡ Ok b → OfKind (packet_kind k) d b
+carries k d b e =
+    let a = bind_ok (command_at k d) _ b e in
+    let p = (command_exact k).sound d a.0 a.1 in
+    subst (OfKind (packet_kind k) d) (ok_is (body.Command a.0) b a.2) (p.0, carried_by a.0 ∙ ap packet_kind p.1)
+
+body_at_command : (k : CommandKind) (d : Data) → body_at (packet_kind k) d ≡ (command_at k d >>= λ c. Ok (body.Command c))
+unfolding body_at
+body_at_command order.StartSession d = refl
+body_at_command order.StopSession d = refl
+body_at_command order.ReserveNow d = refl
+body_at_command order.CancelReservation d = refl
+body_at_command order.UnlockConnector d = refl
+
 body_sound : (k : PacketKind) (d : Data) (b : Body) → body_at k d ≡ Ok b → OfKind k d b
 unfolding body_at
-body_sound kind.StartSession d b e = let a = bind_ok (start_session_at d) _ b e in subst (OfKind kind.StartSession d) (ok_is (body.StartSession a.0) b a.2) (start_session_exact.sound d a.0 a.1, refl)
-body_sound kind.StopSession d b e = let a = bind_ok (stop_session_at d) _ b e in subst (OfKind kind.StopSession d) (ok_is (body.StopSession a.0) b a.2) (stop_session_exact.sound d a.0 a.1, refl)
-body_sound kind.ReserveNow d b e = let a = bind_ok (reserve_now_at d) _ b e in subst (OfKind kind.ReserveNow d) (ok_is (body.ReserveNow a.0) b a.2) (reserve_now_exact.sound d a.0 a.1, refl)
-body_sound kind.CancelReservation d b e = let a = bind_ok (cancel_reservation_at d) _ b e in subst (OfKind kind.CancelReservation d) (ok_is (body.CancelReservation a.0) b a.2) (cancel_reservation_exact.sound d a.0 a.1, refl)
-body_sound kind.UnlockConnector d b e = let a = bind_ok (unlock_connector_at d) _ b e in subst (OfKind kind.UnlockConnector d) (ok_is (body.UnlockConnector a.0) b a.2) (unlock_connector_exact.sound d a.0 a.1, refl)
+body_sound kind.StartSession d b e = carries order.StartSession d b e
+body_sound kind.StopSession d b e = carries order.StopSession d b e
+body_sound kind.ReserveNow d b e = carries order.ReserveNow d b e
+body_sound kind.CancelReservation d b e = carries order.CancelReservation d b e
+body_sound kind.UnlockConnector d b e = carries order.UnlockConnector d b e
 body_sound kind.CommandResponse d b e = let a = bind_ok (command_response_at d) _ b e in subst (OfKind kind.CommandResponse d) (ok_is (body.CommandResponse a.0) b a.2) (command_response_exact.sound d a.0 a.1, refl)
 body_sound kind.CommandResult d b e = let a = bind_ok (command_result_at d) _ b e in subst (OfKind kind.CommandResult d) (ok_is (body.CommandResult a.0) b a.2) (command_result_exact.sound d a.0 a.1, refl)
 body_sound kind.PutToken d b e = let a = bind_ok (token_at d) _ b e in subst (OfKind kind.PutToken d) (ok_is (body.PutToken a.0) b a.2) (token_exact.sound d a.0 a.1, refl)
@@ -49,11 +83,7 @@ body_sound kind.Ack d b e = let a = bind_ok (ack_at d) _ b e in subst (OfKind ki
 
 body_complete : (d : Data) (b : Body) → IsBody d b → body_at (kind_of b) d ≡ Ok b
 unfolding body_at
-body_complete d (body.StartSession b) p = rw (start_session_exact.complete d b p) refl
-body_complete d (body.StopSession b) p = rw (stop_session_exact.complete d b p) refl
-body_complete d (body.ReserveNow b) p = rw (reserve_now_exact.complete d b p) refl
-body_complete d (body.CancelReservation b) p = rw (cancel_reservation_exact.complete d b p) refl
-body_complete d (body.UnlockConnector b) p = rw (unlock_connector_exact.complete d b p) refl
+body_complete d (body.Command c) p = ap (λ k. body_at k d) (carried_by c) ∙ body_at_command (command_kind c) d ∙ rw ((command_exact (command_kind c)).complete d c (p, refl)) refl
 body_complete d (body.CommandResponse b) p = rw (command_response_exact.complete d b p) refl
 body_complete d (body.CommandResult b) p = rw (command_result_exact.complete d b p) refl
 body_complete d (body.PutToken b) p = rw (token_exact.complete d b p) refl
@@ -73,11 +103,7 @@ body_exact k = record {
 
 pub body_form : (b : Body) → BodyFits b → IsBody (tree (body_members b)) b
 unfolding body_members
-body_form (body.StartSession b) fits = start_session_form b fits
-body_form (body.StopSession b) fits = stop_session_form b fits
-body_form (body.ReserveNow b) fits = reserve_now_form b fits
-body_form (body.CancelReservation b) fits = cancel_reservation_form b fits
-body_form (body.UnlockConnector b) fits = unlock_connector_form b fits
+body_form (body.Command c) fits = command_form c fits
 body_form (body.CommandResponse b) fits = command_response_form b fits
 body_form (body.CommandResult b) fits = command_result_form b fits
 body_form (body.PutToken b) fits = token_form b fits
@@ -93,11 +119,7 @@ deeper least most j le w = record { sound = w.sound; shallow = let s = w.shallow
 -- a body nests no deeper than 5
 pub body_well : (b : Body) → BodyFits b → IsWell 5 (object_of (body_members b))
 unfolding body_members
-body_well (body.StartSession b) fits = deeper _ 5 _ (omega arith) (start_session_well b fits)
-body_well (body.StopSession b) fits = deeper _ 5 _ (omega arith) (stop_session_well b fits)
-body_well (body.ReserveNow b) fits = deeper _ 5 _ (omega arith) (reserve_now_well b fits)
-body_well (body.CancelReservation b) fits = deeper _ 5 _ (omega arith) (cancel_reservation_well b fits)
-body_well (body.UnlockConnector b) fits = deeper _ 5 _ (omega arith) (unlock_connector_well b fits)
+body_well (body.Command c) fits = deeper _ 5 _ (omega arith) (command_well c fits)
 body_well (body.CommandResponse b) fits = deeper _ 5 _ (omega arith) (command_response_well b fits)
 body_well (body.CommandResult b) fits = deeper _ 5 _ (omega arith) (command_result_well b fits)
 body_well (body.PutToken b) fits = deeper _ 5 _ (omega arith) (token_well b fits)

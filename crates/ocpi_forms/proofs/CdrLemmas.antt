@@ -1,8 +1,7 @@
 -- A charge detail record is read just where the tree has its form, and one that is written is read again.
-use Rattle.std.proofs.Common.{◌≡◌, ◌≢◌, ◌≤◌, ℕ, Bool, true, false, cond, Option, Some, None, Ok, Err, refl, ap, subst, arith}
+use Rattle.std.proofs.Common.{◌≡◌, ◌≤◌, ℕ, true, refl, subst, arith}
 use Rattle.json.specs.Json as json
-use Rattle.serde_json.specs.Data.{Data, null, boolean, number, string, array, object}
-use Rattle.serde_json.specs.Find.{get}
+use Rattle.serde_json.specs.Data.{Data}
 use Rattle.ocpi_types.specs.Fields.{name_of}
 use Rattle.ocpi_types.specs.Words.{method_of, method_word}
 use Rattle.ocpi_types.specs.declared.cdrs.Cdr.{Cdr}
@@ -10,10 +9,12 @@ use Rattle.ocpi_types.specs.declared.field.Field.TheVariants as field
 use Rattle.ocpi_forms.specs.declared.cdrs.CdrCharges.{CdrCharges}
 use Rattle.ocpi_forms.specs.declared.cdrs.CdrHead.{CdrHead}
 use Rattle.ocpi_forms.specs.declared.cdrs.CdrTotals.{CdrTotals}
-use Rattle.json_text.specs.declared.fault.JsonFault.TheVariants.{WrongForm}
-use Rattle.ocpi_forms.specs.CdrForms.{cdr_head_at, is_true, is_credit, cdr_totals_at, cdr_charges_at, cdr_at, cdr_members, IsCdr, CdrFits}
+use Rattle.ocpi_forms.specs.declared.credits.CdrForm.{CdrForm}
+use Rattle.ocpi_forms.specs.declared.credits.CdrForm.TheVariants as form
+use Rattle.ocpi_forms.specs.CdrForms.{cdr_head_at, cdr_totals_in, cdr_charges_in, cdr_in, cdr_at, stored_cdr_at, cdr_members_in, cdr_members, stored_cdr_members, IsCdrIn, IsCdr, IsStoredCdr, CdrFits}
 use Rattle.ocpi_forms.specs.CdrLocationForms.{cdr_location_at, cdr_location_members, IsCdrLocation}
 use Rattle.ocpi_forms.specs.ChargingPeriodForms.{charging_periods_in, charging_period_members, IsChargingPeriod, ChargingPeriodFits}
+use Rattle.ocpi_forms.specs.CreditForms.{credit_reference_in, HasCredit}
 use Rattle.json_text.specs.Fault.{◌>>=◌}
 use Rattle.json_text.specs.Fields.{ci_in, country_in, free_in, moment_in, optional, party_id_in, quantity_in, record_in, word_in}
 use Rattle.json_text.specs.Form.{Required, Optional, IsCi, IsFree, IsMoment, IsQuantity, IsRecord, IsWord, HasParty, IsNonEmpty}
@@ -21,26 +22,12 @@ use Rattle.json_text.specs.Members.{object_of}
 use Rattle.ocpi_forms.specs.SessionForms.{cdr_token_at, cdr_token_members, price_in, price_members, IsCdrToken, IsPrice}
 use Rattle.ocpi_forms.proofs.CdrLocationLemmas.{cdr_location_exact, cdr_location_form, cdr_location_well}
 use Rattle.ocpi_forms.proofs.ChargingPeriodLemmas.{charging_periods_exact, charging_period_form, charging_period_well}
-use Rattle.json_text.proofs.Exact.{Exact, done, ok_is, bind_ok, both_steps, ci_exact, country_exact, free_exact, inner_exact, moment_exact, optional_ci_exact, party_id_exact, quantity_exact, word_exact}
+use Rattle.ocpi_forms.proofs.CreditLemmas.{credit_reference_exact, credit_form, credit_well}
+use Rattle.json_text.proofs.Exact.{Exact, ok_is, bind_ok, both_steps, ci_exact, country_exact, free_exact, inner_exact, moment_exact, optional_ci_exact, party_id_exact, quantity_exact, word_exact}
 use Rattle.json_text.proofs.MemberForms.{tree, country_begins, party_id_begins, halves_form, ci_form, free_form, word_form, moment_form, quantity_form, inner_form, list_form, optional_ci_form}
 use Rattle.ocpi_forms.proofs.SessionLemmas.{cdr_token_exact, price_in_exact, method_again, method_begins, cdr_token_form, cdr_token_well, price_form, price_well}
-use Rattle.json_text.proofs.Tagged.{ascends, get_is}
+use Rattle.json_text.proofs.Tagged.{ascends}
 use Rattle.json_text.proofs.WellFormed.{◌and◌, IsWell, record_well, text_well, ci_well, free_well, moment_well, e4_well, list_well, optional_ci_well}
-
--- ---- credits
-
-is_true_sound : (o : Option Data) → is_true o ≡ false → o ≢ Some (boolean true)
-is_true_sound o untrue is = absurd (cc (untrue, ap is_true is))
-
-is_true_complete : (o : Option Data) → o ≢ Some (boolean true) → is_true o ≡ false
-is_true_complete None never = refl
-is_true_complete (Some null) never = refl
-is_true_complete (Some (boolean true)) never = absurd (never refl)
-is_true_complete (Some (boolean false)) never = refl
-is_true_complete (Some (number n)) never = refl
-is_true_complete (Some (string s)) never = refl
-is_true_complete (Some (array ds)) never = refl
-is_true_complete (Some (object ms)) never = refl
 
 -- ---- the head
 
@@ -107,65 +94,61 @@ head_exact = record {
 
 -- ---- the totals
 
-record HasTotals (d : Data) (t : CdrTotals) : Type 0 where
+record HasTotals (f : CdrForm) (d : Data) (t : CdrTotals) : Type 0 where
   total_cost : Required (IsRecord IsPrice) field.TotalCost d t.total_cost
   total_energy : Required IsQuantity field.TotalEnergy d t.total_energy
   total_time : Required IsQuantity field.TotalTime d t.total_time
   last_updated : Required IsMoment field.LastUpdated d t.last_updated
-  no_credit : get (name_of field.Credit) d ≢ Some (boolean true)
+  credit : HasCredit f d t.credit_reference_id
 
-not_credit : (t x : CdrTotals) (b : Bool) → cond b (Err (WrongForm field.Credit)) (done t) ≡ Ok x → (b ≡ false) × (t ≡ x)
-not_credit t x true e = absurd cc
-not_credit t x false e = (refl, ok_is t x e)
-
-totals_exact : Exact cdr_totals_at HasTotals
-unfolding cdr_totals_at is_credit
-totals_exact = record {
+totals_exact : (f : CdrForm) → Exact (cdr_totals_in f) (HasTotals f)
+unfolding cdr_totals_in
+totals_exact f = record {
   sound = λ d x e.
       let b = bind_ok (price_in field.TotalCost d) _ x e in
       let g = bind_ok (quantity_in field.TotalEnergy d) _ x b.2 in
       let h = bind_ok (quantity_in field.TotalTime d) _ x g.2 in
       let i = bind_ok (moment_in field.LastUpdated d) _ x h.2 in
-      let j = not_credit _ x (is_true (get (name_of field.Credit) d)) i.2 in
-      subst (HasTotals d) j.1 (record {
+      let j = bind_ok (credit_reference_in f d) _ x i.2 in
+      subst (HasTotals f d) (ok_is _ x j.2) (record {
         total_cost = (price_in_exact field.TotalCost).sound d b.0 b.1;
         total_energy = (quantity_exact field.TotalEnergy).sound d g.0 g.1;
         total_time = (quantity_exact field.TotalTime).sound d h.0 h.1;
         last_updated = (moment_exact field.LastUpdated).sound d i.0 i.1;
-        no_credit = is_true_sound (get (name_of field.Credit) d) j.0;
+        credit = (credit_reference_exact f).sound d j.0 j.1;
       });
   complete = λ d x p. rw (
     (price_in_exact field.TotalCost).complete d x.total_cost p.total_cost,
     (quantity_exact field.TotalEnergy).complete d x.total_energy p.total_energy,
     (quantity_exact field.TotalTime).complete d x.total_time p.total_time,
     (moment_exact field.LastUpdated).complete d x.last_updated p.last_updated,
-    is_true_complete (get (name_of field.Credit) d) p.no_credit,
+    (credit_reference_exact f).complete d x.credit_reference_id p.credit,
   ) refl;
 }
 
 -- ---- what stands behind the location
 
-record HasCharges (d : Data) (c : CdrCharges) : Type 0 where
+record HasCharges (f : CdrForm) (d : Data) (c : CdrCharges) : Type 0 where
   currency : Required (IsFree 3) field.Currency d c.currency
   charging_periods : Required (IsNonEmpty (IsRecord IsChargingPeriod)) field.ChargingPeriods d c.charging_periods
-  totals : HasTotals d c.totals
+  totals : HasTotals f d c.totals
 
-charges_exact : Exact cdr_charges_at HasCharges
-unfolding cdr_charges_at
-charges_exact = record {
+charges_exact : (f : CdrForm) → Exact (cdr_charges_in f) (HasCharges f)
+unfolding cdr_charges_in
+charges_exact f = record {
   sound = λ d x e.
       let a = bind_ok (free_in 3 field.Currency d) _ x e in
       let b = bind_ok (charging_periods_in d) _ x a.2 in
-      let g = bind_ok (cdr_totals_at d) _ x b.2 in
-      subst (HasCharges d) (ok_is _ x g.2) (record {
+      let g = bind_ok (cdr_totals_in f d) _ x b.2 in
+      subst (HasCharges f d) (ok_is _ x g.2) (record {
         currency = (free_exact 3 field.Currency).sound d a.0 a.1;
         charging_periods = charging_periods_exact.sound d b.0 b.1;
-        totals = totals_exact.sound d g.0 g.1;
+        totals = (totals_exact f).sound d g.0 g.1;
       });
   complete = λ d x p. rw (
     (free_exact 3 field.Currency).complete d x.currency p.currency,
     charging_periods_exact.complete d x.charging_periods p.charging_periods,
-    totals_exact.complete d x.totals p.totals,
+    (totals_exact f).complete d x.totals p.totals,
   ) refl;
 }
 
@@ -178,11 +161,11 @@ abbrev charges_part : Cdr → CdrCharges
 charges_part c = record {
   currency = c.currency;
   charging_periods = c.charging_periods;
-  totals = record { total_cost = c.total_cost; total_energy = c.total_energy; total_time = c.total_time; last_updated = c.last_updated };
+  totals = record { total_cost = c.total_cost; total_energy = c.total_energy; total_time = c.total_time; last_updated = c.last_updated; credit_reference_id = c.credit_reference_id };
 }
 
-has_head : (d : Data) (c : Cdr) → IsCdr d c → HasHead d (head_part c)
-has_head d c p = record {
+has_head : (f : CdrForm) (d : Data) (c : Cdr) → IsCdrIn f d c → HasHead d (head_part c)
+has_head f d c p = record {
   party = p.party;
   id = p.id;
   start_date_time = p.start_date_time;
@@ -193,28 +176,28 @@ has_head d c p = record {
   authorization_reference = p.authorization_reference;
 }
 
-has_charges : (d : Data) (c : Cdr) → IsCdr d c → HasCharges d (charges_part c)
-has_charges d c p = record {
+has_charges : (f : CdrForm) (d : Data) (c : Cdr) → IsCdrIn f d c → HasCharges f d (charges_part c)
+has_charges f d c p = record {
   currency = p.currency;
   charging_periods = p.charging_periods;
-  totals = record { total_cost = p.total_cost; total_energy = p.total_energy; total_time = p.total_time; last_updated = p.last_updated; no_credit = p.no_credit };
+  totals = record { total_cost = p.total_cost; total_energy = p.total_energy; total_time = p.total_time; last_updated = p.last_updated; credit = p.credit };
 }
 
 location_in : Exact (λ d. record_in field.CdrLocation d >>= cdr_location_at) (Required (IsRecord IsCdrLocation) field.CdrLocation)
 location_in = inner_exact field.CdrLocation cdr_location_at IsCdrLocation cdr_location_exact
 
-pub cdr_exact : Exact cdr_at IsCdr
-unfolding cdr_at
-cdr_exact = record {
+exact_in : (f : CdrForm) → Exact (cdr_in f) (IsCdrIn f)
+unfolding cdr_in
+exact_in f = record {
   sound = λ d x e.
       let a = bind_ok (cdr_head_at d) _ x e in
       let b = bind_ok (record_in field.CdrLocation d) _ x a.2 in
       let g = bind_ok (cdr_location_at b.0) _ x b.2 in
-      let h = bind_ok (cdr_charges_at d) _ x g.2 in
+      let h = bind_ok (cdr_charges_in f d) _ x g.2 in
       let head = head_exact.sound d a.0 a.1 in
       let location = both_steps (record_in field.CdrLocation d) cdr_location_at b.0 g.0 b.1 g.1 in
-      let charges = charges_exact.sound d h.0 h.1 in
-      subst (IsCdr d) (ok_is _ x h.2) (record {
+      let charges = (charges_exact f).sound d h.0 h.1 in
+      subst (IsCdrIn f d) (ok_is _ x h.2) (record {
         party = head.party;
         id = head.id;
         start_date_time = head.start_date_time;
@@ -230,38 +213,36 @@ cdr_exact = record {
         total_energy = charges.totals.total_energy;
         total_time = charges.totals.total_time;
         last_updated = charges.totals.last_updated;
-        no_credit = charges.totals.no_credit;
+        credit = charges.totals.credit;
       });
   complete = λ d x p.
       let inner = bind_ok (record_in field.CdrLocation d) cdr_location_at x.cdr_location (location_in.complete d x.cdr_location p.cdr_location) in
       rw (
-        head_exact.complete d (head_part x) (has_head d x p),
+        head_exact.complete d (head_part x) (has_head f d x p),
         inner.1,
         inner.2,
-        charges_exact.complete d (charges_part x) (has_charges d x p),
+        (charges_exact f).complete d (charges_part x) (has_charges f d x p),
       ) refl;
 }
 
+pub cdr_exact : Exact cdr_at IsCdr
+cdr_exact = exact_in form.Sent
+
+pub stored_cdr_exact : Exact stored_cdr_at IsStoredCdr
+stored_cdr_exact = exact_in form.Stored
+
 -- ---- what is written
 
-pub cdr_ascends : (c : Cdr) → ascends (cdr_members c) ≡ true
-unfolding cdr_members name_of
-cdr_ascends c = refl
-
-none_is : (o : Option Data) → o ≡ None → o ≢ Some (boolean true)
-none_is o e is = absurd (cc (e, is))
-
--- no credit is written
-writes_no_credit : (c : Cdr) → get (name_of field.Credit) (tree (cdr_members c)) ≢ Some (boolean true)
-unfolding cdr_members name_of
-writes_no_credit c = none_is _ (get_is field.Credit (cdr_members c) (cdr_ascends c))
+ascends_in : (f : CdrForm) (c : Cdr) → ascends (cdr_members_in f c) ≡ true
+unfolding cdr_members_in name_of
+ascends_in f c = refl
 
 -- a charge detail record that is written has the form of one
-pub cdr_form : (c : Cdr) → CdrFits c → IsCdr (tree (cdr_members c)) c
-unfolding cdr_members name_of
-cdr_form c fits =
-    let ms = cdr_members c in
-    let up = cdr_ascends c in
+form_in : (f : CdrForm) (c : Cdr) → CdrFits c → IsCdrIn f (tree (cdr_members_in f c)) c
+unfolding cdr_members_in name_of
+form_in f c fits =
+    let ms = cdr_members_in f c in
+    let up = ascends_in f c in
     let periods = list_form IsChargingPeriod charging_period_members ChargingPeriodFits field.ChargingPeriods c.charging_periods ms (record { up = up; here = refl }) charging_period_form fits.charging_periods in
     record {
       party = halves_form c.party ms (record { up = up; here = refl }) (record { up = up; here = refl }) fits.party;
@@ -279,21 +260,29 @@ cdr_form c fits =
       total_energy = quantity_form field.TotalEnergy c.total_energy ms (record { up = up; here = refl }) fits.total_energy;
       total_time = quantity_form field.TotalTime c.total_time ms (record { up = up; here = refl }) fits.total_time;
       last_updated = moment_form field.LastUpdated c.last_updated ms (record { up = up; here = refl }) fits.last_updated;
-      no_credit = writes_no_credit c;
+      credit = credit_form f c.credit_reference_id ms (record { up = up; here = refl }) (record { up = up; here = refl }) fits.credit_reference_id;
     }
+
+pub cdr_form : (c : Cdr) → CdrFits c → IsCdr (tree (cdr_members c)) c
+cdr_form c fits = form_in form.Sent c fits
+
+pub stored_cdr_form : (c : Cdr) → CdrFits c → IsStoredCdr (tree (stored_cdr_members c)) c
+stored_cdr_form c fits = form_in form.Stored c fits
 
 deeper : (least most : ℕ) (j : json.Json) → least ≤ most → IsWell least j → IsWell most j
 deeper least most j le w = record { sound = w.sound; shallow = let s = w.shallow in omega arith }
 
-pub cdr_well : (c : Cdr) → CdrFits c → IsWell 5 (object_of (cdr_members c))
-unfolding cdr_members
-cdr_well c fits = record_well 4 (cdr_members c) (cdr_ascends c) (
+well_in : (f : CdrForm) (c : Cdr) → CdrFits c → IsWell 5 (object_of (cdr_members_in f c))
+unfolding cdr_members_in
+well_in f c fits = record_well 4 (cdr_members_in f c) (ascends_in f c) (
     text_well 4 _ (method_begins c.auth_method)
     and optional_ci_well 4 36 c.authorization_reference fits.authorization_reference
     and deeper 2 4 _ (omega arith) (cdr_location_well c.cdr_location fits.cdr_location)
     and deeper 1 4 _ (omega arith) (cdr_token_well c.cdr_token fits.cdr_token)
     and list_well 3 charging_period_members ChargingPeriodFits c.charging_periods charging_period_well fits.charging_periods
     and text_well 4 _ (country_begins c.party fits.party)
+    and credit_well 4 f c.credit_reference_id
+    and optional_ci_well 4 39 c.credit_reference_id fits.credit_reference_id
     and free_well 4 3 c.currency fits.currency
     and moment_well 4 c.end_date_time fits.end_date_time
     and ci_well 4 39 c.id fits.id
@@ -305,3 +294,9 @@ cdr_well c fits = record_well 4 (cdr_members c) (cdr_ascends c) (
     and e4_well 4 c.total_energy fits.total_energy.bound
     and e4_well 4 c.total_time fits.total_time.bound
     and tt)
+
+pub cdr_well : (c : Cdr) → CdrFits c → IsWell 5 (object_of (cdr_members c))
+cdr_well c fits = well_in form.Sent c fits
+
+pub stored_cdr_well : (c : Cdr) → CdrFits c → IsWell 5 (object_of (stored_cdr_members c))
+stored_cdr_well c fits = well_in form.Stored c fits

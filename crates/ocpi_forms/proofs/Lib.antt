@@ -1,9 +1,11 @@
+pub mod AnyCommandLemmas
 pub mod AuthorizationLemmas
 pub mod BodyLemmas
 pub mod CdrLemmas
 pub mod CdrLocationLemmas
 pub mod ChargingPeriodLemmas
 pub mod CommandLemmas
+pub mod CreditLemmas
 pub mod ReplyLemmas
 pub mod Seen
 pub mod SessionLemmas

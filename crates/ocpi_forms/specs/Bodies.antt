@@ -6,11 +6,12 @@ use Rattle.ocpi_types.specs.declared.packet.Body.{Body}
 use Rattle.ocpi_types.specs.declared.packet.Body.TheVariants as body
 use Rattle.ocpi_types.specs.declared.words.PacketKind.{PacketKind}
 use Rattle.ocpi_types.specs.declared.words.PacketKind.TheVariants as kind
+use Rattle.ocpi_forms.specs.declared.any_command.CommandKind.TheVariants as order
 use Rattle.json_text.specs.Fault.{Read, ◌>>=◌}
 use Rattle.json_text.specs.Members.{Member}
+use Rattle.ocpi_forms.specs.AnyCommand.{command_at, IsCommand, command_members, CommandFits}
 use Rattle.ocpi_forms.specs.AuthorizationForms.{authorize_at, authorization_at, IsAuthorize, IsAuthorization, authorize_members, authorization_members, AuthorizeFits, AuthorizationFits}
 use Rattle.ocpi_forms.specs.CdrForms.{cdr_at, IsCdr, cdr_members, CdrFits}
-use Rattle.ocpi_forms.specs.CommandForms.{start_session_at, stop_session_at, reserve_now_at, cancel_reservation_at, unlock_connector_at, IsStartSession, IsStopSession, IsReserveNow, IsCancelReservation, IsUnlockConnector, start_session_members, stop_session_members, reserve_now_members, cancel_reservation_members, unlock_connector_members, StartSessionFits, StopSessionFits, ReserveNowFits, CancelReservationFits, UnlockConnectorFits}
 use Rattle.ocpi_forms.specs.ReplyForms.{command_response_at, command_result_at, ack_at, IsCommandResponse, IsCommandResult, IsAck, command_response_members, command_result_members, ack_members, CommandResponseFits, CommandResultFits, AckFits}
 use Rattle.ocpi_forms.specs.SessionForms.{session_at, IsSession, session_members, SessionFits}
 use Rattle.ocpi_forms.specs.Tokens.{token_at, IsToken, token_members, TokenFits}
@@ -18,11 +19,11 @@ use Rattle.ocpi_forms.specs.Tokens.{token_at, IsToken, token_members, TokenFits}
 -- ---- reading
 
 unfoldable pub body_at : PacketKind → Data → Read Body
-body_at kind.StartSession d = start_session_at d >>= λ b. Ok (body.StartSession b)
-body_at kind.StopSession d = stop_session_at d >>= λ b. Ok (body.StopSession b)
-body_at kind.ReserveNow d = reserve_now_at d >>= λ b. Ok (body.ReserveNow b)
-body_at kind.CancelReservation d = cancel_reservation_at d >>= λ b. Ok (body.CancelReservation b)
-body_at kind.UnlockConnector d = unlock_connector_at d >>= λ b. Ok (body.UnlockConnector b)
+body_at kind.StartSession d = command_at order.StartSession d >>= λ c. Ok (body.Command c)
+body_at kind.StopSession d = command_at order.StopSession d >>= λ c. Ok (body.Command c)
+body_at kind.ReserveNow d = command_at order.ReserveNow d >>= λ c. Ok (body.Command c)
+body_at kind.CancelReservation d = command_at order.CancelReservation d >>= λ c. Ok (body.Command c)
+body_at kind.UnlockConnector d = command_at order.UnlockConnector d >>= λ c. Ok (body.Command c)
 body_at kind.CommandResponse d = command_response_at d >>= λ b. Ok (body.CommandResponse b)
 body_at kind.CommandResult d = command_result_at d >>= λ b. Ok (body.CommandResult b)
 body_at kind.PutToken d = token_at d >>= λ b. Ok (body.PutToken b)
@@ -35,11 +36,7 @@ body_at kind.Ack d = ack_at d >>= λ b. Ok (body.Ack b)
 -- ---- the form
 
 abbrev pub IsBody : Data → Body → Type 0
-IsBody d (body.StartSession b) = IsStartSession d b
-IsBody d (body.StopSession b) = IsStopSession d b
-IsBody d (body.ReserveNow b) = IsReserveNow d b
-IsBody d (body.CancelReservation b) = IsCancelReservation d b
-IsBody d (body.UnlockConnector b) = IsUnlockConnector d b
+IsBody d (body.Command c) = IsCommand d c
 IsBody d (body.CommandResponse b) = IsCommandResponse d b
 IsBody d (body.CommandResult b) = IsCommandResult d b
 IsBody d (body.PutToken b) = IsToken d b
@@ -52,11 +49,7 @@ IsBody d (body.Ack b) = IsAck d b
 -- ---- what is written, in the byte order of the names
 
 unfoldable pub body_members : Body → List Member
-body_members (body.StartSession b) = start_session_members b
-body_members (body.StopSession b) = stop_session_members b
-body_members (body.ReserveNow b) = reserve_now_members b
-body_members (body.CancelReservation b) = cancel_reservation_members b
-body_members (body.UnlockConnector b) = unlock_connector_members b
+body_members (body.Command c) = command_members c
 body_members (body.CommandResponse b) = command_response_members b
 body_members (body.CommandResult b) = command_result_members b
 body_members (body.PutToken b) = token_members b
@@ -69,11 +62,7 @@ body_members (body.Ack b) = ack_members b
 -- ---- what the types keep
 
 abbrev pub BodyFits : Body → Type 0
-BodyFits (body.StartSession b) = StartSessionFits b
-BodyFits (body.StopSession b) = StopSessionFits b
-BodyFits (body.ReserveNow b) = ReserveNowFits b
-BodyFits (body.CancelReservation b) = CancelReservationFits b
-BodyFits (body.UnlockConnector b) = UnlockConnectorFits b
+BodyFits (body.Command c) = CommandFits c
 BodyFits (body.CommandResponse b) = CommandResponseFits b
 BodyFits (body.CommandResult b) = CommandResultFits b
 BodyFits (body.PutToken b) = TokenFits b

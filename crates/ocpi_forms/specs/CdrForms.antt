@@ -1,20 +1,20 @@
 -- Charge detail records in JSON: how one is read, which form its tree has, and what is written (OCPI 2.2.1, CDRs: CDR
--- object).
-use Rattle.std.specs.Prelude.{◌≡◌, ◌≢◌, ◌≤◌, List, [], ◌∷◌, All, length, Bool, true, false, Option, Some, None, Ok, Err, if◌then◌else◌}
-use Rattle.serde_json.specs.Data.{Data, null, boolean, number, string, array, object}
-use Rattle.serde_json.specs.Find.{get}
+-- object); as they are sent, and as they are stored in rows. The two differ in what they say of credits alone.
+use Rattle.std.specs.Prelude.{◌≡◌, ◌≤◌, List, [], ◌∷◌, All, length, Ok}
+use Rattle.serde_json.specs.Data.{Data}
 use Rattle.ocpi_text.specs.Moment.{last_moment}
 use Rattle.ocpi_text.specs.Party.{party_at, party_of, country_of, party_id_of}
-use Rattle.ocpi_types.specs.Fields.{name_of}
 use Rattle.ocpi_types.specs.Words.{method_of, method_word}
 use Rattle.ocpi_types.specs.declared.cdrs.Cdr.{Cdr}
 use Rattle.ocpi_types.specs.declared.field.Field.TheVariants as field
 use Rattle.ocpi_forms.specs.declared.cdrs.CdrCharges.{CdrCharges}
 use Rattle.ocpi_forms.specs.declared.cdrs.CdrHead.{CdrHead}
 use Rattle.ocpi_forms.specs.declared.cdrs.CdrTotals.{CdrTotals}
-use Rattle.json_text.specs.declared.fault.JsonFault.TheVariants.{WrongForm}
+use Rattle.ocpi_forms.specs.declared.credits.CdrForm.{CdrForm}
+use Rattle.ocpi_forms.specs.declared.credits.CdrForm.TheVariants as form
 use Rattle.ocpi_forms.specs.CdrLocationForms.{cdr_location_at, cdr_location_members, CdrLocationFits, IsCdrLocation}
 use Rattle.ocpi_forms.specs.ChargingPeriodForms.{charging_periods_in, charging_period_members, ChargingPeriodFits, IsChargingPeriod}
+use Rattle.ocpi_forms.specs.CreditForms.{credit_reference_in, HasCredit, credit_member}
 use Rattle.json_text.specs.Fault.{Read, ◌>>=◌}
 use Rattle.json_text.specs.Fields.{ci_in, country_in, free_in, moment_in, optional, party_id_in, quantity_in, record_in, word_in}
 use Rattle.json_text.specs.Fits.{FitsCi, FitsFree, FitsOption, FitsQuantity}
@@ -39,43 +39,31 @@ cdr_head_at d = do
   authorization_reference ← optional (ci_in 36) field.AuthorizationReference d
   Ok (record { party = party_of country party_id; id = id; start_date_time = start_date_time; end_date_time = end_date_time; session_id = session_id; cdr_token = cdr_token; auth_method = auth_method; authorization_reference = authorization_reference })
 
--- the value true alone
-abbrev pub is_true : Option Data → Bool
-is_true None = false
-is_true (Some null) = false
-is_true (Some (boolean b)) = b
-is_true (Some (number n)) = false
-is_true (Some (string s)) = false
-is_true (Some (array ds)) = false
-is_true (Some (object ms)) = false
-
--- one that says that it is a credit
-unfoldable pub is_credit : Data → Bool
-is_credit d = is_true (get (name_of field.Credit) d)
-
--- one behind its charging periods; credits are refused when all else was read
-unfoldable pub cdr_totals_at : Data → Read CdrTotals
-cdr_totals_at d = do
+-- one behind its charging periods
+unfoldable pub cdr_totals_in : CdrForm → Data → Read CdrTotals
+cdr_totals_in f d = do
   total_cost ← price_in field.TotalCost d
   total_energy ← quantity_in field.TotalEnergy d
   total_time ← quantity_in field.TotalTime d
   last_updated ← moment_in field.LastUpdated d
-  if is_credit d then Err (WrongForm field.Credit) else Ok (record { total_cost = total_cost; total_energy = total_energy; total_time = total_time; last_updated = last_updated })
+  credit_reference_id ← credit_reference_in f d
+  Ok (record { total_cost = total_cost; total_energy = total_energy; total_time = total_time; last_updated = last_updated; credit_reference_id = credit_reference_id })
 
 -- one behind its location
-unfoldable pub cdr_charges_at : Data → Read CdrCharges
-cdr_charges_at d = do
+unfoldable pub cdr_charges_in : CdrForm → Data → Read CdrCharges
+cdr_charges_in f d = do
   currency ← free_in 3 field.Currency d
   charging_periods ← charging_periods_in d
-  totals ← cdr_totals_at d
+  totals ← cdr_totals_in f d
   Ok (record { currency = currency; charging_periods = charging_periods; totals = totals })
 
-unfoldable pub cdr_at : Data → Read Cdr
-cdr_at d = do
+-- one of that form
+unfoldable pub cdr_in : CdrForm → Data → Read Cdr
+cdr_in f d = do
   head ← cdr_head_at d
   inner ← record_in field.CdrLocation d
   cdr_location ← cdr_location_at inner
-  charges ← cdr_charges_at d
+  charges ← cdr_charges_in f d
   Ok (record {
     party = head.party;
     id = head.id;
@@ -92,11 +80,20 @@ cdr_at d = do
     total_energy = charges.totals.total_energy;
     total_time = charges.totals.total_time;
     last_updated = charges.totals.last_updated;
+    credit_reference_id = charges.totals.credit_reference_id;
   })
+
+-- one that is sent
+abbrev pub cdr_at : Data → Read Cdr
+cdr_at d = cdr_in form.Sent d
+
+-- one that is stored
+abbrev pub stored_cdr_at : Data → Read Cdr
+stored_cdr_at d = cdr_in form.Stored d
 
 -- ---- the form
 
-pub record IsCdr (d : Data) (c : Cdr) : Type 0 where
+pub record IsCdrIn (f : CdrForm) (d : Data) (c : Cdr) : Type 0 where
   pub party : HasParty d c.party
   pub id : Required (IsCi 39) field.Id d c.id
   pub start_date_time : Required IsMoment field.StartDateTime d c.start_date_time
@@ -112,19 +109,26 @@ pub record IsCdr (d : Data) (c : Cdr) : Type 0 where
   pub total_energy : Required IsQuantity field.TotalEnergy d c.total_energy
   pub total_time : Required IsQuantity field.TotalTime d c.total_time
   pub last_updated : Required IsMoment field.LastUpdated d c.last_updated
-  -- it does not say that it is a credit
-  pub no_credit : get (name_of field.Credit) d ≢ Some (boolean true)
+  pub credit : HasCredit f d c.credit_reference_id
 
--- ---- what is written, in the byte order of the names; never a credit
+abbrev pub IsCdr : Data → Cdr → Type 0
+IsCdr d c = IsCdrIn form.Sent d c
 
-unfoldable pub cdr_members : Cdr → List Member
-cdr_members c =
+abbrev pub IsStoredCdr : Data → Cdr → Type 0
+IsStoredCdr d c = IsCdrIn form.Stored d c
+
+-- ---- what is written, in the byte order of the names
+
+unfoldable pub cdr_members_in : CdrForm → Cdr → List Member
+cdr_members_in f c =
     text field.AuthMethod (method_word c.auth_method)
     ∷ optional_text field.AuthorizationReference c.authorization_reference
     ∷ inner field.CdrLocation (cdr_location_members c.cdr_location)
     ∷ inner field.CdrToken (cdr_token_members c.cdr_token)
     ∷ listed field.ChargingPeriods (objects charging_period_members c.charging_periods)
     ∷ text field.CountryCode (country_of c.party)
+    ∷ credit_member f c.credit_reference_id
+    ∷ optional_text field.CreditReferenceId c.credit_reference_id
     ∷ text field.Currency c.currency
     ∷ moment field.EndDateTime c.end_date_time
     ∷ text field.Id c.id
@@ -136,6 +140,12 @@ cdr_members c =
     ∷ e4 field.TotalEnergy c.total_energy
     ∷ e4 field.TotalTime c.total_time
     ∷ []
+
+abbrev pub cdr_members : Cdr → List Member
+cdr_members c = cdr_members_in form.Sent c
+
+abbrev pub stored_cdr_members : Cdr → List Member
+stored_cdr_members c = cdr_members_in form.Stored c
 
 -- what the types of its fields keep
 pub record CdrFits (c : Cdr) : Type 0 where
@@ -154,3 +164,4 @@ pub record CdrFits (c : Cdr) : Type 0 where
   pub total_energy : FitsQuantity c.total_energy
   pub total_time : FitsQuantity c.total_time
   pub last_updated : c.last_updated ≤ last_moment
+  pub credit_reference_id : FitsOption 39 c.credit_reference_id

@@ -1,9 +1,11 @@
+pub mod AnyCommand
 pub mod AuthorizationForms
 pub mod Bodies
 pub mod CdrForms
 pub mod CdrLocationForms
 pub mod ChargingPeriodForms
 pub mod CommandForms
+pub mod CreditForms
 pub mod ReplyForms
 pub mod SeenIds
 pub mod SessionForms

@@ -4,12 +4,9 @@ ghost use Rattle.json_text.specs.Trees.{view};
 ghost use Rattle.json_text.specs.Fault.{Gives};
 ghost use Rattle.ocpi_forms.specs.Bodies.{body_at, body_members, BodyFits};
 
+use crate::any_command::{CommandKind, command_of};
 use crate::authorizations::authorize_of;
-use crate::commands::{cancel_reservation_of, stop_session_of, unlock_connector_of};
-use crate::on_heap::{
-    boxed_authorization_of, boxed_cdr_of, boxed_reserve_now_of, boxed_session_of,
-    boxed_start_session_of, boxed_token_of,
-};
+use crate::on_heap::{boxed_authorization_of, boxed_cdr_of, boxed_session_of, boxed_token_of};
 use crate::records::Record;
 use crate::replies::{ack_of, command_response_of, command_result_of};
 use json_text::{JsonFault, RecordWriter, Tree};
@@ -22,14 +19,20 @@ pub fn body_of(alloc: Global, kind: PacketKind, object: &Tree<'_>) -> Result<Bod
     ensures { Gives result (body_at kind (view object.now)) }
 {
     match kind {
-        PacketKind::StartSession => boxed_start_session_of(alloc, object).map(Body::StartSession),
-        PacketKind::StopSession => stop_session_of(alloc, object).map(Body::StopSession),
-        PacketKind::ReserveNow => boxed_reserve_now_of(alloc, object).map(Body::ReserveNow),
+        PacketKind::StartSession => {
+            command_of(alloc, CommandKind::StartSession, object).map(Body::Command)
+        }
+        PacketKind::StopSession => {
+            command_of(alloc, CommandKind::StopSession, object).map(Body::Command)
+        }
+        PacketKind::ReserveNow => {
+            command_of(alloc, CommandKind::ReserveNow, object).map(Body::Command)
+        }
         PacketKind::CancelReservation => {
-            cancel_reservation_of(alloc, object).map(Body::CancelReservation)
+            command_of(alloc, CommandKind::CancelReservation, object).map(Body::Command)
         }
         PacketKind::UnlockConnector => {
-            unlock_connector_of(alloc, object).map(Body::UnlockConnector)
+            command_of(alloc, CommandKind::UnlockConnector, object).map(Body::Command)
         }
         PacketKind::CommandResponse => command_response_of(object).map(Body::CommandResponse),
         PacketKind::CommandResult => command_result_of(alloc, object).map(Body::CommandResult),
@@ -50,11 +53,7 @@ impl Record for Body {
     #[tactic(auto, unfolding(crate::specs::Bodies::body_members))]
     fn write(&self, out: &mut RecordWriter) -> Result<(), AllocError> {
         match self {
-            Body::StartSession(body) => body.write(out),
-            Body::StopSession(body) => body.write(out),
-            Body::ReserveNow(body) => body.write(out),
-            Body::CancelReservation(body) => body.write(out),
-            Body::UnlockConnector(body) => body.write(out),
+            Body::Command(command) => command.write(out),
             Body::CommandResponse(body) => body.write(out),
             Body::CommandResult(body) => body.write(out),
             Body::PutToken(body) => body.write(out),

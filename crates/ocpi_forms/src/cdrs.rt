@@ -1,20 +1,25 @@
-//! Charge detail records (OCPI 2.2.1, CDRs: CDR object).
+//! Charge detail records (OCPI 2.2.1, CDRs: CDR object), as they are sent and as they are stored in rows.
 
-ghost use Rattle.std.specs.Prelude.{◌≡◌};
+ghost use Rattle.std.specs.Prelude.{◌≡◌, OnOk};
 ghost use Rattle.json_text.specs.Trees.{view};
 ghost use Rattle.ocpi_forms.specs.CdrForms.{
-  is_credit,
   cdr_head_at,
-  cdr_totals_at,
-  cdr_charges_at,
+  cdr_totals_in,
+  cdr_charges_in,
+  cdr_in,
   cdr_at,
+  stored_cdr_at,
+  cdr_members_in,
   cdr_members,
+  stored_cdr_members,
   CdrFits,
 };
 ghost use Rattle.json_text.specs.Fault.{Gives};
+ghost use Rattle.json_text.specs.Members.{said};
 
 use crate::cdr_locations::cdr_location_of;
 use crate::charging_periods::charging_periods_of;
+use crate::credits::{CdrForm, credit_reference_in, write_credit};
 use crate::records::{Record, write_record, write_records};
 use crate::sessions::{cdr_token_of, price_in};
 use json_text::fields::{
@@ -64,17 +69,6 @@ fn cdr_head_of(object: &Tree<'_>) -> Result<CdrHead, JsonFault>
     })
 }
 
-/// Whether it says that it is a credit: its member `credit` is true.
-#[tactic(auto, unfolding(crate::specs::CdrForms::is_credit))]
-fn is_credit(object: &Tree<'_>) -> bool
-    ensures { result ≡ is_credit (view object.now) }
-{
-    match object.get(Field::Credit.name()) {
-        Some(Tree::Truth(credit)) => *credit,
-        _ => false,
-    }
-}
-
 /// A charge detail record behind its charging periods.
 #[derive(Clone, Copy)]
 struct CdrTotals {
@@ -82,25 +76,24 @@ struct CdrTotals {
     total_energy: Quantity,
     total_time: Quantity,
     last_updated: Moment,
+    credit_reference_id: Option<CiText<39>>,
 }
 
-/// The totals of a charge detail record that is no credit. A credit is `WrongForm` of `credit`.
-#[tactic(auto, unfolding(crate::specs::CdrForms::cdr_totals_at))]
-fn cdr_totals_of(object: &Tree<'_>) -> Result<CdrTotals, JsonFault>
-    ensures { result ≡ cdr_totals_at (view object.now) }
+#[tactic(auto, unfolding(crate::specs::CdrForms::cdr_totals_in))]
+fn cdr_totals_in(form: CdrForm, object: &Tree<'_>) -> Result<CdrTotals, JsonFault>
+    ensures { result ≡ cdr_totals_in form (view object.now) }
 {
     let total_cost = price_in(object, Field::TotalCost)?;
     let total_energy = quantity_in(object, Field::TotalEnergy)?;
     let total_time = quantity_in(object, Field::TotalTime)?;
     let last_updated = moment_in(object, Field::LastUpdated)?;
-    if is_credit(object) {
-        return Err(JsonFault::WrongForm(Field::Credit));
-    }
+    let credit_reference_id = credit_reference_in(form, object)?;
     Ok(CdrTotals {
         total_cost,
         total_energy,
         total_time,
         last_updated,
+        credit_reference_id,
     })
 }
 
@@ -112,13 +105,13 @@ struct CdrCharges {
     totals: CdrTotals,
 }
 
-#[tactic(auto, unfolding(crate::specs::CdrForms::cdr_charges_at))]
-fn cdr_charges_of(alloc: Global, object: &Tree<'_>) -> Result<CdrCharges, JsonFault>
-    ensures { Gives result (cdr_charges_at (view object.now)) }
+#[tactic(auto, unfolding(crate::specs::CdrForms::cdr_charges_in))]
+fn cdr_charges_in(alloc: Global, form: CdrForm, object: &Tree<'_>) -> Result<CdrCharges, JsonFault>
+    ensures { Gives result (cdr_charges_in form (view object.now)) }
 {
     let currency = short_in(object, Field::Currency)?;
     let charging_periods = charging_periods_of(alloc, object)?;
-    let totals = cdr_totals_of(object)?;
+    let totals = cdr_totals_in(form, object)?;
     Ok(CdrCharges {
         currency,
         charging_periods,
@@ -126,15 +119,13 @@ fn cdr_charges_of(alloc: Global, object: &Tree<'_>) -> Result<CdrCharges, JsonFa
     })
 }
 
-/// A charge detail record. The first fault is told, in the order of the members of [`Cdr`]; behind them all, one whose
-/// member `credit` is true is `WrongForm` of `credit`. Any other `credit` is read past.
-#[tactic(auto, unfolding(crate::specs::CdrForms::cdr_at))]
-pub fn cdr_of(alloc: Global, object: &Tree<'_>) -> Result<Cdr, JsonFault>
-    ensures { Gives result (cdr_at (view object.now)) }
+#[tactic(auto, unfolding(crate::specs::CdrForms::cdr_in))]
+fn cdr_in(alloc: Global, form: CdrForm, object: &Tree<'_>) -> Result<Cdr, JsonFault>
+    ensures { Gives result (cdr_in form (view object.now)) }
 {
     let head = cdr_head_of(object)?;
     let cdr_location = cdr_location_of(alloc, record_in(object, Field::CdrLocation)?)?;
-    let charges = cdr_charges_of(alloc, object)?;
+    let charges = cdr_charges_in(alloc, form, object)?;
     Ok(Cdr {
         party: head.party,
         id: head.id,
@@ -151,37 +142,70 @@ pub fn cdr_of(alloc: Global, object: &Tree<'_>) -> Result<Cdr, JsonFault>
         total_energy: charges.totals.total_energy,
         total_time: charges.totals.total_time,
         last_updated: charges.totals.last_updated,
+        credit_reference_id: charges.totals.credit_reference_id,
     })
 }
 
+/// A charge detail record that is sent. The first fault is told, in the order of the members of [`Cdr`], with `credit`
+/// before `credit_reference_id`. A `credit` that is absent, null or false is a bill's, and with it whatever stands under
+/// `credit_reference_id` is read past; with a `credit` that is true, `credit_reference_id` is required; any other
+/// `credit` is `WrongForm`.
+pub fn cdr_of(alloc: Global, object: &Tree<'_>) -> Result<Cdr, JsonFault>
+    ensures { Gives result (cdr_at (view object.now)) }
+{
+    cdr_in(alloc, CdrForm::Sent, object)
+}
+
+/// A charge detail record that is stored in its row: as one that is sent, but that its `credit` is required.
+pub fn stored_cdr_of(alloc: Global, object: &Tree<'_>) -> Result<Cdr, JsonFault>
+    ensures { Gives result (stored_cdr_at (view object.now)) }
+{
+    cdr_in(alloc, CdrForm::Stored, object)
+}
+
+#[tactic(auto, unfolding(crate::specs::CdrForms::cdr_members_in))]
+fn write_cdr(cdr: &Cdr, form: CdrForm, out: &mut RecordWriter) -> Result<(), AllocError>
+    ensures tokens { OnOk result (out.new ≡ said out.old (cdr_members_in form cdr.now)) }
+    ensures fits { OnOk result (CdrFits cdr.now) }
+{
+    out.begin()?;
+    out.word(Field::AuthMethod, &cdr.auth_method)?;
+    out.optional_ci(Field::AuthorizationReference, cdr.authorization_reference)?;
+    write_record(out, Field::CdrLocation, &cdr.cdr_location)?;
+    write_record(out, Field::CdrToken, &cdr.cdr_token)?;
+    write_records(out, Field::ChargingPeriods, cdr.charging_periods.as_slice())?;
+    out.country(Field::CountryCode, &cdr.party)?;
+    write_credit(out, form, &cdr.credit_reference_id)?;
+    out.optional_ci(Field::CreditReferenceId, cdr.credit_reference_id)?;
+    out.short(Field::Currency, &cdr.currency)?;
+    out.moment(Field::EndDateTime, cdr.end_date_time)?;
+    out.ci(Field::Id, cdr.id)?;
+    out.moment(Field::LastUpdated, cdr.last_updated)?;
+    out.party_id(Field::PartyId, &cdr.party)?;
+    out.ci(Field::SessionId, cdr.session_id)?;
+    out.moment(Field::StartDateTime, cdr.start_date_time)?;
+    write_record(out, Field::TotalCost, &cdr.total_cost)?;
+    out.quantity(Field::TotalEnergy, cdr.total_energy)?;
+    out.quantity(Field::TotalTime, cdr.total_time)?;
+    out.end()
+}
+
+/// As it is sent: `credit`, which is true, and `credit_reference_id` are members of a credit alone.
 impl Record for Cdr {
     ghost members = { cdr_members };
 
     ghost fits = { CdrFits };
 
-    #[tactic(auto, unfolding(crate::specs::CdrForms::cdr_members))]
     fn write(&self, out: &mut RecordWriter) -> Result<(), AllocError> {
-        out.begin()?;
-        out.word(Field::AuthMethod, &self.auth_method)?;
-        out.optional_ci(Field::AuthorizationReference, self.authorization_reference)?;
-        write_record(out, Field::CdrLocation, &self.cdr_location)?;
-        write_record(out, Field::CdrToken, &self.cdr_token)?;
-        write_records(
-            out,
-            Field::ChargingPeriods,
-            self.charging_periods.as_slice(),
-        )?;
-        out.country(Field::CountryCode, &self.party)?;
-        out.short(Field::Currency, &self.currency)?;
-        out.moment(Field::EndDateTime, self.end_date_time)?;
-        out.ci(Field::Id, self.id)?;
-        out.moment(Field::LastUpdated, self.last_updated)?;
-        out.party_id(Field::PartyId, &self.party)?;
-        out.ci(Field::SessionId, self.session_id)?;
-        out.moment(Field::StartDateTime, self.start_date_time)?;
-        write_record(out, Field::TotalCost, &self.total_cost)?;
-        out.quantity(Field::TotalEnergy, self.total_energy)?;
-        out.quantity(Field::TotalTime, self.total_time)?;
-        out.end()
+        write_cdr(self, CdrForm::Sent, out)
     }
+}
+
+/// Writes a charge detail record as it is stored in its row: `credit` is a member of bills too. An error is want of
+/// memory.
+pub fn write_stored_cdr(cdr: &Cdr, out: &mut RecordWriter) -> Result<(), AllocError>
+    ensures tokens { OnOk result (out.new ≡ said out.old (stored_cdr_members cdr.now)) }
+    ensures fits { OnOk result (CdrFits cdr.now) }
+{
+    write_cdr(cdr, CdrForm::Stored, out)
 }

@@ -3,13 +3,13 @@
 ghost use Rattle.json_text.specs.Trees.{view};
 ghost use Rattle.json_text.specs.Fault.{Gives};
 ghost use Rattle.ocpi_forms.specs.AuthorizationForms.{authorization_at};
-ghost use Rattle.ocpi_forms.specs.CdrForms.{cdr_at};
+ghost use Rattle.ocpi_forms.specs.CdrForms.{cdr_at, stored_cdr_at};
 ghost use Rattle.ocpi_forms.specs.CommandForms.{start_session_at, reserve_now_at};
 ghost use Rattle.ocpi_forms.specs.SessionForms.{session_at};
 ghost use Rattle.ocpi_forms.specs.Tokens.{token_at};
 
 use crate::authorizations::authorization_of;
-use crate::cdrs::cdr_of;
+use crate::cdrs::{cdr_of, stored_cdr_of};
 use crate::commands::{reserve_now_of, start_session_of};
 use crate::records::Record;
 use crate::sessions::session_of;
@@ -91,6 +91,14 @@ pub fn boxed_cdr_of(alloc: Global, object: &Tree<'_>) -> Result<Boxed<Cdr>, Json
     ensures { Gives result (cdr_at (view object.now)) }
 {
     let cdr = cdr_of(alloc, object)?;
+    Ok(Boxed::new(alloc, cdr)?)
+}
+
+/// As `stored_cdr_of`, on the heap.
+pub fn boxed_stored_cdr_of(alloc: Global, object: &Tree<'_>) -> Result<Boxed<Cdr>, JsonFault>
+    ensures { Gives result (stored_cdr_at (view object.now)) }
+{
+    let cdr = stored_cdr_of(alloc, object)?;
     Ok(Boxed::new(alloc, cdr)?)
 }
 

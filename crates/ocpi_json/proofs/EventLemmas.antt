@@ -14,8 +14,8 @@ use Rattle.ocpi_json.specs.declared.events.ChargerWord.{ChargerWord}
 use Rattle.ocpi_json.specs.declared.events.ChargerWord.TheVariants as report
 use Rattle.ocpi_json.specs.declared.events.EventWord.{EventWord}
 use Rattle.ocpi_json.specs.declared.events.EventWord.TheVariants as event
-use Rattle.ocpi_json.specs.declared.events.OrderWord.{OrderWord}
-use Rattle.ocpi_json.specs.declared.events.OrderWord.TheVariants as command
+use Rattle.ocpi_forms.specs.declared.any_command.CommandKind.{CommandKind}
+use Rattle.ocpi_forms.specs.declared.any_command.CommandKind.TheVariants as command
 use Rattle.ocpi_json.specs.declared.events.Report.{Report}
 use Rattle.ocpi_json.specs.EventForms.{event_of_word, order_of_word, word_of_report, word_of_order, word_of_kind, start_order_at, reserve_order_at, unlock_order_at, order_at, submit_at, token_event_at, service_at, swipe_at, meter_at, command_number_at, report_at, charger_at, deliver_at, kind_at, event_at, event_of_line, event_in, HasCommandNumber, IsOrder, IsReport, IsSubmission, IsTokenStored, IsServiceSet, IsReported, IsKind, IsEvent, IsEventLine, SpellsEvent}
 use Rattle.json_text.specs.Fault.{Read, ◌>>=◌}
@@ -34,7 +34,7 @@ found_by h d (Err f) e = tt
 -- ---- orders
 
 -- what is read of a word has the form of that word
-abbrev OfOrder : OrderWord → Data → Order → Type 0
+abbrev OfOrder : CommandKind → Data → Order → Type 0
 OfOrder w d o = IsOrder d o × (word_of_order o ≡ w)
 
 start_order_sound : (d : Data) (o : Order) → start_order_at d ≡ Ok o → OfOrder command.StartSession d o
@@ -92,7 +92,7 @@ unlock_order_sound d o e =
       refl,
     )
 
-order_sound : (w : OrderWord) (d : Data) (o : Order) → order_at w d ≡ Ok o → OfOrder w d o
+order_sound : (w : CommandKind) (d : Data) (o : Order) → order_at w d ≡ Ok o → OfOrder w d o
 unfolding order_at
 order_sound command.StartSession d o e = start_order_sound d o e
 order_sound command.StopSession d o e = let a = bind_ok (ci_in 36 field.SessionId d) _ o e in subst (OfOrder command.StopSession d) (ok_is (order.StopSession a.0) o a.2) ((ci_exact 36 field.SessionId).sound d a.0 a.1, refl)

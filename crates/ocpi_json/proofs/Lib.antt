@@ -1,4 +1,5 @@
 pub mod EventLemmas
+pub mod Layouts
 pub mod NodeEventLemmas
 pub mod PacketLemmas
 pub mod ReadKeys

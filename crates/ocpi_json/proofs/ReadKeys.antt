@@ -15,10 +15,12 @@ use Rattle.ocpi_types.specs.declared.rows.Row.{Row}
 use Rattle.ocpi_types.specs.declared.rows.Row.TheVariants as row
 use Rattle.json_text.specs.Fits.{FitsCi}
 use Rattle.json_text.specs.Form.{Required, IsCi, HasParty}
-use Rattle.ocpi_json.specs.RowForms.{IsRowText, OwnKeyFits, ReadKeysFit}
+use Rattle.ocpi_json.specs.RowForms.{IsRowText, OwnKeyFits, ReadKeysFit, SpellsRow, row_in, row_in_1}
 use Rattle.ocpi_json.specs.RowKeys.{IsCiKey, IsPartyKey, KeyFits}
+use Rattle.ocpi_json.specs.declared.rows.RowLayout.{RowLayout}
+use Rattle.ocpi_json.specs.declared.rows.RowLayout.TheVariants as layout
 use Rattle.ocpi_json.proofs.RowKeyLemmas.{ci_fits}
-use Rattle.ocpi_json.proofs.RowLemmas.{row_found}
+use Rattle.ocpi_json.proofs.RowLemmas.{row_found, row_found_1}
 
 abbrev taken_text : List ℕ → Result (List ℕ) TextFault
 taken_text s = Ok s
@@ -52,20 +54,27 @@ id_fits max f d s h =
 
 -- ---- the key of each kind of row
 
-key_fits : (d : Data) (r : Row) → OwnKeyFits r → IsRowText d r → KeyFits (key_of r)
-key_fits d (row.Count counter last) fits form = tt
-key_fits d (row.Reply sender number reply) fits form = fits
-key_fits d (row.Token t) fits form = (party_fits d t.party form.party, id_fits 36 _ d t.uid form.uid)
-key_fits d (row.Push number to push) fits form = fits
-key_fits d (row.Service evse_uid) fits form = fits
-key_fits d (row.Spent provider reference) fits form = fits
-key_fits d (row.Mark provider reservation_id number) fits form = fits
-key_fits d (row.Reservation provider reservation_id r) fits form = fits
-key_fits d (row.Pending provider number o) fits form = fits
-key_fits d (row.Result provider number result) fits form = fits
-key_fits d (row.Session s) fits form = (party_fits d s.party form.party, id_fits 36 _ d s.id form.id)
-key_fits d (row.Cdr c) fits form = (party_fits d c.party form.party, id_fits 39 _ d c.id form.id)
-key_fits d (row.Command number s) fits form = fits
+key_fits : (l : RowLayout) (d : Data) (r : Row) → OwnKeyFits r → IsRowText l d r → KeyFits (key_of r)
+key_fits l d (row.Count counter last) fits form = tt
+key_fits l d (row.Reply sender number reply) fits form = fits
+key_fits l d (row.Token t) fits form = (party_fits d t.party form.party, id_fits 36 _ d t.uid form.uid)
+key_fits l d (row.Push number to push) fits form = fits
+key_fits l d (row.Service evse_uid) fits form = fits
+key_fits l d (row.Spent provider reference) fits form = fits
+key_fits l d (row.Mark provider reservation_id number) fits form = fits
+key_fits l d (row.Reservation provider reservation_id r) fits form = fits
+key_fits l d (row.Pending provider number o) fits form = fits
+key_fits l d (row.Result provider number result) fits form = fits
+key_fits l d (row.Session s) fits form = (party_fits d s.party form.party, id_fits 36 _ d s.id form.id)
+key_fits layout.One d (row.Cdr c) fits form = (party_fits d c.party form.party, id_fits 39 _ d c.id form.id)
+key_fits layout.Two d (row.Cdr c) fits form = (party_fits d c.party form.party, id_fits 39 _ d c.id form.id)
+key_fits l d (row.Command number s) fits form = fits
 
-pub read_keys_fit : ReadKeysFit
-read_keys_fit word name text r e = let h = row_found word name text r e in key_fits h.tree r h.fits h.form.form
+spelled_fits : (l : RowLayout) (word name text : List ℕ) (r : Row) → SpellsRow l word name text r → KeyFits (key_of r)
+spelled_fits l word name text r h = key_fits l h.tree r h.fits h.form.form
+
+pub read_keys_fit : ReadKeysFit row_in
+read_keys_fit word name text r e = spelled_fits layout.Two word name text r (row_found word name text r e)
+
+pub read_keys_fit_1 : ReadKeysFit row_in_1
+read_keys_fit_1 word name text r e = spelled_fits layout.One word name text r (row_found_1 word name text r e)

@@ -6,15 +6,15 @@ use Rattle.serde_json.specs.Data.{Data}
 use Rattle.ocpi_text.specs.Party.{party_at}
 use Rattle.ocpi_types.specs.Fields.{name_of}
 use Rattle.ocpi_types.specs.Kinds.{kind_of}
-use Rattle.ocpi_types.specs.Stored.{body_of_command, body_of_reply, body_of_push}
+use Rattle.ocpi_types.specs.Stored.{body_of_reply, body_of_push}
 use Rattle.ocpi_types.specs.Words.{kind_word, result_of, result_word}
 use Rattle.ocpi_types.specs.declared.field.Field.{Field}
 use Rattle.ocpi_types.specs.declared.field.Field.TheVariants as field
 use Rattle.ocpi_types.specs.declared.packet.Body.{Body}
 use Rattle.ocpi_types.specs.declared.packet.Body.TheVariants as body
 use Rattle.ocpi_types.specs.declared.replies.CommandResponse.{CommandResponse}
-use Rattle.ocpi_types.specs.declared.stored.Command.{Command}
-use Rattle.ocpi_types.specs.declared.stored.Command.TheVariants as command
+use Rattle.ocpi_types.specs.declared.commands.Command.{Command}
+use Rattle.ocpi_types.specs.declared.commands.Command.TheVariants as command
 use Rattle.ocpi_types.specs.declared.stored.OpenCommand.{OpenCommand}
 use Rattle.ocpi_types.specs.declared.stored.Push.{Push}
 use Rattle.ocpi_types.specs.declared.stored.Push.TheVariants as push
@@ -26,17 +26,15 @@ use Rattle.json_text.specs.Fault.{Read}
 use Rattle.json_text.specs.Fields.{ci_in, known_in, moment_in, optional, party_in, record_in, word_in}
 use Rattle.json_text.specs.Form.{Required, Optional, IsCi, IsMoment, IsParty, IsRecord, IsWord}
 use Rattle.json_text.specs.Members.{Member, object_of}
+use Rattle.ocpi_forms.specs.AnyCommand.{command_at, command_kind}
 use Rattle.ocpi_forms.specs.AuthorizationForms.{authorization_at}
 use Rattle.ocpi_forms.specs.Bodies.{IsBody, body_members, BodyFits}
 use Rattle.ocpi_forms.specs.CdrForms.{cdr_at}
-use Rattle.ocpi_forms.specs.CommandForms.{start_session_at, stop_session_at, reserve_now_at, cancel_reservation_at, unlock_connector_at}
 use Rattle.ocpi_forms.specs.ReplyForms.{command_response_at, command_result_at, ack_at, IsCommandResponse, command_response_members, CommandResponseFits}
 use Rattle.ocpi_forms.specs.SessionForms.{session_at}
 use Rattle.ocpi_forms.specs.Tokens.{token_at, token_members, IsToken}
 use Rattle.ocpi_json.specs.EventForms.{order_of_word}
-use Rattle.ocpi_json.specs.StoredForms.{reply_of_word, push_of_word, word_of_command, word_of_reply, word_of_push, carried_at, command_at, reply_at, push_at, reservation_at, open_parts_at, open_command_at, answer_in, sent_parts_at, sent_command_at, Carries, CarriesCommand, CarriesReply, CarriesPush, IsReservation, IsOpenCommand, IsSentCommand, reply_members, push_members, reservation_members, open_command_members, sent_command_members, ReservationFits, OpenCommandFits, SentCommandFits}
-use Rattle.ocpi_json.specs.declared.events.OrderWord.{OrderWord}
-use Rattle.ocpi_json.specs.declared.events.OrderWord.TheVariants as order
+use Rattle.ocpi_json.specs.StoredForms.{reply_of_word, push_of_word, word_of_reply, word_of_push, carried_at, reply_at, push_at, reservation_at, open_parts_at, open_command_at, answer_in, sent_parts_at, sent_command_at, Carries, CarriesCommand, CarriesReply, CarriesPush, IsReservation, IsOpenCommand, IsSentCommand, reply_members, push_members, reservation_members, open_command_members, sent_command_members, ReservationFits, OpenCommandFits, SentCommandFits}
 use Rattle.ocpi_json.specs.declared.stored.OpenParts.{OpenParts}
 use Rattle.ocpi_json.specs.declared.stored.PushWord.{PushWord}
 use Rattle.ocpi_json.specs.declared.stored.PushWord.TheVariants as pushed
@@ -47,41 +45,16 @@ use Rattle.json_text.proofs.Exact.{Exact, ok_is, bind_ok, both_steps, ci_exact, 
 use Rattle.json_text.proofs.MemberForms.{Stands, tree, ci_form, inner_form, moment_form, optional_ci_form, optional_inner_form, optional_word_form, party_begins, party_form, word_form}
 use Rattle.json_text.proofs.Tagged.{ascends}
 use Rattle.json_text.proofs.WellFormed.{◌and◌, IsWell, ci_well, moment_well, optional_ci_well, optional_inner_well, optional_word_well, record_well, text_well}
+use Rattle.ocpi_forms.proofs.AnyCommandLemmas.{command_exact}
 use Rattle.ocpi_forms.proofs.AuthorizationLemmas.{authorization_exact}
 use Rattle.ocpi_forms.proofs.BodyLemmas.{body_form, body_well}
 use Rattle.ocpi_forms.proofs.CdrLemmas.{cdr_exact}
-use Rattle.ocpi_forms.proofs.CommandLemmas.{start_session_exact, stop_session_exact, reserve_now_exact, cancel_reservation_exact, unlock_connector_exact}
 use Rattle.ocpi_forms.proofs.ReplyLemmas.{command_response_exact, command_result_exact, ack_exact, command_response_form, result_again, result_begins}
 use Rattle.ocpi_forms.proofs.SessionLemmas.{session_exact}
 use Rattle.ocpi_forms.proofs.TokenLemmas.{token_exact, token_form, token_well}
 use Rattle.ocpi_json.proofs.PacketLemmas.{kind_begins}
 
 -- ---- what is read of a kind has the form of that kind
-
-abbrev OfCommand : OrderWord → Data → Command → Type 0
-OfCommand k d c = IsBody d (body_of_command c) × (word_of_command c ≡ k)
-
-command_sound : (k : OrderWord) (d : Data) (c : Command) → command_at k d ≡ Ok c → OfCommand k d c
-unfolding command_at
-command_sound order.StartSession d c e = let a = bind_ok (start_session_at d) _ c e in subst (OfCommand order.StartSession d) (ok_is (command.StartSession a.0) c a.2) (start_session_exact.sound d a.0 a.1, refl)
-command_sound order.StopSession d c e = let a = bind_ok (stop_session_at d) _ c e in subst (OfCommand order.StopSession d) (ok_is (command.StopSession a.0) c a.2) (stop_session_exact.sound d a.0 a.1, refl)
-command_sound order.ReserveNow d c e = let a = bind_ok (reserve_now_at d) _ c e in subst (OfCommand order.ReserveNow d) (ok_is (command.ReserveNow a.0) c a.2) (reserve_now_exact.sound d a.0 a.1, refl)
-command_sound order.CancelReservation d c e = let a = bind_ok (cancel_reservation_at d) _ c e in subst (OfCommand order.CancelReservation d) (ok_is (command.CancelReservation a.0) c a.2) (cancel_reservation_exact.sound d a.0 a.1, refl)
-command_sound order.UnlockConnector d c e = let a = bind_ok (unlock_connector_at d) _ c e in subst (OfCommand order.UnlockConnector d) (ok_is (command.UnlockConnector a.0) c a.2) (unlock_connector_exact.sound d a.0 a.1, refl)
-
-command_complete : (d : Data) (c : Command) → IsBody d (body_of_command c) → command_at (word_of_command c) d ≡ Ok c
-unfolding command_at
-command_complete d (command.StartSession c) p = rw (start_session_exact.complete d c p) refl
-command_complete d (command.StopSession c) p = rw (stop_session_exact.complete d c p) refl
-command_complete d (command.ReserveNow c) p = rw (reserve_now_exact.complete d c p) refl
-command_complete d (command.CancelReservation c) p = rw (cancel_reservation_exact.complete d c p) refl
-command_complete d (command.UnlockConnector c) p = rw (unlock_connector_exact.complete d c p) refl
-
-command_exact : (k : OrderWord) → Exact (command_at k) (OfCommand k)
-command_exact k = record {
-  sound = command_sound k;
-  complete = λ d c p. ap (λ l. command_at l d) (sym p.1) ∙ command_complete d c p.0;
-}
 
 abbrev OfReply : ReplyWord → Data → Reply → Type 0
 OfReply k d r = IsBody d (body_of_reply r) × (word_of_reply r ≡ k)
@@ -149,7 +122,7 @@ carried_exact words word body reader exact = record {
 }
 
 pub carried_command_exact : Exact (carried_at order_of_word command_at) CarriesCommand
-carried_command_exact = carried_exact order_of_word word_of_command body_of_command command_at command_exact
+carried_command_exact = carried_exact order_of_word command_kind (λ c. body.Command c) command_at command_exact
 
 pub carried_reply_exact : Exact (carried_at reply_of_word reply_at) CarriesReply
 carried_reply_exact = carried_exact reply_of_word word_of_reply body_of_reply reply_at reply_exact
@@ -281,7 +254,7 @@ sent_command_exact = record {
 
 -- ---- what is written: a body beside its kind
 
-command_word_again : (c : Command) → order_of_word (kind_word (kind_of (body_of_command c))) ≡ Some (word_of_command c)
+command_word_again : (c : Command) → order_of_word (kind_word (kind_of (body.Command c))) ≡ Some (command_kind c)
 command_word_again (command.StartSession c) = refl
 command_word_again (command.StopSession c) = refl
 command_word_again (command.ReserveNow c) = refl
@@ -383,7 +356,7 @@ open_command_form o fits =
     let ms = open_command_members o in
     let up = open_command_ascends o in
     record {
-      command = carried_form order_of_word word_of_command body_of_command o.command ms (record { up = up; here = refl }) (record { up = up; here = refl }) (command_word_again o.command) fits.command;
+      command = carried_form order_of_word command_kind (λ c. body.Command c) o.command ms (record { up = up; here = refl }) (record { up = up; here = refl }) (command_word_again o.command) fits.command;
       connector_id = optional_ci_form 36 field.ConnectorId o.connector_id ms (record { up = up; here = refl }) fits.connector_id;
       deadline = moment_form field.Deadline o.deadline ms (record { up = up; here = refl }) fits.deadline;
       evse_uid = optional_ci_form 36 field.EvseUid o.evse_uid ms (record { up = up; here = refl }) fits.evse_uid;
@@ -392,11 +365,11 @@ open_command_form o fits =
 pub open_command_well : (o : OpenCommand) → OpenCommandFits o → IsWell 6 (object_of (open_command_members o))
 unfolding open_command_members
 open_command_well o fits = record_well 5 (open_command_members o) (open_command_ascends o) (
-    body_well (body_of_command o.command) fits.command
+    body_well (body.Command o.command) fits.command
     and optional_ci_well 5 36 o.connector_id fits.connector_id
     and moment_well 5 o.deadline fits.deadline
     and optional_ci_well 5 36 o.evse_uid fits.evse_uid
-    and text_well 5 _ (kind_begins (kind_of (body_of_command o.command)))
+    and text_well 5 _ (kind_begins (kind_of (body.Command o.command)))
     and tt)
 
 sent_command_ascends : (s : SentCommand) → ascends (sent_command_members s) ≡ true
@@ -413,7 +386,7 @@ sent_command_form s fits =
     let up = sent_command_ascends s in
     record {
       answer = optional_inner_form IsCommandResponse command_response_members field.Answer s.answer ms (record { up = up; here = refl }) (λ r e. command_response_form r (answer_fits s fits r e));
-      command = carried_form order_of_word word_of_command body_of_command s.command ms (record { up = up; here = refl }) (record { up = up; here = refl }) (command_word_again s.command) fits.command;
+      command = carried_form order_of_word command_kind (λ c. body.Command c) s.command ms (record { up = up; here = refl }) (record { up = up; here = refl }) (command_word_again s.command) fits.command;
       result = optional_word_form result_of result_word field.Result s.result ms (record { up = up; here = refl }) result_begins result_again;
       to = party_form field.To s.to ms (record { up = up; here = refl }) fits.to;
     }
@@ -426,8 +399,8 @@ pub sent_command_well : (s : SentCommand) → SentCommandFits s → IsWell 6 (ob
 unfolding sent_command_members
 sent_command_well s fits = record_well 5 (sent_command_members s) (sent_command_ascends s) (
     optional_inner_well 5 command_response_members s.answer (λ r e. answer_well r (answer_fits s fits r e))
-    and body_well (body_of_command s.command) fits.command
-    and text_well 5 _ (kind_begins (kind_of (body_of_command s.command)))
+    and body_well (body.Command s.command) fits.command
+    and text_well 5 _ (kind_begins (kind_of (body.Command s.command)))
     and optional_word_well 5 result_word s.result result_begins
     and text_well 5 _ (party_begins s.to fits.to)
     and tt)

@@ -21,8 +21,8 @@ use Rattle.ocpi_json.specs.declared.events.ChargerWord.TheVariants as report
 use Rattle.ocpi_json.specs.declared.events.CommandNumber.{CommandNumber}
 use Rattle.ocpi_json.specs.declared.events.EventWord.{EventWord}
 use Rattle.ocpi_json.specs.declared.events.EventWord.TheVariants as event
-use Rattle.ocpi_json.specs.declared.events.OrderWord.{OrderWord}
-use Rattle.ocpi_json.specs.declared.events.OrderWord.TheVariants as command
+use Rattle.ocpi_forms.specs.declared.any_command.CommandKind.{CommandKind}
+use Rattle.ocpi_forms.specs.declared.any_command.CommandKind.TheVariants as command
 use Rattle.ocpi_json.specs.declared.events.Report.{Report}
 use Rattle.ocpi_json.specs.declared.events.ServiceSet.{ServiceSet}
 use Rattle.ocpi_json.specs.declared.events.Submission.{Submission}
@@ -53,7 +53,7 @@ event_of_word s =
     else if bytes_eq s (codes "restart") then Some event.Restart
     else if bytes_eq s (codes "refused") then Some event.Refused else None
 
-abbrev pub order_of_word : List ℕ → Option OrderWord
+abbrev pub order_of_word : List ℕ → Option CommandKind
 order_of_word s =
     if bytes_eq s (codes "start_session") then Some command.StartSession
     else if bytes_eq s (codes "stop_session") then Some command.StopSession
@@ -71,7 +71,7 @@ word_of_report (charger.Meter evse_uid kwh) = report.Meter
 word_of_report (charger.Stops evse_uid) = report.Stops
 word_of_report (charger.Fault evse_uid) = report.Fault
 
-abbrev pub word_of_order : Order → OrderWord
+abbrev pub word_of_order : Order → CommandKind
 word_of_order (order.StartSession token_uid token_type location_id evse_uid connector_id) = command.StartSession
 word_of_order (order.StopSession session_id) = command.StopSession
 word_of_order (order.ReserveNow token_uid token_type expiry_date reservation_id location_id evse_uid) = command.ReserveNow
@@ -117,7 +117,7 @@ unlock_order_at d = do
   Ok (order.UnlockConnector location_id evse_uid connector_id)
 
 -- what is ordered by that word
-unfoldable pub order_at : OrderWord → Data → Read Order
+unfoldable pub order_at : CommandKind → Data → Read Order
 order_at command.StartSession d = start_order_at d
 order_at command.StopSession d = ci_in 36 field.SessionId d >>= λ id. Ok (order.StopSession id)
 order_at command.ReserveNow d = reserve_order_at d

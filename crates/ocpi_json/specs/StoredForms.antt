@@ -6,14 +6,14 @@ use Rattle.serde_json.specs.Data.{Data}
 use Rattle.ocpi_text.specs.Moment.{last_moment}
 use Rattle.ocpi_text.specs.Party.{party_at}
 use Rattle.ocpi_types.specs.Kinds.{kind_of}
-use Rattle.ocpi_types.specs.Stored.{body_of_command, body_of_reply, body_of_push}
+use Rattle.ocpi_types.specs.Stored.{body_of_reply, body_of_push}
 use Rattle.ocpi_types.specs.Words.{kind_word, result_of, result_word}
 use Rattle.ocpi_types.specs.declared.field.Field.{Field}
 use Rattle.ocpi_types.specs.declared.field.Field.TheVariants as field
 use Rattle.ocpi_types.specs.declared.packet.Body.{Body}
+use Rattle.ocpi_types.specs.declared.packet.Body.TheVariants as body
 use Rattle.ocpi_types.specs.declared.replies.CommandResponse.{CommandResponse}
-use Rattle.ocpi_types.specs.declared.stored.Command.{Command}
-use Rattle.ocpi_types.specs.declared.stored.Command.TheVariants as command
+use Rattle.ocpi_types.specs.declared.commands.Command.{Command}
 use Rattle.ocpi_types.specs.declared.stored.OpenCommand.{OpenCommand}
 use Rattle.ocpi_types.specs.declared.stored.Push.{Push}
 use Rattle.ocpi_types.specs.declared.stored.Push.TheVariants as push
@@ -26,16 +26,14 @@ use Rattle.json_text.specs.Fields.{ci_in, known_in, moment_in, optional, party_i
 use Rattle.json_text.specs.Fits.{FitsCi, FitsOption}
 use Rattle.json_text.specs.Form.{Required, Optional, IsCi, IsMoment, IsParty, IsRecord, IsWord}
 use Rattle.json_text.specs.Members.{Member, text, optional_text, moment, inner, optional_inner}
+use Rattle.ocpi_forms.specs.AnyCommand.{command_at, command_kind}
 use Rattle.ocpi_forms.specs.AuthorizationForms.{authorization_at}
 use Rattle.ocpi_forms.specs.Bodies.{IsBody, body_members, BodyFits}
 use Rattle.ocpi_forms.specs.CdrForms.{cdr_at}
-use Rattle.ocpi_forms.specs.CommandForms.{start_session_at, stop_session_at, reserve_now_at, cancel_reservation_at, unlock_connector_at}
 use Rattle.ocpi_forms.specs.ReplyForms.{command_response_at, command_result_at, ack_at, IsCommandResponse, command_response_members, CommandResponseFits}
 use Rattle.ocpi_forms.specs.SessionForms.{session_at}
 use Rattle.ocpi_forms.specs.Tokens.{token_at, IsToken, token_members, TokenFits}
 use Rattle.ocpi_json.specs.EventForms.{order_of_word}
-use Rattle.ocpi_json.specs.declared.events.OrderWord.{OrderWord}
-use Rattle.ocpi_json.specs.declared.events.OrderWord.TheVariants as order
 use Rattle.ocpi_json.specs.declared.stored.OpenParts.{OpenParts}
 use Rattle.ocpi_json.specs.declared.stored.PushWord.{PushWord}
 use Rattle.ocpi_json.specs.declared.stored.PushWord.TheVariants as pushed
@@ -58,13 +56,6 @@ push_of_word s =
     else if bytes_eq s (codes "put_session") then Some pushed.PutSession
     else if bytes_eq s (codes "post_cdr") then Some pushed.PostCdr else None
 
-abbrev pub word_of_command : Command → OrderWord
-word_of_command (command.StartSession c) = order.StartSession
-word_of_command (command.StopSession c) = order.StopSession
-word_of_command (command.ReserveNow c) = order.ReserveNow
-word_of_command (command.CancelReservation c) = order.CancelReservation
-word_of_command (command.UnlockConnector c) = order.UnlockConnector
-
 abbrev pub word_of_reply : Reply → ReplyWord
 word_of_reply (reply.CommandResponse r) = answer.CommandResponse
 word_of_reply (reply.Authorization r) = answer.Authorization
@@ -84,13 +75,6 @@ carried_at words reader d = do
   kind ← known_in words field.Kind d
   object ← record_in field.Body d
   reader kind object
-
-unfoldable pub command_at : OrderWord → Data → Read Command
-command_at order.StartSession d = start_session_at d >>= λ c. Ok (command.StartSession c)
-command_at order.StopSession d = stop_session_at d >>= λ c. Ok (command.StopSession c)
-command_at order.ReserveNow d = reserve_now_at d >>= λ c. Ok (command.ReserveNow c)
-command_at order.CancelReservation d = cancel_reservation_at d >>= λ c. Ok (command.CancelReservation c)
-command_at order.UnlockConnector d = unlock_connector_at d >>= λ c. Ok (command.UnlockConnector c)
 
 unfoldable pub reply_at : ReplyWord → Data → Read Reply
 reply_at answer.CommandResponse d = command_response_at d >>= λ r. Ok (reply.CommandResponse r)
@@ -151,7 +135,7 @@ pub record Carries {K X : Type 0} (words : List ℕ → Option K) (word : X → 
   pub carried : Required (IsRecord (λ v y. IsBody v (body y))) field.Body d x
 
 abbrev pub CarriesCommand : Data → Command → Type 0
-CarriesCommand = Carries order_of_word word_of_command body_of_command
+CarriesCommand = Carries order_of_word command_kind (λ c. body.Command c)
 
 abbrev pub CarriesReply : Data → Reply → Type 0
 CarriesReply = Carries reply_of_word word_of_reply body_of_reply
@@ -208,18 +192,18 @@ reservation_members r =
 
 unfoldable pub open_command_members : OpenCommand → List Member
 open_command_members o =
-    body_member (body_of_command o.command)
+    body_member (body.Command o.command)
     ∷ optional_text field.ConnectorId o.connector_id
     ∷ moment field.Deadline o.deadline
     ∷ optional_text field.EvseUid o.evse_uid
-    ∷ kind_member (body_of_command o.command)
+    ∷ kind_member (body.Command o.command)
     ∷ []
 
 unfoldable pub sent_command_members : SentCommand → List Member
 sent_command_members s =
     optional_inner field.Answer (option_map command_response_members s.answer)
-    ∷ body_member (body_of_command s.command)
-    ∷ kind_member (body_of_command s.command)
+    ∷ body_member (body.Command s.command)
+    ∷ kind_member (body.Command s.command)
     ∷ optional_text field.Result (option_map result_word s.result)
     ∷ text field.To s.to
     ∷ []
@@ -233,12 +217,12 @@ pub record ReservationFits (r : Reservation) : Type 0 where
   pub token : TokenFits r.token
 
 pub record OpenCommandFits (o : OpenCommand) : Type 0 where
-  pub command : BodyFits (body_of_command o.command)
+  pub command : BodyFits (body.Command o.command)
   pub connector_id : FitsOption 36 o.connector_id
   pub deadline : o.deadline ≤ last_moment
   pub evse_uid : FitsOption 36 o.evse_uid
 
 pub record SentCommandFits (s : SentCommand) : Type 0 where
   pub answer : IfSome s.answer CommandResponseFits
-  pub command : BodyFits (body_of_command s.command)
+  pub command : BodyFits (body.Command s.command)
   pub to : party_at s.to ≡ Ok s.to

@@ -31,7 +31,7 @@ use json_text::fields::{
     truth_in, whole_in, word_in,
 };
 use json_text::{JsonFault, Tree};
-use ocpi_forms::token_of;
+use ocpi_forms::{CommandKind, token_of};
 use ocpi_text::{CiText, Moment, Party, Whole};
 use ocpi_types::{ChargerEvent, Event, EventKind, Field, Order, Token};
 
@@ -59,16 +59,6 @@ pub enum EventWord {
     Tick,
     Restart,
     Refused,
-}
-
-/// What is ordered, by the word of the member `order`.
-#[derive(Clone, Copy)]
-pub enum OrderWord {
-    StartSession,
-    StopSession,
-    ReserveNow,
-    CancelReservation,
-    UnlockConnector,
 }
 
 /// A command, by its provider and the number that the provider gave it.
@@ -131,16 +121,16 @@ fn event_word(word: &str) -> Option<EventWord>
     }
 }
 
-/// The order that a word names, if there is one.
-pub fn order_word(word: &str) -> Option<OrderWord>
+/// The command that a word names, if there is one.
+pub fn order_word(word: &str) -> Option<CommandKind>
     ensures { result ≡ order_of_word word.now }
 {
     match word {
-        "start_session" => Some(OrderWord::StartSession),
-        "stop_session" => Some(OrderWord::StopSession),
-        "reserve_now" => Some(OrderWord::ReserveNow),
-        "cancel_reservation" => Some(OrderWord::CancelReservation),
-        "unlock_connector" => Some(OrderWord::UnlockConnector),
+        "start_session" => Some(CommandKind::StartSession),
+        "stop_session" => Some(CommandKind::StopSession),
+        "reserve_now" => Some(CommandKind::ReserveNow),
+        "cancel_reservation" => Some(CommandKind::CancelReservation),
+        "unlock_connector" => Some(CommandKind::UnlockConnector),
         _ => None,
     }
 }
@@ -158,7 +148,7 @@ pub fn event_word_of(object: &Tree<'_>) -> Result<EventWord, JsonFault>
 
 /// The word of the order. One that names none is `UnknownKind`.
 #[tactic(auto, unfolding(json_text::specs::Fields::known_in))]
-fn order_word_of(object: &Tree<'_>) -> Result<OrderWord, JsonFault>
+fn order_word_of(object: &Tree<'_>) -> Result<CommandKind, JsonFault>
     ensures { result ≡ known_in order_of_word field.Order (view object.now) }
 {
     match order_word(text_in(object, Field::Order)?) {
@@ -221,21 +211,21 @@ fn unlock_order_of(object: &Tree<'_>) -> Result<Order, JsonFault>
 
 /// What is ordered by that word.
 #[tactic(auto, unfolding(crate::specs::EventForms::order_at))]
-fn order_of(word: OrderWord, object: &Tree<'_>) -> Result<Order, JsonFault>
+fn order_of(word: CommandKind, object: &Tree<'_>) -> Result<Order, JsonFault>
     ensures { result ≡ order_at word (view object.now) }
 {
     match word {
-        OrderWord::StartSession => start_order_of(object),
-        OrderWord::StopSession => {
+        CommandKind::StartSession => start_order_of(object),
+        CommandKind::StopSession => {
             let session_id = ci_in(object, Field::SessionId)?;
             Ok(Order::StopSession { session_id })
         }
-        OrderWord::ReserveNow => reserve_order_of(object),
-        OrderWord::CancelReservation => {
+        CommandKind::ReserveNow => reserve_order_of(object),
+        CommandKind::CancelReservation => {
             let reservation_id = ci_in(object, Field::ReservationId)?;
             Ok(Order::CancelReservation { reservation_id })
         }
-        OrderWord::UnlockConnector => unlock_order_of(object),
+        CommandKind::UnlockConnector => unlock_order_of(object),
     }
 }
 

@@ -30,7 +30,10 @@ pub use json_text::{
     quoted_numbers_are_json_numbers, quoting_goes_by_pieces, the_last_of_a_repeated_name_counts,
     unquote_numbers, unquoting_undoes_quoting,
 };
-pub use reading::{read_event, read_node_event, read_packet, read_row, read_setup, read_site};
-pub use row_keys::{read_keys_fit, row_keys_are_apart, write_key};
+pub use reading::{
+    other_rows_are_alike, read_event, read_node_event, read_packet, read_row, read_row_1,
+    read_setup, read_site,
+};
+pub use row_keys::{read_keys_fit, read_keys_fit_1, row_keys_are_apart, write_key};
 pub use row_kinds::RowKind;
 pub use writing::{write_packet, write_row};

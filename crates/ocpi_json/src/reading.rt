@@ -7,9 +7,16 @@ ghost use Rattle.ocpi_json.specs.EventForms.{SpellsEvent, event_in};
 ghost use Rattle.json_text.specs.Fault.{Gives};
 ghost use Rattle.ocpi_json.specs.NodeEventForms.{SpellsNodeEvent, node_event_in};
 ghost use Rattle.ocpi_json.specs.Packets.{SpellsPacket, packet_in};
-ghost use Rattle.ocpi_json.specs.RowForms.{SpellsRow, row_in};
+ghost use Rattle.ocpi_json.specs.RowForms.{
+  OthersAreAlike,
+  SpellsRow,
+  row_in,
+  row_in_1,
+  row_laid_out,
+};
 ghost use Rattle.ocpi_json.specs.SetupForms.{SpellsSetup, setup_in};
 ghost use Rattle.ocpi_json.specs.SiteLines.{SpellsSiteLine, site_in};
+ghost use Rattle.ocpi_json.specs.declared.rows.RowLayout.TheVariants as layout;
 ghost use Rattle.ocpi_types.specs.declared.events.Event.{Event};
 ghost use Rattle.ocpi_types.specs.declared.node_events.NodeEvent.{NodeEvent};
 ghost use Rattle.ocpi_types.specs.declared.packet.Packet.{Packet};
@@ -21,7 +28,7 @@ use crate::events::event_of_line;
 use crate::node_events::node_event_of_line;
 use crate::packets::packet_of_line;
 use crate::row_kinds::RowKind;
-use crate::rows::row_of_text;
+use crate::rows::{RowLayout, row_of_text};
 use crate::setups::setup_of_line;
 use json_text::{JsonFault, Scratch, line_tree, text_tree};
 use ocpi_forms::site_of_line;
@@ -171,6 +178,24 @@ pub fn read_node_event(
     node_event_in(alloc, scratch, line)
 }
 
+#[tactic(auto, unfolding(crate::specs::RowForms::row_laid_out))]
+fn row_laid_out(
+    alloc: Global,
+    scratch: &mut Scratch,
+    layout: RowLayout,
+    kind: &str,
+    key: &str,
+    text: &[u8],
+) -> Result<Row, JsonFault>
+    ensures { Gives result (row_laid_out layout kind.now key.now text.now) }
+{
+    let Some(kind) = RowKind::of_word(kind) else {
+        return Err(JsonFault::UnknownKind);
+    };
+    let tree = text_tree(alloc, scratch, text)?;
+    row_of_text(alloc, layout, kind, key, &tree)
+}
+
 #[tactic(auto, unfolding(crate::specs::RowForms::row_in))]
 fn row_in(
     alloc: Global,
@@ -181,14 +206,11 @@ fn row_in(
 ) -> Result<Row, JsonFault>
     ensures { Gives result (row_in kind.now key.now text.now) }
 {
-    let Some(kind) = RowKind::of_word(kind) else {
-        return Err(JsonFault::UnknownKind);
-    };
-    let tree = text_tree(alloc, scratch, text)?;
-    row_of_text(alloc, kind, key, &tree)
+    row_laid_out(alloc, scratch, RowLayout::Two, kind, key, text)
 }
 
-/// The row that is stored under that kind and key with that text, of any length. `scratch` as for [`read_packet`].
+/// The row that is stored in layout 2 under that kind and key with that text, of any length. `scratch` as for
+/// [`read_packet`].
 ///
 /// Refused, in this order: a kind of row that is not known (`UnknownKind`); the text as [`read_packet`] refuses, but
 /// for its length, with the members of its kind in the order in which they are listed here; a key that is not of its
@@ -207,9 +229,10 @@ fn row_in(
 /// | `pending` | `PARTY/NUMBER` | `kind`, `body`, `connector_id`, `deadline`, `evse_uid` |
 /// | `result` | `PARTY/NUMBER` | `result` |
 /// | `session` | `PARTY/ID` | the session's |
-/// | `cdr` | `PARTY/ID` | the charge detail record's |
+/// | `cdr` | `PARTY/ID` | the charge detail record's, with `credit` always |
 /// | `command` | `NUMBER` | `answer`, `kind`, `body`, `result`, `to` |
 ///
+/// A text of a `cdr` row without `credit` is `Missing` of `credit`; where it is true, `credit_reference_id` is required.
 /// A `kind` in a text that is none of those that such a row carries is `UnknownKind`, told before `body` is looked at.
 /// In a key numbers are in decimal digits without leading zeros, and texts have no letters `a` to `z`.
 pub fn read_row(
@@ -220,11 +243,50 @@ pub fn read_row(
     text: &[u8],
 ) -> Result<Row, JsonFault>
     // What is read is spelled so.
-    ensures found { IfOk result (SpellsRow kind.now key.now text.now) }
+    ensures found { IfOk result (SpellsRow layout.Two kind.now key.now text.now) }
     // What is spelled so is read, unless memory runs out.
-    ensures only { (r : Row) → SpellsRow kind.now key.now text.now r → Gives result (Ok r) }
+    ensures only { (r : Row) → SpellsRow layout.Two kind.now key.now text.now r → Gives result (Ok r) }
     // Which row, or which refusal, it is.
     ensures exact { Gives result (row_in kind.now key.now text.now) }
 {
     row_in(alloc, scratch, kind, key, text)
 }
+
+#[tactic(auto, unfolding(crate::specs::RowForms::row_in_1))]
+fn row_in_1(
+    alloc: Global,
+    scratch: &mut Scratch,
+    kind: &str,
+    key: &str,
+    text: &[u8],
+) -> Result<Row, JsonFault>
+    ensures { Gives result (row_in_1 kind.now key.now text.now) }
+{
+    row_laid_out(alloc, scratch, RowLayout::One, kind, key, text)
+}
+
+/// As [`read_row`], of layout 1, which is read only to move an old store to layout 2. There the text of a `cdr` row is
+/// as in a packet: `credit` may be absent, and stands with `credit_reference_id` in a credit. All else is as in layout
+/// 2, and no row is written in layout 1.
+pub fn read_row_1(
+    alloc: Global,
+    scratch: &mut Scratch,
+    kind: &str,
+    key: &str,
+    text: &[u8],
+) -> Result<Row, JsonFault>
+    // What is read is spelled so.
+    ensures found { IfOk result (SpellsRow layout.One kind.now key.now text.now) }
+    // What is spelled so is read, unless memory runs out.
+    ensures only { (r : Row) → SpellsRow layout.One kind.now key.now text.now r → Gives result (Ok r) }
+    // Which row, or which refusal, it is.
+    ensures exact { Gives result (row_in_1 kind.now key.now text.now) }
+{
+    row_in_1(alloc, scratch, kind, key, text)
+}
+
+/// A row of another kind than `cdr` is read alike by [`read_row_1`] and by [`read_row`], so that its text is one in both
+/// layouts.
+pub fn other_rows_are_alike()
+    ensures { OthersAreAlike }
+{}

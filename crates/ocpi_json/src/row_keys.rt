@@ -4,7 +4,7 @@
 
 ghost use Rattle.std.specs.Prelude.{◌≡◌, ◌==◌, ◌++◌, ◌∷◌, true, IfOk, IfSome, decimal, drop, slice_index, string_bytes};
 ghost use Rattle.ocpi_types.specs.Words.{token_type_word};
-ghost use Rattle.ocpi_json.specs.RowForms.{ReadKeysFit};
+ghost use Rattle.ocpi_json.specs.RowForms.{ReadKeysFit, row_in, row_in_1};
 ghost use Rattle.ocpi_json.specs.RowKeys.{
   IsCiKey,
   IsPartyKey,
@@ -279,5 +279,10 @@ pub fn row_keys_are_apart()
 /// A row that is read has a key that its types can hold, whatever its text came from: so what `row_keys_are_apart` says
 /// holds of the keys of any rows that are read.
 pub fn read_keys_fit()
-    ensures { ReadKeysFit }
+    ensures { ReadKeysFit row_in }
+{}
+
+/// As [`read_keys_fit`], of rows of layout 1.
+pub fn read_keys_fit_1()
+    ensures { ReadKeysFit row_in_1 }
 {}

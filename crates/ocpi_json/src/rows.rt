@@ -1,5 +1,7 @@
 //! Rows: the text of a row by its kind, beside the key under which it is stored. Each reader tells the first fault of
 //! the text, in the order of the members here; last, a key that is not of its kind's form or not the row's own.
+//!
+//! Rows are written in layout 2. Layout 1 is read only to move an old store to layout 2.
 
 ghost use Rattle.std.specs.Prelude.{◌≡◌, ◌≤◌, [], IfOk, OnOk};
 ghost use Rattle.std.specs.Str.{bytes_eq};
@@ -8,6 +10,7 @@ ghost use Rattle.ocpi_text.specs.Whole.{max_whole};
 ghost use Rattle.json_text.specs.Fault.{Gives};
 ghost use Rattle.json_text.specs.Members.{said};
 ghost use Rattle.ocpi_json.specs.RowKeys.{key_text};
+ghost use Rattle.ocpi_json.specs.declared.rows.RowLayout.TheVariants as layout;
 ghost use Rattle.ocpi_json.specs.RowForms.{
   RowTextFits,
   count_at,
@@ -21,6 +24,7 @@ ghost use Rattle.ocpi_json.specs.RowForms.{
   pending_at,
   result_row_at,
   session_row_at,
+  cdr_of_row_at,
   cdr_row_at,
   command_row_at,
   row_at,
@@ -40,10 +44,20 @@ use crate::stored::{
 };
 use json_text::fields::{as_record, party_in, whole_in, word_in};
 use json_text::{JsonFault, RecordWriter, Tree};
-use ocpi_forms::{Record, boxed_cdr_of, boxed_session_of, boxed_token_of};
+use ocpi_forms::{
+    Record, boxed_cdr_of, boxed_session_of, boxed_stored_cdr_of, boxed_token_of, write_stored_cdr,
+};
 use ocpi_text::Whole;
-use ocpi_types::{CommandResultType, Field, Row, RowKey};
+use ocpi_types::{Boxed, Cdr, CommandResultType, Field, Row, RowKey};
 use std::alloc::{AllocError, Global};
+
+/// How rows lie in a store. The layouts differ in the text of a charge detail record alone: in layout 1 it is as in a
+/// packet, with `credit` of a credit alone; in layout 2 `credit` stands in each, true or false.
+#[derive(Clone, Copy)]
+pub enum RowLayout {
+    One,
+    Two,
+}
 
 /// Whether the text is that key's.
 fn is_text_of(alloc: Global, text: &str, key: &RowKey) -> Result<bool, AllocError>
@@ -205,11 +219,27 @@ fn session_row_of(alloc: Global, key: &str, object: &Tree<'_>) -> Result<Row, Js
     Ok(Row::Session { session })
 }
 
-#[tactic(auto, unfolding(crate::specs::RowForms::cdr_row_at, crate::specs::RowForms::own_key))]
-fn cdr_row_of(alloc: Global, key: &str, object: &Tree<'_>) -> Result<Row, JsonFault>
-    ensures { Gives result (cdr_row_at key.now (view object.now)) }
+/// The charge detail record of a row: as a packet has it, or as rows have it now.
+#[tactic(auto, unfolding(crate::specs::RowForms::cdr_of_row_at))]
+fn cdr_of(alloc: Global, layout: RowLayout, object: &Tree<'_>) -> Result<Boxed<Cdr>, JsonFault>
+    ensures { Gives result (cdr_of_row_at layout (view object.now)) }
 {
-    let cdr = boxed_cdr_of(alloc, object)?;
+    match layout {
+        RowLayout::One => boxed_cdr_of(alloc, object),
+        RowLayout::Two => boxed_stored_cdr_of(alloc, object),
+    }
+}
+
+#[tactic(auto, unfolding(crate::specs::RowForms::cdr_row_at, crate::specs::RowForms::own_key))]
+fn cdr_row_of(
+    alloc: Global,
+    layout: RowLayout,
+    key: &str,
+    object: &Tree<'_>,
+) -> Result<Row, JsonFault>
+    ensures { Gives result (cdr_row_at layout key.now (view object.now)) }
+{
+    let cdr = cdr_of(alloc, layout, object)?;
     let own = RowKey::Cdr {
         operator: cdr.party.key(),
         id: cdr.id.key(),
@@ -233,8 +263,14 @@ fn command_row_of(alloc: Global, key: &str, object: &Tree<'_>) -> Result<Row, Js
 }
 
 #[tactic(auto, unfolding(crate::specs::RowForms::row_at))]
-fn row_of(alloc: Global, kind: RowKind, key: &str, object: &Tree<'_>) -> Result<Row, JsonFault>
-    ensures { Gives result (row_at kind key.now (view object.now)) }
+fn row_of(
+    alloc: Global,
+    layout: RowLayout,
+    kind: RowKind,
+    key: &str,
+    object: &Tree<'_>,
+) -> Result<Row, JsonFault>
+    ensures { Gives result (row_at layout kind key.now (view object.now)) }
 {
     match kind {
         RowKind::Count => count_of(key, object),
@@ -248,7 +284,7 @@ fn row_of(alloc: Global, kind: RowKind, key: &str, object: &Tree<'_>) -> Result<
         RowKind::Pending => pending_of(alloc, key, object),
         RowKind::Result => result_row_of(key, object),
         RowKind::Session => session_row_of(alloc, key, object),
-        RowKind::Cdr => cdr_row_of(alloc, key, object),
+        RowKind::Cdr => cdr_row_of(alloc, layout, key, object),
         RowKind::Command => command_row_of(alloc, key, object),
     }
 }
@@ -257,13 +293,14 @@ fn row_of(alloc: Global, kind: RowKind, key: &str, object: &Tree<'_>) -> Result<
 #[tactic(auto, unfolding(crate::specs::RowForms::row_of_text))]
 pub fn row_of_text(
     alloc: Global,
+    layout: RowLayout,
     kind: RowKind,
     key: &str,
     tree: &Tree<'_>,
 ) -> Result<Row, JsonFault>
-    ensures { Gives result (row_of_text kind key.now (view tree.now)) }
+    ensures { Gives result (row_of_text layout kind key.now (view tree.now)) }
 {
-    row_of(alloc, kind, key, as_record(tree, Field::Line)?)
+    row_of(alloc, layout, kind, key, as_record(tree, Field::Line)?)
 }
 
 /// An object of one whole number.
@@ -303,10 +340,10 @@ fn write_empty(out: &mut RecordWriter) -> Result<(), AllocError>
     out.end()
 }
 
-/// Writes the text of a row. It fails for want of memory alone.
-#[tactic(auto, unfolding(crate::specs::RowForms::row_members))]
+/// Writes the text of a row in layout 2. It fails for want of memory alone.
+#[tactic(auto, unfolding(crate::specs::RowForms::row_members, crate::specs::RowForms::cdr_of_row_members))]
 pub fn write_text(row: &Row, out: &mut RecordWriter) -> Result<(), AllocError>
-    ensures tokens { OnOk result (out.new ≡ said out.old (row_members row.now)) }
+    ensures tokens { OnOk result (out.new ≡ said out.old (row_members layout.Two row.now)) }
     ensures fits { OnOk result (RowTextFits row.now) }
 {
     match row {
@@ -321,7 +358,7 @@ pub fn write_text(row: &Row, out: &mut RecordWriter) -> Result<(), AllocError>
         Row::Pending { open, .. } => write_open_command(open, out),
         Row::Result { result, .. } => write_result(*result, out),
         Row::Session { session } => session.write(out),
-        Row::Cdr { cdr } => cdr.write(out),
+        Row::Cdr { cdr } => write_stored_cdr(cdr, out),
         Row::Command { command, .. } => write_sent_command(command, out),
     }
 }

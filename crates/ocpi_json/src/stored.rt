@@ -5,18 +5,19 @@
 ghost use Rattle.std.specs.Prelude.{◌≡◌, Ok, OnOk};
 ghost use Rattle.json_text.specs.Trees.{view};
 ghost use Rattle.ocpi_text.specs.Party.{party_at};
-ghost use Rattle.ocpi_types.specs.Stored.{body_of_command, body_of_reply, body_of_push};
+ghost use Rattle.ocpi_types.specs.Stored.{body_of_reply, body_of_push};
 ghost use Rattle.ocpi_types.specs.declared.field.Field.TheVariants as field;
+ghost use Rattle.ocpi_types.specs.declared.packet.Body.TheVariants as body;
 ghost use Rattle.json_text.specs.Fault.{Gives};
 ghost use Rattle.json_text.specs.Fields.{known_in, optional};
 ghost use Rattle.json_text.specs.Members.{and_member, said};
+ghost use Rattle.ocpi_forms.specs.AnyCommand.{command_at};
 ghost use Rattle.ocpi_forms.specs.Bodies.{BodyFits};
 ghost use Rattle.ocpi_json.specs.EventForms.{order_of_word};
 ghost use Rattle.ocpi_json.specs.StoredForms.{
   reply_of_word,
   push_of_word,
   carried_at,
-  command_at,
   reply_at,
   push_at,
   reservation_at,
@@ -36,15 +37,14 @@ ghost use Rattle.ocpi_json.specs.StoredForms.{
   SentCommandFits,
 };
 
-use crate::events::{OrderWord, order_word};
+use crate::events::order_word;
 use json_text::fields::{
     ci_in, is_absent, moment_in, optional_ci_in, optional_word_in, party_in, record_in, text_in,
 };
 use json_text::{JsonFault, RecordWriter, Tree};
 use ocpi_forms::{
-    ack_of, boxed_authorization_of, boxed_cdr_of, boxed_reserve_now_of, boxed_session_of,
-    boxed_start_session_of, boxed_token_of, cancel_reservation_of, command_response_of,
-    command_result_of, stop_session_of, token_of, unlock_connector_of, write_optional_record,
+    CommandKind, ack_of, boxed_authorization_of, boxed_cdr_of, boxed_session_of, boxed_token_of,
+    command_of, command_response_of, command_result_of, token_of, write_optional_record,
     write_record,
 };
 use ocpi_text::{CiText, Moment, Party};
@@ -111,7 +111,7 @@ fn push_word(word: &str) -> Option<PushWord>
 
 /// The kind of a command. A word that names none is `UnknownKind`.
 #[tactic(auto, unfolding(json_text::specs::Fields::known_in))]
-fn command_kind(object: &Tree<'_>) -> Result<OrderWord, JsonFault>
+fn command_kind(object: &Tree<'_>) -> Result<CommandKind, JsonFault>
     ensures { result ≡ known_in order_of_word field.Kind (view object.now) }
 {
     match order_word(text_in(object, Field::Kind)?) {
@@ -139,23 +139,6 @@ fn push_kind(object: &Tree<'_>) -> Result<PushWord, JsonFault>
     match push_word(text_in(object, Field::Kind)?) {
         Some(word) => Ok(word),
         None => Err(JsonFault::UnknownKind),
-    }
-}
-
-#[tactic(auto, unfolding(crate::specs::StoredForms::command_at))]
-fn command_of(alloc: Global, kind: OrderWord, object: &Tree<'_>) -> Result<Command, JsonFault>
-    ensures { Gives result (command_at kind (view object.now)) }
-{
-    match kind {
-        OrderWord::StartSession => boxed_start_session_of(alloc, object).map(Command::StartSession),
-        OrderWord::StopSession => Ok(Command::StopSession(stop_session_of(alloc, object)?)),
-        OrderWord::ReserveNow => boxed_reserve_now_of(alloc, object).map(Command::ReserveNow),
-        OrderWord::CancelReservation => Ok(Command::CancelReservation(cancel_reservation_of(
-            alloc, object,
-        )?)),
-        OrderWord::UnlockConnector => Ok(Command::UnlockConnector(unlock_connector_of(
-            alloc, object,
-        )?)),
     }
 }
 
@@ -333,16 +316,10 @@ pub fn boxed_sent_command_of(
 /// The member `body` of a command.
 #[tactic(auto, unfolding(ocpi_forms::specs::Bodies::body_members))]
 fn write_command(command: &Command, out: &mut RecordWriter) -> Result<(), AllocError>
-    ensures member { OnOk result (out.new ≡ and_member out.old (body_member (body_of_command command.now))) }
-    ensures fits { OnOk result (BodyFits (body_of_command command.now)) }
+    ensures member { OnOk result (out.new ≡ and_member out.old (body_member (body.Command command.now))) }
+    ensures fits { OnOk result (BodyFits (body.Command command.now)) }
 {
-    match command {
-        Command::StartSession(body) => write_record(out, Field::Body, body),
-        Command::StopSession(body) => write_record(out, Field::Body, body),
-        Command::ReserveNow(body) => write_record(out, Field::Body, body),
-        Command::CancelReservation(body) => write_record(out, Field::Body, body),
-        Command::UnlockConnector(body) => write_record(out, Field::Body, body),
-    }
+    write_record(out, Field::Body, command)
 }
 
 /// The member `body` of a reply.

@@ -34,7 +34,7 @@ fn kept_row(row: &Row)
     kept_key(&row.key());
 }
 
-/// The text of a row, which is stored under its kind and its key: no spaces, and the members of each object in the byte
+/// The text of a row in layout 2, which is stored under its kind and its key: no spaces, and the members of each object in the byte
 /// order of their names. Beside that kind and that key it is read as that very row, whatever the row is. It fails for
 /// want of memory alone.
 #[tactic(auto, using(crate::proofs::WrittenRows::row_text_is, crate::proofs::WrittenRows::row_text_again))]

@@ -78,11 +78,14 @@ pub fn words_for_reason(reason: BadReason) -> &'static str {
         BadReason::CannotGoOn => {
             "the session has a status that no session has, or a cost that is not that of its energy"
         }
-        BadReason::BilledTwice => "another charge detail record is of the same session",
+        BadReason::BilledTwice => {
+            "another charge detail record is of the same session: both bill it, or both are credits"
+        }
         BadReason::BilledEarly => {
             "the session of the charge detail record is not there as completed"
         }
-        BadReason::Unbilled => "the completed session has no charge detail record",
+        BadReason::Unbilled => "the completed session has no bill",
+        BadReason::CreditWithoutBill => "the bill that the credit takes back is not there",
     }
 }
 

@@ -1,5 +1,6 @@
 pub mod Apart
 pub mod Connectors
+pub mod Credits
 pub mod Fields
 pub mod Kinds
 pub mod Limits

@@ -30,11 +30,7 @@ NodeOwnsMemory (node.Operator party site) = Unit {0}
 NodeOwnsMemory (node.Provider party) = ⊥
 
 abbrev pub BodyOwnsMemory : Body → Type 0
-BodyOwnsMemory (body.StartSession b) = Unit {0}
-BodyOwnsMemory (body.StopSession b) = Unit {0}
-BodyOwnsMemory (body.ReserveNow b) = Unit {0}
-BodyOwnsMemory (body.CancelReservation b) = Unit {0}
-BodyOwnsMemory (body.UnlockConnector b) = Unit {0}
+BodyOwnsMemory (body.Command c) = Unit {0}
 BodyOwnsMemory (body.CommandResponse b) = ⊥
 BodyOwnsMemory (body.CommandResult b) = Unit {0}
 BodyOwnsMemory (body.PutToken b) = Unit {0}

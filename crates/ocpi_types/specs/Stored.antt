@@ -1,19 +1,10 @@
--- The bodies that carry commands, replies and pushes.
+-- The bodies that carry replies and pushes.
 use Rattle.ocpi_types.specs.declared.packet.Body.{Body}
 use Rattle.ocpi_types.specs.declared.packet.Body.TheVariants as body
-use Rattle.ocpi_types.specs.declared.stored.Command.{Command}
-use Rattle.ocpi_types.specs.declared.stored.Command.TheVariants as command
 use Rattle.ocpi_types.specs.declared.stored.Reply.{Reply}
 use Rattle.ocpi_types.specs.declared.stored.Reply.TheVariants as reply
 use Rattle.ocpi_types.specs.declared.stored.Push.{Push}
 use Rattle.ocpi_types.specs.declared.stored.Push.TheVariants as push
-
-abbrev pub body_of_command : Command → Body
-body_of_command (command.StartSession c) = body.StartSession c
-body_of_command (command.StopSession c) = body.StopSession c
-body_of_command (command.ReserveNow c) = body.ReserveNow c
-body_of_command (command.CancelReservation c) = body.CancelReservation c
-body_of_command (command.UnlockConnector c) = body.UnlockConnector c
 
 abbrev pub body_of_reply : Reply → Body
 body_of_reply (reply.CommandResponse r) = body.CommandResponse r

@@ -1,6 +1,7 @@
 //! Charge detail records: what a completed session is billed by (OCPI 2.2.1, CDRs: CDR object).
 
 ghost use Rattle.std.specs.Prelude.{◌≡◌, IfOk};
+ghost use Rattle.ocpi_types.specs.Credits.{is_credit};
 
 use crate::copies::ListItem;
 use crate::lists::NonEmpty;
@@ -129,7 +130,8 @@ impl ChargingPeriod {
     }
 }
 
-/// A charge detail record: what an operator bills for one session that ended (OCPI 2.2.1, CDRs: CDR object).
+/// A charge detail record (OCPI 2.2.1, CDRs: CDR object): a bill, of one session that ended, or a credit, which takes a
+/// bill back.
 #[derive(PartialEq, Drop)]
 pub struct Cdr {
     /// The operator: `country_code` and `party_id`.
@@ -151,9 +153,19 @@ pub struct Cdr {
     /// Hours.
     pub total_time: Quantity,
     pub last_updated: Moment,
+    /// Of a credit, the id of the record that it takes back; of a bill, none. A credit has the members `credit`, which is
+    /// true, and `credit_reference_id`.
+    pub credit_reference_id: Option<CiText<39>>,
 }
 
 impl Cdr {
+    /// Whether it takes a bill back.
+    pub fn is_credit(&self) -> bool
+        ensures { result ≡ is_credit self.now }
+    {
+        self.credit_reference_id.is_some()
+    }
+
     /// An equal record.
     pub fn copy(&self) -> Result<Cdr, AllocError>
         ensures { IfOk result (λ t. t ≡ self.now) }
@@ -176,6 +188,7 @@ impl Cdr {
             total_energy: self.total_energy,
             total_time: self.total_time,
             last_updated: self.last_updated,
+            credit_reference_id: self.credit_reference_id,
         })
     }
 }

@@ -1,9 +1,12 @@
 //! What a provider asks of an operator (OCPI 2.2.1, Commands). The result of a command is posted to its `response_url`.
 
 ghost use Rattle.std.specs.Prelude.{◌≡◌, IfOk};
+ghost use Rattle.ocpi_types.specs.Kinds.{kind_of_command};
 
+use crate::boxed::Boxed;
 use crate::copies::ListItem;
 use crate::token::Token;
+use crate::words::PacketKind;
 use ocpi_text::{CiText, FreeText, Moment};
 use std::alloc::AllocError;
 
@@ -138,5 +141,43 @@ impl ListItem for StartSession {
 impl ListItem for ReserveNow {
     fn item_copy(&self) -> Result<ReserveNow, AllocError> {
         self.copy()
+    }
+}
+
+/// A command of a provider (OCPI 2.2.1, Commands). What is large is on the heap.
+#[derive(PartialEq, Drop)]
+pub enum Command {
+    StartSession(Boxed<StartSession>),
+    StopSession(StopSession),
+    ReserveNow(Boxed<ReserveNow>),
+    CancelReservation(CancelReservation),
+    UnlockConnector(UnlockConnector),
+}
+
+impl Command {
+    /// The kind of the packet that carries it.
+    pub fn kind(&self) -> PacketKind
+        ensures { result ≡ kind_of_command self.now }
+    {
+        match self {
+            Command::StartSession(_) => PacketKind::StartSession,
+            Command::StopSession(_) => PacketKind::StopSession,
+            Command::ReserveNow(_) => PacketKind::ReserveNow,
+            Command::CancelReservation(_) => PacketKind::CancelReservation,
+            Command::UnlockConnector(_) => PacketKind::UnlockConnector,
+        }
+    }
+
+    /// An equal command.
+    pub fn copy(&self) -> Result<Command, AllocError>
+        ensures { IfOk result (λ t. t ≡ self.now) }
+    {
+        match self {
+            Command::StartSession(command) => Ok(Command::StartSession(command.copy()?)),
+            Command::StopSession(command) => Ok(Command::StopSession(command.copy()?)),
+            Command::ReserveNow(command) => Ok(Command::ReserveNow(command.copy()?)),
+            Command::CancelReservation(command) => Ok(Command::CancelReservation(command.copy()?)),
+            Command::UnlockConnector(command) => Ok(Command::UnlockConnector(command.copy()?)),
+        }
     }
 }

@@ -44,7 +44,9 @@ mod words;
 pub use authorizations::{Authorization, AuthorizationInfo, Authorize, LocationReferences};
 pub use boxed::Boxed;
 pub use cdrs::{Cdr, CdrDimension, CdrLocation, ChargingPeriod, GeoLocation};
-pub use commands::{CancelReservation, ReserveNow, StartSession, StopSession, UnlockConnector};
+pub use commands::{
+    CancelReservation, Command, ReserveNow, StartSession, StopSession, UnlockConnector,
+};
 pub use events::{ChargerEvent, Event, EventKind, Order};
 pub use field::Field;
 pub use id_set::IdSet;
@@ -60,7 +62,7 @@ pub use sessions::{Opening, Price, Session};
 pub use setup::{Node, Setup};
 pub use site::{Connector, Connectors, Evse, Evses, Location, Locations, Site, SiteLine};
 pub use stamps::next_stamp;
-pub use stored::{Command, OpenCommand, Push, Reply, Reservation, SentCommand};
+pub use stored::{OpenCommand, Push, Reply, Reservation, SentCommand};
 pub use token::{CdrToken, Token};
 pub use type_places::type_place;
 pub use words::{

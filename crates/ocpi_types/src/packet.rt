@@ -7,7 +7,7 @@ ghost use Rattle.ocpi_types.specs.Memory.{BodyOwnsMemory};
 use crate::authorizations::{Authorization, Authorize};
 use crate::boxed::Boxed;
 use crate::cdrs::Cdr;
-use crate::commands::{CancelReservation, ReserveNow, StartSession, StopSession, UnlockConnector};
+use crate::commands::Command;
 use crate::replies::{Ack, CommandResponse, CommandResult};
 use crate::sessions::Session;
 use crate::token::Token;
@@ -18,11 +18,8 @@ use std::alloc::AllocError;
 /// What a packet carries. What is large is on the heap, so that packets are small.
 #[derive(PartialEq, Drop)]
 pub enum Body {
-    StartSession(Boxed<StartSession>),
-    StopSession(StopSession),
-    ReserveNow(Boxed<ReserveNow>),
-    CancelReservation(CancelReservation),
-    UnlockConnector(UnlockConnector),
+    /// Of a provider. Each command has a kind of packet of its own.
+    Command(Command),
     CommandResponse(CommandResponse),
     CommandResult(CommandResult),
     PutToken(Boxed<Token>),
@@ -39,11 +36,7 @@ impl Body {
         ensures { result ≡ kind_of self.now }
     {
         match self {
-            Body::StartSession(_) => PacketKind::StartSession,
-            Body::StopSession(_) => PacketKind::StopSession,
-            Body::ReserveNow(_) => PacketKind::ReserveNow,
-            Body::CancelReservation(_) => PacketKind::CancelReservation,
-            Body::UnlockConnector(_) => PacketKind::UnlockConnector,
+            Body::Command(command) => command.kind(),
             Body::CommandResponse(_) => PacketKind::CommandResponse,
             Body::CommandResult(_) => PacketKind::CommandResult,
             Body::PutToken(_) => PacketKind::PutToken,
@@ -61,11 +54,7 @@ impl Body {
         ensures err { OnErr result (BodyOwnsMemory self.now) }
     {
         match self {
-            Body::StartSession(body) => Ok(Body::StartSession(body.copy()?)),
-            Body::StopSession(body) => Ok(Body::StopSession(body.copy()?)),
-            Body::ReserveNow(body) => Ok(Body::ReserveNow(body.copy()?)),
-            Body::CancelReservation(body) => Ok(Body::CancelReservation(body.copy()?)),
-            Body::UnlockConnector(body) => Ok(Body::UnlockConnector(body.copy()?)),
+            Body::Command(body) => Ok(Body::Command(body.copy()?)),
             Body::CommandResponse(body) => Ok(Body::CommandResponse(*body)),
             Body::CommandResult(body) => Ok(Body::CommandResult(body.copy()?)),
             Body::PutToken(body) => Ok(Body::PutToken(body.copy()?)),

@@ -3,12 +3,12 @@
 ghost use Rattle.std.specs.Prelude.{◌≡◌, IfOk, OnErr};
 ghost use Rattle.ocpi_types.specs.Kinds.{kind_of};
 ghost use Rattle.ocpi_types.specs.Memory.{ReplyOwnsMemory};
-ghost use Rattle.ocpi_types.specs.Stored.{body_of_command, body_of_reply, body_of_push};
+ghost use Rattle.ocpi_types.specs.Stored.{body_of_reply, body_of_push};
 
 use crate::authorizations::Authorization;
 use crate::boxed::Boxed;
 use crate::cdrs::Cdr;
-use crate::commands::{CancelReservation, ReserveNow, StartSession, StopSession, UnlockConnector};
+use crate::commands::Command;
 use crate::copies::ListItem;
 use crate::packet::Body;
 use crate::replies::{Ack, CommandResponse, CommandResult};
@@ -17,57 +17,6 @@ use crate::token::Token;
 use crate::words::{CommandResultType, PacketKind};
 use ocpi_text::{CiText, Moment, Party};
 use std::alloc::AllocError;
-
-/// A command of a provider (OCPI 2.2.1, Commands). What is large is on the heap.
-#[derive(Drop)]
-pub enum Command {
-    StartSession(Boxed<StartSession>),
-    StopSession(StopSession),
-    ReserveNow(Boxed<ReserveNow>),
-    CancelReservation(CancelReservation),
-    UnlockConnector(UnlockConnector),
-}
-
-impl Command {
-    /// The kind of the packet that carries it.
-    pub fn kind(&self) -> PacketKind
-        ensures { result ≡ kind_of (body_of_command self.now) }
-    {
-        match self {
-            Command::StartSession(_) => PacketKind::StartSession,
-            Command::StopSession(_) => PacketKind::StopSession,
-            Command::ReserveNow(_) => PacketKind::ReserveNow,
-            Command::CancelReservation(_) => PacketKind::CancelReservation,
-            Command::UnlockConnector(_) => PacketKind::UnlockConnector,
-        }
-    }
-
-    /// The body of the packet that carries it.
-    pub fn into_body(self) -> Body
-        ensures { result ≡ body_of_command self }
-    {
-        match self {
-            Command::StartSession(command) => Body::StartSession(command),
-            Command::StopSession(command) => Body::StopSession(command),
-            Command::ReserveNow(command) => Body::ReserveNow(command),
-            Command::CancelReservation(command) => Body::CancelReservation(command),
-            Command::UnlockConnector(command) => Body::UnlockConnector(command),
-        }
-    }
-
-    /// An equal command.
-    pub fn copy(&self) -> Result<Command, AllocError>
-        ensures { IfOk result (λ t. t ≡ self.now) }
-    {
-        match self {
-            Command::StartSession(command) => Ok(Command::StartSession(command.copy()?)),
-            Command::StopSession(command) => Ok(Command::StopSession(command.copy()?)),
-            Command::ReserveNow(command) => Ok(Command::ReserveNow(command.copy()?)),
-            Command::CancelReservation(command) => Ok(Command::CancelReservation(command.copy()?)),
-            Command::UnlockConnector(command) => Ok(Command::UnlockConnector(command.copy()?)),
-        }
-    }
-}
 
 /// What answers a request, and is kept so that the request has the same answer when it comes again. What is large is
 /// on the heap, so that the replies to commands, which are the most, take little room.

@@ -2,7 +2,7 @@
 use Rattle.std.proofs.Common.{◌≡◌, ◌+◌, ◌++◌, ℕ, List, [], ◌∷◌, length, refl}
 use Rattle.std.specs.Prelude.{Option, Some, None}
 use Rattle.ocpi_types.specs.declared.rows.Place.{Place}
-use Rattle.ocpi_types.specs.declared.stored.Command.{Command}
+use Rattle.ocpi_types.specs.declared.commands.Command.{Command}
 use Rattle.ocpi_types.specs.declared.words.CommandResponseType.TheVariants as word
 use Rattle.command_book.specs.Stored as book
 use Rattle.node_steps.specs.Acts.{Act, all_messages, all_requests, answered}

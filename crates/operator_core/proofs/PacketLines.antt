@@ -3,12 +3,11 @@ use Rattle.std.proofs.Common.{◌≡◌, ℕ, List, [], ◌∷◌, refl, sym, su
 use Rattle.std.specs.Prelude.{Some, None, Result, Ok, Err, IfErr}
 use Rattle.std.specs.FinMap.{get}
 use Rattle.ocpi_text.specs.Text.{key}
-use Rattle.ocpi_types.specs.Stored.{body_of_command}
 use Rattle.ocpi_types.specs.declared.authorizations.Authorization.{Authorization}
 use Rattle.ocpi_types.specs.declared.packet.Packet.{Packet}
 use Rattle.ocpi_types.specs.declared.packet.Body.TheVariants as body
 use Rattle.ocpi_types.specs.declared.replies.Ack.{Ack}
-use Rattle.ocpi_types.specs.declared.stored.Command.{Command}
+use Rattle.ocpi_types.specs.declared.commands.Command.{Command}
 use Rattle.ocpi_types.specs.declared.stored.Reply.{Reply}
 use Rattle.ocpi_types.specs.declared.token.Token.{Token}
 use Rattle.authorization_book.specs.declared.awaited.Awaited.{Awaited}
@@ -42,7 +41,7 @@ module _ (s : State) (q : Packet) (r : Request) (is : IsRequest s r.at q r) wher
   again_comes body reply kept =
       subst (λ (n : ℕ). Comes s r.at q (quiet (repeated r.from n reply ∷ []))) (sym is.number) (comes _ (Again body reply (sym replies_at ∙ kept) refl))
 
-  pub decided_comes : (c : Command) → q.body ≡ body_of_command c → get s.rows.commands.replies (r.provider, r.number) ≡ None → (d : Decision) → Decides s.site s.rows r.at q.from r.number c d →
+  pub decided_comes : (c : Command) → q.body ≡ body.Command c → get s.rows.commands.replies (r.provider, r.number) ≡ None → (d : Decision) → Decides s.site s.rows r.at q.from r.number c d →
       Comes s r.at q (quiet (decided_acts r.at s.rows.request r.from r.provider r.number c d))
   decided_comes c carries none d decides =
       let at_number : Decides s.site s.rows r.at q.from q.request c d = subst (λ (n : ℕ). Decides s.site s.rows r.at q.from n c d) is.number decides in

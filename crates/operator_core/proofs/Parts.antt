@@ -28,32 +28,6 @@ pub three_parts : (first second third : List Act) (d x y z : Gathered) → x ≡
 three_parts first second third d x y z one two three =
     three ∙ ap (λ (g : Gathered). with_acts third g) (two ∙ ap (λ (g : Gathered). with_acts second g) one ∙ both first second d) ∙ both (first ++ second) third d
 
--- what is said of every case of a result, said of one
-pub ok_at : {T E A : Type 0} (Q : A → Type 0) (P : A → T → Type 0) (a : A) → Q a → (r : Result T E) → IfOk r (λ x. (b : A) → Q b → P b x) → IfOk r (P a)
-ok_at Q P a q (Ok x) h = h a q
-ok_at Q P a q (Err e) h = tt
-
-pub on_at : {T E A : Type 0} (Q : A → Type 0) (P : A → Type 0) (a : A) → Q a → (r : Result T E) → OnOk r ((b : A) → Q b → P b) → OnOk r (P a)
-on_at Q P a q (Ok x) h = h a q
-on_at Q P a q (Err e) h = tt
-
-pub err_at : {T E A : Type 0} (Q : A → Type 0) (P : A → E → Type 0) (a : A) → Q a → (r : Result T E) → IfErr r (λ x. (b : A) → Q b → P b x) → IfErr r (P a)
-err_at Q P a q (Ok x) h = tt
-err_at Q P a q (Err e) h = h a q
-
--- what is said of each case, said of a result
-pub ok_each : {T E A : Type 0} (Q : A → Type 0) (P : A → T → Type 0) (r : Result T E) → ((a : A) → Q a → IfOk r (P a)) → IfOk r (λ x. (a : A) → Q a → P a x)
-ok_each Q P (Ok x) h = h
-ok_each Q P (Err e) h = tt
-
-pub on_each : {T E A : Type 0} (Q : A → Type 0) (P : A → Type 0) (r : Result T E) → ((a : A) → Q a → OnOk r (P a)) → OnOk r ((a : A) → Q a → P a)
-on_each Q P (Ok x) h = h
-on_each Q P (Err e) h = tt
-
-pub err_each : {T E A : Type 0} (Q : A → Type 0) (P : A → E → Type 0) (r : Result T E) → ((a : A) → Q a → IfErr r (P a)) → IfErr r (λ e. (a : A) → Q a → P a e)
-err_each Q P (Ok x) h = tt
-err_each Q P (Err e) h = h
-
 -- what a `?` returns is the fault that it passes on
 pub err_one : {T E : Type 0} (P : E → Type 0) (r : Result T E) (f : E) → IsErrAnd r (λ e. e ≡ f) → P f → IfErr r P
 err_one P r f is h = let p = err_from_is_err_and r is in rw (p.1, p.2) h

@@ -2,12 +2,10 @@
 use Rattle.std.specs.Prelude.{◌≡◌, ℕ, List, [], ◌∷◌, Option, Some, None, Result, Ok, Err, IsTrue, Contains}
 use Rattle.std.specs.FinMap.{contains_key, get}
 use Rattle.ocpi_text.specs.Text.{key}
-use Rattle.ocpi_types.specs.Stored.{body_of_command}
-use Rattle.ocpi_types.specs.declared.packet.Body.{Body}
 use Rattle.ocpi_types.specs.declared.packet.Packet.{Packet}
 use Rattle.ocpi_types.specs.declared.replies.CommandResult.{CommandResult}
 use Rattle.ocpi_types.specs.declared.rows.Place.{Place}
-use Rattle.ocpi_types.specs.declared.stored.Command.{Command}
+use Rattle.ocpi_types.specs.declared.commands.Command.{Command}
 use Rattle.ocpi_types.specs.declared.stored.Reply.{Reply}
 use Rattle.ocpi_types.specs.declared.words.CommandResultType.{CommandResultType}
 use Rattle.command_book.specs.Stored as book
@@ -49,13 +47,6 @@ AllStand m numbers = (n : ℕ) → Contains numbers n → IsTrue (contains_key m
 abbrev pub result_count : Option CommandResultType → ℕ
 result_count None = 0
 result_count (Some x) = 1
-
--- the body carries a command, and what holds of the command that it carries
-abbrev pub IsCommand : Body → Type 0
-IsCommand b = (c : Command) × (b ≡ body_of_command c)
-
-abbrev pub IfCommand : Body → (Command → Type 0) → Type 0
-IfCommand b P = (c : Command) → b ≡ body_of_command c → P c
 
 -- what a decision does in answer to a request, beside the reply and the result, and of it that the command is open
 -- until its result

@@ -5,7 +5,6 @@ ghost use Rattle.std.specs.FinMap as map;
 ghost use Rattle.ocpi_text.specs.Text.{key};
 ghost use Rattle.node_steps.specs.Drafts.{HasNumbers, HasNumbersOf, with_acts};
 ghost use Rattle.operator_steps.specs.declared.ending.Ending.{Ending as EndingOf};
-ghost use Rattle.operator_steps.specs.Acts.{url_of};
 ghost use Rattle.operator_steps.specs.Ends.{
   IsOpen,
   IsOfSite,
@@ -18,25 +17,13 @@ ghost use Rattle.operator_steps.specs.Ends.{
 ghost use Rattle.operator_core.specs.Requests.{told_of_end};
 
 use crate::operator::Operator;
+use crate::packets::bodies::told;
 use node_steps::{Draft, peer_of};
-use ocpi_text::{FreeText, Moment, PartyKey, Whole};
-use ocpi_types::{Change, Command, CommandResult, CommandResultType, Push, Row, RowKey};
+use ocpi_text::{Moment, PartyKey, Whole};
+use ocpi_types::{Change, CommandResult, CommandResultType, Push, Row, RowKey};
 use operator_steps::Ending;
 use reservation_book::Standing;
 use std::alloc::AllocError;
-
-/// To where the result of a command is posted.
-fn url_of(command: &Command) -> &FreeText<255>
-    ensures { result.now ≡ url_of command.now }
-{
-    match command {
-        Command::StartSession(command) => &command.response_url,
-        Command::StopSession(command) => &command.response_url,
-        Command::ReserveNow(command) => &command.response_url,
-        Command::CancelReservation(command) => &command.response_url,
-        Command::UnlockConnector(command) => &command.response_url,
-    }
-}
 
 /// Adds that reservations end, of which nobody is told.
 pub fn add_expired(draft: &mut Draft, expired: &[Standing]) -> Result<(), AllocError>
@@ -79,11 +66,8 @@ impl Operator {
         let Some(open) = self.books.commands().opened(ending.provider, ending.number) else {
             return Ok(None);
         };
-        let response_url = url_of(&open.command).copy()?;
-        Ok(Some(CommandResult {
-            response_url,
-            result: ending.result,
-        }))
+        let told = told(&open.command, ending.result)?;
+        Ok(Some(told))
     }
 
     /// Adds the end of an open command: its result is pushed, and kept.

@@ -12,10 +12,10 @@ ghost use Rattle.operator_steps.specs.Faults.{IsDue, MayStep};
 ghost use Rattle.operator_steps.specs.Moves.{AreInRange, PlannedBy, step_of_acts};
 ghost use Rattle.operator_steps.specs.Steps.{Acknowledges, Comes, IsForMe, IsRequestBody, IsTaken};
 ghost use Rattle.operator_core.specs.Planned.{StopsActs, quiet_step};
-ghost use Rattle.operator_core.specs.Requests.{IfCommand, IsCommand, IsRequest, decided_by, repeated_by, result_count};
+ghost use Rattle.operator_core.specs.Requests.{IsRequest, decided_by, repeated_by, result_count};
 
 mod authorizations;
-mod bodies;
+pub(crate) mod bodies;
 pub(crate) mod command_acts;
 mod command_responses;
 mod tokens;
@@ -26,7 +26,7 @@ use crate::packets::command_acts::add_decided;
 use crate::plans::quiet;
 use node_steps::{Needs, NodeFault, Plan, find_peer};
 use ocpi_text::{Moment, Party};
-use ocpi_types::{Ack, Body, Change, CommandResultType, Packet, Reply, RowKey};
+use ocpi_types::{Ack, Body, Change, Command, CommandResultType, Packet, Reply, RowKey};
 use operator_rows::FullPlan;
 use operator_tables::{Decision, Request, decide};
 use std::alloc::AllocError;
@@ -91,17 +91,16 @@ impl Operator {
         Ok(draft.into_plan())
     }
 
-    /// The step of a decision on the command that a body carries.
+    /// The step of a decision on a command.
     fn plan_decided(
         &self,
         request: &Request,
-        body: &Body,
+        command: &Command,
         decision: &Decision,
     ) -> Result<Plan, NodeFault>
-        requires { IsCommand body.now }
-        ensures ok { IfOk result (λ x. IfCommand body.now (λ c. step_of x ≡ step_of_acts self.now.state (decided_by request.now self.now.state.rows.request c decision.now))) }
-        ensures in_range { OnOk result (IfCommand body.now (λ c. AreInRange self.now.state (decided_by request.now self.now.state.rows.request c decision.now))) }
-        ensures err { IfErr result (λ e. IfCommand body.now (λ c. StopsActs self.now.state (decided_by request.now self.now.state.rows.request c decision.now) e)) }
+        ensures ok { IfOk result (λ x. step_of x ≡ step_of_acts self.now.state (decided_by request.now self.now.state.rows.request command.now decision.now)) }
+        ensures in_range { OnOk result (AreInRange self.now.state (decided_by request.now self.now.state.rows.request command.now decision.now)) }
+        ensures err { IfErr result (StopsActs self.now.state (decided_by request.now self.now.state.rows.request command.now decision.now)) }
     {
         let results = count(decision.result());
         let mut draft = self.draft(Needs {
@@ -109,20 +108,25 @@ impl Operator {
             requests: results,
             changes: MOST_CHANGES,
         })?;
-        add_decided(self.alloc, &mut draft, request, body, decision)?;
+        add_decided(self.alloc, &mut draft, request, command, decision)?;
         Ok(draft.into_plan())
     }
 
     /// What becomes of a command that was not answered before.
-    fn plan_command(&self, request: &Request, packet: &Packet) -> Result<Plan, NodeFault>
+    fn plan_command(
+        &self,
+        request: &Request,
+        packet: &Packet,
+        command: &Command,
+    ) -> Result<Plan, NodeFault>
         requires request { IsRequest self.now.state request.now.at packet.now request.now }
-        requires command { IsCommand packet.now.body }
+        requires command { packet.now.body ≡ body.Command command.now }
         requires new { map.get self.now.state.rows.commands.replies (request.now.provider, request.now.number) ≡ None }
         ensures step { IfOk result (λ x. PlannedBy (Comes self.now.state request.now.at packet.now) self.now.state (quiet_step (step_of x))) }
         ensures fault { IfErr result (IsDue self.now.state request.now.at packet.now) }
     {
-        let decision = decide(&self.books, request, &packet.from, &packet.body);
-        self.plan_decided(request, &packet.body, &decision)
+        let decision = decide(&self.books, request, &packet.from, command);
+        self.plan_decided(request, command, &decision)
     }
 
     /// What becomes of a command or a token. A request that was answered before gets the same reply again.
@@ -136,8 +140,9 @@ impl Operator {
             return self.plan_again(request, reply);
         }
         match &packet.body {
+            Body::Command(command) => self.plan_command(request, packet, command),
             Body::PutToken(token) => self.plan_put(request, token),
-            _ => self.plan_command(request, packet),
+            _ => unreachable!(),
         }
     }
 

@@ -6,7 +6,7 @@ use Rattle.std.specs.List.{flat_map}
 use Rattle.std.specs.FinMap.{get}
 use Rattle.ocpi_text.specs.Party.{party_at}
 use Rattle.ocpi_text.specs.Text.{key}
-use Rattle.ocpi_types.specs.Stored.{body_of_command, body_of_reply, body_of_push}
+use Rattle.ocpi_types.specs.Stored.{body_of_reply, body_of_push}
 use Rattle.ocpi_types.specs.declared.cdrs.Cdr.{Cdr}
 use Rattle.ocpi_types.specs.declared.site.SiteLine.{SiteLine}
 use Rattle.ocpi_types.specs.declared.packet.Packet.{Packet}
@@ -14,7 +14,7 @@ use Rattle.ocpi_types.specs.declared.packet.Body.{Body}
 use Rattle.ocpi_types.specs.declared.packet.Body.TheVariants as body
 use Rattle.ocpi_types.specs.declared.replies.Ack.{Ack}
 use Rattle.ocpi_types.specs.declared.replies.CommandResult.{CommandResult}
-use Rattle.ocpi_types.specs.declared.stored.Command.{Command}
+use Rattle.ocpi_types.specs.declared.commands.Command.{Command}
 use Rattle.ocpi_types.specs.declared.stored.OpenCommand.{OpenCommand}
 use Rattle.ocpi_types.specs.declared.stored.Reply.{Reply}
 use Rattle.ocpi_types.specs.declared.stored.Reply.TheVariants as reply
@@ -86,7 +86,7 @@ RepliesStay = (s t : State) (es : List Event) → Run s es t → (k : List ℕ �
 
 -- which request a reply of an operator answers: a response answers a command, and an acknowledgement a token
 abbrev pub IsReplyTo : Reply → Body → Type 0
-IsReplyTo (reply.CommandResponse r) b = (c : Command) × (b ≡ body_of_command c)
+IsReplyTo (reply.CommandResponse r) b = (c : Command) × (b ≡ body.Command c)
 IsReplyTo (reply.Ack r) b = (t : Token) × (b ≡ body.PutToken t)
 IsReplyTo (reply.Authorization r) b = ⊥
 

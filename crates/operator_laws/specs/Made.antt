@@ -2,7 +2,6 @@
 use Rattle.std.specs.Prelude.{◌≡◌, ◌≢◌, ◌⊎◌, ◌<◌, ◌++◌, ℕ, List, ◌∷◌, Some, Contains}
 use Rattle.std.specs.FinMap.{get}
 use Rattle.ocpi_text.specs.Text.{key}
-use Rattle.ocpi_types.specs.Stored.{body_of_command}
 use Rattle.ocpi_types.specs.declared.commands.CancelReservation.{CancelReservation}
 use Rattle.ocpi_types.specs.declared.commands.ReserveNow.{ReserveNow}
 use Rattle.ocpi_types.specs.declared.packet.Body.TheVariants as body
@@ -10,7 +9,8 @@ use Rattle.ocpi_types.specs.declared.packet.Packet.{Packet}
 use Rattle.ocpi_types.specs.declared.rows.Change.TheVariants.{Put}
 use Rattle.ocpi_types.specs.declared.rows.Row.TheVariants as row
 use Rattle.ocpi_types.specs.declared.site.SiteLine.{SiteLine}
-use Rattle.ocpi_types.specs.declared.stored.Command.{Command}
+use Rattle.ocpi_types.specs.declared.commands.Command.{Command}
+use Rattle.ocpi_types.specs.declared.commands.Command.TheVariants as command
 use Rattle.ocpi_types.specs.declared.stored.OpenCommand.{OpenCommand}
 use Rattle.ocpi_types.specs.declared.stored.Reply.{Reply}
 use Rattle.ocpi_types.specs.declared.stored.Reservation.{Reservation}
@@ -49,12 +49,12 @@ pub record IsReserved (r : State) (es : List Event) (s : State) (fs : List Event
   pub asked : ReserveNow
   pub reply : Reply
   pub answered : IsAnsweredIn s fs t packet reply
-  pub carries : packet.body ≡ body.ReserveNow asked
+  pub carries : packet.body ≡ body.Command (command.ReserveNow asked)
   pub by : key packet.from ≡ p
   pub id_is : key asked.reservation_id ≡ id
   pub asks : IsAsked asked made
   pub accepted : get answered.after.rows.commands.results (p, packet.request) ≡ Some Accepted
-  pub newer : (x : Packet) (c : CancelReservation) (w : Reply) → IsAnsweredIn r es s x w → x.body ≡ body.CancelReservation c → key x.from ≡ p → key c.reservation_id ≡ id →
+  pub newer : (x : Packet) (c : CancelReservation) (w : Reply) → IsAnsweredIn r es s x w → x.body ≡ body.Command (command.CancelReservation c) → key x.from ≡ p → key c.reservation_id ≡ id →
       x.request < packet.request
 
 -- a reservation that stands, and did not stand so at an earlier state, was made in between as a RESERVE_NOW that came
@@ -69,7 +69,7 @@ pub record IsCommandOf (s : State) (es : List Event) (t : State) (p : List ℕ) 
   pub packet : Packet
   pub reply : Reply
   pub answered : IsAnsweredIn s es t packet reply
-  pub carries : packet.body ≡ body_of_command c
+  pub carries : packet.body ≡ body.Command c
   pub by : key packet.from ≡ p
   pub number : packet.request ≡ n
 

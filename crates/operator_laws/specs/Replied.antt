@@ -2,14 +2,14 @@
 use Rattle.std.specs.Prelude.{◌≡◌, ◌⊎◌, ◌≤◌, ℕ, List, Some, None, Contains}
 use Rattle.std.specs.FinMap.{get}
 use Rattle.ocpi_text.specs.Text.{key}
-use Rattle.ocpi_types.specs.Stored.{body_of_command}
 use Rattle.ocpi_types.specs.declared.commands.CancelReservation.{CancelReservation}
 use Rattle.ocpi_types.specs.declared.commands.ReserveNow.{ReserveNow}
 use Rattle.ocpi_types.specs.declared.packet.Body.TheVariants as body
 use Rattle.ocpi_types.specs.declared.packet.Packet.{Packet}
 use Rattle.ocpi_types.specs.declared.site.SiteLine.{SiteLine}
 use Rattle.ocpi_types.specs.declared.replies.CommandResult.{CommandResult}
-use Rattle.ocpi_types.specs.declared.stored.Command.{Command}
+use Rattle.ocpi_types.specs.declared.commands.Command.{Command}
+use Rattle.ocpi_types.specs.declared.commands.Command.TheVariants as command
 use Rattle.ocpi_types.specs.declared.stored.OpenCommand.{OpenCommand}
 use Rattle.ocpi_types.specs.declared.stored.Reply.{Reply}
 use Rattle.ocpi_types.specs.declared.stored.Reservation.{Reservation}
@@ -34,12 +34,12 @@ IsMarked t p id n = (m : ℕ) × (get t.rows.booked.marks (p, id) ≡ Some m) ×
 -- a cancellation that was answered, however it was, holds from then on against older requests about its reservation
 abbrev pub CancellationsAreMarked : Type 0
 CancellationsAreMarked = (s u t : State) (e : Event) (es : List Event) (q : Packet) (c : CancelReservation) (r : Reply) → Happens s e u → AnswersIt s e u q r →
-    q.body ≡ body.CancelReservation c → Run u es t → IsMarked t (key q.from) (key c.reservation_id) q.request
+    q.body ≡ body.Command (command.CancelReservation c) → Run u es t → IsMarked t (key q.from) (key c.reservation_id) q.request
 
 -- and so does a request to reserve that was accepted
 abbrev pub ReservationsAreMarked : Type 0
 ReservationsAreMarked = (s u t : State) (e : Event) (es : List Event) (q : Packet) (c : ReserveNow) (at : ℕ) → Happens s e u → AnswersIt s e u q (responded at Accepted) →
-    q.body ≡ body.ReserveNow c → Run u es t → IsMarked t (key q.from) (key c.reservation_id) q.request
+    q.body ≡ body.Command (command.ReserveNow c) → Run u es t → IsMarked t (key q.from) (key c.reservation_id) q.request
 
 -- an authorization reference that is spent stays spent
 abbrev pub SpentStays : Type 0
@@ -47,7 +47,7 @@ SpentStays = (s t : State) (es : List Event) → Run s es t → (p reference : L
 
 -- the provider asked for the reservation of that id, in the run
 abbrev pub AskedToReserve : List Event → List ℕ → List ℕ → Type 0
-AskedToReserve es p id = (q : Packet) × Came es q × (key q.from ≡ p) × ((c : ReserveNow) × (q.body ≡ body.ReserveNow c) × (key c.reservation_id ≡ id))
+AskedToReserve es p id = (q : Packet) × Came es q × (key q.from ≡ p) × ((c : ReserveNow) × (q.body ≡ body.Command (command.ReserveNow c)) × (key c.reservation_id ≡ id))
 
 -- a reservation that stands, and did not stand so before, was asked for in between
 abbrev pub ReservationsAreAskedFor : Type 0
@@ -69,7 +69,7 @@ AcceptedIsOpenOrSettled = (line : SiteLine) (es : List Event) (t : State) → Is
 
 -- a packet with that command came from that provider under that number, among these
 abbrev pub Asked : (Packet → Type 0) → List ℕ → ℕ → Command → Type 0
-Asked Came p n c = (q : Packet) × Came q × (key q.from ≡ p) × (q.request ≡ n) × (q.body ≡ body_of_command c)
+Asked Came p n c = (q : Packet) × Came q × (key q.from ≡ p) × (q.request ≡ n) × (q.body ≡ body.Command c)
 
 -- a result that was sent answers a command that came from its addressee: it is posted where that command says, and is
 -- the result that is kept for it

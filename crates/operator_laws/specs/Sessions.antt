@@ -11,6 +11,7 @@ use Rattle.ocpi_types.specs.Stored.{body_of_push}
 use Rattle.ocpi_types.specs.declared.authorizations.Authorization.TheVariants.{Done}
 use Rattle.ocpi_types.specs.declared.authorizations.AuthorizationInfo.{AuthorizationInfo}
 use Rattle.ocpi_types.specs.declared.cdrs.Cdr.{Cdr}
+use Rattle.ocpi_types.specs.declared.commands.Command.TheVariants as command
 use Rattle.ocpi_types.specs.declared.commands.StartSession.{StartSession}
 use Rattle.ocpi_types.specs.declared.packet.Body.{Body}
 use Rattle.ocpi_types.specs.declared.packet.Body.TheVariants as body
@@ -97,7 +98,7 @@ IsCarriedBy s p (InSession id) reference = (v : Session) × (get s.charged.sessi
 
 -- the packet gives the reference: it is a start, or an answer whether a token may be used
 abbrev pub GivesReference : Body → List ℕ → Type 0
-GivesReference b spelled = ((c : StartSession) × (b ≡ body.StartSession c) × (c.authorization_reference ≡ Some spelled)) ⊎
+GivesReference b spelled = ((c : StartSession) × (b ≡ body.Command (command.StartSession c)) × (c.authorization_reference ≡ Some spelled)) ⊎
     ((at : ℕ) × (info : AuthorizationInfo) × (b ≡ body.Authorization (Done at info)) × (info.authorization_reference ≡ Some spelled))
 
 -- the reference came from that provider in the run
@@ -180,5 +181,5 @@ pub record BeganIn (es : List Event) (p : List ℕ) (n : ℕ) (c : StartSession)
 -- a start that was answered in the run, and has the result ACCEPTED, began a session
 abbrev pub AcceptedStartsHaveSessions : Type 0
 AcceptedStartsHaveSessions = (line : SiteLine) (es : List Event) (t : State) → IsOfParty line → Run (opening line) es t → (q : Packet) (r : Reply) (c : StartSession) →
-    IsAnsweredIn (opening line) es t q r → q.body ≡ body.StartSession c → get t.rows.commands.results (key q.from, q.request) ≡ Some Accepted →
+    IsAnsweredIn (opening line) es t q r → q.body ≡ body.Command (command.StartSession c) → get t.rows.commands.results (key q.from, q.request) ≡ Some Accepted →
     BeganIn es (key q.from) q.request c

@@ -17,8 +17,8 @@ use Rattle.ocpi_types.specs.declared.site.Site.{Site}
 use Rattle.ocpi_types.specs.declared.cdrs.Cdr.{Cdr}
 use Rattle.ocpi_types.specs.declared.sessions.Session.{Session}
 use Rattle.ocpi_types.specs.declared.token.Token.{Token}
-use Rattle.ocpi_types.specs.declared.stored.Command.{Command}
-use Rattle.ocpi_types.specs.declared.stored.Command.TheVariants as command
+use Rattle.ocpi_types.specs.declared.commands.Command.{Command}
+use Rattle.ocpi_types.specs.declared.commands.Command.TheVariants as command
 use Rattle.ocpi_types.specs.declared.stored.OpenCommand.{OpenCommand}
 use Rattle.ocpi_types.specs.declared.stored.Push.{Push}
 use Rattle.ocpi_types.specs.declared.stored.Reservation.{Reservation}

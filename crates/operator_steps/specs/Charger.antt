@@ -4,8 +4,8 @@ use Rattle.std.specs.FinMap.{get}
 use Rattle.ocpi_text.specs.Text.{key}
 use Rattle.ocpi_types.specs.declared.events.ChargerEvent.{ChargerEvent}
 use Rattle.ocpi_types.specs.declared.events.ChargerEvent.TheVariants as event
-use Rattle.ocpi_types.specs.declared.stored.Command.{Command}
-use Rattle.ocpi_types.specs.declared.stored.Command.TheVariants as command
+use Rattle.ocpi_types.specs.declared.commands.Command.{Command}
+use Rattle.ocpi_types.specs.declared.commands.Command.TheVariants as command
 use Rattle.ocpi_types.specs.declared.stored.OpenCommand.{OpenCommand}
 use Rattle.ocpi_types.specs.declared.words.CommandResultType.{CommandResultType}
 use Rattle.ocpi_types.specs.declared.words.CommandResultType.TheVariants as result

@@ -2,12 +2,11 @@
 use Rattle.std.specs.Prelude.{◌≡◌, ◌≢◌, ◌⊎◌, ℕ, List, [], ◌∷◌, Some, None}
 use Rattle.std.specs.FinMap.{get}
 use Rattle.ocpi_text.specs.Text.{key}
-use Rattle.ocpi_types.specs.Stored.{body_of_command}
 use Rattle.ocpi_types.specs.declared.packet.Packet.{Packet}
 use Rattle.ocpi_types.specs.declared.packet.Body.{Body}
 use Rattle.ocpi_types.specs.declared.packet.Body.TheVariants as body
 use Rattle.ocpi_types.specs.declared.replies.Ack.{Ack}
-use Rattle.ocpi_types.specs.declared.stored.Command.{Command}
+use Rattle.ocpi_types.specs.declared.commands.Command.{Command}
 use Rattle.ocpi_types.specs.declared.stored.Reply.{Reply}
 use Rattle.ocpi_types.specs.declared.authorizations.Authorization.{Authorization}
 use Rattle.ocpi_types.specs.declared.rows.Change.TheVariants.{Put}
@@ -33,13 +32,13 @@ Acknowledges s q a = (a.status_code ≡ 1000) × IsTo s.rows.pushes q.from q.req
 
 -- a command that has no reply yet is decided
 pub record IsDecided (s : State) (at : ℕ) (q : Packet) (c : Command) (d : Decision) : Type 0 where
-  pub carries : q.body ≡ body_of_command c
+  pub carries : q.body ≡ body.Command c
   pub new : get s.rows.commands.replies (key q.from, q.request) ≡ None
   pub decides : Decides s.site s.rows at q.from q.request c d
 
 -- the bodies of requests that an operator answers, and keeps its replies to: commands and tokens
 abbrev pub IsRequestBody : Body → Type 0
-IsRequestBody b = ((c : Command) × (b ≡ body_of_command c)) ⊎ ((t : Token) × (b ≡ body.PutToken t))
+IsRequestBody b = ((c : Command) × (b ≡ body.Command c)) ⊎ ((t : Token) × (b ≡ body.PutToken t))
 
 -- an acknowledgement of that status, without data
 abbrev pub acknowledgement : ℕ → ℕ → Reply

@@ -1,10 +1,12 @@
 -- Rows that are bad are those of no operator of the site, and those of an operator make the very same.
-use Rattle.std.proofs.Common.{◌≡◌, ◌≢◌, ◌≤◌, ℕ, zero, suc, List, inl, inr, refl, sym, ap, subst, ◌∙◌, arith}
+use Rattle.std.proofs.Common.{◌≡◌, ◌≢◌, ◌≤◌, ℕ, zero, suc, Bool, true, false, List, ◌⊎◌, inl, inr, refl, sym, ap, subst, ◌∙◌, arith}
 use Rattle.std.specs.Prelude.{Some, Contains, IsTrue, is_some, slice_get}
 use Rattle.std.specs.FinMap.{get, contains_key}
 use Rattle.std.proofs.lemmas.Option.{slice_get_within, get_or_from_slice_get}
+use Rattle.ocpi_text.specs.OwnIds.{own_id_text}
 use Rattle.ocpi_text.specs.Text.{key}
 use Rattle.ocpi_text.specs.declared.own_ids.OwnIdKind.TheVariants as own
+use Rattle.ocpi_types.specs.Credits.{IsBill, IsCredit, is_credit}
 use Rattle.ocpi_types.specs.declared.cdrs.Cdr.{Cdr}
 use Rattle.ocpi_types.specs.declared.sessions.Session.{Session}
 use Rattle.ocpi_types.specs.declared.site.SiteLine.{SiteLine}
@@ -22,7 +24,9 @@ use Rattle.site_book.specs.declared.claim.Claim.{Claim}
 use Rattle.tables.proofs.Options.{known, none_contained, not_both}
 use Rattle.token_desk.specs.Tokens.{token_key}
 use Rattle.stored_rows.specs.Given.{IsNotGiven, IsOwnId}
+use Rattle.stored_rows.specs.Records.{IsRecordId}
 use Rattle.stored_rows.specs.declared.fault.BadReason.{BadReason}
+use Rattle.stored_rows.proofs.RecordNumbers.{bill_made, credit_made, same_bill}
 use Rattle.stored_rows.proofs.Repeated.{none_repeated}
 use Rattle.operator_rows.specs.Rows.{AreRowsOf, HasRow}
 use Rattle.operator_rows.specs.Sound.{IsSound, with_rows}
@@ -33,7 +37,7 @@ use Rattle.operator_stored.specs.Bad.{IsBad, IsForeign, MakesClaim}
 use Rattle.operator_stored.specs.Bad.{Repeated, Foreign, NothingCounted, PushNotGiven, SessionNotGiven, CdrNotGiven, SessionOfOther, CdrOfOther, SessionIdNotOwn, CdrIdNotOwn}
 use Rattle.operator_stored.specs.Bad.{PushToStranger, TokenOfStranger, CommandOfStranger, SessionOfStranger, StartOfOtherToken, ServiceNowhere, ReservationNowhere}
 use Rattle.operator_stored.specs.Bad.{StartNowhere, SessionNowhere, ClaimedTwice, OpenUnanswered, ResultUnanswered, OpenWithResult, ResultOfOpen, PushedTwice, Stuck, BilledTwice}
-use Rattle.operator_stored.specs.Bad.{BilledEarly, Unbilled}
+use Rattle.operator_stored.specs.Bad.{BilledEarly, CreditWithoutBill, Unbilled}
 use Rattle.operator_stored.specs.Bills.{BillsTwice}
 use Rattle.operator_stored.specs.Making.{BadRowsAreOfNone, IsMadeOf, RowsMakeAgain, StartsAgain}
 use Rattle.operator_stored.specs.Whole.{IsWhole}
@@ -71,6 +75,14 @@ makes_claim s (row.Reservation p id r) evse c h m = subst (HasClaim s evse) (sym
 makes_claim s (row.Session v) evse c h m = subst (HasClaim s evse) (sym m.2) (v, h, m.1)
 makes_claim s other evse c h m = absurd m
 
+-- a charge detail record is a bill or a credit
+pub bill_or_credit : (x : Cdr) → IsBill x ⊎ IsCredit x
+bill_or_credit x = either (is_credit x)
+  where
+    either : (b : Bool) → (b ≡ false) ⊎ (b ≡ true)
+    either false = inl refl
+    either true = inr refl
+
 -- an element at a place is one of the list
 pub at_place : {X : Type 0} (xs : List X) (k : ℕ) (x : X) → slice_get xs k ≡ Some x → Contains xs x
 at_place xs k x is = (k, slice_get_within xs k x is, get_or_from_slice_get xs k x x is)
@@ -103,16 +115,25 @@ module _ (line : SiteLine) (list : List Row) (rows : Rows) (all : AreRowsOf list
     session_given v n has own_id =
         sound.numbered.sessions n own_id.is_number (subst (λ id. IsTrue (contains_key rows.charged.sessions (key id))) own_id.made (ap is_some has))
 
-    cdr_given : (x : Cdr) (n : ℕ) → get rows.charged.cdrs (key x.id) ≡ Some x → IsOwnId own.Cdr line.parties.operator x.id n → n ≤ rows.charged.last_cdr
-    cdr_given x n has own_id =
-        sound.numbered.cdrs n own_id.is_number (subst (λ id. IsTrue (contains_key rows.charged.cdrs (key id))) own_id.made (ap is_some has))
+    -- a bill has a number that was given, and so has a credit, by its bill
+    cdr_given : (x : Cdr) (n : ℕ) → get rows.charged.cdrs (key x.id) ≡ Some x → IsRecordId line.parties.operator x n → n ≤ rows.charged.last_cdr
+    cdr_given x n has made = sound.numbered.cdrs n made.is_number (elim (bill_or_credit x) [
+      | inl bill ↦ stored x.id (bill_made line.parties.operator x n made bill).made (ap is_some has)
+      | inr credit ↦
+          let y = whole.billed.credited (key x.id) x has credit in
+          stored y.0.id (same_bill y.0.id (own_id_text own.Cdr line.parties.operator n) (sym y.2.id ∙ credit_made line.parties.operator x n made credit)) (ap is_some y.1)
+    ])
+      where
+        stored : (id : List ℕ) → id ≡ own_id_text own.Cdr line.parties.operator n → IsTrue (contains_key rows.charged.cdrs (key id)) →
+            IsTrue (contains_key rows.charged.cdrs (key (own_id_text own.Cdr line.parties.operator n)))
+        stored id is there = subst (λ k. IsTrue (contains_key rows.charged.cdrs (key k))) is there
 
-    -- two rows at different places of the list have different keys, so they are not two records of one session
+    -- two rows at different places of the list have different keys, so they are not two bills or credits of one session
     not_twice : BillsTwice list → ⊥
     not_twice t =
         let one = stands (row.Cdr t.one) (at_place list t.first (row.Cdr t.one) t.one_is) in
         let other = stands (row.Cdr t.other) (at_place list t.second (row.Cdr t.other) t.other_is) in
-        let id : key t.one.id ≡ key t.other.id = whole.billed.once (key t.one.id) (key t.other.id) t.one t.other one other t.same in
+        let id : key t.one.id ≡ key t.other.id = whole.billed.once (key t.one.id) (key t.other.id) t.one t.other one other t.alike t.same in
         let party : key t.one.party ≡ key t.other.party = sound.cdrs (key t.one.id) t.one one ∙ sym (sound.cdrs (key t.other.id) t.other other) in
         none_repeated list all.apart (record {
           first = t.first;
@@ -166,7 +187,10 @@ module _ (line : SiteLine) (list : List Row) (rows : Rows) (all : AreRowsOf list
     not_bad _ _ (BilledEarly x h none) = let found = has_session x (stands (row.Cdr x) h) in none found
     not_bad _ _ (Unbilled v h done none) =
         let found = whole.billed.each (key v.id) v (stands (row.Session v) h) done in
-        none (found.0, (all.exact (row.Cdr found.0)).1 found.1, found.2)
+        none (found.0, (all.exact (row.Cdr found.0)).1 found.1, found.2, found.3)
+    not_bad _ _ (CreditWithoutBill x h credit none) =
+        let bill = whole.billed.credited (key x.id) x (stands (row.Cdr x) h) credit in
+        none (bill.0, (all.exact (row.Cdr bill.0)).1 bill.1, bill.2)
 
 pub bad_of_none : BadRowsAreOfNone
 bad_of_none line list k reason is s sound made =

@@ -1,5 +1,5 @@
 -- The operator that is made of rows, once they are put and their bills are seen to be right.
-use Rattle.std.proofs.Common.{◌≡◌, ℕ, List, inl, inr, refl, sym, ap, subst, ◌∙◌}
+use Rattle.std.proofs.Common.{◌≡◌, ℕ, List, refl, sym, ap, subst, ◌∙◌}
 use Rattle.std.specs.Prelude.{Some}
 use Rattle.std.specs.FinMap.{get}
 use Rattle.std.specs.List.Sorted.{IsPermutation}
@@ -20,8 +20,8 @@ use Rattle.operator_rows.specs.Rows.{AreRowsOf}
 use Rattle.operator_rows.specs.Sound.{IsConsistent, IsSound}
 use Rattle.operator_rows.specs.State.{State}
 use Rattle.operator_rows.specs.Steps.{restarted}
-use Rattle.operator_stored.specs.Bad.{IsBad, BilledEarly, BilledTwice, Unbilled}
-use Rattle.operator_stored.specs.Bills.{AreBillsOf, IsMisbilled, Early, Never, Twice}
+use Rattle.operator_stored.specs.Bad.{IsBad, BilledEarly, BilledTwice, CreditWithoutBill, Unbilled}
+use Rattle.operator_stored.specs.Bills.{AreBillsOf, IsMisbilled, Alone, Early, Never, Twice}
 use Rattle.operator_stored.specs.Making.{IsMadeOf, StartsAgain}
 use Rattle.operator_stored.specs.Placing.{ArePut}
 use Rattle.operator_stored.specs.Whole.{AreBilled, IsWhole}
@@ -32,6 +32,7 @@ pub misbilled_is_bad : (line : SiteLine) (rows : List Row) (k : RowKey) (reason 
 misbilled_is_bad line rows _ _ (Twice t) = BilledTwice t
 misbilled_is_bad line rows _ _ (Early x h none) = BilledEarly x h none
 misbilled_is_bad line rows _ _ (Never v h done none) = Unbilled v h done none
+misbilled_is_bad line rows _ _ (Alone x h credit none) = CreditWithoutBill x h credit none
 
 misbilled_fault : (line : SiteLine) (rows : List Row) (e : RowsFault) → IfBadRows (IsMisbilled rows) e → IfBadRows (IsBad line rows) e
 misbilled_fault line rows (BadRows bad) h = misbilled_is_bad line rows bad.key bad.reason h
@@ -51,13 +52,16 @@ module _ (line : SiteLine) (rows : List Row) (s : State) (sound : IsSound s) (pu
   billed_of bills = record {
     each = λ id v has done.
         let bill = bills.each v ((put.has_rows.exact (row.Session v)).1 (session_row id v has)) done in
-        (bill.0, (put.has_rows.exact (row.Cdr bill.0)).0 bill.1, bill.2);
+        (bill.0, (put.has_rows.exact (row.Cdr bill.0)).0 bill.1, bill.2, bill.3);
     only = λ id x has.
         let ended = bills.only x ((put.has_rows.exact (row.Cdr x)).1 (cdr_row id x has)) in
         (ended.0, subst (λ k. get s.rows.charged.sessions k ≡ Some ended.0) ended.2 ((put.has_rows.exact (row.Session ended.0)).0 ended.1), ended.3);
-    once = λ i j x y hx hy same.
-        let is : x ≡ y = bills.once x y ((put.has_rows.exact (row.Cdr x)).1 (cdr_row i x hx)) ((put.has_rows.exact (row.Cdr y)).1 (cdr_row j y hy)) same in
+    once = λ i j x y hx hy alike same.
+        let is : x ≡ y = bills.once x y ((put.has_rows.exact (row.Cdr x)).1 (cdr_row i x hx)) ((put.has_rows.exact (row.Cdr y)).1 (cdr_row j y hy)) alike same in
         sound.charged_keyed.cdrs i x hx ∙ ap (λ (z : Cdr). key z.id) is ∙ sym (sound.charged_keyed.cdrs j y hy);
+    credited = λ id x has credit.
+        let bill = bills.credited x ((put.has_rows.exact (row.Cdr x)).1 (cdr_row id x has)) credit in
+        (bill.0, (put.has_rows.exact (row.Cdr bill.0)).0 bill.1, bill.2);
   }
 
   pub whole_of : AreBillsOf rows → IsWhole s

@@ -15,6 +15,7 @@ use Rattle.tables.specs.Keys.{text_total, text_exact, text_number_total, text_nu
 use Rattle.tables.proofs.Elements.{in_none, in_front}
 use Rattle.tables.proofs.Maps.{told}
 use Rattle.tables.proofs.Options.{none_else}
+use Rattle.ocpi_types.specs.Credits.{AreAlike, IsCredit}
 use Rattle.ocpi_types.specs.declared.cdrs.Cdr.{Cdr}
 use Rattle.ocpi_types.specs.declared.sessions.Session.{Session}
 use Rattle.ocpi_types.specs.declared.site.SiteLine.{SiteLine}
@@ -40,6 +41,7 @@ use Rattle.token_desk.specs.Tokens.{TokenKey, token_key}
 use Rattle.token_desk.specs.TypeOrder.{tokens_total, tokens_exact}
 use Rattle.node_steps.specs.Peers.{HasPeer}
 use Rattle.stored_rows.specs.Given.{IsNotGiven, IsOwnId}
+use Rattle.stored_rows.specs.Records.{IsRecordId}
 use Rattle.stored_rows.specs.declared.fault.BadReason.{BadReason}
 use Rattle.operator_rows.specs.Rows.{HasRow}
 use Rattle.operator_rows.specs.Sound.{HasPlace, IsOwnStart, IsSound, MayBeOpen, MayStand, with_rows}
@@ -47,10 +49,12 @@ use Rattle.operator_rows.specs.State.{HasClaim, IsLive, IsStart, Rows, State, as
 use Rattle.operator_rows.proofs.RowChanges.{of_cons, in_later}
 use Rattle.operator_stored.specs.Bad.{IsBad, MakesClaim, PushNotGiven, SessionNotGiven, CdrNotGiven, SessionIdNotOwn, CdrIdNotOwn, PushToStranger, TokenOfStranger}
 use Rattle.operator_stored.specs.Bad.{CommandOfStranger, SessionOfStranger, StartOfOtherToken, ServiceNowhere, ReservationNowhere, StartNowhere, SessionNowhere}
-use Rattle.operator_stored.specs.Bad.{ClaimedTwice, OpenUnanswered, ResultUnanswered, OpenWithResult, PushedTwice, Stuck, BilledTwice, BilledEarly, Unbilled}
-use Rattle.operator_stored.specs.Bills.{BillsTwice}
+use Rattle.operator_stored.specs.Bad.{ClaimedTwice, OpenUnanswered, ResultUnanswered, OpenWithResult, PushedTwice, Stuck, BilledTwice, BilledEarly, CreditWithoutBill, Unbilled}
+use Rattle.operator_stored.specs.Bills.{BillsTwice, HasBill, HasItsBill}
 use Rattle.operator_stored.specs.Making.{OtherRowsAreBad}
 use Rattle.operator_stored.specs.Whole.{AreBilled, IsWhole}
+use Rattle.stored_rows.proofs.RecordNumbers.{bill_made, credit_made, no_credit}
+use Rattle.operator_stored.proofs.BadRows.{bill_or_credit}
 use Rattle.operator_stored.proofs.Gathered.{gathered_rows, gathered_exact, gathered_are, comes_of, own_session, own_cdr}
 use Rattle.operator_stored.proofs.Gathered.{token_of, token_keyed, session_of, session_keyed, cdr_of, cdr_keyed}
 
@@ -73,11 +77,12 @@ record FitsSession (line : SiteLine) (rows : List Row) (v : Session) : Type 0 wh
   priced : HasCost line.site.price v
   provider : IsLive v.status → HasPeer line.parties.providers (key v.cdr_token.party)
   place : IsLive v.status → IsConnectorOf line.site.locations (key v.evse_uid) (key v.connector_id)
-  billed : v.status ≡ Completed → (x : Cdr) × Contains rows (row.Cdr x) × (key x.session_id ≡ key v.id)
+  billed : v.status ≡ Completed → HasBill rows (key v.id)
 
 record FitsCdr (line : SiteLine) (rows : List Row) (x : Cdr) : Type 0 where
-  made : (n : ℕ) × IsOwnId own.Cdr line.parties.operator x.id n
+  made : (n : ℕ) × IsRecordId line.parties.operator x n
   ended : (v : Session) × Contains rows (row.Session v) × (key v.id ≡ key x.session_id) × (v.status ≡ Completed)
+  credited : IsCredit x → HasItsBill rows x
 
 abbrev Fits : SiteLine → List Row → Row → Type 0
 Fits line rows (row.Token t) = HasPeer line.parties.providers (key t.party)
@@ -125,12 +130,16 @@ module _ (line : SiteLine) (rows : List Row) (good : (k : RowKey) (reason : BadR
       given (λ (live : IsLive v.status). λ (stranger : HasPeer line.parties.providers (key v.cdr_token.party) → ⊥). good _ _ (SessionOfStranger v h live stranger)) (λ provider.
       given (λ (live : IsLive v.status). λ (nowhere : IsConnectorOf line.site.locations (key v.evse_uid) (key v.connector_id) → ⊥).
       good _ _ (SessionNowhere v h live nowhere)) (λ place.
-      given (λ (done : v.status ≡ Completed). λ (none : (x : Cdr) × Contains rows (row.Cdr x) × (key x.session_id ≡ key v.id) → ⊥).
+      given (λ (done : v.status ≡ Completed). λ (none : HasBill rows (key v.id) → ⊥).
       good _ _ (Unbilled v h done none)) (λ billed.
       refuted (record { made = (n, made); priced = priced; provider = provider; place = place; billed = billed })))))))))
 
   fits_cdr : (x : Cdr) → Contains rows (row.Cdr x) → NotNot (FitsCdr line rows x)
-  fits_cdr x h refuted = good _ _ (CdrIdNotOwn x h (λ n made. good _ _ (BilledEarly x h (λ ended. refuted (record { made = (n, made); ended = ended })))))
+  fits_cdr x h refuted =
+      good _ _ (CdrIdNotOwn x h (λ n made.
+      good _ _ (BilledEarly x h (λ ended.
+      given (λ (credit : IsCredit x). λ (none : HasItsBill rows x → ⊥). good _ _ (CreditWithoutBill x h credit none)) (λ credited.
+      refuted (record { made = (n, made); ended = ended; credited = credited }))))))
 
   fits : (r : Row) → Contains rows r → NotNot (Fits line rows r)
   fits (row.Token t) h refuted = good _ _ (TokenOfStranger t h refuted)
@@ -243,6 +252,12 @@ module _ (line : SiteLine) (rows : List Row) (good : (k : RowKey) (reason : BadR
         | inr apart ↦ absurd (ids_differ k line.parties.operator n m own_party below made.is_number apart (same ∙ ap key made.made))
       ]
 
+      same_record_number : (x : Cdr) (n m : ℕ) → n ≤ max_whole → IsRecordId line.parties.operator x m → id_key own.Cdr line.parties.operator n ≡ key x.id → n ≡ m
+      same_record_number x n m below made same = elim (bill_or_credit x) [
+        | inl bill ↦ same_number own.Cdr x.id n m below (bill_made line.parties.operator x m made bill) same
+        | inr credit ↦ absurd (no_credit own.Cdr own.Cdr line.parties.operator line.parties.operator n m (same ∙ ap key (credit_made line.parties.operator x m made credit)))
+      ]
+
       session_counted : (n : ℕ) → n ≤ max_whole → IsTrue (contains_key stored.charged.sessions (id_key own.Session line.parties.operator n)) → n ≤ stored.charged.last_session
       session_counted n below h =
           let id = id_key own.Session line.parties.operator n in
@@ -262,9 +277,9 @@ module _ (line : SiteLine) (rows : List Row) (good : (k : RowKey) (reason : BadR
           let x = has_some (get stored.charged.cdrs id) h in
           let i = cdr_in id x.0 x.1 in
           let m = (all (row.Cdr x.0) i).made in
-          let is : n ≡ m.0 = same_number own.Cdr x.0.id n m.0 below m.1 (key_of_cdr id x.0 x.1) in
+          let is : n ≡ m.0 = same_record_number x.0 n m.0 below m.1 (key_of_cdr id x.0 x.1) in
           elim (cases_lt stored.charged.last_cdr n) [
-            | inl over ↦ absurd (good _ _ (CdrNotGiven x.0 n i (subst (IsOwnId own.Cdr line.parties.operator x.0.id) (sym is) m.1)
+            | inl over ↦ absurd (good _ _ (CdrNotGiven x.0 n i (subst (IsRecordId line.parties.operator x.0) (sym is) m.1)
                 (not_given counter.Cdr n stored.charged.last_cdr (λ q j. (stands (row.Count counter.Cdr q) j).0) over)))
             | inr up_to ↦ omega arith
           ]
@@ -287,8 +302,9 @@ module _ (line : SiteLine) (rows : List Row) (good : (k : RowKey) (reason : BadR
       }
 
     -- two charge detail records of different ids stand at different places
-    two_bills : (x y : Cdr) → Contains rows (row.Cdr x) → Contains rows (row.Cdr y) → key x.id ≢ key y.id → key x.session_id ≡ key y.session_id → BillsTwice rows
-    two_bills x y h k apart same =
+    two_bills : (x y : Cdr) → Contains rows (row.Cdr x) → Contains rows (row.Cdr y) → key x.id ≢ key y.id → AreAlike x y → key x.session_id ≡ key y.session_id →
+        BillsTwice rows
+    two_bills x y h k apart alike same =
         let here = slice_get-get_or rows h.0 (row.Cdr x) h.1 ∙ ap (λ (r : Row). Some r) h.2 in
         let there = slice_get-get_or rows k.0 (row.Cdr y) k.1 ∙ ap (λ (r : Row). Some r) k.2 in
         record {
@@ -302,6 +318,7 @@ module _ (line : SiteLine) (rows : List Row) (good : (k : RowKey) (reason : BadR
               apart (ap (λ (z : Cdr). key z.id) is);
           one_is = here;
           other_is = there;
+          alike = alike;
           same = same;
         }
 
@@ -309,14 +326,17 @@ module _ (line : SiteLine) (rows : List Row) (good : (k : RowKey) (reason : BadR
     made_billed = record {
       each = λ id v has done.
           let bill = (all (row.Session v) (session_in id v has)).billed done in
-          (bill.0, stands (row.Cdr bill.0) bill.1, bill.2);
+          (bill.0, stands (row.Cdr bill.0) bill.1, bill.2, bill.3);
       only = λ id x has.
           let ended = (all (row.Cdr x) (cdr_in id x has)).ended in
           (ended.0, subst (λ k. get stored.charged.sessions k ≡ Some ended.0) ended.2 (stands (row.Session ended.0) ended.1), ended.3);
-      once = λ i j x y hx hy same. elim (told text_total text_exact (key x.id) (key y.id)) [
+      once = λ i j x y hx hy alike same. elim (told text_total text_exact (key x.id) (key y.id)) [
         | inl is ↦ key_of_cdr i x hx ∙ is ∙ sym (key_of_cdr j y hy)
-        | inr apart ↦ absurd (good _ _ (BilledTwice (two_bills x y (cdr_in i x hx) (cdr_in j y hy) apart same)))
+        | inr apart ↦ absurd (good _ _ (BilledTwice (two_bills x y (cdr_in i x hx) (cdr_in j y hy) apart alike same)))
       ];
+      credited = λ id x has credit.
+          let bill = (all (row.Cdr x) (cdr_in id x has)).credited credit in
+          (bill.0, stands (row.Cdr bill.0) bill.1, bill.2);
     }
 
     made_whole : IsWhole made_state

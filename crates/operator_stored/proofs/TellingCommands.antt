@@ -1,5 +1,5 @@
 -- What tells that a command may be open or have a result, and what that the rows are bad.
-use Rattle.std.proofs.Common.{◌≡◌, ℕ, List, Bool, true, false, not, MatchBool, refl, sym, ap, subst, ◌∙◌, arith}
+use Rattle.std.proofs.Common.{◌≡◌, ℕ, List, Bool, true, false, not, refl, sym, ap, subst, ◌∙◌, arith}
 use Rattle.std.specs.Prelude.{Option, Some, None, is_some, option_copied}
 use Rattle.std.specs.FinMap.{get}
 use denote.Ref.{Bor}

@@ -1,5 +1,5 @@
 -- What tells that a session or a charge detail record may stand, and what that the rows are bad.
-use Rattle.std.proofs.Common.{◌≡◌, ◌≢◌, ℤ, ℕ, ◌≤◌, ◌<◌, List, Bool, true, false, not, true≢false, MatchBool, ◌⊎◌, inl, inr, refl, sym, ap, subst, ◌∙◌, arith}
+use Rattle.std.proofs.Common.{◌≡◌, ◌≢◌, ℤ, ℕ, ◌≤◌, ◌<◌, List, Bool, true, false, not, true≢false, ◌⊎◌, inl, inr, refl, sym, ap, subst, ◌∙◌, arith}
 use Rattle.std.specs.Prelude.{Option, Some, None, IfSome, Ok}
 use Rattle.std.specs.FinMap.{get}
 use Rattle.std.proofs.lemmas.Bool.{cases_lt}
@@ -22,8 +22,11 @@ use Rattle.site_book.specs.Sites.{IsConnectorOf}
 use Rattle.site_book.specs.declared.claim.Claim.{Claim}
 use Rattle.site_book.specs.declared.claim.Claim.TheVariants.{Live}
 use Rattle.stored_rows.specs.Given.{IsOwnId}
+use Rattle.stored_rows.specs.Records.{IsRecordId}
+use Rattle.stored_rows.proofs.RecordNumbers.{bill_made, credit_made, no_credit}
 use Rattle.stored_rows.specs.declared.fault.BadReason.TheVariants as reason
 use Rattle.operator_rows.specs.State.{HasClaim, IsFree, IsLive, State}
+use Rattle.operator_stored.proofs.BadRows.{bill_or_credit}
 use Rattle.operator_stored.proofs.Telling.{claimed_twice, count_of, free_may, party_of, site_of, stranger}
 use Rattle.operator_stored.specs.Bad.{CdrIdNotOwn, CdrNotGiven, CdrOfOther, SessionIdNotOwn, SessionNotGiven, SessionNowhere, SessionOfOther, SessionOfStranger, Stuck}
 use Rattle.operator_stored.specs.Placing.{ComesNext, IsOwn, MayAdd, MayCharge, ShowsBad}
@@ -44,6 +47,15 @@ sole_number None k p q id same fine h = tt
 sole_number (Some n) k p q id same fine h = λ m fits is. elim (equal_or_not m n) [
   | inl e ↦ e
   | inr apart ↦ absurd (ids_differ k q m n fine fits h.is_number apart (is ∙ ap key h.made ∙ ap (λ (z : List ℕ). key (own_id_text k z n)) same))
+]
+
+-- nor does it the id of a charge detail record
+pub sole_record : (o : Option ℕ) (p q : List ℕ) (x : Cdr) → p ≡ q → party_at q ≡ Ok q → IfSome o (λ n. IsRecordId p x n) →
+    IfSome o (λ n. (m : ℕ) → m ≤ max_whole → key (own_id_text own.Cdr q m) ≡ key x.id → m ≡ n)
+sole_record None p q x same fine h = tt
+sole_record (Some n) p q x same fine h = elim (bill_or_credit x) [
+  | inl bill ↦ sole_number (Some n) own.Cdr p q x.id same fine (bill_made p x n h bill)
+  | inr credit ↦ λ m fits is. absurd (no_credit own.Cdr own.Cdr q p m n (is ∙ ap key (credit_made p x n h credit)))
 ]
 
 pub own_of : (s : State) (k : OwnIdKind) (last n : ℕ) (party id : List ℕ) → key party ≡ key s.party → IsOwnId k s.party id n →
@@ -109,23 +121,24 @@ module _ (s : State) (x : Cdr) where
   pub cdr_of_other : (key x.party ≡ key s.party → ⊥) → ShowsBad s (row.Cdr x) reason.OfOtherParty
   cdr_of_other other line rows h = CdrOfOther x h.here (λ e. other (e ∙ ap key (sym (party_of s (row.Cdr x) line rows h))))
 
-  pub cdr_not_own : ((n : ℕ) → IsOwnId own.Cdr s.party x.id n → ⊥) → ShowsBad s (row.Cdr x) reason.NotOwnId
+  pub cdr_not_own : ((n : ℕ) → IsRecordId s.party x n → ⊥) → ShowsBad s (row.Cdr x) reason.NotOwnId
   cdr_not_own none line rows h =
-      CdrIdNotOwn x h.here (λ n is. none n (subst (λ (p : List ℕ). IsOwnId own.Cdr p x.id n) (sym (party_of s (row.Cdr x) line rows h)) is))
+      CdrIdNotOwn x h.here (λ n is. none n (subst (λ (p : List ℕ). IsRecordId p x n) (sym (party_of s (row.Cdr x) line rows h)) is))
 
-  pub cdr_not_given : (n : ℕ) → IsOwnId own.Cdr s.party x.id n → s.rows.charged.last_cdr < n → ShowsBad s (row.Cdr x) reason.NotGiven
+  pub cdr_not_given : (n : ℕ) → IsRecordId s.party x n → s.rows.charged.last_cdr < n → ShowsBad s (row.Cdr x) reason.NotGiven
   cdr_not_given n is beyond line rows h =
-      CdrNotGiven x n h.here (subst (λ (p : List ℕ). IsOwnId own.Cdr p x.id n) (party_of s (row.Cdr x) line rows h) is) (record {
+      CdrNotGiven x n h.here (subst (λ (p : List ℕ). IsRecordId p x n) (party_of s (row.Cdr x) line rows h) is) (record {
         some_number = λ e. absurd (omega arith);
         above = λ last there. let c = count_of s (row.Cdr x) line rows h counter.Cdr last (omega arith) there in
             let same : s.rows.charged.last_cdr ≡ last = c.0 in omega arith;
       })
 
-  pub own_cdr : (n : ℕ) → key x.party ≡ key s.party → IsOwnId own.Cdr s.party x.id n →
+  pub own_cdr : (n : ℕ) → key x.party ≡ key s.party → IsRecordId s.party x n →
       ((m : ℕ) → m ≤ max_whole → key (own_id_text own.Cdr s.party m) ≡ key x.id → m ≡ n) → n ≤ s.rows.charged.last_cdr → MayAdd s (row.Cdr x)
   own_cdr n of made sole most =
-      let o = own_of s own.Cdr s.rows.charged.last_cdr n x.party x.id of made sole most in
-      record { may = record { own = of; number = o.given }; fit = (n, made) }
+      let given = λ (m : ℕ) (fits : m ≤ max_whole) (same : key (own_id_text own.Cdr s.party m) ≡ key x.id).
+      subst (λ (z : ℕ). z ≤ s.rows.charged.last_cdr) (sym (sole m fits same)) most in
+      record { may = record { own = of; number = given }; fit = (n, made) }
 
 -- whether the EVSE of a session has its connector
 module _ (b : Bool) (site : Site) (s : State) (v : Session) (evse : List ℕ) (same : site ≡ s.site) (is : evse ≡ key v.evse_uid) where

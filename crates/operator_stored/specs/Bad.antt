@@ -2,6 +2,7 @@
 use Rattle.std.specs.Prelude.{◌≡◌, ◌≢◌, ℕ, List, Some, Contains, ⊤}
 use Rattle.ocpi_text.specs.Text.{key}
 use Rattle.ocpi_text.specs.declared.own_ids.OwnIdKind.TheVariants as own
+use Rattle.ocpi_types.specs.Credits.{IsCredit}
 use Rattle.ocpi_types.specs.Rows.{key_of}
 use Rattle.ocpi_types.specs.declared.cdrs.Cdr.{Cdr}
 use Rattle.ocpi_types.specs.declared.rows.Counter.{Counter}
@@ -29,9 +30,10 @@ use Rattle.node_steps.specs.Peers.{HasPeer}
 use Rattle.operator_rows.specs.Sound.{HasPlace, IsOwnStart}
 use Rattle.operator_rows.specs.State.{IsLive, IsStart, Occupies, Takes}
 use Rattle.stored_rows.specs.Given.{IsNotGiven, IsOwnId, RepeatsKey}
+use Rattle.stored_rows.specs.Records.{IsRecordId}
 use Rattle.stored_rows.specs.declared.fault.BadReason.{BadReason}
 use Rattle.stored_rows.specs.declared.fault.BadReason.TheVariants as reason
-use Rattle.operator_stored.specs.Bills.{BillsTwice, HasBill, HasEnded}
+use Rattle.operator_stored.specs.Bills.{BillsTwice, HasBill, HasEnded, HasItsBill}
 
 -- an operator stores no such row: it gives no authorization references to orders of its own, and sends no commands
 abbrev pub IsForeign : Row → Type 0
@@ -56,14 +58,14 @@ pub data IsBad (line : SiteLine) (rows : List Row) : RowKey → BadReason → Ty
       IsBad line rows (keys.Push n) reason.NotGiven
   SessionNotGiven : (v : Session) (n : ℕ) → Contains rows (row.Session v) → IsOwnId own.Session line.parties.operator v.id n → IsNotGiven rows counter.Session n →
       IsBad line rows (key_of (row.Session v)) reason.NotGiven
-  CdrNotGiven : (x : Cdr) (n : ℕ) → Contains rows (row.Cdr x) → IsOwnId own.Cdr line.parties.operator x.id n → IsNotGiven rows counter.Cdr n →
+  CdrNotGiven : (x : Cdr) (n : ℕ) → Contains rows (row.Cdr x) → IsRecordId line.parties.operator x n → IsNotGiven rows counter.Cdr n →
       IsBad line rows (key_of (row.Cdr x)) reason.NotGiven
   -- ---- parties: what is not the operator's own, and what concerns a provider that is none of the site's
   SessionOfOther : (v : Session) → Contains rows (row.Session v) → key v.party ≢ key line.parties.operator → IsBad line rows (key_of (row.Session v)) reason.OfOtherParty
   CdrOfOther : (x : Cdr) → Contains rows (row.Cdr x) → key x.party ≢ key line.parties.operator → IsBad line rows (key_of (row.Cdr x)) reason.OfOtherParty
   SessionIdNotOwn : (v : Session) → Contains rows (row.Session v) → ((n : ℕ) → IsOwnId own.Session line.parties.operator v.id n → ⊥) →
       IsBad line rows (key_of (row.Session v)) reason.NotOwnId
-  CdrIdNotOwn : (x : Cdr) → Contains rows (row.Cdr x) → ((n : ℕ) → IsOwnId own.Cdr line.parties.operator x.id n → ⊥) →
+  CdrIdNotOwn : (x : Cdr) → Contains rows (row.Cdr x) → ((n : ℕ) → IsRecordId line.parties.operator x n → ⊥) →
       IsBad line rows (key_of (row.Cdr x)) reason.NotOwnId
   PushToStranger : (n : ℕ) (to : List ℕ) (push : Push) → Contains rows (row.Push n to push) → ¬ HasPeer line.parties.providers (key to) →
       IsBad line rows (keys.Push n) reason.UnknownParty
@@ -98,8 +100,9 @@ pub data IsBad (line : SiteLine) (rows : List Row) : RowKey → BadReason → Ty
   -- ---- two pushes of one session, or of one token to one party: each of the two shows it
   PushedTwice : (m n : ℕ) (to other : List ℕ) (a b : Push) (u : Subject) → m ≢ n → Contains rows (row.Push m to a) → Contains rows (row.Push n other b) →
       subject to a ≡ Some u → subject other b ≡ Some u → IsBad line rows (keys.Push m) reason.PushedTwice
-  -- ---- sessions that cannot go on, and bills: each of two charge detail records of one session shows it
+  -- ---- sessions that cannot go on, bills and credits: each of two bills of one session shows it, and each of two credits
   Stuck : (v : Session) → Contains rows (row.Session v) → CannotResume line.site.price v → IsBad line rows (key_of (row.Session v)) reason.CannotGoOn
   BilledTwice : (twice : BillsTwice rows) → IsBad line rows (key_of (row.Cdr twice.other)) reason.BilledTwice
   BilledEarly : (x : Cdr) → Contains rows (row.Cdr x) → ¬ HasEnded rows (key x.session_id) → IsBad line rows (key_of (row.Cdr x)) reason.BilledEarly
   Unbilled : (v : Session) → Contains rows (row.Session v) → v.status ≡ Completed → ¬ HasBill rows (key v.id) → IsBad line rows (key_of (row.Session v)) reason.Unbilled
+  CreditWithoutBill : (x : Cdr) → Contains rows (row.Cdr x) → IsCredit x → ¬ HasItsBill rows x → IsBad line rows (key_of (row.Cdr x)) reason.CreditWithoutBill

@@ -17,6 +17,7 @@ use Rattle.site_book.specs.Sites.{IsConnectorOf}
 use Rattle.site_book.specs.declared.claim.Claim.TheVariants.{Live, OpenStart}
 use Rattle.session_state.specs.Resuming.{CannotResume}
 use Rattle.stored_rows.specs.Given.{IsOwnId, RepeatsKey}
+use Rattle.stored_rows.specs.Records.{IsRecordId}
 use Rattle.stored_rows.specs.Turns.{turn_of}
 use Rattle.stored_rows.specs.declared.fault.BadReason.{BadReason}
 use Rattle.operator_rows.specs.Rows.{AreRowsOf, HasRow}
@@ -52,7 +53,7 @@ pub record IsPlaced (line : SiteLine) (rows : List Row) (s : State) (r : Row) : 
 -- what is asked of a row beside what the books keep
 abbrev pub IsFit : State → Row → Type 0
 IsFit s (row.Session v) = ((n : ℕ) × IsOwnId own.Session s.party v.id n) × ¬ CannotResume s.site.price v
-IsFit s (row.Cdr x) = (n : ℕ) × IsOwnId own.Cdr s.party x.id n
+IsFit s (row.Cdr x) = (n : ℕ) × IsRecordId s.party x n
 IsFit s r = ⊤
 
 pub record MayAdd (s : State) (r : Row) : Type 0 where

@@ -4,21 +4,26 @@ use Rattle.std.specs.Prelude.{◌≡◌, ℕ, List, Some}
 use Rattle.std.specs.FinMap.{get}
 use Rattle.ocpi_text.specs.Text.{key}
 use Rattle.ocpi_text.specs.declared.own_ids.OwnIdKind.TheVariants as own
+use Rattle.ocpi_types.specs.Credits.{AreAlike, IsBill, IsCredit}
 use Rattle.ocpi_types.specs.declared.cdrs.Cdr.{Cdr}
 use Rattle.ocpi_types.specs.declared.sessions.Session.{Session}
 use Rattle.ocpi_types.specs.declared.words.SessionStatus.TheVariants.{Completed}
 use Rattle.session_state.specs.Resuming.{CannotResume}
 use Rattle.stored_rows.specs.Given.{IsOwnId}
+use Rattle.stored_rows.specs.Records.{Credits, IsRecordId}
 use Rattle.operator_rows.specs.State.{State, Rows}
 
--- each COMPLETED session has a charge detail record, and no session has two, and no other session has one (OCPI 2.2.1,
--- CDRs)
+-- each COMPLETED session has a bill, no session has two bills, nor two credits, and no other session has a charge detail
+-- record (OCPI 2.2.1, CDRs); each credit takes a bill back
 pub record AreBilled (s : Rows) : Type 0 where
   pub each : (id : List ℕ) (v : Session) → get s.charged.sessions id ≡ Some v → v.status ≡ Completed →
-      (x : Cdr) × (get s.charged.cdrs (key x.id) ≡ Some x) × (key x.session_id ≡ key v.id)
+      (x : Cdr) × (get s.charged.cdrs (key x.id) ≡ Some x) × IsBill x × (key x.session_id ≡ key v.id)
   pub only : (id : List ℕ) (x : Cdr) → get s.charged.cdrs id ≡ Some x →
       (v : Session) × (get s.charged.sessions (key x.session_id) ≡ Some v) × (v.status ≡ Completed)
-  pub once : (i j : List ℕ) (x y : Cdr) → get s.charged.cdrs i ≡ Some x → get s.charged.cdrs j ≡ Some y → key x.session_id ≡ key y.session_id → i ≡ j
+  pub once : (i j : List ℕ) (x y : Cdr) → get s.charged.cdrs i ≡ Some x → get s.charged.cdrs j ≡ Some y →
+      AreAlike x y → key x.session_id ≡ key y.session_id → i ≡ j
+  pub credited : (id : List ℕ) (x : Cdr) → get s.charged.cdrs id ≡ Some x → IsCredit x →
+      (y : Cdr) × (get s.charged.cdrs (key y.id) ≡ Some y) × Credits y x
 
 pub record IsWhole (s : State) : Type 0 where
   -- each session has an id of the operator's own, and can go on from its newest version: its status is one that a
@@ -26,5 +31,5 @@ pub record IsWhole (s : State) : Type 0 where
   pub sessions : (id : List ℕ) (v : Session) → get s.rows.charged.sessions id ≡ Some v → (n : ℕ) × IsOwnId own.Session s.party v.id n
   pub resumable : (id : List ℕ) (v : Session) → get s.rows.charged.sessions id ≡ Some v → ¬ CannotResume s.site.price v
   -- each charge detail record has an id of the operator's own
-  pub cdrs : (id : List ℕ) (x : Cdr) → get s.rows.charged.cdrs id ≡ Some x → (n : ℕ) × IsOwnId own.Cdr s.party x.id n
+  pub cdrs : (id : List ℕ) (x : Cdr) → get s.rows.charged.cdrs id ≡ Some x → (n : ℕ) × IsRecordId s.party x n
   pub billed : AreBilled s.rows

@@ -1,54 +1,106 @@
-//! Whether each session that is to be billed is billed, and once.
+//! Whether each session that is to be billed is billed, and once, and each credit takes a bill back.
 
-ghost use Rattle.std.specs.Prelude.{◌≡◌, IfErr, IfOk, IsTrue, List, MatchBool, OnOk, ℕ};
+ghost use Rattle.std.specs.Prelude.{◌≡◌, IfErr, IsTrue, List, MatchBool, OnOk};
+ghost use Rattle.std.specs.FinMap as map;
 ghost use Rattle.std.specs.FinSet as set;
+ghost use Rattle.ocpi_text.specs.Text.{key};
+ghost use Rattle.ocpi_types.specs.Credits.{IsCredit, is_credit};
 ghost use Rattle.ocpi_types.specs.declared.words.SessionStatus.TheVariants.{Completed};
 ghost use Rattle.ocpi_types.specs.declared.rows.Row.TheVariants as row;
 ghost use Rattle.stored_rows.specs.Faults.{IfBadRows};
+ghost use Rattle.tables.specs.Keys.{text_cmp};
+ghost use Rattle.tables.specs.Tables.{shown_of};
 ghost use Rattle.operator_stored.specs.Bills.{
   Agrees,
   AreBilledBy,
   AreBillsOf,
-  AreIdsOf,
+  AreThose,
   BillOf,
+  CreditOf,
   Disagrees,
   EndOf,
   HasEnded,
+  HasId,
   HaveAlso,
+  InSet,
+  IsAgain,
+  IsBacked,
   IsMisbilled,
+  has_alike,
 };
 
-use ocpi_types::{IdSet, Row, Session, SessionStatus};
+use ocpi_text::{CiKey, CiText};
+use ocpi_types::{Cdr, IdSet, Row, Session, SessionStatus};
 use std::alloc::{AllocError, Global};
-use stored_rows::{BadReason, BadRow, RowsFault};
+use stored_rows::{BadReason, BadRow, RowsFault, bill_id};
+use tables::Table;
 
-/// Adds the session of a charge detail record, and answers whether it was not there. Other rows add nothing.
-fn add_bill(row: &Row, billed: &mut IdSet) -> Result<bool, AllocError>
-    ensures after { OnOk result (HaveAlso billed.old billed.new (BillOf row.now)) }
-    ensures new { IfOk result (λ new. MatchBool new ((id : List ℕ) → BillOf row.now id → IsTrue (set.contains billed.old id) → ⊥) ((id : List ℕ) × BillOf row.now id × IsTrue (set.contains billed.old id))) }
+/// The id of the bill of each session that has one.
+type Bills = Table<CiKey<36>, CiText<39>>;
+
+/// Whether a bill of the session of a bill is there, or a credit of that of a credit.
+fn has_alike(cdr: &Cdr, bills: &Bills, credits: &IdSet) -> bool
+    ensures { result ≡ has_alike (shown_of text_cmp bills.now) credits.now (is_credit cdr.now) (key cdr.now.session_id) }
 {
-    match row {
-        Row::Cdr { cdr } => {
-            let new = billed.insert(&cdr.session_id)?;
-            Ok(new)
-        }
-        _ => Ok(true),
+    if cdr.is_credit() {
+        credits.contains(&cdr.session_id)
+    } else {
+        bills.contains(cdr.session_id.key())
     }
 }
 
-/// Adds the sessions of the charge detail records to an empty set. Refused where two are of one session.
-fn add_bills(rows: &[Row], billed: &mut IdSet) -> Result<(), RowsFault>
-    requires { billed.old ≡ set.empty }
-    ensures all { OnOk result (AreBilledBy billed.new rows.now) }
+/// Whether a row is a charge detail record of a session of which one that is alike a bill or a credit is there.
+fn is_again(row: &Row, bills: &Bills, credits: &IdSet) -> bool
+    ensures { MatchBool result (IsAgain (shown_of text_cmp bills.now) credits.now row.now) (IsAgain (shown_of text_cmp bills.now) credits.now row.now → ⊥) }
+{
+    match row {
+        Row::Cdr { cdr } => has_alike(cdr, bills, credits),
+        _ => false,
+    }
+}
+
+/// Adds a charge detail record: a bill by its session, of a credit its session.
+fn add_record(cdr: &Cdr, bills: &mut Bills, credits: &mut IdSet) -> Result<(), AllocError>
+    requires { IsAgain (shown_of text_cmp bills.old) credits.old (row.Cdr cdr.now) → ⊥ }
+    ensures bills { OnOk result (HaveAlso (HasId (shown_of text_cmp bills.old)) (HasId (shown_of text_cmp bills.new)) (BillOf (row.Cdr cdr.now))) }
+    ensures credits { OnOk result (HaveAlso (InSet credits.old) (InSet credits.new) (CreditOf (row.Cdr cdr.now))) }
+{
+    if cdr.is_credit() {
+        credits.insert(&cdr.session_id)?;
+    } else {
+        bills.insert(cdr.session_id.key(), cdr.id)?;
+    }
+    Ok(())
+}
+
+/// Adds the charge detail record that a row is. Other rows add nothing.
+fn add_bill(row: &Row, bills: &mut Bills, credits: &mut IdSet) -> Result<(), AllocError>
+    requires { IsAgain (shown_of text_cmp bills.old) credits.old row.now → ⊥ }
+    ensures bills { OnOk result (HaveAlso (HasId (shown_of text_cmp bills.old)) (HasId (shown_of text_cmp bills.new)) (BillOf row.now)) }
+    ensures credits { OnOk result (HaveAlso (InSet credits.old) (InSet credits.new) (CreditOf row.now)) }
+{
+    match row {
+        Row::Cdr { cdr } => add_record(cdr, bills, credits),
+        _ => Ok(()),
+    }
+}
+
+/// Adds the bills to what is empty, and the sessions of the credits. Refused where two bills are of one session, or two
+/// credits.
+fn add_bills(rows: &[Row], bills: &mut Bills, credits: &mut IdSet) -> Result<(), RowsFault>
+    requires bills { shown_of text_cmp bills.old ≡ map.empty }
+    requires credits { credits.old ≡ set.empty }
+    ensures all { OnOk result (AreBilledBy (shown_of text_cmp bills.new) rows.now) }
     ensures bad { IfErr result (IfBadRows (IsMisbilled rows.now)) }
 {
     for row in rows {
-        if !add_bill(row, billed)? {
+        if is_again(row, bills, credits) {
             return Err(RowsFault::BadRows(BadRow {
                 key: row.key(),
                 reason: BadReason::BilledTwice,
             }));
         }
+        add_bill(row, bills, credits)?;
     }
     Ok(())
 }
@@ -65,7 +117,7 @@ fn is_completed(status: SessionStatus) -> bool
 
 /// Adds a session, where it is COMPLETED.
 fn add_session(session: &Session, ended: &mut IdSet) -> Result<(), AllocError>
-    ensures { OnOk result (HaveAlso ended.old ended.new (EndOf (row.Session session.now))) }
+    ensures { OnOk result (HaveAlso (InSet ended.old) (InSet ended.new) (EndOf (row.Session session.now))) }
 {
     if !is_completed(session.status) {
         return Ok(());
@@ -76,7 +128,7 @@ fn add_session(session: &Session, ended: &mut IdSet) -> Result<(), AllocError>
 
 /// Adds the session of a row, where it is COMPLETED. Other rows add nothing.
 fn add_end(row: &Row, ended: &mut IdSet) -> Result<(), AllocError>
-    ensures { OnOk result (HaveAlso ended.old ended.new (EndOf row.now)) }
+    ensures { OnOk result (HaveAlso (InSet ended.old) (InSet ended.new) (EndOf row.now)) }
 {
     match row {
         Row::Session { session } => add_session(session, ended),
@@ -87,7 +139,7 @@ fn add_end(row: &Row, ended: &mut IdSet) -> Result<(), AllocError>
 /// Adds the sessions that are COMPLETED to an empty set.
 fn add_ends(rows: &[Row], ended: &mut IdSet) -> Result<(), AllocError>
     requires { ended.old ≡ set.empty }
-    ensures { OnOk result (AreIdsOf ended.new (HasEnded rows.now)) }
+    ensures { OnOk result (AreThose (InSet ended.new) (HasEnded rows.now)) }
 {
     for row in rows {
         add_end(row, ended)?;
@@ -95,37 +147,63 @@ fn add_ends(rows: &[Row], ended: &mut IdSet) -> Result<(), AllocError>
     Ok(())
 }
 
-/// Whether a session that is COMPLETED is billed, and what is billed is COMPLETED. Else which of both is not so.
-fn agrees(row: &Row, billed: &IdSet, ended: &IdSet) -> Result<(), BadReason>
-    ensures all { OnOk result (Agrees billed.now ended.now row.now) }
-    ensures not { IfErr result (Disagrees billed.now ended.now row.now) }
+/// Whether the bill of the session of a credit is the one that it takes back.
+fn is_backed(credit: &Cdr, bills: &Bills) -> bool
+    ensures { MatchBool result (IsBacked (shown_of text_cmp bills.now) credit.now) (IsBacked (shown_of text_cmp bills.now) credit.now → ⊥) }
+{
+    let Some(reference) = credit.credit_reference_id else {
+        return false;
+    };
+    let Some(bill) = bills.get(credit.session_id.key()) else {
+        return false;
+    };
+    let Some(id) = bill_id(credit.id.as_str()) else {
+        return false;
+    };
+    *bill == reference && bill.as_str() == id
+}
+
+/// Whether the session of a charge detail record is COMPLETED, and a credit takes a bill back. Else which is not so.
+fn has_reason(cdr: &Cdr, bills: &Bills, ended: &IdSet) -> Result<(), BadReason>
+    ensures all { OnOk result (Agrees (shown_of text_cmp bills.now) ended.now (row.Cdr cdr.now)) }
+    ensures not { IfErr result (Disagrees (shown_of text_cmp bills.now) ended.now (row.Cdr cdr.now)) }
+{
+    if !ended.contains(&cdr.session_id) {
+        return Err(BadReason::BilledEarly);
+    }
+    if cdr.is_credit() && !is_backed(cdr, bills) {
+        return Err(BadReason::CreditWithoutBill);
+    }
+    Ok(())
+}
+
+/// Whether a session that is COMPLETED is billed, what is billed is COMPLETED, and a credit takes a bill back. Else
+/// which of them is not so.
+fn agrees(row: &Row, bills: &Bills, ended: &IdSet) -> Result<(), BadReason>
+    ensures all { OnOk result (Agrees (shown_of text_cmp bills.now) ended.now row.now) }
+    ensures not { IfErr result (Disagrees (shown_of text_cmp bills.now) ended.now row.now) }
 {
     match row {
         Row::Session { session } => {
-            if is_completed(session.status) && !billed.contains(&session.id) {
+            if is_completed(session.status) && !bills.contains(session.id.key()) {
                 return Err(BadReason::Unbilled);
             }
             Ok(())
         }
-        Row::Cdr { cdr } => {
-            if !ended.contains(&cdr.session_id) {
-                return Err(BadReason::BilledEarly);
-            }
-            Ok(())
-        }
+        Row::Cdr { cdr } => has_reason(cdr, bills, ended),
         _ => Ok(()),
     }
 }
 
 /// Whether that is so of all rows. Refused where it is not.
-fn all_agree(rows: &[Row], billed: &IdSet, ended: &IdSet) -> Result<(), BadRow>
-    requires billed { AreBilledBy billed.now rows.now }
-    requires ended { AreIdsOf ended.now (HasEnded rows.now) }
+fn all_agree(rows: &[Row], bills: &Bills, ended: &IdSet) -> Result<(), BadRow>
+    requires bills { AreBilledBy (shown_of text_cmp bills.now) rows.now }
+    requires ended { AreThose (InSet ended.now) (HasEnded rows.now) }
     ensures all { OnOk result (AreBillsOf rows.now) }
     ensures bad { IfErr result (λ b. IsMisbilled rows.now b.key b.reason) }
 {
     for row in rows {
-        if let Err(reason) = agrees(row, billed, ended) {
+        if let Err(reason) = agrees(row, bills, ended) {
             return Err(BadRow {
                 key: row.key(),
                 reason,
@@ -135,17 +213,19 @@ fn all_agree(rows: &[Row], billed: &IdSet, ended: &IdSet) -> Result<(), BadRow>
     Ok(())
 }
 
-/// Whether each session that is COMPLETED has a charge detail record among the rows, none has two, and no other
-/// session has one. Refused as `BadRows` where that is not so, with a row that shows it.
+/// Whether each session that is COMPLETED has a bill among the rows, none has two, or two credits, each credit takes a
+/// bill back, and no other session has a charge detail record. Refused as `BadRows` where that is not so, with a row
+/// that shows it.
 pub fn check_bills(alloc: Global, rows: &[Row]) -> Result<(), RowsFault>
     ensures all { OnOk result (AreBillsOf rows.now) }
     ensures bad { IfErr result (IfBadRows (IsMisbilled rows.now)) }
 {
-    let mut billed = IdSet::new(alloc);
-    add_bills(rows, &mut billed)?;
+    let mut bills = Table::new(alloc);
+    let mut credits = IdSet::new(alloc);
+    add_bills(rows, &mut bills, &mut credits)?;
     let mut ended = IdSet::new(alloc);
     add_ends(rows, &mut ended)?;
-    match all_agree(rows, &billed, &ended) {
+    match all_agree(rows, &bills, &ended) {
         Ok(()) => Ok(()),
         Err(bad) => Err(RowsFault::BadRows(bad)),
     }

@@ -10,6 +10,7 @@ ghost use Rattle.operator_rows.specs.State.{IsLive};
 ghost use Rattle.session_state.specs.Resuming.{CannotResume};
 ghost use Rattle.session_state.specs.Versions.{HasCost};
 ghost use Rattle.stored_rows.specs.Given.{IsOwnId};
+ghost use Rattle.stored_rows.specs.Records.{IsRecordId};
 ghost use Rattle.operator_stored.specs.Placing.{Answers, ComesNext, IsOwn, MayCharge, Tells};
 
 use crate::places::is_unclaimed;
@@ -18,7 +19,7 @@ use ocpi_text::{OwnIdKind, Whole};
 use ocpi_types::{Cdr, PricePerKwh, Session, SessionStatus};
 use operator_rows::Books;
 use session_state::resume;
-use stored_rows::{BadReason, own_number};
+use stored_rows::{BadReason, own_number, record_number};
 
 /// Whether a session with that status has not ended.
 fn is_live(status: SessionStatus) -> bool
@@ -49,6 +50,17 @@ fn number_of(books: &Books, kind: OwnIdKind, id: &str) -> Option<Whole>
     books.consistency();
     let party = books.party();
     own_number(kind, &party, id)
+}
+
+/// The number of which the operator made the id of a charge detail record, if it did.
+fn number_of_record(books: &Books, cdr: &Cdr) -> Option<Whole>
+    ensures made { IfSome result (λ n. IsRecordId books.now.state.party cdr.now n) }
+    ensures sole { IfSome result (λ n. (m : ℕ) → m ≤ max_whole → key (own_id_text own.Cdr books.now.state.party m) ≡ key cdr.now.id → m ≡ n) }
+    ensures none { IfNone result ((n : ℕ) → IsRecordId books.now.state.party cdr.now n → ⊥) }
+{
+    books.consistency();
+    let party = books.party();
+    record_number(&party, cdr)
 }
 
 /// Whether a session is the operator's own, by its party and its id, whose number was given.
@@ -111,7 +123,7 @@ pub fn may_own_cdr(books: &Books, cdr: &Cdr) -> Result<(), BadReason>
     if !cdr.party.is_same(&books.party()) {
         return Err(BadReason::OfOtherParty);
     }
-    match number_of(books, OwnIdKind::Cdr, cdr.id.as_str()) {
+    match number_of_record(books, cdr) {
         Some(number) => {
             if number > books.charged().last_cdr() {
                 return Err(BadReason::NotGiven);

@@ -13,8 +13,8 @@ use Rattle.ocpi_types.specs.declared.commands.StopSession.{StopSession}
 use Rattle.ocpi_types.specs.declared.commands.ReserveNow.{ReserveNow}
 use Rattle.ocpi_types.specs.declared.commands.CancelReservation.{CancelReservation}
 use Rattle.ocpi_types.specs.declared.commands.UnlockConnector.{UnlockConnector}
-use Rattle.ocpi_types.specs.declared.stored.Command.{Command}
-use Rattle.ocpi_types.specs.declared.stored.Command.TheVariants as command
+use Rattle.ocpi_types.specs.declared.commands.Command.{Command}
+use Rattle.ocpi_types.specs.declared.commands.Command.TheVariants as command
 use Rattle.reservation_book.specs.Refusals.{IsInTime}
 use Rattle.reservation_book.specs.declared.standing.Standing.{Standing}
 use Rattle.site_book.specs.Sites.{IsChosen, IsEvseOf}

@@ -10,8 +10,8 @@ use Rattle.ocpi_types.specs.declared.commands.CancelReservation.{CancelReservati
 use Rattle.ocpi_types.specs.declared.commands.UnlockConnector.{UnlockConnector}
 use Rattle.ocpi_types.specs.declared.rows.Place.{Place}
 use Rattle.ocpi_types.specs.declared.sessions.Session.{Session}
-use Rattle.ocpi_types.specs.declared.stored.Command.{Command}
-use Rattle.ocpi_types.specs.declared.stored.Command.TheVariants as command
+use Rattle.ocpi_types.specs.declared.commands.Command.{Command}
+use Rattle.ocpi_types.specs.declared.commands.Command.TheVariants as command
 use Rattle.ocpi_types.specs.declared.stored.Reservation.{Reservation}
 use Rattle.ocpi_types.specs.declared.words.CommandResponseType.{CommandResponseType}
 use Rattle.ocpi_types.specs.declared.words.CommandResponseType.TheVariants as response

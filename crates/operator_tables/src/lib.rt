@@ -3,7 +3,7 @@
 //!
 //! ```
 //! let request = Request { at, from, provider: packet.from.key(), number: packet.request };
-//! let decision = decide(&books, &request, &packet.from, &packet.body);
+//! let decision = decide(&books, &request, &packet.from, &command);
 //! if let Some(result) = decision.result() {
 //!     push(result)?;
 //! }

@@ -6,7 +6,7 @@ use Rattle.handover.proofs.Equal.{same_cdrs}
 use Rattle.ocpi_types.specs.declared.packet.Body.{Body}
 use Rattle.packet_equality.proofs.Same.{Same, lists, and_then, at_last, by_parts, by_variants, no_variant, numbers, or_else, texts}
 use Rattle.packet_equality.proofs.SameValues.{tokens}
-use Rattle.packet_equality.proofs.SameRecords.{start_sessions, stop_sessions, reserve_nows, cancel_reservations, unlock_connectors, command_responses, command_results, acks, authorizes, authorizations, sessions}
+use Rattle.packet_equality.proofs.SameRecords.{commands, command_responses, command_results, acks, authorizes, authorizations, sessions}
 use Rattle.ocpi_types.specs.declared.packet.Packet.{Packet}
 use Rattle.ocpi_types.specs.contracts.cdrs.CdrPartialEq.TheImpl as cdr_eq
 use Rattle.ocpi_types.specs.contracts.packet.BodyPartialEq.TheImpl as body_eq
@@ -18,11 +18,7 @@ cdrs = record { decides = same_cdrs }
 
 pub bodies : Same (body_eq.ghosts).eq
 bodies = by_variants body_declared.enum
-    (or_else (at_last start_sessions)
-    (or_else (at_last stop_sessions)
-    (or_else (at_last reserve_nows)
-    (or_else (at_last cancel_reservations)
-    (or_else (at_last unlock_connectors)
+    (or_else (at_last commands)
     (or_else (at_last command_responses)
     (or_else (at_last command_results)
     (or_else (at_last tokens)
@@ -30,7 +26,7 @@ bodies = by_variants body_declared.enum
     (or_else (at_last authorizations)
     (or_else (at_last sessions)
     (or_else (at_last cdrs)
-    (or_else (at_last acks) no_variant)))))))))))))
+    (or_else (at_last acks) no_variant)))))))))
 
 pub packets : Same (packet_eq.ghosts).eq
 packets = by_parts (and_then texts (and_then texts (and_then numbers (and_then numbers bodies))))

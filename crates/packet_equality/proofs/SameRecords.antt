@@ -18,6 +18,8 @@ use Rattle.ocpi_types.specs.contracts.commands.StopSessionPartialEq.TheImpl as s
 use Rattle.ocpi_types.specs.contracts.commands.ReserveNowPartialEq.TheImpl as reserve_now_eq
 use Rattle.ocpi_types.specs.contracts.commands.CancelReservationPartialEq.TheImpl as cancel_reservation_eq
 use Rattle.ocpi_types.specs.contracts.commands.UnlockConnectorPartialEq.TheImpl as unlock_connector_eq
+use Rattle.ocpi_types.specs.contracts.commands.CommandPartialEq.TheImpl as command_eq
+use Rattle.ocpi_types.specs.contracts.commands.Command as command_declared
 use Rattle.ocpi_types.specs.contracts.replies.ResponseDataPartialEq.TheImpl as response_data_eq
 use Rattle.ocpi_types.specs.contracts.replies.CommandResponsePartialEq.TheImpl as command_response_eq
 use Rattle.ocpi_types.specs.contracts.replies.CommandResponse as command_response_declared
@@ -30,7 +32,7 @@ use Rattle.ocpi_types.specs.contracts.authorizations.AuthorizationPartialEq.TheI
 use Rattle.ocpi_types.specs.contracts.authorizations.Authorization as authorization_declared
 use Rattle.ocpi_types.specs.contracts.sessions.SessionPartialEq.TheImpl as session_eq
 
-pub start_sessions : Same (start_session_eq.ghosts).eq
+start_sessions : Same (start_session_eq.ghosts).eq
 start_sessions = by_parts (and_then texts (and_then tokens (and_then texts (and_then (options texts) (and_then (options texts) (options texts))))))
     (λ (r : StartSession). (r.response_url, (r.token, (r.location_id, (r.evse_uid, (r.connector_id, r.authorization_reference))))))
     (λ x y e. λ i. record {
@@ -42,12 +44,12 @@ start_sessions = by_parts (and_then texts (and_then tokens (and_then texts (and_
       authorization_reference = (e i).1.1.1.1.1;
     })
 
-pub stop_sessions : Same (stop_session_eq.ghosts).eq
+stop_sessions : Same (stop_session_eq.ghosts).eq
 stop_sessions = by_parts (and_then texts texts)
     (λ (r : StopSession). (r.response_url, r.session_id))
     (λ x y e. λ i. record { response_url = (e i).0; session_id = (e i).1 })
 
-pub reserve_nows : Same (reserve_now_eq.ghosts).eq
+reserve_nows : Same (reserve_now_eq.ghosts).eq
 reserve_nows = by_parts (and_then texts (and_then tokens (and_then numbers (and_then texts (and_then texts (options texts))))))
     (λ (r : ReserveNow). (r.response_url, (r.token, (r.expiry_date, (r.reservation_id, (r.location_id, r.evse_uid))))))
     (λ x y e. λ i. record {
@@ -59,15 +61,23 @@ reserve_nows = by_parts (and_then texts (and_then tokens (and_then numbers (and_
       evse_uid = (e i).1.1.1.1.1;
     })
 
-pub cancel_reservations : Same (cancel_reservation_eq.ghosts).eq
+cancel_reservations : Same (cancel_reservation_eq.ghosts).eq
 cancel_reservations = by_parts (and_then texts texts)
     (λ (r : CancelReservation). (r.response_url, r.reservation_id))
     (λ x y e. λ i. record { response_url = (e i).0; reservation_id = (e i).1 })
 
-pub unlock_connectors : Same (unlock_connector_eq.ghosts).eq
+unlock_connectors : Same (unlock_connector_eq.ghosts).eq
 unlock_connectors = by_parts (and_then texts (and_then texts (and_then texts texts)))
     (λ (r : UnlockConnector). (r.response_url, (r.location_id, (r.evse_uid, r.connector_id))))
     (λ x y e. λ i. record { response_url = (e i).0; location_id = (e i).1.0; evse_uid = (e i).1.1.0; connector_id = (e i).1.1.1 })
+
+pub commands : Same (command_eq.ghosts).eq
+commands = by_variants command_declared.enum
+    (or_else (at_last start_sessions)
+    (or_else (at_last stop_sessions)
+    (or_else (at_last reserve_nows)
+    (or_else (at_last cancel_reservations)
+    (or_else (at_last unlock_connectors) no_variant)))))
 
 pub response_data : Same (response_data_eq.ghosts).eq
 response_data = by_parts (and_then command_response_types numbers)

@@ -34,11 +34,7 @@ use Rattle.provider_core.specs.Planned.{IsLineFault, ReferWithin}
 taken_silent : (b : Body) → all_messages (taken_acts b) ≡ []
 taken_silent (body.PutSession x) = refl
 taken_silent (body.PostCdr x) = refl
-taken_silent (body.StartSession c) = refl
-taken_silent (body.StopSession c) = refl
-taken_silent (body.ReserveNow c) = refl
-taken_silent (body.CancelReservation c) = refl
-taken_silent (body.UnlockConnector c) = refl
+taken_silent (body.Command c) = refl
 taken_silent (body.CommandResponse r) = refl
 taken_silent (body.CommandResult r) = refl
 taken_silent (body.PutToken t) = refl
@@ -49,11 +45,7 @@ taken_silent (body.Ack a) = refl
 taken_unasked : (b : Body) → all_requests (taken_acts b) ≡ 0
 taken_unasked (body.PutSession x) = refl
 taken_unasked (body.PostCdr x) = refl
-taken_unasked (body.StartSession c) = refl
-taken_unasked (body.StopSession c) = refl
-taken_unasked (body.ReserveNow c) = refl
-taken_unasked (body.CancelReservation c) = refl
-taken_unasked (body.UnlockConnector c) = refl
+taken_unasked (body.Command c) = refl
 taken_unasked (body.CommandResponse r) = refl
 taken_unasked (body.CommandResult r) = refl
 taken_unasked (body.PutToken t) = refl
@@ -64,11 +56,7 @@ taken_unasked (body.Ack a) = refl
 taken_within : (b : Body) → ReferWithin (taken_acts b)
 taken_within (body.PutSession x) = (tt, tt)
 taken_within (body.PostCdr x) = (tt, tt)
-taken_within (body.StartSession c) = tt
-taken_within (body.StopSession c) = tt
-taken_within (body.ReserveNow c) = tt
-taken_within (body.CancelReservation c) = tt
-taken_within (body.UnlockConnector c) = tt
+taken_within (body.Command c) = tt
 taken_within (body.CommandResponse r) = tt
 taken_within (body.CommandResult r) = tt
 taken_within (body.PutToken t) = tt

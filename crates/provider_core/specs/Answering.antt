@@ -46,11 +46,7 @@ reply_of at (Allowed t r) = allowed_reply at t r.text
 abbrev pub taken_acts : Body → List Act
 taken_acts (body.PutSession x) = held x ∷ []
 taken_acts (body.PostCdr x) = billed x ∷ []
-taken_acts (body.StartSession c) = []
-taken_acts (body.StopSession c) = []
-taken_acts (body.ReserveNow c) = []
-taken_acts (body.CancelReservation c) = []
-taken_acts (body.UnlockConnector c) = []
+taken_acts (body.Command c) = []
 taken_acts (body.CommandResponse r) = []
 taken_acts (body.CommandResult r) = []
 taken_acts (body.PutToken t) = []

@@ -81,8 +81,9 @@ impl Provider {
     }
 
     /// What is owed to an operator in a currency, in ten-thousandths: the sum of the costs of its charge detail
-    /// records in that currency that are held, and 0 where none is. The operator is compared without case, the
-    /// currency as spelled. It takes no memory.
+    /// records in that currency that are held, bills and credits, and 0 where none is. The costs of credits are
+    /// negative, and a credit may be held before its bill, so the sum may be negative. The operator is compared without
+    /// case, the currency as spelled. It takes no memory.
     pub fn settlement(&self, operator: &Party, currency: ShortText<3, 12>) -> i128
         ensures { result ≡ owed (key operator.now, currency) (map.values self.now.state.rows.inbox.cdrs) }
     {

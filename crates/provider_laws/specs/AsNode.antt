@@ -1,7 +1,8 @@
 -- A provider as a node of any role: what the laws of nodes speak of.
 use Rattle.std.specs.Prelude.{ℕ, List, [], ◌∷◌, map, Option, Some, None}
 use Rattle.std.specs.FinMap.{get}
-use Rattle.ocpi_types.specs.Stored.{body_of_command, body_of_push}
+use Rattle.ocpi_types.specs.Stored.{body_of_push}
+use Rattle.ocpi_types.specs.declared.packet.Body.TheVariants as body
 use Rattle.ocpi_types.specs.declared.packet.Packet.{Packet}
 use Rattle.ocpi_types.specs.declared.replies.CommandResponse.{CommandResponse}
 use Rattle.ocpi_types.specs.declared.stored.SentCommand.{SentCommand}
@@ -19,7 +20,7 @@ abbrev pub pushed_request : Outgoing → Request
 pushed_request o = record { to = o.to; body = body_of_push o.push }
 
 abbrev pub command_request : SentCommand → Request
-command_request c = record { to = c.to; body = body_of_command c.command }
+command_request c = record { to = c.to; body = body.Command c.command }
 
 -- a command waits until its answer or its result came
 abbrev pub while_open : Option CommandResponse → Option CommandResultType → Request → Option Request

@@ -2,12 +2,11 @@
 use Rattle.std.specs.Prelude.{◌≡◌, ◌⊎◌, ℕ, List, Some, Contains}
 use Rattle.std.specs.FinMap.{get}
 use Rattle.ocpi_text.specs.Text.{key}
-use Rattle.ocpi_types.specs.Stored.{body_of_command}
 use Rattle.ocpi_types.specs.declared.packet.Packet.{Packet}
 use Rattle.ocpi_types.specs.declared.packet.Body.TheVariants as body
 use Rattle.ocpi_types.specs.declared.replies.CommandResponse.{CommandResponse}
 use Rattle.ocpi_types.specs.declared.replies.CommandResult.{CommandResult}
-use Rattle.ocpi_types.specs.declared.stored.Command.{Command}
+use Rattle.ocpi_types.specs.declared.commands.Command.{Command}
 use Rattle.ocpi_types.specs.declared.stored.SentCommand.{SentCommand}
 use Rattle.ocpi_types.specs.declared.words.CommandResultType.{CommandResultType}
 use Rattle.provider_rows.specs.State.{Peering, State, opening, url_of}
@@ -31,7 +30,7 @@ CommandsStay = (s t : State) (es : List Event) → IsConsistent s → Run s es t
 
 -- a command that was sent stands under its number, with its addressee
 abbrev pub SentCommandsStand : Type 0
-SentCommandsStand = (s t : State) (es : List Event) → IsConsistent s → Run s es t → (x : Packet) (c : Command) → Contains (sent es) x → x.body ≡ body_of_command c →
+SentCommandsStand = (s t : State) (es : List Event) → IsConsistent s → Run s es t → (x : Packet) (c : Command) → Contains (sent es) x → x.body ≡ body.Command c →
     (d : SentCommand) × (get t.rows.outbox.commands x.request ≡ Some d) × (d.to ≡ x.to) × (d.command ≡ c)
 
 -- the command of that number stood with that response

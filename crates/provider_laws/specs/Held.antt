@@ -51,7 +51,7 @@ HeldSessionsRise = (s t : State) (es : List Event) → Run s es t → (k : List 
 abbrev pub HeldCdrsStay : Type 0
 HeldCdrsStay = (s t : State) (es : List Event) → Run s es t → (k : List ℕ × List ℕ) (x : Cdr) → get s.rows.inbox.cdrs k ≡ Some x → get t.rows.inbox.cdrs k ≡ Some x
 
--- no two charge detail records of an operator are of one session
+-- no two charge detail records of an operator are of one session, but a bill and a credit of it may be
 abbrev pub OneCdrPerSession : Type 0
 OneCdrPerSession = (p : Peering) (es : List Event) (t : State) → Run (opening p) es t → HasOnePerSession t.rows.inbox.cdrs
 

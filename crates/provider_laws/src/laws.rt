@@ -83,7 +83,7 @@ pub fn held_cdrs_stay()
     ensures { HeldCdrsStay }
 {}
 
-/// No two charge detail records of an operator are of one session.
+/// No two charge detail records of an operator are of one session, but a bill and a credit of it may be.
 pub fn one_cdr_per_session()
     ensures { OneCdrPerSession }
 {}

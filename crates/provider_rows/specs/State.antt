@@ -4,8 +4,8 @@ use Rattle.std.specs.FinMap.{empty}
 use Rattle.ocpi_text.specs.Text.{key}
 use Rattle.ocpi_text.specs.Party.{party_at}
 use Rattle.ocpi_types.specs.Apart.{DifferFrom}
-use Rattle.ocpi_types.specs.declared.stored.Command.{Command}
-use Rattle.ocpi_types.specs.declared.stored.Command.TheVariants as command
+use Rattle.ocpi_types.specs.declared.commands.Command.{Command}
+use Rattle.ocpi_types.specs.declared.commands.Command.TheVariants as command
 use Rattle.command_book.specs.Stored.{Replies}
 use Rattle.token_desk.specs.Stored as desk
 use Rattle.outbox.specs.Outbox as outbox

@@ -13,7 +13,7 @@ use Rattle.ocpi_types.specs.declared.rows.Change.TheVariants.{Put, Drop}
 use Rattle.ocpi_types.specs.declared.rows.Counter.TheVariants.{Reference}
 use Rattle.ocpi_types.specs.declared.rows.Row.{Row}
 use Rattle.ocpi_types.specs.declared.rows.Row.TheVariants as row
-use Rattle.ocpi_types.specs.declared.stored.Command.{Command}
+use Rattle.ocpi_types.specs.declared.commands.Command.{Command}
 use Rattle.node_steps.specs.declared.plan.Volatile.TheVariants.{Sent}
 use Rattle.node_steps.specs.Acts.{Act, all_changes, all_messages, all_requests, commanded, unanswered}
 use Rattle.node_steps.specs.Peers.{HasPeer}

@@ -4,8 +4,8 @@ use Rattle.std.specs.FinMap.{get}
 use Rattle.ocpi_text.specs.Text.{key}
 use Rattle.ocpi_types.specs.declared.events.Order.{Order}
 use Rattle.ocpi_types.specs.declared.events.Order.TheVariants as order
-use Rattle.ocpi_types.specs.declared.stored.Command.{Command}
-use Rattle.ocpi_types.specs.declared.stored.Command.TheVariants as command
+use Rattle.ocpi_types.specs.declared.commands.Command.{Command}
+use Rattle.ocpi_types.specs.declared.commands.Command.TheVariants as command
 use Rattle.ocpi_types.specs.declared.token.Token.{Token}
 use Rattle.ocpi_types.specs.declared.words.TokenType.{TokenType}
 use Rattle.token_desk.specs.References.{reference_of}

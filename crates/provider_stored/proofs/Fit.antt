@@ -23,6 +23,7 @@ use Rattle.token_desk.specs.TypeOrder.{tokens_total, tokens_exact}
 use Rattle.outbox.specs.Outbox as outbox
 use Rattle.outbox.specs.Pushes.{IsAbout, IsReplaced, Pushes, subject}
 use Rattle.outbox.specs.declared.push_book.Subject.{Subject}
+use Rattle.ocpi_types.specs.Credits.{AreAlike, is_credit}
 use Rattle.handover.specs.Cdrs.{Cdrs, AreOwnCdrs, HasOnePerSession, cdr_key}
 use Rattle.handover.specs.Inbox.{IsInConflict, session_key}
 use Rattle.node_steps.specs.Peers.{HasPeer}
@@ -116,29 +117,29 @@ session_fits s v own none = record {
   };
 }
 
--- no record that is held is of the session of one that is in conflict with none
+-- no record that is held is of the session of one that is in conflict with none, and alike
 no_other : (m : Cdrs) (v y : Cdr) (j : List ℕ) → get m (cdr_key v) ≡ None → (IsInConflict m v → ⊥) → get m (key v.party, j) ≡ Some y
-    → key y.session_id ≡ key v.session_id → AreOwnCdrs m → ⊥
-no_other m v y j none quiet stands session own = quiet (record {
+    → key y.session_id ≡ key v.session_id → AreAlike y v → AreOwnCdrs m → ⊥
+no_other m v y j none quiet stands session alike own = quiet (record {
   id = j;
   held = y;
   stands = stands;
-  alike = inr session;
+  shares = inr (session, alike);
   differs = λ same. not_both y (get m (cdr_key v)) none (ap (get m) (ap cdr_key (sym same) ∙ sym (own (key v.party, j) y stands)) ∙ stands);
 })
 
 pub one_per_session : (m : Cdrs) (v : Cdr) → AreOwnCdrs m → get m (cdr_key v) ≡ None → (IsInConflict m v → ⊥) → HasOnePerSession m → HasOnePerSession (insert m (cdr_key v) v)
-one_per_session m v own none quiet once operator i j x y hx hy session =
+one_per_session m v own none quiet once operator i j x y hx hy session alike =
     elim (of_insert text_pair_total text_pair_exact m (cdr_key v) v (operator, i) x hx) [
       | inl (at, is) ↦ elim (of_insert text_pair_total text_pair_exact m (cdr_key v) v (operator, j) y hy) [
         | inl (bt, _) ↦ ap (λ (k : List ℕ × List ℕ). k.1) at ∙ sym (ap (λ (k : List ℕ × List ℕ). k.1) bt)
         | inr stands ↦ absurd (no_other m v y j none quiet (subst (λ (o : List ℕ). get m (o, j) ≡ Some y) (ap (λ (k : List ℕ × List ℕ). k.0) at) stands)
-            (sym session ∙ ap (λ (z : Cdr). key z.session_id) (sym is)) own)
+            (sym session ∙ ap (λ (z : Cdr). key z.session_id) (sym is)) (sym alike ∙ ap is_credit (sym is)) own)
       ]
       | inr stands ↦ elim (of_insert text_pair_total text_pair_exact m (cdr_key v) v (operator, j) y hy) [
         | inl (bt, is) ↦ absurd (no_other m v x i none quiet (subst (λ (o : List ℕ). get m (o, i) ≡ Some x) (ap (λ (k : List ℕ × List ℕ). k.0) bt) stands)
-            (session ∙ ap (λ (z : Cdr). key z.session_id) (sym is)) own)
-        | inr also ↦ once operator i j x y stands also session
+            (session ∙ ap (λ (z : Cdr). key z.session_id) (sym is)) (alike ∙ ap is_credit (sym is)) own)
+        | inr also ↦ once operator i j x y stands also session alike
       ]
     ]
 

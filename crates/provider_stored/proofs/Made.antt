@@ -143,8 +143,8 @@ bad_in_other_order p xs ys h _ _ (PushToStranger n to push i strange) = PushToSt
 bad_in_other_order p xs ys h _ _ (CommandToStranger n c i strange) = CommandToStranger n c (there xs ys h (row.Command n c) i) strange
 bad_in_other_order p xs ys h _ _ (PushedTwice m n to other a b u apart i j one two) =
     PushedTwice m n to other a b u apart (there xs ys h (row.Push m to a) i) (there xs ys h (row.Push n other b) j) one two
-bad_in_other_order p xs ys h _ _ (BilledTwice x y i j party ids session) =
-    BilledTwice x y (there xs ys h (row.Cdr x) i) (there xs ys h (row.Cdr y) j) party ids session
+bad_in_other_order p xs ys h _ _ (BilledTwice x y i j party ids session alike) =
+    BilledTwice x y (there xs ys h (row.Cdr x) i) (there xs ys h (row.Cdr y) j) party ids session alike
 
 pub fault_in_other_order : (p : Peering) (xs ys : List Row) → IsPermutation xs ys → (e : RowsFault) → IfBadRows (IsBad p ys) e → IfBadRows (IsBad p xs) e
 fault_in_other_order p xs ys h (BadRows bad) told = bad_in_other_order p xs ys h bad.key bad.reason told

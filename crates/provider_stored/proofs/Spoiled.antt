@@ -133,10 +133,10 @@ billed_before s v keyed none h peers before rest made order =
     let own : (key v.party, h.id) ≡ cdr_key u = keyed.inbox.of_cdrs (key v.party, h.id) u h.stands in
     let stands : get s.rows.inbox.cdrs (cdr_key u) ≡ Some u = subst (λ k. get s.rows.inbox.cdrs k ≡ Some u) own h.stands in
     let other : key v.id ≢ h.id = λ same. not_both u (get s.rows.inbox.cdrs (cdr_key v)) none (ap (λ (i : List ℕ). get s.rows.inbox.cdrs (key v.party, i)) same ∙ h.stands) in
-    elim h.alike [
+    elim h.shares [
       | inl same ↦ absurd (other (sym same))
-      | inr session ↦ BilledTwice v u (here before rest (row.Cdr v)) (there peers before rest s (row.Cdr v) (row.Cdr u) made stands)
-          (ap (λ (k : List ℕ × List ℕ). k.0) own) (λ same. other (same ∙ sym (ap (λ (k : List ℕ × List ℕ). k.1) own))) (sym session)
+      | inr (session, alike) ↦ BilledTwice v u (here before rest (row.Cdr v)) (there peers before rest s (row.Cdr v) (row.Cdr u) made stands)
+          (ap (λ (k : List ℕ × List ℕ). k.0) own) (λ same. other (same ∙ sym (ap (λ (k : List ℕ × List ℕ). k.1) own))) (sym session) (sym alike)
     ]
 
 -- what is of another party's tokens

@@ -100,9 +100,9 @@ module _ (p : Peering) (rows : List Row) (s : State) (made : IsMadeOf p rows s) 
       strange (subst (λ (t : State). HasPeer t.operators (key c.to)) made.with_peers (sound.commands n c (stands (row.Command n c) i)))
   none_bad _ _ (PushedTwice m n to other a b u apart i j one two) =
       apart (sound.outbox.one_each u m n (record { to = to; push = a }, stands (row.Push m to a) i, one) (record { to = other; push = b }, stands (row.Push n other b) j, two))
-  none_bad _ _ (BilledTwice x y i j party ids session) =
+  none_bad _ _ (BilledTwice x y i j party ids session alike) =
       ids (made.whole.once (key y.party) (key x.id) (key y.id) x y
-      (subst (λ (o : List ℕ). get s.rows.inbox.cdrs (o, key x.id) ≡ Some x) party (stands (row.Cdr x) i)) (stands (row.Cdr y) j) session)
+      (subst (λ (o : List ℕ). get s.rows.inbox.cdrs (o, key x.id) ≡ Some x) party (stands (row.Cdr x) i)) (stands (row.Cdr y) j) session alike)
 
 pub bad_of_none : BadRowsAreOfNone
 bad_of_none p rows k why bad s _ sound made = none_bad p rows s made sound k why bad

@@ -3,6 +3,7 @@
 use Rattle.std.specs.Prelude.{◌≡◌, ◌≢◌, ◌⊎◌, ℕ, List, Some, Contains, ⊤}
 use Rattle.ocpi_text.specs.Text.{key}
 use Rattle.ocpi_text.specs.declared.own_ids.OwnIdKind.TheVariants.{AuthorizationReference}
+use Rattle.ocpi_types.specs.Credits.{AreAlike}
 use Rattle.ocpi_types.specs.Rows.{key_of}
 use Rattle.ocpi_types.specs.declared.cdrs.Cdr.{Cdr}
 use Rattle.ocpi_types.specs.declared.rows.Counter.{Counter}
@@ -60,8 +61,8 @@ pub data IsBad (peers : Peering) (rows : List Row) : RowKey → BadReason → Ty
       IsBad peers rows (keys.Push n) reason.UnknownParty
   CommandToStranger : (n : ℕ) (c : SentCommand) → Contains rows (row.Command n c) → ¬ HasPeer peers.operators (key c.to) →
       IsBad peers rows (keys.Command n) reason.UnknownParty
-  -- ---- two pushes of one token to one party, and two charge detail records of one session: each of the two shows it
+  -- ---- two pushes of one token to one party, and two bills or two credits of one session: each of the two shows it
   PushedTwice : (m n : ℕ) (to other : List ℕ) (a b : Push) (u : Subject) → m ≢ n → Contains rows (row.Push m to a) → Contains rows (row.Push n other b) →
       subject to a ≡ Some u → subject other b ≡ Some u → IsBad peers rows (keys.Push m) reason.PushedTwice
   BilledTwice : (x y : Cdr) → Contains rows (row.Cdr x) → Contains rows (row.Cdr y) → key x.party ≡ key y.party → key x.id ≢ key y.id →
-      key x.session_id ≡ key y.session_id → IsBad peers rows (key_of (row.Cdr x)) reason.BilledTwice
+      key x.session_id ≡ key y.session_id → AreAlike x y → IsBad peers rows (key_of (row.Cdr x)) reason.BilledTwice

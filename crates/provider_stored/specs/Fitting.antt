@@ -8,7 +8,7 @@ use Rattle.ocpi_types.specs.declared.rows.Change.TheVariants.{Put}
 use Rattle.ocpi_types.specs.declared.rows.Counter.{Counter}
 use Rattle.ocpi_types.specs.declared.rows.Counter.TheVariants as counter
 use Rattle.ocpi_types.specs.declared.rows.Row.{Row}
-use Rattle.ocpi_types.specs.declared.stored.Command.{Command}
+use Rattle.ocpi_types.specs.declared.commands.Command.{Command}
 use Rattle.ocpi_types.specs.declared.stored.SentCommand.{SentCommand}
 use Rattle.outbox.specs.Outbox.{OutboxRows}
 use Rattle.outbox.specs.declared.push_book.Outgoing.{Outgoing}

@@ -22,5 +22,5 @@ pub record IsWhole (s : State) : Type 0 where
   pub tokens : (t : Token) → HasRow s.rows (row.Token t) → key t.party ≡ key s.party
   pub sessions : (x : Session) → HasRow s.rows (row.Session x) → key x.cdr_token.party ≡ key s.party
   pub cdrs : (x : Cdr) → HasRow s.rows (row.Cdr x) → key x.cdr_token.party ≡ key s.party
-  -- no two charge detail records of an operator are of one session
+  -- no two charge detail records of an operator are of one session, but a bill and a credit of it may be
   pub once : HasOnePerSession s.rows.inbox.cdrs

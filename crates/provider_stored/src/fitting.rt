@@ -100,7 +100,8 @@ fn session_fault(books: &Books, session: &Session) -> Option<BadReason>
     None
 }
 
-/// Whether a charge detail record that differs is held of that operator's record or session.
+/// Whether a charge detail record of that operator is held that differs, of the same id, or of the same session and as
+/// well a bill or a credit.
 fn is_in_conflict(inbox: &Inbox, cdr: &Cdr) -> bool
     ensures { IsTrue result ↔ IsInConflict inbox.now.rows.cdrs cdr.now }
 {
@@ -111,7 +112,7 @@ fn is_in_conflict(inbox: &Inbox, cdr: &Cdr) -> bool
 }
 
 /// What is wrong with a charge detail record: its token is another party's, or one of that operator and id is held, or
-/// one of its session.
+/// one of its session that is as well a bill or a credit.
 fn cdr_fault(books: &Books, cdr: &Cdr) -> Option<BadReason>
     ensures fits { IfNone result (IsFit books.now.state (row.Cdr cdr.now)) }
     ensures spoils { IfSome result (Spoils books.now.state (row.Cdr cdr.now)) }

@@ -85,19 +85,21 @@ not_empty s trees whole sound none = some_tables (same_tables both_tables s tree
 
 -- ---- what an opening finds
 
-holds_found : (version : ℕ) (db : Database) (held : Option Content) (c : Content) → IsSound db.schema db.trees → Holds db.trees held → Finds version db c → IsFor version held × (c ≡ opened_as version held)
-holds_found version db None c sound none (inl h) = absurd (some_tables (same_tables both_tables no_schema db.trees (subst (λ (s : Schema). IsSound s db.trees) h.0 sound) none))
-holds_found version db None c sound none (inr h) = (tt, h.1)
-holds_found version db (Some d) c sound holds (inl h) =
+holds_found : (version found : ℕ) (db : Database) (held : Option Content) (c : Content) → IsSound db.schema db.trees → Holds db.trees held → Finds version found db c → IsFor version found held × (c ≡ opened_as version held)
+holds_found version found db None c sound none (inl h) = absurd (some_tables (same_tables both_tables no_schema db.trees (subst (λ (s : Schema). IsSound s db.trees) h.0 sound) none))
+holds_found version found db None c sound none (inr h) = (h.1, h.2)
+holds_found version found db (Some d) c sound holds (inl h) =
     let v = h.1 in
-    let number : versions db.trees ≡ Int (pos version) ∷ [] = ap (map (λ (r : Row). column r 1)) v.only ∙ ap (λ (x : Value). x ∷ []) v.has_version in
+    let number : versions db.trees ≡ Int (pos found) ∷ [] = ap (map (λ (r : Row). column r 1)) v.only ∙ ap (λ (x : Value). x ∷ []) v.has_version in
     (ap (λ (e : Content). e.versions) (sym holds.1) ∙ number, h.2 ∙ holds.1)
-holds_found version db (Some d) c sound holds (inr h) = absurd (not_empty db.schema db.trees holds.0 sound h.0)
+holds_found version found db (Some d) c sound holds (inr h) = absurd (not_empty db.schema db.trees holds.0 sound h.0)
 
-told_old : (version : ℕ) (db : Database) (held : Option Content) → IsSound db.schema db.trees → Holds db.trees held → IsOldLayout version db → IsOther version held
-told_old version db None sound none old = old.0 (no_other db.schema db.trees none sound)
-told_old version db (Some d) sound holds (some, inl names) = λ _. absurd (names (our_names db.schema db.trees holds.0 sound))
-told_old version db (Some d) sound holds (some, inr other) = λ is. other (ap (λ (e : Content). e.versions) holds.1 ∙ is)
+told_old : (version older : ℕ) (db : Database) (held : Option Content) → IsSound db.schema db.trees → Holds db.trees held → IsOldLayout version older db → IsOther version older held
+told_old version older db None sound none old = old.0 (no_other db.schema db.trees none sound)
+told_old version older db (Some d) sound holds (some, inl names) = absurd (names (our_names db.schema db.trees holds.0 sound))
+told_old version older db (Some d) sound holds (some, inr other) =
+    let same = ap (λ (e : Content). e.versions) holds.1 in
+    (λ is. other.0 (same ∙ is), λ is. other.1 (same ∙ is))
 
 -- what a refused opening leaves
 new_held : (version : ℕ) (db : Database) (held : Option Content) (trees : Trees) → IsSound db.schema db.trees → Holds db.trees held → db.schema ≡ no_schema → IsNewStore version trees
@@ -129,9 +131,9 @@ module _ {S : Type 0} (g : Ghosts S) (law : (h : Held S) → LeavesCommit (state
       let held = stands.left_held _ over.found in
       (held.0, held.1, subst (λ (d : Database). Holds d.trees held.0) (sym over.opens.clean) held.2)
 
-  stands_refused : (version : ℕ) (fault : OpenFault) (conn back : Held S) (held : Option Content) (left : Trees → Type 0) → IsOver g left conn → Holds (state g conn).now.trees held → IsRefused g version fault conn back
+  stands_refused : (version older : ℕ) (fault : OpenFault) (conn back : Held S) (held : Option Content) (left : Trees → Type 0) → IsOver g left conn → Holds (state g conn).now.trees held → IsRefused g version older fault conn back
       → Stands (state g back).may_leave None (λ h. (h ≡ held) ⊎ ((held ≡ None) × (h ≡ Some (at_version version empty))))
-  stands_refused version fault conn back held left over holds refused = record {
+  stands_refused version older fault conn back held left over holds refused = record {
     left_held = λ trees may. elim (refused.spared.stops trees may) [
       | inl before ↦
           let same : trees ≡ (state g conn).now.trees = law conn over.opens.is_open trees before ∙ sym (ap (λ (d : Database). d.trees) over.opens.clean) in
@@ -153,18 +155,18 @@ module _ {S : Type 0} (g : Ghosts S) (law : (h : Held S) → LeavesCommit (state
 
   kept : (history : List (Happening S)) (left : Trees → Type 0) (now : Option (Kept S)) (may : Option Content → Type 0) → Stands left now may → Follows g left now history → IsKept g may history
   kept [] left now may stands run = tt
-  kept (Opened version conn table ∷ rest) left now may stands run =
+  kept (Opened version of conn table ∷ rest) left now may stands run =
       let over = run.0 in
       let held = held_now left now may conn stands over in
-      let found = holds_found version (state g conn).now held.0 (content g table) (over.live over.opens.is_open).0 held.2 run.1.finds in
+      let found = holds_found version of (state g conn).now held.0 (content g table) (over.live over.opens.is_open).0 held.2 run.1.finds in
       ((held.0, held.1, found.0, found.1), kept rest _ _ _ (stands_at table run.1.stops run.1.whole) run.2)
-  kept (Refused version fault conn back ∷ rest) left now may stands run =
+  kept (Refused version older fault conn back ∷ rest) left now may stands run =
       let over = run.0 in
       let held = held_now left now may conn stands over in (
         held.0,
         held.1,
-        (λ is. told_old version (state g conn).now held.0 (over.live over.opens.is_open).0 held.2 (run.1.old is)),
-        kept rest _ _ _ (stands_refused version fault conn back held.0 left over held.2 run.1) run.2,
+        (λ is. told_old version older (state g conn).now held.0 (over.live over.opens.is_open).0 held.2 (run.1.old is)),
+        kept rest _ _ _ (stands_refused version older fault conn back held.0 left over held.2 run.1) run.2,
       )
   kept (Changed version edits old new ∷ rest) left now may stands run =
       (run.1.all, kept rest _ _ _ (stands_at new run.1.settled run.1.whole) run.2)

@@ -1,5 +1,5 @@
 -- What calls leave of a table of texts.
-use Rattle.std.proofs.Common.{◌≡◌, ◌⊎◌, inl, inr, List, [], ◌∷◌, false, IsTrue, slice_index_or, refl, sym, ap, subst, ◌∙◌}
+use Rattle.std.proofs.Common.{◌≡◌, ◌⊎◌, inl, inr, List, [], ◌∷◌, false, IsTrue, OnErr, Result, Ok, Err, slice_index_or, refl, sym, ap, subst, ◌∙◌}
 use Rattle.sqlite.specs.Tree.{Trees}
 use Rattle.sqlite.specs.Store.{Ghosts}
 use Rattle.sqlite.specs.Effect.{Database}
@@ -15,6 +15,11 @@ the_one items x a b one = ap (λ l. slice_index_or l 0 b) one
 
 pub still_one : {X : Type 0} (items : List X) (a b : X) → items ≡ slice_index_or items 0 a ∷ [] → items ≡ slice_index_or items 0 b ∷ []
 still_one items a b one = one ∙ ap (λ x. x ∷ []) (sym (the_one items a a b one))
+
+-- what holds at all times holds after an error
+pub any_err : {A E : Type 0} (r : Result A E) (P : Type 0) → P → OnErr r P
+any_err (Ok a) P p = tt
+any_err (Err e) P p = p
 
 -- while a store is open, a stop leaves the last commit and nothing else
 abbrev pub LeavesCommit : State → Type 0

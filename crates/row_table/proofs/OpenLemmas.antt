@@ -1,5 +1,5 @@
 -- What the queries at an open show.
-use Rattle.std.proofs.Common.{◌≡◌, ◌⊎◌, inl, inr, ℕ, pos, List, [], ◌∷◌, map, Bool, true, false, IsTrue, IfOk, Ok, Err, Result, refl, sym, ap, subst, ◌∙◌}
+use Rattle.std.proofs.Common.{◌≡◌, ◌≢◌, ◌⊎◌, inl, inr, ℕ, pos, List, [], ◌∷◌, map, Bool, true, false, IsTrue, IfOk, IfSome, Option, Some, None, Ok, Err, Result, refl, sym, ap, subst, ◌∙◌}
 use Rattle.std.specs.List.Sorted.{IsPermutation}
 use Rattle.std.specs.Prelude.{flat_map}
 use Rattle.std.proofs.lemmas.List.Sorted.{IsPermutation-sym, IsPermutation-map}
@@ -17,11 +17,11 @@ use Rattle.sqlite.specs.Held.{Held, state}
 use Rattle.sqlite.proofs.Callers.{reads_as, one_permutation}
 use Rattle.row_table.specs.Layout.{both_tables, no_schema}
 use Rattle.row_table.specs.Texts.{AreTexts}
-use Rattle.row_table.specs.Contents.{HasVersion, IsNewStore, IsNumbered, IsWhole, content_of, versions}
+use Rattle.row_table.specs.Contents.{HasVersion, IsNewStore, IsNumbered, IsOfOthers, IsWhole, content_of, versions}
 use Rattle.row_table.specs.Effects.{HasTables, HasUndone}
 use Rattle.row_table.specs.Reading.{IsAnswered}
 use Rattle.row_table.specs.Checking.{AreWhole}
-use Rattle.row_table.specs.Opening.{HoldsAsOpened, IsMade, IsOfVersion, IsSpared}
+use Rattle.row_table.specs.Opening.{HoldsAsOpened, IsMade, IsOfVersion, IsSpared, ShowsTheSame}
 use Rattle.row_table.proofs.Meanings.{layout_select, whole_select, version_query, version_is, version_plain}
 use Rattle.row_table.proofs.StatementLemmas.{every, listed_as, selects_whole}
 use Rattle.row_table.proofs.KeptLemmas.{LeavesCommit}
@@ -57,17 +57,22 @@ one_shown version trees rows moved is =
     let shown = one_permutation (version_shown it.0) rows (subst (λ (l : List Row). IsPermutation (map version_shown l) rows) it.1 moved) in
     ap (map (λ (r : Row). column r 1)) shown ∙ ap (λ (x : Value). x ∷ []) it.2
 
-module _ {S : Type 0} (g : Ghosts S) (old : Held S) (version : ℕ) (rows given : List Row) (answer : IsAnswered g old layout_select rows) (has : (state g old).now.schema ≡ both_tables) (same : given ≡ rows) where
+module _ {S : Type 0} (g : Ghosts S) (old : Held S) (rows given : List Row) (answer : IsAnswered g old layout_select rows) (has : (state g old).now.schema ≡ both_tables) (same : given ≡ rows) where
   shows_one : IsPermutation (map version_shown ((state g old).now.trees 0)) rows
   shows_one = selects_version (state g (record old { in_transaction = true })) (state g answer.mid) rows has answer.shown
 
-  pub version_found : (r : Result Bool Error) → IfOk r (λ b. IsTrue b → IsNumbered version given) → IfOk r (λ b. IsTrue b → HasVersion version (state g old).now.trees)
-  version_found (Ok b) told = λ passed. one_stands version (state g old).now.trees rows shows_one (subst (IsNumbered version) same (told passed))
+  pub version_found : (r : Result (Option ℕ) Error) → IfOk r (λ o. IfSome o (λ found. IsNumbered found given)) → IfOk r (λ o. IfSome o (λ found. HasVersion found (state g old).now.trees))
+  version_found (Ok (Some found)) told = one_stands found (state g old).now.trees rows shows_one (subst (IsNumbered found) same told)
+  version_found (Ok None) told = tt
   version_found (Err e) told = tt
 
-  pub version_missed : (r : Result Bool Error) → IfOk r (λ b. map (λ (r : Row). column r 1) given ≡ Int (pos version) ∷ [] → IsTrue b) → IfOk r (λ b. versions (state g old).now.trees ≡ Int (pos version) ∷ [] → IsTrue b)
-  version_missed (Ok b) told = λ is. told (ap (map (λ (r : Row). column r 1)) same ∙ one_shown version (state g old).now.trees rows shows_one is)
-  version_missed (Err e) told = tt
+  shown_as : (version : ℕ) → versions (state g old).now.trees ≡ Int (pos version) ∷ [] → map (λ (r : Row). column r 1) given ≡ Int (pos version) ∷ []
+  shown_as version is = ap (map (λ (r : Row). column r 1)) same ∙ one_shown version (state g old).now.trees rows shows_one is
+
+  pub version_missed : (version older : ℕ) (r : Result (Option ℕ) Error)
+      → IfOk r (λ o. o ≡ None → (map (λ (r : Row). column r 1) given ≢ Int (pos version) ∷ []) × (map (λ (r : Row). column r 1) given ≢ Int (pos older) ∷ [])) → IfOk r (λ o. o ≡ None → IsOfOthers version older (state g old).now.trees)
+  version_missed version older (Ok o) told = λ none. let other = told none in (λ is. other.0 (shown_as version is), λ is. other.1 (shown_as older is))
+  version_missed version older (Err e) told = tt
 
 pub wholes_read : {S : Type 0} (g : Ghosts S) (old : Held S) (rows given : List Row) (r : Result Bool Error) → IsAnswered g old whole_select rows → (state g old).now.schema ≡ both_tables → given ≡ rows
     → IfOk r (λ b. IsTrue b → AreWhole given) → IfOk r (λ b. IsTrue b → AreTexts ((state g old).now.trees 1))
@@ -94,8 +99,15 @@ of_version old mid version was still sound settled undone has numbered whole =
       has_version = numbered;
     }
 
+-- the connection was settled, and shows the last commit
+pub shown_still : (old new : State) → (IsTrue old.is_open → old.now ≡ old.committed) → HasUndone old new → ShowsTheSame old new
+shown_still old new settled undone = record {
+  was_open = undone.was_open;
+  same = λ still. ((undone.undone still).0 ∙ sym (settled (undone.was_open still)), (undone.undone still).1);
+}
+
 module _ {S : Type 0} (g : Ghosts S) (version : ℕ) (old new : Held S) where
-  pub started : new.in_transaction ≡ false → (state g old).now.schema ≡ no_schema → IsMade version (state g old) (state g new) → LeavesCommit (state g new) → HoldsAsOpened g version old new new
+  pub started : new.in_transaction ≡ false → (state g old).now.schema ≡ no_schema → IsMade version (state g old) (state g new) → LeavesCommit (state g new) → HoldsAsOpened g version version old new new
   started idle none made law = record {
     rest = record {
       idle = idle;
@@ -104,16 +116,17 @@ module _ {S : Type 0} (g : Ghosts S) (version : ℕ) (old new : Held S) where
       settled = λ _ _. made.settled;
       left = λ _ trees may. subst IsWhole (sym (left trees may)) made.one.whole;
     };
-    finds = inr (none, made.one.holds);
+    finds = inr (none, refl, made.one.holds);
     stops = λ trees may. ap content_of (left trees may);
+    untouched = λ some. absurd (some none);
   }
     where
       left : (trees : Trees) → (state g new).may_leave trees → trees ≡ (state g new).now.trees
       left trees may = law made.is_open trees may ∙ sym (ap (λ (d : Database). d.trees) made.settled)
 
-  pub found : new.in_transaction ≡ false → (HasCleanDisk (state g new) → HasCleanDisk (state g old)) → (IsTrue (state g old).is_open → (state g old).now ≡ (state g old).committed) → IsOfVersion version (state g old) → HasUndone (state g old) (state g new)
-      → ((db : Trees) → (state g new).may_leave db → (state g old).may_leave db) → LeavesCommit (state g old) → HoldsAsOpened g version old new old
-  found idle earlier settled one undone before law = record {
+  pub found : (of : ℕ) → new.in_transaction ≡ false → (HasCleanDisk (state g new) → HasCleanDisk (state g old)) → (IsTrue (state g old).is_open → (state g old).now ≡ (state g old).committed) → IsOfVersion of (state g old) → HasUndone (state g old) (state g new)
+      → ((db : Trees) → (state g new).may_leave db → (state g old).may_leave db) → LeavesCommit (state g old) → HoldsAsOpened g version of old new old
+  found of idle earlier settled one undone before law = record {
     rest = record {
       idle = idle;
       tables = λ _ still. subst HasTables (sym (back still)) one.tables;
@@ -123,6 +136,7 @@ module _ {S : Type 0} (g : Ghosts S) (version : ℕ) (old new : Held S) where
     };
     finds = inl (one.tables.schema, one.has_version, refl);
     stops = λ trees may. ap content_of (left trees may);
+    untouched = λ _. record { shown = shown_still (state g old) (state g new) settled undone; stops = before };
   }
     where
       back : IsTrue (state g new).is_open → (state g new).now ≡ (state g old).now
@@ -133,11 +147,6 @@ module _ {S : Type 0} (g : Ghosts S) (version : ℕ) (old new : Held S) where
 
 -- ---- an opening that was refused
 
--- the connection was settled, and shows the last commit
 pub spared : (version : ℕ) (old new : State) → (IsTrue old.is_open → old.now ≡ old.committed) → HasUndone old new
     → ((trees : Trees) → new.may_leave trees → old.may_leave trees ⊎ ((old.now.schema ≡ no_schema) × IsNewStore version trees)) → IsSpared version old new
-spared version old new settled undone stops = record {
-  was_open = undone.was_open;
-  same = λ still. ((undone.undone still).0 ∙ sym (settled (undone.was_open still)), (undone.undone still).1);
-  stops = stops;
-}
+spared version old new settled undone stops = record { shown = shown_still old new settled undone; stops = stops }

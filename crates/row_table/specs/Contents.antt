@@ -1,5 +1,5 @@
 -- What a store with the two tables holds: the version of its layout, and a text under each kind and name.
-use Rattle.std.specs.Prelude.{◌≡◌, ℕ, ℤ, pos, List, [], ◌∷◌, map}
+use Rattle.std.specs.Prelude.{◌≡◌, ◌≢◌, ℕ, ℤ, pos, List, [], ◌∷◌, map}
 use Rattle.std.specs.FinMap.{empty}
 use Rattle.sqlite.specs.declared.types.Value.{Value}
 use Rattle.sqlite.specs.declared.types.Value.TheVariants.{Int}
@@ -39,6 +39,10 @@ pub record IsNumbered (version : ℕ) (rows : List Row) : Type 0 where
 
 abbrev pub HasVersion : ℕ → Trees → Type 0
 HasVersion version trees = IsNumbered version (trees 0)
+
+-- `layout` says neither of these versions alone
+abbrev pub IsOfOthers : ℕ → ℕ → Trees → Type 0
+IsOfOthers version older trees = (versions trees ≢ Int (pos version) ∷ []) × (versions trees ≢ Int (pos older) ∷ [])
 
 -- The trees of a whole store. They list the two tables and nothing else, with one version, and rows that are texts.
 pub record IsWhole (trees : Trees) : Type 0 where

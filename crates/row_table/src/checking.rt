@@ -1,6 +1,6 @@
 //! Whether a store that has the two tables keeps what it should.
 
-ghost use Rattle.std.specs.Prelude.{◌≡◌, false, pos, [], ◌∷◌, IsTrue, IfOk, map};
+ghost use Rattle.std.specs.Prelude.{◌≡◌, ◌≢◌, ◌⊎◌, false, pos, [], ◌∷◌, IsTrue, IfOk, IfSome, None, map};
 ghost use Rattle.sqlite.specs.declared.types.Value.TheVariants.{Int};
 ghost use Rattle.sqlite.specs.Order.{column};
 ghost use Rattle.row_table.specs.Texts.{IsTextRow};
@@ -47,7 +47,7 @@ pub(crate) fn are_whole(rows: &[Row]) -> Result<bool, Error>
 }
 
 /// Whether there is one row, which has a rowid and that number.
-pub(crate) fn is_numbered(rows: &[Row], version: u32) -> Result<bool, Error>
+fn is_numbered(rows: &[Row], version: u32) -> Result<bool, Error>
     ensures one { IfOk result (λ b. IsTrue b → IsNumbered version rows.now) }
     ensures all { IfOk result (λ b. map (λ r. column r 1) rows.now ≡ Int (pos version) ∷ [] → IsTrue b) }
 {
@@ -57,4 +57,19 @@ pub(crate) fn is_numbered(rows: &[Row], version: u32) -> Result<bool, Error>
     let _id: i64 = row.get(0)?;
     let found: i64 = row.get(1)?;
     Ok(found == i64::from(version))
+}
+
+/// Which of the two numbers one row has, which is alone and has a rowid.
+pub(crate) fn number_in(rows: &[Row], version: u32, older: u32) -> Result<Option<u32>, Error>
+    ensures one { IfOk result (λ o. IfSome o (λ found. IsNumbered found rows.now)) }
+    ensures either { IfOk result (λ o. IfSome o (λ found. (found ≡ version) ⊎ (found ≡ older))) }
+    ensures none { IfOk result (λ o. o ≡ None → (map (λ r. column r 1) rows.now ≢ Int (pos version) ∷ []) × (map (λ r. column r 1) rows.now ≢ Int (pos older) ∷ [])) }
+{
+    if is_numbered(rows, version)? {
+        return Ok(Some(version));
+    }
+    if is_numbered(rows, older)? {
+        return Ok(Some(older));
+    }
+    Ok(None)
 }

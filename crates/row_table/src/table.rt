@@ -2,10 +2,12 @@
 
 ghost use Rattle.std.specs.Prelude.{◌≡◌, ◌≢◌, ◌⊎◌, [], IfOk, OnOk, OnErr};
 ghost use Rattle.std.specs.FinMap.{entries};
+ghost use Rattle.sqlite.specs.Held.{state};
 ghost use Rattle.sqlite.specs.Tree.{Trees};
 ghost use Rattle.row_table.specs.Contents.{at_version, content_of, with_texts};
 ghost use Rattle.row_table.specs.Effects.{set_all};
 ghost use Rattle.row_table.specs.Kept.{IsClean, Leaves, LeavesWhole, content, texts};
+ghost use Rattle.row_table.specs.Opening.{ShowsTheSame};
 
 use crate::edits::{TextEdit, commit_all, commit_to};
 use crate::opening::{OpenFault, open_tables};
@@ -66,6 +68,7 @@ impl<S: Alter> TextTable<S> {
         ensures kept { content S.Store self.new ≡ content S.Store self.old }
         ensures honest { IsClean S.Store self.new → IsClean S.Store self.old }
         ensures stops { IsClean S.Store self.new → (trees : Trees) → Leaves S.Store self.new trees → Leaves S.Store self.old trees }
+        ensures shown { IsClean S.Store self.new → ShowsTheSame (state S.Store self.old.conn) (state S.Store self.new.conn) }
     {
         load(self.alloc, &mut self.conn)
     }
@@ -102,6 +105,7 @@ impl<S: Alter> TextTable<S> {
         // A stop at any other time leaves what it could leave before, or the new version with what the edits make.
         ensures stops { IsClean S.Store self.new → (trees : Trees) → Leaves S.Store self.new trees
             → Leaves S.Store self.old trees ⊎ (content_of trees ≡ at_version version (set_all (texts S.Store self.old) edits.now)) }
+        ensures shown { IsClean S.Store self.new → OnErr result (ShowsTheSame (state S.Store self.old.conn) (state S.Store self.new.conn)) }
         // Whatever a stop leaves is a whole store: the two tables and no other, with one version.
         ensures whole { IsClean S.Store self.new → LeavesWhole S.Store self.new }
     {
@@ -123,24 +127,29 @@ impl<S: Alter> TextTable<S> {
 impl<S: Alter> TextTable<S> {
     ghost use Rattle.std.specs.Prelude.{IfErr};
     ghost use Rattle.sqlite.specs.State.{HasCleanDisk};
-    ghost use Rattle.sqlite.specs.Held.{state};
-    ghost use Rattle.row_table.specs.Opening.{Finds, IsOldLayout, IsSpared};
+    ghost use Rattle.row_table.specs.Layout.{no_schema};
+    ghost use Rattle.row_table.specs.Opening.{Finds, IsOldLayout, IsSpared, IsUntouched};
 
-    /// Takes over a connection to a store of that version. A store with nothing gets both tables and the version, in one
-    /// transaction. `OldLayout` where it has something else, or another version. A refusal hands the connection back.
+    /// Takes over a connection to a store of one of these versions, and answers which it has. A store with nothing gets
+    /// both tables and the first version, in one transaction. `OldLayout` where it has something else, or another
+    /// version. A refusal hands the connection back.
     pub fn adopt(
         alloc: Global,
         mut conn: Connection<S>,
         version: u32,
-    ) -> Result<TextTable<S>, (OpenFault, Connection<S>)>
-        ensures finds { IfOk result (λ t. IsClean S.Store t → Finds version (state S.Store conn).now (content S.Store t)) }
-        ensures honest { IfOk result (λ t. IsClean S.Store t → HasCleanDisk (state S.Store conn)) }
-        ensures stops { IfOk result (λ t. IsClean S.Store t → (trees : Trees) → Leaves S.Store t trees → content_of trees ≡ content S.Store t) }
-        ensures whole { IfOk result (λ t. IsClean S.Store t → LeavesWhole S.Store t) }
+        older: u32,
+    ) -> Result<(TextTable<S>, u32), (OpenFault, Connection<S>)>
+        ensures finds { IfOk result (λ t. IsClean S.Store t.0 → Finds version t.1 (state S.Store conn).now (content S.Store t.0)) }
+        ensures either { IfOk result (λ t. (t.1 ≡ version) ⊎ (t.1 ≡ older)) }
+        ensures honest { IfOk result (λ t. IsClean S.Store t.0 → HasCleanDisk (state S.Store conn)) }
+        ensures stops { IfOk result (λ t. IsClean S.Store t.0 → (trees : Trees) → Leaves S.Store t.0 trees → content_of trees ≡ content S.Store t.0) }
+        ensures whole { IfOk result (λ t. IsClean S.Store t.0 → LeavesWhole S.Store t.0) }
+        // A store that had something is as it was.
+        ensures untouched { IfOk result (λ t. IsClean S.Store t.0 → (state S.Store conn).now.schema ≢ no_schema → IsUntouched (state S.Store conn) (state S.Store t.0.conn)) }
         ensures unharmed { IfErr result (λ e. HasCleanDisk (state S.Store e.1) → HasCleanDisk (state S.Store conn)) }
         // The store is as it was, or a whole new one where there was none, and a stop leaves one of these.
         ensures spared { IfErr result (λ e. HasCleanDisk (state S.Store e.1) → IsSpared version (state S.Store conn) (state S.Store e.1)) }
-        ensures old { IfErr result (λ e. HasCleanDisk (state S.Store e.1) → e.0 ≡ OpenFault.OldLayout → IsOldLayout version (state S.Store conn).now) }
+        ensures old { IfErr result (λ e. HasCleanDisk (state S.Store e.1) → e.0 ≡ OpenFault.OldLayout → IsOldLayout version older (state S.Store conn).now) }
     {
         if !conn.is_autocommit() {
             return Err((
@@ -148,8 +157,8 @@ impl<S: Alter> TextTable<S> {
                 conn,
             ));
         }
-        match open_tables(alloc, &mut conn, version) {
-            Ok(last) => Ok(TextTable { conn, last, alloc }),
+        match open_tables(alloc, &mut conn, version, older) {
+            Ok((last, found)) => Ok((TextTable { conn, last, alloc }, found)),
             Err(fault) => Err((fault, conn)),
         }
     }

@@ -64,6 +64,7 @@ module _ (s t : State) (e : Event) (fine : IsConsistent s) (d : Does s e t) wher
       IsRecordOf s v (next_cdr s v l c k)
   is_record v l c k i complete place = record {
     bills = record {
+      bill = refl;
       completed = complete;
       session = refl;
       token = refl;

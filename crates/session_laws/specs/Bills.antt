@@ -4,6 +4,7 @@ use Rattle.std.specs.FinMap.{get}
 use Rattle.ocpi_text.specs.OwnIds.{own_id_text}
 use Rattle.ocpi_text.specs.Text.{key}
 use Rattle.ocpi_text.specs.declared.own_ids.OwnIdKind.TheVariants as own
+use Rattle.ocpi_types.specs.Credits.{IsBill}
 use Rattle.ocpi_types.specs.declared.cdrs.Cdr.{Cdr}
 use Rattle.ocpi_types.specs.declared.rows.Row.TheVariants as row
 use Rattle.ocpi_types.specs.declared.sessions.Session.{Session}
@@ -23,6 +24,7 @@ use Rattle.session_laws.specs.Pasts.{stored}
 
 -- the record bills the version, which is COMPLETED: its energy and its cost are the version's
 pub record Bills (v : Session) (x : Cdr) : Type 0 where
+  pub bill : IsBill x
   pub completed : v.status ≡ Completed
   pub session : x.session_id ≡ v.id
   pub token : x.cdr_token ≡ v.cdr_token
@@ -48,7 +50,7 @@ pub record PutsRecords (s : State) (e : Event) : Type 0 where
 abbrev pub RecordsAreOfCompletedSessions : Type 0
 RecordsAreOfCompletedSessions = (s t : State) (e : Event) → IsConsistent s → Happens s e t → PutsRecords s e
 
--- each session that is COMPLETED has one charge detail record, and no other session has one
+-- each session that is COMPLETED has one charge detail record, which is a bill, and no other session has one
 pub record AreBilledOnce (t : State) : Type 0 where
   pub each : (id : List ℕ) (v : Session) → stored t id ≡ Some v → v.status ≡ Completed → (x : Cdr) × (get t.rows.charged.cdrs (key x.id) ≡ Some x) × Bills v x
   pub only : (id : List ℕ) (x : Cdr) → get t.rows.charged.cdrs id ≡ Some x → (v : Session) × (stored t (key v.id) ≡ Some v) × Bills v x

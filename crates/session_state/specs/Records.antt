@@ -1,5 +1,5 @@
 -- The charge detail record of a completed session (OCPI 2.2.1, CDRs: CDR object).
-use Rattle.std.specs.Prelude.{◌≡◌, ℕ, ◌-◌, ◌/◌, ◌≤◌, ℤ, pos, List, [], ◌∷◌, Some, unwrap_or, codes}
+use Rattle.std.specs.Prelude.{◌≡◌, ℕ, ◌-◌, ◌/◌, ◌≤◌, ℤ, pos, List, [], ◌∷◌, Some, None, unwrap_or, codes}
 use Rattle.ocpi_types.specs.declared.sessions.Session.{Session}
 use Rattle.ocpi_types.specs.declared.sessions.Price.{Price}
 use Rattle.ocpi_types.specs.declared.cdrs.Cdr.{Cdr}
@@ -8,7 +8,7 @@ use Rattle.ocpi_types.specs.declared.cdrs.ChargingPeriod.{ChargingPeriod}
 use Rattle.ocpi_types.specs.declared.words.SessionStatus.TheVariants.{Completed}
 
 -- what a session is billed by: its COMPLETED version, its end and its cost
-pub record IsBill (v : Session) (last : ℕ) (total : Price) : Type 0 where
+pub record IsBilledBy (v : Session) (last : ℕ) (total : Price) : Type 0 where
   pub state : v.status ≡ Completed
   pub end : v.end_date_time ≡ Some last
   pub total_cost : v.total_cost ≡ Some total
@@ -43,4 +43,5 @@ cdr_of v id place =
       total_energy = v.kwh;
       total_time = hours v.start_date_time last;
       last_updated = v.last_updated;
+      credit_reference_id = None;
     }

@@ -1,7 +1,7 @@
 //! Drafts of charge detail records.
 
 ghost use Rattle.std.specs.Prelude.{◌≡◌, ◌≤◌, ◌-◌, ◌/◌, [], ◌∷◌, codes, IfOk, IfErr, Ok};
-ghost use Rattle.session_state.specs.Records.{IsBill, hours, energy_period, cdr_of};
+ghost use Rattle.session_state.specs.Records.{IsBilledBy, hours, energy_period, cdr_of};
 ghost use Rattle.session_state.specs.declared.fault.SessionFault.TheVariants.{Memory};
 
 use crate::fault::{Refused, SessionFault};
@@ -22,18 +22,18 @@ pub struct CdrDraft {
 
 impl Model for CdrDraft {
     ghost use Rattle.ocpi_types.specs.declared.sessions.Session.{Session};
-    ghost use Rattle.session_state.specs.Records.{IsBill};
+    ghost use Rattle.session_state.specs.Records.{IsBilledBy};
 
     ghost Value = { Session };
 
     ghost view = { λ d. d.version };
 
-    ghost invariant = { λ d. IsBill d.version d.end d.total_cost };
+    ghost invariant = { λ d. IsBilledBy d.version d.end d.total_cost };
 }
 
 /// The draft of a COMPLETED version with that end and cost.
 pub(crate) fn draft_of(version: &Version, end: Moment, total_cost: Price) -> CdrDraft
-    requires { IsBill version.now end total_cost }
+    requires { IsBilledBy version.now end total_cost }
     ensures { result ≡ version.now }
 {
     CdrDraft {
@@ -102,6 +102,7 @@ impl CdrDraft {
             total_energy: version.kwh,
             total_time: hours(version.start_date_time, end),
             last_updated: version.last_updated,
+            credit_reference_id: None,
         })
     }
 

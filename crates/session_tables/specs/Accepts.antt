@@ -6,7 +6,7 @@ use Rattle.ocpi_types.specs.declared.site.Connector.{Connector}
 use Rattle.ocpi_types.specs.declared.site.Evse.{Evse}
 use Rattle.ocpi_types.specs.declared.site.Location.{Location}
 use Rattle.ocpi_types.specs.declared.site.Site.{Site}
-use Rattle.ocpi_types.specs.declared.stored.Command.TheVariants as command
+use Rattle.ocpi_types.specs.declared.commands.Command.TheVariants as command
 use Rattle.ocpi_types.specs.declared.stored.OpenCommand.{OpenCommand}
 use Rattle.ocpi_types.specs.declared.words.AuthMethod.TheVariants as how
 use Rattle.session_tables.specs.declared.beginning.Beginning.{Beginning}

@@ -1,5 +1,5 @@
 -- An event of an operator, wherever the operator comes from: what is consistent and whole stays so.
-use Rattle.std.proofs.Common.{◌≡◌, ◌≢◌, ◌+◌, ℕ, ℤ, List, [], ◌∷◌, inl, inr, refl, sym, ap, subst, ◌∙◌}
+use Rattle.std.proofs.Common.{◌≡◌, ◌≢◌, ◌+◌, ℕ, ℤ, true≢false, List, [], ◌∷◌, inl, inr, refl, sym, ap, subst, ◌∙◌}
 use Rattle.std.specs.Prelude.{Option, Some, None, Ok, Contains}
 use Rattle.std.specs.FinMap.{get, get-empty}
 use Rattle.tables.specs.Keys.{text_cmp}
@@ -24,6 +24,7 @@ use Rattle.session_state.specs.Pasts.{IsTurn, MayFollow}
 use Rattle.session_state.specs.Resuming.{CannotResume}
 use Rattle.session_tables.specs.Moves.{Ends, Makes}
 use Rattle.stored_rows.specs.Given.{IsOwnId}
+use Rattle.stored_rows.specs.Records.{IsRecordId}
 use Rattle.operator_rows.specs.State.{State, opening}
 use Rattle.operator_rows.specs.Sound.{IsConsistent}
 use Rattle.operator_rows.specs.Steps.{IsNextOf}
@@ -90,9 +91,10 @@ module _ (s t : State) (e : Event) (fine : IsConsistent s) (whole : IsWhole s) (
       let made : v.id ≡ m.before.id = ap (λ (z : Session). z.id) is ∙ made_of s.site.price at report m.before m.after m.moves.makes in
       subst (λ (id : List ℕ). (n : ℕ) × IsOwnId own.Session s.party id n) (sym made) (whole.sessions (key m.before.id) m.before m.moves.here.stands)
 
-  own_cdr : (x : Cdr) → CdrCause s e.input (does s t e fine happens).acts x → (n : ℕ) × IsOwnId own.Cdr s.party x.id n
+  own_cdr : (x : Cdr) → CdrCause s e.input (does s t e fine happens).acts x → (n : ℕ) × IsRecordId s.party x n
   own_cdr x (Billed at report reports m complete l c k place within is) =
-      (s.rows.charged.last_cdr + 1, record { is_number = within; made = ap (λ (z : Cdr). z.id) is })
+      let n = s.rows.charged.last_cdr + 1 in
+      (n, subst (λ (z : Cdr). IsRecordId s.party z n) (sym is) (record { is_number = within; made = refl }))
 
   sessions_stay : (id : List ℕ) (v : Session) → get t.rows.charged.sessions id ≡ Some v → (n : ℕ) × IsOwnId own.Session t.party v.id n
   sessions_stay id v has =
@@ -110,10 +112,10 @@ module _ (s t : State) (e : Event) (fine : IsConsistent s) (whole : IsWhole s) (
         | inr i ↦ next_resumes s.site.price (get s.rows.charged.sessions (key v.id)) v (d.sessions v i)
       ])
 
-  cdrs_stay : (id : List ℕ) (x : Cdr) → get t.rows.charged.cdrs id ≡ Some x → (n : ℕ) × IsOwnId own.Cdr t.party x.id n
+  cdrs_stay : (id : List ℕ) (x : Cdr) → get t.rows.charged.cdrs id ≡ Some x → (n : ℕ) × IsRecordId t.party x n
   cdrs_stay id x has =
       let d = does s t e fine happens in
-      subst (λ (p : List ℕ). (n : ℕ) × IsOwnId own.Cdr p x.id n) (sym d.party) (elim (record_from s t e fine d id x has) [
+      subst (λ (p : List ℕ). (n : ℕ) × IsRecordId p x n) (sym d.party) (elim (record_from s t e fine d id x has) [
         | inl old ↦ whole.cdrs id x old
         | inr i ↦ own_cdr x (cdr_cause s t e fine d x i)
       ])
@@ -144,17 +146,17 @@ module _ (s t : State) (e : Event) (fine : IsConsistent s) (whole : IsWhole s) (
       let d = does s t e fine happens in
       record {
         each = λ id v has complete. elim (session_from s t e fine d id v has) [
-          | inl old ↦ (let (x, had, same) = whole.billed.each id v old complete in (x, records_stay s t (e ∷ []) fine (t, happens, refl) (key x.id) x had, same))
-          | inr i ↦ (let (x, put, r) = (puts_records s t e fine d).each v i complete in (x, (d.rows (row.Cdr x)).1 (inl put), ap key r.bills.session))
+          | inl old ↦ (let (x, had, bill, same) = whole.billed.each id v old complete in (x, records_stay s t (e ∷ []) fine (t, happens, refl) (key x.id) x had, bill, same))
+          | inr i ↦ (let (x, put, r) = (puts_records s t e fine d).each v i complete in (x, (d.rows (row.Cdr x)).1 (inl put), r.bills.bill, ap key r.bills.session))
         ];
         only = λ id x has. elim (record_from s t e fine d id x has) [
           | inl old ↦ (let (v, had, complete) = whole.billed.only id x old in (v, completed_stays (key x.session_id) v had complete, complete))
           | inr i ↦
               (let (v, put, r) = (puts_records s t e fine d).only x i in (v, stands s t e d (key x.session_id) v put (ap key (sym r.bills.session)), r.bills.completed))
         ];
-        once = λ i j x y has_x has_y same. elim (record_from s t e fine d i x has_x) [
+        once = λ i j x y has_x has_y alike same. elim (record_from s t e fine d i x has_x) [
           | inl old_x ↦ elim (record_from s t e fine d j y has_y) [
-            | inl old_y ↦ whole.billed.once i j x y old_x old_y same
+            | inl old_y ↦ whole.billed.once i j x y old_x old_y alike same
             | inr new_y ↦ absurd (had_none y x i new_y old_x (sym same))
           ]
           | inr new_x ↦ elim (record_from s t e fine d j y has_y) [
@@ -162,6 +164,10 @@ module _ (s t : State) (e : Event) (fine : IsConsistent s) (whole : IsWhole s) (
             | inr new_y ↦
                 d.consistent.sound.charged_keyed.cdrs i x has_x ∙ ap key (next_id x new_x ∙ sym (next_id y new_y)) ∙ sym (d.consistent.sound.charged_keyed.cdrs j y has_y)
           ]
+        ];
+        credited = λ id x has credit. elim (record_from s t e fine d id x has) [
+          | inl old ↦ (let (y, had, its) = whole.billed.credited id x old credit in (y, records_stay s t (e ∷ []) fine (t, happens, refl) (key y.id) y had, its))
+          | inr i ↦ (let (v, put, r) = (puts_records s t e fine d).only x i in absurd (true≢false (sym credit ∙ r.bills.bill)))
         ];
       }
 
@@ -187,7 +193,8 @@ opening_is_whole line party = (
     billed = record {
       each = λ id v has complete. absurd (not_both v _ (get-empty text_cmp id) has);
       only = λ id x has. absurd (not_both x _ (get-empty text_cmp id) has);
-      once = λ i j x y has_x has_y same. absurd (not_both x _ (get-empty text_cmp i) has_x);
+      once = λ i j x y has_x has_y alike same. absurd (not_both x _ (get-empty text_cmp i) has_x);
+      credited = λ id x has credit. absurd (not_both x _ (get-empty text_cmp id) has);
     };
   },
 )

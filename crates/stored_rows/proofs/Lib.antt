@@ -1,4 +1,5 @@
 pub mod OwnNumbers
 pub mod SameNumbers
+pub mod RecordNumbers
 pub mod Repeated
 pub mod Growing

@@ -1,3 +1,4 @@
 pub mod Faults
 pub mod Given
+pub mod Records
 pub mod Turns

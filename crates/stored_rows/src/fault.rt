@@ -39,12 +39,14 @@ pub enum BadReason {
     PushedTwice,
     /// The session cannot go on: its status is none that a session has, or its cost is not that of its energy.
     CannotGoOn,
-    /// Another charge detail record is of the same session.
+    /// Another charge detail record is of the same session: both bill it, or both take its bill back.
     BilledTwice,
     /// The session of the charge detail record is not there as completed.
     BilledEarly,
-    /// The completed session has no charge detail record.
+    /// The completed session has no bill among the charge detail records.
     Unbilled,
+    /// The charge detail record is a credit, and the bill that it takes back is not there.
+    CreditWithoutBill,
 }
 
 /// A row of a list of which no node can be made, and what is wrong with it.

@@ -6,5 +6,5 @@ mod own_numbers;
 mod turns;
 
 pub use fault::{BadReason, BadRow, RowsFault};
-pub use own_numbers::own_number;
+pub use own_numbers::{bill_id, own_number, record_number};
 pub use turns::in_turn;

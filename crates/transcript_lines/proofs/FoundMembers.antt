@@ -28,6 +28,7 @@ found field.Coordinates = refl
 found field.Country = refl
 found field.CountryCode = refl
 found field.Credit = refl
+found field.CreditReferenceId = refl
 found field.Currency = refl
 found field.Data = refl
 found field.Deadline = refl

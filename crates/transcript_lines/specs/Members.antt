@@ -30,6 +30,7 @@ field_c s =
     else if bytes_eq s (codes "country") then Some field.Country
     else if bytes_eq s (codes "country_code") then Some field.CountryCode
     else if bytes_eq s (codes "credit") then Some field.Credit
+    else if bytes_eq s (codes "credit_reference_id") then Some field.CreditReferenceId
     else if bytes_eq s (codes "currency") then Some field.Currency else None
 
 unfoldable pub field_d_to_e : List ℕ → Option Field

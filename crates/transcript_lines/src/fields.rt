@@ -52,6 +52,7 @@ fn field_c(name: &str) -> Option<Field>
         "country" => Some(Field::Country),
         "country_code" => Some(Field::CountryCode),
         "credit" => Some(Field::Credit),
+        "credit_reference_id" => Some(Field::CreditReferenceId),
         "currency" => Some(Field::Currency),
         _ => None,
     }

@@ -6,7 +6,6 @@ use Rattle.std.specs.Ordering.{nat_cmp}
 use Rattle.tables.proofs.Options.{known, none_contained, not_both}
 use Rattle.node_laws.specs.Nodes as nodes
 use Rattle.ocpi_text.specs.Text.{key}
-use Rattle.ocpi_types.specs.Stored.{body_of_command}
 use Rattle.ocpi_types.specs.declared.commands.StartSession.{StartSession}
 use Rattle.ocpi_types.specs.declared.packet.Body.{Body}
 use Rattle.ocpi_types.specs.declared.packet.Body.TheVariants as body
@@ -17,8 +16,8 @@ use Rattle.ocpi_types.specs.declared.token.CdrToken.{CdrToken}
 use Rattle.ocpi_types.specs.declared.sessions.Session.{Session}
 use Rattle.ocpi_types.specs.declared.setup.Node.{Node}
 use Rattle.ocpi_types.specs.declared.site.SiteLine.{SiteLine}
-use Rattle.ocpi_types.specs.declared.stored.Command.{Command}
-use Rattle.ocpi_types.specs.declared.stored.Command.TheVariants as command
+use Rattle.ocpi_types.specs.declared.commands.Command.{Command}
+use Rattle.ocpi_types.specs.declared.commands.Command.TheVariants as command
 use Rattle.ocpi_types.specs.declared.stored.Push.TheVariants as push
 use Rattle.ocpi_types.specs.declared.stored.Reply.{Reply}
 use Rattle.ocpi_types.specs.declared.stored.Reply.TheVariants as reply
@@ -121,7 +120,7 @@ module _ (setup : List Node) (is_setup : IsSetup setup) (w : World) (hs : Histor
         asked : Packet
         sent : Contains (provider_laws.sent at.trace.events) asked
         number : asked.request ≡ n
-        carries : asked.body ≡ body_of_command d.command
+        carries : asked.body ≡ body.Command d.command
 
       module _ (y : Packet) (f : FromOperator setup is_setup w hs traces y) where
         abbrev line : SiteLine
@@ -150,7 +149,7 @@ module _ (setup : List Node) (is_setup : IsSetup setup) (w : World) (hs : Histor
               asked = z;
               sent = within;
               number = one;
-              carries = z_carries ∙ ap body_of_command (sym same ∙ ap (λ (c : SentCommand). c.command) equal);
+              carries = z_carries ∙ ap body.Command (sym same ∙ ap (λ (c : SentCommand). c.command) equal);
             }
 
       posted : (x : CommandResultType) → d.result ≡ Some x → Posted x
@@ -179,12 +178,12 @@ module _ (setup : List Node) (is_setup : IsSetup setup) (w : World) (hs : Histor
         answered = (always_consistent its_line es h.state h.there.trace.by_form ran).consistent.sound.results (p, n) Accepted h.kept
 
         -- what was answered under the command's number is the command
-        is_the_start : (x : Packet) → operator_laws.Came es x → key x.from ≡ p → x.request ≡ n → ¬ nodes.IsReply x.body → x.body ≡ body.StartSession c
+        is_the_start : (x : Packet) → operator_laws.Came es x → key x.from ≡ p → x.request ≡ n → ¬ nodes.IsReply x.body → x.body ≡ body.Command (command.StartSession c)
         is_the_start x came from number no_reply =
             let (to_it, g) = came_to_operator setup is_setup w hs traces h.party h.place h.state h.there x came in
             let within = sent_by_provider setup is_setup w hs traces p q t of at x g from in
             let same = provider_proofs.requests_agree peering at.trace.events t run x h.asked within h.sent no_reply (command_is_no_reply h.asked.body d.command h.carries) (number ∙ sym h.number) in
-            same.0 ∙ h.carries ∙ ap body_of_command is_start
+            same.0 ∙ h.carries ∙ ap body.Command is_start
 
         -- the session that it began stands, in a later version
         has_begun : (x : Packet) → key x.from ≡ p → BeganIn es (key x.from) x.request c → HasBegun w p (key d.to) c

@@ -6,6 +6,7 @@ use Rattle.std.specs.FinMap.{get, get-empty}
 use Rattle.tables.specs.Keys.{text_pair_cmp}
 use Rattle.tables.proofs.Options.{not_both}
 use Rattle.ocpi_text.specs.Text.{key}
+use Rattle.ocpi_types.specs.Credits.{IsBill}
 use Rattle.ocpi_types.specs.declared.cdrs.Cdr.{Cdr}
 use Rattle.ocpi_types.specs.declared.packet.Body.TheVariants as body
 use Rattle.ocpi_types.specs.declared.packet.Packet.{Packet}
@@ -32,7 +33,7 @@ use Rattle.world_steps.specs.World.{Place, World, past_of}
 
 -- a record that bills a version, without the token
 told_bills : (v : Session) (x : Cdr) → bills.Bills v x → Bills v x
-told_bills v x b = record { completed = b.completed; session = b.session; energy = b.energy; cost = b.cost }
+told_bills v x b = record { bill = b.bill; completed = b.completed; session = b.session; energy = b.energy; cost = b.cost }
 
 module _ (setup : List Node) (is_setup : IsSetup setup) (w : World) (hs : Histories) (traces : Traces setup w hs) where
   module _ (o : List ℕ) (p : Place) (s : operator.State) (at : OperatorAt setup is_setup w hs traces o p s) where
@@ -111,6 +112,13 @@ module _ (setup : List Node) (is_setup : IsSetup setup) (w : World) (hs : Histor
       subst (λ (k : List ℕ × List ℕ). HasCdr w k.0 k.1 x) (sym c.own)
       (subst (λ (z : List ℕ). HasCdr w z (key x.id) x) (sym c.sender) (from_operator c.packet x c.from c.carries))
 
+  -- so it is a bill
+  held_bill : (p o id : List ℕ) (x : Cdr) → HoldsCdr w p o id x → IsBill x
+  held_bill p o id x h =
+      let c = records p o id x h in
+      let (v, ends, told) = (billed o c.place c.state c.at).only id x c.stands in
+      told.bill
+
   -- and it holds no two of one session
   pub records_once : (p o i j : List ℕ) (x y : Cdr) → HoldsCdr w p o i x → HoldsCdr w p o j y → key x.session_id ≡ key y.session_id → i ≡ j
   records_once p o i j x y h g same =
@@ -120,6 +128,7 @@ module _ (setup : List Node) (is_setup : IsSetup setup) (w : World) (hs : Histor
       (ap (λ (z : provider.State). get z.rows.inbox.cdrs (o, i)) at.state_is ∙ h.held)
       (ap (λ (z : provider.State). get z.rows.inbox.cdrs (o, j)) (at.state_is ∙ one.1) ∙ g.held)
       same
+      (held_bill p o i x h ∙ sym (held_bill p o j y g))
 
   -- an operator's records have the currency of its site
   pub own_currency : (o : List ℕ) (p : Place) (s : operator.State) → OperatorOf w o p s → (id : List ℕ) (x : Cdr) → get s.rows.charged.cdrs id ≡ Some x → x.currency ≡ s.site.currency

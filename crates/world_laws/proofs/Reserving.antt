@@ -8,12 +8,13 @@ use Rattle.tables.proofs.Elements.{in_front}
 use Rattle.tables.proofs.Options.{none_else, not_both}
 use Rattle.ocpi_text.specs.Text.{key}
 use Rattle.ocpi_types.specs.declared.commands.CancelReservation.{CancelReservation}
+use Rattle.ocpi_types.specs.declared.commands.Command.{Command}
+use Rattle.ocpi_types.specs.declared.commands.Command.TheVariants as command
 use Rattle.ocpi_types.specs.declared.packet.Body.{Body}
 use Rattle.ocpi_types.specs.declared.packet.Body.TheVariants as body
 use Rattle.ocpi_types.specs.declared.packet.Packet.{Packet}
 use Rattle.ocpi_types.specs.declared.setup.Node.{Node}
 use Rattle.ocpi_types.specs.declared.site.SiteLine.{SiteLine}
-use Rattle.ocpi_types.specs.declared.stored.Command.TheVariants as command
 use Rattle.ocpi_types.specs.declared.stored.Push.TheVariants as push
 use Rattle.ocpi_types.specs.declared.stored.Reply.{Reply}
 use Rattle.ocpi_types.specs.declared.stored.Reply.TheVariants as reply
@@ -35,6 +36,7 @@ use Rattle.world_laws.specs.Later.{HasDecided, HasSent, IsNewlyMade}
 use Rattle.world_laws.specs.Laws.{IsSetup}
 use Rattle.world_laws.specs.Nodes.{ProviderOf}
 use Rattle.world_laws.proofs.NodeRuns.{OperatorAt, came_to_operator, one_provider, peering_of}
+use Rattle.world_laws.proofs.Senders.{command_is_no_reply}
 use Rattle.world_steps.specs.Traces.{Histories, Traces}
 use Rattle.world_steps.specs.World.{Place, World}
 
@@ -43,9 +45,6 @@ no_reply : (r : Reply) (b : Body) → IsReplyTo r b → ¬ IsReply b
 no_reply (reply.CommandResponse x) b (c, is) (w, same) = no_command w c (sym same ∙ is)
 no_reply (reply.Ack x) b (token, is) (w, same) = no_push w (push.PutToken token) (sym same ∙ is)
 no_reply (reply.Authorization x) b h is = absurd h
-
-no_cancellation : (c : CancelReservation) (b : Body) → b ≡ body.CancelReservation c → ¬ IsReply b
-no_cancellation c b is (w, same) = no_command w (command.CancelReservation c) (sym same ∙ is)
 
 -- a packet that was answered came
 answered_came : (s t : State) (es : List Event) (q : Packet) (r : Reply) → IsAnsweredIn s es t q r → Came es q
@@ -63,8 +62,8 @@ module _ (setup : List Node) (is_setup : IsSetup setup) (v : World) (hs : Histor
     (o : List ℕ) (q : Place) (t : State) (at : OperatorAt setup is_setup v hs traces o q t) (line : SiteLine) (es fs : List Event)
     (all : at.trace.events ≡ es ++ fs) (s : State) (fine : IsConsistent s) (first : Run (opening line) es s) (then : Run s fs t) where
   -- what came to it was sent by the provider that it is from
-  has_sent : (x : Packet) (r : List ℕ) (b : Body) → Came at.trace.events x → key x.from ≡ r → x.body ≡ b → HasSent v r o x.request b
-  has_sent x r b came by carries =
+  has_sent : (x : Packet) (r : List ℕ) (c : Command) → Came at.trace.events x → key x.from ≡ r → x.body ≡ body.Command c → HasSent v r o x.request c
+  has_sent x r c came by carries =
       let (to, f) = came_to_operator setup is_setup v hs traces o q t at x came in
       record {
         place = f.place;
@@ -78,23 +77,23 @@ module _ (setup : List Node) (is_setup : IsSetup setup) (v : World) (hs : Histor
       }
 
   -- what the provider sent under the number of a packet that was answered is that packet
-  answered_is : (x : Packet) (w : Reply) (r : List ℕ) (n : ℕ) (c : CancelReservation) → Came at.trace.events x → key x.from ≡ r → x.request ≡ n → IsReplyTo w x.body →
-      HasSent v r o n (body.CancelReservation c) → x.body ≡ body.CancelReservation c
+  answered_is : (x : Packet) (w : Reply) (r : List ℕ) (n : ℕ) (c : Command) → Came at.trace.events x → key x.from ≡ r → x.request ≡ n → IsReplyTo w x.body →
+      HasSent v r o n c → x.body ≡ body.Command c
   answered_is x w r n c came by number replies h =
       let (to, f) = came_to_operator setup is_setup v hs traces o q t at x came in
       let one = one_provider setup is_setup v hs traces r f.place h.place f.state h.state (subst (λ z. ProviderOf v z f.place f.state) by f.of) h.at in
       let within : Contains f.place.sent h.packet = subst (λ (z : Place). Contains z.sent h.packet) (sym one.0) h.was_sent in
       let agree = requests_agree (peering_of setup f.at.trace.party) f.at.trace.events f.at.trace.state f.at.trace.run x h.packet f.within
-      (subst (λ l. Contains l h.packet) f.at.trace.sent_is within) (no_reply w x.body replies) (no_cancellation c h.packet.body h.carries) (number ∙ sym h.number) in
+      (subst (λ l. Contains l h.packet) f.at.trace.sent_is within) (no_reply w x.body replies) (command_is_no_reply h.packet.body c h.carries) (number ∙ sym h.number) in
       agree.0 ∙ h.carries
 
   -- a cancellation that was decided before is under a lower number
-  is_newer : (r id : List ℕ) (made : Reservation) (m : IsReserved (opening line) es s fs t r id made) (n : ℕ) (c : CancelReservation) → HasDecided s r n → HasSent v r o n (body.CancelReservation c) →
+  is_newer : (r id : List ℕ) (made : Reservation) (m : IsReserved (opening line) es s fs t r id made) (n : ℕ) (c : CancelReservation) → HasDecided s r n → HasSent v r o n (command.CancelReservation c) →
       key c.reservation_id ≡ id → n < m.packet.request
   is_newer r id made m n c (w, kept) h same =
       let (x, answered, by, number, replies) = replies_were_given line es s first r n w kept in
       let came = came_first es fs at.trace.events all x (answered_came (opening line) s es x w answered) in
-      let below = m.newer x c w answered (answered_is x w r n c came by number replies h) by same in
+      let below = m.newer x c w answered (answered_is x w r n (command.CancelReservation c) came by number replies h) by same in
       omega (arith, below, number)
 
   -- what holds at all times held once the request was answered, so its result is kept from then on
@@ -121,7 +120,7 @@ module _ (setup : List Node) (is_setup : IsSetup setup) (v : World) (hs : Histor
           replies_stay a.after t a.later a.left k m.reply (subst (λ z. get a.after.rows.commands.replies (z, m.packet.request) ≡ Some m.reply) m.by a.answers.kept),
         );
         accepted = result_kept r id made m;
-        sent = has_sent m.packet r (body.ReserveNow m.asked) (came_later es fs at.trace.events all m.packet (answered_came s t fs m.packet m.reply a)) m.by m.carries;
+        sent = has_sent m.packet r (command.ReserveNow m.asked) (came_later es fs at.trace.events all m.packet (answered_came s t fs m.packet m.reply a)) m.by m.carries;
         id_is = m.id_is;
         asks = m.asks;
         newer = is_newer r id made m;

@@ -6,11 +6,12 @@ use Rattle.tables.proofs.Elements.{in_front}
 use Rattle.node_laws.specs.Nodes as nodes
 use Rattle.node_laws.proofs.BodyKinds.{no_push, no_command}
 use Rattle.ocpi_text.specs.Text.{key}
-use Rattle.ocpi_types.specs.Stored.{body_of_command, body_of_push}
+use Rattle.ocpi_types.specs.Stored.{body_of_push}
 use Rattle.ocpi_types.specs.declared.packet.Body.{Body}
+use Rattle.ocpi_types.specs.declared.packet.Body.TheVariants as body
 use Rattle.ocpi_types.specs.declared.packet.Packet.{Packet}
 use Rattle.ocpi_types.specs.declared.setup.Node.{Node}
-use Rattle.ocpi_types.specs.declared.stored.Command.{Command}
+use Rattle.ocpi_types.specs.declared.commands.Command.{Command}
 use Rattle.ocpi_types.specs.declared.stored.Push.{Push}
 use Rattle.ocpi_types.specs.declared.stored.Reply.{Reply}
 use Rattle.operator_laws.specs.Laws as operator_laws
@@ -29,7 +30,7 @@ use Rattle.world_steps.specs.World.{Place, World}
 pub push_is_no_reply : (b : Body) (p : Push) → b ≡ body_of_push p → ¬ nodes.IsReply b
 push_is_no_reply b p is (r, same) = no_push r p (sym same ∙ is)
 
-pub command_is_no_reply : (b : Body) (c : Command) → b ≡ body_of_command c → ¬ nodes.IsReply b
+pub command_is_no_reply : (b : Body) (c : Command) → b ≡ body.Command c → ¬ nodes.IsReply b
 command_is_no_reply b c is (r, same) = no_command r c (sym same ∙ is)
 
 -- a packet that was answered in a run came in it

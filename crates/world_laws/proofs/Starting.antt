@@ -7,7 +7,7 @@ use Rattle.ocpi_text.specs.Text.{key}
 use Rattle.ocpi_types.specs.declared.authorizations.Authorization.TheVariants as authorization
 use Rattle.ocpi_types.specs.declared.packet.Packet.{Packet}
 use Rattle.ocpi_types.specs.declared.setup.Node.{Node}
-use Rattle.ocpi_types.specs.declared.stored.Command.TheVariants as command
+use Rattle.ocpi_types.specs.declared.commands.Command.TheVariants as command
 use Rattle.ocpi_types.specs.declared.stored.Reply.TheVariants as reply
 use Rattle.ocpi_types.specs.declared.stored.SentCommand.{SentCommand}
 use Rattle.operator_rows.specs.State as operator

@@ -5,8 +5,9 @@ use Rattle.std.specs.FinMap.{get}
 use Rattle.ocpi_text.specs.Text.{key}
 use Rattle.ocpi_types.specs.declared.cdrs.Cdr.{Cdr}
 use Rattle.ocpi_types.specs.declared.commands.CancelReservation.{CancelReservation}
+use Rattle.ocpi_types.specs.declared.commands.Command.{Command}
+use Rattle.ocpi_types.specs.declared.commands.Command.TheVariants as command
 use Rattle.ocpi_types.specs.declared.commands.ReserveNow.{ReserveNow}
-use Rattle.ocpi_types.specs.declared.packet.Body.{Body}
 use Rattle.ocpi_types.specs.declared.packet.Body.TheVariants as body
 use Rattle.ocpi_types.specs.declared.packet.Packet.{Packet}
 use Rattle.ocpi_types.specs.declared.replies.CommandResponse.{CommandResponse}
@@ -54,7 +55,7 @@ abbrev pub HasDecided : operator.State → List ℕ → ℕ → Type 0
 HasDecided s p n = (r : Reply) × (get s.rows.commands.replies (p, n) ≡ Some r)
 
 -- the provider sent the operator that command under that number
-pub record HasSent (w : World) (p o : List ℕ) (n : ℕ) (b : Body) : Type 0 where
+pub record HasSent (w : World) (p o : List ℕ) (n : ℕ) (c : Command) : Type 0 where
   pub place : Place
   pub state : provider.State
   pub at : ProviderOf w p place state
@@ -62,7 +63,7 @@ pub record HasSent (w : World) (p o : List ℕ) (n : ℕ) (b : Body) : Type 0 wh
   pub was_sent : Contains place.sent packet
   pub to : key packet.to ≡ o
   pub number : packet.request ≡ n
-  pub carries : packet.body ≡ b
+  pub carries : packet.body ≡ body.Command c
 
 -- the reservation of that id of a provider was made as a RESERVE_NOW asked for it, which the operator decided in between
 -- and whose result is ACCEPTED, under a number above that of each CANCEL_RESERVATION about it that had been decided
@@ -73,10 +74,10 @@ pub record IsNewlyMade (v : World) (s t : operator.State) (p o id : List ℕ) (m
   pub undecided : get s.rows.commands.replies (p, number) ≡ None
   pub decided : HasDecided t p number
   pub accepted : get t.rows.commands.results (p, number) ≡ Some Accepted
-  pub sent : HasSent v p o number (body.ReserveNow asked)
+  pub sent : HasSent v p o number (command.ReserveNow asked)
   pub id_is : key asked.reservation_id ≡ id
   pub asks : IsAsked asked made
-  pub newer : (m : ℕ) (c : CancelReservation) → HasDecided s p m → HasSent v p o m (body.CancelReservation c) → key c.reservation_id ≡ id → m < number
+  pub newer : (m : ℕ) (c : CancelReservation) → HasDecided s p m → HasSent v p o m (command.CancelReservation c) → key c.reservation_id ≡ id → m < number
 
 -- an operator later: its pasts have gone on, what stands for good stands, and no reservation came back or became
 -- another, but as it was asked for

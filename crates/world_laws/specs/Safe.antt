@@ -4,6 +4,7 @@ use Rattle.std.specs.Prelude.{◌≡◌, ◌≢◌, ◌↔◌, ℕ, ℤ, List, S
 use Rattle.std.specs.List.{AllPairs, last_or}
 use Rattle.std.specs.FinMap.{get, values}
 use Rattle.ocpi_text.specs.Text.{key}
+use Rattle.ocpi_types.specs.Credits.{IsBill}
 use Rattle.ocpi_types.specs.declared.cdrs.Cdr.{Cdr}
 use Rattle.ocpi_types.specs.declared.sessions.Session.{Session}
 use Rattle.ocpi_types.specs.declared.words.SessionStatus.TheVariants.{Completed}
@@ -40,6 +41,7 @@ pub record IsOfPast (w : World) (o id : List ℕ) (v : Session) : Type 0 where
 -- the record bills the version, which is COMPLETED: its energy and its cost are the version's (OCPI 2.2.1, CDRs: CDR
 -- object)
 pub record Bills (v : Session) (x : Cdr) : Type 0 where
+  pub bill : IsBill x
   pub completed : v.status ≡ Completed
   pub session : x.session_id ≡ v.id
   pub energy : x.total_energy ≡ v.kwh

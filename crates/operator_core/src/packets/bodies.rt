@@ -1,9 +1,8 @@
-//! What the body of a packet carries, as far as an operator asks.
+//! What a packet and a command carry, as far as an operator asks.
 
-ghost use Rattle.std.specs.Prelude.{◌≡◌, ◌↔◌, IfOk, IsTrue, option_copied, Some};
+ghost use Rattle.std.specs.Prelude.{◌≡◌, ◌↔◌, IfOk, IsTrue};
 ghost use Rattle.operator_steps.specs.Acts.{reference_of, told, url_of};
 ghost use Rattle.operator_steps.specs.Steps.{IsTaken};
-ghost use Rattle.operator_core.specs.Requests.{IfCommand};
 
 use ocpi_text::{CiText, FreeText};
 use ocpi_types::{Body, Command, CommandResult, CommandResultType};
@@ -15,68 +14,43 @@ pub fn is_taken(body: &Body) -> bool
 {
     matches!(
         body,
-        Body::StartSession(_)
-            | Body::StopSession(_)
-            | Body::ReserveNow(_)
-            | Body::CancelReservation(_)
-            | Body::UnlockConnector(_)
-            | Body::PutToken(_)
-            | Body::Authorization(_)
-            | Body::Ack(_)
+        Body::Command(_) | Body::PutToken(_) | Body::Authorization(_) | Body::Ack(_)
     )
 }
 
-/// The command that a body carries, copied. None, where it carries none. An error is want of memory.
-pub fn command_of(body: &Body) -> Result<Option<Command>, AllocError>
-    ensures { IfOk result (λ o. IfCommand body.now (λ c. o ≡ Some c)) }
+/// To where the result of a command is posted.
+fn url_of(command: &Command) -> &FreeText<255>
+    ensures { result.now ≡ url_of command.now }
 {
-    match body {
-        Body::StartSession(command) => Ok(Some(Command::StartSession(command.copy()?))),
-        Body::StopSession(command) => Ok(Some(Command::StopSession(command.copy()?))),
-        Body::ReserveNow(command) => Ok(Some(Command::ReserveNow(command.copy()?))),
-        Body::CancelReservation(command) => {
-            Ok(Some(Command::CancelReservation(command.copy()?)))
-        }
-        Body::UnlockConnector(command) => Ok(Some(Command::UnlockConnector(command.copy()?))),
-        _ => Ok(None),
+    match command {
+        Command::StartSession(command) => &command.response_url,
+        Command::StopSession(command) => &command.response_url,
+        Command::ReserveNow(command) => &command.response_url,
+        Command::CancelReservation(command) => &command.response_url,
+        Command::UnlockConnector(command) => &command.response_url,
     }
 }
 
-/// To where the result of the command that a body carries is posted. None, where it carries none.
-fn response_url(body: &Body) -> Option<&FreeText<255>>
-    ensures { IfCommand body.now (λ c. option_copied result ≡ Some (url_of c)) }
+/// The authorization reference of a start. None, where it has none, or the command is another.
+pub fn reference_of(command: &Command) -> Option<CiText<36>>
+    ensures { result ≡ reference_of command.now }
 {
-    match body {
-        Body::StartSession(command) => Some(&command.response_url),
-        Body::StopSession(command) => Some(&command.response_url),
-        Body::ReserveNow(command) => Some(&command.response_url),
-        Body::CancelReservation(command) => Some(&command.response_url),
-        Body::UnlockConnector(command) => Some(&command.response_url),
-        _ => None,
+    match command {
+        Command::StartSession(command) => command.authorization_reference,
+        Command::StopSession(_)
+        | Command::ReserveNow(_)
+        | Command::CancelReservation(_)
+        | Command::UnlockConnector(_) => None,
     }
 }
 
-/// The authorization reference of the start that a body carries. None, where it carries none.
-pub fn reference_of(body: &Body) -> Option<CiText<36>>
-    ensures { IfCommand body.now (λ c. result ≡ reference_of c) }
+/// How a command ended, as its provider is told. An error is want of memory.
+pub fn told(command: &Command, outcome: CommandResultType) -> Result<CommandResult, AllocError>
+    ensures { IfOk result (λ r. r ≡ told (url_of command.now) outcome) }
 {
-    match body {
-        Body::StartSession(command) => command.authorization_reference,
-        _ => None,
-    }
-}
-
-/// How the command that a body carries ended, as its provider is told. None, where it carries none. An error is want
-/// of memory.
-pub fn told(body: &Body, outcome: CommandResultType) -> Result<Option<CommandResult>, AllocError>
-    ensures { IfOk result (λ o. IfCommand body.now (λ c. o ≡ Some (told (url_of c) outcome))) }
-{
-    let Some(response_url) = response_url(body) else {
-        return Ok(None);
-    };
-    let response_url = response_url.copy()?;
-    Ok(Some(CommandResult {
+    let response_url = url_of(command).copy()?;
+    Ok(CommandResult {
         response_url,
         result: outcome,
-    }))
+    })
 }

@@ -4,15 +4,14 @@ ghost use Rattle.std.specs.Prelude.{◌≡◌, ◌∷◌, [], OnOk};
 ghost use Rattle.command_book.specs.Stored as book;
 ghost use Rattle.node_steps.specs.Drafts.{HasNumbersOf, with_acts};
 ghost use Rattle.operator_steps.specs.Acts.{freed, marked, reserved, spent, used};
-ghost use Rattle.operator_core.specs.Requests.{IfCommand, IsCommand, decided_by, opened_by, own_by, settled_by};
+ghost use Rattle.operator_core.specs.Requests.{decided_by, opened_by, own_by, settled_by};
 
-use crate::packets::bodies::{command_of, reference_of, told};
+use crate::packets::bodies::{reference_of, told};
 use crate::packets::command_responses::respond;
 use node_steps::Draft;
 use ocpi_text::{CiKey, CiText, Moment, PartyKey};
 use ocpi_types::{
-    Body, Boxed, Change, Command, CommandResultType, OpenCommand, Place, Push, Reservation, Row,
-    RowKey,
+    Boxed, Change, Command, CommandResultType, OpenCommand, Place, Push, Reservation, Row, RowKey,
 };
 use operator_tables::{Decision, Request, TIMEOUT};
 use std::alloc::{AllocError, Global};
@@ -29,21 +28,19 @@ fn open_command(command: Command, place: Option<Place>, deadline: Moment) -> Ope
     }
 }
 
-/// Adds that the command which a body carries is open until its result, a start at the place that it took.
+/// Adds that a command is open until its result, a start at the place that it took.
 fn add_opened(
     alloc: Global,
     draft: &mut Draft,
     request: &Request,
-    body: &Body,
+    command: &Command,
     place: Option<Place>,
 ) -> Result<(), AllocError>
-    ensures { OnOk result (IfCommand body.now (λ c. draft.new ≡ with_acts (opened_by request.now c place ∷ []) draft.old)) }
+    ensures { OnOk result (draft.new ≡ with_acts (opened_by request.now command.now place ∷ []) draft.old) }
 {
-    let Some(command) = command_of(body)? else {
-        return Ok(());
-    };
     let deadline = request.at.after(1000 * TIMEOUT);
-    let open = Boxed::new(alloc, open_command(command, place, deadline))?;
+    let open = open_command(command.copy()?, place, deadline);
+    let open = Boxed::new(alloc, open)?;
     draft.change(Change::Put(Row::Pending {
         provider: request.provider,
         number: request.number,
@@ -134,34 +131,34 @@ fn add_started(
     alloc: Global,
     draft: &mut Draft,
     request: &Request,
-    body: &Body,
+    command: &Command,
     place: Place,
     reservation_id: Option<CiKey<36>>,
 ) -> Result<(), AllocError>
-    ensures { OnOk result (IfCommand body.now (λ c. draft.new ≡ with_acts (own_by request.now c (Decision.Started place reservation_id)) draft.old)) }
+    ensures { OnOk result (draft.new ≡ with_acts (own_by request.now command.now (Decision.Started place reservation_id)) draft.old) }
 {
     add_used(draft, request.provider, reservation_id)?;
-    add_opened(alloc, draft, request, body, Some(place))?;
-    add_spent(draft, request.provider, reference_of(body))
+    add_opened(alloc, draft, request, command, Some(place))?;
+    add_spent(draft, request.provider, reference_of(command))
 }
 
-/// Adds what a decision does on the command that a body carries, beside its reply and its result.
+/// Adds what a decision on a command does, beside its reply and its result.
 fn add_own(
     alloc: Global,
     draft: &mut Draft,
     request: &Request,
-    body: &Body,
+    command: &Command,
     decision: &Decision,
 ) -> Result<(), AllocError>
-    ensures { OnOk result (IfCommand body.now (λ c. draft.new ≡ with_acts (own_by request.now c decision.now) draft.old)) }
+    ensures { OnOk result (draft.new ≡ with_acts (own_by request.now command.now decision.now) draft.old) }
 {
     match decision {
         Decision::Refused(_) | Decision::Answered(_) | Decision::Resulted(_) => Ok(()),
-        Decision::Opened => add_opened(alloc, draft, request, body, None),
+        Decision::Opened => add_opened(alloc, draft, request, command, None),
         Decision::Started {
             place,
             reservation_id,
-        } => add_started(alloc, draft, request, body, *place, *reservation_id),
+        } => add_started(alloc, draft, request, command, *place, *reservation_id),
         Decision::Noted { reservation_id, .. } => add_marked(draft, request, *reservation_id),
         Decision::Reserved {
             reservation_id,
@@ -177,23 +174,20 @@ fn add_own(
     }
 }
 
-/// Adds the result of the command that a body carries, where it has one at once: it is pushed, and kept.
+/// Adds the result of a command, where it has one at once: it is pushed, and kept.
 fn add_settled(
     draft: &mut Draft,
     request: &Request,
-    body: &Body,
+    command: &Command,
     outcome: Option<CommandResultType>,
 ) -> Result<(), AllocError>
-    requires command { IsCommand body.now }
-    requires numbers { IfCommand body.now (λ c. HasNumbersOf (settled_by request.now draft.old.counters.request c outcome) draft.old) }
-    ensures { OnOk result (IfCommand body.now (λ c. draft.new ≡ with_acts (settled_by request.now draft.old.counters.request c outcome) draft.old)) }
+    requires { HasNumbersOf (settled_by request.now draft.old.counters.request command.now outcome) draft.old }
+    ensures { OnOk result (draft.new ≡ with_acts (settled_by request.now draft.old.counters.request command.now outcome) draft.old) }
 {
     let Some(outcome) = outcome else {
         return Ok(());
     };
-    let Some(told) = told(body, outcome)? else {
-        return Ok(());
-    };
+    let told = told(command, outcome)?;
     draft.push(request.at, request.from, Push::CommandResult(told))?;
     draft.change(Change::Put(Row::Result {
         provider: request.provider,
@@ -202,21 +196,19 @@ fn add_settled(
     }))
 }
 
-/// Adds a decision on the command that a body carries: it is answered, what was decided is done, and its result
-/// follows, where there is one.
+/// Adds a decision on a command: it is answered, what was decided is done, and its result follows, where there is one.
 pub fn add_decided(
     alloc: Global,
     draft: &mut Draft,
     request: &Request,
-    body: &Body,
+    command: &Command,
     decision: &Decision,
 ) -> Result<(), AllocError>
-    requires command { IsCommand body.now }
-    requires numbers { IfCommand body.now (λ c. HasNumbersOf (decided_by request.now draft.old.counters.request c decision.now) draft.old) }
-    ensures { OnOk result (IfCommand body.now (λ c. draft.new ≡ with_acts (decided_by request.now draft.old.counters.request c decision.now) draft.old)) }
+    requires { HasNumbersOf (decided_by request.now draft.old.counters.request command.now decision.now) draft.old }
+    ensures { OnOk result (draft.new ≡ with_acts (decided_by request.now draft.old.counters.request command.now decision.now) draft.old) }
 {
     let reply = respond(decision, request.at);
     draft.answer(request.provider, request.from, request.number, reply)?;
-    add_own(alloc, draft, request, body, decision)?;
-    add_settled(draft, request, body, decision.result())
+    add_own(alloc, draft, request, command, decision)?;
+    add_settled(draft, request, command, decision.result())
 }

@@ -5,7 +5,6 @@ use Rattle.std.specs.FinMap.{get}
 use Rattle.std.proofs.lemmas.List.Elements.{Contains-append_cases, Contains-append_left, Contains-append_right}
 use Rattle.tables.proofs.Elements.{in_none, in_front, in_single, in_map}
 use Rattle.ocpi_text.specs.Text.{key}
-use Rattle.ocpi_types.specs.Stored.{body_of_command}
 use Rattle.ocpi_types.specs.declared.authorizations.Authorization.{Authorization}
 use Rattle.ocpi_types.specs.declared.events.ChargerEvent.{ChargerEvent}
 use Rattle.ocpi_types.specs.declared.packet.Body.TheVariants as body
@@ -16,8 +15,7 @@ use Rattle.ocpi_types.specs.declared.rows.Change.{Change}
 use Rattle.ocpi_types.specs.declared.rows.Change.TheVariants.{Put, Drop}
 use Rattle.ocpi_types.specs.declared.rows.Counter.TheVariants as counter
 use Rattle.ocpi_types.specs.declared.sessions.Session.{Session}
-use Rattle.ocpi_types.specs.declared.stored.Command.{Command}
-use Rattle.ocpi_types.specs.declared.stored.Command.TheVariants as command
+use Rattle.ocpi_types.specs.declared.commands.Command.{Command}
 use Rattle.ocpi_types.specs.declared.stored.OpenCommand.{OpenCommand}
 use Rattle.ocpi_types.specs.declared.stored.Reply.{Reply}
 use Rattle.authorization_book.specs.declared.awaited.Awaited.{Awaited}
@@ -135,12 +133,8 @@ module _ (s : State) (i : Input) (acts : List Act) where
     abbrev stored : List Act
     stored = answered (key h.packet.from) h.to h.packet.request (acknowledgement h.at 1000) ∷ (changed (Put (row.Token h.token)) ∷ [])
 
-    no_command : (c : Command) → body_of_command c ≡ body.PutToken h.token → ⊥
-    no_command (command.StartSession x) e = cc
-    no_command (command.StopSession x) e = cc
-    no_command (command.ReserveNow x) e = cc
-    no_command (command.CancelReservation x) e = cc
-    no_command (command.UnlockConnector x) e = cc
+    no_command : (c : Command) → body.Command c ≡ body.PutToken h.token → ⊥
+    no_command c e = cc
 
     abbrev token_replying : (r : Reply) (part : List Act) → acts ≡ part → Contains (all_changes part) (Put (row.Reply (key h.packet.from) h.packet.request r)) → AreOrderly part →
         ((x : ℕ) × (r ≡ acknowledgement h.at x)) → Replying s i acts

@@ -4,7 +4,6 @@ use Rattle.std.specs.Prelude.{◌≡◌, ◌≢◌, ℕ, List, Some, None, Conta
 use Rattle.std.specs.FinMap.{get}
 use Rattle.ocpi_text.specs.Text.{key}
 use Rattle.ocpi_types.specs.declared.commands.ReserveNow.{ReserveNow}
-use Rattle.ocpi_types.specs.Stored.{body_of_command}
 use Rattle.ocpi_types.specs.declared.packet.Body.TheVariants as body
 use Rattle.ocpi_types.specs.declared.packet.Packet.{Packet}
 use Rattle.ocpi_types.specs.declared.rows.Counter.{Counter}
@@ -13,8 +12,8 @@ use Rattle.ocpi_types.specs.declared.rows.Row.TheVariants as row
 use Rattle.ocpi_types.specs.declared.rows.RowKey.TheVariants as keys
 use Rattle.ocpi_types.specs.declared.rows.Change.{Change}
 use Rattle.ocpi_types.specs.declared.rows.Change.TheVariants.{Put, Drop}
-use Rattle.ocpi_types.specs.declared.stored.Command.{Command}
-use Rattle.ocpi_types.specs.declared.stored.Command.TheVariants as command
+use Rattle.ocpi_types.specs.declared.commands.Command.{Command}
+use Rattle.ocpi_types.specs.declared.commands.Command.TheVariants as command
 use Rattle.ocpi_types.specs.declared.stored.OpenCommand.{OpenCommand}
 use Rattle.ocpi_types.specs.declared.stored.Reply.{Reply}
 use Rattle.ocpi_types.specs.declared.stored.Reservation.{Reservation}
@@ -71,7 +70,7 @@ pub record Replying (s : State) (i : Input) (acts : List Act) : Type 0 where
   pub answers : IsReplyTo reply packet.body
   pub orderly : AreOrderly acts
   -- a command is decided
-  pub decided : (c : Command) → packet.body ≡ body_of_command c → (h : DecidesIt s i acts) × (h.packet ≡ packet) × (reply_of h.at h.decision ≡ reply)
+  pub decided : (c : Command) → packet.body ≡ body.Command c → (h : DecidesIt s i acts) × (h.packet ≡ packet) × (reply_of h.at h.decision ≡ reply)
 
 -- a reply is kept: to the packet that came
 pub record Answering (s : State) (i : Input) (acts : List Act) (p : List ℕ) (n : ℕ) (r : Reply) : Type 0 where

@@ -5,13 +5,13 @@ use Rattle.std.specs.FinMap.{get}
 use Rattle.tables.proofs.Elements.{in_front, in_none}
 use Rattle.tables.proofs.Options.{none_some}
 use Rattle.ocpi_text.specs.Text.{key}
-use Rattle.ocpi_types.specs.Stored.{body_of_command}
 use Rattle.ocpi_types.specs.declared.packet.Body.{Body}
+use Rattle.ocpi_types.specs.declared.packet.Body.TheVariants as body
 use Rattle.ocpi_types.specs.declared.rows.Place.{Place}
 use Rattle.ocpi_types.specs.declared.rows.Row.TheVariants as row
 use Rattle.ocpi_types.specs.declared.rows.Change.{Change}
 use Rattle.ocpi_types.specs.declared.rows.Change.TheVariants.{Put}
-use Rattle.ocpi_types.specs.declared.stored.Command.{Command}
+use Rattle.ocpi_types.specs.declared.commands.Command.{Command}
 use Rattle.ocpi_types.specs.declared.stored.OpenCommand.{OpenCommand}
 use Rattle.ocpi_types.specs.declared.stored.Reply.{Reply}
 use Rattle.ocpi_types.specs.declared.words.CommandResultType.{CommandResultType}
@@ -60,7 +60,7 @@ pub all_acts : (P : Change → Type 0) (xs ys : List Act) → AllOf P (all_chang
 all_acts P xs ys h g = subst (AllOf P) (sym (changes_append xs ys)) (all_joined P (all_changes xs) (all_changes ys) h g)
 
 -- what a decision replies answers its command
-pub answers_command : (at : ℕ) (d : Decision) (c : Command) (b : Body) → b ≡ body_of_command c → IsReplyTo (reply_of at d) b
+pub answers_command : (at : ℕ) (d : Decision) (c : Command) (b : Body) → b ≡ body.Command c → IsReplyTo (reply_of at d) b
 answers_command at (decision.Refused status) c b is = (c, is)
 answers_command at (decision.Answered w) c b is = (c, is)
 answers_command at decision.Opened c b is = (c, is)

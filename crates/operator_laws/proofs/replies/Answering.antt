@@ -5,11 +5,11 @@ use Rattle.std.specs.FinMap.{get}
 use Rattle.tables.proofs.Elements.{in_front}
 use Rattle.tables.proofs.Options.{not_both}
 use Rattle.ocpi_text.specs.Text.{key}
-use Rattle.ocpi_types.specs.Stored.{body_of_command}
+use Rattle.ocpi_types.specs.declared.packet.Body.TheVariants as body
 use Rattle.ocpi_types.specs.declared.packet.Packet.{Packet}
 use Rattle.ocpi_types.specs.declared.rows.Row.TheVariants as row
 use Rattle.ocpi_types.specs.declared.rows.Change.TheVariants.{Put}
-use Rattle.ocpi_types.specs.declared.stored.Command.{Command}
+use Rattle.ocpi_types.specs.declared.commands.Command.{Command}
 use Rattle.ocpi_types.specs.declared.stored.Reply.{Reply}
 use Rattle.ocpi_types.specs.declared.stored.Reply.TheVariants as reply
 use Rattle.ocpi_types.specs.declared.replies.CommandResponse.TheVariants as response
@@ -56,17 +56,17 @@ module _ (s t : State) (e : Event) (d : Does s e t) where
     pub packet_is : it.packet ≡ q
     pub reply_is : reply_of it.at it.decision ≡ r
 
-  pub was_decided : (q : Packet) (r : Reply) (c : Command) → q.body ≡ body_of_command c → AnswersIt s e t q r → WasDecided q r
+  pub was_decided : (q : Packet) (r : Reply) (c : Command) → q.body ≡ body.Command c → AnswersIt s e t q r → WasDecided q r
   was_decided q r c is a = elim (kept_or_answered (key q.from) q.request r a.kept) [
     | inl old ↦ absurd (not_both r _ a.new old)
     | inr h ↦
         let came : h.replies.packet ≡ q = one_arrival h.replies.at a.at h.replies.packet q (subst (λ z. z ≡ Arrives a.at q) h.replies.arrives a.comes) in
-        let (it, same, reply) = h.replies.decided c (subst (λ (z : Packet). z.body ≡ body_of_command c) (sym came) is) in
+        let (it, same, reply) = h.replies.decided c (subst (λ (z : Packet). z.body ≡ body.Command c) (sym came) is) in
         record { it = it; packet_is = same ∙ came; reply_is = reply ∙ h.reply_is }
   ]
 
   -- the command of the decision is the one that the packet carries
-  pub command_is : (q : Packet) (r : Reply) (w : WasDecided q r) (c : Command) → q.body ≡ body_of_command c → w.it.command ≡ c
+  pub command_is : (q : Packet) (r : Reply) (w : WasDecided q r) (c : Command) → q.body ≡ body.Command c → w.it.command ≡ c
   command_is q r w c is = same_command w.it.command c (sym w.it.it.carries ∙ ap (λ (z : Packet). z.body) w.packet_is ∙ is)
 
 -- the word of a response of status 1000

@@ -5,8 +5,8 @@ use Rattle.std.specs.FinMap.{get}
 use Rattle.tables.proofs.Elements.{in_none}
 use Rattle.tables.proofs.Options.{not_both}
 use Rattle.ocpi_text.specs.Text.{key}
-use Rattle.ocpi_types.specs.Stored.{body_of_command}
 use Rattle.ocpi_types.specs.declared.commands.CancelReservation.{CancelReservation}
+use Rattle.ocpi_types.specs.declared.commands.Command.TheVariants as command
 use Rattle.ocpi_types.specs.declared.commands.ReserveNow.{ReserveNow}
 use Rattle.ocpi_types.specs.declared.packet.Body.TheVariants as body
 use Rattle.ocpi_types.specs.declared.packet.Packet.{Packet}
@@ -39,7 +39,7 @@ record ReservesNow (s : State) (e : Event) (t : State) (p id : List ℕ) (r : Re
   asked : ReserveNow
   reply : Reply
   answers : AnswersIt s e t packet reply
-  carries : packet.body ≡ body.ReserveNow asked
+  carries : packet.body ≡ body.Command (command.ReserveNow asked)
   by : key packet.from ≡ p
   id_is : key asked.reservation_id ≡ id
   timely : IsInTime s.rows.booked.marks (p, id) packet.request
@@ -60,7 +60,7 @@ reserved_now s t e d p id r has = elim (stood_or_put s t e d (row.Reservation p 
       asked = h.asked;
       reply = reply_of h.decides.at h.decides.decision;
       answers = answers_now s t e d h.decides;
-      carries = h.decides.it.carries ∙ ap body_of_command h.command_is;
+      carries = h.decides.it.carries ∙ ap body.Command h.command_is;
       by = h.by;
       id_is = h.id_is;
       timely = h.timely;
@@ -75,7 +75,7 @@ reservations_are_asked_for s t es run p id r has = elim (made_runs Happens (λ z
 ]
   where
     Asks : Event → Type 0
-    Asks e = (q : Packet) × (at : ℕ) × (e.input ≡ Arrives at q) × (key q.from ≡ p) × (c : ReserveNow) × (q.body ≡ body.ReserveNow c) × (key c.reservation_id ≡ id)
+    Asks e = (q : Packet) × (at : ℕ) × (e.input ≡ Arrives at q) × (key q.from ≡ p) × (c : ReserveNow) × (q.body ≡ body.Command (command.ReserveNow c)) × (key c.reservation_id ≡ id)
 
     step : (a b : State) (e : Event) → Happens a e b → get b.rows.booked.reservations (p, id) ≡ Some r → (get a.rows.booked.reservations (p, id) ≡ Some r) ⊎ Asks e
     step a b e happens has = elim (reserved_now a b e (does a b e happens) p id r has) [
@@ -108,7 +108,7 @@ record Makes (s t : State) (es : List Event) (p id : List ℕ) (r : Reservation)
   asked : ReserveNow
   reply : Reply
   answered : IsAnsweredIn s es t packet reply
-  carries : packet.body ≡ body.ReserveNow asked
+  carries : packet.body ≡ body.Command (command.ReserveNow asked)
   by : key packet.from ≡ p
   id_is : key asked.reservation_id ≡ id
   timely : IsInTime answered.before.rows.booked.marks (p, id) packet.request
@@ -151,7 +151,7 @@ reserved_runs (e ∷ es) s t (u, first, rest) p id r has = elim (reserved_runs e
 
 module _ (r s t : State) (es fs : List Event) (p id : List ℕ) (made : Reservation) (m : Makes s t fs p id made) where
   -- a cancellation that was answered before has a smaller number
-  newer_than : (x : Packet) (c : CancelReservation) (w : Reply) → IsAnsweredIn r es s x w → x.body ≡ body.CancelReservation c → key x.from ≡ p → key c.reservation_id ≡ id → x.request < m.packet.request
+  newer_than : (x : Packet) (c : CancelReservation) (w : Reply) → IsAnsweredIn r es s x w → x.body ≡ body.Command (command.CancelReservation c) → key x.from ≡ p → key c.reservation_id ≡ id → x.request < m.packet.request
   newer_than x c w d is by id_is =
       let marked = cancellations_are_marked d.before d.after s d.event d.later x c w d.happens d.answers is d.left in
       let mark = subst (λ (k : List ℕ × List ℕ). IsMarked s k.0 k.1 x.request) (λ i. (by i, id_is i)) marked in
@@ -195,7 +195,7 @@ opened_here s u t e es first rest p n o d h =
       packet = h.decides.packet;
       reply = r;
       answered = answered_here s u t e es h.decides.packet r first rest (answers_now s u e d h.decides);
-      carries = h.decides.it.carries ∙ ap body_of_command (sym h.command_is);
+      carries = h.decides.it.carries ∙ ap body.Command (sym h.command_is);
       by = h.by;
       number = h.number;
     }

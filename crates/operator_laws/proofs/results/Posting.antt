@@ -8,13 +8,13 @@ use Rattle.tables.specs.Keys.{text_number_cmp}
 use Rattle.tables.proofs.Elements.{in_none, in_front}
 use Rattle.tables.proofs.Options.{not_both}
 use Rattle.ocpi_text.specs.Text.{key}
-use Rattle.ocpi_types.specs.Stored.{body_of_command, body_of_push}
+use Rattle.ocpi_types.specs.Stored.{body_of_push}
 use Rattle.ocpi_types.specs.declared.packet.Body.TheVariants as body
 use Rattle.ocpi_types.specs.declared.packet.Packet.{Packet}
 use Rattle.ocpi_types.specs.declared.replies.CommandResult.{CommandResult}
 use Rattle.ocpi_types.specs.declared.rows.Row.TheVariants as row
 use Rattle.ocpi_types.specs.declared.rows.Change.TheVariants.{Put}
-use Rattle.ocpi_types.specs.declared.stored.Command.{Command}
+use Rattle.ocpi_types.specs.declared.commands.Command.{Command}
 use Rattle.ocpi_types.specs.declared.stored.OpenCommand.{OpenCommand}
 use Rattle.ocpi_types.specs.declared.stored.Push.{Push}
 use Rattle.ocpi_types.specs.declared.stored.Push.TheVariants as push
@@ -74,7 +74,7 @@ module _ (W : Packet → Type 0) where
     asked_stay : AreAsked s → AreAsked t
     asked_stay before p n o has = elim (opened_now s t e d p n o has) [
       | inl old ↦ before p n o old
-      | inr h ↦ (h.decides.packet, brings h.decides.at h.decides.packet h.decides.arrives, h.by, h.number, h.decides.it.carries ∙ ap body_of_command (sym h.command_is))
+      | inr h ↦ (h.decides.packet, brings h.decides.at h.decides.packet h.decides.arrives, h.by, h.number, h.decides.it.carries ∙ ap body.Command (sym h.command_is))
     ]
 
     -- a result that was posted stays so
@@ -90,7 +90,7 @@ module _ (W : Packet → Type 0) where
     -- the command of a result that is pushed now was open, or comes now
     stems_from : AreAsked s → (p : List ℕ) (m : ℕ) (c : Command) → Stems s e.input d.acts p m c → Asked W p m c
     stems_from before p m c (inl (o, has, is)) = subst (λ z. Asked W p m z) is (before p m o has)
-    stems_from before p m c (inr (h, by, number, is)) = (h.packet, brings h.at h.packet h.arrives, by, number, h.it.carries ∙ ap body_of_command is)
+    stems_from before p m c (inr (h, by, number, is)) = (h.packet, brings h.at h.packet h.arrives, by, number, h.it.carries ∙ ap body.Command is)
 
     posted_now : Keeps s → (to : List ℕ) (p : Push) (a : CommandResult) → Posting s e.input d.acts to p → p ≡ push.CommandResult a → IsPosted t to a
     posted_now before to p a h is =

@@ -9,7 +9,6 @@ use Rattle.tables.proofs.Options.{none_some, not_both}
 use Rattle.ocpi_text.specs.OwnIds.{own_id_text}
 use Rattle.ocpi_text.specs.Text.{key}
 use Rattle.ocpi_text.specs.declared.own_ids.OwnIdKind.TheVariants as own
-use Rattle.ocpi_types.specs.Stored.{body_of_command}
 use Rattle.ocpi_types.specs.declared.authorizations.Authorization.TheVariants.{Done}
 use Rattle.ocpi_types.specs.declared.authorizations.AuthorizationInfo.{AuthorizationInfo}
 use Rattle.ocpi_types.specs.declared.commands.StartSession.{StartSession}
@@ -20,8 +19,8 @@ use Rattle.ocpi_types.specs.declared.rows.Row.TheVariants as row
 use Rattle.ocpi_types.specs.declared.rows.RowKey.TheVariants as keys
 use Rattle.ocpi_types.specs.declared.sessions.Session.{Session}
 use Rattle.ocpi_types.specs.declared.site.SiteLine.{SiteLine}
-use Rattle.ocpi_types.specs.declared.stored.Command.{Command}
-use Rattle.ocpi_types.specs.declared.stored.Command.TheVariants as command
+use Rattle.ocpi_types.specs.declared.commands.Command.{Command}
+use Rattle.ocpi_types.specs.declared.commands.Command.TheVariants as command
 use Rattle.ocpi_types.specs.declared.stored.OpenCommand.{OpenCommand}
 use Rattle.node_steps.specs.Acts.{all_changes}
 use Rattle.operator_rows.specs.State.{State, IsSpent, Spent, opening}
@@ -52,12 +51,8 @@ start_of (command.CancelReservation a) spelled is = none_some spelled is
 start_of (command.UnlockConnector a) spelled is = none_some spelled is
 
 -- an answer is no command
-answer_no_command : (c : Command) (at : ℕ) (info : AuthorizationInfo) → body_of_command c ≡ body.Authorization (Done at info) → ⊥
-answer_no_command (command.StartSession a) at info e = cc
-answer_no_command (command.StopSession a) at info e = cc
-answer_no_command (command.ReserveNow a) at info e = cc
-answer_no_command (command.CancelReservation a) at info e = cc
-answer_no_command (command.UnlockConnector a) at info e = cc
+answer_no_command : (c : Command) (at : ℕ) (info : AuthorizationInfo) → body.Command c ≡ body.Authorization (Done at info) → ⊥
+answer_no_command c at info e = cc
 
 -- there is a reference, which was not used before
 not_spent : (spent : Spent) (p reference spelled : List ℕ) (o : Option (List ℕ)) → o ≡ Some spelled → key spelled ≡ reference → ¬ IsSpent spent p o → get spent (p, reference) ≢ Some tt
@@ -110,7 +105,7 @@ module _ (W : Packet → Type 0) where
         came = brings h.decides.at h.decides.packet h.decides.arrives;
         by = h.by;
         spelled = uses.0;
-        gives = (let (a, is, named) = start_of h.decides.command uses.0 (ap reference_of (sym h.command_is) ∙ uses.1) in inl (a, h.decides.it.carries ∙ ap body_of_command is, named));
+        gives = (let (a, is, named) = start_of h.decides.command uses.0 (ap reference_of (sym h.command_is) ∙ uses.1) in inl (a, h.decides.it.carries ∙ ap body.Command is, named));
         same = uses.2;
       };
     })

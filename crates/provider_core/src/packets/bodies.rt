@@ -33,11 +33,7 @@ pub fn add_taken(draft: &mut Draft, body: &Body) -> Result<(), AllocError>
             session: session.copy()?,
         })),
         Body::PostCdr(cdr) => draft.change(Change::Put(Row::Cdr { cdr: cdr.copy()? })),
-        Body::StartSession(_)
-        | Body::StopSession(_)
-        | Body::ReserveNow(_)
-        | Body::CancelReservation(_)
-        | Body::UnlockConnector(_)
+        Body::Command(_)
         | Body::CommandResponse(_)
         | Body::CommandResult(_)
         | Body::PutToken(_)

@@ -6,11 +6,11 @@ use Rattle.std.specs.FinMap.{get, insert, nat_cmp-IsAntisymmetric}
 use Rattle.std.proofs.lemmas.List.Elements.{Contains-append_cases, Contains-append_right}
 use Rattle.tables.proofs.Elements.{in_front, in_none, in_single}
 use Rattle.tables.proofs.Maps.{get-insert_same}
-use Rattle.ocpi_types.specs.Stored.{body_of_command, body_of_push, body_of_reply}
+use Rattle.ocpi_types.specs.Stored.{body_of_push, body_of_reply}
 use Rattle.ocpi_types.specs.declared.events.Order.{Order}
+use Rattle.ocpi_types.specs.declared.packet.Body.TheVariants as body
 use Rattle.ocpi_types.specs.declared.packet.Packet.{Packet}
-use Rattle.ocpi_types.specs.declared.stored.Command.{Command}
-use Rattle.ocpi_types.specs.declared.stored.Command.TheVariants as command
+use Rattle.ocpi_types.specs.declared.commands.Command.{Command}
 use Rattle.ocpi_types.specs.declared.stored.Push.{Push}
 use Rattle.ocpi_types.specs.declared.stored.Push.TheVariants as push
 use Rattle.ocpi_types.specs.declared.stored.Reply.{Reply}
@@ -39,17 +39,8 @@ use Rattle.provider_laws.proofs.commands.Standing.{AreCounted, commands_stay_fro
 use Rattle.provider_laws.proofs.events.Doing.{asked_plain}
 use Rattle.provider_laws.proofs.events.Through.{acted_through, through}
 
-same_command : (c d : Command) → body_of_command c ≡ body_of_command d → c ≡ d
-same_command (command.StartSession x) (command.StartSession y) e = cc
-same_command (command.StopSession x) (command.StopSession y) e = cc
-same_command (command.ReserveNow x) (command.ReserveNow y) e = cc
-same_command (command.CancelReservation x) (command.CancelReservation y) e = cc
-same_command (command.UnlockConnector x) (command.UnlockConnector y) e = cc
-same_command (command.StartSession x) d e = absurd (cc)
-same_command (command.StopSession x) d e = absurd (cc)
-same_command (command.ReserveNow x) d e = absurd (cc)
-same_command (command.CancelReservation x) d e = absurd (cc)
-same_command (command.UnlockConnector x) d e = absurd (cc)
+same_command : (c d : Command) → body.Command c ≡ body.Command d → c ≡ d
+same_command c d e = cc
 
 -- a packet carries one of the messages
 record Carried (ms : List Message) (x : Packet) : Type 0 where
@@ -76,8 +67,8 @@ of_numbered party serial (m ∷ ms) x h =
 data Says (before after : Commands) (m : Message) : Type 0 where
   WithReply : (r : Reply) → m.body ≡ body_of_reply r → Says before after m
   WithPush : (p : Push) → m.body ≡ body_of_push p → Says before after m
-  WithOldCommand : (c : SentCommand) → get before m.request ≡ Some c → m.to ≡ c.to → m.body ≡ body_of_command c.command → Says before after m
-  WithNewCommand : (c : SentCommand) → get after m.request ≡ Some c → m.to ≡ c.to → m.body ≡ body_of_command c.command → Says before after m
+  WithOldCommand : (c : SentCommand) → get before m.request ≡ Some c → m.to ≡ c.to → m.body ≡ body.Command c.command → Says before after m
+  WithNewCommand : (c : SentCommand) → get after m.request ≡ Some c → m.to ≡ c.to → m.body ≡ body.Command c.command → Says before after m
 
 abbrev AreSaid : Commands → Commands → List Message → Type 0
 AreSaid before after ms = (m : Message) → Contains ms m → Says before after m
@@ -177,7 +168,7 @@ asked_said s Restarts acts line = absurd line
 abbrev Stands : State → Packet → Command → Type 0
 Stands t x c = (d : SentCommand) × (get t.rows.outbox.commands x.request ≡ Some d) × (d.to ≡ x.to) × (d.command ≡ c)
 
-module _ (s t : State) (e : Event) (happens : Happens s e t) (counted : AreCounted s) (x : Packet) (c : Command) (is : x.body ≡ body_of_command c) where
+module _ (s t : State) (e : Event) (happens : Happens s e t) (counted : AreCounted s) (x : Packet) (c : Command) (is : x.body ≡ body.Command c) where
   by_says : (ms : List Message) (f : Carried ms x) → Says s.rows.outbox.commands t.rows.outbox.commands f.message → Stands t x c
   by_says ms f (WithReply r carries) = absurd (no_command r c (sym carries ∙ f.body ∙ is))
   by_says ms f (WithPush p carries) = absurd (command_or_push c p (sym is ∙ sym f.body ∙ carries))
@@ -197,7 +188,7 @@ module _ (s t : State) (e : Event) (happens : Happens s e t) (counted : AreCount
       in_event (Restarted now out_is) = absurd (in_none x (subst (λ l. Contains l x) (ap (λ (o : Out). o.packets) out_is) h))
       in_event (Refused out_is) = absurd (in_none x (subst (λ l. Contains l x) (ap (λ (o : Out). o.packets) out_is) h))
 
-stand_from : (s t : State) (es : List Event) → AreCounted s → Run s es t → (x : Packet) (c : Command) → Contains (sent es) x → x.body ≡ body_of_command c → Stands t x c
+stand_from : (s t : State) (es : List Event) → AreCounted s → Run s es t → (x : Packet) (c : Command) → Contains (sent es) x → x.body ≡ body.Command c → Stands t x c
 stand_from s t [] counted run x c h is = absurd (in_none x h)
 stand_from s t (e ∷ es) counted (u, first, rest) x c h is =
     let between = counted_stays s u e first counted in

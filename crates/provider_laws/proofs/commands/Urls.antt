@@ -10,7 +10,7 @@ use Rattle.tables.proofs.Maps.{of_insert}
 use Rattle.tables.proofs.Options.{not_both}
 use Rattle.ocpi_text.specs.Whole.{max_whole}
 use Rattle.ocpi_types.specs.declared.events.Order.{Order}
-use Rattle.ocpi_types.specs.declared.stored.Command.{Command}
+use Rattle.ocpi_types.specs.declared.commands.Command.{Command}
 use Rattle.ocpi_types.specs.declared.stored.SentCommand.{SentCommand}
 use Rattle.node_laws.proofs.Runs.{kept_runs}
 use Rattle.node_steps.specs.Acts.{Act, unanswered}

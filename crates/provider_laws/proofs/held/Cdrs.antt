@@ -13,6 +13,7 @@ use Rattle.ocpi_types.specs.declared.packet.Packet.{Packet}
 use Rattle.ocpi_types.specs.declared.packet.Body.{Body}
 use Rattle.ocpi_types.specs.declared.packet.Body.TheVariants as body
 use Rattle.ocpi_types.specs.declared.stored.Reply.{Reply}
+use Rattle.ocpi_types.specs.Credits.{AreAlike, is_credit}
 use Rattle.handover.specs.Cdrs.{AreOwnCdrs, Cdrs, HasOnePerSession, cdr_key}
 use Rattle.handover.specs.Inbox.{IsInConflict, IsOfParties}
 use Rattle.node_laws.proofs.Runs.{kept_runs}
@@ -36,7 +37,7 @@ BringsCdr party e x = (q : Packet) × Brings e q × (q.body ≡ body.PostCdr x) 
 -- no record stands under the key of one that is taken
 pub new_key : (m : Cdrs) (x : Cdr) → ¬ IsInConflict m x → ¬ (get m (cdr_key x) ≡ Some x) → get m (cdr_key x) ≡ None
 new_key m x fine new_one = none_else (get m (cdr_key x)) (λ y had.
-    fine (record { id = key x.id; held = y; stands = had; alike = inl refl; differs = λ same. new_one (had ∙ ap Some same) }))
+    fine (record { id = key x.id; held = y; stands = had; shares = inl refl; differs = λ same. new_one (had ∙ ap Some same) }))
 
 module _ (s t : State) (e : Event) (happens : Happens s e t) where
   from_event : (k : List ℕ × List ℕ) (x : Cdr) → get t.rows.inbox.cdrs k ≡ Some x → (get s.rows.inbox.cdrs k ≡ Some x) ⊎ ((k ≡ cdr_key x) × BringsCdr s.party e x)
@@ -61,33 +62,33 @@ module _ (s t : State) (e : Event) (happens : Happens s e t) where
 
   -- a record that is taken is of a session that has none
   one_stays : AreOwnCdrs s.rows.inbox.cdrs → HasOnePerSession s.rows.inbox.cdrs → HasOnePerSession t.rows.inbox.cdrs
-  one_stays own one operator i j x y x_has y_has same = by (does s t e happens).cdrs
+  one_stays own one operator i j x y x_has y_has same alike = by (does s t e happens).cdrs
     where
-      -- a held record of the session of one that is taken
+      -- a held record of the session of one that is taken, and alike
       apart : (z : Cdr) → ¬ IsInConflict s.rows.inbox.cdrs z → (a b : List ℕ) (v : Cdr) → ◌≡◌ {A = List ℕ × List ℕ} (operator, a) (cdr_key z) → get s.rows.inbox.cdrs (operator, b) ≡ Some v →
-          key v.session_id ≡ key z.session_id → a ≡ b
-      apart z fine a b v is had alike = elim (told text_total text_exact a b) [
+          key v.session_id ≡ key z.session_id → AreAlike v z → a ≡ b
+      apart z fine a b v is had session kind = elim (told text_total text_exact a b) [
         | inl equal ↦ equal
         | inr other ↦ absurd (fine (record {
           id = b;
           held = v;
           stands = ap (λ p. get s.rows.inbox.cdrs (p, b)) (sym (ap (λ (k : List ℕ × List ℕ). k.0) is)) ∙ had;
-          alike = inr alike;
+          shares = inr (session, kind);
           differs = λ v_is. other (ap (λ (k : List ℕ × List ℕ). k.1) (is ∙ ap cdr_key (sym v_is) ∙ sym (own (operator, b) v had)));
         }))
       ]
 
       by : CdrsMove s e.input (cdrs_put e.changes) t.rows.inbox.cdrs → i ≡ j
-      by (SameCdrs puts is) = one operator i j x y (sym (ap (λ m. get m (operator, i)) is) ∙ x_has) (sym (ap (λ m. get m (operator, j)) is) ∙ y_has) same
+      by (SameCdrs puts is) = one operator i j x y (sym (ap (λ m. get m (operator, i)) is) ∙ x_has) (sym (ap (λ m. get m (operator, j)) is) ∙ y_has) same alike
       by (CdrTaken at q arrives z carries right fine new_one puts is) =
           elim (of_insert text_pair_total text_pair_exact s.rows.inbox.cdrs (cdr_key z) z (operator, i) x (sym (ap (λ m. get m (operator, i)) is) ∙ x_has)) [
             | inl (x_key, x_is) ↦ elim (of_insert text_pair_total text_pair_exact s.rows.inbox.cdrs (cdr_key z) z (operator, j) y (sym (ap (λ m. get m (operator, j)) is) ∙ y_has)) [
               | inl (y_key, y_is) ↦ ap (λ (k : List ℕ × List ℕ). k.1) (x_key ∙ sym y_key)
-              | inr y_old ↦ apart z fine i j y x_key y_old (sym same ∙ ap (λ (v : Cdr). key v.session_id) (sym x_is))
+              | inr y_old ↦ apart z fine i j y x_key y_old (sym same ∙ ap (λ (v : Cdr). key v.session_id) (sym x_is)) (sym alike ∙ ap is_credit (sym x_is))
             ]
             | inr x_old ↦ elim (of_insert text_pair_total text_pair_exact s.rows.inbox.cdrs (cdr_key z) z (operator, j) y (sym (ap (λ m. get m (operator, j)) is) ∙ y_has)) [
-              | inl (y_key, y_is) ↦ sym (apart z fine j i x y_key x_old (same ∙ ap (λ (v : Cdr). key v.session_id) (sym y_is)))
-              | inr y_old ↦ one operator i j x y x_old y_old same
+              | inl (y_key, y_is) ↦ sym (apart z fine j i x y_key x_old (same ∙ ap (λ (v : Cdr). key v.session_id) (sym y_is)) (alike ∙ ap is_credit (sym y_is)))
+              | inr y_old ↦ one operator i j x y x_old y_old same alike
             ]
           ]
 
@@ -111,7 +112,7 @@ held_cdrs_stay s t es run k x has = kept_runs Happens (λ z. get z.rows.inbox.cd
 pub one_cdr_per_session : OneCdrPerSession
 one_cdr_per_session p es t run =
     (kept_runs Happens (λ z. AreOwnCdrs z.rows.inbox.cdrs × HasOnePerSession z.rows.inbox.cdrs) (λ a b e h before. (own_stays a b e h before.0, one_stays a b e h before.0 before.1)) (opening p) t es run
-    ((λ k x has. not_both x _ (get-empty text_pair_cmp k) has), (λ operator i j x y x_has y_has same. not_both x _ (get-empty text_pair_cmp (operator, i)) x_has))).1
+    ((λ k x has. not_both x _ (get-empty text_pair_cmp k) has), (λ operator i j x y x_has y_has same alike. not_both x _ (get-empty text_pair_cmp (operator, i)) x_has))).1
 
 module _ (s u : State) (e : Event) (happens : Happens s e u) (q : Packet) (x : Cdr) (r : Reply) (taken : IsTaken r) (carries : q.body ≡ body.PostCdr x) where
   other_body : {b : Body} → q.body ≡ b → body.PostCdr x ≡ b

@@ -8,14 +8,14 @@ use Rattle.tables.proofs.Elements.{in_front}
 use Rattle.tables.proofs.Maps.{get-insert_same, get-insert_other, get-remove_same, get-remove_other, told}
 use Rattle.tables.proofs.Options.{none_some}
 use Rattle.ocpi_text.specs.Text.{key}
-use Rattle.ocpi_types.specs.Stored.{body_of_command, body_of_reply, body_of_push}
+use Rattle.ocpi_types.specs.Stored.{body_of_reply, body_of_push}
 use Rattle.ocpi_types.specs.declared.packet.Packet.{Packet}
 use Rattle.ocpi_types.specs.declared.packet.Body.TheVariants as body
 use Rattle.ocpi_types.specs.declared.replies.Ack.{Ack}
 use Rattle.ocpi_types.specs.declared.replies.CommandResponse.{CommandResponse}
 use Rattle.ocpi_types.specs.declared.replies.CommandResult.{CommandResult}
 use Rattle.ocpi_types.specs.declared.rows.Change.{Change}
-use Rattle.ocpi_types.specs.declared.stored.Command.{Command}
+use Rattle.ocpi_types.specs.declared.commands.Command.{Command}
 use Rattle.ocpi_types.specs.declared.stored.Push.{Push}
 use Rattle.ocpi_types.specs.declared.stored.Reply.{Reply}
 use Rattle.ocpi_types.specs.declared.stored.SentCommand.{SentCommand}
@@ -114,7 +114,7 @@ module _ (s : State) (came : List Packet) where
     push_unreplied : (p : Push) → ¬ IsReply (body_of_push p)
     push_unreplied p is = no_push is.0 p (sym is.1)
 
-    command_unreplied : (c : Command) → ¬ IsReply (body_of_command c)
+    command_unreplied : (c : Command) → ¬ IsReply (body.Command c)
     command_unreplied c is = no_command is.0 c (sym is.1)
 
     pub resent_step : (at n : ℕ) (o : Outgoing) → get r.outbox.pushes n ≡ Some o → AreStep r (resent at n o.to o.push ∷ [])
@@ -125,7 +125,7 @@ module _ (s : State) (came : List Packet) where
     pub command_resent_step : (at n : ℕ) (c : SentCommand) → get r.outbox.pushes n ≡ None → get r.outbox.commands n ≡ Some c → c.answer ≡ None → c.result ≡ None →
         AreStep r (command_resent at n c.to c.command ∷ [])
     command_resent_step at n c none stands unanswered_one unresulted =
-        resend_step (node_at r) (node_at (one_act (command_resent at n c.to c.command) r)) came (next (record { to = c.to; request = n; body = body_of_command c.command })) (among (one_act (command_resent at n c.to c.command) r))
+        resend_step (node_at r) (node_at (one_act (command_resent at n c.to c.command) r)) came (next (record { to = c.to; request = n; body = body.Command c.command })) (among (one_act (command_resent at n c.to c.command) r))
         (record { from = refl; serial = omega arith }) (command_unreplied c.command) (omega arith) refl (omega arith) (λ m. refl)
         (waiting ∙ open_one)
       where
@@ -137,7 +137,7 @@ module _ (s : State) (came : List Packet) where
 
     pub commanded_step : (at n : ℕ) (to : List ℕ) (c : Command) → Contains s.operators to → n ≡ r.outbox.last + 1 → get r.outbox.pushes n ≡ None → AreStep r (commanded at n to c ∷ [])
     commanded_step at n to c listed number none =
-        request_new_step (node_at r) (node_at (one_act (commanded at n to c) r)) came (next (record { to = to; request = n; body = body_of_command c })) (among (one_act (commanded at n to c) r))
+        request_new_step (node_at r) (node_at (one_act (commanded at n to c) r)) came (next (record { to = to; request = n; body = body.Command c })) (among (one_act (commanded at n to c) r))
         (record { from = refl; serial = omega arith }) (command_unreplied c) (omega arith) refl listed (omega arith) (omega (arith, number))
         (λ i. standing_of (none i) (get-insert_same nat_cmp_total nat_cmp-IsAntisymmetric r.outbox.commands n (unanswered to c) i))
         (λ m q apart has. inl (other m apart ∙ has))

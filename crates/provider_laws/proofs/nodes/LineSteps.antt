@@ -12,8 +12,8 @@ use Rattle.ocpi_types.specs.declared.packet.Packet.{Packet}
 use Rattle.ocpi_types.specs.declared.rows.Change.TheVariants.{Put}
 use Rattle.ocpi_types.specs.declared.rows.Counter.TheVariants.{Reference}
 use Rattle.ocpi_types.specs.declared.rows.Row.TheVariants as row
-use Rattle.ocpi_types.specs.declared.stored.Command.{Command}
-use Rattle.ocpi_types.specs.declared.stored.Command.TheVariants as command
+use Rattle.ocpi_types.specs.declared.commands.Command.{Command}
+use Rattle.ocpi_types.specs.declared.commands.Command.TheVariants as command
 use Rattle.ocpi_types.specs.declared.stored.Push.{Push}
 use Rattle.ocpi_types.specs.declared.stored.Push.TheVariants as push
 use Rattle.ocpi_types.specs.declared.stored.Reply.{Reply}

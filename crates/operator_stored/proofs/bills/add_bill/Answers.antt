@@ -1,6 +1,12 @@
-use Rattle.operator_stored.proofs.Billing.{bill_added}
+use Rattle.std.proofs.Common.{OnOk, ap, subst, sym, ◌∙◌}
+use Rattle.ocpi_types.specs.declared.rows.Row.{Row}
+use Rattle.ocpi_types.specs.declared.rows.Row.TheVariants as row
+use Rattle.tables.specs.Keys.{text_cmp}
+use Rattle.tables.specs.Tables.{shown_of}
+use Rattle.operator_stored.specs.Bills.{BillOf, HasId, HaveAlso}
 use Rattle.operator_stored.proofs.bills.add_bill.Goals as goal
 
-pub returns-in_ok-new-in-Cdr-clause-after : goal.returns-in_ok-new-in-Cdr-clause-after
-returns-in_ok-new-in-Cdr-clause-after c = bill_added c.args.billed.now c.insert.new.self c.args.row.now
-    c.in-Cdr.cdr c.deref.result.now c.in-Cdr.is c.deref.ensures c.in_ok-new-in-Cdr.ensures.after
+pub returns-in-Cdr-clause-bills : goal.returns-in-Cdr-clause-bills
+returns-in-Cdr-clause-bills c =
+    subst (λ (r : Row). OnOk c.add_record.result (HaveAlso (HasId (shown_of text_cmp c.args.bills.now)) (HasId (shown_of text_cmp c.add_record.new.bills)) (BillOf r)))
+    (sym (c.in-Cdr.is ∙ ap (λ x. row.Cdr x) (sym c.deref.ensures))) c.add_record.ensures.bills

@@ -1,10 +1,6 @@
-use Rattle.std.proofs.Common.{◌≡◌, ◌≤◌, ℕ, List, ap, subst, ◌∙◌}
-use Rattle.ocpi_text.specs.OwnIds.{own_id_text}
+use Rattle.std.proofs.Common.{ap, ◌∙◌}
 use Rattle.ocpi_text.specs.Text.{key}
-use Rattle.ocpi_text.specs.Whole.{max_whole}
-use Rattle.ocpi_text.specs.declared.own_ids.OwnIdKind.TheVariants as own
 use Rattle.session_book.specs.Stored.{Rows}
-use Rattle.stored_rows.specs.Given.{IsOwnId}
 use Rattle.operator_stored.proofs.Telling.{above, up_to}
 use Rattle.operator_stored.proofs.TellingSessions.{own_cdr, cdr_not_given, cdr_not_own, cdr_of_other, not_same}
 use Rattle.operator_stored.proofs.sessions.may_own_cdr.Goals as goal
@@ -14,23 +10,13 @@ returns-then-not-is_same c = cdr_of_other c.args.books.now.state c.args.cdr.now
     (not_same c.is_same.result c.args.cdr.now.party c.party.result c.args.books.now.state.party c.party.ensures c.is_same.ensures.1 c.if-not-is_same.true)
 
 pub returns-then-gt : goal.returns-then-gt
-returns-then-gt c =
-    let s = c.args.books.now.state in
-    let v = c.args.cdr.now in
-    let made = subst (λ (id : List ℕ). IsOwnId own.Cdr s.party id c.in-Some.number) c.as_str.ensures.value c.in-Some.ensures.made in
-    cdr_not_given s v c.in-Some.number made (above c.in-Some.number _ _ c.if-gt.ensures (c.last_cdr.ensures ∙ ap (λ (r : Rows). r.last_cdr) c.charged.ensures))
+returns-then-gt c = cdr_not_given c.args.books.now.state c.args.cdr.now c.in-Some.number c.in-Some.ensures.made
+    (above c.in-Some.number _ _ c.if-gt.ensures (c.last_cdr.ensures ∙ ap (λ (r : Rows). r.last_cdr) c.charged.ensures))
 
 pub returns-else-gt : goal.returns-else-gt
-returns-else-gt c =
-    let s = c.args.books.now.state in
-    let v = c.args.cdr.now in
-    let made = subst (λ (id : List ℕ). IsOwnId own.Cdr s.party id c.in-Some.number) c.as_str.ensures.value c.in-Some.ensures.made in
-    let sole = subst (λ (id : List ℕ). (m : ℕ) → m ≤ max_whole → key (own_id_text own.Cdr s.party m) ≡ key id → m ≡ c.in-Some.number)
-    c.as_str.ensures.value c.in-Some.ensures.sole in
-    own_cdr s v c.in-Some.number (c.is_same.ensures.0 c.if-not-is_same.false ∙ ap key c.party.ensures) made sole
+returns-else-gt c = own_cdr c.args.books.now.state c.args.cdr.now c.in-Some.number (c.is_same.ensures.0 c.if-not-is_same.false ∙ ap key c.party.ensures)
+    c.in-Some.ensures.made c.in-Some.ensures.sole
     (up_to c.in-Some.number _ _ c.if-gt.ensures (c.last_cdr.ensures ∙ ap (λ (r : Rows). r.last_cdr) c.charged.ensures))
 
 pub returns-in-None : goal.returns-in-None
-returns-in-None c =
-    let s = c.args.books.now.state in
-    cdr_not_own s c.args.cdr.now (subst (λ (id : List ℕ). (n : ℕ) → IsOwnId own.Cdr s.party id n → ⊥) c.as_str.ensures.value c.in-None.ensures.none)
+returns-in-None c = cdr_not_own c.args.books.now.state c.args.cdr.now c.in-None.ensures.none

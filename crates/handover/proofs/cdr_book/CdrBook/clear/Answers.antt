@@ -22,5 +22,5 @@ invariant_of-self c =
     let value = c.cost_of-cost.ensures.value in
     let bound = c.cost_of-cost.ensures.bound in
     cleared _ _ _ _ c.self.invariant (c.args.operator, c.args.id) c.in-Some.cdr.now _ _ _ _ _ _
-    (sym c.get.ensures ∙ ap (λ (r : Option (Bor Cdr)). option_copied r) c.in-Some.is) c.session_of-session.ensures (omega (arith, ints))
+    (sym c.get.ensures ∙ ap (λ (r : Option (Bor Cdr)). option_copied r) c.in-Some.is) c.group_of-group.ensures (omega (arith, ints))
     c.clear.ensures.shown c.clear-2.ensures.shown c.add_to.ensures.sums c.add_to.ensures.rooms

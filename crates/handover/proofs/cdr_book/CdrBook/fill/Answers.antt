@@ -2,18 +2,18 @@ use Rattle.std.proofs.Common.{subst, refl, arith}
 use Rattle.std.proofs.lemmas.Int.{ints}
 use Rattle.std.specs.Prelude.{◌<◌, unsigned_abs}
 use Rattle.ocpi_text.specs.Decimal.{e4_limit}
-use Rattle.ocpi_text.specs.Text.{key}
+use Rattle.handover.specs.Cdrs.{group_of}
 use Rattle.handover.proofs.Keeping.{sum_bound, filled, cdr_room_parts}
 use Rattle.handover.proofs.cdr_book.CdrBook.fill.Goals as goal
 
 pub put-requires : goal.put-requires
-put-requires c = (cdr_room_parts _ c.args.cdr _ _ (key c.args.cdr.session_id) c.key-operator.ensures c.key-id.ensures refl (rw (← c.self.view_is) at c.requires.room)).0
+put-requires c = (cdr_room_parts _ c.args.cdr _ _ (group_of c.args.cdr) c.key-operator.ensures c.key-id.ensures refl (rw (← c.self.view_is) at c.requires.room)).0
 
 pub put-requires-2 : goal.put-requires-2
-put-requires-2 c = rw (c.session_of-session.ensures, c.key-id.ensures) (rw (← c.self.view_is) at c.requires.room).of_session
+put-requires-2 c = rw (c.group_of-group.ensures, c.key-id.ensures) (rw (← c.self.view_is) at c.requires.room).of_session
 
 pub add_to-requires-clause-room : goal.add_to-requires-clause-room
-add_to-requires-clause-room c = (cdr_room_parts _ c.args.cdr _ _ (key c.args.cdr.session_id) c.key-operator.ensures c.key-id.ensures refl (rw (← c.self.view_is) at c.requires.room)).2
+add_to-requires-clause-room c = (cdr_room_parts _ c.args.cdr _ _ (group_of c.args.cdr) c.key-operator.ensures c.key-id.ensures refl (rw (← c.self.view_is) at c.requires.room)).2
 
 pub add_to-requires-clause-bound : goal.add_to-requires-clause-bound
 add_to-requires-clause-bound c = sum_bound _ _ _ _ c.self.invariant _ c.room_count-most.result c.room_count-most.ensures.most c.room_count-most.ensures.small
@@ -24,8 +24,8 @@ invariant_of-self c =
     let small = c.cost_of-cost.ensures.bound in
     let none = rw (← c.self.view_is) at c.requires.new in
     let bound = subst (λ z. unsigned_abs z < e4_limit) c.cost_of-cost.ensures.value c.cost_of-cost.ensures.bound in
-    filled _ _ _ _ c.self.invariant c.args.cdr (c.key-operator.result, c.key-id.result) c.session_of-session.result _ _ _ _ _
-    none bound (rw (← c.self.view_is) at c.requires.room).of_sum (λ i. (c.key-operator.ensures i, c.key-id.ensures i)) c.session_of-session.ensures (omega (arith, ints))
+    filled _ _ _ _ c.self.invariant c.args.cdr (c.key-operator.result, c.key-id.result) c.group_of-group.result _ _ _ _ _
+    none bound (rw (← c.self.view_is) at c.requires.room).of_sum (λ i. (c.key-operator.ensures i, c.key-id.ensures i)) c.group_of-group.ensures (omega (arith, ints))
     c.put.ensures.shown c.put-2.ensures.shown c.add_to.ensures.sums c.add_to.ensures.rooms
 
 pub returns-clause-cdrs : goal.returns-clause-cdrs

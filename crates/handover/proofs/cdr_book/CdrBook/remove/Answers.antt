@@ -1,8 +1,10 @@
 use Rattle.std.proofs.Common.{sym, ap, ◌∙◌, arith}
 use Rattle.std.proofs.lemmas.Int.{ints}
 use Rattle.ocpi_text.specs.Text.{key}
+use Rattle.ocpi_types.specs.Credits.{is_credit}
 use Rattle.tables.specs.Keys.{text_pair_total, text_pair_exact}
 use Rattle.tables.proofs.Maps.{remove_absent}
+use Rattle.handover.specs.Cdrs.{Group}
 use Rattle.handover.proofs.Keeping.{Texts, sum_bound, account_room, cleared, lost_record, lost_both, gave_one, gave_both}
 use Rattle.handover.proofs.cdr_book.CdrBook.remove.Goals as goal
 
@@ -32,19 +34,19 @@ invariant_of-self-2 c =
     let value = c.cost_of-cost.ensures.value in
     let bound = c.cost_of-cost.ensures.bound in
     cleared _ _ _ _ c.self.invariant (c.args.operator, c.args.id) c.in-Some.cdr _ _ _ _ _ _
-    (sym c.remove.ensures.value ∙ c.in-Some.is) c.session_of-session.ensures (omega (arith, ints))
+    (sym c.remove.ensures.value ∙ c.in-Some.is) c.group_of-group.ensures (omega (arith, ints))
     c.remove.ensures.shown c.remove-2.ensures.shown c.add_to.ensures.sums c.add_to.ensures.rooms
 
 pub returns-clause-rooms : goal.returns-clause-rooms
 returns-clause-rooms c =
     let had = sym c.remove.ensures.value ∙ c.in-Some.is in
     let operator = ap (λ (k : Texts). k.0) (c.self.invariant.own (c.args.operator, c.args.id) c.in-Some.cdr had) in
-    rw (← c.self.view_is, c.add_to.ensures.rooms) (λ x room apart. lost_both _ _ _ (c.args.operator, c.args.id) c.session_of-session.result (ap (λ (k : Texts). k.0) c.session_of-session.ensures ∙ sym operator)
+    rw (← c.self.view_is, c.add_to.ensures.rooms) (λ x room apart. lost_both _ _ _ (c.args.operator, c.args.id) c.group_of-group.result (ap (λ (g : Group). g.0.0) c.group_of-group.ensures ∙ sym operator)
     c.remove.ensures.room c.remove-2.ensures.room x room apart)
 
 pub returns-clause-back : goal.returns-clause-back
 returns-clause-back c =
     let had = sym c.remove.ensures.value ∙ c.in-Some.is in
     let operator = ap (λ (k : Texts). k.0) (c.self.invariant.own (c.args.operator, c.args.id) c.in-Some.cdr had) in
-    rw (← c.self.view_is) (gave_both _ _ _ _ _ _ (c.args.operator, c.args.id) c.session_of-session.result c.in-Some.cdr had (c.session_of-session.ensures ∙ (λ i. (sym operator i, key c.in-Some.cdr.session_id)))
+    rw (← c.self.view_is) (gave_both _ _ _ _ _ _ (c.args.operator, c.args.id) c.group_of-group.result c.in-Some.cdr had (c.group_of-group.ensures ∙ (λ i. ((sym operator i, key c.in-Some.cdr.session_id), is_credit c.in-Some.cdr)))
     c.remove.ensures.room c.remove-2.ensures.room)

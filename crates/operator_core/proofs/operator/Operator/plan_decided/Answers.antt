@@ -1,16 +1,13 @@
 use Rattle.std.proofs.Common.{◌≡◌, ◌∙◌, ℕ, ◌+◌, length, ap}
-use Rattle.ocpi_types.specs.Stored.{body_of_command}
-use Rattle.ocpi_types.specs.declared.stored.Command.{Command}
+use Rattle.ocpi_types.specs.declared.commands.Command.{Command}
 use Rattle.node_steps.specs.Acts.{all_messages, all_requests}
 use Rattle.node_steps.proofs.Gathering.{has_all, step_is}
 use Rattle.operator_tables.specs.declared.decision.Decision.{Decision}
 use Rattle.operator_tables.specs.declared.request.Request.{Request}
 use Rattle.operator_steps.specs.Acts.{result_of}
 use Rattle.operator_steps.specs.Moves.{counters_of}
-use Rattle.operator_core.specs.Planned.{StopsActs}
 use Rattle.operator_core.specs.Requests.{decided_by, result_count}
 use Rattle.operator_core.proofs.Decisions.{decided_asks, decided_within, decided_sends}
-use Rattle.operator_core.proofs.Parts.{err_each}
 use Rattle.operator_core.proofs.CountedDrafts.{counted_in_range, counted_refused, counted_starved}
 use Rattle.operator_core.proofs.operator.Operator.plan_decided.Goals as goal
 
@@ -26,47 +23,50 @@ pub returns-in_err-draft-clause-err : goal.returns-in_err-draft-clause-err
 returns-in_err-draft-clause-err c =
     let s = c.args.self.now.state in
     let r = c.args.request.now in
+    let k = c.args.command.now in
     let d = c.args.decision.now in
     let is : c.count-results.result ≡ result_count (result_of d) = c.count-results.ensures ∙ ap result_count c.result.ensures in
-    err_each (λ (k : Command). c.args.body.now ≡ body_of_command k) (λ k. StopsActs s (decided_by r s.rows.request k d)) c.from_residual.result (λ k carries.
     counted_refused s (λ last. decided_by r last k d) _ _ (sends s.rows.request r k d _ is) (asks s.rows.request r k d _ is) (decided_within r.at s.rows.request r.from r.provider r.number k d)
-    c.from_residual.result _ c.from_residual.ensures.1 c.in_err-draft.ensures.err)
+    c.from_residual.result _ c.from_residual.ensures.1 c.in_err-draft.ensures.err
 
 -- the draft has the numbers of all acts
-pub add_decided-requires-clause-numbers : goal.add_decided-requires-clause-numbers
-add_decided-requires-clause-numbers c =
+pub add_decided-requires : goal.add_decided-requires
+add_decided-requires c =
     let s = c.args.self.now.state in
     let r = c.args.request.now in
+    let k = c.args.command.now in
     let d = c.args.decision.now in
     let is : c.count-results.result ≡ result_count (result_of d) = c.count-results.ensures ∙ ap result_count c.result.ensures in
-    λ k carries. has_all s.party (counters_of s) (λ last. decided_by r last k d) _ _ (sends s.rows.request r k d _ is) (asks s.rows.request r k d _ is) c.in_ok-draft.draft c.in_ok-draft.ensures.ok
+    has_all s.party (counters_of s) (λ last. decided_by r last k d) _ _ (sends s.rows.request r k d _ is) (asks s.rows.request r k d _ is) c.in_ok-draft.draft c.in_ok-draft.ensures.ok
 
 -- want of memory comes only where the numbers are in range
 pub returns-in_err-add_decided-clause-err : goal.returns-in_err-add_decided-clause-err
 returns-in_err-add_decided-clause-err c =
     let s = c.args.self.now.state in
     let r = c.args.request.now in
+    let k = c.args.command.now in
     let d = c.args.decision.now in
     let is : c.count-results.result ≡ result_count (result_of d) = c.count-results.ensures ∙ ap result_count c.result.ensures in
-    err_each (λ (k : Command). c.args.body.now ≡ body_of_command k) (λ k. StopsActs s (decided_by r s.rows.request k d)) c.from_residual-in_err-add_decided.result (λ k carries.
     counted_starved s (λ last. decided_by r last k d) _ _ (sends s.rows.request r k d _ is) (asks s.rows.request r k d _ is) (decided_within r.at s.rows.request r.from r.provider r.number k d)
-    c.from_residual-in_err-add_decided.result c.from_residual-in_err-add_decided.ensures.1 c.in_ok-draft.ensures.in_range)
+    c.from_residual-in_err-add_decided.result c.from_residual-in_err-add_decided.ensures.1 c.in_ok-draft.ensures.in_range
 
 -- what was gathered is the step
 pub returns-clause-ok : goal.returns-clause-ok
 returns-clause-ok c =
     let s = c.args.self.now.state in
     let r = c.args.request.now in
+    let k = c.args.command.now in
     let d = c.args.decision.now in
     let is : c.count-results.result ≡ result_count (result_of d) = c.count-results.ensures ∙ ap result_count c.result.ensures in
-    λ k carries. c.into_plan.ensures ∙ step_is s.party (counters_of s) (λ last. decided_by r last k d) _ _ (sends s.rows.request r k d _ is) (asks s.rows.request r k d _ is)
-    c.in_ok-draft.draft c.add_decided.new.draft c.in_ok-draft.ensures.ok (c.in_ok-add_decided.ensures k carries)
+    c.into_plan.ensures ∙ step_is s.party (counters_of s) (λ last. decided_by r last k d) _ _ (sends s.rows.request r k d _ is) (asks s.rows.request r k d _ is)
+    c.in_ok-draft.draft c.add_decided.new.draft c.in_ok-draft.ensures.ok c.in_ok-add_decided.ensures
 
 pub returns-clause-in_range : goal.returns-clause-in_range
 returns-clause-in_range c =
     let s = c.args.self.now.state in
     let r = c.args.request.now in
+    let k = c.args.command.now in
     let d = c.args.decision.now in
     let is : c.count-results.result ≡ result_count (result_of d) = c.count-results.ensures ∙ ap result_count c.result.ensures in
-    λ k carries. counted_in_range s (λ last. decided_by r last k d) _ _ (sends s.rows.request r k d _ is) (asks s.rows.request r k d _ is)
+    counted_in_range s (λ last. decided_by r last k d) _ _ (sends s.rows.request r k d _ is) (asks s.rows.request r k d _ is)
     (decided_within r.at s.rows.request r.from r.provider r.number k d) c.in_ok-draft.ensures.in_range

@@ -1,4 +1,4 @@
-use Rattle.std.proofs.Common.{◌≡◌, [], ◌∷◌, ◌∙◌, ap, sym}
+use Rattle.std.proofs.Common.{◌≡◌, [], ◌∷◌, ◌∙◌, ap, sym, inl, inr}
 use Rattle.ocpi_types.specs.declared.packet.Body.TheVariants as body
 use Rattle.std.specs.Prelude.{Some, None}
 use Rattle.std.specs.FinMap.{get}
@@ -44,3 +44,7 @@ returns-in-PutToken-clause-fault c =
     let carries : c.args.packet.now.body ≡ body.PutToken t = c.in-PutToken.is ∙ ap body.PutToken (sym c.deref.ensures) in
     let none : get s.rows.commands.replies (r.provider, r.number) ≡ None = rw (← c.self.view_is) (sym c.in_default.ensures) in
     token_faults s c.args.packet.now r c.requires.request c.plan_put.result t carries none c.plan_put.ensures.err
+
+-- a request carries a command or a token
+pub unreachable-requires : goal.unreachable-requires
+unreachable-requires c = elim c.requires.body [ inl h ↦ c.in_default-body.not-Command h.0 h.1 | inr h ↦ c.in_default-body.not-PutToken h.0 h.1 ]

@@ -4,7 +4,8 @@ use Rattle.sqlite.specs.Held.{state}
 use Rattle.sqlite.specs.Effect.{Database}
 use Rattle.row_table.specs.Contents.{IsWhole}
 use Rattle.row_table.specs.Kept.{IsAtRest}
-use Rattle.row_table.proofs.KeptLemmas.{committed_rest, the_one, still_one, undone_rest}
+use Rattle.row_table.proofs.KeptLemmas.{any_err, committed_rest, the_one, still_one, undone_rest}
+use Rattle.row_table.proofs.OpenLemmas.{shown_still}
 use Rattle.row_table.proofs.table.TextTable.change_to.Goals as goal
 
 pub invariant_of-self : goal.invariant_of-self
@@ -51,3 +52,10 @@ returns-clause-whole g c clean trees may =
     let early : HasCleanDisk (state g.S.Store old) = omega (arith, c.commit_to.ensures.crash.clean) in
     let done = c.in_ok-commit_to.ensures.all clean (c.self.invariant.1.tables early) in
     subst IsWhole (sym (g.met.S.Store.settled new.store trees done.is_open may ∙ sym (ap (λ (d : Database). d.trees) done.settled))) done.tables.whole
+
+pub returns-in_err-commit_to-clause-shown : goal.returns-in_err-commit_to-clause-shown
+returns-in_err-commit_to-clause-shown g c clean =
+    let old = state g.S.Store c.self.inside.conn in
+    let new = state g.S.Store c.commit_to.new.conn in
+    let early : HasCleanDisk old = omega (arith, c.commit_to.ensures.crash.clean) in
+    rw (← c.self.view_is) (any_err c.from_residual.result _ (shown_still old new (c.self.invariant.1.settled early) (c.in_err-commit_to.ensures.none clean (c.self.invariant.1.tables early))))
