@@ -12,7 +12,7 @@ import sys
 from play_steps import Replay, play, spelled
 
 REPORTS = {"accepts", "refuses", "unlocked", "starts", "meter", "stops", "fault", "swipe"}
-EVENTS = {*REPORTS, "deliver", "tick", "service", "restart", "refused"}
+EVENTS = {*REPORTS, "credit", "deliver", "tick", "service", "restart", "refused"}
 FAULTS = ["1 NotForMe", "2 NumbersUsedUp", "3 StampEnd"]
 OUTCOMES = {"stepped", *(f"refused {fault}" for fault in FAULTS)}
 

@@ -24,7 +24,7 @@ from played_run import Mismatch, Run, spelled
 REASONS = {
     "NotForMe": "the packet or the token is not for this node, or of a kind that it does not take",
     "NumbersUsedUp": "a counter has given its last number",
-    "StampEnd": "the newest version is of the last moment, so none can be later",
+    "StampEnd": "the newest version, or the bill, is of the last moment, so nothing can be later",
     "UnknownOperator": "no operator of the setup is that party",
     "UnknownToken": "the provider does not hold that token",
     "Syntax": "the line is no JSON",
@@ -66,6 +66,7 @@ def happening(step):
         "stops": lambda: f"{event['evse_uid']} stops",
         "fault": lambda: f"{event['evse_uid']} has a fault",
         "meter": lambda: f"the meter of {event['evse_uid']} reads {spelled(event['kwh'])} kWh",
+        "credit": lambda: "a bill is to be taken back",
         "deliver": lambda: f"packet {event['serial']} of {event['from']} comes",
         "tick": lambda: "time passes",
         "restart": lambda: "starts again",

@@ -20,7 +20,7 @@ NODE_FAULTS = {
     "refused 1 NotForMe": ("token", "deliver"),
     "refused 5 UnknownOperator": ("submit",),
     "refused 6 UnknownToken": ("submit",),
-    "refused 3 StampEnd": ("token", "starts", "meter", "stops", "fault"),
+    "refused 3 StampEnd": ("token", "starts", "meter", "stops", "fault", "credit"),
 }
 
 class Mismatch(Exception):
@@ -76,7 +76,8 @@ class Packet:
             "command_response": lambda: f"the answer {says}",
             "command_result": lambda: f"the result {says}",
             "put_session": lambda: f"the session, {body['status']} with {spelled(body['kwh'])} kWh",
-            "post_cdr": lambda: f"the charge detail record, {spelled(body['total_energy'])} kWh for {says}",
+            "post_cdr": lambda: f"the credit, {says}" if body.get("credit") else
+                f"the charge detail record, {spelled(body['total_energy'])} kWh for {says}",
             "put_token": lambda: f"token {says}",
             "authorize": lambda: f"the question whether token {says} may charge",
             "authorization": lambda: f"the answer {says}",
@@ -109,6 +110,11 @@ def moment(text):
 def spelled(number):
     """A number without zeros at its end."""
     return f"{number.normalize():f}" if isinstance(number, Decimal) else str(number)
+
+
+def is_same_text(one, other):
+    """Whether two ids are one: they are compared without case."""
+    return one.upper() == str(other).upper()
 
 
 def value_of(line):
@@ -197,7 +203,7 @@ class Run:
         is_operator = step.node.upper() in self.operators
         if kind in ("submit", "token"):
             return is_operator
-        if kind in ("service", "swipe", "accepts", "refuses", "unlocked", "starts", "stops", "fault", "meter"):
+        if kind in ("service", "swipe", "accepts", "refuses", "unlocked", "starts", "stops", "fault", "meter", "credit"):
             return not is_operator
         return kind == "deliver" and self.named(event, step.node) is None
 
@@ -242,6 +248,8 @@ class Run:
             return first and body["result"] == RESULTS.get(event)
         if kind == "put_session":
             return self.follows(step, body)
+        if kind == "post_cdr" and body.get("credit"):
+            return event == "credit" and first and is_same_text(body["session_id"], step.event.get("session_id"))
         if kind == "post_cdr":
             return event in ("stops", "fault") and len(step.packets) == 1
         return event == "swipe" and kind == "authorize" and first

@@ -53,6 +53,7 @@ EVENTS = {
     "stops": [("at", MOMENT), ("evse_uid", CI)],
     "fault": [("at", MOMENT), ("evse_uid", CI)],
     "meter": [("at", MOMENT), ("evse_uid", CI), ("kwh", QUANTITY)],
+    "credit": [("at", MOMENT), ("session_id", CI)],
     "deliver": [("at", MOMENT), ("from", PARTY), ("serial", WHOLE)],
     "tick": [("at", MOMENT)],
     "restart": [],

@@ -4,9 +4,9 @@ Each case is told in short words here and spelled out by `operator_case`, which 
 sent and which rows are put or dropped are written behind each event by hand, and an event behind which nothing stands gives
 nothing.
 The cases of what charge points report, of time and of restarts are in `operator_time_cases`, those of sessions in
-`operator_charge_cases` and `operator_session_cases`, those of tokens and authorizations in `operator_token_cases` and
-`operator_deadline_cases`, those of the last numbers and of a tick that does much in `operator_limit_cases` and
-`operator_charge_limit_cases`.
+`operator_charge_cases` and `operator_session_cases`, those of bills that are taken back in `operator_credit_cases`,
+those of tokens and authorizations in `operator_token_cases` and `operator_deadline_cases`, those of the last numbers and
+of a tick that does much in `operator_limit_cases` and `operator_charge_limit_cases`.
 """
 from operator_case import (
     CASES,
@@ -27,6 +27,7 @@ from operator_case import (
 )
 from operator_charge_cases import add_charge_cases
 from operator_charge_limit_cases import add_charge_limit_cases
+from operator_credit_cases import add_credit_cases
 from operator_deadline_cases import add_deadline_cases
 from operator_limit_cases import add_limit_cases
 from operator_session_cases import add_connectors, add_session_cases, open_site_of_connectors
@@ -46,6 +47,7 @@ WITHOUT_MEMORY = [
     "a charge from a token that is shown to its bill",
     "a token whose provider is to be asked begins a session by its answer, once",
     "a token whose provider does not answer in time",
+    "a bill that was stored is taken back, once",
 ]
 
 
@@ -473,6 +475,7 @@ def cases():
     add_token_cases()
     add_deadline_cases()
     add_charge_limit_cases()
+    add_credit_cases()
     add_limit_cases()
     open_site_of_connectors()
     add_connectors()

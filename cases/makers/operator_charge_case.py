@@ -34,14 +34,35 @@ def place(uid="E1", location="LOC1"):
     }
 
 
+def bill_of(last, number, hours, at_place=None):
+    """The charge detail record of that number, of a session by its last version."""
+    names = ["country_code", "party_id", "auth_method", "authorization_reference", "cdr_token", "currency",
+             "start_date_time", "end_date_time", "total_cost", "last_updated"]
+    period = {"dimensions": [{"type": "ENERGY", "volume": last["kwh"]}], "start_date_time": last["start_date_time"]}
+    return {
+        **{name: last[name] for name in names if name in last},
+        "id": cdr_id(number), "session_id": last["id"], "charging_periods": [period], "total_energy": last["kwh"],
+        "cdr_location": at_place or place(last["evse_uid"], last["location_id"]), "total_time": Decimal(hours),
+    }
+
+
+def credit_of(bill, updated):
+    """The credit that takes that bill back, updated at a moment."""
+    cost = {"excl_vat": -bill["total_cost"]["excl_vat"]}
+    taken = {"credit": True, "credit_reference_id": bill["id"], "id": bill["id"] + "-C", "total_cost": cost}
+    return {**bill, **taken, "last_updated": moment(updated)}
+
+
 class Charging(Case):
-    """A case that also has the newest version of each session by its number, and the request that each was pushed as."""
+    """A case that also has the newest version of each session by its number, the request that each was pushed as, and
+    the bill of each that is completed, with the provider that it was sent to."""
 
     def __init__(self, name, currency="EUR"):
         super().__init__(name)
         self.currency = currency
         self.sessions = {}
         self.pushed_as = {}
+        self.bills = {}
 
     # What happens.
 
@@ -72,6 +93,10 @@ class Charging(Case):
     def fault(self, at, evse="E1"):
         self.report("fault", at, evse_uid=evse)
 
+    def credit(self, session=1, at="11:00:00"):
+        """The bill of the session of that number, or of that id, is to be taken back."""
+        self.report("credit", at, session_id=session_id(session) if isinstance(session, int) else session)
+
     # What stands, though no step put it.
 
     def stands(self, kind, key, row):
@@ -87,6 +112,24 @@ class Charging(Case):
         self.pushes[request] = ("put_session", version, "NL/TNM")
         self.stands("session", "%s/%s" % (OPERATOR, version["id"].upper()), version)
         self.stands("push", "%d" % request, {"body": version, "kind": "put_session", "to": "NL/TNM"})
+
+    def has_bill(self, number=1, given=None, updated="09:30:00", session=None, **members):
+        """A session that is completed stands, and its bill, both acknowledged. The session may have another id, and the
+        bill other members, than the operator would give them."""
+        given, session = given or token(), session or session_id(number)
+        first = self.first_version(number, given, "E1", "09:00:00", reference(77))
+        ended = {"kwh": Decimal("4.0000"), "total_cost": {"excl_vat": Decimal("1.0000")}, "status": "COMPLETED",
+                 "end_date_time": moment("09:30:00"), "last_updated": moment(updated), "id": session}
+        self.sessions[number] = {**first, **ended}
+        self.stands("session", "%s/%s" % (OPERATOR, session.upper()), self.sessions[number])
+        bill = bill_of(self.sessions[number], number, "0.5000")
+        self.has_record(number, "%(country_code)s/%(party_id)s" % given, {**bill, **members})
+
+    def has_record(self, number, party, record):
+        """A charge detail record of a session stands, which was sent to that provider."""
+        if "credit" not in record:
+            self.bills[number] = (record, party)
+        self.stands("cdr", "%s/%s" % (OPERATOR, record["id"].upper()), stored_record(record))
 
     # What the operator sends, and the rows that it puts.
 
@@ -184,16 +227,20 @@ class Charging(Case):
     def completed(self, serial, request, updated, hours, ended=None, number=1, cdr=1, at_place=None):
         """The session of that number is complete, and its charge detail record, of the number `cdr`, is pushed and stored."""
         self.version(serial, request, number, updated, status="COMPLETED", end_date_time=moment(ended or updated))
-        last = self.sessions[number]
-        names = ["country_code", "party_id", "auth_method", "authorization_reference", "cdr_token", "currency", "start_date_time",
-                 "end_date_time", "total_cost", "last_updated"]
-        record = {name: last[name] for name in names if name in last}
-        period = {"dimensions": [{"type": "ENERGY", "volume": last["kwh"]}], "start_date_time": last["start_date_time"]}
-        record.update(
-            id=cdr_id(cdr), session_id=last["id"], charging_periods=[period], total_energy=last["kwh"],
-            cdr_location=at_place or place(last["evse_uid"], last["location_id"]), total_time=Decimal(hours),
-        )
+        record = bill_of(self.sessions[number], cdr, hours, at_place)
         self.put("count", "cdr", {"last": cdr})
-        self.put("cdr", "%s/%s" % (OPERATOR, record["id"].upper()), stored_record(record))
-        self.pushes_one(serial + 1, request + 1, "post_cdr", record, self.pushes[request][2])
+        self.bills[number] = (record, self.pushes[request][2])
+        self.posts(serial + 1, request + 1, *self.bills[number])
         return text(record)
+
+    def posts(self, serial, request, record, party):
+        """A charge detail record is stored and pushed."""
+        self.put("cdr", "%s/%s" % (OPERATOR, record["id"].upper()), stored_record(record))
+        self.pushes_one(serial, request, "post_cdr", record, party)
+
+    def credited(self, serial, request, updated="11:00:00", number=1):
+        """The bill of the session of that number is taken back: its credit is stored and pushed."""
+        bill, party = self.bills[number]
+        credit = credit_of(bill, updated)
+        self.posts(serial, request, credit, party)
+        return text(credit)

@@ -1,5 +1,5 @@
-"""The cases of `stored_cases` of a charge: that of the example `charge`, at each of its two nodes alone, which is made again of its
-rows behind each event; and nodes that are made of the rows of its stages.
+"""The cases of `stored_cases` of a charge whose bill is taken back: that of the example `credit_with_a_store`, at each of its two
+nodes alone, which is made again of its rows behind each event; and nodes that are made of the rows of its stages.
 
 The events and the packets are those of the example, and the kinds and keys of the rows those that `world_cases` tells; the texts
 of the rows are what the packets carry.
@@ -9,16 +9,17 @@ from decimal import Decimal
 
 from operator_case import moment, stored_record
 from stored_case import Operators, Providers, line, make, makes, puts, session, session_push, tell
-from world_cases import CHARGE, PACKETS, SETUP, STEPS
+from world_cases import CREDIT_STEPS, SETUP, STEPS, WHOLE, WHOLE_PACKETS
 
 REPLIES = ["ack", "command_response"]
 PUSHES = ["put_token", "put_session", "post_cdr", "command_result"]
 # The stages: behind so many events, by the node of the last of them.
 STAGES = {
     "BE/BEC": {"a token is known": 2, "the start is open": 5, "PENDING": 7, "PENDING, acknowledged": 11, "ACTIVE": 12,
-               "metered": 15, "COMPLETED, with its record": 18, "all acknowledged": 22},
+               "metered": 15, "COMPLETED, with its record": 18, "all acknowledged": 22, "the record is taken back": 25,
+               "the credit is acknowledged": 30},
     "NL/TNM": {"the token waits": 1, "the command waits": 4, "the command is answered": 6, "it has a result": 8,
-               "the record is held": 20},
+               "the record is held": 20, "the credit is held": 28},
 }
 
 
@@ -99,9 +100,9 @@ def nodes_of_charge():
 
 def steps_of_charge():
     """Of each event its node, its line there, the packet that comes if one does, those that are sent, and the rows that change."""
-    packets = iter(PACKETS)
+    packets = iter(WHOLE_PACKETS)
     by_serial = {}
-    for event_line, (number, changes) in zip(CHARGE, STEPS):
+    for event_line, (number, changes) in zip(WHOLE[1:], [*STEPS, *CREDIT_STEPS]):
         event = read(event_line)
         sent = [next(packets) for _ in range(number)]
         by_serial.update({(read(it)["from"], read(it)["serial"]): it for it in sent})

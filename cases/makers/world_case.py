@@ -5,12 +5,15 @@ Each event is told with the packets that it must send and the rows that it must 
 node counts its own packets and requests, and what is delivered is named by its sender and the number under which it was
 sent.
 """
+from collections import namedtuple
 from decimal import Decimal
 
 from operator_case import location, moment, own_id, reference, text, token, url
-from operator_charge_case import halves, named, place
+from operator_charge_case import credit_of, halves, named, place
 
 COUNTED = ["put count serial", "put count request"]
+# A charge detail record: the nodes, and how it is pushed, which is its serial, its request and the row that it puts.
+Record = namedtuple("Record", "provider operator body push")
 
 
 def own_evse(operator, given):
@@ -47,6 +50,8 @@ class World:
         self.setup = text({"nodes": told})
         self.spell = spell
         self.events = []
+        # How many of these were told.
+        self.told = 0
 
     def operators(self):
         return [it for it in self.nodes.values() if it.site]
@@ -144,8 +149,9 @@ class World:
         held = "put session %s/%s" % (operator.key, session["id"].upper())
         return packet, [*COUNTED, held, "put push %d" % request, *extra], (operator.serial, request, held)
 
-    def charge(self, party, at_party, stored, location_id, evse, hour, kwh, cost):
-        """A charge of half an hour by a token that was stored, from its order to its bill."""
+    def charge(self, party, at_party, stored, location_id, evse, hour, kwh, cost, bill_comes=True):
+        """A charge of half an hour by a token that was stored, from its order to its bill, which comes or does not.
+        Answers the bill."""
         provider, operator = self.nodes[party], self.nodes[at_party]
         clock = lambda rest: "%02d:%s" % (hour, rest)
         number, spent = self.started(provider, operator, stored, location_id, evse, clock("00:00"))
@@ -178,27 +184,58 @@ class World:
         stop = moment(clock("30:10"))
         session = {**session, "end_date_time": stop, "last_updated": stop, "status": "COMPLETED"}
         packet, rows, pushed = self.version(operator, provider, session)
-        bill, billed, row = self.bill(operator, provider, session)
-        rows += ["put count cdr", row, "put push %d" % billed[1]]
+        body = self.bill(operator, session)
+        bill, posted, billed = self.post(operator, provider, body)
+        rows += ["put count cdr", *posted]
         self.happens(operator, "stops", [packet, bill], rows, at=stop, evse_uid=evse)
-        self.take_all(provider, operator, clock("30:10"), [pushed, billed])
+        self.take_all(provider, operator, clock("30:10"), [pushed, billed] if bill_comes else [pushed])
+        return Record(provider, operator, body, billed)
 
-    def bill(self, operator, provider, session):
-        """The charge detail record of a completed session is pushed."""
+    def bill(self, operator, session):
+        """The bill of a completed session."""
         operator.cdr += 1
-        request, = operator.next_requests(1)
         start, energy = session["start_date_time"], session["kwh"]
         names = ["country_code", "party_id", "auth_method", "authorization_reference", "cdr_token", "currency",
                  "start_date_time", "end_date_time", "last_updated", "total_cost"]
-        body = {
+        return {
             **{name: session[name] for name in names},
             "cdr_location": own_evse(operator.party, place(session["evse_uid"], session["location_id"])),
             "charging_periods": [{"dimensions": [{"type": "ENERGY", "volume": energy}], "start_date_time": start}],
             "id": own_id(b"C", operator.cdr, operator.party), "session_id": session["id"], "total_energy": energy,
             "total_time": Decimal("0.5000"),
         }
+
+    def post(self, operator, provider, body):
+        """A charge detail record is stored and pushed. Answers its packet, these rows, and how it is pushed."""
+        request, = operator.next_requests(1)
+        packet = self.send(operator, provider, "post_cdr", body, request)
         row = "put cdr %s/%s" % (operator.key, body["id"].upper())
-        return self.send(operator, provider, "post_cdr", body, request), (operator.serial, request, row), row
+        return packet, [row, "put push %d" % request], (operator.serial, request, row)
+
+    def credit(self, bill, clock):
+        """A bill is taken back; its session is named in capitals. Answers the credit."""
+        provider, operator = bill.provider, bill.operator
+        body = credit_of(bill.body, clock)
+        packet, rows, pushed = self.post(operator, provider, body)
+        session = body["session_id"].upper()
+        self.happens(operator, "credit", [packet], [*COUNTED, *rows], at=moment(clock), session_id=session)
+        return Record(provider, operator, body, pushed)
+
+    def credit_none(self, party, session, clock):
+        """A credit is ordered where there is no bill to take back."""
+        self.happens(self.nodes[party], "credit", [], [], at=moment(clock), session_id=session)
+
+    def take(self, record, clock):
+        """A bill or a credit comes, is held and acknowledged. Answers what ends its push."""
+        serial, request, row = record.push
+        return self.acknowledge(record.provider, record.operator, serial, request, clock, row)
+
+    def take_again(self, record, first, clock):
+        """It comes once more, and gets the acknowledgement that it got first."""
+        serial, request, _ = record.push
+        body = {"status_code": 1000, "timestamp": moment(first)}
+        ack = self.send(record.provider, record.operator, "ack", body, request)
+        self.deliver(record.provider, record.operator, serial, clock, [ack], ["put count serial"])
 
     def report(self, operator, provider, event, clock, session, **members):
         """A report makes a version of a session."""

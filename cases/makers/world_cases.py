@@ -1,8 +1,8 @@
 """The part `worlds` of the cases of the program `case_lines`: events in worlds of nodes, and what is then asked of them.
 
 What each line must give is told behind it by hand: of an event the rows that it changes, by their kinds and keys, and how many
-packets it sends. The events of a charge are those of the example `charge`, and the packets that they send are the next ones of
-that example.
+packets it sends. The events of a charge are those of the example `charge`, and those by which its bill is taken back are the
+further ones of `credit_with_a_store`; the packets that they send are the next ones of these examples.
 """
 import pathlib
 
@@ -10,8 +10,19 @@ from operator_case import moment, own_id, reference, text, token
 from world_case import World, site
 
 EXAMPLES = pathlib.Path(__file__).resolve().parents[2] / "examples"
-SETUP, *CHARGE = EXAMPLES.joinpath("charge.jsonl").read_text(encoding="utf-8").splitlines()
-PACKETS = [line for line in EXAMPLES.joinpath("charge.out").read_text(encoding="utf-8").splitlines() if line.startswith("{")]
+
+
+def example(name):
+    """The input lines of an example, and the packets that its output has."""
+    texts = [EXAMPLES.joinpath(f"{name}.{end}").read_text(encoding="utf-8") for end in ("jsonl", "out")]
+    given, gives = (text.splitlines() for text in texts)
+    return given, [line for line in gives if line.startswith("{")]
+
+
+(SETUP, *CHARGE), PACKETS = example("charge")
+WHOLE, WHOLE_PACKETS = example("credit_with_a_store")
+CREDIT, CREDIT_PACKETS = WHOLE[len(CHARGE) + 1 :], WHOLE_PACKETS[len(PACKETS) :]
+assert WHOLE == [SETUP, *CHARGE, *CREDIT] and WHOLE_PACKETS == [*PACKETS, *CREDIT_PACKETS]
 SESSION = own_id(b"S", 1, "BE/BEC")
 BILL = own_id(b"C", 1, "BE/BEC")
 PENDING = "PENDING 0.0000 2025-01-01T10:00:05Z"
@@ -56,6 +67,25 @@ STEPS = [
     (0, []),
     (0, []),
 ]
+# Of each event by which the bill is taken back, behind the charge, the same.
+CREDIT_ROW = "put cdr BE/BEC/" + BILL.upper() + "-C"
+CREDIT_STEPS = [
+    # The credit is made and pushed; ordered again it is not, and no other session has a bill.
+    (1, [*COUNTED, CREDIT_ROW, "put push 7"]),
+    (0, []),
+    (0, []),
+    # It comes twice, and so does its acknowledgement.
+    (1, ["put count serial", "put reply BE/BEC/7", CREDIT_ROW]),
+    (1, ["put count serial"]),
+    (0, ["drop push 7"]),
+    (0, []),
+    # Ordered once more it is not made; nothing is due.
+    (0, []),
+    (0, []),
+    (0, []),
+]
+# The credit came, so that nothing is owed, behind so many of these.
+CREDITED_AFTER = 4
 # Behind so many events of the charge its session has one version more, and behind so many it is owed.
 VERSIONS_AFTER = [7, 12, 15, 18]
 OWED_AFTER = 20
@@ -98,6 +128,15 @@ def charge(last=len(CHARGE)):
         owed(30864 if OWED_AFTER <= count else 0)
 
 
+def taken_back():
+    """The bill of the charge is taken back: what was owed is taken off, once. The session keeps its past."""
+    packets = iter(CREDIT_PACKETS)
+    for count, (given, (number, rows)) in enumerate(zip(CREDIT, CREDIT_STEPS), 1):
+        line(given, *told("stepped", [next(packets) for _ in range(number)], rows))
+        past(PAST)
+        owed(0 if CREDITED_AFTER <= count else 30864)
+
+
 def nobody_has_a_past():
     """Of whom or of what there is nothing."""
     past([], session=own_id(b"S", 2, "BE/BEC"))
@@ -123,6 +162,7 @@ def events_of_no_node():
         ("skipped", {"event": "tick", "node": "FR/FRC", "at": at}),
         # The role of that node has no such event.
         ("skipped", {"event": "token", "node": "BE/BEC", "at": at, "token": token()}),
+        ("skipped", {"event": "credit", "node": "NL/TNM", "at": at, "session_id": SESSION}),
         ("skipped", {"event": "starts", "node": "NL/TNM", "at": at, "evse_uid": "E1"}),
         ("skipped", {"event": "service", "node": "NL/TNM", "evse_uid": "E1", "in_service": False}),
         # That packet was not sent, was sent to another node, or is of no node.
@@ -133,7 +173,8 @@ def events_of_no_node():
         # The node refuses it.
         ("refused 5 UnknownOperator", {"event": "submit", "node": "NL/TNM", "at": at, "operator": "FR/FRC",
                                        "order": "stop_session", "session_id": SESSION}),
-        # Its storing was refused; nothing is due; the node starts again.
+        # There is no bill to take back; its storing was refused; nothing is due; the node starts again.
+        ("stepped", {"event": "credit", "node": "BE/BEC", "at": at, "session_id": SESSION[:-1]}),
         ("stepped", {"event": "refused", "node": "NL/TNM"}),
         ("stepped", {"event": "tick", "node": "BE/BEC", "at": at}),
         ("stepped", {"event": "restart", "node": "BE/BEC"}),
@@ -166,15 +207,37 @@ def starts_again():
     owed(30864)
 
 
+def credits_start_again():
+    """The whole charge, and its bill is taken back, where both nodes start again behind each event; and at once."""
+    opened()
+    packets = iter(WHOLE_PACKETS)
+    for given, (number, rows) in zip([*CHARGE, *CREDIT], [*STEPS, *CREDIT_STEPS]):
+        line(given, *told("stepped", [next(packets) for _ in range(number)], rows))
+        for node in ("NL/TNM", "BE/BEC"):
+            event("stepped", event="restart", node=node)
+    for at_once in (False, True):
+        if at_once:
+            line("run")
+        past(PAST)
+        owed(0)
+
+
 def play(world):
     """Opens a world, and lets its events happen."""
     opened(world.setup)
-    for given, packets, rows in world.events:
+    go_on(world)
+
+
+def go_on(world):
+    """Lets the events of a world happen that were not told yet."""
+    for given, packets, rows in world.events[world.told :]:
         line(given, *told("stepped", packets, rows))
+    world.told = len(world.events)
 
 
 BELGIAN = ("BE/BEC", site("BE/BEC", "EUR", 0.25, LOC1=["E1", "E2"]))
 FRENCH = ("FR/FRC", site("FR/FRC", "CHF", 0.3, LOC9=["F1"]))
+NORWEGIAN = ("NO/ONO", site("NO/ONO", "NOK", 0.3, LOC9=["F1"]))
 DUTCH, GERMAN = ("NL/TNM", None), ("DE/EMP", None)
 
 
@@ -220,6 +283,52 @@ def served(world, stored, hour):
     world.started(dutch, belgian, stored, "LOC1", "E2", "%d:00:10" % hour)
 
 
+def credits_at_two_operators():
+    """Bills are taken back, and one credit comes before its bill: each counts once, at its operator alone. Parties are
+    spelled in another case, and so are sessions (whose ids have letters at one of the operators)."""
+    world = World(NORWEGIAN, DUTCH, BELGIAN, GERMAN, spell=str.lower)
+    dutch = world.token("NL/TNM", "AA01", "09:00:00")
+    german = world.token("DE/EMP", "DD01", "09:00:01")
+    first = world.charge("NL/TNM", "NO/ONO", dutch, "LOC9", "F1", 10, "12.3456", "3.7036", bill_comes=False)
+    second = world.charge("DE/EMP", "BE/BEC", german, "LOC1", "E1", 11, "10.0000", "2.5000")
+    third = world.charge("NL/TNM", "BE/BEC", dutch, "LOC1", "E1", 12, "0.0005", "0.0001")
+    debts = {("NL/TNM", "NO/ONO", "NOK"): 0, ("NL/TNM", "BE/BEC", "EUR"): 1, ("DE/EMP", "BE/BEC", "EUR"): 25000,
+             ("DE/EMP", "NO/ONO", "NOK"): 0}
+    opened(world.setup)
+
+    def owing(*key, amount=0):
+        go_on(world)
+        if key:
+            debts[key] = amount
+        for (provider, operator, currency), it in debts.items():
+            owed(it, provider, operator, currency)
+
+    owing()
+    world.credit_none("BE/BEC", own_id(b"S", 3, "BE/BEC"), "12:59:59")
+    world.credit_none("BE/BEC", first.body["session_id"], "12:59:59")
+    back = world.credit(first, "13:00:00")
+    world.credit_none("NO/ONO", first.body["session_id"], "13:00:00")
+    owing()
+    end = world.take(back, "13:00:01")
+    owing("NL/TNM", "NO/ONO", "NOK", amount=-37036)
+    world.take_again(back, "13:00:01", "13:00:02")
+    owing()
+    world.take(first, "13:00:03")
+    owing("NL/TNM", "NO/ONO", "NOK")
+    world.take_again(first, "13:00:03", "13:00:04")
+    world.take_again(back, "13:00:01", "13:00:04")
+    end()
+    world.credit_none("NO/ONO", first.body["session_id"].upper(), "13:00:05")
+    owing()
+    small, large = world.credit(third, "13:00:06"), world.credit(second, "13:00:06")
+    world.take(large, "13:00:07")()
+    owing("DE/EMP", "BE/BEC", "EUR")
+    world.take(small, "13:00:07")()
+    owing("NL/TNM", "BE/BEC", "EUR")
+    line("run")
+    owing()
+
+
 def other_spellings():
     """Nothing is other where events spell their parties in another case: packets and rows are as the setup has them."""
     play(charges_at_two_operators(spell=str.lower))
@@ -248,7 +357,13 @@ def add_worlds():
     owed(30864)
     nobody_has_a_past()
     # It goes on from there.
-    goes_on(22)
+    goes_on(24)
+    opened()
+    charge()
+    taken_back()
+    line("run")
+    past(PAST)
+    owed(0)
     # Up to a step that sends a packet and changes rows; no event at all.
     opened()
     charge(OWED_AFTER)
@@ -262,7 +377,9 @@ def add_worlds():
     past([])
     owed(0)
     starts_again()
+    credits_start_again()
     two_operators()
+    credits_at_two_operators()
     service_of_an_evse()
     other_spellings()
 

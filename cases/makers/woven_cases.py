@@ -6,6 +6,7 @@ by round. Beside the charge stand histories that are no run: a packet came that 
 nodes of which each waits for what the other sends later.
 """
 import json
+from itertools import takewhile
 
 from kept_cases import PARTIES, SETUP, delivery, events_of
 from operator_case import moment, text
@@ -31,7 +32,8 @@ def told(given):
     word = event["event"]
     if word == "deliver":
         return "%s deliver %s %d" % (event["node"], event["packet"]["from"], event["packet"]["serial"])
-    return "%s %s" % (event["node"], word if word in ("submit", "token", "service", "tick", "restart", "refused") else "charger")
+    own = ("submit", "token", "service", "credit", "tick", "restart", "refused")
+    return "%s %s" % (event["node"], word if word in own else "charger")
 
 
 def woven(parties, entries):
@@ -104,19 +106,28 @@ def differs():
     line("weave", "2 Differs(NL/TNM 1)")
 
 
-def differs_in_a_credit():
-    """NL/TNM got the bill of the charge as a credit, and nothing else differs."""
+def differs_in_a_record(said, other, end="12:00:00"):
+    """NL/TNM got a charge detail record that says something other at one place, and nothing else differs up to that
+    moment."""
     opened(*PARTIES)
-    said, serials = '"country_code":"BE","currency"', set()
+    serials = set()
     for party in PARTIES:
-        for given, gives, _ in events_of(party):
-            if party == "NL/TNM" and '"kind":"post_cdr"' in given:
+        for given, gives, _ in takewhile(lambda it: json.loads(it[0])["at"] < moment(end), events_of(party)):
+            if party == "NL/TNM" and '"kind":"post_cdr"' in given and said in given:
                 assert given.count(said) == 1
-                given = given.replace(said, '"country_code":"BE","credit":true,"credit_reference_id":"C1","currency"')
+                given = given.replace(said, other)
                 serials.add(json.loads(given)["packet"]["serial"])
             line(given, *gives[:-1])
     (serial,) = serials
     line("weave", "2 Differs(BE/BEC %d)" % serial)
+
+
+def differs_in_credits():
+    """A bill came as a credit; a credit came as one of another bill, or of another cost."""
+    bill, credit = '"country_code":"BE","currency"', '"credit_reference_id":"43424542-4543-0000-0000-000000000001"'
+    differs_in_a_record(bill, '"country_code":"BE","credit":true,"credit_reference_id":"C1","currency"', "11:00:00")
+    differs_in_a_record(credit, '"credit_reference_id":"C1"')
+    differs_in_a_record('"excl_vat":-3.0864', '"excl_vat":-3.0865')
 
 
 def no_order():
@@ -137,7 +148,7 @@ def cases():
     never_sent()
     without_its_sender()
     differs()
-    differs_in_a_credit()
+    differs_in_credits()
     no_order()
     return LINES, WANTED
 

@@ -10,11 +10,11 @@ use Rattle.operator_rows.specs.State.{State}
 use Rattle.operator_rows.specs.Sound.{IsConsistent}
 use Rattle.operator_rows.specs.Steps.{restarted}
 use Rattle.operator_steps.specs.Events as events
-use Rattle.operator_steps.specs.Events.{Arrives, Asks, Event, Input, Reports, Restarts, Serves, Ticks, event_out}
+use Rattle.operator_steps.specs.Events.{Arrives, Asks, Credits, Event, Input, Reports, Restarts, Serves, Ticks, event_out}
 use Rattle.operator_steps.specs.Moves.{AreInRange, Out, StepBy, Work, acted}
 use Rattle.operator_laws.proofs.events.Standing.{consistent_stays}
 use Rattle.world_steps.specs.Steps.{Done, OperatorDoes, OperatorRefuses, Restarted}
-use Rattle.feeding_laws.proofs.OperatorFeeding.{IsSafe, packet_safe, report_silent, safe_same, service_safe, unchanged}
+use Rattle.feeding_laws.proofs.OperatorFeeding.{IsSafe, credit_silent, packet_safe, report_silent, safe_same, service_safe, unchanged}
 use Rattle.feeding_laws.proofs.OperatorTicks.{tick_safe}
 use Rattle.feeding_laws.proofs.Sending.{silent}
 
@@ -26,6 +26,8 @@ asked_safe s (Serves evse in_service) work fine whole (acts, line, is) range non
     (service_safe s evse in_service acts (subst (λ (w : Work). AreInRange s w.acts) is range) line)
 asked_safe s (Reports at report) work fine whole line range none =
     safe_same (restarted s) (restarted (acted s work).state) (Reports at report) (unchanged s work (report_silent s at report work line none))
+asked_safe s (Credits at session) work fine whole asks range none =
+    safe_same (restarted s) (restarted (acted s work).state) (Credits at session) (unchanged s work (credit_silent s at session work asks none))
 asked_safe s (Ticks at) work fine whole line range none = tick_safe s at work fine line none whole
 asked_safe s Restarts work fine whole line range none = absurd line
 
@@ -112,6 +114,7 @@ module _ (s : State) where
   asked_refused (Arrives at q) work safe line none fault h = packet_refused (acted s work).state at q refl refl safe fault h
   asked_refused (Serves evse in_service) work safe line none fault h = absurd h
   asked_refused (Reports at report) work safe line none fault h = subst (λ (z : State). OperatorRefuses z (Reports at report) fault) (unchanged s work (report_silent s at report work line none)) h
+  asked_refused (Credits at session) work safe line none fault h = subst (λ (z : State). OperatorRefuses z (Credits at session) fault) (unchanged s work (credit_silent s at session work line none)) h
   asked_refused (Ticks at) work safe line none fault h = tick_refused (acted s work).state at safe fault h
   asked_refused Restarts work safe line none fault h = absurd line
 

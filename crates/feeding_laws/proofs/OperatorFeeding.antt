@@ -36,9 +36,11 @@ use Rattle.operator_steps.specs.Acts.{spent, used}
 use Rattle.operator_steps.specs.Asking.{AnswerActs}
 use Rattle.operator_steps.specs.Charger as charger
 use Rattle.operator_steps.specs.Charger.{ChargerLine}
+use Rattle.operator_steps.specs.Credits as credits
+use Rattle.operator_steps.specs.Credits.{CreditLine}
 use Rattle.operator_steps.specs.Ends.{ends_acts}
 use Rattle.operator_steps.specs.Events.{Arrives, Asks, Input, Serves}
-use Rattle.operator_steps.specs.Moves.{AreInRange, Work, acted, counters_of, quiet, step_of_acts}
+use Rattle.operator_steps.specs.Moves.{AreInRange, Quietly, Work, acted, counters_of, quiet, step_of_acts}
 use Rattle.operator_steps.specs.Service as service
 use Rattle.operator_steps.specs.Service.{ServiceLine}
 use Rattle.operator_steps.specs.Sessions.{IsBegun, IsVersioned, numbered_sessions, replaced}
@@ -151,7 +153,7 @@ module _ (s : State) (evse : List ℕ) (in_service : Bool) where
       subst (λ (l : List Act). IsSafe (restarted s) (restarted (acted s (quiet l)).state) (Serves evse in_service)) (sym is)
       (serves (Drop (keys.Service evse)) refl (restored s.rows.out_of_service evse ∙ sym back) (subst (AreInRange s) is range) (service.Restored here back worked refl))
 
--- ---- what a charge point reports
+-- ---- what a charge point reports, and what is taken back
 
 module _ (s : State) (at : ℕ) where
   version_sends : (last : ℕ) (v : Session) (acts : List Act) → IsVersioned s at last v acts → Send acts
@@ -175,6 +177,16 @@ module _ (s : State) (at : ℕ) where
       not_silent work.acts (subst (λ (w : Work). Send w.acts) (sym is) (send_right (numbered_sessions (s.rows.charged.last_session + 1) ∷ []) begun (begun_sends s.rows.request (s.rows.charged.last_session + 1) b begun begins))) none
   report_silent report work (charger.Asked t location place shows asked) none = not_silent work.acts (subst (λ (w : Work). Send w.acts) (sym asked.work_is) (send_first _ _ _ _ refl)) none
   report_silent report work (charger.Idle ends starts moves shows is) none = ap (λ (w : Work). w.acts) is
+
+  -- and a credit does where there is a bill to take back
+  credit_acts_silent : (session : List ℕ) (acts : List Act) → CreditLine s at session acts → all_messages acts ≡ [] → acts ≡ []
+  credit_acts_silent session acts (credits.Credited bill to takes earlier is) none = not_silent acts (subst Send (sym is) (send_first _ _ _ _ refl)) none
+  credit_acts_silent session acts (credits.NothingToCredit nothing is) none = is
+
+  pub credit_silent : (session : List ℕ) (work : Work) → Quietly (CreditLine s at session) work → all_messages work.acts ≡ [] → work.acts ≡ []
+  credit_silent session work (acts, line, is) none =
+      let acts_are : work.acts ≡ acts = ap (λ (w : Work). w.acts) is in
+      acts_are ∙ credit_acts_silent session acts line (ap all_messages (sym acts_are) ∙ none)
 
 -- ---- packets
 

@@ -11,7 +11,7 @@ use Rattle.ocpi_types.specs.declared.cdrs.Cdr.{Cdr}
 use Rattle.ocpi_types.specs.declared.rows.Row.TheVariants as row
 use Rattle.ocpi_types.specs.declared.rows.RowKey.TheVariants as keys
 use Rattle.handover.specs.Cdrs.{Cdrs, CdrRooms, AreOwnCdrs, HasOther, HasOnePerSession, cdr_key, group_of}
-use Rattle.handover.specs.Inbox.{Sessions, AreOwnSessions, KeepsRoom, KeepsOtherRoom, IsInConflict, session_key}
+use Rattle.handover.specs.Inbox.{Sessions, AreOwnSessions, KeepsRoom, KeepsOtherRoom, IsInConflict, IsNewBeside, BillsStandBesideCredits, session_key}
 use Rattle.handover.specs.declared.takings.CdrTaking.{CdrTaking}
 use Rattle.handover.specs.declared.takings.CdrTaking.TheVariants.{Taken, Kept, Conflict}
 use Rattle.handover.proofs.Keeping.{Texts}
@@ -80,6 +80,13 @@ pub no_conflict : (m : Cdrs) (x : Cdr) → (HasOther m (group_of x) (key x.id) �
 no_conflict m x none same c = elim (told text_total text_exact c.id (key x.id)) [
   | inl is ↦ c.differs (same c.held (ap (λ (i : List ℕ). get m (key x.party, i)) (sym is) ∙ c.stands))
   | inr apart ↦ elim c.shares [ inl is ↦ apart is | inr session ↦ none (c.id, (c.held, c.stands, session.0, session.1), apart) ]
+]
+
+-- nor is a bill beside a credit of its session, or a credit beside a bill
+pub bills_stand_beside_credits : BillsStandBesideCredits
+bills_stand_beside_credits m x given c = elim c.shares [
+  | inl is ↦ not_both c.held _ given.new (ap (λ (i : List ℕ). get m (key x.party, i)) (sym is) ∙ c.stands)
+  | inr session ↦ given.beside c.id c.held c.stands session.0 session.1
 ]
 
 -- one record for each session, also with one more that is in no conflict

@@ -3,7 +3,7 @@ use Rattle.std.specs.Prelude.{◌≡◌, ◌≢◌, ◌⊎◌, ◌<◌, ℕ, Lis
 use Rattle.std.specs.FinMap.{FinMap, get, insert, remove, contains_key, empty}
 use Rattle.ocpi_text.specs.Text.{key}
 use Rattle.tables.specs.Keys.{text_pair_cmp}
-use Rattle.ocpi_types.specs.Credits.{AreAlike}
+use Rattle.ocpi_types.specs.Credits.{AreAlike, is_credit}
 use Rattle.ocpi_types.specs.declared.cdrs.Cdr.{Cdr}
 use Rattle.ocpi_types.specs.declared.sessions.Session.{Session}
 use Rattle.ocpi_types.specs.declared.words.SessionStatus.{SessionStatus}
@@ -45,6 +45,15 @@ pub record IsInConflict (m : Cdrs) (x : Cdr) : Type 0 where
   pub stands : get m (key x.party, id) ≡ Some held
   pub shares : (id ≡ key x.id) ⊎ ((key held.session_id ≡ key x.session_id) × AreAlike held x)
   pub differs : held ≢ x
+
+-- no record of that operator and id is held, nor of its session any but credits beside a bill, or bills beside a credit
+pub record IsNewBeside (m : Cdrs) (x : Cdr) : Type 0 where
+  pub new : get m (cdr_key x) ≡ None
+  pub beside : (id : List ℕ) (y : Cdr) → get m (key x.party, id) ≡ Some y → key y.session_id ≡ key x.session_id → is_credit y ≢ is_credit x
+
+-- a bill and a credit of one session, of different ids, are no conflict, in either order
+abbrev pub BillsStandBesideCredits : Type 0
+BillsStandBesideCredits = (m : Cdrs) (x : Cdr) → IsNewBeside m x → ¬ IsInConflict m x
 
 pub record InboxRows : Type 0 where
   pub sessions : Sessions

@@ -1,6 +1,6 @@
--- What is owed to an operator: the sum of the costs of its charge detail records in a currency, of bills and of credits.
--- Costs may be negative, as those of credits are. A credit may be held before the bill that it takes back, so what is owed
--- may be negative.
+-- What is owed to an operator: the sum of the costs of its charge detail records in a currency, of bills and of
+-- credits. Costs may be negative, as those of credits are. A credit may be held before the bill that it takes back, so
+-- what is owed may be negative.
 use Rattle.std.specs.List.{list_any}
 use Rattle.std.specs.Prelude.{◌≡◌, Some, None, ℕ, ℤ, pos, ◌+ℤ◌, List, [], ◌∷◌, map, Bool, cond}
 use Rattle.std.specs.Ordering.{eq_by_cmp}

@@ -70,7 +70,11 @@ impl Model for CdrBook {
       };
     } };
 
-    ghost invariant = { λ b. IsKept (shown_of text_pair_cmp b.cdrs) (shown_of session_cmp b.sessions) (shown_of text_pair_cmp b.sums) (rooms_of text_pair_cmp b.sums) };
+    ghost invariant = { λ b. IsKept
+        (shown_of text_pair_cmp b.cdrs)
+        (shown_of session_cmp b.sessions)
+        (shown_of text_pair_cmp b.sums)
+        (rooms_of text_pair_cmp b.sums) };
 }
 
 /// The operator and the session of a record, and whether it is a credit.

@@ -10,6 +10,7 @@ ghost use Rattle.handover.specs.Inbox.{
   IsFinal,
   IsNews,
   IsInConflict,
+  IsNewBeside,
   HasRoomOf,
   KeepsRoom,
   KeepsOtherRoom,
@@ -254,6 +255,7 @@ impl Inbox {
 
     /// Takes a charge detail record that a sender hands over to the party `own`, where `cdr_taking` says so. Refused
     /// are what it refuses (`WrongParty`), and want of memory for one that is to be taken and has no room (`Memory`).
+    /// A bill is taken where no record of its id and of its session none but a credit is held, and a credit likewise.
     /// Where no session of an operator has two bills or two credits that are held, it stays so: no session is billed
     /// twice, and none is credited twice.
     pub fn take_cdr(
@@ -265,6 +267,7 @@ impl Inbox {
         ensures ok { OnOk result (IsOfParties own.now sender.now cdr.cdr_token.party cdr.party) }
         ensures conflict { IfOk result (λ t. (t ≡ cdr_taking.Conflict) ↔ IsInConflict self.old.rows.cdrs cdr) }
         ensures kept { IfOk result (λ t. (t ≡ cdr_taking.Kept) ↔ ((map.get self.old.rows.cdrs (cdr_key cdr) ≡ Some cdr) × (IsInConflict self.old.rows.cdrs cdr → ⊥))) }
+        ensures beside { IfOk result (λ t. IsNewBeside self.old.rows.cdrs cdr → t ≡ cdr_taking.Taken) }
         ensures rows { IfOk result (λ t. self.new.rows ≡ with_cdr t cdr self.old.rows) }
         ensures once { HasOnePerSession self.old.rows.cdrs → HasOnePerSession self.new.rows.cdrs }
         ensures keeps { KeepsRoom self.old.rooms self.new.rooms }

@@ -52,6 +52,7 @@ kind_of (event.Submit at to order) = kind.Submit at to order
 kind_of (event.Token at token) = kind.Token at token
 kind_of (event.Service evse_uid in_service) = kind.Service evse_uid in_service
 kind_of (event.Charger at report) = kind.Charger at report
+kind_of (event.Credit at session_id) = kind.Credit at session_id
 kind_of (event.Deliver at packet) = kind.Deliver at packet.from packet.serial
 kind_of (event.Tick at) = kind.Tick at
 kind_of event.Restart = kind.Restart

@@ -128,6 +128,10 @@ pub fn input_of(kind: &NodeEventKind) -> Option<NodeInput<'_>>
             in_service: *in_service,
         }),
         NodeEventKind::Charger { at, event } => Some(NodeInput::Charger { at: *at, event }),
+        NodeEventKind::Credit { at, session_id } => Some(NodeInput::Credit {
+            at: *at,
+            session_id: session_id.key(),
+        }),
         NodeEventKind::Deliver { at, packet } => Some(NodeInput::Arrives { at: *at, packet }),
         NodeEventKind::Tick { at } => Some(NodeInput::Tick { at: *at }),
         NodeEventKind::Restart => Some(NodeInput::Restart),

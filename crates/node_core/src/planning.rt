@@ -50,6 +50,9 @@ fn plan_operator(operator: &Operator, input: &NodeInput<'_>) -> Result<Planned, 
             Ok(Planned::Acts(NodeWork::Operator(plan)))
         }
         NodeInput::Charger { at, event } => of_operator(operator.plan_charger(*at, *event)),
+        NodeInput::Credit { at, session_id } => {
+            of_operator(operator.plan_credit(*at, *session_id))
+        }
         NodeInput::Arrives { at, packet } => of_operator(operator.plan_packet(*at, *packet)),
         NodeInput::Tick { at } => of_operator(operator.plan_tick(*at)),
         NodeInput::Restart => Ok(Planned::Acts(NodeWork::Restart)),
@@ -67,7 +70,9 @@ fn plan_provider(provider: &Provider, input: &NodeInput<'_>) -> Result<Planned, 
             order,
         } => of_provider(provider.plan_order(*at, *operator, *order)),
         NodeInput::Token { at, token } => of_provider(provider.plan_token(*at, *token)),
-        NodeInput::Service { .. } | NodeInput::Charger { .. } => Ok(Planned::Skipped),
+        NodeInput::Service { .. } | NodeInput::Charger { .. } | NodeInput::Credit { .. } => {
+            Ok(Planned::Skipped)
+        }
         NodeInput::Arrives { at, packet } => of_provider(provider.plan_packet(*at, *packet)),
         NodeInput::Tick { at } => of_provider(provider.plan_tick(*at)),
         NodeInput::Restart => Ok(Planned::Acts(NodeWork::Restart)),

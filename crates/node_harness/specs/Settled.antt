@@ -16,6 +16,7 @@ is_own (event.Submit at to order) = true
 is_own (event.Token at token) = true
 is_own (event.Service evse_uid in_service) = true
 is_own (event.Charger at report) = true
+is_own (event.Credit at session_id) = true
 is_own (event.Deliver at packet) = false
 is_own (event.Tick at) = true
 is_own event.Restart = true

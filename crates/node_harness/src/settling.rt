@@ -31,6 +31,7 @@ fn is_own(event: &NodeEventKind) -> bool
         | NodeEventKind::Token { .. }
         | NodeEventKind::Service { .. }
         | NodeEventKind::Charger { .. }
+        | NodeEventKind::Credit { .. }
         | NodeEventKind::Tick { .. }
         | NodeEventKind::Restart
         | NodeEventKind::Refused => true,

@@ -1,6 +1,6 @@
 //! Keepers in files: those of new nodes, and the rows of one that stands.
 
-ghost use Rattle.std.specs.Prelude.{◌≡◌, [], IfErr, IfOk, IfSome, None, string_bytes, ⊤};
+ghost use Rattle.std.specs.Prelude.{◌≡◌, [], Err, IfErr, IfOk, IfSome, None, string_bytes, ⊤};
 ghost use Rattle.node_store.specs.Faults.{IsCommitFault};
 ghost use Rattle.node_store.specs.Contents.{Content};
 ghost use Rattle.row_table.specs.Kept.{IsClean, MayLeave, texts};
@@ -10,7 +10,7 @@ use crate::keeps::Keeps;
 use node_store::{Cause, Keep, StoreFault, TableKeep};
 use ocpi_types::Row;
 use row_table::Past;
-use sqlite::{File, FileStore};
+use sqlite::{File, FileStore, Unknown};
 use std::alloc::AllocError;
 use std::fs::{self, OpenOptions};
 use std::io::{self, ErrorKind};
@@ -226,6 +226,7 @@ fn without_log<K: Keep + Drop>(
 ) -> Result<K, StoreFault>
     ensures settled { IfOk opened (λ k. K.is_honest k → (c : Content) → K.may_leave k c → c ≡ K.content k)
         → IfOk result (λ k. K.is_honest k → (c : Content) → K.may_leave k c → c ≡ K.content k) }
+    ensures fault { IfErr opened (λ e. result ≡ Err e) }
 {
     if opened.is_err() && !had_log {
         remove_empty_log(rt, path);
@@ -233,12 +234,22 @@ fn without_log<K: Keep + Drop>(
     opened
 }
 
+/// Opens the file at a path as a database. Where that is refused, the connection goes, and the files with it.
+fn open_database(rt: &HostRuntime, path: &str) -> Result<TableKeep<FileStore<File>>, StoreFault>
+    ensures { IfOk result (λ k. IsClean over_files k.0 → (c : Content) → MayLeave over_files k.0 c → c ≡ texts over_files k.0) }
+{
+    match TableKeep::open_file_from(rt, path, Unknown) {
+        Ok(keep) => Ok(keep),
+        Err((fault, _connection)) => Err(fault),
+    }
+}
+
 /// Opens the file at a path, which stands. A refusal leaves no file beside it that was not there before.
 fn open_file(rt: &HostRuntime, path: &str) -> Result<TableKeep<FileStore<File>>, StoreFault>
     ensures { IfOk result (λ k. IsClean over_files k.0 → (c : Content) → MayLeave over_files k.0 c → c ≡ texts over_files k.0) }
 {
     let had_log = has_log(rt, path);
-    without_log(rt, path, had_log, TableKeep::open_file(rt, path))
+    without_log(rt, path, had_log, open_database(rt, path))
 }
 
 /// Refuses a name that is none of a folder, the empty one too.

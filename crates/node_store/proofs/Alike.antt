@@ -1,57 +1,30 @@
--- A row that is no charge detail record is read alike in both layouts.
-use Rattle.std.proofs.Common.{◌≡◌, ℕ, Bool, true, false, List, Ok, Err, if◌then◌else◌, sym, ap}
-use Rattle.std.specs.Str.{bytes_eq}
-use Rattle.serde_json.specs.Data.{Data}
+-- A row that is no charge detail record is of another kind, so it is read alike in both layouts.
+use Rattle.std.proofs.Common.{◌≡◌, false, List, ℕ, Ok, sym, ap, ◌∙◌}
+use Rattle.std.specs.Prelude.{◌≢◌}
 use Rattle.ocpi_types.specs.Rows.{key_of}
-use Rattle.ocpi_types.specs.declared.cdrs.Cdr.{Cdr}
-use Rattle.ocpi_types.specs.declared.field.Field.TheVariants as field
 use Rattle.ocpi_types.specs.declared.rows.Row.{Row}
 use Rattle.ocpi_types.specs.declared.rows.Row.TheVariants as row
-use Rattle.json_text.specs.declared.fault.JsonFault.TheVariants.{WrongForm}
-use Rattle.json_text.specs.Fault.{Read, ◌>>=◌}
-use Rattle.json_text.specs.Fields.{as_record, known}
-use Rattle.json_text.specs.Texts.{text_tree}
-use Rattle.ocpi_json.specs.RowForms.{cdr_of_row_at, cdr_row_at, own_key, row_at, row_in, row_in_1, row_laid_out, row_of_text}
-use Rattle.ocpi_json.specs.RowKeys.{key_text, row_kind_of}
-use Rattle.ocpi_json.specs.declared.row_kinds.RowKind.{RowKind}
+use Rattle.ocpi_json.specs.RowForms.{row_in, row_in_1}
+use Rattle.ocpi_json.specs.RowKeys.{kind_of_key, row_kind_word}
 use Rattle.ocpi_json.specs.declared.row_kinds.RowKind.TheVariants as kind
-use Rattle.ocpi_json.specs.declared.rows.RowLayout.TheVariants as layout
+use Rattle.ocpi_json.proofs.Layouts.{others_are_alike}
+use Rattle.node_store.specs.Contents.{RowPlace, place_of}
 use Rattle.node_store.specs.Moved.{is_cdr}
 
-went_on : {X : Type 0} (read : Read X) (f g : X → Read Row) (r : Row) → ((x : X) → f x ≡ Ok r → g x ≡ Ok r) → (read >>= f) ≡ Ok r → (read >>= g) ≡ Ok r
-went_on (Ok x) f g r same e = same x e
-went_on (Err fault) f g r same e = absurd (let h = e in cc)
+other_kind : (r : Row) → is_cdr r ≡ false → row_kind_word (kind_of_key (key_of r)) ≢ row_kind_word kind.Cdr
+other_kind (row.Count counter last) other is = absurd (let e = is in cc)
+other_kind (row.Reply sender number reply) other is = absurd (let e = is in cc)
+other_kind (row.Token t) other is = absurd (let e = is in cc)
+other_kind (row.Push number to push) other is = absurd (let e = is in cc)
+other_kind (row.Service evse_uid) other is = absurd (let e = is in cc)
+other_kind (row.Spent provider reference) other is = absurd (let e = is in cc)
+other_kind (row.Mark provider reservation_id number) other is = absurd (let e = is in cc)
+other_kind (row.Reservation provider reservation_id r) other is = absurd (let e = is in cc)
+other_kind (row.Pending provider number open_command) other is = absurd (let e = is in cc)
+other_kind (row.Result provider number result) other is = absurd (let e = is in cc)
+other_kind (row.Session s) other is = absurd (let e = is in cc)
+other_kind (row.Cdr c) other is = absurd (let e = other in cc)
+other_kind (row.Command number command) other is = absurd (let e = is in cc)
 
-abbrev reads_cdr : Read Row → Bool
-reads_cdr (Ok r) = is_cdr r
-reads_cdr (Err fault) = false
-
-own_cdr : (b : Bool) (c : Cdr) (r : Row) → (if b then Ok (row.Cdr c) else Err (WrongForm field.Key)) ≡ Ok r → is_cdr r ≡ true
-own_cdr true c r e = sym (ap reads_cdr e)
-own_cdr false c r e = absurd (let h = e in cc)
-
-cdr_alone : (read : Read Cdr) (key : List ℕ) (r : Row) → (read >>= λ c. own_key key (row.Cdr c)) ≡ Ok r → is_cdr r ≡ true
-unfolding own_key
-cdr_alone (Ok c) key r e = own_cdr (bytes_eq key (key_text (key_of (row.Cdr c)))) c r e
-cdr_alone (Err fault) key r e = absurd (let h = e in cc)
-
-same_at : (k : RowKind) (key : List ℕ) (d : Data) (r : Row) → is_cdr r ≡ false → row_at layout.One k key d ≡ Ok r → row_at layout.Two k key d ≡ Ok r
-unfolding row_at cdr_row_at
-same_at kind.Count key d r other e = e
-same_at kind.Reply key d r other e = e
-same_at kind.Token key d r other e = e
-same_at kind.Push key d r other e = e
-same_at kind.Service key d r other e = e
-same_at kind.Spent key d r other e = e
-same_at kind.Mark key d r other e = e
-same_at kind.Reservation key d r other e = e
-same_at kind.Pending key d r other e = e
-same_at kind.Result key d r other e = e
-same_at kind.Session key d r other e = e
-same_at kind.Cdr key d r other e = absurd (let is : is_cdr r ≡ true = cdr_alone (cdr_of_row_at layout.One d) key r e in cc)
-same_at kind.Command key d r other e = e
-
-pub row_alike : (word key text : List ℕ) (r : Row) → is_cdr r ≡ false → row_in_1 word key text ≡ Ok r → row_in word key text ≡ Ok r
-unfolding row_in row_in_1 row_laid_out row_of_text
-row_alike word key text r other e =
-    went_on (known (row_kind_of word)) _ _ r (λ k. went_on (text_tree text) _ _ r (λ d. went_on (as_record field.Line d) _ _ r (λ o. same_at k key o r other))) e
+pub row_alike : (p : RowPlace) (text : List ℕ) (r : Row) → is_cdr r ≡ false → place_of (key_of r) ≡ p → row_in_1 p.0 p.1 text ≡ Ok r → row_in p.0 p.1 text ≡ Ok r
+row_alike p text r other at was = sym (others_are_alike p.0 p.1 text (λ is. other_kind r other (ap (λ (q : RowPlace). q.0) at ∙ is))) ∙ was

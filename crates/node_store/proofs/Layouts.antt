@@ -11,7 +11,7 @@ use Rattle.row_table.specs.Contents as table
 use Rattle.row_table.specs.Opening.{Finds}
 use Rattle.row_table.specs.Kept.{Kept, IsClean, Leaves, LeavesWhole, MayLeave, content}
 use Rattle.node_store.specs.Contents.{Content}
-use Rattle.node_store.specs.Layout.{IsLayoutTwo, KeepsLayout}
+use Rattle.node_store.specs.Layout.{IsOfLayoutTwo, KeepsLayout}
 use Rattle.node_store.specs.Moved.{IsMovedTo}
 
 module _ {S : Type 0} (g : Ghosts S) (old new : Kept S) where

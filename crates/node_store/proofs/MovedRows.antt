@@ -1,5 +1,6 @@
 -- A store that is moved to layout 2 has the same rows.
 use Rattle.std.proofs.Common.{◌≡◌, ◌⊎◌, inl, inr, ℕ, pos, Bool, true, false, cond, ◌&&◌, T, List, [], ◌∷◌, ◌++◌, map, get_or, All, Option, Some, None, option_map, Ok, Err, refl, sym, ap, subst, ◌∙◌}
+use Rattle.std.specs.Prelude.{◌≢◌, codes}
 use Rattle.std.specs.FinMap.{entries, entries_sorted, entries-from_sorted, find, from_sorted, get, get-entries, get-from_sorted, is_sorted, same_map}
 use Rattle.std.specs.FinMap.Entries.{below_all}
 use Rattle.std.specs.Ordering.{eq_by_cmp, is_lt}
@@ -13,14 +14,18 @@ use Rattle.sqlite.specs.Schema.{Schema}
 use Rattle.sqlite.specs.Tree.{Trees}
 use Rattle.sqlite.specs.Effect.{Database}
 use Rattle.json_text.specs.Fault.{Read}
+use Rattle.ocpi_types.specs.Rows.{key_of}
 use Rattle.ocpi_types.specs.declared.rows.Row.{Row}
-use Rattle.ocpi_json.specs.RowForms.{row_in, row_in_1}
+use Rattle.ocpi_types.specs.declared.rows.Row.TheVariants as row
+use Rattle.ocpi_json.specs.RowForms.{row_in, row_in_1, row_text}
+use Rattle.ocpi_json.specs.RowKeys.{kind_of_key, row_kind_word}
+use Rattle.ocpi_json.proofs.RowLemmas.{row_found_1}
 use Rattle.row_table.specs.Layout.{both_tables, no_schema}
 use Rattle.row_table.specs.Texts.{texts_of}
 use Rattle.row_table.specs.Contents.{content_of}
 use Rattle.row_table.specs.Contents as table
-use Rattle.node_store.specs.Contents.{Content, RowPlace, after_row, is_row, rows_after, rows_of}
-use Rattle.node_store.specs.Moved.{HasBadText, HasRows, IsMoved, MayBecome, MovesTo, OpeningKeepsRows, OpensAs, moved_text, rows_after_1, rows_of_1}
+use Rattle.node_store.specs.Contents.{Content, RowPlace, after_row, is_row, rows_after, rows_of, rows_read}
+use Rattle.node_store.specs.Moved.{HasBadText, HasRows, IsMoved, MayBecome, MovesTo, OpeningKeepsRows, OpensAs, is_cdr, moved_text, rows_of_1}
 use Rattle.node_store.specs.Moving.{Entry}
 use Rattle.node_store.proofs.Layouts.{numbered}
 use Rattle.node_store.proofs.Opening.{differ}
@@ -81,7 +86,7 @@ goes_on : (read : Read Row) (f g : Row → Option (List Row)) → ((r : Row) →
 goes_on (Ok r) f g same = same r
 goes_on (Err fault) f g same = refl
 
-read_alike : (before : List Row) (es : List Entry) → All ReadsAlike es → rows_after before (map moved_entry es) ≡ rows_after_1 before es
+read_alike : (before : List Row) (es : List Entry) → All ReadsAlike es → rows_after before (map moved_entry es) ≡ rows_read row_in_1 before es
 read_alike before [] each = refl
 read_alike before (e ∷ es) each =
     ap (λ (read : Read Row). after_row read (λ r. rows_after (before ++ r ∷ []) (map moved_entry es))) (All-head ReadsAlike e es each)
@@ -122,9 +127,37 @@ none_bad : (p : RowPlace) (t : List ℕ) (new : Option (List ℕ)) → MovesTo p
 none_bad p t (Some u) h bad = absurd (let row : is_row (row_in_1 p.0 p.1 t) ≡ true = ap is_row h.was in cc)
 none_bad p t None h bad = h
 
+cdr_kind : (r : Row) → is_cdr r ≡ true → row_kind_word (kind_of_key (key_of r)) ≡ codes "cdr"
+cdr_kind (row.Count counter last) is = absurd (let e = is in cc)
+cdr_kind (row.Reply sender number reply) is = absurd (let e = is in cc)
+cdr_kind (row.Token t) is = absurd (let e = is in cc)
+cdr_kind (row.Push number to push) is = absurd (let e = is in cc)
+cdr_kind (row.Service evse_uid) is = absurd (let e = is in cc)
+cdr_kind (row.Spent provider reference) is = absurd (let e = is in cc)
+cdr_kind (row.Mark provider reservation_id number) is = absurd (let e = is in cc)
+cdr_kind (row.Reservation provider reservation_id r) is = absurd (let e = is in cc)
+cdr_kind (row.Pending provider number open_command) is = absurd (let e = is in cc)
+cdr_kind (row.Result provider number result) is = absurd (let e = is in cc)
+cdr_kind (row.Session s) is = absurd (let e = is in cc)
+cdr_kind (row.Cdr c) is = refl
+cdr_kind (row.Command number command) is = absurd (let e = is in cc)
+
+same_text : (r : Row) (t : List ℕ) (b : Bool) → is_cdr r ≡ b → (is_cdr r ≡ true → ⊥) → cond b (row_text r) t ≡ t
+same_text r t true is other = absurd (other is)
+same_text r t false is other = refl
+
+-- a row that is read is of the kind under which it stands
+stays : (p : RowPlace) (old new : Option (List ℕ)) → p.0 ≢ codes "cdr" → MovesTo p old new → new ≡ old
+stays p (Some t) (Some u) other h =
+    ap Some (h.text ∙ same_text h.row t (is_cdr h.row) refl (λ is. other (sym (row_found_1 p.0 p.1 t h.row h.was).kind ∙ cdr_kind h.row is)))
+stays p (Some t) None other h = absurd h
+stays p None (Some u) other h = absurd h
+stays p None None other h = refl
+
 pub opening_keeps_rows : OpeningKeepsRows
 opening_keeps_rows = record {
   opened = opened;
   stopped = stopped;
   bad = λ old new h moved. none_bad h.place h.text (get new h.place) (subst (λ (o : Option (List ℕ)). MovesTo h.place o (get new h.place)) h.stands (moved h.place)) h.bad;
+  others = λ old new moved p other. stays p (get old p) (get new p) other (moved p);
 }

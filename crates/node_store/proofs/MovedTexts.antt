@@ -26,18 +26,17 @@ use Rattle.node_store.proofs.Alike.{row_alike}
 
 -- ---- one text
 
-written_or_same : (p : RowPlace) (t : List ℕ) (r : Row) (b : Bool) → is_cdr r ≡ b → row_in_1 p.0 p.1 t ≡ Ok r → (is_cdr r ≡ true → row_in p.0 p.1 (row_text r) ≡ Ok r) → row_in p.0 p.1 (cond b (row_text r) t) ≡ Ok r
-written_or_same p t r true kind was again = again kind
-written_or_same p t r false kind was again = row_alike p.0 p.1 t r kind was
+written_or_same : (p : RowPlace) (t : List ℕ) (r : Row) (b : Bool) → is_cdr r ≡ b → place_of (key_of r) ≡ p → row_in_1 p.0 p.1 t ≡ Ok r → (is_cdr r ≡ true → row_in p.0 p.1 (row_text r) ≡ Ok r) → row_in p.0 p.1 (cond b (row_text r) t) ≡ Ok r
+written_or_same p t r true kind at was again = again kind
+written_or_same p t r false kind at was again = row_alike p t r kind at was
 
-pub movable : (e : Entry) (r : Row) → row_in_1 e.0.0 e.0.1 e.1 ≡ Ok r → (is_cdr r ≡ true → row_in e.0.0 e.0.1 (row_text r) ≡ Ok r) → IsMovable e
-movable e r was again = record { row = r; was = was; is = written_or_same e.0 e.1 r (is_cdr r) refl was again }
-
--- of a row that was read at its own place
-pub movable_row : (e : Entry) (kind name text : List ℕ) (r : Row) → kind ≡ e.0.0 → name ≡ e.0.1 → text ≡ e.1 → row_in_1 kind name text ≡ Ok r → place_of (key_of r) ≡ (kind, name)
+-- a row that was read at its own place
+pub movable : (e : Entry) (kind name text : List ℕ) (r : Row) → kind ≡ e.0.0 → name ≡ e.0.1 → text ≡ e.1 → row_in_1 kind name text ≡ Ok r → place_of (key_of r) ≡ (kind, name)
     → (is_cdr r ≡ true → row_in (place_of (key_of r)).0 (place_of (key_of r)).1 (row_text r) ≡ Ok r) → IsMovable e
-movable_row e kind name text r k n t was at again =
-    movable e r (sym (λ i. row_in_1 (k i) (n i) (t i)) ∙ was) (λ cdr. subst (λ (p : RowPlace). row_in p.0 p.1 (row_text r) ≡ Ok r) (at ∙ (λ i. (k i, n i))) (again cdr))
+movable e kind name text r k n t was at again =
+    let own : place_of (key_of r) ≡ e.0 = at ∙ (λ i. (k i, n i)) in
+    let read : row_in_1 e.0.0 e.0.1 e.1 ≡ Ok r = sym (λ i. row_in_1 (k i) (n i) (t i)) ∙ was in
+    record { row = r; was = read; is = written_or_same e.0 e.1 r (is_cdr r) refl own read (λ cdr. subst (λ (p : RowPlace). row_in p.0 p.1 (row_text r) ≡ Ok r) own (again cdr)) }
 
 no_row : (read : Read Row) → after_row read Some ≡ None → is_row read ≡ false
 no_row (Ok r) none = absurd (let h = none in cc)

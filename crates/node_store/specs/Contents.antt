@@ -56,10 +56,14 @@ is_row (Err e) = false
 abbrev pub AreRows : Content → Type 0
 AreRows c = (p : RowPlace) (t : List ℕ) → get c p ≡ Some t → is_row (row_in p.0 p.1 t) ≡ true
 
--- the rows of entries in turn behind those before, or none where a text is no row of its kind and key
+-- the rows of entries in turn behind those before, or none where a text is read as no row of its kind and key
+abbrev pub rows_read : (List ℕ → List ℕ → List ℕ → Read Row) → List Row → List (RowPlace × List ℕ) → Option (List Row)
+rows_read reader before [] = Some before
+rows_read reader before (e ∷ es) = after_row (reader e.0.0 e.0.1 e.1) (λ r. rows_read reader (before ++ r ∷ []) es)
+
+-- by layout 2, which is today's
 abbrev pub rows_after : List Row → List (RowPlace × List ℕ) → Option (List Row)
-rows_after before [] = Some before
-rows_after before (e ∷ es) = after_row (row_in e.0.0 e.0.1 e.1) (λ r. rows_after (before ++ r ∷ []) es)
+rows_after = rows_read row_in
 
 -- the rows of a content, ordered by kind and key
 abbrev pub rows_of : Content → Option (List Row)

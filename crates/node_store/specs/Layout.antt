@@ -7,10 +7,10 @@ use Rattle.row_table.specs.Contents.{IsWhole, versions}
 use Rattle.row_table.specs.Kept.{Kept, IsClean, Leaves, content}
 
 -- the table has the version 2, and so has the whole store that a stop leaves, whichever it is
-pub record IsLayoutTwo {S : Type 0} (g : Ghosts S) (k : Kept S) : Type 0 where
+pub record IsOfLayoutTwo {S : Type 0} (g : Ghosts S) (k : Kept S) : Type 0 where
   pub version : (content g k).versions ≡ Int (pos 2) ∷ []
   pub left : (trees : Trees) → Leaves g k trees → IsWhole trees × (versions trees ≡ Int (pos 2) ∷ [])
 
 -- as long as the disk returns what was written
 abbrev pub KeepsLayout : {S : Type 0} → Ghosts S → Kept S → Type 0
-KeepsLayout g k = IsClean g k → IsLayoutTwo g k
+KeepsLayout g k = IsClean g k → IsOfLayoutTwo g k

@@ -1,5 +1,5 @@
 -- A store of layout 1 is moved to layout 2: each charge detail record is written anew, and all other texts stay.
-use Rattle.std.specs.Prelude.{◌≡◌, ◌⊎◌, ℕ, pos, Bool, true, false, cond, List, [], ◌∷◌, ◌++◌, Option, Some, None, IsSome, Ok}
+use Rattle.std.specs.Prelude.{◌≡◌, ◌≢◌, ◌⊎◌, ℕ, codes, pos, Bool, true, false, cond, List, [], ◌∷◌, ◌++◌, Option, Some, None, IsSome, Ok}
 use Rattle.std.specs.FinMap.{entries, get}
 use Rattle.sqlite.specs.declared.types.Value.TheVariants.{Int}
 use Rattle.sqlite.specs.Tree.{Trees}
@@ -13,7 +13,7 @@ use Rattle.row_table.specs.Opening.{Finds, ShowsTheSame}
 use Rattle.ocpi_types.specs.declared.rows.Row.{Row}
 use Rattle.ocpi_types.specs.declared.rows.Row.TheVariants as row
 use Rattle.ocpi_json.specs.RowForms.{row_in, row_in_1, row_text}
-use Rattle.node_store.specs.Contents.{Content, RowPlace, after_row, is_row, rows_of}
+use Rattle.node_store.specs.Contents.{Content, RowPlace, is_row, rows_of, rows_read}
 
 -- ---- one text
 
@@ -68,17 +68,17 @@ abbrev pub IsMovedTo : Content → table.Content → Type 0
 IsMovedTo old c = (c.versions ≡ Int (pos 2) ∷ []) × IsMoved old c.texts
 
 -- a database with the two tables, of layout 1
-abbrev pub IsLayoutOne : Database → Type 0
-IsLayoutOne db = (db.schema ≡ both_tables) × HasVersion 1 db.trees
+abbrev pub HasLayoutOne : Database → Type 0
+HasLayoutOne db = (db.schema ≡ both_tables) × HasVersion 1 db.trees
 
 -- what a keeper has of a store that it opens: what the store held in layout 2, or nothing where it was new, or what it
 -- held in layout 1 and is moved to layout 2
 abbrev pub OpensAs : Database → table.Content → Type 0
-OpensAs db c = Finds 2 2 db c ⊎ (IsLayoutOne db × IsMovedTo (texts_of db.trees) c)
+OpensAs db c = Finds 2 2 db c ⊎ (HasLayoutOne db × IsMovedTo (texts_of db.trees) c)
 
 -- what an opening may have made of a store: a whole new one where there was nothing, or that to which it is moved
 abbrev pub MayBecome : Database → Trees → Type 0
-MayBecome db trees = ((db.schema ≡ no_schema) × IsNewStore 2 trees) ⊎ (IsLayoutOne db × IsWhole trees × IsMovedTo (texts_of db.trees) (content_of trees))
+MayBecome db trees = ((db.schema ≡ no_schema) × IsNewStore 2 trees) ⊎ (HasLayoutOne db × IsWhole trees × IsMovedTo (texts_of db.trees) (content_of trees))
 
 -- An opening was refused. The connection shows what it showed, if it is still open. A stop leaves what it left before,
 -- or all that the opening would have made.
@@ -88,25 +88,22 @@ pub record SparesStore (old new : State) : Type 0 where
 
 -- a store of layout 1 with a text that is no row
 abbrev pub WasBad : Database → Type 0
-WasBad db = IsLayoutOne db × HasBadText (texts_of db.trees)
+WasBad db = HasLayoutOne db × HasBadText (texts_of db.trees)
 
 -- ---- its rows
 
--- as `rows_after`, by layout 1
-abbrev pub rows_after_1 : List Row → List (RowPlace × List ℕ) → Option (List Row)
-rows_after_1 before [] = Some before
-rows_after_1 before (e ∷ es) = after_row (row_in_1 e.0.0 e.0.1 e.1) (λ r. rows_after_1 (before ++ r ∷ []) es)
-
+-- the rows of a content by layout 1, ordered by kind and key
 abbrev pub rows_of_1 : Content → Option (List Row)
-rows_of_1 c = rows_after_1 [] (entries c)
+rows_of_1 c = rows_read row_in_1 [] (entries c)
 
 -- a store has these rows, by the layout of its version
 abbrev pub HasRows : table.Content → List Row → Type 0
 HasRows c rows = ((c.versions ≡ Int (pos 1) ∷ []) × (rows_of_1 c.texts ≡ Some rows)) ⊎ ((c.versions ≡ Int (pos 2) ∷ []) × (rows_of c.texts ≡ Some rows))
 
 -- The keeper that opens a store has its rows, and so has what a refused opening may have made of it. Where a text is
--- no row by layout 1, there is neither.
+-- no row by layout 1, there is neither. What stands under another kind than `cdr` is as it was, to the byte.
 pub record OpeningKeepsRows : Type 0 where
   pub opened : (db : Database) (c : table.Content) (rows : List Row) → db.schema ≡ both_tables → HasRows (content_of db.trees) rows → OpensAs db c → rows_of c.texts ≡ Some rows
   pub stopped : (db : Database) (trees : Trees) (rows : List Row) → db.schema ≡ both_tables → HasRows (content_of db.trees) rows → MayBecome db trees → HasRows (content_of trees) rows
   pub bad : (old new : Content) → HasBadText old → ¬ (IsMoved old new)
+  pub others : (old new : Content) → IsMoved old new → (p : RowPlace) → p.0 ≢ codes "cdr" → get new p ≡ get old p

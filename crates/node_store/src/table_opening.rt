@@ -19,7 +19,7 @@ use crate::fault::StoreFault;
 use crate::moving::{LAYOUT, OLDER, move_texts};
 use crate::table_keep::{TableKeep, fault_of};
 use row_table::{OpenFault, TextTable};
-use sqlite::{Alter, Connection, File, FileFrom, FileStore, MemStore, Start, Unknown};
+use sqlite::{Alter, Connection, FileFrom, FileStore, MemStore, Start};
 use std::alloc::Global;
 
 fn opening_fault(fault: OpenFault) -> StoreFault
@@ -111,9 +111,12 @@ impl TableKeep<MemStore> {
 }
 
 impl<S: Start> TableKeep<FileStore<FileFrom<S>>> {
-    /// A keeper in the file at the path, where `S` stands for what the file holds. A file that is missing is made, and
-    /// one of layout 1 is moved to layout 2.
-    /// `open_file` names no file, so this is the call of which the content is proved.
+    /// A keeper in the file at the path. A file that is missing is made, and one of layout 1 is moved to layout 2.
+    /// `OldLayout` where the file has tables for other rows, and `BadRow` where it is of layout 1 with a text that is
+    /// no row of its kind and key. A refusal hands the connection back, once there is one.
+    ///
+    /// `S` stands for what the file holds, which no code can read: so the clauses are proved of whatever it holds. A
+    /// program names `Unknown`, at which they speak of an empty file alone.
     pub fn open_file_from(
         rt: &HostRuntime,
         path: &str,
@@ -128,6 +131,7 @@ impl<S: Start> TableKeep<FileStore<FileFrom<S>>> {
         ensures stops { IfOk result (λ k. IsClean over_files k.0 → (c : Content) → MayLeave over_files k.0 c → c ≡ texts over_files k.0) }
         // The file is as it was. A stop leaves that, or all that the opening would have made of it.
         ensures spared { IfErr result (λ e. IfSome e.1 (λ c. HasCleanDisk (file_state c) → SparesFile (image_at S.Start) c)) }
+        // `OldLayout` and `BadRow` come only where a database was opened, and by what was found there.
         ensures old { IfErr result (λ e. IfSome e.1 (λ c. HasCleanDisk (file_state c) → e.0 ≡ StoreFault.OldLayout → WasOldInFile (image_at S.Start) c)) }
         ensures bad { IfErr result (λ e. IfSome e.1 (λ c. HasCleanDisk (file_state c) → e.0 ≡ StoreFault.BadRow → WasBadInFile (image_at S.Start) c)) }
         ensures unopened { IfErr result (λ e. e.1 ≡ None → (e.0 ≢ StoreFault.OldLayout) × (e.0 ≢ StoreFault.BadRow)) }
@@ -139,20 +143,6 @@ impl<S: Start> TableKeep<FileStore<FileFrom<S>>> {
         match TableKeep::adopt(rt.alloc(), connection) {
             Ok(keep) => Ok(keep),
             Err((fault, connection)) => Err((fault, Some(connection))),
-        }
-    }
-}
-
-impl TableKeep<FileStore<File>> {
-    /// A keeper in the file at the path. A file that is missing is made, and one of layout 1 is moved to layout 2:
-    /// `BadRow` where a text of it is no row of its kind and key.
-    pub fn open_file(rt: &HostRuntime, path: &str) -> Result<TableKeep<FileStore<File>>, StoreFault>
-        ensures refusals { IfOk result (λ k. k.1 ≡ 0) }
-        ensures stops { IfOk result (λ k. IsClean over_files k.0 → (c : Content) → MayLeave over_files k.0 c → c ≡ texts over_files k.0) }
-    {
-        match TableKeep::open_file_from(rt, path, Unknown) {
-            Ok(keep) => Ok(keep),
-            Err((fault, _)) => Err(fault),
         }
     }
 }

@@ -6,7 +6,6 @@ use Rattle.ocpi_types.specs.declared.commands.Command.{Command}
 use Rattle.ocpi_types.specs.declared.commands.Command.TheVariants as command
 use Rattle.ocpi_forms.specs.declared.any_command.CommandKind.{CommandKind}
 use Rattle.ocpi_forms.specs.declared.any_command.CommandKind.TheVariants as order
-use Rattle.json_text.specs.Fault.{◌>>=◌}
 use Rattle.json_text.specs.Members.{object_of}
 use Rattle.json_text.proofs.Exact.{Exact, ok_is, bind_ok}
 use Rattle.json_text.proofs.MemberForms.{tree}

@@ -16,7 +16,7 @@ use Rattle.json_text.specs.Members.{object_of}
 use Rattle.json_text.proofs.Exact.{Exact, ok_is, bind_ok}
 use Rattle.json_text.proofs.MemberForms.{tree}
 use Rattle.json_text.proofs.WellFormed.{IsWell}
-use Rattle.ocpi_forms.specs.AnyCommand.{command_kind, command_at, IsCommand}
+use Rattle.ocpi_forms.specs.AnyCommand.{command_kind, command_at}
 use Rattle.ocpi_forms.specs.AuthorizationForms.{authorize_at, authorization_at}
 use Rattle.ocpi_forms.specs.CdrForms.{cdr_at}
 use Rattle.ocpi_forms.specs.ReplyForms.{command_response_at, command_result_at, ack_at}

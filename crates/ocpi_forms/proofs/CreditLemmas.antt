@@ -7,7 +7,6 @@ use Rattle.ocpi_types.specs.declared.field.Field.TheVariants as field
 use Rattle.ocpi_forms.specs.declared.credits.CdrForm.{CdrForm}
 use Rattle.ocpi_forms.specs.declared.credits.CdrForm.TheVariants as form
 use Rattle.ocpi_forms.specs.CreditForms.{is_true, credit_in, reference_where, credit_reference_in, SaysBill, HasCredit, credit_value}
-use Rattle.json_text.specs.Fault.{◌>>=◌}
 use Rattle.json_text.specs.Fields.{ci_in, optional, truth_in}
 use Rattle.json_text.specs.Fits.{FitsOption}
 use Rattle.json_text.specs.Form.{Required, Optional, IsTruth}

@@ -147,8 +147,8 @@ fn cdr_in(alloc: Global, form: CdrForm, object: &Tree<'_>) -> Result<Cdr, JsonFa
 }
 
 /// A charge detail record that is sent. The first fault is told, in the order of the members of [`Cdr`], with `credit`
-/// before `credit_reference_id`. A `credit` that is absent, null or false is a bill's, and with it whatever stands under
-/// `credit_reference_id` is read past; with a `credit` that is true, `credit_reference_id` is required; any other
+/// before `credit_reference_id`. A `credit` that is absent, null or false is a bill's, and with it whatever stands
+/// under `credit_reference_id` is read past; with a `credit` that is true, `credit_reference_id` is required; any other
 /// `credit` is `WrongForm`.
 pub fn cdr_of(alloc: Global, object: &Tree<'_>) -> Result<Cdr, JsonFault>
     ensures { Gives result (cdr_at (view object.now)) }

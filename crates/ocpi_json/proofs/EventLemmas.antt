@@ -17,7 +17,7 @@ use Rattle.ocpi_json.specs.declared.events.EventWord.TheVariants as event
 use Rattle.ocpi_forms.specs.declared.any_command.CommandKind.{CommandKind}
 use Rattle.ocpi_forms.specs.declared.any_command.CommandKind.TheVariants as command
 use Rattle.ocpi_json.specs.declared.events.Report.{Report}
-use Rattle.ocpi_json.specs.EventForms.{event_of_word, order_of_word, word_of_report, word_of_order, word_of_kind, start_order_at, reserve_order_at, unlock_order_at, order_at, submit_at, token_event_at, service_at, swipe_at, meter_at, command_number_at, report_at, charger_at, deliver_at, kind_at, event_at, event_of_line, event_in, HasCommandNumber, IsOrder, IsReport, IsSubmission, IsTokenStored, IsServiceSet, IsReported, IsKind, IsEvent, IsEventLine, SpellsEvent}
+use Rattle.ocpi_json.specs.EventForms.{event_of_word, order_of_word, word_of_report, word_of_order, word_of_kind, start_order_at, reserve_order_at, unlock_order_at, order_at, submit_at, token_event_at, service_at, swipe_at, meter_at, command_number_at, report_at, charger_at, credit_event_at, deliver_at, kind_at, event_at, event_of_line, event_in, HasCommandNumber, IsOrder, IsReport, IsSubmission, IsTokenStored, IsServiceSet, IsCreditOrdered, IsReported, IsKind, IsEvent, IsEventLine, SpellsEvent}
 use Rattle.json_text.specs.Fault.{Read, ◌>>=◌}
 use Rattle.json_text.specs.Fields.{ci_in, known_in, moment_in, party_in, quantity_in, record_in, truth_in, whole_in, word_in, optional}
 use Rattle.json_text.specs.Form.{Required, IsRecord, IsWord}
@@ -269,6 +269,22 @@ service_exact = record {
   ) refl;
 }
 
+pub credit_event_exact : Exact credit_event_at (λ d c. IsCreditOrdered d c.at c.session_id)
+unfolding credit_event_at
+credit_event_exact = record {
+  sound = λ d c e.
+      let a = bind_ok (moment_in field.At d) _ c e in
+      let b = bind_ok (ci_in 36 field.SessionId d) _ c a.2 in
+      subst (λ m. IsCreditOrdered d m.at m.session_id) (ok_is _ c b.2) (
+        (moment_exact field.At).sound d a.0 a.1,
+        (ci_exact 36 field.SessionId).sound d b.0 b.1,
+      );
+  complete = λ d c p. rw (
+    (moment_exact field.At).complete d c.at p.0,
+    (ci_exact 36 field.SessionId).complete d c.session_id p.1,
+  ) refl;
+}
+
 abbrev pub OfCharger : ChargerWord → Data → Report → Type 0
 OfCharger w d r = IsReported d r.at r.event × (word_of_report r.event ≡ w)
 
@@ -311,6 +327,7 @@ kind_sound (event.Charger w) d k e =
     let a = bind_ok (charger_at w d) _ k e in
     let r = charger_sound w d a.0 a.1 in
     subst (OfKind (event.Charger w) d) (ok_is (kind.Charger a.0.at a.0.event) k a.2) (r.0, ap (λ (v : ChargerWord). event.Charger v) r.1)
+kind_sound event.Credit d k e = let a = bind_ok (credit_event_at d) _ k e in subst (OfKind event.Credit d) (ok_is (kind.Credit a.0.at a.0.session_id) k a.2) (credit_event_exact.sound d a.0 a.1, refl)
 kind_sound event.Deliver d k e = deliver_sound d k e
 kind_sound event.Tick d k e = let a = bind_ok (moment_in field.At d) _ k e in subst (OfKind event.Tick d) (ok_is (kind.Tick a.0) k a.2) ((moment_exact field.At).sound d a.0 a.1, refl)
 kind_sound event.Restart d k e = subst (OfKind event.Restart d) (ok_is kind.Restart k e) (tt, refl)
@@ -322,6 +339,7 @@ kind_complete d (kind.Submit at operator what) p = rw (submit_exact.complete d (
 kind_complete d (kind.Token at token) p = rw (token_event_exact.complete d (record { at = at; token = token }) p) refl
 kind_complete d (kind.Service evse_uid in_service) p = rw (service_exact.complete d (record { evse_uid = evse_uid; in_service = in_service }) p) refl
 kind_complete d (kind.Charger at what) p = rw (charger_complete d (record { at = at; event = what }) p) refl
+kind_complete d (kind.Credit at session_id) p = rw (credit_event_exact.complete d (record { at = at; session_id = session_id }) p) refl
 kind_complete d (kind.Deliver at from serial) p = rw (
   (moment_exact field.At).complete d at p.0,
   (party_exact field.From).complete d from p.1,

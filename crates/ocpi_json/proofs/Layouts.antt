@@ -1,5 +1,5 @@
 -- A row of another kind than charge detail records is read alike in both layouts.
-use Rattle.std.proofs.Common.{◌≡◌, ℕ, List, Option, Some, None, refl, sym, ap, ◌∙◌}
+use Rattle.std.proofs.Common.{◌≡◌, ℕ, List, Option, Some, None, refl, ap, ◌∙◌}
 use Rattle.std.specs.Prelude.{◌≢◌}
 use Rattle.serde_json.specs.Data.{Data}
 use Rattle.ocpi_types.specs.declared.field.Field.TheVariants as field

@@ -9,5 +9,6 @@ pub mod RowLemmas
 pub mod SetupLemmas
 pub mod StoredLemmas
 pub mod Unread
+pub mod WrittenNumbers
 pub mod WrittenPackets
 pub mod WrittenRows

@@ -8,7 +8,7 @@ use Rattle.ocpi_types.specs.declared.node_events.NodeEventKind.TheVariants as ki
 use Rattle.ocpi_json.specs.declared.events.ChargerWord.{ChargerWord}
 use Rattle.ocpi_json.specs.declared.events.EventWord.{EventWord}
 use Rattle.ocpi_json.specs.declared.events.EventWord.TheVariants as event
-use Rattle.ocpi_json.specs.EventForms.{event_of_word, submit_at, token_event_at, service_at, charger_at}
+use Rattle.ocpi_json.specs.EventForms.{event_of_word, submit_at, token_event_at, service_at, charger_at, credit_event_at}
 use Rattle.ocpi_json.specs.NodeEventForms.{word_of_node_kind, delivery_at, node_kind_at, node_event_at, node_event_of_line, node_event_in, IsNodeKind, IsNodeEvent, IsNodeEventLine, SpellsNodeEvent}
 use Rattle.ocpi_json.specs.Packets.{packet_at, IsPacket}
 use Rattle.json_text.specs.Fault.{◌>>=◌}
@@ -16,7 +16,7 @@ use Rattle.json_text.specs.Fields.{known_in, moment_in, party_in, record_in}
 use Rattle.json_text.specs.Form.{Required, IsRecord, IsWord}
 use Rattle.json_text.proofs.Exact.{Exact, ok_is, bind_ok, both_steps, as_record_exact, known_exact, inner_exact, moment_exact, party_exact}
 use Rattle.json_text.proofs.LineTrees.{line_sound, line_complete}
-use Rattle.ocpi_json.proofs.EventLemmas.{submit_exact, token_event_exact, service_exact, charger_sound, charger_complete}
+use Rattle.ocpi_json.proofs.EventLemmas.{submit_exact, token_event_exact, service_exact, credit_event_exact, charger_sound, charger_complete}
 use Rattle.ocpi_json.proofs.PacketLemmas.{packet_exact}
 
 -- what is read of a word has the form of that word
@@ -49,6 +49,7 @@ node_kind_sound (event.Charger w) d k e =
     let a = bind_ok (charger_at w d) _ k e in
     let r = charger_sound w d a.0 a.1 in
     subst (OfNodeKind (event.Charger w) d) (ok_is (kind.Charger a.0.at a.0.event) k a.2) (r.0, ap (λ (v : ChargerWord). event.Charger v) r.1)
+node_kind_sound event.Credit d k e = let a = bind_ok (credit_event_at d) _ k e in subst (OfNodeKind event.Credit d) (ok_is (kind.Credit a.0.at a.0.session_id) k a.2) (credit_event_exact.sound d a.0 a.1, refl)
 node_kind_sound event.Deliver d k e = delivery_sound d k e
 node_kind_sound event.Tick d k e = let a = bind_ok (moment_in field.At d) _ k e in subst (OfNodeKind event.Tick d) (ok_is (kind.Tick a.0) k a.2) ((moment_exact field.At).sound d a.0 a.1, refl)
 node_kind_sound event.Restart d k e = subst (OfNodeKind event.Restart d) (ok_is kind.Restart k e) (tt, refl)
@@ -60,6 +61,7 @@ node_kind_complete d (kind.Submit at operator what) p = rw (submit_exact.complet
 node_kind_complete d (kind.Token at token) p = rw (token_event_exact.complete d (record { at = at; token = token }) p) refl
 node_kind_complete d (kind.Service evse_uid in_service) p = rw (service_exact.complete d (record { evse_uid = evse_uid; in_service = in_service }) p) refl
 node_kind_complete d (kind.Charger at what) p = rw (charger_complete d (record { at = at; event = what }) p) refl
+node_kind_complete d (kind.Credit at session_id) p = rw (credit_event_exact.complete d (record { at = at; session_id = session_id }) p) refl
 node_kind_complete d (kind.Deliver at packet) p =
     let inner = bind_ok (record_in field.Packet d) packet_at packet (inner_packet.complete d packet p.1) in
     rw ((moment_exact field.At).complete d at p.0, inner.1, inner.2) refl

@@ -13,7 +13,6 @@ use Rattle.ocpi_types.specs.Rows.{key_of}
 use Rattle.ocpi_types.specs.declared.field.Field.{Field}
 use Rattle.ocpi_types.specs.declared.rows.Row.{Row}
 use Rattle.ocpi_types.specs.declared.rows.Row.TheVariants as row
-use Rattle.json_text.specs.Fits.{FitsCi}
 use Rattle.json_text.specs.Form.{Required, IsCi, HasParty}
 use Rattle.ocpi_json.specs.RowForms.{IsRowText, OwnKeyFits, ReadKeysFit, SpellsRow, row_in, row_in_1}
 use Rattle.ocpi_json.specs.RowKeys.{IsCiKey, IsPartyKey, KeyFits}

@@ -24,6 +24,7 @@ use Rattle.ocpi_json.specs.declared.events.EventWord.TheVariants as event
 use Rattle.ocpi_forms.specs.declared.any_command.CommandKind.{CommandKind}
 use Rattle.ocpi_forms.specs.declared.any_command.CommandKind.TheVariants as command
 use Rattle.ocpi_json.specs.declared.events.Report.{Report}
+use Rattle.ocpi_json.specs.declared.events.CreditOrdered.{CreditOrdered}
 use Rattle.ocpi_json.specs.declared.events.ServiceSet.{ServiceSet}
 use Rattle.ocpi_json.specs.declared.events.Submission.{Submission}
 use Rattle.ocpi_json.specs.declared.events.TokenStored.{TokenStored}
@@ -48,6 +49,7 @@ event_of_word s =
     else if bytes_eq s (codes "meter") then Some (event.Charger report.Meter)
     else if bytes_eq s (codes "stops") then Some (event.Charger report.Stops)
     else if bytes_eq s (codes "fault") then Some (event.Charger report.Fault)
+    else if bytes_eq s (codes "credit") then Some event.Credit
     else if bytes_eq s (codes "deliver") then Some event.Deliver
     else if bytes_eq s (codes "tick") then Some event.Tick
     else if bytes_eq s (codes "restart") then Some event.Restart
@@ -83,6 +85,7 @@ word_of_kind (kind.Submit at operator order) = event.Submit
 word_of_kind (kind.Token at token) = event.Token
 word_of_kind (kind.Service evse_uid in_service) = event.Service
 word_of_kind (kind.Charger at what) = event.Charger (word_of_report what)
+word_of_kind (kind.Credit at session_id) = event.Credit
 word_of_kind (kind.Deliver at from serial) = event.Deliver
 word_of_kind (kind.Tick at) = event.Tick
 word_of_kind kind.Restart = event.Restart
@@ -184,6 +187,12 @@ charger_at word d = do
   what ← report_at word d
   Ok (record { at = at; event = what })
 
+unfoldable pub credit_event_at : Data → Read CreditOrdered
+credit_event_at d = do
+  at ← moment_in field.At d
+  session_id ← ci_in 36 field.SessionId d
+  Ok (record { at = at; session_id = session_id })
+
 unfoldable pub deliver_at : Data → Read EventKind
 deliver_at d = do
   at ← moment_in field.At d
@@ -197,6 +206,7 @@ kind_at event.Submit d = submit_at d >>= λ s. Ok (kind.Submit s.at s.operator s
 kind_at event.Token d = token_event_at d >>= λ t. Ok (kind.Token t.at t.token)
 kind_at event.Service d = service_at d >>= λ s. Ok (kind.Service s.evse_uid s.in_service)
 kind_at (event.Charger word) d = charger_at word d >>= λ r. Ok (kind.Charger r.at r.event)
+kind_at event.Credit d = credit_event_at d >>= λ c. Ok (kind.Credit c.at c.session_id)
 kind_at event.Deliver d = deliver_at d
 kind_at event.Tick d = moment_in field.At d >>= λ at. Ok (kind.Tick at)
 kind_at event.Restart d = Ok kind.Restart
@@ -281,6 +291,9 @@ IsTokenStored d at token = HasMoment field.At d at × Required (IsRecord IsToken
 abbrev pub IsServiceSet : Data → List ℕ → Bool → Type 0
 IsServiceSet d evse_uid in_service = HasCi field.EvseUid d evse_uid × Required IsTruth field.InService d in_service
 
+abbrev pub IsCreditOrdered : Data → ℕ → List ℕ → Type 0
+IsCreditOrdered d at session_id = HasMoment field.At d at × HasCi field.SessionId d session_id
+
 abbrev pub IsReported : Data → ℕ → ChargerEvent → Type 0
 IsReported d at what = HasMoment field.At d at × IsReport d what
 
@@ -290,6 +303,7 @@ IsKind d (kind.Submit at operator what) = IsSubmission d at operator what
 IsKind d (kind.Token at token) = IsTokenStored d at token
 IsKind d (kind.Service evse_uid in_service) = IsServiceSet d evse_uid in_service
 IsKind d (kind.Charger at what) = IsReported d at what
+IsKind d (kind.Credit at session_id) = IsCreditOrdered d at session_id
 IsKind d (kind.Deliver at from serial) = HasMoment field.At d at × Required IsParty field.From d from × Required IsWhole field.Serial d serial
 IsKind d (kind.Tick at) = HasMoment field.At d at
 IsKind d kind.Restart = Unit {0}

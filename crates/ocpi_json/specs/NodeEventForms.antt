@@ -8,7 +8,7 @@ use Rattle.ocpi_types.specs.declared.node_events.NodeEventKind.{NodeEventKind}
 use Rattle.ocpi_types.specs.declared.node_events.NodeEventKind.TheVariants as kind
 use Rattle.ocpi_json.specs.declared.events.EventWord.{EventWord}
 use Rattle.ocpi_json.specs.declared.events.EventWord.TheVariants as event
-use Rattle.ocpi_json.specs.EventForms.{event_of_word, word_of_report, submit_at, token_event_at, service_at, charger_at, HasMoment, IsSubmission, IsTokenStored, IsServiceSet, IsReported}
+use Rattle.ocpi_json.specs.EventForms.{event_of_word, word_of_report, submit_at, token_event_at, service_at, charger_at, credit_event_at, HasMoment, IsSubmission, IsTokenStored, IsServiceSet, IsCreditOrdered, IsReported}
 use Rattle.ocpi_json.specs.Packets.{packet_at, IsPacket}
 use Rattle.json_text.specs.Fault.{Read, ◌>>=◌}
 use Rattle.json_text.specs.Fields.{as_record, known_in, moment_in, party_in, record_in}
@@ -21,6 +21,7 @@ word_of_node_kind (kind.Submit at operator order) = event.Submit
 word_of_node_kind (kind.Token at token) = event.Token
 word_of_node_kind (kind.Service evse_uid in_service) = event.Service
 word_of_node_kind (kind.Charger at what) = event.Charger (word_of_report what)
+word_of_node_kind (kind.Credit at session_id) = event.Credit
 word_of_node_kind (kind.Deliver at packet) = event.Deliver
 word_of_node_kind (kind.Tick at) = event.Tick
 word_of_node_kind kind.Restart = event.Restart
@@ -42,6 +43,7 @@ node_kind_at event.Submit d = submit_at d >>= λ s. Ok (kind.Submit s.at s.opera
 node_kind_at event.Token d = token_event_at d >>= λ t. Ok (kind.Token t.at t.token)
 node_kind_at event.Service d = service_at d >>= λ s. Ok (kind.Service s.evse_uid s.in_service)
 node_kind_at (event.Charger word) d = charger_at word d >>= λ r. Ok (kind.Charger r.at r.event)
+node_kind_at event.Credit d = credit_event_at d >>= λ c. Ok (kind.Credit c.at c.session_id)
 node_kind_at event.Deliver d = delivery_at d
 node_kind_at event.Tick d = moment_in field.At d >>= λ at. Ok (kind.Tick at)
 node_kind_at event.Restart d = Ok kind.Restart
@@ -71,6 +73,7 @@ IsNodeKind d (kind.Submit at operator what) = IsSubmission d at operator what
 IsNodeKind d (kind.Token at token) = IsTokenStored d at token
 IsNodeKind d (kind.Service evse_uid in_service) = IsServiceSet d evse_uid in_service
 IsNodeKind d (kind.Charger at what) = IsReported d at what
+IsNodeKind d (kind.Credit at session_id) = IsCreditOrdered d at session_id
 IsNodeKind d (kind.Deliver at packet) = HasMoment field.At d at × Required (IsRecord IsPacket) field.Packet d packet
 IsNodeKind d (kind.Tick at) = HasMoment field.At d at
 IsNodeKind d kind.Restart = Unit {0}

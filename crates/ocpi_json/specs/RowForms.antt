@@ -1,6 +1,6 @@
 -- Rows: the text of a row by its kind, beside the key under which it is stored.
 use Rattle.std.specs.Prelude.{◌≡◌, ◌≢◌, ◌≤◌, ℕ, List, [], ◌∷◌, Option, Some, None, Ok, Err, if◌then◌else◌}
-use Rattle.std.specs.Str.{bytes_eq}
+use Rattle.std.specs.Str.{IsUtf8, bytes_eq}
 use Rattle.serde_json.specs.Data.{Data}
 use Rattle.ocpi_text.specs.Party.{party_at}
 use Rattle.ocpi_text.specs.Whole.{max_whole}
@@ -261,3 +261,8 @@ RowTextFits (row.Result provider number result) = Unit {0}
 RowTextFits (row.Session s) = SessionFits s
 RowTextFits (row.Cdr c) = CdrFits c
 RowTextFits (row.Command number command) = SentCommandFits command
+
+-- the text in layout 1 of a row that its types can hold is read in layout 1 as that row, beside its kind and its key
+abbrev pub RowTextsOf1AreRead : Type 0
+RowTextsOf1AreRead = (r : Row) → KeyFits (key_of r) → RowTextFits r → IsUtf8 (row_text_1 r) →
+    row_in_1 (row_kind_word (kind_of_key (key_of r))) (key_text (key_of r)) (row_text_1 r) ≡ Ok r

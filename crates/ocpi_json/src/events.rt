@@ -17,6 +17,7 @@ ghost use Rattle.ocpi_json.specs.EventForms.{
   command_number_at,
   report_at,
   charger_at,
+  credit_event_at,
   deliver_at,
   kind_at,
   event_at,
@@ -55,6 +56,7 @@ pub enum EventWord {
     Token,
     Service,
     Charger(ChargerWord),
+    Credit,
     Deliver,
     Tick,
     Restart,
@@ -97,6 +99,13 @@ pub struct Report {
     pub event: ChargerEvent,
 }
 
+/// A session of which the bill is taken back, and when.
+#[derive(Clone, Copy)]
+pub struct CreditOrdered {
+    pub at: Moment,
+    pub session_id: CiText<36>,
+}
+
 /// The event that a word names, if there is one.
 fn event_word(word: &str) -> Option<EventWord>
     ensures { result ≡ event_of_word word.now }
@@ -113,6 +122,7 @@ fn event_word(word: &str) -> Option<EventWord>
         "meter" => Some(EventWord::Charger(ChargerWord::Meter)),
         "stops" => Some(EventWord::Charger(ChargerWord::Stops)),
         "fault" => Some(EventWord::Charger(ChargerWord::Fault)),
+        "credit" => Some(EventWord::Credit),
         "deliver" => Some(EventWord::Deliver),
         "tick" => Some(EventWord::Tick),
         "restart" => Some(EventWord::Restart),
@@ -348,6 +358,16 @@ pub fn charger_of(word: ChargerWord, object: &Tree<'_>) -> Result<Report, JsonFa
     Ok(Report { at, event })
 }
 
+/// Of which session the bill is taken back, and when.
+#[tactic(auto, unfolding(crate::specs::EventForms::credit_event_at))]
+pub fn credit_event_of(object: &Tree<'_>) -> Result<CreditOrdered, JsonFault>
+    ensures { result ≡ credit_event_at (view object.now) }
+{
+    let at = moment_in(object, Field::At)?;
+    let session_id = ci_in(object, Field::SessionId)?;
+    Ok(CreditOrdered { at, session_id })
+}
+
 #[tactic(auto, unfolding(crate::specs::EventForms::deliver_at))]
 fn deliver_of(object: &Tree<'_>) -> Result<EventKind, JsonFault>
     ensures { result ≡ deliver_at (view object.now) }
@@ -393,6 +413,10 @@ fn kind_of(word: EventWord, object: &Tree<'_>) -> Result<EventKind, JsonFault>
         EventWord::Charger(word) => {
             let Report { at, event } = charger_of(word, object)?;
             Ok(EventKind::Charger { at, event })
+        }
+        EventWord::Credit => {
+            let CreditOrdered { at, session_id } = credit_event_of(object)?;
+            Ok(EventKind::Credit { at, session_id })
         }
         EventWord::Deliver => deliver_of(object),
         EventWord::Tick => {

@@ -32,7 +32,7 @@ pub use json_text::{
 };
 pub use reading::{
     other_rows_are_alike, read_event, read_node_event, read_packet, read_row, read_row_1,
-    read_setup, read_site,
+    read_setup, read_site, row_texts_of_1_are_read,
 };
 pub use row_keys::{read_keys_fit, read_keys_fit_1, row_keys_are_apart, write_key};
 pub use row_kinds::RowKind;

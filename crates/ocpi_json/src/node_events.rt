@@ -13,8 +13,8 @@ ghost use Rattle.ocpi_json.specs.NodeEventForms.{
 };
 
 use crate::events::{
-    EventWord, Report, ServiceSet, Submission, TokenStored, charger_of, event_word_of, service_of,
-    submit_of, token_event_of,
+    CreditOrdered, EventWord, Report, ServiceSet, Submission, TokenStored, charger_of,
+    credit_event_of, event_word_of, service_of, submit_of, token_event_of,
 };
 use crate::packets::packet_of;
 use json_text::fields::{as_record, moment_in, party_in, record_in};
@@ -72,6 +72,10 @@ fn node_kind_of(
         EventWord::Charger(word) => {
             let Report { at, event } = charger_of(word, object)?;
             Ok(NodeEventKind::Charger { at, event })
+        }
+        EventWord::Credit => {
+            let CreditOrdered { at, session_id } = credit_event_of(object)?;
+            Ok(NodeEventKind::Credit { at, session_id })
         }
         EventWord::Deliver => delivery_of(alloc, object),
         EventWord::Tick => {

@@ -9,6 +9,7 @@ ghost use Rattle.ocpi_json.specs.NodeEventForms.{SpellsNodeEvent, node_event_in}
 ghost use Rattle.ocpi_json.specs.Packets.{SpellsPacket, packet_in};
 ghost use Rattle.ocpi_json.specs.RowForms.{
   OthersAreAlike,
+  RowTextsOf1AreRead,
   SpellsRow,
   row_in,
   row_in_1,
@@ -232,7 +233,7 @@ fn row_in(
 /// | `cdr` | `PARTY/ID` | the charge detail record's, with `credit` always |
 /// | `command` | `NUMBER` | `answer`, `kind`, `body`, `result`, `to` |
 ///
-/// A text of a `cdr` row without `credit` is `Missing` of `credit`; where it is true, `credit_reference_id` is required.
+/// A `cdr` row without `credit` is `Missing` of `credit`; where that is true, `credit_reference_id` is required.
 /// A `kind` in a text that is none of those that such a row carries is `UnknownKind`, told before `body` is looked at.
 /// In a key numbers are in decimal digits without leading zeros, and texts have no letters `a` to `z`.
 pub fn read_row(
@@ -285,8 +286,14 @@ pub fn read_row_1(
     row_in_1(alloc, scratch, kind, key, text)
 }
 
-/// A row of another kind than `cdr` is read alike by [`read_row_1`] and by [`read_row`], so that its text is one in both
-/// layouts.
+/// A row of another kind than `cdr` is read alike by [`read_row_1`] and [`read_row`], so that its text is the same in
+/// both layouts.
 pub fn other_rows_are_alike()
     ensures { OthersAreAlike }
+{}
+
+/// The text of a row in layout 1 is read by [`read_row_1`] as that row, beside the row's kind and key, for each row that
+/// its types can hold. So what an old store has of a row is read as the row that was put there.
+pub fn row_texts_of_1_are_read()
+    ensures { RowTextsOf1AreRead }
 {}

@@ -34,9 +34,9 @@ fn kept_row(row: &Row)
     kept_key(&row.key());
 }
 
-/// The text of a row in layout 2, which is stored under its kind and its key: no spaces, and the members of each object in the byte
-/// order of their names. Beside that kind and that key it is read as that very row, whatever the row is. It fails for
-/// want of memory alone.
+/// The text of a row in layout 2, which is stored under its kind and its key: no spaces, and the members of each object
+/// in the byte order of their names. Beside that kind and that key it is read as that very row, whatever the row is. It
+/// fails for want of memory alone.
 #[tactic(auto, using(crate::proofs::WrittenRows::row_text_is, crate::proofs::WrittenRows::row_text_again))]
 pub fn write_row(alloc: Global, row: &Row) -> Result<String, AllocError>
     ensures text { IfOk result (λ s. string_bytes s ≡ row_text row.now) }

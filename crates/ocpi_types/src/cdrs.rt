@@ -153,8 +153,8 @@ pub struct Cdr {
     /// Hours.
     pub total_time: Quantity,
     pub last_updated: Moment,
-    /// Of a credit, the id of the record that it takes back; of a bill, none. A credit has the members `credit`, which is
-    /// true, and `credit_reference_id`.
+    /// Of a credit, the id of the record that it takes back; of a bill, none. A credit has the members `credit`, which
+    /// is true, and `credit_reference_id`.
     pub credit_reference_id: Option<CiText<39>>,
 }
 

@@ -105,6 +105,11 @@ pub enum EventKind {
         at: Moment,
         event: ChargerEvent,
     },
+    /// An operator takes the bill of a session back.
+    Credit {
+        at: Moment,
+        session_id: CiText<36>,
+    },
     /// The packet of that serial that the party sent arrives.
     Deliver {
         at: Moment,

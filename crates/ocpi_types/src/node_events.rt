@@ -32,6 +32,11 @@ pub enum NodeEventKind {
         at: Moment,
         event: ChargerEvent,
     },
+    /// An operator takes the bill of a session back.
+    Credit {
+        at: Moment,
+        session_id: CiText<36>,
+    },
     /// A packet arrives.
     Deliver {
         at: Moment,
@@ -76,6 +81,10 @@ impl NodeEventKind {
             NodeEventKind::Charger { at, event } => Ok(NodeEventKind::Charger {
                 at: *at,
                 event: *event,
+            }),
+            NodeEventKind::Credit { at, session_id } => Ok(NodeEventKind::Credit {
+                at: *at,
+                session_id: *session_id,
             }),
             NodeEventKind::Deliver { at, packet } => Ok(NodeEventKind::Deliver {
                 at: *at,

@@ -11,6 +11,7 @@ pub mod ServiceChanges
 pub mod AnswerActs
 pub mod Billing
 pub mod CountedDrafts
+pub mod Crediting
 pub mod VersionCounts
 pub mod NewVersions
 pub mod ReportLines

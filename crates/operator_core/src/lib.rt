@@ -17,6 +17,7 @@
 #![tactic(auto)]
 
 mod command_ends;
+mod credits;
 mod from_rows;
 mod operator;
 mod packets;

@@ -4,7 +4,7 @@ ghost use Rattle.std.specs.Prelude.{◌≡◌, IfOk, IfErr, IsOk, OnErr, OnOk};
 ghost use Rattle.operator_rows.specs.State.{opening};
 
 use node_steps::{NodeFault, Stepped, copies};
-use ocpi_text::{CiKey, Moment, Whole};
+use ocpi_text::{CiKey, CiText, Moment, Whole};
 use ocpi_types::{ChargerEvent, Packet, Row, SiteLine};
 use operator_rows::{Books, FullPlan};
 use std::alloc::{AllocError, Global};
@@ -35,12 +35,14 @@ impl Model for Operator {
 }
 
 impl Operator {
+    ghost use Rattle.ocpi_text.specs.Text.{key};
     ghost use Rattle.operator_rows.specs.Rows.{AreChanges, AreRowsOf};
     ghost use Rattle.operator_rows.specs.Sound.{IsConsistent};
     ghost use Rattle.operator_rows.specs.Steps.{HasFullRoomFor, MayFollowFull, after_full, restarted};
     ghost use Rattle.operator_rows.specs.FullSteps.{full_step_of};
     ghost use Rattle.operator_steps.specs.Charger.{ChargerStep};
-    ghost use Rattle.operator_steps.specs.Faults.{IsDue, IsOwnFault, IsReportFault};
+    ghost use Rattle.operator_steps.specs.Credits.{CreditStep};
+    ghost use Rattle.operator_steps.specs.Faults.{IsCreditFault, IsDue, IsOwnFault, IsReportFault};
     ghost use Rattle.operator_steps.specs.Moves.{carried};
     ghost use Rattle.operator_steps.specs.Service.{ServiceStep};
     ghost use Rattle.operator_steps.specs.Steps.{OperatorStep};
@@ -161,6 +163,26 @@ impl Operator {
         ensures rows { IfOk result (λ x. AreChanges self.old.state.rows x.rows.items self.new.state.rows) }
     {
         let plan = self.plan_charger(at, &report)?;
+        Ok(self.carry_out(plan)?)
+    }
+
+    /// The bill of a session is taken back at a moment, where the session is COMPLETED, has one bill and no credit yet,
+    /// and the provider of the bill's token is one of the site. The credit has the bill's id followed by `-C`, the bill's
+    /// cost negated, and the bill's id as its `credit_reference_id`; it is updated later than the bill, and all else is
+    /// as in the bill. It is stored, and pushed to that provider (OCPI 2.2.1, CDRs: CDR object, members `credit` and
+    /// `credit_reference_id`; Sender interface). Nothing happens where there is no such bill, where its id has more than
+    /// 37 characters, or where a record has the id of its credit.
+    ///
+    /// Refused (`StampEnd`) where the bill was updated at the last moment, since no credit can be later, and
+    /// (`NumbersUsedUp`) where a counter of packets or of requests would pass its last number. A refusal, want of memory
+    /// included, changes nothing and sends nothing.
+    pub fn on_credit(&mut self, at: Moment, session_id: CiText<36>) -> Result<Stepped, NodeFault>
+        ensures step { IfOk result (λ x. CreditStep self.old.state at (key session_id) (out_of self.new.state x)) }
+        ensures fault { IfErr result (IsCreditFault self.old.state at (key session_id)) }
+        ensures err { OnErr result (self.new.state ≡ self.old.state) }
+        ensures rows { IfOk result (λ x. AreChanges self.old.state.rows x.rows.items self.new.state.rows) }
+    {
+        let plan = self.plan_credit(at, session_id.key())?;
         Ok(self.carry_out(plan)?)
     }
 

@@ -25,7 +25,7 @@ ghost use Rattle.operator_core.specs.Planned.{StopsActs};
 ghost use Rattle.operator_core.specs.Requests.{acts_of_end};
 ghost use Rattle.session_tables.specs.Moves.{MovesNone};
 
-mod bills;
+pub(crate) mod bills;
 mod session_updates;
 mod swipes;
 

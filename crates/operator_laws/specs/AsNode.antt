@@ -10,7 +10,7 @@ use Rattle.node_laws.specs.Nodes.{Node, Exchange, Request, NodeStep}
 use Rattle.node_laws.specs.Laws.{NodeRun}
 use Rattle.operator_rows.specs.State.{State, opening}
 use Rattle.operator_rows.specs.Sound.{IsConsistent}
-use Rattle.operator_steps.specs.Events.{Input, Arrives, Serves, Reports, Ticks, Restarts, Event, Happens}
+use Rattle.operator_steps.specs.Events.{Input, Arrives, Serves, Reports, Credits, Ticks, Restarts, Event, Happens}
 use Rattle.operator_laws.specs.Laws.{IsOfParty, Run, sent}
 
 abbrev pub pushed_request : Outgoing → Request
@@ -31,6 +31,7 @@ abbrev pub came_in : Input → List Packet
 came_in (Arrives at q) = q ∷ []
 came_in (Serves evse in_service) = []
 came_in (Reports at report) = []
+came_in (Credits at session) = []
 came_in (Ticks at) = []
 came_in Restarts = []
 

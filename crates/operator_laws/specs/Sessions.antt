@@ -7,6 +7,7 @@ use Rattle.ocpi_text.specs.Text.{key}
 use Rattle.ocpi_text.specs.Whole.{max_whole}
 use Rattle.ocpi_text.specs.declared.own_ids.OwnIdKind.{OwnIdKind}
 use Rattle.ocpi_text.specs.declared.own_ids.OwnIdKind.TheVariants as own
+use Rattle.ocpi_types.specs.Credits.{is_credit}
 use Rattle.ocpi_types.specs.Stored.{body_of_push}
 use Rattle.ocpi_types.specs.declared.authorizations.Authorization.TheVariants.{Done}
 use Rattle.ocpi_types.specs.declared.authorizations.AuthorizationInfo.{AuthorizationInfo}
@@ -30,6 +31,7 @@ use Rattle.ocpi_types.specs.declared.words.SessionStatus.TheVariants.{Pending}
 use Rattle.session_state.specs.Pasts.{IsSame}
 use Rattle.session_book.specs.Numbers.{id_key}
 use Rattle.session_tables.specs.Beginnings.{cdr_token_of}
+use Rattle.stored_rows.specs.Records.{record_id_text}
 use Rattle.outbox.specs.declared.push_book.Outgoing.{Outgoing}
 use Rattle.operator_rows.specs.State.{Rows, State, opening}
 use Rattle.operator_rows.specs.Sound.{IsConsistent}
@@ -52,13 +54,21 @@ pub record IsGivenId (kind : OwnIdKind) (party : List ℕ) (last : ℕ) (id : Li
   pub given : number ≤ last
   pub id_is : id ≡ own_id_text kind party number
 
+-- the id of a charge detail record is that of a number, from 1 to the last that was given; that of a credit is followed
+-- by -C
+pub record IsGivenRecord (party : List ℕ) (last : ℕ) (x : Cdr) : Type 0 where
+  pub number : ℕ
+  pub from_one : 0 < number
+  pub given : number ≤ last
+  pub id_is : x.id ≡ record_id_text (is_credit x) party number
+
 -- each session and each charge detail record stands under its id, which is that of a number that was given; no number
 -- beyond the last is given; and different numbers that were given have different ids, also without case
 pub record HaveGivenIds (t : State) : Type 0 where
   pub sessions : (id : List ℕ) (v : Session) → get t.rows.charged.sessions id ≡ Some v →
       (id ≡ key v.id) × IsGivenId own.Session t.party t.rows.charged.last_session v.id
   pub cdrs : (id : List ℕ) (x : Cdr) → get t.rows.charged.cdrs id ≡ Some x →
-      (id ≡ key x.id) × IsGivenId own.Cdr t.party t.rows.charged.last_cdr x.id
+      (id ≡ key x.id) × IsGivenRecord t.party t.rows.charged.last_cdr x
   pub sessions_within : t.rows.charged.last_session ≤ max_whole
   pub cdrs_within : t.rows.charged.last_cdr ≤ max_whole
   pub sessions_differ : (m n : ℕ) → m ≤ t.rows.charged.last_session → n ≤ t.rows.charged.last_session →

@@ -1,5 +1,6 @@
 //! The laws of an operator, over every list of events from its opening. An event is what `operator_steps` says of it
-//! (`Happens`), which is what `Operator::on_packet`, `on_charger`, `on_tick`, `on_service` and `restart` do.
+//! (`Happens`), which is what `Operator::on_packet`, `on_charger`, `on_credit`, `on_tick`, `on_service` and `restart`
+//! do.
 
 ghost use Rattle.operator_laws.specs.AsNode.{StepsAreNodeSteps, RunsAreNodeRuns, PacketsAreAddressed, PushesWereSent};
 ghost use Rattle.operator_laws.specs.Made.{OpenCommandsCame, OpenedCommandsCame, RepliesWereGiven, ReservationsAreMade};

@@ -11,8 +11,8 @@ ghost use Rattle.operator_laws.specs.Sessions.{
   VersionsArePushed,
 };
 
-/// The id of each session and of each charge detail record is that of a number that its counter gave, and different
-/// numbers have different ids.
+/// The id of each session and of each charge detail record is that of a number that its counter gave; that of a credit
+/// is followed by -C. Different numbers have different ids.
 pub fn ids_are_given()
     ensures { IdsAreGiven }
 {}

@@ -18,6 +18,7 @@ pub mod PacketSteps
 pub mod ShownSteps
 pub mod MovedSteps
 pub mod BilledSteps
+pub mod CreditSteps
 pub mod AskedSteps
 pub mod StartedSteps
 pub mod ReportSteps

@@ -8,15 +8,18 @@ use Rattle.operator_rows.specs.Steps.{restarted}
 use Rattle.operator_steps.specs.Moves.{Out, Quietly, StepBy, Work, idle}
 use Rattle.operator_steps.specs.Steps.{Comes}
 use Rattle.operator_steps.specs.Charger.{ChargerLine}
+use Rattle.operator_steps.specs.Credits.{CreditLine}
 use Rattle.operator_steps.specs.Tick.{TickLine}
 use Rattle.operator_steps.specs.Service.{ServiceLine}
 
 -- what reaches an operator: a packet comes at a moment, an EVSE goes out of service or comes back, a charge point
--- reports at a moment, time passes, and the operator starts again from what it stored
+-- reports at a moment, the bill of a session is taken back at a moment, time passes, and the operator starts again from
+-- what it stored
 pub data Input : Type 0 where
   Arrives : ℕ → Packet → Input
   Serves : List ℕ → Bool → Input
   Reports : ℕ → ChargerEvent → Input
+  Credits : ℕ → List ℕ → Input
   Ticks : ℕ → Input
   Restarts : Input
 
@@ -25,6 +28,7 @@ abbrev pub Asks : State → Input → Work → Type 0
 Asks s (Arrives at q) work = Comes s at q work
 Asks s (Serves evse in_service) work = Quietly (ServiceLine s evse in_service) work
 Asks s (Reports at report) work = ChargerLine s at report work
+Asks s (Credits at session) work = Quietly (CreditLine s at session) work
 Asks s (Ticks at) work = TickLine s at work
 Asks s Restarts work = ⊥
 

@@ -8,6 +8,7 @@ use Rattle.operator_rows.specs.Steps.{MayFollowFull}
 use Rattle.operator_steps.specs.Moves.{AreInRange, Quietly, Stage, Work, step_of_work}
 use Rattle.operator_steps.specs.Steps.{Comes}
 use Rattle.operator_steps.specs.Charger.{ChargerLine}
+use Rattle.operator_steps.specs.Credits.{CreditLine}
 use Rattle.operator_steps.specs.Service.{ServiceLine}
 use Rattle.operator_steps.specs.Tick.{TickLine}
 
@@ -24,6 +25,9 @@ ReportsMayFollow = (at : ℕ) (report : ChargerEvent) → MayBeCarriedOut (λ s.
 
 abbrev pub ServiceMayFollow : Type 0
 ServiceMayFollow = (evse : List ℕ) (in_service : Bool) → MayBeCarriedOut (λ s. Quietly (ServiceLine s evse in_service))
+
+abbrev pub CreditsMayFollow : Type 0
+CreditsMayFollow = (at : ℕ) (session : List ℕ) → MayBeCarriedOut (λ s. Quietly (CreditLine s at session))
 
 abbrev pub TicksMayFollow : Type 0
 TicksMayFollow = (at : ℕ) → MayBeCarriedOut (λ s. TickLine s at)

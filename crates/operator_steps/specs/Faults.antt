@@ -1,12 +1,13 @@
 -- When an operator refuses an event.
-use Rattle.std.specs.Prelude.{ℕ, ⊤}
+use Rattle.std.specs.Prelude.{ℕ, List, ⊤}
 use Rattle.ocpi_types.specs.declared.packet.Packet.{Packet}
 use Rattle.ocpi_types.specs.declared.events.ChargerEvent.{ChargerEvent}
 use Rattle.node_steps.specs.declared.fault.NodeFault.{NodeFault}
 use Rattle.node_steps.specs.declared.fault.NodeFault.TheVariants.{NotForMe, UnknownOperator, UnknownToken, StampEnd, NumbersUsedUp, Memory}
 use Rattle.operator_rows.specs.State.{State}
 use Rattle.operator_steps.specs.Charger.{ChargerLine}
-use Rattle.operator_steps.specs.Moves.{AreInRange, Work}
+use Rattle.operator_steps.specs.Credits.{CreditLine, HasNoCreditStamp}
+use Rattle.operator_steps.specs.Moves.{AreInRange, Quietly, Work}
 use Rattle.operator_steps.specs.Sessions.{HasNoStamp}
 use Rattle.operator_steps.specs.Steps.{Comes, IsForMe}
 
@@ -48,3 +49,12 @@ IsReportFault s at report UnknownToken = ⊥
 IsReportFault s at report StampEnd = HasNoStamp s at report
 IsReportFault s at report NumbersUsedUp = PassesLast (ChargerLine s at report) s
 IsReportFault s at report Memory = ⊤
+
+-- the fault of a credit is this one. A bill that was updated at the last moment has no later credit
+abbrev pub IsCreditFault : State → ℕ → List ℕ → NodeFault → Type 0
+IsCreditFault s at session NotForMe = ⊥
+IsCreditFault s at session UnknownOperator = ⊥
+IsCreditFault s at session UnknownToken = ⊥
+IsCreditFault s at session StampEnd = HasNoCreditStamp s session
+IsCreditFault s at session NumbersUsedUp = PassesLast (Quietly (CreditLine s at session)) s
+IsCreditFault s at session Memory = ⊤

@@ -5,6 +5,7 @@ pub mod Asking
 pub mod Steps
 pub mod Ends
 pub mod Charger
+pub mod Credits
 pub mod Tick
 pub mod Service
 pub mod Faults

@@ -1,6 +1,12 @@
 //! What follows for each step of an operator, whatever it is asked to do.
 
-ghost use Rattle.operator_steps.specs.Facts.{PacketsMayFollow, ReportsMayFollow, ServiceMayFollow, TicksMayFollow};
+ghost use Rattle.operator_steps.specs.Facts.{
+  CreditsMayFollow,
+  PacketsMayFollow,
+  ReportsMayFollow,
+  ServiceMayFollow,
+  TicksMayFollow,
+};
 
 /// What a packet asks for may be carried out, where what holds at all times holds.
 pub fn packets_may_follow()
@@ -16,6 +22,11 @@ pub fn reports_may_follow()
 /// holds.
 pub fn service_may_follow()
     ensures { ServiceMayFollow }
+{}
+
+/// What an order to take the bill of a session back asks for may be carried out, where what holds at all times holds.
+pub fn credits_may_follow()
+    ensures { CreditsMayFollow }
 {}
 
 /// What a moment asks for may be carried out, where what holds at all times holds.

@@ -13,7 +13,7 @@ use Rattle.tables.proofs.Maps.{equal_of_is_eq, get-insert_other, get-insert_same
 use Rattle.tables.proofs.Options.{known, none_some}
 use Rattle.tables.specs.Keys.{text_cmp, text_exact, text_total}
 use Rattle.ocpi_text.specs.Text.{key}
-use Rattle.ocpi_types.specs.Credits.{AreAlike, IsBill, IsCredit, is_credit}
+use Rattle.ocpi_types.specs.Credits.{AreAlike, IsBill, IsCredit, credit_id, is_credit}
 use Rattle.ocpi_types.specs.Rows.{key_of}
 use Rattle.ocpi_types.specs.declared.cdrs.Cdr.{Cdr}
 use Rattle.ocpi_types.specs.declared.rows.Row.{Row}
@@ -21,7 +21,6 @@ use Rattle.ocpi_types.specs.declared.rows.Row.TheVariants as row
 use Rattle.ocpi_types.specs.declared.rows.RowKey.{RowKey}
 use Rattle.ocpi_types.specs.declared.sessions.Session.{Session}
 use Rattle.ocpi_types.specs.declared.words.SessionStatus.TheVariants.{Completed}
-use Rattle.stored_rows.specs.Records.{credit_id}
 use Rattle.stored_rows.proofs.RecordNumbers.{same_bill}
 use Rattle.stored_rows.specs.declared.fault.BadReason.{BadReason}
 use Rattle.stored_rows.specs.declared.fault.BadReason.TheVariants as reason

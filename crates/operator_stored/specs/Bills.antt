@@ -5,7 +5,7 @@ use Rattle.std.specs.FinMap.{FinMap, contains_key, get}
 use Rattle.std.specs.FinSet.{FinSet, contains}
 use Rattle.tables.specs.Keys.{text_cmp}
 use Rattle.ocpi_text.specs.Text.{key}
-use Rattle.ocpi_types.specs.Credits.{AreAlike, IsBill, IsCredit, is_credit}
+use Rattle.ocpi_types.specs.Credits.{AreAlike, IsBill, IsCredit, credit_id, is_credit}
 use Rattle.ocpi_types.specs.Rows.{key_of}
 use Rattle.ocpi_types.specs.declared.cdrs.Cdr.{Cdr}
 use Rattle.ocpi_types.specs.declared.rows.Row.{Row}
@@ -13,7 +13,7 @@ use Rattle.ocpi_types.specs.declared.rows.Row.TheVariants as row
 use Rattle.ocpi_types.specs.declared.rows.RowKey.{RowKey}
 use Rattle.ocpi_types.specs.declared.sessions.Session.{Session}
 use Rattle.ocpi_types.specs.declared.words.SessionStatus.TheVariants.{Completed}
-use Rattle.stored_rows.specs.Records.{Credits, credit_id}
+use Rattle.stored_rows.specs.Records.{IsCreditOfBill}
 use Rattle.stored_rows.specs.declared.fault.BadReason.{BadReason}
 use Rattle.stored_rows.specs.declared.fault.BadReason.TheVariants as reason
 
@@ -27,7 +27,7 @@ HasEnded rows id = (v : Session) × Contains rows (row.Session v) × (key v.id �
 
 -- and the bill that a credit takes back
 abbrev pub HasItsBill : List Row → Cdr → Type 0
-HasItsBill rows x = (y : Cdr) × Contains rows (row.Cdr y) × Credits y x
+HasItsBill rows x = (y : Cdr) × Contains rows (row.Cdr y) × IsCreditOfBill y x
 
 -- two bills are of one session, or two credits are
 pub record BillsTwice (rows : List Row) : Type 0 where

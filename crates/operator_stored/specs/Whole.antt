@@ -10,7 +10,7 @@ use Rattle.ocpi_types.specs.declared.sessions.Session.{Session}
 use Rattle.ocpi_types.specs.declared.words.SessionStatus.TheVariants.{Completed}
 use Rattle.session_state.specs.Resuming.{CannotResume}
 use Rattle.stored_rows.specs.Given.{IsOwnId}
-use Rattle.stored_rows.specs.Records.{Credits, IsRecordId}
+use Rattle.stored_rows.specs.Records.{IsCreditOfBill, IsRecordId}
 use Rattle.operator_rows.specs.State.{State, Rows}
 
 -- each COMPLETED session has a bill, no session has two bills, nor two credits, and no other session has a charge detail
@@ -23,7 +23,7 @@ pub record AreBilled (s : Rows) : Type 0 where
   pub once : (i j : List ℕ) (x y : Cdr) → get s.charged.cdrs i ≡ Some x → get s.charged.cdrs j ≡ Some y →
       AreAlike x y → key x.session_id ≡ key y.session_id → i ≡ j
   pub credited : (id : List ℕ) (x : Cdr) → get s.charged.cdrs id ≡ Some x → IsCredit x →
-      (y : Cdr) × (get s.charged.cdrs (key y.id) ≡ Some y) × Credits y x
+      (y : Cdr) × (get s.charged.cdrs (key y.id) ≡ Some y) × IsCreditOfBill y x
 
 pub record IsWhole (s : State) : Type 0 where
   -- each session has an id of the operator's own, and can go on from its newest version: its status is one that a

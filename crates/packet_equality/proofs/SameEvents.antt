@@ -39,10 +39,11 @@ node_event_kinds = by_variants node_event_kind_declared.enum
     (or_else (and_then numbers (at_last tokens))
     (or_else (and_then texts (at_last booleans))
     (or_else (and_then numbers (at_last charger_events))
+    (or_else (and_then numbers (at_last texts))
     (or_else (and_then numbers (at_last packets))
     (or_else (at_last numbers)
     (or_else no_part
-    (or_else no_part no_variant))))))))
+    (or_else no_part no_variant)))))))))
 
 pub node_events : Same (node_event_eq.ghosts).eq
 node_events = by_parts (and_then texts node_event_kinds)

@@ -44,8 +44,8 @@ pub record IsMade (version : ℕ) (old new : State) : Type 0 where
 
 -- ---- a store is opened
 
--- What a table has when it is opened, and of which version it is. It has what the store held, which was of that version;
--- or, where the store was new, nothing but the version that new ones get.
+-- What a table has when it is opened, and of which version it is. It has what the store held, which was of that
+-- version; or, where the store was new, nothing but the version that new ones get.
 abbrev pub Finds : ℕ → ℕ → Database → Content → Type 0
 Finds version found db c =
     ((db.schema ≡ both_tables) × HasVersion found db.trees × (c ≡ content_of db.trees)) ⊎ ((db.schema ≡ no_schema) × (found ≡ version) × (c ≡ at_version version empty))

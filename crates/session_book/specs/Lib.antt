@@ -1,2 +1,4 @@
 pub mod Stored
+pub mod Records
+pub mod Kept
 pub mod Numbers

@@ -1,9 +1,12 @@
 -- What an operator stores of its sessions, its rows, and what changes of rows make of it (OCPI 2.2.1, Sessions:
 -- Session object; CDRs: CDR object).
-use Rattle.std.specs.Prelude.{◌≡◌, ◌≢◌, ◌↔◌, ℕ, zero, suc, List, [], ◌∷◌, ◌++◌, map, Some, AllPairs, Contains, IsTrue, ⊤}
+use Rattle.std.specs.Prelude.{◌≡◌, ◌≢◌, ◌↔◌, ℕ, zero, suc, Bool, List, [], ◌∷◌, ◌++◌, map, Option, Some, None, AllPairs, Contains, IsTrue, ⊤}
+use Rattle.std.specs.Ordering.{bool_cmp}
 use Rattle.std.specs.FinMap.{FinMap, get, insert, remove, contains_key, empty, entries}
+use Rattle.std.specs.declared.cmp.Ordering.{Ordering}
 use Rattle.ocpi_text.specs.Text.{key}
-use Rattle.tables.specs.Keys.{text_cmp}
+use Rattle.tables.specs.Keys.{pair_cmp, text_cmp}
+use Rattle.ocpi_types.specs.Credits.{is_credit}
 use Rattle.ocpi_types.specs.declared.cdrs.Cdr.{Cdr}
 use Rattle.ocpi_types.specs.declared.sessions.Session.{Session}
 use Rattle.ocpi_types.specs.declared.rows.Row.{Row}
@@ -39,10 +42,23 @@ pub record AreKeyed (s : Rows) : Type 0 where
   pub sessions : (id : List ℕ) (v : Session) → get s.sessions id ≡ Some v → id ≡ key v.id
   pub cdrs : (id : List ℕ) (x : Cdr) → get s.cdrs id ≡ Some x → id ≡ key x.id
 
--- the keys that have a session, or room for one, and those of charge detail records
+-- a charge detail record among those of its session: the session, in key form, whether the record is a credit, and its
+-- id, in key form
+abbrev pub SessionKey : Type 0
+SessionKey = (List ℕ × Bool) × List ℕ
+
+abbrev pub session_cmp : SessionKey → SessionKey → Ordering
+session_cmp = pair_cmp (pair_cmp text_cmp bool_cmp) text_cmp
+
+abbrev pub session_entry : List ℕ → Cdr → SessionKey
+session_entry id x = ((key x.session_id, is_credit x), id)
+
+-- the keys that have a session, or room for one; those of charge detail records; and those of charge detail records
+-- among those of their sessions
 pub record Rooms : Type 0 where
   pub sessions : FinMap text_cmp (Unit {0})
   pub cdrs : FinMap text_cmp (Unit {0})
+  pub by_session : FinMap session_cmp (Unit {0})
 
 pub record Held : Type 0 where
   pub rows : Rows
@@ -94,26 +110,36 @@ drop_row (keys.Pending provider number) s = s
 drop_row (keys.Result provider number) s = s
 drop_row (keys.Command number) s = s
 
+-- the record gives back the room that it has among those of its session
+abbrev pub without_entry : List ℕ → Option Cdr → FinMap session_cmp (Unit {0}) → FinMap session_cmp (Unit {0})
+without_entry id None rooms = rooms
+without_entry id (Some x) rooms = remove rooms (session_entry id x)
+
 -- what is dropped gives its room back
-abbrev pub rooms_after_drop : RowKey → Rooms → Rooms
-rooms_after_drop (keys.Session operator id) rooms = record rooms { sessions = remove rooms.sessions id }
-rooms_after_drop (keys.Cdr operator id) rooms = record rooms { cdrs = remove rooms.cdrs id }
-rooms_after_drop (keys.Count c) rooms = rooms
-rooms_after_drop (keys.Token p type uid) rooms = rooms
-rooms_after_drop (keys.Reply sender number) rooms = rooms
-rooms_after_drop (keys.Push number) rooms = rooms
-rooms_after_drop (keys.Service evse_uid) rooms = rooms
-rooms_after_drop (keys.Spent provider reference) rooms = rooms
-rooms_after_drop (keys.Mark provider reservation_id) rooms = rooms
-rooms_after_drop (keys.Reservation provider reservation_id) rooms = rooms
-rooms_after_drop (keys.Pending provider number) rooms = rooms
-rooms_after_drop (keys.Result provider number) rooms = rooms
-rooms_after_drop (keys.Command number) rooms = rooms
+abbrev pub rooms_after_drop : RowKey → Rows → Rooms → Rooms
+rooms_after_drop (keys.Session operator id) s rooms = record rooms { sessions = remove rooms.sessions id }
+rooms_after_drop (keys.Cdr operator id) s rooms = record rooms { cdrs = remove rooms.cdrs id; by_session = without_entry id (get s.cdrs id) rooms.by_session }
+rooms_after_drop (keys.Count c) s rooms = rooms
+rooms_after_drop (keys.Token p type uid) s rooms = rooms
+rooms_after_drop (keys.Reply sender number) s rooms = rooms
+rooms_after_drop (keys.Push number) s rooms = rooms
+rooms_after_drop (keys.Service evse_uid) s rooms = rooms
+rooms_after_drop (keys.Spent provider reference) s rooms = rooms
+rooms_after_drop (keys.Mark provider reservation_id) s rooms = rooms
+rooms_after_drop (keys.Reservation provider reservation_id) s rooms = rooms
+rooms_after_drop (keys.Pending provider number) s rooms = rooms
+rooms_after_drop (keys.Result provider number) s rooms = rooms
+rooms_after_drop (keys.Command number) s rooms = rooms
+
+-- the record takes no memory
+pub record HasRoomOfCdr (rooms : Rooms) (x : Cdr) : Type 0 where
+  pub of_record : IsTrue (contains_key rooms.cdrs (key x.id))
+  pub of_session : IsTrue (contains_key rooms.by_session (session_entry (key x.id) x))
 
 -- the row takes no memory
 abbrev pub HasRoomOf : Rooms → Row → Type 0
 HasRoomOf rooms (row.Session v) = IsTrue (contains_key rooms.sessions (key v.id))
-HasRoomOf rooms (row.Cdr x) = IsTrue (contains_key rooms.cdrs (key x.id))
+HasRoomOf rooms (row.Cdr x) = HasRoomOfCdr rooms x
 HasRoomOf rooms (row.Count c n) = ⊤
 HasRoomOf rooms (row.Token t) = ⊤
 HasRoomOf rooms (row.Reply sender number reply) = ⊤
@@ -129,7 +155,7 @@ HasRoomOf rooms (row.Command number command) = ⊤
 -- the rooms once there is room for a row
 abbrev pub rooms_with : Row → Rooms → Rooms
 rooms_with (row.Session v) rooms = record rooms { sessions = insert rooms.sessions (key v.id) tt }
-rooms_with (row.Cdr x) rooms = record rooms { cdrs = insert rooms.cdrs (key x.id) tt }
+rooms_with (row.Cdr x) rooms = record rooms { cdrs = insert rooms.cdrs (key x.id) tt; by_session = insert rooms.by_session (session_entry (key x.id) x) tt }
 rooms_with (row.Count c n) rooms = rooms
 rooms_with (row.Token t) rooms = rooms
 rooms_with (row.Reply sender number reply) rooms = rooms

@@ -1,10 +1,34 @@
 //! The sessions and the charge detail records of an operator.
 
-ghost use Rattle.std.specs.Prelude.{◌≡◌, OnOk, OnErr, IsOk, IsTrue, ℕ, List, option_copied};
+ghost use Rattle.std.specs.Prelude.{
+  ◌≡◌,
+  ◌↔◌,
+  OnOk,
+  OnErr,
+  IfSome,
+  IfNone,
+  IsOk,
+  IsTrue,
+  ℕ,
+  List,
+  option_copied,
+};
 ghost use Rattle.std.specs.FinMap as map;
 ghost use Rattle.ocpi_text.specs.Text.{key};
-ghost use Rattle.session_book.specs.Stored.{AreKeyed, no_rows, with_session, with_cdr};
+ghost use Rattle.ocpi_types.specs.declared.cdrs.Cdr.{Cdr};
+ghost use Rattle.ocpi_types.specs.declared.rows.Row.TheVariants as row;
+ghost use Rattle.session_book.specs.Records.{HasCredit, IsSoleBill};
+ghost use Rattle.session_book.specs.Stored.{
+  AreKeyed,
+  HasRoomOfCdr,
+  no_rows,
+  rooms_with,
+  with_session,
+  with_cdr,
+  without_entry,
+};
 
+use crate::records::Records;
 use ocpi_text::{CiKey, Whole};
 use ocpi_types::{Boxed, Cdr, Session};
 use std::alloc::{AllocError, Global};
@@ -14,11 +38,12 @@ use tables::Table;
 /// The newest versions of the sessions of an operator, and its charge detail records, each by its id without case, and
 /// the numbers of the last of both. All are the operator's own, so that ids alone tell them apart.
 ///
-/// A look-up and a change cost the logarithm of the number of sessions, or of records.
+/// A look-up and a change cost the logarithm of the number of sessions, or of records, and so does a look-up of the bill
+/// or the credit of a session.
 #[derive(Drop)]
 pub struct SessionBook {
     pub(crate) sessions: Table<CiKey<36>, Boxed<Session>>,
-    pub(crate) cdrs: Table<CiKey<39>, Boxed<Cdr>>,
+    pub(crate) records: Records,
     last_session: Whole,
     last_cdr: Whole,
 }
@@ -37,16 +62,16 @@ impl Model for SessionBook {
     ghost view = { λ b. record {
       rows = record {
         sessions = shown_of text_cmp b.sessions;
-        cdrs = shown_of text_cmp b.cdrs;
+        cdrs = b.records.cdrs;
         last_session = b.last_session;
         last_cdr = b.last_cdr;
       };
-      rooms = record { sessions = rooms_of text_cmp b.sessions; cdrs = rooms_of text_cmp b.cdrs };
+      rooms = record { sessions = rooms_of text_cmp b.sessions; cdrs = b.records.rooms.cdrs; by_session = b.records.rooms.by_session };
     } };
 
     ghost invariant = { λ b. AreKeyed (record {
       sessions = shown_of text_cmp b.sessions;
-      cdrs = shown_of text_cmp b.cdrs;
+      cdrs = b.records.cdrs;
       last_session = b.last_session;
       last_cdr = b.last_cdr;
     }) };
@@ -56,11 +81,11 @@ impl SessionBook {
     /// Nothing is stored, and no number was given. It takes no memory.
     pub fn new(alloc: Global) -> SessionBook
         ensures rows { result.rows ≡ no_rows }
-        ensures rooms { result.rooms ≡ record { sessions = map.empty; cdrs = map.empty } }
+        ensures rooms { result.rooms ≡ record { sessions = map.empty; cdrs = map.empty; by_session = map.empty } }
     {
         SessionBook {
             sessions: Table::new(alloc),
-            cdrs: Table::new(alloc),
+            records: Records::new(alloc),
             last_session: Whole::new(0).unwrap(),
             last_cdr: Whole::new(0).unwrap(),
         }
@@ -88,10 +113,22 @@ impl SessionBook {
     pub fn cdr(&self, id: CiKey<39>) -> Option<&Cdr>
         ensures { option_copied result ≡ map.get self.now.rows.cdrs id }
     {
-        match self.cdrs.get(id) {
-            Some(cdr) => Some(cdr),
-            None => None,
-        }
+        self.records.get(id)
+    }
+
+    /// The bill of a session, where it has one alone. It takes no memory.
+    pub fn sole_bill(&self, session: CiKey<36>) -> Option<&Cdr>
+        ensures some { IfSome (option_copied result) (IsSoleBill self.now.rows session) }
+        ensures none { IfNone result ((bill : Cdr) → IsSoleBill self.now.rows session bill → ⊥) }
+    {
+        self.records.sole_bill(session)
+    }
+
+    /// Whether a session has a credit. It takes no memory.
+    pub fn has_credit(&self, session: CiKey<36>) -> bool
+        ensures { IsTrue result ↔ HasCredit self.now.rows session }
+    {
+        self.records.has_credit(session)
     }
 
     /// The number of the last session, or 0.
@@ -134,16 +171,15 @@ impl SessionBook {
     }
 
     /// Takes the room that a charge detail record needs. An error is want of memory, for one that has no room.
-    pub(crate) fn reserve_cdr(&mut self, id: CiKey<39>) -> Result<(), AllocError>
+    pub(crate) fn reserve_cdr(&mut self, cdr: &Cdr) -> Result<(), AllocError>
         ensures rows { self.new.rows ≡ self.old.rows }
-        ensures rooms { OnOk result (self.new.rooms ≡ record self.old.rooms { cdrs = map.insert self.old.rooms.cdrs id tt }) }
-        ensures ready { OnOk result (IsTrue (map.contains_key self.new.rooms.cdrs id)) }
-        ensures keeps { (k : List ℕ) → IsTrue (map.contains_key self.old.rooms.cdrs k) → IsTrue (map.contains_key self.new.rooms.cdrs k) }
+        ensures rooms { OnOk result (self.new.rooms ≡ rooms_with (row.Cdr cdr.now) self.old.rooms) }
+        ensures keeps { (x : Cdr) → HasRoomOfCdr self.old.rooms x → HasRoomOfCdr self.new.rooms x }
         ensures others { self.new.rooms.sessions ≡ self.old.rooms.sessions }
-        ensures again { IsTrue (map.contains_key self.old.rooms.cdrs id) → IsOk result }
+        ensures again { HasRoomOfCdr self.old.rooms cdr.now → IsOk result }
         ensures err { OnErr result (self.new ≡ self.old) }
     {
-        self.cdrs.reserve(id)
+        self.records.reserve(cdr)
     }
 
     /// Puts a version of a session, in the place of the one of its id if there is one. It takes no memory.
@@ -158,12 +194,11 @@ impl SessionBook {
 
     /// Puts a charge detail record, in the place of the one of its id if there is one. It takes no memory.
     pub(crate) fn put_cdr(&mut self, cdr: Boxed<Cdr>)
-        requires { IsTrue (map.contains_key self.old.rooms.cdrs (key cdr.id)) }
+        requires { HasRoomOfCdr self.old.rooms cdr }
         ensures rows { self.new.rows ≡ with_cdr cdr self.old.rows }
         ensures rooms { self.new.rooms ≡ self.old.rooms }
     {
-        let id = cdr.id.key();
-        self.cdrs.put(id, cdr);
+        self.records.put(cdr);
     }
 
     /// Takes the session of an id out, and its room. It takes no memory.
@@ -177,8 +212,8 @@ impl SessionBook {
     /// Takes the charge detail record of an id out, and its room. It takes no memory.
     pub(crate) fn drop_cdr(&mut self, id: CiKey<39>)
         ensures rows { self.new.rows ≡ record self.old.rows { cdrs = map.remove self.old.rows.cdrs id } }
-        ensures rooms { self.new.rooms ≡ record self.old.rooms { cdrs = map.remove self.old.rooms.cdrs id } }
+        ensures rooms { self.new.rooms ≡ record self.old.rooms { cdrs = map.remove self.old.rooms.cdrs id; by_session = without_entry id (map.get self.old.rows.cdrs id) self.old.rooms.by_session } }
     {
-        drop(self.cdrs.remove(id));
+        self.records.remove(id);
     }
 }

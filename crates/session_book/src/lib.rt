@@ -7,12 +7,14 @@
 //! book.reserve_row(&row)?;
 //! book.put_row(row);
 //! let version = book.session(id.key());
+//! let bill = book.sole_bill(id.key());
 //! ```
 #![tactic(auto)]
 
 mod book;
 mod ids;
 pub mod laws;
+mod records;
 mod stored;
 
 pub use book::SessionBook;

@@ -61,7 +61,7 @@ impl SessionBook {
     {
         match row {
             Row::Session { session } => self.reserve_session(session.id.key()),
-            Row::Cdr { cdr } => self.reserve_cdr(cdr.id.key()),
+            Row::Cdr { cdr } => self.reserve_cdr(cdr),
             Row::Count { .. }
             | Row::Reply { .. }
             | Row::Token { .. }
@@ -104,7 +104,7 @@ impl SessionBook {
     /// Drops the row of a kind and key, if there is one, and gives its room back. It takes no memory.
     pub fn drop_row(&mut self, key: RowKey)
         ensures rows { self.new.rows ≡ drop_row key self.old.rows }
-        ensures rooms { self.new.rooms ≡ rooms_after_drop key self.old.rooms }
+        ensures rooms { self.new.rooms ≡ rooms_after_drop key self.old.rows self.old.rooms }
         ensures keeps { KeepsOtherRoom key self.old.rooms self.new.rooms }
     {
         match key {
@@ -150,7 +150,7 @@ impl SessionBook {
         ensures list { OnOk result (rows.new.items ≡ rows.old.items ++ list_map cdr_row (map.entries self.now.rows.cdrs)) }
         ensures none { self.now.rows.cdrs ≡ map.empty → IsOk result }
     {
-        for (_, cdr) in self.cdrs.iter() {
+        for (_, cdr) in self.records.iter() {
             let cdr = cdr.copy()?;
             rows.push(Row::Cdr { cdr })?;
         }

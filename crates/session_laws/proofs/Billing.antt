@@ -1,13 +1,16 @@
--- Charge detail records: each is of a COMPLETED version, which has one.
-use Rattle.std.proofs.Common.{◌≡◌, ◌≢◌, ◌⊎◌, ◌+◌, ℕ, ℤ, pos, List, map, inl, inr, refl, sym, ap, subst, ◌∙◌, arith}
+-- Charge detail records: each bill is of a COMPLETED version, which has one, and each credit takes back a bill that had
+-- none.
+use Rattle.std.proofs.Common.{◌≡◌, ◌≢◌, ◌⊎◌, ◌+◌, ℕ, ℤ, true, false, pos, List, map, inl, inr, refl, sym, ap, subst, ◌∙◌, arith}
 use Rattle.std.specs.Prelude.{Option, Some, None, Contains, unwrap_or}
 use Rattle.std.specs.FinMap.{get, get-empty}
+use Rattle.std.proofs.lemmas.Bool.{cases_Bool}
 use Rattle.tables.specs.Keys.{text_cmp}
 use Rattle.tables.proofs.Elements.{of_map}
 use Rattle.tables.proofs.Options.{none_some, not_both}
 use Rattle.ocpi_text.specs.Text.{key}
 use Rattle.ocpi_text.specs.OwnIds.{own_id_text}
 use Rattle.ocpi_text.specs.declared.own_ids.OwnIdKind.TheVariants as own
+use Rattle.ocpi_types.specs.Credits.{AreAlike, IsBill, IsCredit, credit_id, is_credit}
 use Rattle.ocpi_types.specs.Rows.{key_of}
 use Rattle.ocpi_types.specs.declared.site.SiteLine.{SiteLine}
 use Rattle.ocpi_types.specs.declared.cdrs.Cdr.{Cdr}
@@ -35,12 +38,13 @@ use Rattle.operator_rows.specs.Stored.{change_key}
 use Rattle.operator_rows.specs.Sound.{IsConsistent, MayChange}
 use Rattle.operator_rows.specs.Steps.{IsNextOf}
 use Rattle.operator_rows.proofs.KeepingTimes.{opening_consistent}
-use Rattle.operator_steps.specs.Events.{Event, Happens}
+use Rattle.operator_steps.specs.Credits.{CreditsTo, next_credit}
+use Rattle.operator_steps.specs.Events.{Credits, Event, Happens}
 use Rattle.operator_steps.specs.Sessions as acts_of
 use Rattle.operator_steps.specs.Sessions.{IsBilled, IsMoved, first_of, next_cdr}
 use Rattle.session_laws.specs.Pasts.{stored}
-use Rattle.session_laws.specs.Bills.{AreBilledOnce, IsRecordOf, PutsRecords, RecordsAreOfCompletedSessions, RecordsStay, SessionsAreBilledOnce}
-use Rattle.session_laws.proofs.Causes.{CdrCause, Billed, SessionCause, Begun, Moved}
+use Rattle.session_laws.specs.Bills.{AreBilledOnce, IsFirstCredit, IsRecordOf, PutsRecords, RecordsAreOfCompletedSessions, RecordsStay, SessionsAreBilledOnce}
+use Rattle.session_laws.proofs.Causes.{CdrCause, Billed, Credited, SessionCause, Begun, Moved}
 use Rattle.session_laws.proofs.Caused.{cdr_cause, session_cause}
 use Rattle.session_laws.proofs.Doing.{Does, does}
 use Rattle.session_laws.proofs.Growing.{no_turn}
@@ -106,12 +110,51 @@ module _ (s t : State) (e : Event) (fine : IsConsistent s) (d : Does s e t) wher
   each_billed v complete (Moved at report reports m is) =
       subst (λ z. (x : Cdr) × Contains e.changes (Put (row.Cdr x)) × IsRecordOf s z x) (sym is) (bill_put at report m (sym (ap (λ (z : Session). z.status) is) ∙ complete))
 
-  only_billed : (x : Cdr) → CdrCause s e.input d.acts x → (v : Session) × Contains e.changes (Put (row.Session v)) × IsRecordOf s v x
-  only_billed x (Billed at report reports m complete l c k place within is) =
+  only_billed : (x : Cdr) → IsBill x → CdrCause s e.input d.acts x → (v : Session) × Contains e.changes (Put (row.Session v)) × IsRecordOf s v x
+  only_billed x bill (Billed at report reports m complete l c k place within is) =
       (m.after, moved_put at report m, subst (IsRecordOf s m.after) (sym is) (is_record m.after l c k (moved_put at report m) complete place))
+  only_billed x bill (Credited at session orders y to takes is) = let never : true ≡ false = sym (ap is_credit is) ∙ bill in absurd (cc)
+
+  -- the credit of a bill that is taken back
+  first_credit : (at : ℕ) (session : List ℕ) (bill : Cdr) (to : List ℕ) → CreditsTo s session bill to → IsFirstCredit s (next_credit at bill)
+  first_credit at session bill to takes =
+      let h = takes.bill in
+      let of_session : key bill.session_id ≡ session = h.billed.billed.of_session in
+      record {
+        bill = bill;
+        stands = h.billed.billed.stands;
+        is_bill = h.billed.is_bill;
+        takes_back = refl;
+        later = omega arith;
+        version = h.version;
+        newest = ap (stored s) of_session ∙ h.stands;
+        completed = h.completed;
+        first = λ id y has same credit. h.uncredited (record {
+          credit = y;
+          credited = record { stands = ap (get s.rows.charged.cdrs) (sym (fine.sound.charged_keyed.cdrs id y has)) ∙ has; of_session = same ∙ of_session };
+          is_credit = credit;
+        });
+        new = h.new;
+      }
+
+  credited : (x : Cdr) → IsCredit x → CdrCause s e.input d.acts x → IsFirstCredit s x
+  credited x credit (Billed at report reports m complete l c k place within is) = let never : false ≡ true = sym (ap is_credit is) ∙ credit in absurd (cc)
+  credited x credit (Credited at session orders bill to takes is) = subst (IsFirstCredit s) (sym is) (first_credit at session bill to takes)
+
+  -- which was ordered for its session
+  ordered : (x : Cdr) → IsCredit x → CdrCause s e.input d.acts x → (at : ℕ) × (e.input ≡ Credits at (key x.session_id))
+  ordered x credit (Billed at report reports m complete l c k place within is) = let never : false ≡ true = sym (ap is_credit is) ∙ credit in absurd (cc)
+  ordered x credit (Credited at session orders bill to takes is) =
+      let of_session : session ≡ key x.session_id = sym takes.bill.billed.billed.of_session ∙ sym (ap (λ (z : Cdr). key z.session_id) is) in
+      (at, orders ∙ ap (Credits at) of_session)
 
   pub puts_records : PutsRecords s e
-  puts_records = record { each = λ v i complete. each_billed v complete (session_cause s t e fine d v i); only = λ x i. only_billed x (cdr_cause s t e fine d x i) }
+  puts_records = record {
+    each = λ v i complete. each_billed v complete (session_cause s t e fine d v i);
+    only = λ x i bill. only_billed x bill (cdr_cause s t e fine d x i);
+    credits = λ x i credit. credited x credit (cdr_cause s t e fine d x i);
+    ordered = λ x i credit. ordered x credit (cdr_cause s t e fine d x i);
+  }
 
 pub records_are_of_completed_sessions : RecordsAreOfCompletedSessions
 records_are_of_completed_sessions s t e fine happens = puts_records s t e fine (does s t e fine happens)
@@ -165,16 +208,45 @@ module _ (s t : State) (e : Event) (fine : IsConsistent s) (d : Does s e t) wher
   final_kept : (id : List ℕ) (v : Session) → stored s id ≡ Some v → IsFinal v.status → stored t id ≡ Some v
   final_kept id v has final = stays s t e d id fine (λ w i. none_after id v w has final i) ∙ has
 
-  -- a record of the event, and one from before, are of different sessions
-  apart_records : AreBilledOnce s → (x y : Cdr) (j : List ℕ) → Contains e.changes (Put (row.Cdr x)) → get s.rows.charged.cdrs j ≡ Some y → key x.session_id ≢ key y.session_id
-  apart_records h x y j i has same =
-      let (v, put, r) = (puts_records s t e fine d).only x i in
-      let (w, had, bills) = h.only j y has in
+  -- a bill of the event, and one from before, are of different sessions
+  apart_bills : AreBilledOnce s → (x y : Cdr) (j : List ℕ) → Contains e.changes (Put (row.Cdr x)) → get s.rows.charged.cdrs j ≡ Some y → IsBill x → IsBill y → key x.session_id ≢ key y.session_id
+  apart_bills h x y j i has bill_x bill_y same =
+      let (v, put, r) = (puts_records s t e fine d).only x i bill_x in
+      let (w, had, bills) = h.only j y has bill_y in
       none_after (key w.id) w v had (final_completed w.status bills.completed) put (ap key (sym r.bills.session) ∙ same ∙ ap key bills.session)
 
-  -- all records of an event have one id
-  one_id : (x : Cdr) → Contains e.changes (Put (row.Cdr x)) → x.id ≡ own_id_text own.Cdr s.party (s.rows.charged.last_cdr + 1)
-  one_id x i = let (v, put, r) = (puts_records s t e fine d).only x i in ap (λ (z : Cdr). z.id) r.record_is
+  -- and so are credits
+  apart_credits : (x y : Cdr) (j : List ℕ) → Contains e.changes (Put (row.Cdr x)) → get s.rows.charged.cdrs j ≡ Some y → IsCredit x → IsCredit y → key x.session_id ≢ key y.session_id
+  apart_credits x y j i has credit_x credit_y same =
+      let f = (puts_records s t e fine d).credits x i credit_x in
+      f.first j y has (sym same ∙ ap (λ (z : Cdr). key z.session_id) f.takes_back) credit_y
+
+  apart_records : AreBilledOnce s → (x y : Cdr) (j : List ℕ) → Contains e.changes (Put (row.Cdr x)) → get s.rows.charged.cdrs j ≡ Some y → AreAlike x y → key x.session_id ≢ key y.session_id
+  apart_records h x y j i has alike = elim (cases_Bool (is_credit x)) [
+    | inl credit ↦ apart_credits x y j i has credit (sym alike ∙ credit)
+    | inr bill ↦ apart_bills h x y j i has bill (sym alike ∙ bill)
+  ]
+
+  -- all bills of an event have one id
+  bill_id : (x : Cdr) → Contains e.changes (Put (row.Cdr x)) → IsBill x → x.id ≡ own_id_text own.Cdr s.party (s.rows.charged.last_cdr + 1)
+  bill_id x i bill = let (v, put, r) = (puts_records s t e fine d).only x i bill in ap (λ (z : Cdr). z.id) r.record_is
+
+  -- and all its credits of one session, which has one bill
+  same_credit_id : AreBilledOnce s → (x y : Cdr) → Contains e.changes (Put (row.Cdr x)) → Contains e.changes (Put (row.Cdr y)) → IsCredit x → IsCredit y → key x.session_id ≡ key y.session_id → x.id ≡ y.id
+  same_credit_id h x y i j credit_x credit_y same =
+      let f = (puts_records s t e fine d).credits x i credit_x in
+      let g = (puts_records s t e fine d).credits y j credit_y in
+      let session : key f.bill.session_id ≡ key g.bill.session_id = sym (ap (λ (z : Cdr). key z.session_id) f.takes_back) ∙ same ∙ ap (λ (z : Cdr). key z.session_id) g.takes_back in
+      let ids : key f.bill.id ≡ key g.bill.id = h.once (key f.bill.id) (key g.bill.id) f.bill g.bill f.stands g.stands session (f.is_bill ∙ sym g.is_bill) in
+      let both : Some f.bill ≡ Some g.bill = sym f.stands ∙ ap (get s.rows.charged.cdrs) ids ∙ g.stands in
+      let one : f.bill ≡ g.bill = cc in
+      ap (λ (z : Cdr). z.id) f.takes_back ∙ ap (λ (z : Cdr). credit_id z.id) one ∙ sym (ap (λ (z : Cdr). z.id) g.takes_back)
+
+  same_id : AreBilledOnce s → (x y : Cdr) → Contains e.changes (Put (row.Cdr x)) → Contains e.changes (Put (row.Cdr y)) → key x.session_id ≡ key y.session_id → AreAlike x y → x.id ≡ y.id
+  same_id h x y i j same alike = elim (cases_Bool (is_credit x)) [
+    | inl credit ↦ same_credit_id h x y i j credit (sym alike ∙ credit) same
+    | inr bill ↦ bill_id x i bill ∙ sym (bill_id y j (sym alike ∙ bill))
+  ]
 
   billed_stays : AreBilledOnce s → AreBilledOnce t
   billed_stays h = record {
@@ -182,18 +254,22 @@ module _ (s t : State) (e : Event) (fine : IsConsistent s) (d : Does s e t) wher
       | inl old ↦ (let (x, had, bills) = h.each id v old complete in (x, record_stays (key x.id) x had, bills))
       | inr i ↦ (let (x, put, r) = (puts_records s t e fine d).each v i complete in (x, record_stands x put, r.bills))
     ];
-    only = λ id x has. elim (record_from id x has) [
-      | inl old ↦ (let (v, had, bills) = h.only id x old in (v, final_kept (key v.id) v had (final_completed v.status bills.completed), bills))
-      | inr i ↦ (let (v, put, r) = (puts_records s t e fine d).only x i in (v, stands s t e d (key v.id) v put refl, r.bills))
+    only = λ id x has bill. elim (record_from id x has) [
+      | inl old ↦ (let (v, had, bills) = h.only id x old bill in (v, final_kept (key v.id) v had (final_completed v.status bills.completed), bills))
+      | inr i ↦ (let (v, put, r) = (puts_records s t e fine d).only x i bill in (v, stands s t e d (key v.id) v put refl, r.bills))
     ];
-    once = λ i j x y has_x has_y same. elim (record_from i x has_x) [
+    credits = λ id x has credit. elim (record_from id x has) [
+      | inl old ↦ (let (y, had, bill, is) = h.credits id x old credit in (y, record_stays (key y.id) y had, bill, is))
+      | inr i ↦ (let f = (puts_records s t e fine d).credits x i credit in (f.bill, record_stays (key f.bill.id) f.bill f.stands, f.is_bill, f.takes_back))
+    ];
+    once = λ i j x y has_x has_y same alike. elim (record_from i x has_x) [
       | inl old_x ↦ elim (record_from j y has_y) [
-        | inl old_y ↦ h.once i j x y old_x old_y same
-        | inr new_y ↦ absurd (apart_records h y x i new_y old_x (sym same))
+        | inl old_y ↦ h.once i j x y old_x old_y same alike
+        | inr new_y ↦ absurd (apart_records h y x i new_y old_x (sym alike) (sym same))
       ]
       | inr new_x ↦ elim (record_from j y has_y) [
-        | inl old_y ↦ absurd (apart_records h x y j new_x old_y same)
-        | inr new_y ↦ d.consistent.sound.charged_keyed.cdrs i x has_x ∙ ap key (one_id x new_x ∙ sym (one_id y new_y)) ∙ sym (d.consistent.sound.charged_keyed.cdrs j y has_y)
+        | inl old_y ↦ absurd (apart_records h x y j new_x old_y alike same)
+        | inr new_y ↦ d.consistent.sound.charged_keyed.cdrs i x has_x ∙ ap key (same_id h x y new_x new_y same alike) ∙ sym (d.consistent.sound.charged_keyed.cdrs j y has_y)
       ]
     ];
   }
@@ -201,8 +277,9 @@ module _ (s t : State) (e : Event) (fine : IsConsistent s) (d : Does s e t) wher
 none_billed : (line : SiteLine) → AreBilledOnce (opening line)
 none_billed line = record {
   each = λ id v has complete. none_some v (sym (get-empty text_cmp id) ∙ has);
-  only = λ id x has. none_some x (sym (get-empty text_cmp id) ∙ has);
-  once = λ i j x y has_x has_y same. none_some x (sym (get-empty text_cmp i) ∙ has_x);
+  only = λ id x has bill. none_some x (sym (get-empty text_cmp id) ∙ has);
+  credits = λ id x has credit. none_some x (sym (get-empty text_cmp id) ∙ has);
+  once = λ i j x y has_x has_y same alike. none_some x (sym (get-empty text_cmp i) ∙ has_x);
 }
 
 pub sessions_are_billed_once : SessionsAreBilledOnce

@@ -39,7 +39,9 @@ use Rattle.operator_steps.specs.Asking.{AnswerActs, IsAnswered}
 use Rattle.operator_steps.specs.Ends.{all_resent, ends_acts, expired_acts}
 use Rattle.operator_steps.specs.Charger as charger
 use Rattle.operator_steps.specs.Charger.{ChargerLine}
-use Rattle.operator_steps.specs.Events.{Event, Input, Arrives, Serves, Reports, Ticks, Restarts, Asks}
+use Rattle.operator_steps.specs.Credits as credits
+use Rattle.operator_steps.specs.Credits.{CreditLine, next_credit}
+use Rattle.operator_steps.specs.Events.{Event, Input, Arrives, Serves, Reports, Credits, Ticks, Restarts, Asks}
 use Rattle.operator_steps.specs.Moves.{AreInRange, Quietly, Work, quiet}
 use Rattle.operator_steps.specs.Service as service
 use Rattle.operator_steps.specs.Service.{ServiceLine}
@@ -60,7 +62,7 @@ use Rattle.session_tables.specs.declared.shown.Shown.TheVariants as shown
 use Rattle.session_tables.specs.Answers.{BeginsByAnswer, Decided}
 use Rattle.session_laws.proofs.Doing.{Does, IsAsked, Nothing, Asked}
 use Rattle.session_laws.proofs.Covering.{Covers, covers_acts, covers_append, covers_kinds, covers_record, covers_version}
-use Rattle.session_laws.proofs.Causes.{CdrCause, Billed, HowBegun, Started, Shown, Answered, Unanswered, SessionCause, Begun, Moved}
+use Rattle.session_laws.proofs.Causes.{CdrCause, Billed, Credited, HowBegun, Started, Shown, Answered, Unanswered, SessionCause, Begun, Moved}
 
 module _ (P : Session → Type 0) (Q : Cdr → Type 0) where
   -- the acts of a version, of a session that begins, and of a record
@@ -79,9 +81,12 @@ module _ (P : Session → Type 0) (Q : Cdr → Type 0) where
       (covers_acts P Q (used (key b.token.party) b.reservation_id) (versioned at last is.versioned.to is.versioned.old (first_of s at n b)) (covers_used (key b.token.party) b.reservation_id)
       (covers_versioned at last is.versioned.to is.versioned.old (first_of s at n b) p))
 
-  covers_bill : (at last n : ℕ) (to : List ℕ) (x : Cdr) → Q x → Covers P Q (Put (row.Count counter.Cdr n) ∷ (Put (row.Push (last + 1) to (push.PostCdr x)) ∷ (Put (row.Cdr x) ∷ [])))
-  covers_bill at last n to x q =
-      covers_append P Q (Put (row.Count counter.Cdr n) ∷ (Put (row.Push (last + 1) to (push.PostCdr x)) ∷ [])) (Put (row.Cdr x) ∷ []) (covers_kinds P Q _ refl refl) (covers_record P Q x q)
+  covers_posted : (last : ℕ) (to : List ℕ) (x : Cdr) → Q x → Covers P Q (Put (row.Push (last + 1) to (push.PostCdr x)) ∷ (Put (row.Cdr x) ∷ []))
+  covers_posted last to x q = covers_append P Q (Put (row.Push (last + 1) to (push.PostCdr x)) ∷ []) (Put (row.Cdr x) ∷ []) (covers_kinds P Q _ refl refl) (covers_record P Q x q)
+
+  covers_bill : (last n : ℕ) (to : List ℕ) (x : Cdr) → Q x → Covers P Q (Put (row.Count counter.Cdr n) ∷ (Put (row.Push (last + 1) to (push.PostCdr x)) ∷ (Put (row.Cdr x) ∷ [])))
+  covers_bill last n to x q =
+      covers_append P Q (Put (row.Count counter.Cdr n) ∷ []) (Put (row.Push (last + 1) to (push.PostCdr x)) ∷ (Put (row.Cdr x) ∷ [])) (covers_kinds P Q _ refl refl) (covers_posted last to x q)
 
   covers_spent : (p : List ℕ) (reference : Option (List ℕ)) → Covers P Q (all_changes (spent p reference))
   covers_spent p None = covers_kinds P Q _ refl refl
@@ -248,7 +253,7 @@ module _ (s : State) (i : Input) where
           let all_count : Contains (all_changes acts) (Put (row.Count counter.Cdr n)) = subst (λ z. Contains (all_changes z) (Put (row.Count counter.Cdr n))) (sym m.acts_are)
           (subst (λ z. Contains z (Put (row.Count counter.Cdr n))) (sym (changes_append m.version_acts m.bill_acts)) (Contains-append_right (all_changes m.version_acts) (all_changes m.bill_acts) (Put (row.Count counter.Cdr n)) counts)) in
           let cause : CdrCause s i acts x = Billed at report reports m complete l e k place (range.numbers counter.Cdr n all_count) refl in
-          subst (λ z. AreCaused acts (all_changes z)) (sym is) (covers_bill (SessionCause s i acts) (CdrCause s i acts) at (s.rows.request + 1) n to x cause)
+          subst (λ z. AreCaused acts (all_changes z)) (sym is) (covers_bill (SessionCause s i acts) (CdrCause s i acts) (s.rows.request + 1) n to x cause)
       by (acts_of.Unbilled not_complete is) = subst (λ z. AreCaused acts (all_changes z)) (sym is) (covers_none (SessionCause s i acts) (CdrCause s i acts))
 
   report_caused : (at : ℕ) (report : ChargerEvent) → i ≡ Reports at report → (work : Work) → ChargerLine s at report work → AreInRange s work.acts → IsCaused work.acts
@@ -261,6 +266,17 @@ module _ (s : State) (i : Input) where
   report_caused at report reports work (charger.Asked t location_id place shows asks) range =
       subst IsCaused (sym (ap (λ (w : Work). w.acts) asks.work_is)) (covers_kinds _ _ _ refl refl)
   report_caused at report reports work (charger.Idle ends starts moves shows is) range = as_quiet work [] is (covers_none _ _)
+
+  -- a bill is taken back
+  credit_caused : (at : ℕ) (session : List ℕ) → i ≡ Credits at session → (work : Work) → Quietly (CreditLine s at session) work → IsCaused work.acts
+  credit_caused at session orders work (acts, line, is) = as_quiet work acts is (by line)
+    where
+      by : CreditLine s at session acts → IsCaused acts
+      by (credits.Credited bill to takes below acts_are) =
+          let x = next_credit at bill in
+          let cause : CdrCause s i acts x = Credited at session orders bill to takes refl in
+          subst (λ z. AreCaused acts (all_changes z)) (sym acts_are) (covers_posted (SessionCause s i acts) (CdrCause s i acts) s.rows.request to x cause)
+      by (credits.NothingToCredit none acts_are) = subst (λ z. AreCaused acts (all_changes z)) (sym acts_are) (covers_none (SessionCause s i acts) (CdrCause s i acts))
 
   -- sessions that begin where no answer came
   late_caused : (all : List Act) (at : ℕ) → i ≡ Ticks at → (due : List ℕ) → ((k : ℕ) → Contains due k → waits.IsDue s.waits at k) → (end : ℕ) → (s.rows.charged.last_session < end → end ≤ max_whole) →
@@ -300,6 +316,7 @@ asked_caused : (s : State) (i : Input) (work : Work) → IsConsistent s → Asks
 asked_caused s (Arrives at q) work fine comes range = packet_caused s (Arrives at q) at q refl comes.provider work comes.line range
 asked_caused s (Serves evse in_service) work fine line range = service_caused s (Serves evse in_service) evse in_service work line
 asked_caused s (Reports at report) work fine line range = report_caused s (Reports at report) at report refl work line range
+asked_caused s (Credits at session) work fine line range = credit_caused s (Credits at session) at session refl work line
 asked_caused s (Ticks at) work fine line range = tick_caused s (Ticks at) at refl work ((stages_see s at work fine).0 line) range
 asked_caused s Restarts work fine line range = absurd line
 

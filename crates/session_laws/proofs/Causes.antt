@@ -23,7 +23,8 @@ use Rattle.operator_rows.specs.State.{State}
 use Rattle.operator_steps.specs.declared.ending.Ending.{Ending}
 use Rattle.operator_steps.specs.Asking.{IsAwaited}
 use Rattle.operator_steps.specs.Charger.{IsStarted, Shows}
-use Rattle.operator_steps.specs.Events.{Input, Arrives, Reports, Ticks}
+use Rattle.operator_steps.specs.Credits.{CreditsTo, next_credit}
+use Rattle.operator_steps.specs.Events.{Input, Arrives, Credits, Reports, Ticks}
 use Rattle.operator_steps.specs.Sessions.{IsMoved, first_of, next_cdr}
 use Rattle.session_tables.specs.declared.beginning.Beginning.{Beginning}
 use Rattle.session_tables.specs.declared.shown.Shown.TheVariants as shown
@@ -47,7 +48,8 @@ pub data SessionCause (s : State) (i : Input) (acts : List Act) (v : Session) : 
       ((b.authorization_reference ≡ None) ⊎ (n ≡ s.rows.charged.last_session + 1)) → SessionCause s i acts v
   Moved : (at : ℕ) (report : ChargerEvent) → i ≡ Reports at report → (m : IsMoved s at report acts) → v ≡ m.after → SessionCause s i acts v
 
--- the record is that of the version that a report makes
+-- the record is that of the version that a report makes, or the credit of a bill that is taken back
 pub data CdrCause (s : State) (i : Input) (acts : List Act) (x : Cdr) : Type 0 where
   Billed : (at : ℕ) (report : ChargerEvent) → i ≡ Reports at report → (m : IsMoved s at report acts) → m.after.status ≡ Completed → (l : Location) (e : Evse) (k : Connector) →
       IsConnectorAt s.site.locations (key m.after.evse_uid) (key m.after.connector_id) l e k → s.rows.charged.last_cdr + 1 ≤ max_whole → x ≡ next_cdr s m.after l e k → CdrCause s i acts x
+  Credited : (at : ℕ) (session : List ℕ) → i ≡ Credits at session → (bill : Cdr) (to : List ℕ) → CreditsTo s session bill to → x ≡ next_credit at bill → CdrCause s i acts x

@@ -1,13 +1,18 @@
 -- The currency of sessions and charge detail records: a session begins in that of its site and keeps it, and a record
--- has its session's.
+-- has its session's, or its bill's.
 use Rattle.std.proofs.Common.{◌≡◌, ℕ, ℤ, List, inl, inr, sym, ap, ◌∙◌}
+use Rattle.std.specs.Prelude.{Contains}
 use Rattle.std.specs.FinMap.{get-empty}
+use Rattle.std.proofs.lemmas.Bool.{cases_Bool}
 use Rattle.tables.specs.Keys.{text_cmp}
 use Rattle.tables.proofs.Options.{none_some}
 use Rattle.ocpi_text.specs.Text.{key}
+use Rattle.ocpi_types.specs.Credits.{is_credit}
 use Rattle.ocpi_types.specs.declared.cdrs.Cdr.{Cdr}
 use Rattle.ocpi_types.specs.declared.events.ChargerEvent.{ChargerEvent}
 use Rattle.ocpi_types.specs.declared.events.ChargerEvent.TheVariants as event
+use Rattle.ocpi_types.specs.declared.rows.Change.TheVariants.{Put}
+use Rattle.ocpi_types.specs.declared.rows.Row.TheVariants as row
 use Rattle.ocpi_types.specs.declared.sessions.Session.{Session}
 use Rattle.ocpi_types.specs.declared.site.Site.{Site}
 use Rattle.ocpi_types.specs.declared.site.SiteLine.{SiteLine}
@@ -51,6 +56,13 @@ module _ (s t : State) (e : Event) (fine : IsConsistent s) (d : Does s e t) (h :
   put_in v (Moved at report reports m is) =
       ap currency_of is ∙ makes_keep s.site.price at report m.before m.after m.moves.makes ∙ h.sessions (key m.before.id) m.before m.moves.here.stands ∙ site_is
 
+  -- and a record
+  record_in : (x : Cdr) → Contains e.changes (Put (row.Cdr x)) → x.currency ≡ t.site.currency
+  record_in x i = elim (cases_Bool (is_credit x)) [
+    | inl credit ↦ (let f = (puts_records s t e fine d).credits x i credit in ap (λ (z : Cdr). z.currency) f.takes_back ∙ h.cdrs (key f.bill.id) f.bill f.stands ∙ site_is)
+    | inr bill ↦ (let (v, put, r) = (puts_records s t e fine d).only x i bill in ap (λ (z : Cdr). z.currency) r.record_is ∙ put_in v (session_cause s t e fine d v put))
+  ]
+
   stays_in : AreInCurrency t
   stays_in = record {
     sessions = λ id v has. elim (session_from s t e fine d id v has) [
@@ -59,7 +71,7 @@ module _ (s t : State) (e : Event) (fine : IsConsistent s) (d : Does s e t) (h :
     ];
     cdrs = λ id x has. elim (record_from s t e fine d id x has) [
       | inl old ↦ h.cdrs id x old ∙ site_is
-      | inr i ↦ (let (v, put, r) = (puts_records s t e fine d).only x i in ap (λ (z : Cdr). z.currency) r.record_is ∙ put_in v (session_cause s t e fine d v put))
+      | inr i ↦ record_in x i
     ];
   }
 

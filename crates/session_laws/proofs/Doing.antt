@@ -22,11 +22,12 @@ use Rattle.operator_rows.specs.Sound.{IsConsistent, MayChangeAll}
 use Rattle.operator_rows.specs.Steps.{IsNext, MayFollowFull, after_full, restarted}
 use Rattle.operator_rows.proofs.KeepingTimes.{follow_full_consistent, restarted_consistent}
 use Rattle.operator_rows.proofs.RowChanges.{row_changes}
-use Rattle.operator_steps.specs.Events.{Event, Happens, Done, Restarted, Refused, Input, Arrives, Serves, Reports, Ticks, Restarts, Asks, event_out}
+use Rattle.operator_steps.specs.Events.{Event, Happens, Done, Restarted, Refused, Input, Arrives, Serves, Reports, Credits, Ticks, Restarts, Asks, event_out}
 use Rattle.operator_steps.specs.Moves.{AreInRange, Out, StepBy, Work, counters_of, idle, step_of_acts, step_of_work}
 use Rattle.operator_steps.proofs.PacketSteps.{packets}
 use Rattle.operator_steps.proofs.ServiceSteps.{services}
 use Rattle.operator_steps.proofs.ReportSteps.{reports}
+use Rattle.operator_steps.proofs.CreditSteps.{credits}
 use Rattle.operator_steps.proofs.Orderly.{IsOfStep, of_counters}
 use Rattle.operator_steps.proofs.TickSteps.{ticks}
 
@@ -60,6 +61,7 @@ asked_may : (s : State) (i : Input) (work : Work) → IsConsistent s → Asks s 
 asked_may s (Arrives at q) work fine line range = packets at q s work fine line range
 asked_may s (Serves evse in_service) work fine line range = services evse in_service s work fine line range
 asked_may s (Reports at report) work fine line range = reports at report s work fine line range
+asked_may s (Credits at session) work fine line range = credits at session s work fine line range
 asked_may s (Ticks at) work fine line range = ticks at s work fine line range
 asked_may s Restarts work fine line range = absurd line
 

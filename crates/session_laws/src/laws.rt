@@ -32,16 +32,20 @@ pub fn final_versions_are_last()
     ensures { FinalVersionsAreLast }
 {}
 
-/// An event puts a charge detail record exactly where it puts a COMPLETED version of a session, and it is the record
-/// of that version: its energy and its cost are the version's, and its id is that of the next number. A bill for a
-/// session that goes on, or a completed session without one, would break this.
+/// An event puts a bill exactly where it puts a COMPLETED version of a session, and it is the record of that version:
+/// its energy and its cost are the version's, and its id is that of the next number. A credit that an event puts takes
+/// back a bill that stands, of a COMPLETED session without a credit: it names the bill, its cost is the bill's negated,
+/// its id is new, and it is later than the bill. The event is an order to take the bill of that session back. A bill for
+/// a session that goes on, a completed session without one, a second credit, one that nobody ordered, or one of a cost
+/// that is not the bill's, would break this.
 pub fn records_are_of_completed_sessions()
     ensures { RecordsAreOfCompletedSessions }
 {}
 
-/// From the opening on, each session that is COMPLETED has one charge detail record, with the energy and the cost of
-/// that version, and there is no other record. A second bill where a report is repeated, or one for a session that was
-/// INVALID, would break this.
+/// From the opening on, each session that is COMPLETED has one bill, with the energy and the cost of that version, and
+/// there is no other bill. Each credit takes back a bill that stands, and no session has two. A second bill where a
+/// report is repeated, one for a session that was INVALID, or a second credit where the order is repeated, would break
+/// this.
 pub fn sessions_are_billed_once()
     ensures { SessionsAreBilledOnce }
 {}
@@ -52,7 +56,8 @@ pub fn currencies_are_of_site()
     ensures { CurrenciesAreOfSite }
 {}
 
-/// A charge detail record stays for good, unchanged. A record that a later one replaces would break this.
+/// A charge detail record stays for good, unchanged, a bill also where it is taken back. A record that a later one
+/// replaces would break this.
 pub fn records_stay()
     ensures { RecordsStay }
 {}

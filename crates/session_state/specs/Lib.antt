@@ -1,4 +1,5 @@
 pub mod Costs
+pub mod Credits
 pub mod Versions
 pub mod Pasts
 pub mod Records

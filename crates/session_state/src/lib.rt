@@ -15,6 +15,7 @@
 #![tactic(auto)]
 
 mod costs;
+mod credits;
 mod drafts;
 mod fault;
 mod laws;
@@ -22,6 +23,7 @@ mod resuming;
 mod sessions;
 mod states;
 
+pub use credits::{credit_id, credit_of};
 pub use drafts::CdrDraft;
 pub use fault::{Refused, SessionFault};
 pub use laws::{costs_are_rounded_down, pasts_are_orderly};

@@ -3,3 +3,4 @@ pub mod Operators
 pub mod ProviderSteps
 pub mod Providers
 pub mod Starting
+pub mod TakingBack

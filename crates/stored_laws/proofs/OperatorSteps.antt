@@ -1,5 +1,5 @@
 -- An event of an operator, wherever the operator comes from: what is consistent and whole stays so.
-use Rattle.std.proofs.Common.{◌≡◌, ◌≢◌, ◌+◌, ℕ, ℤ, true≢false, List, [], ◌∷◌, inl, inr, refl, sym, ap, subst, ◌∙◌}
+use Rattle.std.proofs.Common.{◌≡◌, ◌≢◌, ◌+◌, ℕ, ℤ, Bool, true, false, List, [], ◌∷◌, inl, inr, refl, sym, ap, subst, ◌∙◌}
 use Rattle.std.specs.Prelude.{Option, Some, None, Ok, Contains}
 use Rattle.std.specs.FinMap.{get, get-empty}
 use Rattle.tables.specs.Keys.{text_cmp}
@@ -8,6 +8,7 @@ use Rattle.ocpi_text.specs.OwnIds.{own_id_text}
 use Rattle.ocpi_text.specs.Party.{party_at}
 use Rattle.ocpi_text.specs.Text.{key}
 use Rattle.ocpi_text.specs.declared.own_ids.OwnIdKind.TheVariants as own
+use Rattle.ocpi_types.specs.Credits.{AreAlike, IsBill, IsCredit, credit_id, is_credit}
 use Rattle.ocpi_types.specs.declared.cdrs.Cdr.{Cdr}
 use Rattle.ocpi_types.specs.declared.events.ChargerEvent.{ChargerEvent}
 use Rattle.ocpi_types.specs.declared.events.ChargerEvent.TheVariants as event
@@ -24,7 +25,8 @@ use Rattle.session_state.specs.Pasts.{IsTurn, MayFollow}
 use Rattle.session_state.specs.Resuming.{CannotResume}
 use Rattle.session_tables.specs.Moves.{Ends, Makes}
 use Rattle.stored_rows.specs.Given.{IsOwnId}
-use Rattle.stored_rows.specs.Records.{IsRecordId}
+use Rattle.stored_rows.specs.Records.{IsCreditOfBill, IsRecordId, record_id_text}
+use Rattle.stored_rows.proofs.RecordNumbers.{bill_made}
 use Rattle.operator_rows.specs.State.{State, opening}
 use Rattle.operator_rows.specs.Sound.{IsConsistent}
 use Rattle.operator_rows.specs.Steps.{IsNextOf}
@@ -32,9 +34,11 @@ use Rattle.operator_rows.proofs.KeepingTimes.{opening_consistent}
 use Rattle.operator_steps.specs.Events as events
 use Rattle.operator_steps.specs.Events.{Event, Happens}
 use Rattle.operator_stored.specs.Whole.{AreBilled, IsWhole}
+use Rattle.operator_stored.proofs.BadRows.{bill_or_credit}
+use Rattle.session_laws.specs.Bills.{IsFirstCredit}
 use Rattle.session_laws.proofs.Billing.{puts_records, record_from, records_stay, session_from}
 use Rattle.session_laws.proofs.Caused.{cdr_cause, session_cause}
-use Rattle.session_laws.proofs.Causes.{Begun, Billed, CdrCause, Moved, SessionCause}
+use Rattle.session_laws.proofs.Causes.{Begun, Billed, CdrCause, Credited, Moved, SessionCause}
 use Rattle.session_laws.proofs.Doing.{does}
 use Rattle.session_laws.proofs.Versions.{stands, stays}
 use Rattle.stored_laws.specs.Nodes.{CanStartAgain}
@@ -91,10 +95,31 @@ module _ (s t : State) (e : Event) (fine : IsConsistent s) (whole : IsWhole s) (
       let made : v.id ≡ m.before.id = ap (λ (z : Session). z.id) is ∙ made_of s.site.price at report m.before m.after m.moves.makes in
       subst (λ (id : List ℕ). (n : ℕ) × IsOwnId own.Session s.party id n) (sym made) (whole.sessions (key m.before.id) m.before m.moves.here.stands)
 
-  own_cdr : (x : Cdr) → CdrCause s e.input (does s t e fine happens).acts x → (n : ℕ) × IsRecordId s.party x n
-  own_cdr x (Billed at report reports m complete l c k place within is) =
+  own_bill : (x : Cdr) → IsBill x → CdrCause s e.input (does s t e fine happens).acts x → (n : ℕ) × IsRecordId s.party x n
+  own_bill x bill (Billed at report reports m complete l c k place within is) =
       let n = s.rows.charged.last_cdr + 1 in
       (n, subst (λ (z : Cdr). IsRecordId s.party z n) (sym is) (record { is_number = within; made = refl }))
+  own_bill x bill (Credited at session orders y to takes is) = let never : true ≡ false = sym (ap is_credit is) ∙ bill in absurd (cc)
+
+  first_credit : (x : Cdr) → Contains e.changes (Put (row.Cdr x)) → IsCredit x → IsFirstCredit s x
+  first_credit x i credit = (puts_records s t e fine (does s t e fine happens)).credits x i credit
+
+  -- a credit has the number of its bill
+  own_credit : (x : Cdr) → IsCredit x → IsFirstCredit s x → (n : ℕ) × IsRecordId s.party x n
+  own_credit x credit c =
+      let (n, own) = whole.cdrs (key c.bill.id) c.bill c.stands in (
+        n,
+        record {
+          is_number = own.is_number;
+          made = ap (λ (z : Cdr). z.id) c.takes_back ∙ ap credit_id (bill_made s.party c.bill n own c.is_bill).made ∙ sym (ap (λ (b : Bool). record_id_text b s.party n) credit);
+        },
+      )
+
+  own_cdr : (x : Cdr) → Contains e.changes (Put (row.Cdr x)) → (n : ℕ) × IsRecordId s.party x n
+  own_cdr x i = elim (bill_or_credit x) [
+    | inl bill ↦ own_bill x bill (cdr_cause s t e fine (does s t e fine happens) x i)
+    | inr credit ↦ own_credit x credit (first_credit x i credit)
+  ]
 
   sessions_stay : (id : List ℕ) (v : Session) → get t.rows.charged.sessions id ≡ Some v → (n : ℕ) × IsOwnId own.Session t.party v.id n
   sessions_stay id v has =
@@ -117,7 +142,7 @@ module _ (s t : State) (e : Event) (fine : IsConsistent s) (whole : IsWhole s) (
       let d = does s t e fine happens in
       subst (λ (p : List ℕ). (n : ℕ) × IsRecordId p x n) (sym d.party) (elim (record_from s t e fine d id x has) [
         | inl old ↦ whole.cdrs id x old
-        | inr i ↦ own_cdr x (cdr_cause s t e fine d x i)
+        | inr i ↦ own_cdr x i
       ])
 
   -- no version is put of a session that is COMPLETED, which stays
@@ -131,43 +156,97 @@ module _ (s t : State) (e : Event) (fine : IsConsistent s) (whole : IsWhole s) (
   completed_stays : (id : List ℕ) (v : Session) → get s.rows.charged.sessions id ≡ Some v → v.status ≡ Completed → get t.rows.charged.sessions id ≡ Some v
   completed_stays id v has complete = stays s t e (does s t e fine happens) id fine (λ w i. none_after id v w has complete i) ∙ has
 
-  -- a charge detail record that the event puts is of a session that had none, and has one id
-  had_none : (x y : Cdr) (j : List ℕ) → Contains e.changes (Put (row.Cdr x)) → get s.rows.charged.cdrs j ≡ Some y → key x.session_id ≢ key y.session_id
-  had_none x y j i has same =
-      let (v, put, r) = (puts_records s t e fine (does s t e fine happens)).only x i in
+  -- a bill that the event puts is of a session that had none, and has one id
+  no_bill_before : (x y : Cdr) (j : List ℕ) → IsBill x → Contains e.changes (Put (row.Cdr x)) → get s.rows.charged.cdrs j ≡ Some y → key x.session_id ≢ key y.session_id
+  no_bill_before x y j bill i has same =
+      let (v, put, r) = (puts_records s t e fine (does s t e fine happens)).only x i bill in
       let (w, had, complete) = whole.billed.only j y has in
       none_after (key y.session_id) w v had complete put (ap key (sym r.bills.session) ∙ same)
 
-  next_id : (x : Cdr) → Contains e.changes (Put (row.Cdr x)) → x.id ≡ own_id_text own.Cdr s.party (s.rows.charged.last_cdr + 1)
-  next_id x i = let (v, put, r) = (puts_records s t e fine (does s t e fine happens)).only x i in ap (λ (z : Cdr). z.id) r.record_is
+  next_id : (x : Cdr) → IsBill x → Contains e.changes (Put (row.Cdr x)) → x.id ≡ own_id_text own.Cdr s.party (s.rows.charged.last_cdr + 1)
+  next_id x bill i = let (v, put, r) = (puts_records s t e fine (does s t e fine happens)).only x i bill in ap (λ (z : Cdr). z.id) r.record_is
+
+  -- a credit is of its bill's session
+  of_session : (x : Cdr) (c : IsFirstCredit s x) → x.session_id ≡ c.bill.session_id
+  of_session x c = ap (λ (z : Cdr). z.session_id) c.takes_back
+
+  -- a record that the event puts is of a session that had none that is alike
+  had_none : (x y : Cdr) (j : List ℕ) → Contains e.changes (Put (row.Cdr x)) → get s.rows.charged.cdrs j ≡ Some y → AreAlike x y → key x.session_id ≢ key y.session_id
+  had_none x y j i has alike same = elim (bill_or_credit x) [
+    | inl bill ↦ no_bill_before x y j bill i has same
+    | inr credit ↦ (let c = first_credit x i credit in c.first j y has (sym same ∙ ap key (of_session x c)) (sym alike ∙ credit))
+  ]
+
+  -- and two that are alike, of one session, have one id
+  same_bills : (x y : Cdr) (c : IsFirstCredit s x) (d : IsFirstCredit s y) → key x.session_id ≡ key y.session_id → c.bill ≡ d.bill
+  same_bills x y c d same =
+      let one = whole.billed.once (key c.bill.id) (key d.bill.id) c.bill d.bill c.stands d.stands (c.is_bill ∙ sym d.is_bill)
+      (ap key (sym (of_session x c)) ∙ same ∙ ap key (of_session y d)) in
+      let both : Some c.bill ≡ Some d.bill = sym c.stands ∙ ap (get s.rows.charged.cdrs) one ∙ d.stands in
+      cc
+
+  same_id : (x y : Cdr) → Contains e.changes (Put (row.Cdr x)) → Contains e.changes (Put (row.Cdr y)) → AreAlike x y → key x.session_id ≡ key y.session_id → x.id ≡ y.id
+  same_id x y i j alike same = elim (bill_or_credit x) [
+    | inl bill ↦ next_id x bill i ∙ sym (next_id y (sym alike ∙ bill) j)
+    | inr credit ↦
+        (let c = first_credit x i credit in
+        let d = first_credit y j (sym alike ∙ credit) in
+        ap (λ (z : Cdr). z.id) c.takes_back ∙ ap (λ (z : Cdr). credit_id z.id) (same_bills x y c d same) ∙ sym (ap (λ (z : Cdr). z.id) d.takes_back))
+  ]
+
+  -- the session of a record that the event puts is COMPLETED
+  ended : (x : Cdr) → Contains e.changes (Put (row.Cdr x)) → (v : Session) × (get t.rows.charged.sessions (key x.session_id) ≡ Some v) × (v.status ≡ Completed)
+  ended x i = elim (bill_or_credit x) [
+    | inl bill ↦
+        (let d = does s t e fine happens in
+        let (v, put, r) = (puts_records s t e fine d).only x i bill in
+        (v, stands s t e d (key x.session_id) v put (ap key (sym r.bills.session)), r.bills.completed))
+    | inr credit ↦
+        (let c = first_credit x i credit in
+        (c.version, completed_stays (key x.session_id) c.version (ap (λ (k : List ℕ). get s.rows.charged.sessions (key k)) (of_session x c) ∙ c.newest) c.completed, c.completed))
+  ]
+
+  record_stays : (id : List ℕ) (x : Cdr) → get s.rows.charged.cdrs id ≡ Some x → get t.rows.charged.cdrs id ≡ Some x
+  record_stays id x had = records_stay s t (e ∷ []) fine (t, happens, refl) id x had
+
+  its_bill : (x : Cdr) (c : IsFirstCredit s x) → (y : Cdr) × (get t.rows.charged.cdrs (key y.id) ≡ Some y) × IsCreditOfBill y x
+  its_bill x c = (
+    c.bill,
+    record_stays (key c.bill.id) c.bill c.stands,
+    record {
+      is_bill = c.is_bill;
+      reference = ap (λ (z : Cdr). z.credit_reference_id) c.takes_back;
+      id = ap (λ (z : Cdr). z.id) c.takes_back;
+      session = ap key (of_session x c);
+    },
+  )
 
   billed_stay : AreBilled t.rows
   billed_stay =
       let d = does s t e fine happens in
       record {
         each = λ id v has complete. elim (session_from s t e fine d id v has) [
-          | inl old ↦ (let (x, had, bill, same) = whole.billed.each id v old complete in (x, records_stay s t (e ∷ []) fine (t, happens, refl) (key x.id) x had, bill, same))
+          | inl old ↦ (let (x, had, bill, same) = whole.billed.each id v old complete in (x, record_stays (key x.id) x had, bill, same))
           | inr i ↦ (let (x, put, r) = (puts_records s t e fine d).each v i complete in (x, (d.rows (row.Cdr x)).1 (inl put), r.bills.bill, ap key r.bills.session))
         ];
         only = λ id x has. elim (record_from s t e fine d id x has) [
           | inl old ↦ (let (v, had, complete) = whole.billed.only id x old in (v, completed_stays (key x.session_id) v had complete, complete))
-          | inr i ↦
-              (let (v, put, r) = (puts_records s t e fine d).only x i in (v, stands s t e d (key x.session_id) v put (ap key (sym r.bills.session)), r.bills.completed))
+          | inr i ↦ ended x i
         ];
         once = λ i j x y has_x has_y alike same. elim (record_from s t e fine d i x has_x) [
           | inl old_x ↦ elim (record_from s t e fine d j y has_y) [
             | inl old_y ↦ whole.billed.once i j x y old_x old_y alike same
-            | inr new_y ↦ absurd (had_none y x i new_y old_x (sym same))
+            | inr new_y ↦ absurd (had_none y x i new_y old_x (sym alike) (sym same))
           ]
           | inr new_x ↦ elim (record_from s t e fine d j y has_y) [
-            | inl old_y ↦ absurd (had_none x y j new_x old_y same)
+            | inl old_y ↦ absurd (had_none x y j new_x old_y alike same)
             | inr new_y ↦
-                d.consistent.sound.charged_keyed.cdrs i x has_x ∙ ap key (next_id x new_x ∙ sym (next_id y new_y)) ∙ sym (d.consistent.sound.charged_keyed.cdrs j y has_y)
+                d.consistent.sound.charged_keyed.cdrs i x has_x ∙ ap key (same_id x y new_x new_y alike same) ∙ sym (d.consistent.sound.charged_keyed.cdrs j y has_y)
           ]
         ];
         credited = λ id x has credit. elim (record_from s t e fine d id x has) [
-          | inl old ↦ (let (y, had, its) = whole.billed.credited id x old credit in (y, records_stay s t (e ∷ []) fine (t, happens, refl) (key y.id) y had, its))
-          | inr i ↦ (let (v, put, r) = (puts_records s t e fine d).only x i in absurd (true≢false (sym credit ∙ r.bills.bill)))
+          | inl old ↦ (let (y, had, its) = whole.billed.credited id x old credit in (y, record_stays (key y.id) y had, its))
+          | inr i ↦ its_bill x (first_credit x i credit)
         ];
       }
 

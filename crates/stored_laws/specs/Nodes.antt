@@ -1,11 +1,18 @@
 -- What holds of one node of either role, wherever it comes from: its rows, what its own code keeps, what is tested of
 -- its rows before it is made again of them, and what it is as it starts again.
-use Rattle.std.specs.Prelude.{◌≡◌, ℕ, List, Contains}
+use Rattle.std.specs.Prelude.{◌≡◌, ℕ, List, Some, Contains}
+use Rattle.std.specs.FinMap.{get}
+use Rattle.ocpi_types.specs.declared.cdrs.Cdr.{Cdr}
 use Rattle.ocpi_types.specs.declared.rows.Row.{Row}
+use Rattle.ocpi_types.specs.declared.sessions.Session.{Session}
 use Rattle.ocpi_types.specs.declared.setup.Node.{Node}
+use Rattle.ocpi_types.specs.declared.words.SessionStatus.TheVariants.{Completed}
+use Rattle.session_book.specs.Records.{HasCredit}
 use Rattle.operator_rows.specs.Rows as operator_rows
 use Rattle.operator_rows.specs.Sound as operator_sound
+use Rattle.operator_rows.specs.State as operator
 use Rattle.operator_rows.specs.Steps as operator_steps
+use Rattle.operator_steps.specs.Credits.{IsToCredit}
 use Rattle.operator_stored.specs.Whole as operator_whole
 use Rattle.provider_rows.specs.Rows as provider_rows
 use Rattle.provider_rows.specs.Rows.{AreKeyed}
@@ -60,3 +67,10 @@ OpeningsCanStartAgain = (setup : List Node) → IsSetup setup → (n : Node) →
 -- and each can that did something, wherever it came from
 abbrev pub NodesCanStartAgain : Type 0
 NodesCanStartAgain = (n m : NodeState) (x : NodeEvent) → CanStartAgain n → NodeStep n x m → CanStartAgain m
+
+-- an operator that can start again has, of each COMPLETED session that no credit is of, a bill that may be taken back: its
+-- id is short enough, no record has that of its credit, and the session has no other bill
+abbrev pub BillsMayBeTakenBack : Type 0
+BillsMayBeTakenBack =
+    (s : operator.State) → CanStartAgain (Operates s) → (session : List ℕ) (v : Session) → get s.rows.charged.sessions session ≡ Some v → v.status ≡ Completed →
+    ¬ HasCredit s.rows.charged session → (bill : Cdr) × IsToCredit s.rows session bill

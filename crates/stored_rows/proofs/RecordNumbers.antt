@@ -7,10 +7,10 @@ use Rattle.ocpi_text.specs.Text.{key}
 use Rattle.ocpi_text.specs.declared.own_ids.OwnIdKind.{OwnIdKind}
 use Rattle.ocpi_text.specs.declared.own_ids.OwnIdKind.TheVariants as own
 use Rattle.ocpi_text.proofs.OwnIds.{text_length}
-use Rattle.ocpi_types.specs.Credits.{is_credit}
+use Rattle.ocpi_types.specs.Credits.{credit_id, is_credit}
 use Rattle.ocpi_types.specs.declared.cdrs.Cdr.{Cdr}
 use Rattle.stored_rows.specs.Given.{IsOwnId}
-use Rattle.stored_rows.specs.Records.{IsRecordId, credit_id, record_id_text}
+use Rattle.stored_rows.specs.Records.{IsRecordId, record_id_text}
 
 -- the mark of a credit is two characters
 in_two : (bill : List ℕ) → credit_id bill ≡ (bill ++ 45 ∷ []) ++ 67 ∷ []

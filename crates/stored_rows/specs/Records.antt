@@ -1,15 +1,11 @@
 -- The ids of a party's charge detail records, and which bill a credit takes back.
-use Rattle.std.specs.Prelude.{◌≡◌, ◌≤◌, ◌++◌, ℕ, List, Bool, true, false, Some, codes}
+use Rattle.std.specs.Prelude.{◌≡◌, ◌≤◌, ℕ, List, Bool, true, false, Some}
 use Rattle.ocpi_text.specs.OwnIds.{own_id_text}
 use Rattle.ocpi_text.specs.Text.{key}
 use Rattle.ocpi_text.specs.Whole.{max_whole}
 use Rattle.ocpi_text.specs.declared.own_ids.OwnIdKind.TheVariants as own
-use Rattle.ocpi_types.specs.Credits.{IsBill, is_credit}
+use Rattle.ocpi_types.specs.Credits.{IsBill, credit_id, is_credit}
 use Rattle.ocpi_types.specs.declared.cdrs.Cdr.{Cdr}
-
--- the id of the credit that takes back the bill of that id
-abbrev pub credit_id : List ℕ → List ℕ
-credit_id bill = bill ++ codes "-C"
 
 -- the id that a party makes of that number, for a credit or for a bill: a credit has the number of its bill
 abbrev pub record_id_text : Bool → List ℕ → ℕ → List ℕ
@@ -22,7 +18,7 @@ pub record IsRecordId (party : List ℕ) (x : Cdr) (n : ℕ) : Type 0 where
   pub made : x.id ≡ record_id_text (is_credit x) party n
 
 -- the first is a bill, and the second its credit
-pub record Credits (bill credit : Cdr) : Type 0 where
+pub record IsCreditOfBill (bill credit : Cdr) : Type 0 where
   pub is_bill : IsBill bill
   pub reference : credit.credit_reference_id ≡ Some bill.id
   pub id : credit.id ≡ credit_id bill.id

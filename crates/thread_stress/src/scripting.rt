@@ -30,6 +30,10 @@ fn at_moment(kind: &NodeEventKind, now: Moment) -> Result<NodeEventKind, AllocEr
             },
         },
         NodeEventKind::Charger { at: _, event } => NodeEventKind::Charger { at: now, event },
+        NodeEventKind::Credit { at: _, session_id } => NodeEventKind::Credit {
+            at: now,
+            session_id,
+        },
         NodeEventKind::Tick { at: _ } => NodeEventKind::Tick { at: now },
         other => other,
     };

@@ -115,6 +115,7 @@ alike d node (event.Submit at to order) h none = record { event = h.event; node 
 alike d node (event.Token at token) h none = record { event = h.event; node = h.node; kind = h.kind }
 alike d node (event.Service evse_uid in_service) h none = record { event = h.event; node = h.node; kind = h.kind }
 alike d node (event.Charger at report) h none = record { event = h.event; node = h.node; kind = h.kind }
+alike d node (event.Credit at session_id) h none = record { event = h.event; node = h.node; kind = h.kind }
 alike d node (event.Deliver at packet) h none = absurd (none at packet refl)
 alike d node (event.Tick at) h none = record { event = h.event; node = h.node; kind = h.kind }
 alike d node event.Restart h none = record { event = h.event; node = h.node; kind = h.kind }

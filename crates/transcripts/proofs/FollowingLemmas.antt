@@ -1,25 +1,29 @@
 -- What the parts of a transcript make of the ways in which it may have happened.
-use Rattle.std.proofs.Common.{◌≡◌, ◌≢◌, ◌⊎◌, inl, inr, ℕ, List, [], ◌∷◌, length, Result, Ok, Err, Option, None, Some, refl, sym, ap, subst, ◌∙◌, arith}
+use Rattle.std.proofs.Common.{◌≡◌, ◌≢◌, ◌⊎◌, inl, inr, ℕ, Bool, true, false, List, [], ◌∷◌, length, Result, Ok, Err, Option, None, Some, refl, sym, ap, subst, ◌∙◌, arith}
 use Rattle.std.proofs.lemmas.List.Elements.{Contains-push_cases}
 use Rattle.std.specs.Prelude.{Contains, OnOk}
 use Rattle.ocpi_types.specs.Setups.{party_of}
 use Rattle.ocpi_types.specs.declared.packet.Packet.{Packet}
 use Rattle.ocpi_types.specs.declared.setup.Node.{Node}
-use Rattle.transcripts.specs.Following.{AllCome, AllGoOn, ComesOf, EntersLine, Entered, First, Follows, Gives, GoesOn, Happens, IsNew, IsOneOf, IsRead, IsWayOf, Later, LeavesOpen, More, NoLines, Opens, Passed, PassesLine, ReadTo, Reading, Reopens, Standing, Start, TakesLine, TakesPart, Unanswered, opening_told}
+use Rattle.transcripts.specs.Following.{AllCome, AllGoOn, Came, ComesOf, ComesToNode, First, Follows, Gives, GoesOn, Happens, IsNew, IsOneOf, IsRead, IsWayOf, Last, Later, LeftOpen, LeftOut, More, NoEvent, NoLines, NoSetup, Opens, Outside, Passed, PassesLine, ReadTo, Reading, Reopens, ShowsEvent, Standing, Start, Starved, Stays, TakesLine, TakesPart, Unanswered, in_run, is_open_behind, opening_told}
 use Rattle.transcript_parts.specs.Lines.{Line}
-use Rattle.transcript_parts.specs.LineReads.{GivesNone, LineRead}
+use Rattle.transcript_parts.specs.LineReads.{LineRead}
 use Rattle.transcript_parts.specs.Parts.{IsPart}
 use Rattle.transcripts.specs.Told.{Told}
 use Rattle.ocpi_json.specs.SetupForms.{setup_in}
 use Rattle.transcript_lines.specs.declared.done.Done.TheVariants as done
+use Rattle.transcript_parts.specs.declared.first_lines.Opened.{Opened}
 use Rattle.transcript_parts.specs.declared.line_read.Ending.{Ending}
 use Rattle.transcript_parts.specs.declared.line_read.Ending.TheVariants.{Answered}
 use Rattle.transcript_parts.specs.declared.parts.Part.{Part}
 use Rattle.transcript_parts.specs.declared.parts.Part.TheVariants as part
 use Rattle.transcript_parts.specs.declared.echoed.EchoedLine.{EchoedLine}
 
-abbrev pub standing : Option Told → Option Unanswered → Standing
-standing told left = record { told = told; unanswered = left }
+abbrev pub standing : Option Told → Bool → Option Unanswered → Standing
+standing told within left = record { told = told; within = within; unanswered = left }
+
+same_standing : (told : Option Told) (v w : Bool) (left right : Option Unanswered) → v ≡ w → left ≡ right → standing told v left ≡ standing told w right
+same_standing told v w left right a b = ap (λ x. standing told x left) a ∙ ap (standing told w) b
 
 -- ---- a transcript is of the setup, and of a node that no earlier one has
 
@@ -30,10 +34,15 @@ happens_keeps : (setup : List Node) (earlier : List Told) (old : Told) (l : Echo
     → Happens old l end packets new → Kept setup earlier old → Kept setup earlier new
 happens_keeps setup earlier old l end packets new h k = (h.enters.setup ∙ k.0, subst (λ m. IsNew earlier (party_of m)) (sym h.enters.member) k.1)
 
+gives_keeps : (setup : List Node) (earlier : List Told) (old : Told) (l : EchoedLine) (end : Ending) (packets : List Packet) (new : Told)
+    → Gives old l end packets new → Kept setup earlier old → Kept setup earlier new
+gives_keeps setup earlier old l end packets new (inl h) k = happens_keeps setup earlier old l end packets new h k
+gives_keeps setup earlier old l end packets new (inr stays) k = subst (Kept setup earlier) (sym stays.same) k
+
 goes_on_keeps : (setup : List Node) (earlier : List Told) (old : Told) (left : Option Unanswered) (new : Told) → GoesOn old left new → Kept setup earlier old → Kept setup earlier new
 goes_on_keeps setup earlier old None new e k = subst (Kept setup earlier) (sym e) k
 goes_on_keeps setup earlier old (Some u) new (inl e) k = subst (Kept setup earlier) (sym e) k
-goes_on_keeps setup earlier old (Some u) new (inr (between, h, e)) k = subst (Kept setup earlier) (sym e) (happens_keeps setup earlier old _ _ _ between h k)
+goes_on_keeps setup earlier old (Some u) new (inr done) k = subst (Kept setup earlier) (sym done.starts) (happens_keeps setup earlier old _ _ _ done.between done.happens k)
 
 abbrev pub KeptBy : List Node → List Told → Option Told → Type 0
 KeptBy setup earlier None = Unit {0}
@@ -42,14 +51,23 @@ KeptBy setup earlier (Some t) = Kept setup earlier t
 kept_as : (setup : List Node) (earlier : List Told) (o p : Option Told) → p ≡ o → KeptBy setup earlier o → KeptBy setup earlier p
 kept_as setup earlier o p e k = subst (KeptBy setup earlier) (sym e) k
 
+passed_same : (s : Standing) (p : LineRead) (t : Standing) → PassesLine s p t → t.told ≡ s.told
+passed_same s p t (Outside within unread is) = ap (λ z. z.told) is
+passed_same s p t (NoEvent told at within ends refused is) = ap (λ z. z.told) is
+passed_same s p t (NoSetup told at opened within ends opens is) = ap (λ z. z.told) is
+passed_same s p t (Starved at within ends is) = ap (λ z. z.told) is
+passed_same s p t (LeftOpen u within leaves is) = ap (λ z. z.told) is
+passed_same s p t (LeftOut within ends none is) = ap (λ z. z.told) is
+passed_same s p t (Last within ends is) = ap (λ z. z.told) is
+
 follows_keeps : (setup : List Node) (earlier : List Told) (s : Standing) (p : Part) (t : Standing) → Follows setup earlier s p t → KeptBy setup earlier s.told → KeptBy setup earlier t.told
 follows_keeps setup earlier s p t (NoLines e) k = kept_as setup earlier s.told t.told (ap (λ z. z.told) e) k
 follows_keeps setup earlier s p t (First o) k = kept_as setup earlier (Some (opening_told setup o.member)) t.told (ap (λ z. z.told) o.stands) (refl, o.is_new)
 follows_keeps setup earlier s p t (Later r) k =
     kept_as setup earlier (Some r.new) t.told (ap (λ z. z.told) r.stands) (goes_on_keeps setup earlier r.old s.unanswered r.new r.goes_on (subst (KeptBy setup earlier) r.stood k))
-follows_keeps setup earlier s p t (Entered x) k =
-    kept_as setup earlier (Some x.new) t.told (ap (λ z. z.told) x.stands) (happens_keeps setup earlier x.old x.line _ _ x.new x.happens (subst (KeptBy setup earlier) x.stood k))
-follows_keeps setup earlier s p t (Passed x) k = kept_as setup earlier s.told t.told x.same k
+follows_keeps setup earlier s p t (Came x) k =
+    kept_as setup earlier (Some x.new) t.told (ap (λ z. z.told) x.stands) (gives_keeps setup earlier x.old x.line _ _ x.new x.gives (subst (KeptBy setup earlier) x.stood k))
+follows_keeps setup earlier s p t (Passed nothing x) k = kept_as setup earlier s.told t.told (passed_same s _ t x) k
 
 read_keeps : (setup : List Node) (earlier : List Told) (all lines : List Line) (s : Standing) → ReadTo setup earlier all lines s → KeptBy setup earlier s.told
 read_keeps setup earlier all lines s Start = tt
@@ -61,12 +79,15 @@ transcript_keeps setup earlier all lines s t r e = subst (KeptBy setup earlier) 
 
 -- ---- one part more
 
-pub nothing_read : (setup : List Node) (earlier : List Told) (all : List Line) → IsRead setup earlier all all (record { setup = setup; ways = []; unanswered = None })
-nothing_read setup earlier all = record { setup_is = refl; each = λ s is. start s.told s.unanswered is.0 is.1 }
+abbrev pub reading : List Node → List Told → Bool → Option Unanswered → Reading
+reading setup ways within left = record { setup = setup; ways = ways; within = within; unanswered = left }
+
+pub nothing_read : (setup : List Node) (earlier : List Told) (all : List Line) → IsRead setup earlier all all (reading setup [] false None)
+nothing_read setup earlier all = record { setup_is = refl; each = λ s is. start s.told s.within s.unanswered is.way is.within is.unanswered }
   where
-    start : (told : Option Told) (left : Option Unanswered) → IsWayOf [] told → left ≡ None → ReadTo setup earlier all all (record { told = told; unanswered = left })
-    start None left is e = subst (λ u. ReadTo setup earlier all all (record { told = None; unanswered = u })) (sym e) Start
-    start (Some t) left is e = absurd (omega (arith, is.1))
+    start : (told : Option Told) (within : Bool) (left : Option Unanswered) → IsWayOf [] told → within ≡ false → left ≡ None → ReadTo setup earlier all all (standing told within left)
+    start None within left is v e = subst (ReadTo setup earlier all all) (sym (same_standing None within false left None v e)) Start
+    start (Some t) within left is v e = absurd (omega (arith, is.1))
 
 pub more_read : (setup : List Node) (earlier : List Told) (all lines rest : List Line) (p : Part) (old new : Reading)
     → IsRead setup earlier all lines old → IsPart lines p rest → TakesPart earlier old p new → IsRead setup earlier all rest new
@@ -77,15 +98,27 @@ more_read setup earlier all lines rest p old new r is takes = record {
 
 -- ---- what a part makes of the ways
 
+-- a run is open anyway
+pub in_run_is : (r : Reading) → r.within ≡ true → in_run r ≡ r
+in_run_is r e = ap (λ w. reading r.setup r.ways w r.unanswered) (sym e)
+
 -- it is passed over
-pub passes : (earlier : List Told) (old new : Reading) (p : LineRead) → new ≡ old → GivesNone p.ending → p.packets ≡ [] → TakesPart earlier old (part.Line p) new
-passes earlier old new p e none nothing = record {
-  setup = ap (λ r. r.setup) e;
-  each = λ t one. (t, subst (λ r. IsOneOf r t) e one, Passed (record { none = none; nothing = nothing; same = refl; left_open = inl refl }));
+pub passes : (old new : Reading) (p : LineRead) → new.setup ≡ old.setup → new.ways ≡ old.ways → p.packets ≡ []
+    → ((told : Option Told) → PassesLine (standing told old.within old.unanswered) p (standing told new.within new.unanswered)) → TakesLine old p new
+passes old new p setup ways nothing each earlier = record {
+  setup = setup;
+  each = λ t one. (
+    standing t.told old.within old.unanswered,
+    record { way = subst (λ ws. IsWayOf ws t.told) ways one.way; within = refl; unanswered = refl },
+    Passed nothing (subst (PassesLine (standing t.told old.within old.unanswered) p)
+        (same_standing t.told new.within t.within new.unanswered t.unanswered (sym one.within) (sym one.unanswered)) (each t.told)),
+  );
 }
 
-pub passes_line : (old new : Reading) (p : LineRead) → new ≡ old → GivesNone p.ending → p.packets ≡ [] → TakesLine old p new
-passes_line old new p e none nothing = λ earlier. passes earlier old new p e none nothing
+-- and nothing else is known behind it
+pub passes_line : (old new : Reading) (p : LineRead) → new ≡ old → p.packets ≡ []
+    → ((told : Option Told) → PassesLine (standing told old.within old.unanswered) p (standing told old.within old.unanswered)) → TakesLine old p new
+passes_line old new p e nothing each = subst (TakesLine old p) (sym e) (passes old old p refl refl nothing each)
 
 -- what holds anyway
 pub on_ok : {A B X : Type 0} (r : Result A B) → X → OnOk r X
@@ -100,131 +133,107 @@ pub nothing : (qs : List Packet) → length qs ≡ 0 → qs ≡ []
 nothing [] e = refl
 nothing (q ∷ qs) e = absurd (omega (arith, e))
 
-abbrev pub reading : List Node → List Told → Option Unanswered → Reading
-reading setup ways left = record { setup = setup; ways = ways; unanswered = left }
-
-pub no_lines : (earlier : List Told) (old new : Reading) → new ≡ old → TakesPart earlier old part.RunWithoutLines new
-no_lines earlier old new e = record { setup = ap (λ r. r.setup) e; each = λ t one. (t, subst (λ r. IsOneOf r t) e one, NoLines refl) }
-
--- a stop left it open
-pub left_open : (earlier : List Told) (old new : Reading) (p : LineRead) → new.setup ≡ old.setup → new.ways ≡ old.ways → GivesNone p.ending → p.packets ≡ []
-    → (new.unanswered ≡ old.unanswered) ⊎ ((u : Unanswered) × LeavesOpen p u × (new.unanswered ≡ Some u)) → TakesPart earlier old (part.Line p) new
-left_open earlier old new p setup ways none nothing is = record {
-  setup = setup;
-  each = λ t one. (
-    record { told = t.told; unanswered = old.unanswered },
-    (subst (λ ws. IsWayOf ws t.told) ways one.0, refl),
-    Passed (record { none = none; nothing = nothing; same = refl; left_open = by t one.1 is }),
-  );
-}
+pub no_lines : (earlier : List Told) (old new : Reading) → new ≡ reading old.setup old.ways false old.unanswered → TakesPart earlier old part.RunWithoutLines new
+no_lines earlier old new e = record { setup = ap (λ r. r.setup) e; each = λ t one. by t (subst (λ r. IsOneOf r t) e one) }
   where
-    by : (t : Standing) → t.unanswered ≡ new.unanswered → (new.unanswered ≡ old.unanswered) ⊎ ((u : Unanswered) × LeavesOpen p u × (new.unanswered ≡ Some u))
-        → (t.unanswered ≡ old.unanswered) ⊎ ((u : Unanswered) × LeavesOpen p u × (t.unanswered ≡ Some u))
-    by t e (inl same) = inl (e ∙ same)
-    by t e (inr (u, leaves, some)) = inr (u, leaves, e ∙ some)
+    by : (t : Standing) → IsOneOf (reading old.setup old.ways false old.unanswered) t → (s : Standing) × IsOneOf old s × Follows old.setup earlier s part.RunWithoutLines t
+    by t one = (
+      standing t.told old.within old.unanswered,
+      record { way = one.way; within = refl; unanswered = refl },
+      NoLines (same_standing t.told t.within false t.unanswered old.unanswered one.within one.unanswered),
+    )
 
 -- it came to the node
-pub happened : (earlier : List Told) (old new : Reading) (p : LineRead) → new.setup ≡ old.setup → new.unanswered ≡ old.unanswered → AllCome old.ways p new.ways → new.ways ≢ []
-    → TakesPart earlier old (part.Line p) new
-happened earlier old new p setup left all some = record { setup = setup; each = λ t one. by t.told t.unanswered one.0 one.1 }
+pub happened : (old new : Reading) (p : LineRead) → new.setup ≡ old.setup → new.within ≡ is_open_behind p.ending → new.unanswered ≡ old.unanswered → AllCome old.ways p new.ways
+    → new.ways ≢ [] → ShowsEvent p.ending p.packets → TakesLine (in_run old) p new
+happened old new p setup within left all some shows earlier = record { setup = setup; each = λ t one. by t.told t.within t.unanswered one.way (one.within ∙ within) (one.unanswered ∙ left) }
   where
     Before : Standing → Type 0
-    Before t = (s : Standing) × IsOneOf old s × Follows old.setup earlier s (part.Line p) t
+    Before t = (s : Standing) × IsOneOf (in_run old) s × Follows old.setup earlier s (part.Line p) t
 
-    of : (t : Told) (u : Option Unanswered) → u ≡ new.unanswered → ComesOf old.ways p t → Before (record { told = Some t; unanswered = u })
-    of t u e c = gave c.gives
-      where
-        stood : Standing
-        stood = record { told = Some c.old; unanswered = old.unanswered }
+    of : (t : Told) (v : Bool) (u : Option Unanswered) → v ≡ is_open_behind p.ending → u ≡ old.unanswered → ComesOf old.ways p t → Before (standing (Some t) v u)
+    of t v u a b c = (
+      standing (Some c.old) true old.unanswered,
+      record { way = c.among; within = refl; unanswered = refl },
+      Came (record {
+        old = c.old;
+        new = t;
+        line = c.line;
+        is_line = c.is_line;
+        gives = c.gives;
+        shows = shows;
+        within = refl;
+        stood = refl;
+        stands = same_standing (Some t) v (is_open_behind p.ending) u old.unanswered a b;
+      }),
+    )
 
-        gave : Gives c.old c.line p.ending p.packets t → Before (record { told = Some t; unanswered = u })
-        gave (inl h) = (
-          stood,
-          (c.among, refl),
-          Entered (record {
-            old = c.old;
-            new = t;
-            line = c.line;
-            is_line = c.is_line;
-            happens = h;
-            stood = refl;
-            stands = ap (standing (Some t)) (e ∙ left);
-          }),
-        )
-        gave (inr (same, none, nothing)) = (
-          stood,
-          (c.among, refl),
-          Passed (record {
-            none = none;
-            nothing = nothing;
-            same = ap (λ z. Some z) same;
-            left_open = inl (e ∙ left);
-          }),
-        )
-
-    by : (told : Option Told) (u : Option Unanswered) → IsWayOf new.ways told → u ≡ new.unanswered → Before (record { told = told; unanswered = u })
-    by None u is e = absurd (some is)
-    by (Some t) u is e = of t u e (all t is)
+    by : (told : Option Told) (v : Bool) (u : Option Unanswered) → IsWayOf new.ways told → v ≡ is_open_behind p.ending → u ≡ old.unanswered → Before (standing told v u)
+    by None v u is a b = absurd (some is)
+    by (Some t) v u is a b = of t v u a b (all t is)
 
 -- a run is opened, the first of the file
 pub opened_first : (earlier : List Told) (old new : Reading) (p : LineRead) (member : Node) (at : ℕ) → Contains old.setup member → IsNew earlier (party_of member)
-    → setup_in p.line.bytes ≡ Ok old.setup → p.ending ≡ Answered (done.Opened (party_of member) 0 0) at → old.ways ≡ []
-    → new ≡ record { setup = old.setup; ways = opening_told old.setup member ∷ []; unanswered = None } → TakesPart earlier old (part.Line p) new
-opened_first earlier old new p member at among fresh reads answered empty is = record { setup = ap (λ r. r.setup) is; each = λ t one. by t.told t.unanswered one.0 one.1 }
+    → setup_in p.line.bytes ≡ Ok old.setup → p.packets ≡ [] → p.ending ≡ Answered (done.Opened (party_of member) 0 0) at → old.ways ≡ []
+    → new ≡ reading old.setup (opening_told old.setup member ∷ []) true None → TakesPart earlier old (part.Line p) new
+opened_first earlier old new p member at among fresh reads no_packets answered empty is = record { setup = ap (λ r. r.setup) is; each = λ t one. of t (subst (λ r. IsOneOf r t) is one) }
   where
     Before : Standing → Type 0
     Before t = (s : Standing) × IsOneOf old s × Follows old.setup earlier s (part.Line p) t
 
-    stood : Standing
-    stood = record { told = None; unanswered = old.unanswered }
+    first : Told
+    first = opening_told old.setup member
 
-    by : (told : Option Told) (u : Option Unanswered) → IsWayOf new.ways told → u ≡ new.unanswered → Before (record { told = told; unanswered = u })
-    by None u one e = absurd (omega (arith, ap length (sym (ap (λ r. r.ways) is) ∙ one)))
-    by (Some t) u one e = (
-      stood,
-      (empty, refl),
+    by : (told : Option Told) (v : Bool) (u : Option Unanswered) → IsWayOf (first ∷ []) told → v ≡ true → u ≡ None → Before (standing told v u)
+    by None v u one a b = absurd (omega (arith, ap length one))
+    by (Some t) v u one a b = (
+      standing None old.within old.unanswered,
+      record { way = empty; within = refl; unanswered = refl },
       First (record {
         member = member;
         among = among;
         is_new = fresh;
         reads = reads;
+        nothing = no_packets;
         at = at;
         answered = answered;
         first = refl;
-        stands = both (only (Contains-push_cases [] (opening_told old.setup member) t (subst (λ ws. Contains ws t) (ap (λ r. r.ways) is) one))) (e ∙ ap (λ r. r.unanswered) is);
+        stands = ap (λ x. standing (Some x) v u) (only (Contains-push_cases [] first t one)) ∙ same_standing (Some first) v true u None a b;
       }),
     )
       where
-        only : Contains [] t ⊎ (opening_told old.setup member ≡ t) → t ≡ opening_told old.setup member
+        only : Contains [] t ⊎ (first ≡ t) → t ≡ first
         only (inl none) = absurd (omega (arith, none.1))
         only (inr same) = sym same
 
-        both : t ≡ opening_told old.setup member → u ≡ None → ◌≡◌ {A = Standing} (record { told = Some t; unanswered = u }) (record { told = Some (opening_told old.setup member); unanswered = None })
-        both a b = ap (λ x. standing (Some x) u) a ∙ ap (standing (Some (opening_told old.setup member))) b
+    of : (t : Standing) → IsOneOf (reading old.setup (first ∷ []) true None) t → Before t
+    of t one = by t.told t.within t.unanswered one.way one.within one.unanswered
 
 -- a later one
-pub opened_later : (earlier : List Told) (old new : Reading) (p : LineRead) (party : List ℕ) (rows serial at : ℕ) → setup_in p.line.bytes ≡ Ok old.setup
-    → p.ending ≡ Answered (done.Opened party rows serial) at → new.setup ≡ old.setup → new.unanswered ≡ None → AllGoOn old.ways old.unanswered party new.ways → new.ways ≢ [] → TakesPart earlier old (part.Line p) new
-opened_later earlier old new p party rows serial at reads answered setup left all some = record { setup = setup; each = λ t one. by t.told t.unanswered one.0 one.1 }
+pub opened_later : (old new : Reading) (p : LineRead) (opened : Opened) → setup_in p.line.bytes ≡ Ok old.setup → p.packets ≡ []
+    → p.ending ≡ Answered (done.Opened opened.party opened.rows opened.serial) opened.number → new.setup ≡ old.setup → new.within ≡ true → new.unanswered ≡ None
+    → AllGoOn old.ways old.unanswered opened new.ways → new.ways ≢ [] → TakesLine old p new
+opened_later old new p opened reads no_packets answered setup within left all some earlier =
+    record { setup = setup; each = λ t one. by t.told t.within t.unanswered one.way (one.within ∙ within) (one.unanswered ∙ left) }
   where
     Before : Standing → Type 0
     Before t = (s : Standing) × IsOneOf old s × Follows old.setup earlier s (part.Line p) t
 
-    by : (told : Option Told) (u : Option Unanswered) → IsWayOf new.ways told → u ≡ new.unanswered → Before (record { told = told; unanswered = u })
-    by None u one e = absurd (some one)
-    by (Some t) u one e = let (s, among, goes, is_of) = all t one in (
-      record { told = Some s; unanswered = old.unanswered },
-      (among, refl),
+    by : (told : Option Told) (v : Bool) (u : Option Unanswered) → IsWayOf new.ways told → v ≡ true → u ≡ None → Before (standing told v u)
+    by None v u one a b = absurd (some one)
+    by (Some t) v u one a b = let (s, among, goes, stands) = all t one in (
+      standing (Some s) old.within old.unanswered,
+      record { way = among; within = refl; unanswered = refl },
       Later (record {
         old = s;
         new = t;
         reads = reads;
-        rows = rows;
-        serial = serial;
-        at = at;
-        answered = answered ∙ ap (λ q. Answered (done.Opened q rows serial) at) (sym is_of);
+        nothing = no_packets;
+        opened = opened;
+        answered = answered;
+        stands_at = stands;
         stood = refl;
         goes_on = goes;
-        stands = ap (standing (Some t)) (e ∙ left);
+        stands = same_standing (Some t) v true u None a b;
       }),
     )

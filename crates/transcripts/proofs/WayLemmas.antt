@@ -12,14 +12,14 @@ use Rattle.ocpi_types.specs.declared.packet.Packet.{Packet}
 use Rattle.ocpi_types.specs.declared.setup.Node.{Node}
 use Rattle.ocpi_json.specs.NodeEventForms.{node_event_in}
 use Rattle.histories.specs.declared.entry.Entry.{Entry}
-use Rattle.node_replay.specs.Replayed.{Enters, Leads, Replay, restart_entry, started_again}
-use Rattle.transcript_parts.specs.LineReads.{GivesNone}
-use Rattle.transcript_parts.specs.declared.first_lines.Opened.{Opened}
+use Rattle.node_steps.specs.declared.fault.NodeFault.{NodeFault}
+use Rattle.node_replay.specs.Replayed.{Enters, Foretells, Leads, Passes, Refuses, Replay, restart_entry, started_again}
 use Rattle.transcript_parts.specs.declared.line_read.Ending.{Ending}
 use Rattle.transcript_parts.specs.declared.line_read.Ending.TheVariants.{NextRun}
 use Rattle.transcript_parts.specs.declared.echoed.EchoedLine.{EchoedLine}
+use Rattle.world_steps.specs.World.{NodeState}
 use Rattle.transcripts.specs.Told.{AreSources, HasSources, IsEventLine, IsSource, Told}
-use Rattle.transcripts.specs.Following.{Adds, FitsEntry, Gives, GoesOn, Happens, IsOf, Unanswered, restarted}
+use Rattle.transcripts.specs.Following.{Adds, FitsEntry, FitsNothing, Gives, GoesOn, Happens, IsOwn, Refused, Skipped, Stays, TellsRefused, TellsSkipped, Unanswered, restarted}
 use Rattle.transcripts.specs.declared.source.Source.{Source}
 use Rattle.transcripts.specs.declared.source.Source.TheVariants.{Echoed, Restarted}
 
@@ -99,8 +99,17 @@ happens old new event l end packets sent kind changed reads own same enters last
       sources = sources;
     })
 
-pub nothing_given : (old new : Told) (l : EchoedLine) (end : Ending) (packets : List Packet) → new ≡ old → GivesNone end → packets ≡ [] → Gives old l end packets new
-nothing_given old new l end packets same none nothing = inr (same, none, nothing)
+-- it was skipped
+pub skipped : (old new : Told) (event : NodeEvent) (l : EchoedLine) (end : Ending) (packets : List Packet) → node_event_in l.bytes.now ≡ Ok event → TellsSkipped end
+    → (IsOwn old event → Passes old.replay.state event.kind) → packets ≡ [] → new ≡ old → Gives old l end packets new
+skipped old new event l end packets reads tells passes nothing same =
+    inr (record { event = event; reads = reads; fits = Skipped tells passes; nothing = nothing; same = same })
+
+-- it was refused
+pub refused : (old new : Told) (event : NodeEvent) (l : EchoedLine) (end : Ending) (packets : List Packet) (why : NodeFault) → node_event_in l.bytes.now ≡ Ok event → TellsRefused why end
+    → IsOwn old event → Refuses old.replay.state event.kind why → packets ≡ [] → new ≡ old → Gives old l end packets new
+refused old new event l end packets why reads tells own refuses nothing same =
+    inr (record { event = event; reads = reads; fits = Refused why tells own refuses; nothing = nothing; same = same })
 
 -- ---- several ways
 
@@ -161,13 +170,15 @@ added_to P Q before after each adds so s among = of (adds s among)
 
 -- ---- how a way goes on
 
-pub standing_one : (way : Told) (o : Opened) (t : Told) → t ≡ way → party_of way.replay.member ≡ o.party → (t ≡ way) × IsOf o.party t
-standing_one way o t same is = (same, subst (λ (s : Told). IsOf o.party s) (sym same) is)
-
 -- an event that a stop left open was carried out, and then the node started again
-pub carried_out : (way between t : Told) (u : Unanswered) → Gives way u.line NextRun [] between → t ≡ restarted between → GoesOn way (Some u) t
-carried_out way between t u (inl h) is = inr (between, h, is)
-carried_out way between t u (inr (same, none, nothing)) is = inl (is ∙ ap restarted same)
+pub carried_out : (way between t : Told) (u : Unanswered) → Foretells way.replay.state u.event.kind true → Gives way u.line NextRun [] between → t ≡ restarted between → GoesOn way (Some u) t
+carried_out way between t u changes (inl h) is = inr (record { between = between; happens = h; changes = changes; starts = is })
+carried_out way between t u changes (inr stays) is = inl (is ∙ ap restarted stays.same)
+
+-- what is foretold to change a row
+pub foretold : {B : Type 0} (s : NodeState) (k : NodeEventKind) (r : Result Bool B) → IfOk r (Foretells s k) → IfOk r (λ changes. IsTrue changes → Foretells s k true)
+foretold s k (Ok changes) is = λ yes. subst (Foretells s k) yes is
+foretold s k (Err e) is = tt
 
 -- it started again, without more
 pub without_more : (way t : Told) (left : Option Unanswered) → t ≡ restarted way → GoesOn way left t

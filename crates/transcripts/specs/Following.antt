@@ -1,19 +1,27 @@
 -- How the parts of a transcript follow one another: what each makes of the node whose transcript it is.
-use Rattle.std.specs.Prelude.{◌≡◌, ◌≢◌, ◌⊎◌, ℕ, Bool, true, false, List, [], ◌∷◌, ◌++◌, Option, None, Some, Ok, Contains, length}
+use Rattle.std.specs.Prelude.{◌≡◌, ◌≢◌, ◌⊎◌, ◌↔◌, ℕ, Bool, true, false, IsTrue, List, [], ◌∷◌, ◌++◌, Option, None, Some, Ok, Err, Contains, length}
+use Rattle.json_text.specs.declared.fault.JsonFault.{JsonFault}
+use Rattle.json_text.specs.declared.fault.JsonFault.TheVariants as json_fault
 use Rattle.ocpi_text.specs.Text.{key}
 use Rattle.ocpi_types.specs.Setups.{party_of}
 use Rattle.ocpi_types.specs.declared.node_events.NodeEvent.{NodeEvent}
 use Rattle.ocpi_types.specs.declared.packet.Packet.{Packet}
+use Rattle.ocpi_types.specs.declared.rows.Row.{Row}
 use Rattle.ocpi_types.specs.declared.setup.Node.{Node}
 use Rattle.ocpi_json.specs.NodeEventForms.{node_event_in}
 use Rattle.ocpi_json.specs.SetupForms.{setup_in}
-use Rattle.node_replay.specs.Replayed.{Enters, started_again}
+use Rattle.node_replay.specs.Replayed.{Enters, Foretells, Passes, Refuses, started_again}
 use Rattle.node_steps.specs.declared.fault.NodeFault.{NodeFault}
+use Rattle.node_steps.specs.declared.fault.NodeFault.TheVariants as node_fault
+use Rattle.stored_laws.specs.Nodes.{AreNodeRows, last_serial}
 use Rattle.transcript_lines.specs.declared.done.Done.TheVariants as done
 use Rattle.transcript_parts.specs.Lines.{Line, line_of, lines_in}
-use Rattle.transcript_parts.specs.LineReads.{GivesNone, LineRead}
+use Rattle.transcript_parts.specs.LineReads.{LineRead}
 use Rattle.transcript_parts.specs.Parts.{IsPart}
 use Rattle.transcripts.specs.Told.{Told}
+use Rattle.transcript_parts.specs.declared.fault.TranscriptFault.{TranscriptFault}
+use Rattle.transcript_parts.specs.declared.fault.TranscriptFault.TheVariants as transcript_fault
+use Rattle.transcript_parts.specs.declared.first_lines.Opened.{Opened}
 use Rattle.transcript_parts.specs.declared.line_read.Ending.{Ending}
 use Rattle.transcript_parts.specs.declared.line_read.Ending.TheVariants.{Answered, FileEnd, NextRun}
 use Rattle.transcript_parts.specs.declared.parts.Part.{Part}
@@ -35,21 +43,68 @@ FitsEntry (Answered (done.Refused fault) at) packets changed sent = ⊥
 FitsEntry NextRun packets changed sent = (rest : List Packet) × (sent ≡ packets ++ rest)
 FitsEntry FileEnd packets changed sent = (rest : List Packet) × (sent ≡ packets ++ rest)
 
+-- the event is of the node's party
+abbrev pub IsOwn : Told → NodeEvent → Type 0
+IsOwn t x = key x.node ≡ key (party_of t.replay.member)
+
 -- the line is an event of the node, which was carried out, and gave what is told of it
 pub record Happens (old : Told) (l : EchoedLine) (end : Ending) (packets : List Packet) (new : Told) : Type 0 where
   pub event : NodeEvent
   pub reads : node_event_in l.bytes.now ≡ Ok event
-  pub own : key event.node ≡ key (party_of old.replay.member)
+  pub own : IsOwn old event
   pub changed : Bool
   pub enters : Enters old.replay event.kind changed new.replay
   pub fits : FitsEntry end packets changed enters.packets
   pub sources : new.sources ≡ old.sources ++ Echoed l ∷ []
 
+-- what the end says of an event is that it was skipped
+abbrev pub TellsSkipped : Ending → Type 0
+TellsSkipped (Answered done.Skipped at) = Unit {0}
+TellsSkipped (Answered done.Idle at) = ⊥
+TellsSkipped (Answered (done.Stepped n) at) = ⊥
+TellsSkipped (Answered (done.Opened party rows serial) at) = ⊥
+TellsSkipped (Answered (done.Malformed fault) at) = ⊥
+TellsSkipped (Answered (done.Refused fault) at) = ⊥
+TellsSkipped NextRun = ⊥
+TellsSkipped FileEnd = ⊥
+
+-- it is that the node refused it for that reason
+abbrev pub TellsRefused : NodeFault → Ending → Type 0
+TellsRefused why (Answered (done.Refused told) at) = told ≡ Some why
+TellsRefused why (Answered done.Skipped at) = ⊥
+TellsRefused why (Answered done.Idle at) = ⊥
+TellsRefused why (Answered (done.Stepped n) at) = ⊥
+TellsRefused why (Answered (done.Opened party rows serial) at) = ⊥
+TellsRefused why (Answered (done.Malformed fault) at) = ⊥
+TellsRefused why NextRun = ⊥
+TellsRefused why FileEnd = ⊥
+
+-- what the end says of an event by which the node did nothing: it is another node's or of the other role, or the node
+-- refused it so
+pub data FitsNothing (t : Told) (x : NodeEvent) (end : Ending) : Type 0 where
+  Skipped : TellsSkipped end → (IsOwn t x → Passes t.replay.state x.kind) → FitsNothing t x end
+  Refused : (why : NodeFault) → TellsRefused why end → IsOwn t x → Refuses t.replay.state x.kind why → FitsNothing t x end
+
+-- the line is an event by which the node did nothing, as is told of it
+pub record Stays (old : Told) (l : EchoedLine) (end : Ending) (packets : List Packet) (new : Told) : Type 0 where
+  pub event : NodeEvent
+  pub reads : node_event_in l.bytes.now ≡ Ok event
+  pub fits : FitsNothing old event end
+  pub nothing : packets ≡ []
+  pub same : new ≡ old
+
 -- what became of the node by a line of which that is told: an entry more, or nothing
 abbrev pub Gives : Told → EchoedLine → Ending → List Packet → Told → Type 0
-Gives old l end packets new = Happens old l end packets new ⊎ ((new ≡ old) × GivesNone end × (packets ≡ []))
+Gives old l end packets new = Happens old l end packets new ⊎ Stays old l end packets new
 
 -- ---- a run behind another
+
+-- the node is that with which a run was opened: of its party, as it is spelled, with so many rows, and a last packet of
+-- that serial
+pub record StandsAt (o : Opened) (t : Told) : Type 0 where
+  pub party : party_of t.replay.member ≡ o.party
+  pub serial : o.serial ≡ last_serial t.replay.state
+  pub rows : (rs : List Row) × AreNodeRows rs t.replay.state × (o.rows ≡ length rs)
 
 -- an event that a stop left without its answer, and nothing else of it
 pub record Unanswered : Type 0 where
@@ -64,18 +119,40 @@ IsLeft u = node_event_in u.line.bytes.now ≡ Ok u.event
 abbrev pub restarted : Told → Told
 restarted t = record { replay = started_again t.replay; sources = t.sources ++ Restarted ∷ [] }
 
+-- the event changes a row of the node, and was carried out before it started again
+pub record CarriedOut (old : Told) (u : Unanswered) (new : Told) : Type 0 where
+  pub between : Told
+  pub happens : Happens old u.line NextRun [] between
+  pub changes : Foretells old.replay.state u.event.kind true
+  pub starts : new ≡ restarted between
+
 -- the node goes on as its next run begins: an event that a stop left open was carried out before, or was not
 abbrev pub GoesOn : Told → Option Unanswered → Told → Type 0
 GoesOn old None new = new ≡ restarted old
-GoesOn old (Some u) new = (new ≡ restarted old) ⊎ ((between : Told) × Happens old u.line NextRun [] between × (new ≡ restarted between))
+GoesOn old (Some u) new = (new ≡ restarted old) ⊎ CarriedOut old u new
 
 -- ---- part by part
 
--- what is known of the node behind some parts: what happened, once a run was opened; and the event that the last stop
--- left open
+-- what is known of the node behind some parts: what happened, once a run was opened; whether a run is open; and the event
+-- that the last stop left open
 pub record Standing : Type 0 where
   pub told : Option Told
+  pub within : Bool
   pub unanswered : Option Unanswered
+
+-- no run is open any more
+abbrev pub ended : Standing → Standing
+ended s = record { told = s.told; within = false; unanswered = s.unanswered }
+
+-- a run was opened, and this is its node
+abbrev pub begun : Told → Standing
+begun t = record { told = Some t; within = true; unanswered = None }
+
+-- whether the run of a line is open behind it: where the next run stands there, a stop ended it
+abbrev pub is_open_behind : Ending → Bool
+is_open_behind (Answered d at) = true
+is_open_behind NextRun = false
+is_open_behind FileEnd = true
 
 -- none of the transcripts is of that party
 abbrev pub IsNew : List Told → List ℕ → Type 0
@@ -91,33 +168,42 @@ pub record Opens (setup : List Node) (earlier : List Told) (s : Standing) (p : L
   pub among : Contains setup member
   pub is_new : IsNew earlier (party_of member)
   pub reads : setup_in p.line.bytes ≡ Ok setup
+  pub nothing : p.packets ≡ []
   pub at : ℕ
   pub answered : p.ending ≡ Answered (done.Opened (party_of member) 0 0) at
   pub first : s.told ≡ None
-  pub stands : t ≡ record { told = Some (opening_told setup member); unanswered = None }
+  pub stands : t ≡ begun (opening_told setup member)
 
 -- a later one is opened, of the same node
 pub record Reopens (setup : List Node) (s : Standing) (p : LineRead) (t : Standing) : Type 0 where
   pub old : Told
   pub new : Told
   pub reads : setup_in p.line.bytes ≡ Ok setup
-  pub rows : ℕ
-  pub serial : ℕ
-  pub at : ℕ
-  pub answered : p.ending ≡ Answered (done.Opened (party_of new.replay.member) rows serial) at
+  pub nothing : p.packets ≡ []
+  pub opened : Opened
+  pub answered : p.ending ≡ Answered (done.Opened opened.party opened.rows opened.serial) opened.number
+  pub stands_at : StandsAt opened new
   pub stood : s.told ≡ Some old
   pub goes_on : GoesOn old s.unanswered new
-  pub stands : t ≡ record { told = Some new; unanswered = None }
+  pub stands : t ≡ begun new
 
--- a line is entered
-pub record EntersLine (s : Standing) (p : LineRead) (t : Standing) : Type 0 where
+-- where a line has no answer, packets show that it came to the node
+abbrev pub ShowsEvent : Ending → List Packet → Type 0
+ShowsEvent (Answered d at) packets = Unit {0}
+ShowsEvent NextRun packets = packets ≢ []
+ShowsEvent FileEnd packets = packets ≢ []
+
+-- a line within a run comes to the node
+pub record ComesToNode (s : Standing) (p : LineRead) (t : Standing) : Type 0 where
   pub old : Told
   pub new : Told
   pub line : EchoedLine
   pub is_line : line_of line ≡ p.line
-  pub happens : Happens old line p.ending p.packets new
+  pub gives : Gives old line p.ending p.packets new
+  pub shows : ShowsEvent p.ending p.packets
+  pub within : s.within ≡ true
   pub stood : s.told ≡ Some old
-  pub stands : t ≡ record { told = Some new; unanswered = s.unanswered }
+  pub stands : t ≡ record { told = Some new; within = is_open_behind p.ending; unanswered = s.unanswered }
 
 -- a stop left the line open
 pub record LeavesOpen (p : LineRead) (u : Unanswered) : Type 0 where
@@ -125,24 +211,49 @@ pub record LeavesOpen (p : LineRead) (u : Unanswered) : Type 0 where
   pub is_line : line_of u.line ≡ p.line
   pub reads : node_event_in p.line.bytes ≡ Ok u.event
 
--- one is passed over
-pub record PassesLine (s : Standing) (p : LineRead) (t : Standing) : Type 0 where
-  pub none : GivesNone p.ending
-  pub nothing : p.packets ≡ []
-  pub same : t.told ≡ s.told
-  pub left_open : (t.unanswered ≡ s.unanswered) ⊎ ((u : Unanswered) × LeavesOpen p u × (t.unanswered ≡ Some u))
+-- what the end says of a line where no run is open: it was refused as the first one of a run, or a stop left it
+abbrev pub TellsNoRun : Ending → Type 0
+TellsNoRun (Answered (done.Malformed fault) at) = Unit {0}
+TellsNoRun (Answered (done.Refused fault) at) = ⊥
+TellsNoRun (Answered done.Skipped at) = ⊥
+TellsNoRun (Answered done.Idle at) = ⊥
+TellsNoRun (Answered (done.Stepped n) at) = ⊥
+TellsNoRun (Answered (done.Opened party rows serial) at) = ⊥
+TellsNoRun NextRun = Unit {0}
+TellsNoRun FileEnd = Unit {0}
+
+-- the line is refused as an event, for the reason that is told
+abbrev pub IsRefusedEvent : List ℕ → Option JsonFault → Type 0
+IsRefusedEvent line told = (why : JsonFault) × (node_event_in line ≡ Err why) × (told ≡ Some why)
+
+-- it is refused as an event, for whatever reason
+abbrev pub IsNoEvent : List ℕ → Type 0
+IsNoEvent line = (why : JsonFault) × (node_event_in line ≡ Err why)
+
+-- how a line is passed over that did not come to the node, and what is known behind it: no run was open; it was refused
+-- as an event; it is told as malformed, as the first line of a run may be, of which nothing is said here but that the run
+-- then ended, unless memory ran out; memory ran out for any other line; or a stop left it
+pub data PassesLine (s : Standing) (p : LineRead) (t : Standing) : Type 0 where
+  Outside : s.within ≡ false → TellsNoRun p.ending → t ≡ s → PassesLine s p t
+  NoEvent : (told : Option JsonFault) (at : ℕ) → s.within ≡ true → p.ending ≡ Answered (done.Malformed told) at → IsRefusedEvent p.line.bytes told → t ≡ s → PassesLine s p t
+  NoSetup : (told : Option JsonFault) (at : ℕ) (within : Bool) → s.within ≡ true → p.ending ≡ Answered (done.Malformed told) at
+      → (IsTrue within ↔ (told ≡ Some json_fault.Memory)) → t ≡ record { told = s.told; within = within; unanswered = s.unanswered } → PassesLine s p t
+  Starved : (at : ℕ) → s.within ≡ true → p.ending ≡ Answered (done.Refused (Some node_fault.Memory)) at → t ≡ s → PassesLine s p t
+  LeftOpen : (u : Unanswered) → s.within ≡ true → LeavesOpen p u → t ≡ record { told = s.told; within = false; unanswered = Some u } → PassesLine s p t
+  LeftOut : s.within ≡ true → p.ending ≡ NextRun → IsNoEvent p.line.bytes → t ≡ ended s → PassesLine s p t
+  Last : s.within ≡ true → p.ending ≡ FileEnd → t ≡ s → PassesLine s p t
 
 -- what a part makes of what is known
 pub data Follows (setup : List Node) (earlier : List Told) (s : Standing) : Part → Standing → Type 0 where
-  NoLines : {t : Standing} → t ≡ s → Follows setup earlier s part.RunWithoutLines t
+  NoLines : {t : Standing} → t ≡ ended s → Follows setup earlier s part.RunWithoutLines t
   First : {p : LineRead} {t : Standing} → Opens setup earlier s p t → Follows setup earlier s (part.Line p) t
   Later : {p : LineRead} {t : Standing} → Reopens setup s p t → Follows setup earlier s (part.Line p) t
-  Entered : {p : LineRead} {t : Standing} → EntersLine s p t → Follows setup earlier s (part.Line p) t
-  Passed : {p : LineRead} {t : Standing} → PassesLine s p t → Follows setup earlier s (part.Line p) t
+  Came : {p : LineRead} {t : Standing} → ComesToNode s p t → Follows setup earlier s (part.Line p) t
+  Passed : {p : LineRead} {t : Standing} → p.packets ≡ [] → PassesLine s p t → Follows setup earlier s (part.Line p) t
 
 -- what is known behind the parts that were read
 pub data ReadTo (setup : List Node) (earlier : List Told) (all : List Line) : List Line → Standing → Type 0 where
-  Start : ReadTo setup earlier all all (record { told = None; unanswered = None })
+  Start : ReadTo setup earlier all all (record { told = None; within = false; unanswered = None })
   More : {lines rest : List Line} {s t : Standing} (p : Part) → ReadTo setup earlier all lines s → IsPart lines p rest
       → Follows setup earlier s p t → ReadTo setup earlier all rest t
 
@@ -152,10 +263,18 @@ IsTranscriptOf setup earlier text t = (end : Standing) × ReadTo setup earlier (
 
 -- ---- while parts are read
 
--- the ways in which what was read may have happened, and the event that the last stop left open
+-- the fault says that a line is none of a run
+abbrev pub TellsNotARun : TranscriptFault → Type 0
+TellsNotARun (transcript_fault.NotARun n) = Unit {0}
+TellsNotARun (transcript_fault.Wrong n) = ⊥
+TellsNotARun (transcript_fault.TooManyWays n) = ⊥
+TellsNotARun transcript_fault.Memory = ⊥
+
+-- the ways in which what was read may have happened, whether a run is open, and the event that the last stop left open
 pub record Reading : Type 0 where
   pub setup : List Node
   pub ways : List Told
+  pub within : Bool
   pub unanswered : Option Unanswered
 
 -- one of them, or none, where no run was opened
@@ -164,8 +283,10 @@ IsWayOf ways None = ways ≡ []
 IsWayOf ways (Some t) = Contains ways t
 
 -- what may stand behind what was read
-abbrev pub IsOneOf : Reading → Standing → Type 0
-IsOneOf r s = IsWayOf r.ways s.told × (s.unanswered ≡ r.unanswered)
+pub record IsOneOf (r : Reading) (s : Standing) : Type 0 where
+  pub way : IsWayOf r.ways s.told
+  pub within : s.within ≡ r.within
+  pub unanswered : s.unanswered ≡ r.unanswered
 
 -- each way came of an earlier one by the part
 pub record TakesPart (earlier : List Told) (old : Reading) (p : Part) (new : Reading) : Type 0 where
@@ -175,6 +296,10 @@ pub record TakesPart (earlier : List Told) (old : Reading) (p : Part) (new : Rea
 -- and so by a line within a run
 abbrev pub TakesLine : Reading → LineRead → Reading → Type 0
 TakesLine old p new = (earlier : List Told) → TakesPart earlier old (part.Line p) new
+
+-- the same, where a run is open
+abbrev pub in_run : Reading → Reading
+in_run r = record { setup = r.setup; ways = r.ways; within = true; unanswered = r.unanswered }
 
 -- each way is an earlier one that took the line so
 pub record ComesOf (ways : List Told) (p : LineRead) (new : Told) : Type 0 where
@@ -187,13 +312,9 @@ pub record ComesOf (ways : List Told) (p : LineRead) (new : Told) : Type 0 where
 abbrev pub AllCome : List Told → LineRead → List Told → Type 0
 AllCome ways p new = (t : Told) → Contains new t → ComesOf ways p t
 
--- the node is of that party, as it is spelled
-abbrev pub IsOf : List ℕ → Told → Type 0
-IsOf party t = party_of t.replay.member ≡ party
-
--- each way is an earlier one that went on, of that party
-abbrev pub AllGoOn : List Told → Option Unanswered → List ℕ → List Told → Type 0
-AllGoOn ways left party new = (t : Told) → Contains new t → (s : Told) × Contains ways s × GoesOn s left t × IsOf party t
+-- each way is an earlier one that went on, with what the run that was opened says of it
+abbrev pub AllGoOn : List Told → Option Unanswered → Opened → List Told → Type 0
+AllGoOn ways left o new = (t : Told) → Contains new t → (s : Told) × Contains ways s × GoesOn s left t × StandsAt o t
 
 -- what was added is so
 abbrev pub Adds : (Told → Type 0) → List Told → List Told → Type 0

@@ -1,8 +1,9 @@
 //! All ways in which what a transcript tells may have happened, those first that are preferred.
 
-ghost use Rattle.std.specs.Prelude.{◌≡◌, IsPermutation, Ok, OnOk, Some};
+ghost use Rattle.std.specs.Prelude.{◌≡◌, IsPermutation, Ok, OnOk, Some, true};
+ghost use Rattle.node_replay.specs.Replayed.{Foretells};
 ghost use Rattle.ocpi_json.specs.NodeEventForms.{node_event_in};
-ghost use Rattle.transcripts.specs.Following.{Adds, AllCome, AllGoOn, GoesOn, IsOf, restarted};
+ghost use Rattle.transcripts.specs.Following.{Adds, AllCome, AllGoOn, GoesOn, StandsAt, restarted};
 
 use crate::way::{Unanswered, Way};
 use ocpi_types::NodeEvent;
@@ -58,7 +59,7 @@ fn push_standing<'a>(
     opened: &Opened,
     ways: &mut Vec<Way<'a>>,
 ) -> Result<(), AllocError>
-    ensures { OnOk result (Adds (λ t. (t ≡ way.entry) × IsOf opened.now.party t) ways.old.items ways.new.items) }
+    ensures { OnOk result (Adds (λ t. (t ≡ way.entry) × StandsAt opened.now t) ways.old.items ways.new.items) }
 {
     match way.stands_at(opened) {
         Ok(true) => match ways.push(way) {
@@ -76,7 +77,7 @@ fn push_restarted<'a>(
     opened: &Opened,
     ways: &mut Vec<Way<'a>>,
 ) -> Result<(), AllocError>
-    ensures { OnOk result (Adds (λ t. (t ≡ restarted way.entry) × IsOf opened.now.party t) ways.old.items ways.new.items) }
+    ensures { OnOk result (Adds (λ t. (t ≡ restarted way.entry) × StandsAt opened.now t) ways.old.items ways.new.items) }
 {
     match way.restart() {
         Ok(()) => push_standing(way, opened, ways),
@@ -92,7 +93,8 @@ fn push_carried_out<'a>(
     opened: &Opened,
     ways: &mut Vec<Way<'a>>,
 ) -> Result<(), AllocError>
-    ensures { OnOk result (Adds (λ t. GoesOn way.entry (Some left.now) t × IsOf opened.now.party t) ways.old.items ways.new.items) }
+    requires { Foretells way.replay.state left.now.event.kind true }
+    ensures { OnOk result (Adds (λ t. GoesOn way.entry (Some left.now) t × StandsAt opened.now t) ways.old.items ways.new.items) }
 {
     match way.happen(&left.event, left.line, &Ending::NextRun, &[]) {
         Ok(true) => push_restarted(way, opened, ways),
@@ -110,7 +112,7 @@ fn push_both<'a>(
     opened: &Opened,
     ways: &mut Vec<Way<'a>>,
 ) -> Result<(), AllocError>
-    ensures { OnOk result (Adds (λ t. GoesOn way.entry (Some left.now) t × IsOf opened.now.party t) ways.old.items ways.new.items) }
+    ensures { OnOk result (Adds (λ t. GoesOn way.entry (Some left.now) t × StandsAt opened.now t) ways.old.items ways.new.items) }
 {
     match way.would_change(&left.event) {
         Ok(true) => {}
@@ -135,7 +137,7 @@ fn push_going_on<'a>(
     opened: &Opened,
     ways: &mut Vec<Way<'a>>,
 ) -> Result<(), AllocError>
-    ensures { OnOk result (Adds (λ t. GoesOn way.entry unanswered.now t × IsOf opened.now.party t) ways.old.items ways.new.items) }
+    ensures { OnOk result (Adds (λ t. GoesOn way.entry unanswered.now t × StandsAt opened.now t) ways.old.items ways.new.items) }
 {
     match unanswered {
         Some(left) => push_both(alloc, way, left, opened, ways),
@@ -151,7 +153,7 @@ pub(crate) fn go_on<'a>(
     unanswered: &Option<Unanswered<'a>>,
     opened: &Opened,
 ) -> Result<(), AllocError>
-    ensures { OnOk result (AllGoOn ways.old.items unanswered.now opened.now.party ways.new.items) }
+    ensures { OnOk result (AllGoOn ways.old.items unanswered.now opened.now ways.new.items) }
 {
     let mut left = std::mem::replace(ways, Vec::new(alloc));
     while let Some(way) = left.pop() {

@@ -9,6 +9,7 @@
 #![tactic(auto)]
 
 mod all_ways;
+mod malformed;
 mod reading;
 mod source;
 mod transcript;

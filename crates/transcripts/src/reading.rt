@@ -1,35 +1,39 @@
 //! The reading of a transcript, part by part.
 
-ghost use Rattle.std.specs.Prelude.{◌≡◌, Contains, IfOk, IfSome, IsTrue, None, Ok, OnOk, [], ℕ};
-ghost use Rattle.ocpi_json.specs.NodeEventForms.{node_event_in};
+ghost use Rattle.std.specs.Prelude.{◌≡◌, Contains, IfOk, IfSome, IsTrue, None, Ok, OnOk, Some, [], false, true, ℕ};
 ghost use Rattle.ocpi_json.specs.SetupForms.{setup_in};
-ghost use Rattle.transcript_parts.specs.LineReads.{GivesNone};
 ghost use Rattle.ocpi_types.specs.Setups.{party_of};
 ghost use Rattle.transcripts.specs.Following.{
   IsNew,
+  ShowsEvent,
   TakesLine,
   TakesPart,
+  TellsNoRun,
+  in_run,
+  is_open_behind,
 };
 ghost use Rattle.transcript_parts.specs.declared.line_read.Ending.TheVariants.{Answered, FileEnd, NextRun};
 ghost use Rattle.transcript_parts.specs.declared.parts.Part.TheVariants.{Line as OfLine};
 ghost use Rattle.transcript_lines.specs.declared.done.Done.TheVariants as done;
+ghost use Rattle.node_steps.specs.declared.fault.NodeFault.TheVariants as node_fault;
 
 use crate::all_ways::{count_behind, go_on, happen_in_ways};
+use crate::malformed::{event_of, is_refused_event};
 use crate::transcript::Transcript;
 use crate::way::{Unanswered, Way};
 use json_text::JsonFault;
 use node_core::nodes_of;
 use node_steps::NodeFault;
-use ocpi_json::{Scratch, read_node_event};
+use ocpi_json::Scratch;
 use ocpi_text::Party;
-use ocpi_types::{Node, NodeEvent, Setup};
+use ocpi_types::{Node, Setup};
 use setup_equality::are_equal;
 use std::alloc::Global;
 use std::marker::Model;
 use transcript_lines::Done;
 use transcript_parts::{
-    EchoedLine, Ending, LineRead, Opened, Part, TranscriptFault, is_refused_setup, opened_by,
-    opened_setup, pass_line,
+    Ending, LineRead, Opened, Part, TranscriptFault, is_refused_setup, opened_by, opened_setup,
+    pass_line,
 };
 
 /// The most ways that are followed.
@@ -70,7 +74,7 @@ impl<'a> Model for Reading<'a> {
 
     ghost coded = { Prim.hlevel (codes, map.code) };
 
-    ghost view = { λ r. record { setup = r.setup.now; ways = r.ways.items; unanswered = r.unanswered } };
+    ghost view = { λ r. record { setup = r.setup.now; ways = r.ways.items; within = r.within; unanswered = r.unanswered } };
 }
 
 /// The node of a setup whose party is spelled so.
@@ -97,39 +101,20 @@ fn is_new(transcripts: &[Transcript<'_>], party: &Party) -> bool
     true
 }
 
-/// The event of a line, which has to be one.
-fn event_of(
-    alloc: Global,
-    scratch: &mut Scratch,
-    part: &LineRead<'_>,
-) -> Result<NodeEvent, TranscriptFault>
-    ensures { IfOk result (λ event. node_event_in part.now.line.bytes ≡ Ok event) }
+/// Whether it is told of a line that it was refused as the first one of a run, or a stop left it.
+fn tells_no_run(ending: &Ending) -> bool
+    ensures { IsTrue result → TellsNoRun ending.now }
 {
-    match read_node_event(alloc, scratch, part.line().bytes) {
-        Ok(event) => Ok(event),
-        Err(JsonFault::Memory) => Err(TranscriptFault::Memory),
-        Err(_) => Err(TranscriptFault::NotARun(part.line().number)),
-    }
-}
-
-/// Whether an event line is refused so.
-fn is_refused_event(
-    alloc: Global,
-    scratch: &mut Scratch,
-    line: EchoedLine<'_>,
-    told: Option<JsonFault>,
-) -> Result<bool, TranscriptFault> {
-    match read_node_event(alloc, scratch, line.bytes) {
-        Ok(_) => Ok(false),
-        Err(JsonFault::Memory) => Err(TranscriptFault::Memory),
-        Err(fault) => Ok(told == Some(fault)),
+    match ending {
+        Ending::Answered { done, .. } => matches!(done, Done::Malformed(_)),
+        Ending::NextRun | Ending::FileEnd => true,
     }
 }
 
 impl<'a> Reading<'a> {
     /// Nothing is read yet.
     pub(crate) fn new(alloc: Global, setup: &'a Setup) -> Reading<'a>
-        ensures { result ≡ record { setup = setup.now; ways = []; unanswered = None } }
+        ensures { result ≡ record { setup = setup.now; ways = []; within = false; unanswered = None } }
     {
         Reading {
             alloc,
@@ -179,7 +164,7 @@ impl<'a> Reading<'a> {
 
     /// No run is open any more.
     fn end_run(&mut self)
-        ensures { self.new ≡ self.old }
+        ensures { self.new ≡ record { setup = self.old.setup; ways = self.old.ways; within = false; unanswered = self.old.unanswered } }
     {
         self.within = false;
     }
@@ -210,8 +195,12 @@ impl<'a> Reading<'a> {
         scratch: &mut Scratch,
         part: &LineRead<'a>,
     ) -> Result<(), TranscriptFault>
+        requires { self.old.within ≡ false }
         ensures { OnOk result (TakesLine self.old part.now self.new) }
     {
+        if !tells_no_run(part.ending()) {
+            return Err(TranscriptFault::Wrong(part.line().number));
+        }
         pass_line(self.alloc, scratch, part)
     }
 
@@ -221,6 +210,7 @@ impl<'a> Reading<'a> {
         scratch: &mut Scratch,
         part: &LineRead<'a>,
     ) -> Result<(), TranscriptFault>
+        requires { self.old.within ≡ true }
         ensures { OnOk result (TakesLine self.old part.now self.new) }
     {
         match part.ending() {
@@ -237,7 +227,8 @@ impl<'a> Reading<'a> {
         part: &LineRead<'a>,
         done: &Done,
     ) -> Result<(), TranscriptFault>
-        requires { (at : ℕ) × (part.now.ending ≡ Answered done.now at) }
+        requires within { self.old.within ≡ true }
+        requires told { (at : ℕ) × (part.now.ending ≡ Answered done.now at) }
         ensures { OnOk result (TakesLine self.old part.now self.new) }
     {
         match done {
@@ -255,7 +246,8 @@ impl<'a> Reading<'a> {
         part: &LineRead<'a>,
         told: Option<JsonFault>,
     ) -> Result<(), TranscriptFault>
-        requires { GivesNone part.now.ending }
+        requires within { self.old.within ≡ true }
+        requires told { (at : ℕ) × (part.now.ending ≡ Answered (done.Malformed told) at) }
         ensures { OnOk result (TakesLine self.old part.now self.new) }
     {
         if !part.packets().is_empty() {
@@ -282,7 +274,8 @@ impl<'a> Reading<'a> {
         scratch: &mut Scratch,
         part: &LineRead<'a>,
     ) -> Result<(), TranscriptFault>
-        requires { GivesNone part.now.ending }
+        requires within { self.old.within ≡ true }
+        requires told { (at : ℕ) × (part.now.ending ≡ Answered (done.Refused (Some node_fault.Memory)) at) }
         ensures { OnOk result (TakesLine self.old part.now self.new) }
     {
         if !part.packets().is_empty() {
@@ -302,7 +295,8 @@ impl<'a> Reading<'a> {
         scratch: &mut Scratch,
         part: &LineRead<'a>,
     ) -> Result<(), TranscriptFault>
-        requires { part.now.ending ≡ NextRun }
+        requires within { self.old.within ≡ true }
+        requires stopped { part.now.ending ≡ NextRun }
         ensures { OnOk result (TakesLine self.old part.now self.new) }
     {
         self.within = false;
@@ -320,7 +314,8 @@ impl<'a> Reading<'a> {
         scratch: &mut Scratch,
         part: &LineRead<'a>,
     ) -> Result<(), TranscriptFault>
-        requires { part.now.ending ≡ FileEnd }
+        requires within { self.old.within ≡ true }
+        requires end { part.now.ending ≡ FileEnd }
         ensures { OnOk result (TakesLine self.old part.now self.new) }
     {
         if part.packets().is_empty() {
@@ -332,7 +327,9 @@ impl<'a> Reading<'a> {
     /// Takes an event that came to the node: the ways are left in which it did not give what the line has.
     #[tactic(auto, using(crate::proofs::FollowingLemmas::happened))]
     fn happen(&mut self, scratch: &mut Scratch, part: &LineRead<'a>) -> Result<(), TranscriptFault>
-        ensures { OnOk result (TakesLine self.old part.now self.new) }
+        requires within { self.old.within ≡ is_open_behind part.now.ending }
+        requires shows { ShowsEvent part.now.ending part.now.packets }
+        ensures { OnOk result (TakesLine (in_run self.old) part.now self.new) }
     {
         let event = match event_of(self.alloc, scratch, part) {
             Ok(event) => event,
@@ -349,15 +346,16 @@ impl<'a> Reading<'a> {
     }
 
     /// Takes a line of which a stop left nothing: whether it was carried out shows later.
-    #[tactic(auto, using(crate::proofs::FollowingLemmas::passes, crate::proofs::FollowingLemmas::left_open))]
+    #[tactic(auto, using(crate::proofs::FollowingLemmas::passes))]
     fn leave_open(
         &mut self,
         scratch: &mut Scratch,
         part: &LineRead<'a>,
     ) -> Result<(), TranscriptFault>
+        requires within { self.old.within ≡ false }
         requires stopped { part.now.ending ≡ NextRun }
         requires nothing { part.now.packets ≡ [] }
-        ensures { OnOk result (TakesLine self.old part.now self.new) }
+        ensures { OnOk result (TakesLine (in_run self.old) part.now self.new) }
     {
         let event = match event_of(self.alloc, scratch, part) {
             Ok(event) => event,
@@ -393,7 +391,6 @@ impl<'a> Reading<'a> {
             Ok(false) => return Err(TranscriptFault::Wrong(part.line().number)),
             Err(fault) => return Err(fault),
         }
-        self.within = true;
         if self.ways.is_empty() {
             self.open_first(part, opened, earlier)
         } else {
@@ -446,6 +443,7 @@ impl<'a> Reading<'a> {
             Ok(()) => {}
             Err(_) => return Err(TranscriptFault::Memory),
         }
+        self.within = true;
         self.unanswered = None;
         Ok(())
     }
@@ -464,6 +462,7 @@ impl<'a> Reading<'a> {
             Ok(()) => {}
             Err(_) => return Err(TranscriptFault::Memory),
         }
+        self.within = true;
         self.unanswered = None;
         if self.ways.is_empty() || !part.packets().is_empty() {
             return Err(TranscriptFault::NotARun(part.line().number));

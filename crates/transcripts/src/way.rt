@@ -1,12 +1,12 @@
 //! One way in which what a transcript tells may have happened.
 
-ghost use Rattle.std.specs.Prelude.{◌≡◌, ◌≤◌, ◌+◌, ◌++◌, ◌∷◌, Contains, IfOk, IsTrue, List, Ok, OnOk, [], length, vec_capacity};
+ghost use Rattle.std.specs.Prelude.{◌≡◌, ◌≤◌, ◌+◌, ◌++◌, ◌∷◌, Contains, IfOk, IsTrue, List, Ok, OnOk, [], length, true, vec_capacity};
 ghost use Rattle.histories.specs.declared.entry.Entry.{Entry as EntryOf};
+ghost use Rattle.node_replay.specs.Replayed.{Foretells};
 ghost use Rattle.ocpi_json.specs.NodeEventForms.{node_event_in};
 ghost use Rattle.ocpi_types.specs.Setups.{party_of};
 ghost use Rattle.ocpi_types.specs.declared.packet.Packet.{Packet as PacketOf};
-ghost use Rattle.transcripts.specs.Following.{FitsEntry, Gives, opening_told, restarted};
-ghost use Rattle.transcript_parts.specs.LineReads.{GivesNone};
+ghost use Rattle.transcripts.specs.Following.{FitsEntry, Gives, StandsAt, TellsRefused, TellsSkipped, opening_told, restarted};
 ghost use Rattle.transcripts.specs.Told.{IsTold};
 ghost use Rattle.transcript_parts.specs.declared.line_read.Ending.TheVariants.{Answered};
 ghost use Rattle.world_laws.specs.Laws.{IsSetup};
@@ -115,7 +115,7 @@ fn fits_entry(ending: &Ending, packets: &[Packet], changed: bool, sent: &[Packet
 
 /// Whether it is told that the event was another node's, or of the other role.
 fn is_skipped(ending: &Ending) -> bool
-    ensures { IsTrue result → GivesNone ending.now }
+    ensures { IsTrue result → TellsSkipped ending.now }
 {
     match ending {
         Ending::Answered { done, .. } => matches!(done, Done::Skipped),
@@ -125,7 +125,7 @@ fn is_skipped(ending: &Ending) -> bool
 
 /// Whether it is told that the node refused the event so.
 fn is_refused(ending: &Ending, fault: NodeFault) -> bool
-    ensures { IsTrue result → GivesNone ending.now }
+    ensures { IsTrue result → TellsRefused fault ending.now }
 {
     match ending {
         Ending::Answered { done, .. } => match done {
@@ -184,7 +184,9 @@ impl<'a> Way<'a> {
     }
 
     /// Whether an event changes a row of the node, if it is carried out. An error is want of memory.
-    pub(crate) fn would_change(&self, event: &NodeEvent) -> Result<bool, AllocError> {
+    pub(crate) fn would_change(&self, event: &NodeEvent) -> Result<bool, AllocError>
+        ensures { IfOk result (λ changes. IsTrue changes → Foretells self.now.replay.state event.now.kind true) }
+    {
         if event.node.is_same(self.party()) {
             self.replay.would_change(&event.kind)
         } else {
@@ -247,7 +249,7 @@ impl<'a> Way<'a> {
     /// Whether the node is that of a run that was opened: of its party, with so many rows, and a last packet of that
     /// serial. An error is want of memory.
     pub(crate) fn stands_at(&self, opened: &Opened) -> Result<bool, AllocError>
-        ensures { IfOk result (λ fits. IsTrue fits → party_of self.now.replay.member ≡ opened.now.party) }
+        ensures { IfOk result (λ fits. IsTrue fits → StandsAt opened.now self.now) }
     {
         if self.party().as_str() != opened.party.as_str()
             || opened.serial != self.replay.last_serial()

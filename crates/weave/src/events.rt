@@ -40,6 +40,10 @@ fn world_kind(event: &NodeEventKind) -> EventKind
             at: *at,
             event: *event,
         },
+        NodeEventKind::Credit { at, session_id } => EventKind::Credit {
+            at: *at,
+            session_id: *session_id,
+        },
         NodeEventKind::Deliver { at, packet } => EventKind::Deliver {
             at: *at,
             from: packet.from,

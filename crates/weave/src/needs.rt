@@ -168,6 +168,7 @@ fn delivered(entry: &Entry) -> Option<&Packet>
         | NodeEventKind::Token { .. }
         | NodeEventKind::Service { .. }
         | NodeEventKind::Charger { .. }
+        | NodeEventKind::Credit { .. }
         | NodeEventKind::Tick { .. }
         | NodeEventKind::Restart
         | NodeEventKind::Refused => None,

@@ -59,6 +59,7 @@ fn delivery_of(event: &NodeEventKind) -> Option<(Moment, &Packet)>
         NodeEventKind::Token { .. } => None,
         NodeEventKind::Service { .. } => None,
         NodeEventKind::Charger { .. } => None,
+        NodeEventKind::Credit { .. } => None,
         NodeEventKind::Tick { .. } => None,
         NodeEventKind::Restart => None,
         NodeEventKind::Refused => None,

@@ -67,6 +67,15 @@ module _ (w : World) (party : List ℕ) where
       same (Provides s) (OfOperator x) = (λ h. h, λ h. h)
       same (Provides s) (OfProvider x) = (λ h. h, λ h. h)
 
+  pub brings_credit : (at : ℕ) (session_id : List ℕ) → Brings w party (kind.Credit at session_id) (input.Credit at (key session_id))
+  brings_credit at session_id = brings_same (kind.Credit at session_id) (input.Credit at (key session_id)) same
+    where
+      same : IsSame (kind.Credit at session_id) (input.Credit at (key session_id))
+      same (Operates s) (OfOperator x) = (λ h. h, λ h. h)
+      same (Operates s) (OfProvider x) = (λ h. h, λ h. h)
+      same (Provides s) (OfOperator x) = (λ h. h, λ h. h)
+      same (Provides s) (OfProvider x) = (λ h. h, λ h. h)
+
   pub brings_tick : (at : ℕ) → Brings w party (kind.Tick at) (input.Tick at)
   brings_tick at = brings_same (kind.Tick at) (input.Tick at) same
     where

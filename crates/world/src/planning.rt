@@ -16,7 +16,7 @@ use std::alloc::AllocError;
 
 /// What an event that is not refused by the storing brings to the node of that party. None, where the packet that it
 /// would deliver was not sent, or not to that party.
-#[tactic(auto, using(crate::proofs::Bringing::order_brought, crate::proofs::Bringing::token_brought, crate::proofs::Bringing::brings_service, crate::proofs::Bringing::brings_report, crate::proofs::Bringing::brings_packet, crate::proofs::Bringing::brings_tick, crate::proofs::Bringing::brings_restart))]
+#[tactic(auto, using(crate::proofs::Bringing::order_brought, crate::proofs::Bringing::token_brought, crate::proofs::Bringing::brings_service, crate::proofs::Bringing::brings_report, crate::proofs::Bringing::brings_credit, crate::proofs::Bringing::brings_packet, crate::proofs::Bringing::brings_tick, crate::proofs::Bringing::brings_restart))]
 fn input_of<'w>(places: &'w [Place], party: &Party, kind: &'w EventKind) -> Option<NodeInput<'w>>
     ensures some { IfSome result (λ i. Brings (places_seen places.now) party.now kind.now i) }
     ensures none { IfNone result (BringsNothing (places_seen places.now) party.now kind.now) }
@@ -40,6 +40,10 @@ fn input_of<'w>(places: &'w [Place], party: &Party, kind: &'w EventKind) -> Opti
             in_service: *in_service,
         }),
         EventKind::Charger { at, event } => Some(NodeInput::Charger { at: *at, event }),
+        EventKind::Credit { at, session_id } => Some(NodeInput::Credit {
+            at: *at,
+            session_id: session_id.key(),
+        }),
         EventKind::Deliver { at, from, serial } => {
             let packet = delivered(places, party, from, *serial)?;
             Some(NodeInput::Arrives { at: *at, packet })

@@ -6,7 +6,7 @@ use Rattle.std.specs.FinMap.{get, get-empty}
 use Rattle.tables.specs.Keys.{text_pair_cmp}
 use Rattle.tables.proofs.Options.{not_both}
 use Rattle.ocpi_text.specs.Text.{key}
-use Rattle.ocpi_types.specs.Credits.{IsBill}
+use Rattle.ocpi_types.specs.Credits.{AreAlike}
 use Rattle.ocpi_types.specs.declared.cdrs.Cdr.{Cdr}
 use Rattle.ocpi_types.specs.declared.packet.Body.TheVariants as body
 use Rattle.ocpi_types.specs.declared.packet.Packet.{Packet}
@@ -55,13 +55,14 @@ module _ (setup : List Node) (is_setup : IsSetup setup) (w : World) (hs : Histor
       each = λ id v ends completed.
           let (x, stands, b) = billed_state.each id v (sym (stored_last id) ∙ ends) completed in
           (x, stands, told_bills v x b);
-      only = λ id x stands.
-          let (v, newest, b) = billed_state.only id x stands in
+      only = λ id x stands bill.
+          let (v, newest, b) = billed_state.only id x stands bill in
           (v, ap (λ (k : List ℕ). last_or None (past_of k p.versions)) (ap key b.session) ∙ stored_last (key v.id) ∙ newest, told_bills v x b);
+      credits = billed_state.credits;
       once = billed_state.once;
     }
 
-  -- each completed session is billed once, and no other
+  -- each completed session is billed once, and no other; each is taken back at most once
   pub billed : (o : List ℕ) (p : Place) (s : operator.State) → OperatorOf w o p s → BillsOnce p s
   billed o p s of = bills_once o p s (operator_at setup is_setup w hs traces o p s of)
 
@@ -112,23 +113,16 @@ module _ (setup : List Node) (is_setup : IsSetup setup) (w : World) (hs : Histor
       subst (λ (k : List ℕ × List ℕ). HasCdr w k.0 k.1 x) (sym c.own)
       (subst (λ (z : List ℕ). HasCdr w z (key x.id) x) (sym c.sender) (from_operator c.packet x c.from c.carries))
 
-  -- so it is a bill
-  held_bill : (p o id : List ℕ) (x : Cdr) → HoldsCdr w p o id x → IsBill x
-  held_bill p o id x h =
-      let c = records p o id x h in
-      let (v, ends, told) = (billed o c.place c.state c.at).only id x c.stands in
-      told.bill
-
-  -- and it holds no two of one session
-  pub records_once : (p o i j : List ℕ) (x y : Cdr) → HoldsCdr w p o i x → HoldsCdr w p o j y → key x.session_id ≡ key y.session_id → i ≡ j
-  records_once p o i j x y h g same =
+  -- and it holds no two bills of one session, nor two credits
+  pub records_once : (p o i j : List ℕ) (x y : Cdr) → HoldsCdr w p o i x → HoldsCdr w p o j y → key x.session_id ≡ key y.session_id → AreAlike x y → i ≡ j
+  records_once p o i j x y h g same alike =
       let at = provider_at setup is_setup w hs traces p h.place h.state h.at in
       let one = one_provider setup is_setup w hs traces p h.place g.place h.state g.state h.at g.at in
       one_cdr_per_session (peering_of setup at.trace.party) at.trace.events at.trace.state at.trace.run o i j x y
       (ap (λ (z : provider.State). get z.rows.inbox.cdrs (o, i)) at.state_is ∙ h.held)
       (ap (λ (z : provider.State). get z.rows.inbox.cdrs (o, j)) (at.state_is ∙ one.1) ∙ g.held)
       same
-      (held_bill p o i x h ∙ sym (held_bill p o j y g))
+      alike
 
   -- an operator's records have the currency of its site
   pub own_currency : (o : List ℕ) (p : Place) (s : operator.State) → OperatorOf w o p s → (id : List ℕ) (x : Cdr) → get s.rows.charged.cdrs id ≡ Some x → x.currency ≡ s.site.currency

@@ -1,8 +1,8 @@
 -- A list that is gathered from another, at most one element of each: what stands in it, that its elements differ, and
--- its sum.
+-- the difference of two such sums.
 use Rattle.std.proofs.Common.{◌≡◌, ◌≢◌, ◌<◌, List, [], ◌∷◌, map, refl, sym, ap, subst, ◌∙◌, inl, inr, arith, length}
 use Rattle.std.proofs.lemmas.Int.{ints}
-use Rattle.std.specs.Prelude.{Option, Some, None, Contains, ℤ, pos}
+use Rattle.std.specs.Prelude.{Option, Some, None, Contains, ℤ, pos, ◌+ℤ◌, ◌-ℤ◌}
 use Rattle.std.specs.List.{AllPairs, filter_map, cons_option}
 use Rattle.std.specs.declared.cmp.Ordering.{Ordering}
 use Rattle.std.specs.Cmp.{IsTotalOrder}
@@ -62,17 +62,23 @@ module _ {X Y : Type 0} (f : X → Option Y) where
           let from = gathered_of xs b i in
           h x from.0 a b (in_front x xs) (in_later x from.0 xs from.1) (All-contains (R x) xs from.0 (first_pairs R x xs apart) from.1) is from.2)) rest
 
-  -- the sum of what is gathered is that of the elements, each of which counts as what is gathered of it, and as
-  -- nothing where nothing is
-  pub gathered_total : {Z : Type 0} (c : Y → ℤ) (g : Z → ℤ) (part : X → Z) (xs : List X) → ((x : X) → Contains xs x → g (part x) ≡ term_at c (f x)) →
-      total (map g (map part xs)) ≡ total (map c (filter_map f xs))
-  gathered_total c g part [] h = refl
-  gathered_total c g part (x ∷ xs) h = by (f x) (h x (in_front x xs)) (gathered_total c g part xs (λ z i. h z (in_later x z xs i)))
-    where
-      by : (o : Option Y) → g (part x) ≡ term_at c o → total (map g (map part xs)) ≡ total (map c (filter_map f xs)) →
-          total (map g (map part (x ∷ xs))) ≡ total (map c (cons_option o (filter_map f xs)))
-      by None is rest = omega (arith, ints)
-      by (Some y) is rest = omega (arith, ints)
+-- what is gathered of one element adds its term
+option_total : {Y : Type 0} (c : Y → ℤ) (o : Option Y) (ys : List Y) → total (map c (cons_option o ys)) ≡ term_at c o +ℤ total (map c ys)
+option_total c None ys = omega (arith, ints)
+option_total c (Some y) ys = refl
+
+-- the sum of what is gathered in one way, less that of what is gathered in another, is that of the elements, each of
+-- which counts as what is gathered of it in the one way, less what is gathered of it in the other
+pub gathered_difference : {X Y Z : Type 0} (f h : X → Option Y) (c : Y → ℤ) (g : Z → ℤ) (part : X → Z) (xs : List X) →
+    ((x : X) → Contains xs x → g (part x) ≡ term_at c (f x) -ℤ term_at c (h x)) →
+    total (map g (map part xs)) ≡ total (map c (filter_map f xs)) -ℤ total (map c (filter_map h xs))
+gathered_difference f h c g part [] is = refl
+gathered_difference f h c g part (x ∷ xs) is =
+    let here = is x (in_front x xs) in
+    let rest = gathered_difference f h c g part xs (λ z i. is z (in_later x z xs i)) in
+    let added = option_total c (f x) (filter_map f xs) in
+    let taken = option_total c (h x) (filter_map h xs) in
+    omega (arith, ints)
 
 -- nothing and nothing is nothing
 pub nothing_total : {X Z : Type 0} (g : Z → ℤ) (part : X → Z) (xs : List X) → ((x : X) → Contains xs x → g (part x) ≡ pos 0) → total (map g (map part xs)) ≡ pos 0

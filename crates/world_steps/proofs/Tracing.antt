@@ -43,6 +43,7 @@ comes_to_operator w party (kind.Submit moment to order) x at q reaches is = absu
 comes_to_operator w party (kind.Token moment token) x at q reaches is = absurd reaches
 comes_to_operator w party (kind.Service evse_uid in_service) x at q reaches is = let bad : operator.Serves (key evse_uid) in_service ≡ operator.Arrives at q = sym reaches ∙ is in absurd (cc)
 comes_to_operator w party (kind.Charger moment report) x at q reaches is = let bad : operator.Reports moment report ≡ operator.Arrives at q = sym reaches ∙ is in absurd (cc)
+comes_to_operator w party (kind.Credit moment session_id) x at q reaches is = let bad : operator.Credits moment (key session_id) ≡ operator.Arrives at q = sym reaches ∙ is in absurd (cc)
 comes_to_operator w party (kind.Deliver moment from serial) x at q (r, may, other) is =
     let both : operator.Arrives moment r ≡ operator.Arrives at q = sym other ∙ is in
     let same : r ≡ q = cc in
@@ -57,6 +58,7 @@ comes_to_provider w party (kind.Submit moment to order) x at q reaches is = let 
 comes_to_provider w party (kind.Token moment token) x at q reaches is = let bad : provider.Gives moment token ≡ provider.Arrives at q = sym reaches ∙ is in absurd (cc)
 comes_to_provider w party (kind.Service evse_uid in_service) x at q reaches is = absurd reaches
 comes_to_provider w party (kind.Charger moment report) x at q reaches is = absurd reaches
+comes_to_provider w party (kind.Credit moment session_id) x at q reaches is = absurd reaches
 comes_to_provider w party (kind.Deliver moment from serial) x at q (r, may, other) is =
     let both : provider.Arrives moment r ≡ provider.Arrives at q = sym other ∙ is in
     let same : r ≡ q = cc in

@@ -86,6 +86,7 @@ abbrev pub OperatorRefuses : operator_state.State → operator.Input → NodeFau
 OperatorRefuses s (operator.Arrives at q) fault = operator_faults.IsDue s at q fault
 OperatorRefuses s (operator.Serves evse in_service) fault = ⊥
 OperatorRefuses s (operator.Reports at report) fault = operator_faults.IsReportFault s at report fault
+OperatorRefuses s (operator.Credits at session) fault = operator_faults.IsCreditFault s at session fault
 OperatorRefuses s (operator.Ticks at) fault = operator_faults.IsOwnFault (TickLine s at) s fault
 OperatorRefuses s operator.Restarts fault = ⊥
 

@@ -31,7 +31,7 @@ pub(crate) struct Bill {
 }
 
 /// Adds that a charge detail record is pushed to a party.
-fn add_posted(
+pub(crate) fn add_posted(
     alloc: Global,
     draft: &mut Draft,
     at: Moment,
@@ -46,7 +46,7 @@ fn add_posted(
 }
 
 /// Adds that a charge detail record is stored.
-fn add_recorded(alloc: Global, draft: &mut Draft, cdr: Cdr) -> Result<(), AllocError>
+pub(crate) fn add_recorded(alloc: Global, draft: &mut Draft, cdr: Cdr) -> Result<(), AllocError>
     ensures { OnOk result (draft.new ≡ with_acts (changed (change.Put (row.Cdr cdr)) ∷ []) draft.old) }
 {
     let cdr = Boxed::new(alloc, cdr)?;

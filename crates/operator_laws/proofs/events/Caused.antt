@@ -6,6 +6,7 @@ use Rattle.std.proofs.lemmas.List.Elements.{Contains-append_cases, Contains-appe
 use Rattle.tables.proofs.Elements.{in_none, in_front, in_single, in_map}
 use Rattle.ocpi_text.specs.Text.{key}
 use Rattle.ocpi_types.specs.declared.authorizations.Authorization.{Authorization}
+use Rattle.ocpi_types.specs.declared.cdrs.Cdr.{Cdr}
 use Rattle.ocpi_types.specs.declared.events.ChargerEvent.{ChargerEvent}
 use Rattle.ocpi_types.specs.declared.packet.Body.TheVariants as body
 use Rattle.ocpi_types.specs.declared.packet.Packet.{Packet}
@@ -17,6 +18,7 @@ use Rattle.ocpi_types.specs.declared.rows.Counter.TheVariants as counter
 use Rattle.ocpi_types.specs.declared.sessions.Session.{Session}
 use Rattle.ocpi_types.specs.declared.commands.Command.{Command}
 use Rattle.ocpi_types.specs.declared.stored.OpenCommand.{OpenCommand}
+use Rattle.ocpi_types.specs.declared.stored.Push.TheVariants as push
 use Rattle.ocpi_types.specs.declared.stored.Reply.{Reply}
 use Rattle.authorization_book.specs.declared.awaited.Awaited.{Awaited}
 use Rattle.reservation_book.specs.declared.standing.Standing.{Standing}
@@ -34,8 +36,10 @@ use Rattle.operator_steps.specs.Asking as asking
 use Rattle.operator_steps.specs.Asking.{AnswerActs, AreUnanswered, Deadlines, IsAnswered, IsAwaited}
 use Rattle.operator_steps.specs.Charger as charger
 use Rattle.operator_steps.specs.Charger.{ChargerLine}
+use Rattle.operator_steps.specs.Credits as credits
+use Rattle.operator_steps.specs.Credits.{CreditLine, next_credit}
 use Rattle.operator_steps.specs.Ends.{IsOfSite, IsOpen, end_acts, ends_acts, expired_acts}
-use Rattle.operator_steps.specs.Events.{Input, Arrives, Serves, Reports, Ticks, Restarts, Asks}
+use Rattle.operator_steps.specs.Events.{Input, Arrives, Serves, Reports, Credits, Ticks, Restarts, Asks}
 use Rattle.operator_steps.specs.Moves.{Work}
 use Rattle.operator_steps.specs.Service as service
 use Rattle.operator_steps.specs.Service.{ServiceLine}
@@ -46,7 +50,7 @@ use Rattle.operator_steps.specs.Steps.{PacketLine, TokenLine, acknowledgement}
 use Rattle.operator_steps.specs.Tick.{Expiries, Resends, TickLine, TimeOut, Timeouts, request_of}
 use Rattle.operator_steps.proofs.Orderly.{AreOrderly, orderly_kinds}
 use Rattle.operator_steps.proofs.Resending.{resent_leave}
-use Rattle.operator_laws.proofs.events.Causes.{Cause, Replying, TakesToken}
+use Rattle.operator_laws.proofs.events.Causes.{Cause, Crediting, Replying, TakesToken}
 use Rattle.operator_laws.proofs.events.Decided.{AllOf, all_acts, all_in, decided_caused}
 
 -- an open command that ends
@@ -238,6 +242,10 @@ module _ (s : State) (i : Input) (acts : List Act) where
   service_caused evse in_service (service.Withdrawn h o w is) = just (changed (Put (row.Service evse)) ∷ []) is (λ within. (tt, tt))
   service_caused evse in_service (service.Restored h o w is) = just (changed (Drop (keys.Service evse)) ∷ []) is (λ within. (tt, tt))
 
+  credit_caused : (at : ℕ) (session : List ℕ) → CreditLine s at session acts → AreCaused acts
+  credit_caused at session (credits.Credited bill to h later is) = just _ is (λ within. (tt, (tt, tt)))
+  credit_caused at session (credits.NothingToCredit none is) = just [] is (λ within. tt)
+
   -- the stages of a moment, one after the other
   timeouts_caused : (at : ℕ) (part : List Act) → Timeouts at s part → AreWithin part → AreCaused part
   timeouts_caused at part h inside c j =
@@ -288,11 +296,27 @@ module _ (s : State) (i : Input) (acts : List Act) where
         ]
       ]
 
+-- each record that the order to take a bill back puts is the credit of that bill
+pub credit_puts : (s : State) (at : ℕ) (session : List ℕ) (acts : List Act) → CreditLine s at session acts → (x : Cdr) → Contains (all_changes acts) (Put (row.Cdr x)) →
+    Crediting s (Credits at session) x
+credit_puts s at session acts (credits.NothingToCredit none is) x i = absurd (in_none (Put (row.Cdr x)) (subst (λ l. Contains (all_changes l) (Put (row.Cdr x))) is i))
+credit_puts s at session acts (credits.Credited bill to h later is) x i =
+    let credit : Cdr = next_credit at bill in
+    let stored : List Change = Put (row.Cdr credit) ∷ [] in
+    elim (of_cons (Put (row.Push (s.rows.request + 1) to (push.PostCdr credit))) stored (Put (row.Cdr x)) (subst (λ l. Contains (all_changes l) (Put (row.Cdr x))) is i)) [
+      | inl pushes ↦ absurd (cc)
+      | inr puts ↦
+          let both : Put (row.Cdr credit) ≡ Put (row.Cdr x) = in_single (Put (row.Cdr credit)) (Put (row.Cdr x)) puts in
+          let same : x ≡ credit = cc in
+          record { at = at; session = session; ordered = refl; bill = bill; to = to; credits = h; later = later; record_is = same }
+    ]
+
 -- what an input asks for has its causes
 pub asked_caused : (s : State) (i : Input) (work : Work) → Asks s i work → (c : Change) → Contains (all_changes work.acts) c → Cause s i work.acts c
 asked_caused s (Arrives at q) work comes = packet_caused s (Arrives at q) work.acts at q comes.provider work refl comes.from refl comes.line
 asked_caused s (Serves evse in_service) work (part, line, is) =
     service_caused s (Serves evse in_service) work.acts evse in_service (subst (λ (w : Work). ServiceLine s evse in_service w.acts) (sym is) line)
 asked_caused s (Reports at report) work line = report_caused s (Reports at report) work.acts at report work refl line
+asked_caused s (Credits at session) work (part, line, is) = credit_caused s (Credits at session) work.acts at session (subst (λ (w : Work). CreditLine s at session w.acts) (sym is) line)
 asked_caused s (Ticks at) work line = tick_caused s (Ticks at) work.acts at work refl line
 asked_caused s Restarts work line = absurd line

@@ -1,8 +1,10 @@
 -- Why an event changes a row, kind by kind of row. Each act of each line has such a cause for each row that it
 -- changes; a law asks for the cause of a row, and need not know which acts there are.
-use Rattle.std.specs.Prelude.{◌≡◌, ◌≢◌, ℕ, List, Some, None, Contains, ⊤}
+use Rattle.std.specs.Prelude.{◌≡◌, ◌≢◌, ◌<◌, ℕ, List, Some, None, Contains, ⊤}
 use Rattle.std.specs.FinMap.{get}
+use Rattle.ocpi_text.specs.Moment.{last_moment}
 use Rattle.ocpi_text.specs.Text.{key}
+use Rattle.ocpi_types.specs.declared.cdrs.Cdr.{Cdr}
 use Rattle.ocpi_types.specs.declared.commands.ReserveNow.{ReserveNow}
 use Rattle.ocpi_types.specs.declared.packet.Body.TheVariants as body
 use Rattle.ocpi_types.specs.declared.packet.Packet.{Packet}
@@ -29,7 +31,8 @@ use Rattle.operator_rows.specs.Sound.{IsSound}
 use Rattle.operator_tables.specs.Outcomes.{IsAsked}
 use Rattle.operator_tables.specs.declared.decision.Decision.{Decision}
 use Rattle.operator_steps.specs.Acts.{decided_acts, reply_of}
-use Rattle.operator_steps.specs.Events.{Input, Arrives}
+use Rattle.operator_steps.specs.Credits.{CreditsTo, next_credit}
+use Rattle.operator_steps.specs.Events.{Input, Arrives, Credits}
 use Rattle.operator_steps.specs.Steps.{IsDecided, TokenLine}
 use Rattle.operator_steps.proofs.Orderly.{AreOrderly}
 use Rattle.operator_laws.specs.Laws.{IsReplyTo}
@@ -113,6 +116,17 @@ pub record Reserving (s : State) (i : Input) (acts : List Act) (p id : List ℕ)
   pub asks : IsAsked asked r
   pub marks : Contains (all_changes acts) (Put (row.Mark p id decides.packet.request))
   pub accepts : Contains (all_changes acts) (Put (row.Result p decides.packet.request Accepted))
+
+-- a credit is stored: it is ordered at that moment, and takes the bill of the session back
+pub record Crediting (s : State) (i : Input) (x : Cdr) : Type 0 where
+  pub at : ℕ
+  pub session : List ℕ
+  pub ordered : i ≡ Credits at session
+  pub bill : Cdr
+  pub to : List ℕ
+  pub credits : CreditsTo s session bill to
+  pub later : bill.last_updated < last_moment
+  pub record_is : x ≡ next_credit at bill
 
 -- a counter that an act may change: of sessions, or of charge detail records
 abbrev pub IsOwnCounter : Counter → Type 0

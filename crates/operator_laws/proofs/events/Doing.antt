@@ -25,14 +25,14 @@ use Rattle.operator_rows.specs.Rows.{AreChanges, HasRow}
 use Rattle.operator_rows.specs.Sound.{IsConsistent, MayChangeAll}
 use Rattle.operator_rows.specs.Steps.{IsNext, MayFollow, MayFollowFull, restarted}
 use Rattle.operator_rows.proofs.RowChanges.{row_changes}
-use Rattle.operator_steps.specs.Events.{Event, Happens, Done, Restarted, Refused, Input, Arrives, Serves, Reports, Ticks, Restarts, Asks, event_out}
+use Rattle.operator_steps.specs.Events.{Event, Happens, Done, Restarted, Refused, Input, Arrives, Serves, Reports, Credits, Ticks, Restarts, Asks, event_out}
 use Rattle.operator_steps.specs.Moves.{AreInRange, Out, StepBy, Work, counters_of, idle, step_of_acts, step_of_work}
 use Rattle.operator_steps.proofs.Counts.{counters_in, counters_stay}
 use Rattle.operator_steps.proofs.Fitting.{numbered_for, rows_after}
 use Rattle.operator_steps.proofs.Orderly.{AreOrderly, AreUncounted, IsOfStep, of_counters, orderly_apart}
 use Rattle.operator_laws.proofs.events.Causes.{Cause}
 use Rattle.operator_laws.proofs.events.Caused.{asked_caused}
-use Rattle.operator_laws.proofs.events.Facts.{packets, reports, services, ticks}
+use Rattle.operator_laws.proofs.events.Facts.{credits, packets, reports, services, ticks}
 use Rattle.operator_laws.proofs.events.LineReasons.{asked_reason}
 use Rattle.operator_laws.proofs.events.Reasons.{Reason, Saying}
 use Rattle.operator_laws.proofs.events.Sayings.{asked_said}
@@ -80,6 +80,7 @@ pub asked_may : (s : State) (i : Input) (work : Work) → IsConsistent s → Ask
 asked_may s (Arrives at q) work fine line range = packets at q s work fine line range
 asked_may s (Serves evse in_service) work fine line range = services evse in_service s work fine line range
 asked_may s (Reports at report) work fine line range = reports at report s work fine line range
+asked_may s (Credits at session) work fine line range = credits at session s work fine line range
 asked_may s (Ticks at) work fine line range = ticks at s work fine line range
 asked_may s Restarts work fine line range = absurd line
 

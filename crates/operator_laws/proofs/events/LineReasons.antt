@@ -7,6 +7,7 @@ use Rattle.tables.proofs.Elements.{in_single}
 use Rattle.tables.proofs.Options.{none_some}
 use Rattle.ocpi_text.specs.Text.{key}
 use Rattle.ocpi_types.specs.declared.authorizations.Authorization.{Authorization}
+use Rattle.ocpi_types.specs.declared.cdrs.Cdr.{Cdr}
 use Rattle.ocpi_types.specs.declared.commands.StartSession.{StartSession}
 use Rattle.ocpi_types.specs.declared.events.ChargerEvent.{ChargerEvent}
 use Rattle.ocpi_types.specs.declared.events.ChargerEvent.TheVariants as event
@@ -25,6 +26,7 @@ use Rattle.ocpi_types.specs.declared.token.Token.{Token}
 use Rattle.ocpi_types.specs.declared.words.AuthMethod.TheVariants as how
 use Rattle.ocpi_types.specs.declared.commands.Command.TheVariants as command
 use Rattle.ocpi_types.specs.declared.stored.OpenCommand.{OpenCommand}
+use Rattle.ocpi_types.specs.declared.stored.Push.TheVariants as push
 use Rattle.ocpi_types.specs.declared.words.CommandResultType.{CommandResultType}
 use Rattle.ocpi_types.specs.declared.words.CommandResultType.TheVariants as result
 use Rattle.ocpi_types.specs.declared.words.TokenType.{TokenType}
@@ -32,7 +34,7 @@ use Rattle.authorization_book.specs.declared.awaited.Awaited.{Awaited}
 use Rattle.reservation_book.specs.declared.standing.Standing.{Standing}
 use Rattle.token_desk.specs.declared.answers.Swipe.{Swipe}
 use Rattle.token_desk.specs.declared.answers.Swipe.TheVariants as shown
-use Rattle.node_steps.specs.Acts.{Act, acknowledged, all_changes, all_messages, answered, changed}
+use Rattle.node_steps.specs.Acts.{Act, acknowledged, all_changes, all_messages, answered, changed, push_message, pushed}
 use Rattle.node_steps.specs.Drafts.{count_change}
 use Rattle.node_steps.specs.Peers.{IsPeer}
 use Rattle.operator_rows.specs.State.{State, IsSpent}
@@ -53,8 +55,10 @@ use Rattle.operator_steps.specs.Acts.{decided_acts, reference_of, reply_of, sett
 use Rattle.operator_steps.specs.Asking.{AnswerActs}
 use Rattle.operator_steps.specs.Charger as charger
 use Rattle.operator_steps.specs.Charger.{ChargerLine, IsStarted, Shows, outcome}
+use Rattle.operator_steps.specs.Credits as credits
+use Rattle.operator_steps.specs.Credits.{CreditLine, next_credit}
 use Rattle.operator_steps.specs.Ends.{all_resent, ends_acts, expired_acts}
-use Rattle.operator_steps.specs.Events.{Input, Arrives, Serves, Reports, Ticks, Restarts, Asks}
+use Rattle.operator_steps.specs.Events.{Input, Arrives, Serves, Reports, Credits, Ticks, Restarts, Asks}
 use Rattle.operator_steps.specs.Moves.{Work}
 use Rattle.operator_steps.specs.Service as service
 use Rattle.operator_steps.specs.Service.{ServiceLine}
@@ -322,6 +326,27 @@ module _ (s : State) (i : Input) (acts : List Act) where
   service_reason evse in_service (service.Withdrawn h o w is) = just _ is (λ part. (tt, tt))
   service_reason evse in_service (service.Restored h o w is) = just _ is (λ part. (tt, tt))
 
+  credit_reason : (at : ℕ) (session : List ℕ) → i ≡ Credits at session → CreditLine s at session acts → AreReasoned
+  credit_reason at session ordered (credits.NothingToCredit none is) = just [] is (λ part. tt)
+  credit_reason at session ordered (credits.Credited bill to h later is) =
+      let x : Cdr = next_credit at bill in
+      let n = s.rows.request + 1 in
+      just (pushed at n to (push.PostCdr x) ∷ (changed (Put (row.Cdr x)) ∷ [])) is (λ part. (
+        record {
+          above = omega arith;
+          listed = h.of_provider.listed;
+          says = part.messages (push_message n to (push.PostCdr x)) (0, omega arith, refl);
+          carries = reasons.OfRecord x refl h.of_provider.same (part.changes (Put (row.Cdr x)) (1, omega arith, refl));
+        },
+        (
+          record {
+            how = reasons.Credited (record { at = at; session = session; ordered = ordered; bill = bill; to = to; credits = h; later = later; record_is = refl });
+            pushed = record { number = n; to = to; of_provider = h.of_provider.same; makes = part.changes (Put (row.Push n to (push.PostCdr x))) (0, omega arith, refl) };
+          },
+          tt,
+        ),
+      ))
+
   -- a moment
   expired_reason : (xs : List Standing) → AllOf Why (all_changes (expired_acts xs))
   expired_reason [] = tt
@@ -397,5 +422,7 @@ asked_reason s (Arrives at q) work fine comes = packet_reason s (Arrives at q) w
 asked_reason s (Serves evse in_service) work fine (part, line, is) =
     service_reason s (Serves evse in_service) work.acts evse in_service (subst (λ (w : Work). ServiceLine s evse in_service w.acts) (sym is) line)
 asked_reason s (Reports at report) work fine line = report_reason s (Reports at report) work.acts fine at report work refl line
+asked_reason s (Credits at session) work fine (part, line, is) =
+    credit_reason s (Credits at session) work.acts at session refl (subst (λ (w : Work). CreditLine s at session w.acts) (sym is) line)
 asked_reason s (Ticks at) work fine line = tick_reason s (Ticks at) work.acts at work refl ((stages_see s at work fine).0 line)
 asked_reason s Restarts work fine line = absurd line

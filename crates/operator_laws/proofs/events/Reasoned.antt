@@ -131,15 +131,17 @@ module _ (s : State) (i : Input) (acts : List Act) where
             above = omega (arith, above);
             listed = peer.listed;
             says = here.messages (push_message (last + 1) to (push.PostCdr x)) (0, omega arith, refl);
-            carries = reasons.OfBill x refl peer.same (here.changes (Put (row.Cdr x)) (2, omega arith, refl));
+            carries = reasons.OfRecord x refl peer.same (here.changes (Put (row.Cdr x)) (2, omega arith, refl));
           },
           (
             record {
+              how = reasons.Billed (record {
+                version = w;
+                puts = stored;
+                completed = done;
+                bill = record { place = _; record_is = refl; counts = here.changes (Put (row.Count counter.Cdr (s.rows.charged.last_cdr + 1))) (0, omega arith, refl) };
+              });
               pushed = record { number = last + 1; to = to; of_provider = peer.same; makes = here.changes (Put (row.Push (last + 1) to (push.PostCdr x))) (1, omega arith, refl) };
-              version = w;
-              puts = stored;
-              completed = done;
-              bill = record { place = _; record_is = refl; counts = here.changes (Put (row.Count counter.Cdr (s.rows.charged.last_cdr + 1))) (0, omega arith, refl) };
             },
             tt,
           ),

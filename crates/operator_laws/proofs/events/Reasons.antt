@@ -42,7 +42,7 @@ use Rattle.node_steps.specs.Messages.{Message}
 use Rattle.operator_rows.specs.State.{State, IsSpent}
 use Rattle.operator_steps.specs.Acts.{reference_of, told, url_of}
 use Rattle.operator_steps.specs.Events.{Input, Arrives}
-use Rattle.operator_laws.proofs.events.Causes.{DecidesIt}
+use Rattle.operator_laws.proofs.events.Causes.{Crediting, DecidesIt}
 
 module _ (s : State) (i : Input) (acts : List Act) where
   -- the acts put the row, or drop that of the key
@@ -97,13 +97,22 @@ module _ (s : State) (i : Input) (acts : List Act) where
     pub how : Versioning v
     pub pushed : IsPushedNow (key v.cdr_token.party) (push.PutSession v)
 
-  -- a charge detail record is stored, and pushed
+  -- a bill is stored: that of a COMPLETED version, which is stored too
   pub record Billing (x : Cdr) : Type 0 where
-    pub pushed : IsPushedNow (key x.cdr_token.party) (push.PostCdr x)
     pub version : Session
     pub puts : Makes (Put (row.Session version))
     pub completed : version.status ≡ Completed
     pub bill : IsBillOf version x
+
+  -- a charge detail record is stored: the bill of a version, or the credit of a bill
+  pub data Recorded (x : Cdr) : Type 0 where
+    Billed : Billing x → Recorded x
+    Credited : Crediting s i x → Recorded x
+
+  -- and it is pushed
+  pub record Recording (x : Cdr) : Type 0 where
+    pub how : Recorded x
+    pub pushed : IsPushedNow (key x.cdr_token.party) (push.PostCdr x)
 
   -- the command of that number of a party was open, or comes now
   abbrev pub Stems : List ℕ → ℕ → Command → Type 0
@@ -138,7 +147,7 @@ module _ (s : State) (i : Input) (acts : List Act) where
   pub data Carrying (to : List ℕ) (p : Push) : Type 0 where
     OfResult : Posting to p → Carrying to p
     OfVersion : (v : Session) → p ≡ push.PutSession v → key to ≡ key v.cdr_token.party → Makes (Put (row.Session v)) → Carrying to p
-    OfBill : (x : Cdr) → p ≡ push.PostCdr x → key to ≡ key x.cdr_token.party → Makes (Put (row.Cdr x)) → Carrying to p
+    OfRecord : (x : Cdr) → p ≡ push.PostCdr x → key to ≡ key x.cdr_token.party → Makes (Put (row.Cdr x)) → Carrying to p
 
   -- a push is made under a number above those that were given, to a provider of the site, and is sent
   pub record Pushing (n : ℕ) (to : List ℕ) (p : Push) : Type 0 where
@@ -170,7 +179,7 @@ module _ (s : State) (i : Input) (acts : List Act) where
   Reason (Put (row.Pending p n o)) = ⊤
   Reason (Put (row.Result p n x)) = Resulting p n x
   Reason (Put (row.Session v)) = Storing v
-  Reason (Put (row.Cdr x)) = Billing x
+  Reason (Put (row.Cdr x)) = Recording x
   Reason (Put (row.Command n x)) = ⊤
   Reason (Drop (keys.Push n)) = Ending n
   Reason (Drop k) = ⊤

@@ -40,8 +40,10 @@ use Rattle.operator_steps.specs.Asking.{AnswerActs, IsAsked}
 use Rattle.operator_steps.specs.Asking as asking
 use Rattle.operator_steps.specs.Charger as charger
 use Rattle.operator_steps.specs.Charger.{ChargerLine}
+use Rattle.operator_steps.specs.Credits as credits
+use Rattle.operator_steps.specs.Credits.{CreditLine, next_credit}
 use Rattle.operator_steps.specs.Ends.{all_resent, end_acts, ends_acts, expired_acts, resent_acts, url_in}
-use Rattle.operator_steps.specs.Events.{Input, Arrives, Serves, Reports, Ticks, Restarts, Asks}
+use Rattle.operator_steps.specs.Events.{Input, Arrives, Serves, Reports, Credits, Ticks, Restarts, Asks}
 use Rattle.operator_steps.specs.Moves.{Work}
 use Rattle.operator_steps.specs.Service as service
 use Rattle.operator_steps.specs.Service.{ServiceLine}
@@ -234,6 +236,10 @@ module _ (s : State) (i : Input) (acts : List Act) where
   service_said evse in_service (service.Withdrawn h o w is) = all_plain _ is (inl refl, tt)
   service_said evse in_service (service.Restored h o w is) = all_plain _ is (inl refl, tt)
 
+  credit_said : (at : ℕ) (session : List ℕ) → CreditLine s at session acts → AreSaid
+  credit_said at session (credits.Credited bill to h later is) = all_plain _ is (inr (at, s.rows.request + 1, to, push.PostCdr (next_credit at bill), refl), (inl refl, tt))
+  credit_said at session (credits.NothingToCredit none is) = all_plain [] is tt
+
   -- what is sent again stood
   again_said : (at : ℕ) (due : List ℕ) (m : Message) → Contains (all_messages (all_resent at s.rows.pushes due)) m → Saying s i acts m
   again_said at [] m j = absurd (in_none m j)
@@ -279,5 +285,6 @@ asked_said s (Arrives at q) work fine comes = packet_said s (Arrives at q) work.
 asked_said s (Serves evse in_service) work fine (part, line, is) =
     service_said s (Serves evse in_service) work.acts evse in_service (subst (λ (w : Work). ServiceLine s evse in_service w.acts) (sym is) line)
 asked_said s (Reports at report) work fine line = report_said s (Reports at report) work.acts at report work refl line
+asked_said s (Credits at session) work fine (part, line, is) = credit_said s (Credits at session) work.acts at session (subst (λ (w : Work). CreditLine s at session w.acts) (sym is) line)
 asked_said s (Ticks at) work fine line = tick_said s (Ticks at) work.acts at work refl ((stages_see s at work fine).0 line)
 asked_said s Restarts work fine line = absurd line

@@ -22,7 +22,7 @@ use Rattle.node_laws.proofs.Lists.{in_joined}
 use Rattle.operator_rows.specs.State.{State, opening}
 use Rattle.operator_rows.proofs.KeepingTimes.{opening_consistent}
 use Rattle.operator_rows.proofs.RowChanges.{in_later, of_cons}
-use Rattle.operator_steps.specs.Events.{Arrives, Event, Input, Reports, Restarts, Serves, Ticks}
+use Rattle.operator_steps.specs.Events.{Arrives, Credits, Event, Input, Reports, Restarts, Serves, Ticks}
 use Rattle.operator_laws.specs.AsNode.{node, came_in, exchange, pushed_request, RunsAreNodeRuns, PacketsAreAddressed, PushesWereSent}
 use Rattle.operator_laws.specs.Laws.{Acknowledged as WasAcknowledged, Came, IsOfParty, IsPushed, IsResultOrRecord, Numbered, PushesStand, RequestsAgree, Run, SentRepliesAreKept, sent}
 use Rattle.operator_laws.proofs.events.Doing.{does}
@@ -59,6 +59,7 @@ pub of_input : (i : Input) (q : Packet) → Contains (came_in i) q → (at : ℕ
 of_input (Arrives at y) q h = (at, ap (Arrives at) (in_single y q h))
 of_input (Serves evse in_service) q h = absurd (in_none q h)
 of_input (Reports at report) q h = absurd (in_none q h)
+of_input (Credits at session) q h = absurd (in_none q h)
 of_input (Ticks at) q h = absurd (in_none q h)
 of_input Restarts q h = absurd (in_none q h)
 

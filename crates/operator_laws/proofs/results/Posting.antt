@@ -108,7 +108,7 @@ module _ (W : Packet → Type 0) where
     carried_now : Keeps s → (to : List ℕ) (p : Push) (a : CommandResult) → Carrying s e.input d.acts to p → p ≡ push.CommandResult a → IsPosted t to a
     carried_now before to p a (reasons.OfResult h) is = posted_now before to p a h is
     carried_now before to p a (reasons.OfVersion v carries same puts) is = let bad : push.PutSession v ≡ push.CommandResult a = sym carries ∙ is in absurd (cc)
-    carried_now before to p a (reasons.OfBill x carries same puts) is = let bad : push.PostCdr x ≡ push.CommandResult a = sym carries ∙ is in absurd (cc)
+    carried_now before to p a (reasons.OfRecord x carries same puts) is = let bad : push.PostCdr x ≡ push.CommandResult a = sym carries ∙ is in absurd (cc)
 
     posted_all : Keeps s → ArePosted t
     posted_all before m o a has tells = elim (stood_or_put s t e d (row.Push m o.to o.push) tt has) [

@@ -80,7 +80,7 @@ module _ (V : Row → Type 0) where
     carried_of : (to : List ℕ) (p : Push) → Carrying s e.input d.acts to p → IsOf t to p
     carried_of to p (reasons.OfResult h) = subst (IsOf t to) (sym h.push_is) tt
     carried_of to p (reasons.OfVersion v is same puts) = subst (IsOf t to) (sym is) (all (row.Session v) (d.to_acts (Put (row.Session v)) puts), same)
-    carried_of to p (reasons.OfBill x is same puts) = subst (IsOf t to) (sym is) (cdr_put s t e d fine x puts, same)
+    carried_of to p (reasons.OfRecord x is same puts) = subst (IsOf t to) (sym is) (cdr_put s t e d fine x puts, same)
 
     all_of : AreOf s → AreOf t
     all_of before n o has = elim (stood_or_put s t e d (row.Push n o.to o.push) tt has) [

@@ -1,5 +1,6 @@
--- The ids of sessions and of charge detail records are those of numbers that were given.
-use Rattle.std.proofs.Common.{◌≡◌, ◌+◌, ◌≤◌, ℕ, List, inl, inr, refl, sym, ap, ◌∙◌, arith}
+-- The ids of sessions and of charge detail records are those of numbers that were given; a credit has that of its
+-- bill, marked.
+use Rattle.std.proofs.Common.{◌≡◌, ◌+◌, ◌≤◌, ℕ, List, inl, inr, refl, sym, ap, subst, ◌∙◌, arith}
 use Rattle.std.specs.Prelude.{Some, Contains}
 use Rattle.std.specs.Cmp.{nat_cmp_total}
 use Rattle.std.specs.FinMap.{get, get-empty, nat_cmp-IsAntisymmetric}
@@ -11,6 +12,7 @@ use Rattle.ocpi_text.specs.Text.{key}
 use Rattle.ocpi_text.specs.Whole.{max_whole}
 use Rattle.ocpi_text.specs.declared.own_ids.OwnIdKind.{OwnIdKind}
 use Rattle.ocpi_text.specs.declared.own_ids.OwnIdKind.TheVariants as own
+use Rattle.ocpi_types.specs.Credits.{credit_id, is_credit}
 use Rattle.ocpi_types.specs.declared.cdrs.Cdr.{Cdr}
 use Rattle.ocpi_types.specs.declared.rows.Change.TheVariants.{Put}
 use Rattle.ocpi_types.specs.declared.rows.Counter.TheVariants as counter
@@ -18,15 +20,17 @@ use Rattle.ocpi_types.specs.declared.rows.Row.TheVariants as row
 use Rattle.ocpi_types.specs.declared.sessions.Session.{Session}
 use Rattle.session_book.specs.Numbers.{id_key}
 use Rattle.session_book.proofs.OwnIds.{ids_differ}
+use Rattle.stored_rows.specs.Records.{record_id_text}
 use Rattle.node_steps.specs.Acts.{all_changes}
 use Rattle.operator_rows.specs.State.{State, opening}
 use Rattle.operator_rows.specs.Sound.{IsConsistent}
 use Rattle.operator_rows.proofs.KeepingTimes.{opening_consistent}
 use Rattle.operator_steps.specs.Events.{Event}
-use Rattle.operator_laws.specs.Sessions.{IdsAreGiven, IsGivenId}
+use Rattle.operator_laws.specs.Sessions.{IdsAreGiven, IsGivenId, IsGivenRecord}
+use Rattle.operator_laws.proofs.events.Causes.{Crediting}
 use Rattle.operator_laws.proofs.events.Doing.{Does, does, put_now}
 use Rattle.operator_laws.proofs.events.Reasons as reasons
-use Rattle.operator_laws.proofs.events.Reasons.{Begun, Billing, Versioning}
+use Rattle.operator_laws.proofs.events.Reasons.{Begun, Billing, Recorded, Versioning}
 use Rattle.operator_laws.proofs.events.Standing.{consistent_stays}
 use Rattle.operator_laws.proofs.standing.AtAllTimes.{kept}
 use Rattle.operator_laws.proofs.sessions.Going.{cdr_from, cdr_rises, followed, last_cdr_is, last_session_is, session_from, session_rises}
@@ -34,7 +38,7 @@ use Rattle.operator_laws.proofs.sessions.Going.{cdr_from, cdr_rises, followed, l
 record HaveIds (s : State) : Type 0 where
   fine : IsConsistent s
   sessions : (id : List ℕ) (v : Session) → get s.rows.charged.sessions id ≡ Some v → IsGivenId own.Session s.party s.rows.charged.last_session v.id
-  cdrs : (id : List ℕ) (x : Cdr) → get s.rows.charged.cdrs id ≡ Some x → IsGivenId own.Cdr s.party s.rows.charged.last_cdr x.id
+  cdrs : (id : List ℕ) (x : Cdr) → get s.rows.charged.cdrs id ≡ Some x → IsGivenRecord s.party s.rows.charged.last_cdr x
   sessions_counted : s.rows.charged.last_session ≤ max_whole
   cdrs_counted : s.rows.charged.last_cdr ≤ max_whole
 
@@ -45,6 +49,15 @@ later_id kind p q last now a b same above is h = record {
   from_one = h.from_one;
   given = let below = h.given in omega (arith, below, above);
   id_is = is ∙ h.id_is ∙ ap (λ z. own_id_text kind z h.number) (sym same);
+}
+
+-- and so does that of a record
+later_record : (p q : List ℕ) (last now : ℕ) (x : Cdr) → q ≡ p → last ≤ now → IsGivenRecord p last x → IsGivenRecord q now x
+later_record p q last now x same above h = record {
+  number = h.number;
+  from_one = h.from_one;
+  given = let below = h.given in omega (arith, below, above);
+  id_is = h.id_is ∙ ap (λ z. record_id_text (is_credit x) z h.number) (sym same);
 }
 
 module _ (s t : State) (e : Event) (d : Does s e t) (before : HaveIds s) (after : IsConsistent t) where
@@ -70,18 +83,37 @@ module _ (s t : State) (e : Event) (d : Does s e t) (before : HaveIds s) (after 
     | inr old ↦ later_id own.Session s.party t.party s.rows.charged.last_session t.rows.charged.last_session v.id v.id d.party (session_rises s t e d before.fine) refl (before.sessions (key v.id) v old)
   ]
 
-  bill_given : (x : Cdr) → Billing s e.input d.acts x → IsGivenId own.Cdr t.party t.rows.charged.last_cdr x.id
-  bill_given x b = record {
-    number = s.rows.charged.last_cdr + 1;
-    from_one = omega arith;
-    given = (let is = last_cdr (s.rows.charged.last_cdr + 1) b.bill.counts in omega (arith, is));
-    id_is = ap (λ (z : Cdr). z.id) b.bill.record_is ∙ ap (λ z. own_id_text own.Cdr z (s.rows.charged.last_cdr + 1)) (sym d.party);
-  }
+  bill_given : (x : Cdr) → Billing s e.input d.acts x → IsGivenRecord t.party t.rows.charged.last_cdr x
+  bill_given x b =
+      let n = s.rows.charged.last_cdr + 1 in
+      record {
+        number = n;
+        from_one = omega arith;
+        given = (let is = last_cdr n b.bill.counts in omega (arith, is));
+        id_is = subst (λ (z : Cdr). z.id ≡ record_id_text (is_credit z) t.party n) (sym b.bill.record_is) (ap (λ z. own_id_text own.Cdr z n) (sym d.party));
+      }
 
-  cdr_given : (id : List ℕ) (x : Cdr) → get t.rows.charged.cdrs id ≡ Some x → IsGivenId own.Cdr t.party t.rows.charged.last_cdr x.id
+  -- a credit has the number of its bill
+  credit_given : (x : Cdr) → Crediting s e.input x → IsGivenRecord t.party t.rows.charged.last_cdr x
+  credit_given x c =
+      let sole = c.credits.bill.billed in
+      let given = later_record s.party t.party s.rows.charged.last_cdr t.rows.charged.last_cdr c.bill d.party (cdr_rises s t e d before.fine) (before.cdrs (key c.bill.id) c.bill sole.billed.stands) in
+      let id_is : c.bill.id ≡ own_id_text own.Cdr t.party given.number = given.id_is ∙ ap (λ b. record_id_text b t.party given.number) sole.is_bill in
+      record {
+        number = given.number;
+        from_one = given.from_one;
+        given = given.given;
+        id_is = subst (λ (z : Cdr). z.id ≡ record_id_text (is_credit z) t.party given.number) (sym c.record_is) (ap credit_id id_is);
+      }
+
+  record_given : (x : Cdr) → Recorded s e.input d.acts x → IsGivenRecord t.party t.rows.charged.last_cdr x
+  record_given x (reasons.Billed b) = bill_given x b
+  record_given x (reasons.Credited c) = credit_given x c
+
+  cdr_given : (id : List ℕ) (x : Cdr) → get t.rows.charged.cdrs id ≡ Some x → IsGivenRecord t.party t.rows.charged.last_cdr x
   cdr_given id x has = elim (cdr_from s t e d before.fine x (ap (get t.rows.charged.cdrs) (sym (after.sound.charged_keyed.cdrs id x has)) ∙ has)) [
-    | inl i ↦ bill_given x (d.reasons before.fine (Put (row.Cdr x)) i)
-    | inr old ↦ later_id own.Cdr s.party t.party s.rows.charged.last_cdr t.rows.charged.last_cdr x.id x.id d.party (cdr_rises s t e d before.fine) refl (before.cdrs (key x.id) x old)
+    | inl i ↦ record_given x (d.reasons before.fine (Put (row.Cdr x)) i).how
+    | inr old ↦ later_record s.party t.party s.rows.charged.last_cdr t.rows.charged.last_cdr x d.party (cdr_rises s t e d before.fine) (before.cdrs (key x.id) x old)
   ]
 
   ids_stay : HaveIds t

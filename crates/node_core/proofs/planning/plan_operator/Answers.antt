@@ -21,6 +21,12 @@ returns-in-Charger c =
     operator_planned c.args.operator.now.state c.args.input.now x (subst (λ (i : NodeInput). OperatorGets i x) (sym c.in-Charger.is) refl)
     c.plan_charger.result c.plan_charger.ensures.step c.plan_charger.ensures.follows c.plan_charger.ensures.fault c.of_operator.result c.of_operator.ensures
 
+pub returns-in-Credit : goal.returns-in-Credit
+returns-in-Credit c =
+    let x = operator.Credits c.in-Credit.at c.in-Credit.session_id in
+    operator_planned c.args.operator.now.state c.args.input.now x (subst (λ (i : NodeInput). OperatorGets i x) (sym c.in-Credit.is) refl)
+    c.plan_credit.result c.plan_credit.ensures.step c.plan_credit.ensures.follows c.plan_credit.ensures.fault c.of_operator-in-Credit.result c.of_operator-in-Credit.ensures
+
 pub returns-in-Arrives : goal.returns-in-Arrives
 returns-in-Arrives c =
     let x = operator.Arrives c.in-Arrives.at c.in-Arrives.packet.now in

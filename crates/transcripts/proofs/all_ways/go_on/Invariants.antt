@@ -6,7 +6,7 @@ use Rattle.transcripts.proofs.all_ways.go_on.Given as goal
 
 -- each way is an old one that went on, and what is left is among the old ones
 abbrev pub invariant-loop-way : goal.invariant-loop-way
-invariant-loop-way l = AllGoOn l.fn.ways.items l.unanswered l.opened.party l.ways.items × ((t : Told) → Contains l.left.items t → Contains l.fn.ways.items t)
+invariant-loop-way l = AllGoOn l.fn.ways.items l.unanswered l.opened l.ways.items × ((t : Told) → Contains l.left.items t → Contains l.fn.ways.items t)
 
 abbrev pub decreases-loop-way : goal.decreases-loop-way
 decreases-loop-way l = vec_len l.left

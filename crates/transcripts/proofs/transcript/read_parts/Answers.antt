@@ -1,4 +1,4 @@
-use Rattle.std.proofs.Common.{◌≡◌, [], None, Some, refl, sym, ap, subst, ◌∙◌}
+use Rattle.std.proofs.Common.{◌≡◌, [], false, None, Some, refl, sym, ap, subst, ◌∙◌}
 use Rattle.std.specs.Prelude.{IfSome}
 use Rattle.transcript_parts.specs.Lines.{lines_in}
 use Rattle.transcript_parts.specs.Parts.{IsPart}
@@ -11,7 +11,7 @@ pub loop-part-init : goal.loop-part-init
 loop-part-init c =
     let all = lines_in c.args.text.now in
     subst (λ r. IsRead c.args.setup.now c.args.earlier.now all c.new-lines.result r) (sym c.new-reading.ensures)
-    (subst (λ ls. IsRead c.args.setup.now c.args.earlier.now all ls (reading c.args.setup.now [] None)) (sym c.new-lines.ensures) (nothing_read c.args.setup.now c.args.earlier.now all))
+    (subst (λ ls. IsRead c.args.setup.now c.args.earlier.now all ls (reading c.args.setup.now [] false None)) (sym c.new-lines.ensures) (nothing_read c.args.setup.now c.args.earlier.now all))
 
 pub loop-part-smaller : goal.loop-part-smaller
 loop-part-smaller c = part_shortens c.loop-part.lines c.in-Ok-Some.part c.next_part.new.lines

@@ -5,15 +5,15 @@ use Rattle.transcripts.proofs.transcript.read_transcript.Goals as goal
 
 pub returns-in-Some-clause-told : goal.returns-in-Some-clause-told
 returns-in-Some-clause-told c =
-    let end = standing (Some c.in-Some.way) c.in-Ok.reading.unanswered in
-    (end, (c.in-Ok.ensures).each end (c.in-Some.ensures, refl), refl)
+    let end = standing (Some c.in-Some.way) c.in-Ok.reading.within c.in-Ok.reading.unanswered in
+    (end, (c.in-Ok.ensures).each end (record { way = c.in-Some.ensures; within = refl; unanswered = refl }), refl)
 
 pub returns-in-Some-clause-setup : goal.returns-in-Some-clause-setup
 returns-in-Some-clause-setup c =
-    let end = standing (Some c.in-Some.way) c.in-Ok.reading.unanswered in
-    (transcript_keeps c.args.setup.now c.args.earlier.now (lines_in c.args.text.now) [] end c.in-Some.way ((c.in-Ok.ensures).each end (c.in-Some.ensures, refl)) refl).0
+    let end = standing (Some c.in-Some.way) c.in-Ok.reading.within c.in-Ok.reading.unanswered in
+    (transcript_keeps c.args.setup.now c.args.earlier.now (lines_in c.args.text.now) [] end c.in-Some.way ((c.in-Ok.ensures).each end (record { way = c.in-Some.ensures; within = refl; unanswered = refl })) refl).0
 
 pub returns-in-Some-clause-new : goal.returns-in-Some-clause-new
 returns-in-Some-clause-new c =
-    let end = standing (Some c.in-Some.way) c.in-Ok.reading.unanswered in
-    (transcript_keeps c.args.setup.now c.args.earlier.now (lines_in c.args.text.now) [] end c.in-Some.way ((c.in-Ok.ensures).each end (c.in-Some.ensures, refl)) refl).1
+    let end = standing (Some c.in-Some.way) c.in-Ok.reading.within c.in-Ok.reading.unanswered in
+    (transcript_keeps c.args.setup.now c.args.earlier.now (lines_in c.args.text.now) [] end c.in-Some.way ((c.in-Ok.ensures).each end (record { way = c.in-Some.ensures; within = refl; unanswered = refl })) refl).1

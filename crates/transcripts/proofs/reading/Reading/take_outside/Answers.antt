@@ -1,6 +1,8 @@
-use Rattle.std.proofs.Common.{refl, sym, ap, subst, ◌∙◌, rules, arith}
-use Rattle.transcripts.proofs.FollowingLemmas.{happened, left_open, on_both, on_ok, opened_first, opened_later, passes, passes_line}
+use Rattle.std.proofs.Common.{refl, subst, rules}
+use Rattle.transcripts.specs.Following.{Outside, TellsNoRun}
+use Rattle.transcripts.proofs.FollowingLemmas.{passes_line}
+use Rattle.transcripts.proofs.WayLemmas.{on_more}
 use Rattle.transcripts.proofs.reading.Reading.take_outside.Goals as goal
 
 pub returns : goal.returns
-returns c = on_both _ c.pass_line.ensures.none c.pass_line.ensures.nothing (λ a b. passes_line _ _ _ refl a b)
+returns c = on_more _ (λ a. passes_line c.args.self.now c.args.self.now c.args.part.now refl a (λ told. Outside c.requires (subst TellsNoRun c.ending.ensures (c.tells_no_run.ensures (search rules))) refl)) c.pass_line.ensures.nothing
