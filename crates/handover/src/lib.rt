@@ -20,7 +20,7 @@ mod equality;
 mod fault;
 mod inbox;
 mod inbox_listing;
-mod laws;
+pub mod laws;
 mod settle;
 mod sums;
 mod takings;

@@ -146,7 +146,8 @@ fn write_numbered<M: AnswerNumbered, W: Write>(
     ensures ok { IfOk result (λ turn. (out : List ℕ) × Appends (W.contents writer.old) (W.contents writer.new) out
         × M.line_gives machine.old number line.now turn out machine.new) }
     ensures err { IfErr result (λ fault. (fault ≡ RunFault.WriteFailed)
-        × gives_front (λ out. (turn : TurnOf) × M.line_gives machine.old number line.now turn out machine.new) (W.contents writer.old) (W.contents writer.new)) }
+        × gives_front (λ out. (turn : TurnOf) × M.line_gives machine.old number line.now turn out machine.new)
+        (W.contents writer.old) (W.contents writer.new)) }
 {
     output.clear();
     match machine.answer_line(number, line, output) {

@@ -66,7 +66,9 @@ impl<K: Keep> Model for NodeCell<K> {
 
     ghost view = { λ c. cell_of c.party c.first.items c.history.items c.is_fresh c.stored };
 
-    ghost invariant = { λ c. IsCell (keeper_of K.content K.is_honest K.refusals K.may_leave) (cell_of c.party c.first.items c.history.items c.is_fresh c.stored)
+    ghost invariant = { λ c. IsCell
+        (keeper_of K.content K.is_honest K.refusals K.may_leave)
+        (cell_of c.party c.first.items c.history.items c.is_fresh c.stored)
         × (length c.first.items ≡ 1) };
 }
 

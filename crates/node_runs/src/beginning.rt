@@ -98,7 +98,8 @@ pub fn begin<S: Keeps>(
     setup: Setup,
 ) -> Result<Begun<S::Kept>, Unbegun<S::Kept>>
     ensures ok { IfOk result (λ b. (member : NodeOf) × IsMember setup wanted.now member
-        × (b.running.party ≡ party_of member) × Starts (keeper_of S.Kept.content S.Kept.is_honest S.Kept.refusals S.Kept.may_leave) setup member b.rows b.running.node) }
+        × (b.running.party ≡ party_of member)
+        × Starts (keeper_of S.Kept.content S.Kept.is_honest S.Kept.refusals S.Kept.may_leave) setup member b.rows b.running.node) }
     ensures err { IfErr result (λ u. (asked : List ℕ) × (S.opened keeps.new ≡ S.opened keeps.old ++ asked)
         × IsUnbegun (keeper_of S.Kept.content S.Kept.is_honest S.Kept.refusals S.Kept.may_leave) S.may_refuse setup wanted.now asked u.keep u.stop) }
     ensures opened { OnOk result (S.opened keeps.new ≡ S.opened keeps.old ++ first_place) }

@@ -250,7 +250,8 @@ pub fn run_node<R: BufRead, W: Write, S: Keeps + Drop>(
         S.may_refuse (S.opened keeps) party.now echo fault (R.Read.remaining input.old.reader)
         (R.Read.remaining input.new.reader) (W.contents writer.old) (W.contents writer.new) kept.new)) }
     ensures node { IfErr result (IfStop (λ stop. NodeOutputs (keeper_of S.Kept.content S.Kept.is_honest S.Kept.refusals S.Kept.may_leave)
-        S.may_refuse (S.opened keeps) party.now echo (R.Read.remaining input.old.reader) WithRefusals (Some stop) (W.contents writer.old) (W.contents writer.new) kept.new)) }
+        S.may_refuse (S.opened keeps) party.now echo (R.Read.remaining input.old.reader) WithRefusals (Some stop)
+        (W.contents writer.old) (W.contents writer.new) kept.new)) }
     ensures failed { result ≡ Err (NodeRunFault.Run RunFault.ReadFailed) → input.new.failed ≡ true }
     ensures reads { ReadsFewLines (R.Read.remaining input.old.reader) (R.Read.remaining input.new.reader) }
 {

@@ -55,7 +55,8 @@ impl Model for Books {
     ghost coded = { Prim.hlevel (codes, map.code) };
 
     ghost view = { λ b. record {
-      state = state_of b.parties b.serial b.commands.rows (shown_of text_pair_cmp b.spent) b.booked.rows b.outbox b.site b.desk.rows.tokens b.charged.rows b.waits.waits;
+      state = state_of b.parties b.serial b.commands.rows (shown_of text_pair_cmp b.spent) b.booked.rows b.outbox
+          b.site b.desk.rows.tokens b.charged.rows b.waits.waits;
       rooms = record {
         commands = b.commands.rooms;
         spent = rooms_of text_pair_cmp b.spent;
