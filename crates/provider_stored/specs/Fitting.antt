@@ -71,6 +71,6 @@ HasOwnReference party last c = (r : List ℕ) → reference_of c ≡ Some r → 
 -- the command has a reference that is not the party's own, or whose number was not given
 pub data HasStrangeReference (party : List ℕ) (last : ℕ) (c : Command) : BadReason → Type 0 where
   OfOther : (r : List ℕ) → reference_of c ≡ Some r → ((n : ℕ) → IsOwnId AuthorizationReference party r n → ⊥) →
-      HasStrangeReference party last c reason.NotOwnId
+      HasStrangeReference party last c reason.NotOwnReference
   NotGivenYet : (r : List ℕ) (n : ℕ) → reference_of c ≡ Some r → IsOwnId AuthorizationReference party r n → last < n →
       HasStrangeReference party last c reason.NotGiven
