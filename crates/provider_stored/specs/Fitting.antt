@@ -3,7 +3,9 @@ use Rattle.std.specs.Prelude.{◌≡◌, ◌≢◌, ◌<◌, ◌≤◌, ℕ, Lis
 use Rattle.std.specs.List.Sorted.{IsNonDecreasingBy}
 use Rattle.std.specs.FinMap.{get}
 use Rattle.ocpi_text.specs.declared.own_ids.OwnIdKind.TheVariants.{AuthorizationReference}
+use Rattle.ocpi_types.specs.Credits.{IsBill, IsCredit}
 use Rattle.ocpi_types.specs.Rows.{key_of}
+use Rattle.ocpi_types.specs.declared.cdrs.Cdr.{Cdr}
 use Rattle.ocpi_types.specs.declared.rows.Change.TheVariants.{Put}
 use Rattle.ocpi_types.specs.declared.rows.Counter.{Counter}
 use Rattle.ocpi_types.specs.declared.rows.Counter.TheVariants as counter
@@ -58,6 +60,11 @@ pub data IsTaken (r : OutboxRows) (n : ℕ) (of_push of_command : BadReason) : B
   NotCounted : r.last < n → IsTaken r n of_push of_command reason.NotGiven
   HasPush : (x : Outgoing) → get r.pushes n ≡ Some x → IsTaken r n of_push of_command of_push
   HasCommand : (c : SentCommand) → get r.commands n ≡ Some c → IsTaken r n of_push of_command of_command
+
+-- of two bills of one session one is told as a bill, of two credits as a credit
+pub data IsSaidTwice (x : Cdr) : BadReason → Type 0 where
+  Bill : IsBill x → IsSaidTwice x reason.BilledTwice
+  Credit : IsCredit x → IsSaidTwice x reason.CreditedTwice
 
 -- the reference of the command, if it has one, is the party's own by a number that was given
 pub record IsOwnGiven (party : List ℕ) (last : ℕ) (r : List ℕ) : Type 0 where
