@@ -18,6 +18,16 @@ pub fn words_for(fault: StoreFault) -> &'static str {
     }
 }
 
+/// The words for a refusal of the store of `node`, where a file that is not there is missing by `--existing` alone.
+pub fn words_for_node(fault: StoreFault) -> &'static str {
+    match fault {
+        StoreFault::Refused(Cause::NotFound) => {
+            "there is no such file, and --existing makes none: name the store that was used before, or see that its disk is mounted"
+        }
+        _ => words_for(fault),
+    }
+}
+
 fn words_for_cause(cause: Cause) -> &'static str {
     match cause {
         Cause::AlreadyExists => {
