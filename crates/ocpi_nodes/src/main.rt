@@ -21,7 +21,7 @@ use node_runs::{NodeRunFault, NodeStop, run_node, status_after_node};
 use node_store::StoreFault;
 use ocpi_json::{RowKind, write_key};
 use ocpi_types::Word as WordOf;
-use refusal::{words_for, words_for_reason};
+use refusal::{advice_for, words_for, words_for_reason, words_with_numbers};
 use std::io::{self, BufReader, BufWriter, IsTerminal, Write};
 use std::process::ExitCode;
 use stored_rows::BadRow;
@@ -357,16 +357,21 @@ fn explain_stop(rt: &HostRuntime, stop: &NodeStop, words: &NodeWords<'_>) {
     }
 }
 
-/// Says which row of a store shows that no such node has its rows, and what is wrong with it.
+/// Says which row of a store shows that no such node has its rows, what is wrong with it, and what to do.
 fn explain_row(rt: &HostRuntime, row: &BadRow, place: &str) {
     let kind = RowKind::of_key(&row.key).word();
-    let reason = words_for_reason(row.reason);
+    let told = words_with_numbers(rt.alloc(), row.reason);
+    let words = match &told {
+        Some(told) => told.as_str(),
+        None => words_for_reason(row.reason),
+    };
+    let advice = advice_for(row.reason);
     match write_key(rt.alloc(), &row.key) {
         Ok(key) => {
-            let _ = eprintln!(rt; "{place}: {kind} {}: {reason}", key.as_str());
+            let _ = eprintln!(rt; "{place}: {kind} {}: {words}: {advice}", key.as_str());
         }
         Err(_) => {
-            let _ = eprintln!(rt; "{place}: a {kind} row: {reason}");
+            let _ = eprintln!(rt; "{place}: a {kind} row: {words}: {advice}");
         }
     }
 }
