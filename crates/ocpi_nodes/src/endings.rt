@@ -5,12 +5,14 @@ ghost use Rattle.node_programs.specs.Stops.{play_status};
 ghost use Rattle.node_runs.specs.Stops.{node_status};
 
 use crate::command::NodeWords;
-use crate::explain_row;
-use crate::refusal::{words_for, words_for_node};
+use crate::refusal::{advice_for, words_for, words_for_node, words_for_reason, words_with_numbers};
 use line_runs::Ran;
 use node_programs::{PlayFault, status_after_play};
 use node_runs::{NodeRunFault, NodeStop, status_after_node};
 use node_store::StoreFault;
+use ocpi_json::{RowKind, write_key};
+use ocpi_types::Word as WordOf;
+use stored_rows::BadRow;
 
 /// Whether a closing was refused. What it left is let go.
 pub fn let_go<C: Drop>(closed: Result<C, StoreFault>) -> Result<(), StoreFault>
@@ -160,6 +162,25 @@ fn explain_stop(rt: &HostRuntime, stop: &NodeStop, words: &NodeWords<'_>) {
         NodeStop::BadRows(row) => {
             let _ = eprintln!(rt; "store: 4 Core(BadRows)");
             explain_row(rt, row, place);
+        }
+    }
+}
+
+/// Says which row of a store shows that no such node has its rows, what is wrong with it, and what to do.
+fn explain_row(rt: &HostRuntime, row: &BadRow, place: &str) {
+    let kind = RowKind::of_key(&row.key).word();
+    let told = words_with_numbers(rt.alloc(), row.reason);
+    let words = match &told {
+        Some(told) => told.as_str(),
+        None => words_for_reason(row.reason),
+    };
+    let advice = advice_for(row.reason);
+    match write_key(rt.alloc(), &row.key) {
+        Ok(key) => {
+            let _ = eprintln!(rt; "{place}: {kind} {}: {words}: {advice}", key.as_str());
+        }
+        Err(_) => {
+            let _ = eprintln!(rt; "{place}: a {kind} row: {words}: {advice}");
         }
     }
 }

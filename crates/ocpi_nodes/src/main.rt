@@ -19,13 +19,9 @@ use node_keepers::{FileKeeps, Found, Keeps, ListKeeps, StoreFile, close_all, row
 use node_programs::{PlayFault, run_answer, run_play, run_settle};
 use node_runs::{NodeRunFault, run_node};
 use node_store::StoreFault;
-use ocpi_json::{RowKind, write_key};
-use ocpi_types::Word as WordOf;
-use refusal::words_for_reason;
 use sqlite::Unknown;
 use std::io::{self, BufReader, BufWriter, IsTerminal, Write};
 use std::process::ExitCode;
-use stored_rows::BadRow;
 use weaving::{report_weave, weave_files};
 
 /// What one read asks for, and what is written at once, in bytes.
@@ -304,20 +300,6 @@ fn close_one<S: Keeps>(keeps: &mut S, kept: Option<S::Kept>) -> Result<(), Store
     match kept {
         Some(keep) => let_go(keeps.close(1, keep)),
         None => Ok(()),
-    }
-}
-
-/// Says which row of a store shows that no such node has its rows, and what is wrong with it.
-fn explain_row(rt: &HostRuntime, row: &BadRow, place: &str) {
-    let kind = RowKind::of_key(&row.key).word();
-    let reason = words_for_reason(row.reason);
-    match write_key(rt.alloc(), &row.key) {
-        Ok(key) => {
-            let _ = eprintln!(rt; "{place}: {kind} {}: {reason}", key.as_str());
-        }
-        Err(_) => {
-            let _ = eprintln!(rt; "{place}: a {kind} row: {reason}");
-        }
     }
 }
 

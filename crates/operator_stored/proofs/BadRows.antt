@@ -9,6 +9,8 @@ use Rattle.ocpi_text.specs.declared.own_ids.OwnIdKind.TheVariants as own
 use Rattle.ocpi_types.specs.Credits.{IsBill, IsCredit, is_credit}
 use Rattle.ocpi_types.specs.declared.cdrs.Cdr.{Cdr}
 use Rattle.ocpi_types.specs.declared.sessions.Session.{Session}
+use Rattle.ocpi_types.specs.declared.site.Evse.{Evse}
+use Rattle.ocpi_types.specs.declared.site.Location.{Location}
 use Rattle.ocpi_types.specs.declared.site.SiteLine.{SiteLine}
 use Rattle.ocpi_types.specs.declared.rows.Counter.{Counter}
 use Rattle.ocpi_types.specs.declared.rows.Counter.TheVariants as counter
@@ -20,6 +22,8 @@ use Rattle.ocpi_types.specs.declared.stored.OpenCommand.{OpenCommand}
 use Rattle.ocpi_types.specs.declared.stored.Reply.{Reply}
 use Rattle.ocpi_types.specs.declared.words.CommandResultType.{CommandResultType}
 use Rattle.ocpi_types.specs.declared.words.SessionStatus.TheVariants.{Completed}
+use Rattle.session_state.specs.Costs.{price_of}
+use Rattle.site_book.specs.Sites.{IsConnectorOf, IsEvse, IsEvseOf, IsSiteOf}
 use Rattle.site_book.specs.declared.claim.Claim.{Claim}
 use Rattle.tables.proofs.Options.{known, none_contained, not_both}
 use Rattle.token_desk.specs.Tokens.{token_key}
@@ -29,19 +33,33 @@ use Rattle.stored_rows.specs.declared.fault.BadReason.{BadReason}
 use Rattle.stored_rows.proofs.RecordNumbers.{bill_made, credit_made, same_bill}
 use Rattle.stored_rows.proofs.Repeated.{none_repeated}
 use Rattle.operator_rows.specs.Rows.{AreRowsOf, HasRow}
-use Rattle.operator_rows.specs.Sound.{IsSound, with_rows}
-use Rattle.operator_rows.specs.State.{HasClaim, Rows, State, opening}
+use Rattle.operator_rows.specs.Sound.{HasPlace, IsSound, with_rows}
+use Rattle.operator_rows.specs.State.{HasClaim, IsStart, Rows, State, opening}
 use Rattle.operator_rows.specs.Steps.{restarted}
 use Rattle.operator_rows.proofs.KeepingTimes.{restarted_consistent}
 use Rattle.operator_stored.specs.Bad.{IsBad, IsForeign, MakesClaim}
 use Rattle.operator_stored.specs.Bad.{Repeated, Foreign, NothingCounted, PushNotGiven, SessionNotGiven, CdrNotGiven, SessionOfOther, CdrOfOther, SessionIdNotOwn, CdrIdNotOwn}
-use Rattle.operator_stored.specs.Bad.{PushToStranger, TokenOfStranger, CommandOfStranger, SessionOfStranger, StartOfOtherToken, ServiceNowhere, ReservationNowhere}
-use Rattle.operator_stored.specs.Bad.{StartNowhere, SessionNowhere, ClaimedTwice, OpenUnanswered, ResultUnanswered, OpenWithResult, ResultOfOpen, PushedTwice, Stuck, BilledTwice}
-use Rattle.operator_stored.specs.Bad.{BilledEarly, CreditWithoutBill, Unbilled}
+use Rattle.operator_stored.specs.Bad.{PushToStranger, TokenOfStranger, CommandOfStranger, SessionOfStranger, StartOfOtherToken, ServiceNowhere, ReservationNowhere, StartNowhere, SessionNowhere}
+use Rattle.operator_stored.specs.Bad.{StartAtNoConnector, SessionAtNoConnector, ReservationElsewhere, StartWithoutEvse, StartWithoutConnector}
+use Rattle.operator_stored.specs.Bad.{ClaimedTwice, OpenUnanswered, ResultUnanswered, OpenWithResult, ResultOfOpen, PushedTwice, OfReservation, CostMissing, OtherPrice}
+use Rattle.operator_stored.specs.Bad.{BilledTwice, CreditedTwice, BilledEarly, CreditWithoutBill, Unbilled}
 use Rattle.operator_stored.specs.Bills.{BillsTwice}
 use Rattle.operator_stored.specs.Making.{BadRowsAreOfNone, IsMadeOf, RowsMakeAgain, StartsAgain}
 use Rattle.operator_stored.specs.Whole.{IsWhole}
 use Rattle.operator_stored.proofs.RowsTell.{rows_tell}
+
+-- an EVSE that is at a location of the site, or that has a connector, is of the site
+evse_of : {locations : List Location} {evse : List ℕ} {l : Location} {e : Evse} → IsEvseOf locations evse l e → IsEvse locations evse
+evse_of {l = l} {e = e} h = record { location = l; evse = e; listed = h.listed; within = h.within; same = h.same }
+
+evse_at : {locations : List Location} {evse location : List ℕ} → IsSiteOf locations evse location → IsEvse locations evse
+evse_at h = evse_of h.of_site
+
+evse_with : {locations : List Location} {evse connector : List ℕ} → IsConnectorOf locations evse connector → IsEvse locations evse
+evse_with h = evse_of h.of_site
+
+same_some : (x y : List ℕ) → Some x ≡ Some y → x ≡ y
+same_some x y e = cc
 
 -- an operator stores no such row
 pub not_foreign : (s : Rows) (r : Row) → HasRow s r → IsForeign r → ⊥
@@ -150,6 +168,9 @@ module _ (line : SiteLine) (list : List Row) (rows : Rows) (all : AreRowsOf list
     not_open_with_result p n o x h k =
         not_both x (get rows.commands.results (p, n)) (sound.pending p n o (stands (row.Pending p n o) h)).unsettled (stands (row.Result p n x) k)
 
+    start_place : (p : List ℕ) (n : ℕ) (o : OpenCommand) → Contains list (row.Pending p n o) → IsStart o.command → HasPlace line.site o
+    start_place p n o h start = (sound.pending p n o (stands (row.Pending p n o) h)).place start
+
     pub not_bad : (k : RowKey) (reason : BadReason) → IsBad line list k reason → ⊥
     not_bad _ _ (Repeated r) = none_repeated list all.apart r
     not_bad _ _ (Foreign r h f) = not_foreign rows r (stands r h) f
@@ -171,9 +192,19 @@ module _ (line : SiteLine) (list : List Row) (rows : Rows) (all : AreRowsOf list
     not_bad _ _ (SessionOfStranger v h live stranger) = stranger ((sound.sessions (key v.id) v (stands (row.Session v) h)).going live).provider
     not_bad _ _ (StartOfOtherToken p n o h other) = other (sound.pending p n o (stands (row.Pending p n o) h)).own
     not_bad _ _ (ServiceNowhere evse h nowhere) = nowhere (sound.service evse (ap is_some (stands (row.Service evse) h)))
-    not_bad _ _ (ReservationNowhere p id r h nowhere) = nowhere (sound.reservations p id r (stands (row.Reservation p id r) h))
-    not_bad _ _ (StartNowhere p n o h start nowhere) = nowhere ((sound.pending p n o (stands (row.Pending p n o) h)).place start)
-    not_bad _ _ (SessionNowhere v h live nowhere) = nowhere ((sound.sessions (key v.id) v (stands (row.Session v) h)).going live).place
+    not_bad _ _ (ReservationNowhere p id r h nowhere) = nowhere (evse_at (sound.reservations p id r (stands (row.Reservation p id r) h)))
+    not_bad _ _ (ReservationElsewhere p id r h evse not) = not (sound.reservations p id r (stands (row.Reservation p id r) h))
+    not_bad _ _ (StartNowhere p n o uid h start named nowhere) =
+        let place = start_place p n o h start in
+        nowhere (subst (λ (u : List ℕ). IsEvse line.site.locations (key u)) (same_some place.uid uid (sym place.evse_is ∙ named)) (evse_with place.of_site))
+    not_bad _ _ (StartAtNoConnector p n o uid connector h start named chosen evse not) =
+        let place = start_place p n o h start in
+        not (subst (λ (u : List ℕ). IsConnectorOf line.site.locations (key u) (key connector)) (same_some place.uid uid (sym place.evse_is ∙ named))
+        (subst (λ (c : List ℕ). IsConnectorOf line.site.locations (key place.uid) (key c)) (same_some place.connector connector (sym place.connector_is ∙ chosen)) place.of_site))
+    not_bad _ _ (StartWithoutEvse p n o h start none) = let place = start_place p n o h start in not_both place.uid o.evse_uid none place.evse_is
+    not_bad _ _ (StartWithoutConnector p n o h start none) = let place = start_place p n o h start in not_both place.connector o.connector_id none place.connector_is
+    not_bad _ _ (SessionNowhere v h live nowhere) = nowhere (evse_with ((sound.sessions (key v.id) v (stands (row.Session v) h)).going live).place)
+    not_bad _ _ (SessionAtNoConnector v h live evse not) = not ((sound.sessions (key v.id) v (stands (row.Session v) h)).going live).place
     not_bad _ _ (ClaimedTwice a b evse c d h k m n other) =
         other (sound.one_claim evse c d (makes_claim rows a evse c (stands a h) m) (makes_claim rows b evse d (stands b k) n))
     not_bad _ _ (OpenUnanswered p n o h none) = has_reply p n (sound.pending p n o (stands (row.Pending p n o) h)).answered none
@@ -182,8 +213,12 @@ module _ (line : SiteLine) (list : List Row) (rows : Rows) (all : AreRowsOf list
     not_bad _ _ (ResultOfOpen p n o x h k) = not_open_with_result p n o x h k
     not_bad _ _ (PushedTwice m n to at a b u other h k is also) =
         other (sound.outbox.one_each u m n (record { to = to; push = a }, stands (row.Push m to a) h, is) (record { to = at; push = b }, stands (row.Push n at b) k, also))
-    not_bad _ _ (Stuck v h stuck) = whole.resumable (key v.id) v (stands (row.Session v) h) stuck
-    not_bad _ _ (BilledTwice t) = not_twice t
+    not_bad _ _ (OfReservation v h is) = whole.resumable (key v.id) v (stands (row.Session v) h) (inl is)
+    not_bad _ _ (CostMissing v h none) =
+        whole.resumable (key v.id) v (stands (row.Session v) h) (inr (λ priced. not_both (price_of v.kwh line.site.price) v.total_cost none priced))
+    not_bad _ _ (OtherPrice v cost h is not) = whole.resumable (key v.id) v (stands (row.Session v) h) (inr not)
+    not_bad _ _ (BilledTwice t bill) = not_twice t
+    not_bad _ _ (CreditedTwice t credit) = not_twice t
     not_bad _ _ (BilledEarly x h none) = let found = has_session x (stands (row.Cdr x) h) in none found
     not_bad _ _ (Unbilled v h done none) =
         let found = whole.billed.each (key v.id) v (stands (row.Session v) h) done in

@@ -26,7 +26,7 @@ use Rattle.stored_rows.specs.declared.fault.BadReason.{BadReason}
 use Rattle.stored_rows.specs.declared.fault.BadReason.TheVariants as reason
 use Rattle.operator_stored.proofs.BadRows.{at_place, bill_or_credit}
 use Rattle.operator_stored.specs.Bills.{Agrees, AreBilledBy, AreBillsOf, AreThose, BillOf, Bills, BillsTwice, CreditOf, Disagrees, EndOf, HasEnded, HasBill, HasId, HasItsBill, HaveAlso, InSet}
-use Rattle.operator_stored.specs.Bills.{IsAgain, IsBacked, IsMisbilled, Alone, Early, Never, Twice, has_alike}
+use Rattle.operator_stored.specs.Bills.{IsAgain, IsAgainAs, IsBacked, IsMisbilled, Alone, BilledTwice, CreditedTwice, Early, Never, has_alike}
 
 either_true : (a b : Bool) → (a || b) ≡ true → (a ≡ true) ⊎ (b ≡ true)
 either_true true b h = inl refl
@@ -190,38 +190,46 @@ module _ (rows : List Row) (n : ℕ) (r : Row) (here : slice_get rows n ≡ Some
   ]
 
   twice_at : (x : Cdr) → r ≡ row.Cdr x → (i : ℕ) (q : Row) (y : Cdr) → i < n → slice_get rows i ≡ Some q → q ≡ row.Cdr y → AreAlike y x →
-      key y.session_id ≡ key x.session_id → IsMisbilled rows (key_of r) reason.BilledTwice
-  twice_at x is i q y under at was alike same =
-      let twice : BillsTwice rows = record {
-        first = i;
-        second = n;
-        one = y;
-        other = x;
-        apart = λ e. absurd (omega arith);
-        one_is = at ∙ ap (λ (z : Row). Some z) was;
-        other_is = here ∙ ap (λ (z : Row). Some z) is;
-        alike = alike;
-        same = same;
-      } in
-      subst (λ (k : RowKey). IsMisbilled rows k reason.BilledTwice) (ap key_of (sym is)) (Twice twice)
+      key y.session_id ≡ key x.session_id → (twice : BillsTwice rows) × (twice.other ≡ x)
+  twice_at x is i q y under at was alike same = (
+    record {
+      first = i;
+      second = n;
+      one = y;
+      other = x;
+      apart = λ e. absurd (omega arith);
+      one_is = at ∙ ap (λ (z : Row). Some z) was;
+      other_is = here ∙ ap (λ (z : Row). Some z) is;
+      alike = alike;
+      same = same;
+    },
+    refl,
+  )
 
-  pub twice_of : IsAgain m s r → IsMisbilled rows (key_of r) reason.BilledTwice
-  twice_of h =
+  -- the row itself shows it
+  told : (x : Cdr) (why : BadReason) → r ≡ row.Cdr x → IsMisbilled rows (key_of (row.Cdr x)) why → IsMisbilled rows (key_of r) why
+  told x why is h = subst (λ (k : RowKey). IsMisbilled rows k why) (ap key_of (sym is)) h
+
+  pub twice_of : (why : BadReason) → IsAgainAs m s r why → IsMisbilled rows (key_of r) why
+  twice_of reason.BilledTwice h =
       let x = h.0 in
-      elim (bill_or_credit x) [
-        | inl bill ↦
-            let there : map.contains_key m (key x.session_id) ≡ true = ap (λ (c : Bool). has_alike m s c (key x.session_id)) (sym bill) ∙ h.2 in
-            elim (known (map.get m (key x.session_id))) [
-              | inl none ↦ absurd (true≢false (sym there ∙ ap is_some none))
-              | inr found ↦ let b = (bills (key x.session_id, found.0)).0 found.1 in let y = b.4 in
-                  twice_at x h.1 b.0 b.1 y.0 b.2 b.3 y.1 (y.2 ∙ sym bill) y.3
-            ]
-        | inr credit ↦
-            let there : InSet s (key x.session_id) = ap (λ (c : Bool). has_alike m s c (key x.session_id)) (sym credit) ∙ h.2 in
-            let b = (credits (key x.session_id)).0 there in
+      let bill = h.2 in
+      elim (known (map.get m (key x.session_id))) [
+        | inl none ↦ absurd (true≢false (sym h.3 ∙ ap is_some none))
+        | inr found ↦
+            let b = (bills (key x.session_id, found.0)).0 found.1 in
             let y = b.4 in
-            twice_at x h.1 b.0 b.1 y.0 b.2 b.3 y.1 (y.2 ∙ sym credit) y.3
+            let twice = twice_at x h.1 b.0 b.1 y.0 b.2 b.3 y.1 (y.2 ∙ sym bill) y.3 in
+            told twice.0.other reason.BilledTwice (h.1 ∙ ap (λ (z : Cdr). row.Cdr z) (sym twice.1)) (BilledTwice twice.0 (ap is_credit twice.1 ∙ bill))
       ]
+  twice_of reason.CreditedTwice h =
+      let x = h.0 in
+      let credit = h.2 in
+      let b = (credits (key x.session_id)).0 h.3 in
+      let y = b.4 in
+      let twice = twice_at x h.1 b.0 b.1 y.0 b.2 b.3 y.1 (y.2 ∙ sym credit) y.3 in
+      told twice.0.other reason.CreditedTwice (h.1 ∙ ap (λ (z : Cdr). row.Cdr z) (sym twice.1)) (CreditedTwice twice.0 (ap is_credit twice.1 ∙ credit))
+  twice_of other h = absurd h
 
 pub billed_by : (rows : List Row) (n : ℕ) (m : Bills) → length rows ≤ n → AreThose (HasId m) (Below BillOf rows n) → OnceBelow rows n → AreBilledBy m rows
 billed_by rows n m all ids once = record {
@@ -319,11 +327,3 @@ backed_if m x b reference id false refers has same made equal = λ h.
     let one : h.0 ≡ b = cc in
     let its : b ≡ id = same_bill b id (ap credit_id (sym one) ∙ sym h.3 ∙ made) in
     true≢false (sym ((bytes_eq-Decides b id).1 its) ∙ sym equal)
-
-pub if_true : (P Q : Type 0) (b : Bool) → MatchBool b P Q → b ≡ true → P
-if_true P Q true h e = h
-if_true P Q false h e = absurd (true≢false (sym e))
-
-pub if_false : (P Q : Type 0) (b : Bool) → MatchBool b P Q → b ≡ false → Q
-if_false P Q true h e = absurd (true≢false e)
-if_false P Q false h e = h

@@ -20,8 +20,9 @@ use Rattle.operator_rows.specs.Rows.{AreRowsOf}
 use Rattle.operator_rows.specs.Sound.{IsConsistent, IsSound}
 use Rattle.operator_rows.specs.State.{State}
 use Rattle.operator_rows.specs.Steps.{restarted}
-use Rattle.operator_stored.specs.Bad.{IsBad, BilledEarly, BilledTwice, CreditWithoutBill, Unbilled}
-use Rattle.operator_stored.specs.Bills.{AreBillsOf, IsMisbilled, Alone, Early, Never, Twice}
+use Rattle.operator_stored.specs.Bad as bad
+use Rattle.operator_stored.specs.Bad.{IsBad, BilledEarly, CreditWithoutBill, Unbilled}
+use Rattle.operator_stored.specs.Bills.{AreBillsOf, IsMisbilled, Alone, BilledTwice, CreditedTwice, Early, Never}
 use Rattle.operator_stored.specs.Making.{IsMadeOf, StartsAgain}
 use Rattle.operator_stored.specs.Placing.{ArePut}
 use Rattle.operator_stored.specs.Whole.{AreBilled, IsWhole}
@@ -29,7 +30,8 @@ use Rattle.operator_stored.proofs.BadRows.{make_again}
 
 -- rows that are billed wrongly are bad
 pub misbilled_is_bad : (line : SiteLine) (rows : List Row) (k : RowKey) (reason : BadReason) → IsMisbilled rows k reason → IsBad line rows k reason
-misbilled_is_bad line rows _ _ (Twice t) = BilledTwice t
+misbilled_is_bad line rows _ _ (BilledTwice t bill) = bad.BilledTwice t bill
+misbilled_is_bad line rows _ _ (CreditedTwice t credit) = bad.CreditedTwice t credit
 misbilled_is_bad line rows _ _ (Early x h none) = BilledEarly x h none
 misbilled_is_bad line rows _ _ (Never v h done none) = Unbilled v h done none
 misbilled_is_bad line rows _ _ (Alone x h credit none) = CreditWithoutBill x h credit none

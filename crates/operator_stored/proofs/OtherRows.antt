@@ -14,7 +14,7 @@ use Rattle.ocpi_text.specs.declared.own_ids.OwnIdKind.TheVariants as own
 use Rattle.tables.specs.Keys.{text_total, text_exact, text_number_total, text_number_exact, text_pair_total, text_pair_exact}
 use Rattle.tables.proofs.Elements.{in_none, in_front}
 use Rattle.tables.proofs.Maps.{told}
-use Rattle.tables.proofs.Options.{none_else}
+use Rattle.tables.proofs.Options.{known, none_else}
 use Rattle.ocpi_types.specs.Credits.{AreAlike, IsCredit}
 use Rattle.ocpi_types.specs.declared.cdrs.Cdr.{Cdr}
 use Rattle.ocpi_types.specs.declared.sessions.Session.{Session}
@@ -49,7 +49,9 @@ use Rattle.operator_rows.specs.State.{HasClaim, IsLive, IsStart, Rows, State, as
 use Rattle.operator_rows.proofs.RowChanges.{of_cons, in_later}
 use Rattle.operator_stored.specs.Bad.{IsBad, MakesClaim, PushNotGiven, SessionNotGiven, CdrNotGiven, SessionIdNotOwn, CdrIdNotOwn, PushToStranger, TokenOfStranger}
 use Rattle.operator_stored.specs.Bad.{CommandOfStranger, SessionOfStranger, StartOfOtherToken, ServiceNowhere, ReservationNowhere, StartNowhere, SessionNowhere}
-use Rattle.operator_stored.specs.Bad.{ClaimedTwice, OpenUnanswered, ResultUnanswered, OpenWithResult, PushedTwice, Stuck, BilledTwice, BilledEarly, CreditWithoutBill, Unbilled}
+use Rattle.operator_stored.specs.Bad.{ReservationElsewhere, SessionAtNoConnector, StartAtNoConnector, StartWithoutConnector, StartWithoutEvse}
+use Rattle.operator_stored.specs.Bad.{ClaimedTwice, OpenUnanswered, ResultUnanswered, OpenWithResult, PushedTwice, OfReservation, CostMissing, OtherPrice}
+use Rattle.operator_stored.specs.Bad.{BilledTwice, CreditedTwice, BilledEarly, CreditWithoutBill, Unbilled}
 use Rattle.operator_stored.specs.Bills.{BillsTwice, HasBill, HasItsBill}
 use Rattle.operator_stored.specs.Making.{OtherRowsAreBad}
 use Rattle.operator_stored.specs.Whole.{AreBilled, IsWhole}
@@ -115,24 +117,43 @@ same_claim (Reserved p n) d = inr (λ e. cc)
 
 -- rows that are not bad
 module _ (line : SiteLine) (rows : List Row) (good : (k : RowKey) (reason : BadReason) → IsBad line rows k reason → ⊥) where
+  -- a start has its place
+  starts_at : (p : List ℕ) (n : ℕ) (o : OpenCommand) → Contains rows (row.Pending p n o) → IsStart o.command → NotNot (HasPlace line.site o)
+  starts_at p n o h start refuted = elim (known o.evse_uid) [
+    | inl none ↦ good _ _ (StartWithoutEvse p n o h start none)
+    | inr named ↦ elim (known o.connector_id) [
+      | inl none ↦ good _ _ (StartWithoutConnector p n o h start none)
+      | inr chosen ↦ good _ _ (StartNowhere p n o named.0 h start named.1 (λ evse.
+          good _ _ (StartAtNoConnector p n o named.0 chosen.0 h start named.1 chosen.1 evse (λ at.
+          refuted (record { uid = named.0; evse_is = named.1; connector = chosen.0; connector_is = chosen.1; of_site = at })))))
+    ]
+  ]
+
+  -- a session has the cost of its energy
+  costs : (v : Session) → Contains rows (row.Session v) → NotNot (HasCost line.site.price v)
+  costs v h refuted = elim (known v.total_cost) [
+    | inl none ↦ good _ _ (CostMissing v h none)
+    | inr some ↦ good _ _ (OtherPrice v some.0 h some.1 refuted)
+  ]
+
   fits_open : (p : List ℕ) (n : ℕ) (o : OpenCommand) → Contains rows (row.Pending p n o) → NotNot (FitsOpen line rows p n o)
   fits_open p n o h refuted =
       good _ _ (CommandOfStranger p n o h (λ provider.
       good _ _ (OpenUnanswered p n o h (λ reply i.
       good _ _ (StartOfOtherToken p n o h (λ own_token.
-      given (λ (start : IsStart o.command). λ (nowhere : HasPlace line.site o → ⊥). good _ _ (StartNowhere p n o h start nowhere)) (λ place.
+      given (starts_at p n o h) (λ place.
       refuted (record { provider = provider; answered = (reply, i); own_token = own_token; place = place }))))))))
 
   fits_session : (v : Session) → Contains rows (row.Session v) → NotNot (FitsSession line rows v)
   fits_session v h refuted =
       good _ _ (SessionIdNotOwn v h (λ n made.
-      good _ _ (Stuck v h (inr (λ priced.
+      costs v h (λ priced.
       given (λ (live : IsLive v.status). λ (stranger : HasPeer line.parties.providers (key v.cdr_token.party) → ⊥). good _ _ (SessionOfStranger v h live stranger)) (λ provider.
       given (λ (live : IsLive v.status). λ (nowhere : IsConnectorOf line.site.locations (key v.evse_uid) (key v.connector_id) → ⊥).
-      good _ _ (SessionNowhere v h live nowhere)) (λ place.
+      good _ _ (SessionNowhere v h live (λ evse. good _ _ (SessionAtNoConnector v h live evse nowhere)))) (λ place.
       given (λ (done : v.status ≡ Completed). λ (none : HasBill rows (key v.id) → ⊥).
       good _ _ (Unbilled v h done none)) (λ billed.
-      refuted (record { made = (n, made); priced = priced; provider = provider; place = place; billed = billed })))))))))
+      refuted (record { made = (n, made); priced = priced; provider = provider; place = place; billed = billed })))))))
 
   fits_cdr : (x : Cdr) → Contains rows (row.Cdr x) → NotNot (FitsCdr line rows x)
   fits_cdr x h refuted =
@@ -145,7 +166,7 @@ module _ (line : SiteLine) (rows : List Row) (good : (k : RowKey) (reason : BadR
   fits (row.Token t) h refuted = good _ _ (TokenOfStranger t h refuted)
   fits (row.Push n to push) h refuted = good _ _ (PushToStranger n to push h refuted)
   fits (row.Service evse) h refuted = good _ _ (ServiceNowhere evse h refuted)
-  fits (row.Reservation p id r) h refuted = good _ _ (ReservationNowhere p id r h refuted)
+  fits (row.Reservation p id r) h refuted = good _ _ (ReservationNowhere p id r h (λ evse. good _ _ (ReservationElsewhere p id r h evse refuted)))
   fits (row.Pending p n o) h refuted = fits_open p n o h refuted
   fits (row.Result p n x) h refuted = good _ _ (ResultUnanswered p n x h (λ reply i. refuted (reply, i)))
   fits (row.Session v) h refuted = fits_session v h refuted
@@ -322,6 +343,13 @@ module _ (line : SiteLine) (rows : List Row) (good : (k : RowKey) (reason : BadR
           same = same;
         }
 
+    not_twice : (x y : Cdr) → Contains rows (row.Cdr x) → Contains rows (row.Cdr y) → key x.id ≢ key y.id → AreAlike x y → key x.session_id ≡ key y.session_id → ⊥
+    unfolding two_bills
+    not_twice x y h k apart alike same = elim (bill_or_credit y) [
+      | inl bill ↦ good _ _ (BilledTwice (two_bills x y h k apart alike same) bill)
+      | inr credit ↦ good _ _ (CreditedTwice (two_bills x y h k apart alike same) credit)
+    ]
+
     made_billed : AreBilled stored
     made_billed = record {
       each = λ id v has done.
@@ -332,7 +360,7 @@ module _ (line : SiteLine) (rows : List Row) (good : (k : RowKey) (reason : BadR
           (ended.0, subst (λ k. get stored.charged.sessions k ≡ Some ended.0) ended.2 (stands (row.Session ended.0) ended.1), ended.3);
       once = λ i j x y hx hy alike same. elim (told text_total text_exact (key x.id) (key y.id)) [
         | inl is ↦ key_of_cdr i x hx ∙ is ∙ sym (key_of_cdr j y hy)
-        | inr apart ↦ absurd (good _ _ (BilledTwice (two_bills x y (cdr_in i x hx) (cdr_in j y hy) apart alike same)))
+        | inr apart ↦ absurd (not_twice x y (cdr_in i x hx) (cdr_in j y hy) apart alike same)
       ];
       credited = λ id x has credit.
           let bill = (all (row.Cdr x) (cdr_in id x has)).credited credit in
@@ -342,7 +370,10 @@ module _ (line : SiteLine) (rows : List Row) (good : (k : RowKey) (reason : BadR
     made_whole : IsWhole made_state
     made_whole = record {
       sessions = λ id v has. (all (row.Session v) (session_in id v has)).made;
-      resumable = λ id v has stuck. good _ _ (Stuck v (session_in id v has) stuck);
+      resumable = λ id v has stuck. elim stuck [
+        | inl reservation ↦ good _ _ (OfReservation v (session_in id v has) reservation)
+        | inr not_priced ↦ costs v (session_in id v has) not_priced
+      ];
       cdrs = λ id x has. (all (row.Cdr x) (cdr_in id x has)).made;
       billed = made_billed;
     }

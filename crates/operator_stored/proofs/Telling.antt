@@ -21,7 +21,7 @@ use Rattle.outbox.proofs.Timing.{has_none}
 use Rattle.outbox.specs.Pushes.{IsAbout, IsReplaced, subject}
 use Rattle.outbox.specs.declared.push_book.Subject.{Subject}
 use Rattle.node_steps.specs.Peers.{HasPeer}
-use Rattle.site_book.specs.Sites.{Claims, IsEvse, IsSiteOf}
+use Rattle.site_book.specs.Sites.{Claims, IsConnectorOf, IsEvse, IsSiteOf}
 use Rattle.site_book.specs.declared.claim.Claim.{Claim}
 use Rattle.site_book.specs.declared.claim.Claim.TheVariants.{OpenStart, Live, Reserved}
 use Rattle.stored_rows.specs.Turns.{turn_of}
@@ -34,7 +34,9 @@ use Rattle.operator_rows.specs.State.{HasClaim, IsFree, State, Rows, as_outbox}
 use Rattle.operator_rows.specs.Claimed.{IsIndexed}
 use Rattle.operator_stored.proofs.StandingRows.{some_of, zero_or_not}
 use Rattle.operator_stored.specs.Bad.{MakesClaim}
-use Rattle.operator_stored.specs.Bad.{Foreign, NothingCounted, PushNotGiven, PushToStranger, TokenOfStranger, ServiceNowhere, ReservationNowhere, ClaimedTwice, PushedTwice}
+use Rattle.operator_stored.specs.Bad.{Foreign, NothingCounted, PushNotGiven, PushToStranger, TokenOfStranger, ServiceNowhere, ClaimedTwice, PushedTwice}
+use Rattle.operator_stored.specs.Bad.{IsBad, ReservationElsewhere, ReservationNowhere}
+use Rattle.operator_stored.specs.Causes.{IsNotAt, Elsewhere, Nowhere}
 use Rattle.operator_stored.specs.Placing.{ComesNext, IsPlaced, MayAdd, ShowsBad, Tells}
 
 module _ (s : State) (r : Row) (line : SiteLine) (rows : List Row) (p : IsPlaced line rows s r) where
@@ -165,26 +167,32 @@ module _ (s : State) (n : ℕ) (to : List ℕ) (push : Push) where
 
 -- ---- places
 module _ (b : Bool) (s : State) (site : Site) (evse : List ℕ) (same : site ≡ s.site) where
+  pub is_evse : (b ≡ true → IsEvse site.locations evse) → b ≡ true → IsEvse s.site.locations evse
+  is_evse is h = subst (λ (z : Site). IsEvse z.locations evse) same (is h)
+
+  pub not_evse : (IsEvse site.locations evse → b ≡ true) → b ≡ false → ¬ IsEvse s.site.locations evse
+  not_evse also h e = true≢false (sym (also (subst (λ (z : Site). IsEvse z.locations evse) (sym same) e)) ∙ h)
+
   pub service_may : (b ≡ true → IsEvse site.locations evse) → b ≡ true → MayAdd s (row.Service evse)
-  service_may is h = record { may = subst (λ (z : Site). IsEvse z.locations evse) same (is h); fit = tt }
+  service_may is h = record { may = is_evse is h; fit = tt }
 
-  pub service_nowhere : (IsEvse site.locations evse → b ≡ true) → b ≡ false → ShowsBad s (row.Service evse) reason.UnknownPlace
+  pub service_nowhere : (IsEvse site.locations evse → b ≡ true) → b ≡ false → ShowsBad s (row.Service evse) reason.UnknownEvse
   service_nowhere also h line rows p = ServiceNowhere evse p.here
-      (λ e. true≢false (sym (also (subst (λ (z : Site). IsEvse z.locations evse) (sym (site_of s (row.Service evse) line rows p) ∙ sym same) e)) ∙ h))
+      (λ e. not_evse also h (subst (λ (z : Site). IsEvse z.locations evse) (sym (site_of s (row.Service evse) line rows p)) e))
 
--- whether an EVSE is at the location of a reservation
-module _ (b : Bool) (site : Site) (s : State) (r : Reservation) (evse : List ℕ) (same : site ≡ s.site) (is : evse ≡ key r.evse_uid) where
-  taken_over : IsSiteOf site.locations evse (key r.location_id) → IsSiteOf s.site.locations (key r.evse_uid) (key r.location_id)
-  taken_over h = subst (λ (k : List ℕ). IsSiteOf s.site.locations k (key r.location_id)) is (subst (λ (z : Site). IsSiteOf z.locations evse (key r.location_id)) same h)
+-- whether an EVSE is at a location of the site, and whether it has a connector, as the book of the site tells
+module _ (b : Bool) (s : State) (site : Site) (evse at : List ℕ) (same : site ≡ s.site) where
+  pub is_at : (b ≡ true → IsSiteOf site.locations evse at) → b ≡ true → IsSiteOf s.site.locations evse at
+  is_at is h = subst (λ (z : Site). IsSiteOf z.locations evse at) same (is h)
 
-  taken_back : IsSiteOf s.site.locations (key r.evse_uid) (key r.location_id) → IsSiteOf site.locations evse (key r.location_id)
-  taken_back h = subst (λ (z : Site). IsSiteOf z.locations evse (key r.location_id)) (sym same) (subst (λ (k : List ℕ). IsSiteOf s.site.locations k (key r.location_id)) (sym is) h)
+  pub is_not_at : (IsSiteOf site.locations evse at → b ≡ true) → b ≡ false → ¬ IsSiteOf s.site.locations evse at
+  is_not_at also h e = true≢false (sym (also (subst (λ (z : Site). IsSiteOf z.locations evse at) (sym same) e)) ∙ h)
 
-  pub not_at : (IsSiteOf site.locations evse (key r.location_id) → b ≡ true) → IsSiteOf s.site.locations (key r.evse_uid) (key r.location_id) → b ≡ false → ⊥
-  not_at also h e = true≢false (sym (also (taken_back h)) ∙ e)
+  pub has_connector : (b ≡ true → IsConnectorOf site.locations evse at) → b ≡ true → IsConnectorOf s.site.locations evse at
+  has_connector is h = subst (λ (z : Site). IsConnectorOf z.locations evse at) same (is h)
 
-  pub is_at : (b ≡ true → IsSiteOf site.locations evse (key r.location_id)) → b ≡ true → IsSiteOf s.site.locations (key r.evse_uid) (key r.location_id)
-  is_at may h = taken_over (may h)
+  pub has_no_connector : (IsConnectorOf site.locations evse at → b ≡ true) → b ≡ false → ¬ IsConnectorOf s.site.locations evse at
+  has_no_connector also h e = true≢false (sym (also (subst (λ (z : Site). IsConnectorOf z.locations evse at) (sym same) e)) ∙ h)
 
 -- the row that makes a claim
 pub record ClaimsIt (s : State) (evse : List ℕ) (c : Claim) : Type 0 where
@@ -212,18 +220,26 @@ claimed_twice s r evse c d next makes has other line rows p =
 pub free_may : (s : State) (evse : List ℕ) (c : Claim) → IsFree s.rows evse → MayClaim s.rows evse c
 free_may s evse c free d h = absurd (free d h)
 
+-- a reservation that is at no EVSE of the site, or at one of another location
+not_at : (line : SiteLine) (rows : List Row) (p id : List ℕ) (r : Reservation) → Contains rows (row.Reservation p id r) → (why : BadReason) →
+    IsNotAt line.site.locations (key r.evse_uid) (key r.location_id) why → IsBad line rows (keys.Reservation p id) why
+not_at line rows p id r h _ (Nowhere nowhere) = ReservationNowhere p id r h nowhere
+not_at line rows p id r h _ (Elsewhere evse not) = ReservationElsewhere p id r h evse not
+
 module _ (s : State) (p id : List ℕ) (r : Reservation) (next : ComesNext s (row.Reservation p id r)) where
-  pub reservation_nowhere : ¬ IsSiteOf s.site.locations (key r.evse_uid) (key r.location_id) → ShowsBad s (row.Reservation p id r) reason.UnknownPlace
-  reservation_nowhere not line rows h = ReservationNowhere p id r h.here
-      (λ e. not (subst (λ z. IsSiteOf z.locations (key r.evse_uid) (key r.location_id)) (sym (site_of s (row.Reservation p id r) line rows h)) e))
+  pub reservation_nowhere : (evse : List ℕ) (why : BadReason) → evse ≡ key r.evse_uid → IsNotAt s.site.locations evse (key r.location_id) why →
+      ShowsBad s (row.Reservation p id r) why
+  reservation_nowhere evse why is not line rows h =
+      not_at line rows p id r h.here why (subst (λ (z : Site). IsNotAt z.locations (key r.evse_uid) (key r.location_id) why) (site_of s (row.Reservation p id r) line rows h)
+      (subst (λ (k : List ℕ). IsNotAt s.site.locations k (key r.location_id) why) is not))
 
   not_held : HasClaim s.rows (key r.evse_uid) (Reserved p id) → ⊥
   not_held h = next.is_new (row.Reservation p id h.0) h.1 refl
 
-  pub reservation_may : (evse : List ℕ) → evse ≡ key r.evse_uid → IsSiteOf s.site.locations (key r.evse_uid) (key r.location_id) → IsFree s.rows evse →
+  pub reservation_may : (evse : List ℕ) → evse ≡ key r.evse_uid → IsSiteOf s.site.locations evse (key r.location_id) → IsFree s.rows evse →
       MayAdd s (row.Reservation p id r)
   reservation_may evse is place free = record {
-    may = record { place = place; alone = free_may s (key r.evse_uid) (Reserved p id) (subst (λ (k : List ℕ). IsFree s.rows k) is free) };
+    may = record { place = subst (λ (k : List ℕ). IsSiteOf s.site.locations k (key r.location_id)) is place; alone = free_may s (key r.evse_uid) (Reserved p id) (subst (λ (k : List ℕ). IsFree s.rows k) is free) };
     fit = tt;
   }
 

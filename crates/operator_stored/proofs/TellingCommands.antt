@@ -1,24 +1,31 @@
 -- What tells that a command may be open or have a result, and what that the rows are bad.
 use Rattle.std.proofs.Common.{◌≡◌, ℕ, List, Bool, true, false, not, refl, sym, ap, subst, ◌∙◌, arith}
-use Rattle.std.specs.Prelude.{Option, Some, None, is_some, option_copied}
+use Rattle.std.specs.Prelude.{Option, Some, None, Contains, Result, Ok, Err, IfErr, is_some, option_copied}
 use Rattle.std.specs.FinMap.{get}
 use denote.Ref.{Bor}
 use Rattle.ocpi_text.specs.Text.{key}
+use Rattle.ocpi_types.specs.declared.rows.Row.{Row}
 use Rattle.ocpi_types.specs.declared.rows.Row.TheVariants as row
+use Rattle.ocpi_types.specs.declared.rows.RowKey.TheVariants as keys
+use Rattle.ocpi_types.specs.declared.site.Location.{Location}
 use Rattle.ocpi_types.specs.declared.site.Site.{Site}
+use Rattle.ocpi_types.specs.declared.site.SiteLine.{SiteLine}
 use Rattle.ocpi_types.specs.declared.stored.OpenCommand.{OpenCommand}
 use Rattle.ocpi_types.specs.declared.words.CommandResultType.{CommandResultType}
 use Rattle.command_book.specs.Stored as commands
 use Rattle.node_steps.specs.Peers.{HasPeer}
 use Rattle.site_book.specs.declared.claim.Claim.{Claim}
 use Rattle.site_book.specs.declared.claim.Claim.TheVariants.{OpenStart}
+use Rattle.stored_rows.specs.declared.fault.BadReason.{BadReason}
 use Rattle.stored_rows.specs.declared.fault.BadReason.TheVariants as reason
 use Rattle.tables.proofs.Options.{not_both}
 use Rattle.operator_rows.specs.Sound.{HasPlace, IsOwnStart}
 use Rattle.operator_rows.specs.State.{HasClaim, IsFree, IsStart, State, Takes}
 use Rattle.operator_stored.proofs.StandingRows.{is_some_copied, some_of}
 use Rattle.operator_stored.proofs.Telling.{claimed_twice, free_may, is_none_told, is_some_told, none_of, site_of, stranger}
-use Rattle.operator_stored.specs.Bad.{CommandOfStranger, OpenUnanswered, OpenWithResult, ResultOfOpen, ResultUnanswered, StartNowhere, StartOfOtherToken}
+use Rattle.operator_stored.specs.Bad.{IsBad, CommandOfStranger, OpenUnanswered, OpenWithResult, ResultOfOpen, ResultUnanswered, StartOfOtherToken}
+use Rattle.operator_stored.specs.Bad.{StartAtNoConnector, StartNowhere, StartWithoutConnector, StartWithoutEvse}
+use Rattle.operator_stored.specs.Causes.{IsMisplaced, IsNoConnector, AtNoConnector, OfEvse, OfNoEvse, WithoutConnector, WithoutEvse}
 use Rattle.operator_stored.specs.Placing.{ComesNext, MayAdd, MayTake, ShowsBad}
 
 -- what a look-up by reference found
@@ -28,6 +35,25 @@ module _ {X : Type 0} (b : Bool) (r : Option (Bor X)) (o : Option X) (is : is_so
 
   pub some_copied : b ≡ false → (x : X) × (o ≡ Some x)
   some_copied h = is_some_told b o (ap is_some (sym same) ∙ is_some_copied r ∙ is) h
+
+-- a start that has no place at the site
+module _ (line : SiteLine) (rows : List Row) (p : List ℕ) (n : ℕ) (o : OpenCommand) (h : Contains rows (row.Pending p n o)) (start : IsStart o.command) where
+  at_no_connector : (uid connector : List ℕ) (why : BadReason) → o.evse_uid ≡ Some uid → o.connector_id ≡ Some connector →
+      IsNoConnector line.site.locations (key uid) (key connector) why → IsBad line rows (keys.Pending p n) why
+  at_no_connector uid connector _ evse_is connector_is (OfNoEvse nowhere) = StartNowhere p n o uid h start evse_is nowhere
+  at_no_connector uid connector _ evse_is connector_is (OfEvse evse not) = StartAtNoConnector p n o uid connector h start evse_is connector_is evse not
+
+  misplaced : (why : BadReason) → IsMisplaced line.site.locations o why → IsBad line rows (keys.Pending p n) why
+  misplaced _ (WithoutEvse none) = StartWithoutEvse p n o h start none
+  misplaced _ (WithoutConnector none) = StartWithoutConnector p n o h start none
+  misplaced _ (AtNoConnector uid connector why evse_is connector_is not) = at_no_connector uid connector why evse_is connector_is not
+
+-- a start whose EVSE and connector are named, and none of the site's
+pub misplaced_at : (r : Result (Unit {0}) BadReason) (locations : List Location) (o : OpenCommand) (uid connector evse : List ℕ) → o.evse_uid ≡ Some uid →
+    o.connector_id ≡ Some connector → evse ≡ key uid → IfErr r (IsNoConnector locations evse (key connector)) → IfErr r (IsMisplaced locations o)
+misplaced_at (Ok x) locations o uid connector evse evse_is connector_is same not = tt
+misplaced_at (Err why) locations o uid connector evse evse_is connector_is same not =
+    AtNoConnector uid connector why evse_is connector_is (subst (λ (k : List ℕ). IsNoConnector locations k (key connector) why) same not)
 
 module _ (s : State) (p : List ℕ) (n : ℕ) (o : OpenCommand) where
   pub command_of_stranger : ¬ HasPeer s.providers p → ShowsBad s (row.Pending p n o) reason.UnknownParty
@@ -43,9 +69,9 @@ module _ (s : State) (p : List ℕ) (n : ℕ) (o : OpenCommand) where
   pub start_of_other : ¬ IsOwnStart p o.command → ShowsBad s (row.Pending p n o) reason.TokenOfOtherParty
   start_of_other not line rows h = StartOfOtherToken p n o h.here not
 
-  pub start_nowhere : IsStart o.command → ¬ HasPlace s.site o → ShowsBad s (row.Pending p n o) reason.UnknownPlace
-  start_nowhere start not line rows h =
-      StartNowhere p n o h.here start (λ e. not (subst (λ (z : Site). HasPlace z o) (sym (site_of s (row.Pending p n o) line rows h)) e))
+  pub start_nowhere : (why : BadReason) → IsStart o.command → IsMisplaced s.site.locations o why → ShowsBad s (row.Pending p n o) why
+  start_nowhere why start not line rows h =
+      misplaced line rows p n o h.here start why (subst (λ (z : Site). IsMisplaced z.locations o why) (site_of s (row.Pending p n o) line rows h) not)
 
   module _ (uid : List ℕ) (named : o.evse_uid ≡ Some uid) where
     its_evse : (evse : List ℕ) → Takes o evse → key uid ≡ evse

@@ -1,6 +1,6 @@
 -- What tells that a session or a charge detail record may stand, and what that the rows are bad.
 use Rattle.std.proofs.Common.{◌≡◌, ◌≢◌, ℤ, ℕ, ◌≤◌, ◌<◌, List, Bool, true, false, not, true≢false, ◌⊎◌, inl, inr, refl, sym, ap, subst, ◌∙◌, arith}
-use Rattle.std.specs.Prelude.{Option, Some, None, IfSome, Ok}
+use Rattle.std.specs.Prelude.{Option, Some, None, Contains, IfSome, Ok}
 use Rattle.std.specs.FinMap.{get}
 use Rattle.std.proofs.lemmas.Bool.{cases_lt}
 use Rattle.ocpi_text.specs.OwnIds.{own_id_text}
@@ -9,26 +9,34 @@ use Rattle.ocpi_text.specs.Text.{key}
 use Rattle.ocpi_text.specs.Whole.{max_whole}
 use Rattle.ocpi_text.specs.declared.own_ids.OwnIdKind.{OwnIdKind}
 use Rattle.ocpi_text.specs.declared.own_ids.OwnIdKind.TheVariants as own
+use Rattle.ocpi_types.specs.Rows.{key_of}
 use Rattle.ocpi_types.specs.declared.cdrs.Cdr.{Cdr}
 use Rattle.ocpi_types.specs.declared.rows.Counter.TheVariants as counter
+use Rattle.ocpi_types.specs.declared.rows.Row.{Row}
 use Rattle.ocpi_types.specs.declared.rows.Row.TheVariants as row
 use Rattle.ocpi_types.specs.declared.rows.RowKey.TheVariants as keys
 use Rattle.ocpi_types.specs.declared.sessions.Session.{Session}
 use Rattle.ocpi_types.specs.declared.site.Site.{Site}
+use Rattle.ocpi_types.specs.declared.site.SiteLine.{SiteLine}
+use Rattle.ocpi_types.specs.declared.words.SessionStatus.TheVariants.{Reservation}
 use Rattle.node_steps.specs.Peers.{HasPeer}
 use Rattle.session_book.proofs.OwnIds.{ids_differ}
 use Rattle.session_state.specs.Resuming.{CannotResume}
+use Rattle.session_state.specs.Versions.{HasCost}
 use Rattle.site_book.specs.Sites.{IsConnectorOf}
 use Rattle.site_book.specs.declared.claim.Claim.{Claim}
 use Rattle.site_book.specs.declared.claim.Claim.TheVariants.{Live}
 use Rattle.stored_rows.specs.Given.{IsOwnId}
 use Rattle.stored_rows.specs.Records.{IsRecordId}
 use Rattle.stored_rows.proofs.RecordNumbers.{bill_made, credit_made, no_credit}
+use Rattle.stored_rows.specs.declared.fault.BadReason.{BadReason}
 use Rattle.stored_rows.specs.declared.fault.BadReason.TheVariants as reason
 use Rattle.operator_rows.specs.State.{HasClaim, IsFree, IsLive, State}
 use Rattle.operator_stored.proofs.BadRows.{bill_or_credit}
 use Rattle.operator_stored.proofs.Telling.{claimed_twice, count_of, free_may, party_of, site_of, stranger}
-use Rattle.operator_stored.specs.Bad.{CdrIdNotOwn, CdrNotGiven, CdrOfOther, SessionIdNotOwn, SessionNotGiven, SessionNowhere, SessionOfOther, SessionOfStranger, Stuck}
+use Rattle.operator_stored.specs.Bad as bad
+use Rattle.operator_stored.specs.Bad.{IsBad, CdrIdNotOwn, CdrNotGiven, CdrOfOther, SessionAtNoConnector, SessionIdNotOwn, SessionNotGiven, SessionNowhere, SessionOfOther, SessionOfStranger}
+use Rattle.operator_stored.specs.Causes.{IsNoConnector, IsStuck, CostMissing, OfEvse, OfNoEvse, OfReservation, OtherPrice}
 use Rattle.operator_stored.specs.Placing.{ComesNext, IsOwn, MayAdd, MayCharge, ShowsBad}
 
 equal_or_not : (m n : ℕ) → (m ≡ n) ⊎ (m ≢ n)
@@ -67,6 +75,17 @@ own_of s k last n party id of made sole most = record {
   given = λ m fits same. subst (λ (z : ℕ). z ≤ last) (sym (sole m fits same)) most;
 }
 
+-- a session that has not ended and is at no connector of the site, and one that cannot go on
+module _ (line : SiteLine) (rows : List Row) (v : Session) (h : Contains rows (row.Session v)) where
+  misplaced : (why : BadReason) → IsLive v.status → IsNoConnector line.site.locations (key v.evse_uid) (key v.connector_id) why → IsBad line rows (key_of (row.Session v)) why
+  misplaced _ live (OfNoEvse nowhere) = SessionNowhere v h live nowhere
+  misplaced _ live (OfEvse evse not) = SessionAtNoConnector v h live evse not
+
+  stuck_is_bad : (why : BadReason) → IsStuck line.site.price v why → IsBad line rows (key_of (row.Session v)) why
+  stuck_is_bad _ (OfReservation is) = bad.OfReservation v h is
+  stuck_is_bad _ (CostMissing none) = bad.CostMissing v h none
+  stuck_is_bad _ (OtherPrice cost is not) = bad.OtherPrice v cost h is not
+
 module _ (s : State) (v : Session) where
   pub session_of_other : (key v.party ≡ key s.party → ⊥) → ShowsBad s (row.Session v) reason.OfOtherParty
   session_of_other other line rows h = SessionOfOther v h.here (λ e. other (e ∙ ap key (sym (party_of s (row.Session v) line rows h))))
@@ -86,13 +105,15 @@ module _ (s : State) (v : Session) where
   pub session_of_stranger : IsLive v.status → ¬ HasPeer s.providers (key v.cdr_token.party) → ShowsBad s (row.Session v) reason.UnknownParty
   session_of_stranger live not line rows h = SessionOfStranger v h.here live (stranger s (row.Session v) line rows h (key v.cdr_token.party) not)
 
-  pub session_nowhere : IsLive v.status → ¬ IsConnectorOf s.site.locations (key v.evse_uid) (key v.connector_id) → ShowsBad s (row.Session v) reason.UnknownPlace
-  session_nowhere live not line rows h =
-      SessionNowhere v h.here live (λ e. not (subst (λ (z : Site). IsConnectorOf z.locations (key v.evse_uid) (key v.connector_id))
-      (sym (site_of s (row.Session v) line rows h)) e))
+  pub session_nowhere : (evse : List ℕ) (why : BadReason) → evse ≡ key v.evse_uid → IsLive v.status → IsNoConnector s.site.locations evse (key v.connector_id) why →
+      ShowsBad s (row.Session v) why
+  session_nowhere evse why is live not line rows h =
+      misplaced line rows v h.here why live (subst (λ (z : Site). IsNoConnector z.locations (key v.evse_uid) (key v.connector_id) why) (site_of s (row.Session v) line rows h)
+      (subst (λ (k : List ℕ). IsNoConnector s.site.locations k (key v.connector_id) why) is not))
 
-  pub stuck : (price : ℤ) → price ≡ s.site.price → CannotResume price v → ShowsBad s (row.Session v) reason.CannotGoOn
-  stuck price same cannot line rows h = Stuck v h.here (subst (λ (z : ℤ). CannotResume z v) (same ∙ ap (λ (z : Site). z.price) (site_of s (row.Session v) line rows h)) cannot)
+  pub stuck : (price : ℤ) (why : BadReason) → price ≡ s.site.price → IsStuck price v why → ShowsBad s (row.Session v) why
+  stuck price why same cannot line rows h =
+      stuck_is_bad line rows v h.here why (subst (λ (z : ℤ). IsStuck z v why) (same ∙ ap (λ (z : Site). z.price) (site_of s (row.Session v) line rows h)) cannot)
 
   not_charged : ComesNext s (row.Session v) → key v.party ≡ key s.party → (p evse : List ℕ) → HasClaim s.rows evse (Live p (key v.id)) → ⊥
   not_charged next of p evse h =
@@ -102,11 +123,10 @@ module _ (s : State) (v : Session) where
       (ap (λ (k : List ℕ). keys.Session k (key h.0.id)) (its ∙ sym of) ∙ ap (λ (k : List ℕ). keys.Session (key v.party) k) (sym keyed))
 
   module _ (evse : List ℕ) (is : evse ≡ key v.evse_uid) where
-    pub charge_may : HasPeer s.providers (key v.cdr_token.party) → IsConnectorOf s.site.locations (key v.evse_uid) (key v.connector_id) → IsFree s.rows evse →
-        MayCharge s v
+    pub charge_may : HasPeer s.providers (key v.cdr_token.party) → IsConnectorOf s.site.locations evse (key v.connector_id) → IsFree s.rows evse → MayCharge s v
     charge_may peer place free = record {
       provider = peer;
-      place = place;
+      place = subst (λ (k : List ℕ). IsConnectorOf s.site.locations k (key v.connector_id)) is place;
       alone = free_may s (key v.evse_uid) _ (subst (λ (k : List ℕ). IsFree s.rows k) is free);
     }
 
@@ -140,16 +160,10 @@ module _ (s : State) (x : Cdr) where
       subst (λ (z : ℕ). z ≤ s.rows.charged.last_cdr) (sym (sole m fits same)) most in
       record { may = record { own = of; number = given }; fit = (n, made) }
 
--- whether the EVSE of a session has its connector
-module _ (b : Bool) (site : Site) (s : State) (v : Session) (evse : List ℕ) (same : site ≡ s.site) (is : evse ≡ key v.evse_uid) where
-  pub connector_over : (b ≡ true → IsConnectorOf site.locations evse (key v.connector_id)) → b ≡ true → IsConnectorOf s.site.locations (key v.evse_uid) (key v.connector_id)
-  connector_over may h =
-      subst (λ (k : List ℕ). IsConnectorOf s.site.locations k (key v.connector_id)) is (subst (λ (z : Site). IsConnectorOf z.locations evse (key v.connector_id)) same (may h))
-
-  pub connector_back : (IsConnectorOf site.locations evse (key v.connector_id) → b ≡ true) → b ≡ false → ¬ IsConnectorOf s.site.locations (key v.evse_uid) (key v.connector_id)
-  connector_back also e h =
-      true≢false (sym (also (subst (λ (z : Site). IsConnectorOf z.locations evse (key v.connector_id)) (sym same)
-      (subst (λ (k : List ℕ). IsConnectorOf s.site.locations k (key v.connector_id)) (sym is) h))) ∙ e)
+-- a version whose status is not RESERVATION, and that cannot go on, has not the cost of its energy
+pub not_priced : (price : ℤ) (v : Session) → (v.status ≡ Reservation → ⊥) → CannotResume price v → ¬ HasCost price v
+not_priced price v other (inl is) = absurd (other is)
+not_priced price v other (inr not) = not
 
 pub not_same : (b : Bool) (party operator own : List ℕ) → operator ≡ own → (key party ≡ key operator → b ≡ true) → b ≡ false → key party ≡ key own → ⊥
 not_same b party operator own is also e h = true≢false (sym (also (h ∙ ap key (sym is))) ∙ e)

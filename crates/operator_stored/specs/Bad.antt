@@ -1,8 +1,8 @@
 -- Why rows are those of no operator of a site: which row of the list shows it, wherever it stands, and for what reason.
-use Rattle.std.specs.Prelude.{◌≡◌, ◌≢◌, ℕ, List, Some, Contains, ⊤}
+use Rattle.std.specs.Prelude.{◌≡◌, ◌≢◌, ℕ, List, None, Some, Contains, ⊤}
 use Rattle.ocpi_text.specs.Text.{key}
 use Rattle.ocpi_text.specs.declared.own_ids.OwnIdKind.TheVariants as own
-use Rattle.ocpi_types.specs.Credits.{IsCredit}
+use Rattle.ocpi_types.specs.Credits.{IsBill, IsCredit}
 use Rattle.ocpi_types.specs.Rows.{key_of}
 use Rattle.ocpi_types.specs.declared.cdrs.Cdr.{Cdr}
 use Rattle.ocpi_types.specs.declared.rows.Counter.{Counter}
@@ -11,6 +11,7 @@ use Rattle.ocpi_types.specs.declared.rows.Row.{Row}
 use Rattle.ocpi_types.specs.declared.rows.Row.TheVariants as row
 use Rattle.ocpi_types.specs.declared.rows.RowKey.{RowKey}
 use Rattle.ocpi_types.specs.declared.rows.RowKey.TheVariants as keys
+use Rattle.ocpi_types.specs.declared.sessions.Price.{Price}
 use Rattle.ocpi_types.specs.declared.sessions.Session.{Session}
 use Rattle.ocpi_types.specs.declared.site.SiteLine.{SiteLine}
 use Rattle.ocpi_types.specs.declared.stored.OpenCommand.{OpenCommand}
@@ -19,15 +20,15 @@ use Rattle.ocpi_types.specs.declared.stored.Reply.{Reply}
 use Rattle.ocpi_types.specs.declared.stored.Reservation.{Reservation}
 use Rattle.ocpi_types.specs.declared.token.Token.{Token}
 use Rattle.ocpi_types.specs.declared.words.CommandResultType.{CommandResultType}
-use Rattle.ocpi_types.specs.declared.words.SessionStatus.TheVariants.{Completed}
+use Rattle.ocpi_types.specs.declared.words.SessionStatus.TheVariants as status
 use Rattle.site_book.specs.Sites.{IsConnectorOf, IsEvse, IsSiteOf}
 use Rattle.site_book.specs.declared.claim.Claim.{Claim}
 use Rattle.site_book.specs.declared.claim.Claim.TheVariants.{OpenStart, Live, Reserved}
 use Rattle.outbox.specs.Pushes.{subject}
 use Rattle.outbox.specs.declared.push_book.Subject.{Subject}
-use Rattle.session_state.specs.Resuming.{CannotResume}
+use Rattle.session_state.specs.Versions.{HasCost}
 use Rattle.node_steps.specs.Peers.{HasPeer}
-use Rattle.operator_rows.specs.Sound.{HasPlace, IsOwnStart}
+use Rattle.operator_rows.specs.Sound.{IsOwnStart}
 use Rattle.operator_rows.specs.State.{IsLive, IsStart, Occupies, Takes}
 use Rattle.stored_rows.specs.Given.{IsNotGiven, IsOwnId, RepeatsKey}
 use Rattle.stored_rows.specs.Records.{IsRecordId}
@@ -77,14 +78,26 @@ pub data IsBad (line : SiteLine) (rows : List Row) : RowKey → BadReason → Ty
   -- an open start with a token of another provider
   StartOfOtherToken : (p : List ℕ) (n : ℕ) (o : OpenCommand) → Contains rows (row.Pending p n o) → ¬ IsOwnStart p o.command →
       IsBad line rows (keys.Pending p n) reason.TokenOfOtherParty
-  -- ---- places that the site has not
-  ServiceNowhere : (evse : List ℕ) → Contains rows (row.Service evse) → ¬ IsEvse line.site.locations evse → IsBad line rows (keys.Service evse) reason.UnknownPlace
-  ReservationNowhere : (p id : List ℕ) (r : Reservation) → Contains rows (row.Reservation p id r) →
-      ¬ IsSiteOf line.site.locations (key r.evse_uid) (key r.location_id) → IsBad line rows (keys.Reservation p id) reason.UnknownPlace
-  StartNowhere : (p : List ℕ) (n : ℕ) (o : OpenCommand) → Contains rows (row.Pending p n o) → IsStart o.command → ¬ HasPlace line.site o →
-      IsBad line rows (keys.Pending p n) reason.UnknownPlace
-  SessionNowhere : (v : Session) → Contains rows (row.Session v) → IsLive v.status →
-      ¬ IsConnectorOf line.site.locations (key v.evse_uid) (key v.connector_id) → IsBad line rows (key_of (row.Session v)) reason.UnknownPlace
+  -- ---- EVSEs that the site has not
+  ServiceNowhere : (evse : List ℕ) → Contains rows (row.Service evse) → ¬ IsEvse line.site.locations evse → IsBad line rows (keys.Service evse) reason.UnknownEvse
+  ReservationNowhere : (p id : List ℕ) (r : Reservation) → Contains rows (row.Reservation p id r) → ¬ IsEvse line.site.locations (key r.evse_uid) →
+      IsBad line rows (keys.Reservation p id) reason.UnknownEvse
+  StartNowhere : (p : List ℕ) (n : ℕ) (o : OpenCommand) (uid : List ℕ) → Contains rows (row.Pending p n o) → IsStart o.command → o.evse_uid ≡ Some uid →
+      ¬ IsEvse line.site.locations (key uid) → IsBad line rows (keys.Pending p n) reason.UnknownEvse
+  SessionNowhere : (v : Session) → Contains rows (row.Session v) → IsLive v.status → ¬ IsEvse line.site.locations (key v.evse_uid) →
+      IsBad line rows (key_of (row.Session v)) reason.UnknownEvse
+  -- ---- EVSEs of the site that have no such connector, or are elsewhere; and starts without an EVSE or a connector
+  StartAtNoConnector : (p : List ℕ) (n : ℕ) (o : OpenCommand) (uid connector : List ℕ) → Contains rows (row.Pending p n o) → IsStart o.command →
+      o.evse_uid ≡ Some uid → o.connector_id ≡ Some connector → IsEvse line.site.locations (key uid) →
+      ¬ IsConnectorOf line.site.locations (key uid) (key connector) → IsBad line rows (keys.Pending p n) reason.UnknownConnector
+  SessionAtNoConnector : (v : Session) → Contains rows (row.Session v) → IsLive v.status → IsEvse line.site.locations (key v.evse_uid) →
+      ¬ IsConnectorOf line.site.locations (key v.evse_uid) (key v.connector_id) → IsBad line rows (key_of (row.Session v)) reason.UnknownConnector
+  ReservationElsewhere : (p id : List ℕ) (r : Reservation) → Contains rows (row.Reservation p id r) → IsEvse line.site.locations (key r.evse_uid) →
+      ¬ IsSiteOf line.site.locations (key r.evse_uid) (key r.location_id) → IsBad line rows (keys.Reservation p id) reason.OtherLocation
+  StartWithoutEvse : (p : List ℕ) (n : ℕ) (o : OpenCommand) → Contains rows (row.Pending p n o) → IsStart o.command → o.evse_uid ≡ None →
+      IsBad line rows (keys.Pending p n) reason.WithoutPlace
+  StartWithoutConnector : (p : List ℕ) (n : ℕ) (o : OpenCommand) → Contains rows (row.Pending p n o) → IsStart o.command → o.connector_id ≡ None →
+      IsBad line rows (keys.Pending p n) reason.WithoutPlace
   -- ---- two claims on one EVSE: each of the two rows shows it
   ClaimedTwice : (a b : Row) (evse : List ℕ) (c d : Claim) → Contains rows a → Contains rows b → MakesClaim a evse c → MakesClaim b evse d → c ≢ d →
       IsBad line rows (key_of a) reason.ClaimedTwice
@@ -100,9 +113,14 @@ pub data IsBad (line : SiteLine) (rows : List Row) : RowKey → BadReason → Ty
   -- ---- two pushes of one session, or of one token to one party: each of the two shows it
   PushedTwice : (m n : ℕ) (to other : List ℕ) (a b : Push) (u : Subject) → m ≢ n → Contains rows (row.Push m to a) → Contains rows (row.Push n other b) →
       subject to a ≡ Some u → subject other b ≡ Some u → IsBad line rows (keys.Push m) reason.PushedTwice
-  -- ---- sessions that cannot go on, bills and credits: each of two bills of one session shows it, and each of two credits
-  Stuck : (v : Session) → Contains rows (row.Session v) → CannotResume line.site.price v → IsBad line rows (key_of (row.Session v)) reason.CannotGoOn
-  BilledTwice : (twice : BillsTwice rows) → IsBad line rows (key_of (row.Cdr twice.other)) reason.BilledTwice
+  -- ---- sessions that cannot go on: which status has it, whether it has a cost, and of what price that is
+  OfReservation : (v : Session) → Contains rows (row.Session v) → v.status ≡ status.Reservation → IsBad line rows (key_of (row.Session v)) reason.ReservationStatus
+  CostMissing : (v : Session) → Contains rows (row.Session v) → v.total_cost ≡ None → IsBad line rows (key_of (row.Session v)) reason.WithoutCost
+  OtherPrice : (v : Session) (cost : Price) → Contains rows (row.Session v) → v.total_cost ≡ Some cost → ¬ HasCost line.site.price v →
+      IsBad line rows (key_of (row.Session v)) (reason.OtherPrice v.kwh cost.excl_vat line.site.price)
+  -- ---- bills and credits: each of two bills of one session shows it, and each of two credits
+  BilledTwice : (twice : BillsTwice rows) → IsBill twice.other → IsBad line rows (key_of (row.Cdr twice.other)) reason.BilledTwice
+  CreditedTwice : (twice : BillsTwice rows) → IsCredit twice.other → IsBad line rows (key_of (row.Cdr twice.other)) reason.CreditedTwice
   BilledEarly : (x : Cdr) → Contains rows (row.Cdr x) → ¬ HasEnded rows (key x.session_id) → IsBad line rows (key_of (row.Cdr x)) reason.BilledEarly
-  Unbilled : (v : Session) → Contains rows (row.Session v) → v.status ≡ Completed → ¬ HasBill rows (key v.id) → IsBad line rows (key_of (row.Session v)) reason.Unbilled
+  Unbilled : (v : Session) → Contains rows (row.Session v) → v.status ≡ status.Completed → ¬ HasBill rows (key v.id) → IsBad line rows (key_of (row.Session v)) reason.Unbilled
   CreditWithoutBill : (x : Cdr) → Contains rows (row.Cdr x) → IsCredit x → ¬ HasItsBill rows x → IsBad line rows (key_of (row.Cdr x)) reason.CreditWithoutBill

@@ -49,7 +49,8 @@ pub record AreBillsOf (rows : List Row) : Type 0 where
 
 -- which row shows that these are not the bills, and why
 pub data IsMisbilled (rows : List Row) : RowKey → BadReason → Type 0 where
-  Twice : (twice : BillsTwice rows) → IsMisbilled rows (key_of (row.Cdr twice.other)) reason.BilledTwice
+  BilledTwice : (twice : BillsTwice rows) → IsBill twice.other → IsMisbilled rows (key_of (row.Cdr twice.other)) reason.BilledTwice
+  CreditedTwice : (twice : BillsTwice rows) → IsCredit twice.other → IsMisbilled rows (key_of (row.Cdr twice.other)) reason.CreditedTwice
   Early : (x : Cdr) → Contains rows (row.Cdr x) → ¬ HasEnded rows (key x.session_id) → IsMisbilled rows (key_of (row.Cdr x)) reason.BilledEarly
   Never : (v : Session) → Contains rows (row.Session v) → v.status ≡ Completed → ¬ HasBill rows (key v.id) →
       IsMisbilled rows (key_of (row.Session v)) reason.Unbilled
@@ -100,6 +101,12 @@ has_alike bills credits true id = contains credits id
 -- the row is a record of a session of which one that is alike a bill or a credit is there
 abbrev pub IsAgain : Bills → FinSet text_cmp → Row → Type 0
 IsAgain bills credits r = (x : Cdr) × (r ≡ row.Cdr x) × IsTrue (has_alike bills credits (is_credit x) (key x.session_id))
+
+-- and that is said of it: which of the two it is
+abbrev pub IsAgainAs : Bills → FinSet text_cmp → Row → BadReason → Type 0
+IsAgainAs bills credits r reason.BilledTwice = (x : Cdr) × (r ≡ row.Cdr x) × IsBill x × IsTrue (contains_key bills (key x.session_id))
+IsAgainAs bills credits r reason.CreditedTwice = (x : Cdr) × (r ≡ row.Cdr x) × IsCredit x × InSet credits (key x.session_id)
+IsAgainAs bills credits r other = ⊥
 
 -- the bill of the session is the one that the record takes back
 abbrev pub IsBacked : Bills → Cdr → Type 0

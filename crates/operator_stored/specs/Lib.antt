@@ -1,4 +1,5 @@
 pub mod Bills
+pub mod Causes
 pub mod Bad
 pub mod Whole
 pub mod Making

@@ -24,6 +24,7 @@ ghost use Rattle.operator_stored.specs.Bills.{
   HaveAlso,
   InSet,
   IsAgain,
+  IsAgainAs,
   IsBacked,
   IsMisbilled,
   has_alike,
@@ -49,13 +50,30 @@ fn has_alike(cdr: &Cdr, bills: &Bills, credits: &IdSet) -> bool
     }
 }
 
-/// Whether a row is a charge detail record of a session of which one that is alike a bill or a credit is there.
-fn is_again(row: &Row, bills: &Bills, credits: &IdSet) -> bool
-    ensures { MatchBool result (IsAgain (shown_of text_cmp bills.now) credits.now row.now) (IsAgain (shown_of text_cmp bills.now) credits.now row.now → ⊥) }
+/// Whether a charge detail record is the first bill of its session, or the first credit. Refused where a bill, or a
+/// credit, of the session is there.
+fn check_first(cdr: &Cdr, bills: &Bills, credits: &IdSet) -> Result<(), BadReason>
+    ensures new { OnOk result (IsAgain (shown_of text_cmp bills.now) credits.now (row.Cdr cdr.now) → ⊥) }
+    ensures again { IfErr result (IsAgainAs (shown_of text_cmp bills.now) credits.now (row.Cdr cdr.now)) }
+{
+    if !has_alike(cdr, bills, credits) {
+        return Ok(());
+    }
+    if cdr.is_credit() {
+        return Err(BadReason::CreditedTwice);
+    }
+    Err(BadReason::BilledTwice)
+}
+
+/// Whether a charge detail record that a row is is the first of its session that is alike a bill or a credit. Other
+/// rows are not refused.
+fn check_row(row: &Row, bills: &Bills, credits: &IdSet) -> Result<(), BadReason>
+    ensures new { OnOk result (IsAgain (shown_of text_cmp bills.now) credits.now row.now → ⊥) }
+    ensures again { IfErr result (IsAgainAs (shown_of text_cmp bills.now) credits.now row.now) }
 {
     match row {
-        Row::Cdr { cdr } => has_alike(cdr, bills, credits),
-        _ => false,
+        Row::Cdr { cdr } => check_first(cdr, bills, credits),
+        _ => Ok(()),
     }
 }
 
@@ -94,10 +112,10 @@ fn add_bills(rows: &[Row], bills: &mut Bills, credits: &mut IdSet) -> Result<(),
     ensures bad { IfErr result (IfBadRows (IsMisbilled rows.now)) }
 {
     for row in rows {
-        if is_again(row, bills, credits) {
+        if let Err(reason) = check_row(row, bills, credits) {
             return Err(RowsFault::BadRows(BadRow {
                 key: row.key(),
-                reason: BadReason::BilledTwice,
+                reason,
             }));
         }
         add_bill(row, bills, credits)?;

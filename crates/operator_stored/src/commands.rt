@@ -6,7 +6,7 @@ ghost use Rattle.operator_rows.specs.Sound.{IsOwnStart};
 ghost use Rattle.operator_rows.specs.State.{IsStart};
 ghost use Rattle.operator_stored.specs.Placing.{Answers, ComesNext, MayTake, Tells};
 
-use crate::places::{has_place, is_unclaimed};
+use crate::places::{check_place, is_unclaimed};
 use crate::pushes::is_provider;
 use ocpi_text::{PartyKey, Whole};
 use ocpi_types::{Command, CommandResultType, OpenCommand};
@@ -43,9 +43,7 @@ fn may_take(
     if !is_start(&order.command) {
         return Ok(());
     }
-    if !has_place(books, order) {
-        return Err(BadReason::UnknownPlace);
-    }
+    check_place(books, order)?;
     match order.evse_uid {
         Some(evse_uid) => {
             if !is_unclaimed(books, evse_uid.key()) {
@@ -53,7 +51,7 @@ fn may_take(
             }
             Ok(())
         }
-        None => Err(BadReason::UnknownPlace),
+        None => Err(BadReason::WithoutPlace),
     }
 }
 

@@ -1,13 +1,16 @@
 //! Rows that take a place of the site: reservations, open starts, and what is out of service.
 
-ghost use Rattle.std.specs.Prelude.{◌≡◌, MatchBool};
+ghost use Rattle.std.specs.Prelude.{◌≡◌, IfErr, MatchBool, OnOk};
+ghost use Rattle.ocpi_text.specs.Text.{key};
 ghost use Rattle.ocpi_types.specs.declared.rows.Row.TheVariants as row;
+ghost use Rattle.site_book.specs.Sites.{IsConnectorOf, IsSiteOf};
 ghost use Rattle.site_book.specs.declared.claim.Claim.{Claim};
 ghost use Rattle.operator_rows.specs.Sound.{HasPlace};
 ghost use Rattle.operator_rows.specs.State.{HasClaim, IsFree};
+ghost use Rattle.operator_stored.specs.Causes.{IsMisplaced, IsNoConnector, IsNotAt};
 ghost use Rattle.operator_stored.specs.Placing.{ComesNext, Tells};
 
-use ocpi_text::{CiKey, PartyKey};
+use ocpi_text::{CiKey, CiText, PartyKey};
 use ocpi_types::{OpenCommand, Reservation};
 use operator_rows::Books;
 use stored_rows::BadReason;
@@ -25,7 +28,22 @@ pub fn may_stop(books: &Books, evse: CiKey<36>) -> Result<(), BadReason>
     ensures { Tells result books.now.state (row.Service evse) }
 {
     if !books.site_book().has_evse(evse) {
-        return Err(BadReason::UnknownPlace);
+        return Err(BadReason::UnknownEvse);
+    }
+    Ok(())
+}
+
+/// Whether an EVSE of the site is at a location. Refused where it is at another, or none of the site's.
+fn check_location(books: &Books, evse: CiKey<36>, location: &CiText<36>) -> Result<(), BadReason>
+    ensures at { OnOk result (IsSiteOf books.now.state.site.locations evse (key location.now)) }
+    ensures not { IfErr result (IsNotAt books.now.state.site.locations evse (key location.now)) }
+{
+    let site = books.site_book();
+    if !site.has_evse(evse) {
+        return Err(BadReason::UnknownEvse);
+    }
+    if !site.is_at(evse, location) {
+        return Err(BadReason::OtherLocation);
     }
     Ok(())
 }
@@ -41,26 +59,43 @@ pub fn may_reserve(
     ensures { Tells result books.now.state (row.Reservation provider id reservation.now) }
 {
     let evse = reservation.evse_uid.key();
-    if !books.site_book().is_at(evse, &reservation.location_id) {
-        return Err(BadReason::UnknownPlace);
-    }
+    check_location(books, evse, &reservation.location_id)?;
     if !is_unclaimed(books, evse) {
         return Err(BadReason::ClaimedTwice);
     }
     Ok(())
 }
 
-/// Whether an open start has an EVSE and a connector, which are of the site.
-pub fn has_place(books: &Books, order: &OpenCommand) -> bool
-    ensures { MatchBool result (HasPlace books.now.state.site order.now) (¬ HasPlace books.now.state.site order.now) }
+/// Whether an EVSE of the site has a connector. Refused where it has no such connector, or is none of the site's.
+pub fn check_connector(
+    books: &Books,
+    evse: CiKey<36>,
+    connector: &CiText<36>,
+) -> Result<(), BadReason>
+    ensures of_site { OnOk result (IsConnectorOf books.now.state.site.locations evse (key connector.now)) }
+    ensures not { IfErr result (IsNoConnector books.now.state.site.locations evse (key connector.now)) }
+{
+    let site = books.site_book();
+    if !site.has_evse(evse) {
+        return Err(BadReason::UnknownEvse);
+    }
+    if !site.has_connector(evse, connector) {
+        return Err(BadReason::UnknownConnector);
+    }
+    Ok(())
+}
+
+/// Whether an open start has an EVSE and a connector, which are of the site. Refused where it names none of the one or
+/// of the other, or they are none of the site's.
+pub fn check_place(books: &Books, order: &OpenCommand) -> Result<(), BadReason>
+    ensures at { OnOk result (HasPlace books.now.state.site order.now) }
+    ensures not { IfErr result (IsMisplaced books.now.state.site.locations order.now) }
 {
     let Some(evse_uid) = order.evse_uid else {
-        return false;
+        return Err(BadReason::WithoutPlace);
     };
     let Some(connector_id) = order.connector_id else {
-        return false;
+        return Err(BadReason::WithoutPlace);
     };
-    books
-        .site_book()
-        .has_connector(evse_uid.key(), &connector_id)
+    check_connector(books, evse_uid.key(), &connector_id)
 }

@@ -1,19 +1,21 @@
 //! Rows of sessions and of charge detail records.
 
-ghost use Rattle.std.specs.Prelude.{◌≡◌, ◌≤◌, ℕ, IfNone, IfSome, MatchBool};
+ghost use Rattle.std.specs.Prelude.{◌≡◌, ◌≤◌, ℕ, IfErr, IfNone, IfSome, MatchBool, OnOk};
 ghost use Rattle.ocpi_text.specs.OwnIds.{own_id_text};
 ghost use Rattle.ocpi_text.specs.Text.{key};
 ghost use Rattle.ocpi_text.specs.Whole.{max_whole};
 ghost use Rattle.ocpi_text.specs.declared.own_ids.OwnIdKind.TheVariants as own;
 ghost use Rattle.ocpi_types.specs.declared.rows.Row.TheVariants as row;
+ghost use Rattle.ocpi_types.specs.declared.words.SessionStatus.TheVariants.{Reservation};
 ghost use Rattle.operator_rows.specs.State.{IsLive};
 ghost use Rattle.session_state.specs.Resuming.{CannotResume};
 ghost use Rattle.session_state.specs.Versions.{HasCost};
 ghost use Rattle.stored_rows.specs.Given.{IsOwnId};
 ghost use Rattle.stored_rows.specs.Records.{IsRecordId};
+ghost use Rattle.operator_stored.specs.Causes.{IsStuck};
 ghost use Rattle.operator_stored.specs.Placing.{Answers, ComesNext, IsOwn, MayCharge, Tells};
 
-use crate::places::is_unclaimed;
+use crate::places::{check_connector, is_unclaimed};
 use crate::pushes::is_provider;
 use ocpi_text::{OwnIdKind, Whole};
 use ocpi_types::{Cdr, PricePerKwh, Session, SessionStatus};
@@ -39,6 +41,38 @@ fn can_go_on(session: &Session, price: PricePerKwh) -> bool
         Ok(_) => true,
         Err(_) => false,
     }
+}
+
+/// Whether a session with that status is a reservation's.
+fn is_reservation(status: SessionStatus) -> bool
+    ensures { MatchBool result (status ≡ Reservation) (status ≡ Reservation → ⊥) }
+{
+    match status {
+        SessionStatus::Reservation => true,
+        _ => false,
+    }
+}
+
+/// Whether a session can go on from that version. Refused where its status is RESERVATION, where it has no cost, and
+/// where its cost is not that of its energy at the price.
+fn check_version(session: &Session, price: PricePerKwh) -> Result<(), BadReason>
+    ensures on { OnOk result (HasCost price session.now × ¬ CannotResume price session.now) }
+    ensures stuck { IfErr result (IsStuck price session.now) }
+{
+    if is_reservation(session.status) {
+        return Err(BadReason::ReservationStatus);
+    }
+    let Some(cost) = session.total_cost else {
+        return Err(BadReason::WithoutCost);
+    };
+    if !can_go_on(session, price) {
+        return Err(BadReason::OtherPrice {
+            kwh: session.kwh.value(),
+            cost: cost.excl_vat,
+            price: price.value(),
+        });
+    }
+    Ok(())
 }
 
 /// The number of which the operator made an id, if it did.
@@ -92,9 +126,7 @@ fn may_charge(books: &Books, session: &Session) -> Result<(), BadReason>
     if !is_provider(books, session.cdr_token.party.key()) {
         return Err(BadReason::UnknownParty);
     }
-    if !books.site_book().has_connector(evse, &session.connector_id) {
-        return Err(BadReason::UnknownPlace);
-    }
+    check_connector(books, evse, &session.connector_id)?;
     if !is_unclaimed(books, evse) {
         return Err(BadReason::ClaimedTwice);
     }
@@ -107,9 +139,7 @@ pub fn may_stand(books: &Books, session: &Session) -> Result<(), BadReason>
     ensures { Tells result books.now.state (row.Session session.now) }
 {
     may_own_session(books, session)?;
-    if !can_go_on(session, books.site_book().site().price) {
-        return Err(BadReason::CannotGoOn);
-    }
+    check_version(session, books.site_book().site().price)?;
     if !is_live(session.status) {
         return Ok(());
     }

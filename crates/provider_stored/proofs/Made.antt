@@ -25,7 +25,7 @@ use Rattle.provider_rows.specs.Stored.{put_row}
 use Rattle.provider_rows.proofs.RowChanges.{row_changes}
 use Rattle.provider_stored.specs.Bad.{IsBad}
 use Rattle.provider_stored.specs.Bad.IsBad.{Repeated, Foreign, NothingCounted, PushNotGiven, CommandNotGiven, ReferenceNotGiven, NumberShared}
-use Rattle.provider_stored.specs.Bad.IsBad.{OtherToken, OtherSession, OtherCdr, ReferenceNotOwn, PushToStranger, CommandToStranger, PushedTwice, BilledTwice}
+use Rattle.provider_stored.specs.Bad.IsBad.{OtherToken, OtherSession, OtherCdr, ReferenceNotOwn, PushToStranger, CommandToStranger, PushedTwice, BilledTwice, CreditedTwice}
 use Rattle.provider_stored.specs.Fitting.{IsFit, IsNext}
 use Rattle.provider_stored.specs.Making.{IsMadeOf}
 use Rattle.stored_rows.specs.Faults.{IfBadRows}
@@ -143,8 +143,10 @@ bad_in_other_order p xs ys h _ _ (PushToStranger n to push i strange) = PushToSt
 bad_in_other_order p xs ys h _ _ (CommandToStranger n c i strange) = CommandToStranger n c (there xs ys h (row.Command n c) i) strange
 bad_in_other_order p xs ys h _ _ (PushedTwice m n to other a b u apart i j one two) =
     PushedTwice m n to other a b u apart (there xs ys h (row.Push m to a) i) (there xs ys h (row.Push n other b) j) one two
-bad_in_other_order p xs ys h _ _ (BilledTwice x y i j party ids session alike) =
-    BilledTwice x y (there xs ys h (row.Cdr x) i) (there xs ys h (row.Cdr y) j) party ids session alike
+bad_in_other_order p xs ys h _ _ (BilledTwice x y i j party ids session alike bill) =
+    BilledTwice x y (there xs ys h (row.Cdr x) i) (there xs ys h (row.Cdr y) j) party ids session alike bill
+bad_in_other_order p xs ys h _ _ (CreditedTwice x y i j party ids session alike credit) =
+    CreditedTwice x y (there xs ys h (row.Cdr x) i) (there xs ys h (row.Cdr y) j) party ids session alike credit
 
 pub fault_in_other_order : (p : Peering) (xs ys : List Row) → IsPermutation xs ys → (e : RowsFault) → IfBadRows (IsBad p ys) e → IfBadRows (IsBad p xs) e
 fault_in_other_order p xs ys h (BadRows bad) told = bad_in_other_order p xs ys h bad.key bad.reason told

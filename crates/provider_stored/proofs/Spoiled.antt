@@ -8,6 +8,7 @@ use Rattle.ocpi_text.specs.Text.{key}
 use Rattle.ocpi_text.specs.declared.own_ids.OwnIdKind.TheVariants.{AuthorizationReference}
 use Rattle.tables.proofs.Elements.{in_front}
 use Rattle.tables.proofs.Options.{not_both}
+use Rattle.ocpi_types.specs.Credits.{AreAlike}
 use Rattle.ocpi_types.specs.Rows.{key_of}
 use Rattle.ocpi_types.specs.declared.cdrs.Cdr.{Cdr}
 use Rattle.ocpi_types.specs.declared.rows.Counter.{Counter}
@@ -32,9 +33,10 @@ use Rattle.provider_rows.specs.State.{Peering, Rows, State}
 use Rattle.provider_stored.specs.Bad.{IsForeign}
 use Rattle.provider_stored.specs.Bad.{IsBad}
 use Rattle.provider_stored.specs.Bad.IsBad.{Repeated, Foreign, NothingCounted, PushNotGiven, CommandNotGiven, ReferenceNotGiven, NumberShared}
-use Rattle.provider_stored.specs.Bad.IsBad.{OtherToken, OtherSession, OtherCdr, ReferenceNotOwn, PushToStranger, CommandToStranger, PushedTwice, BilledTwice}
-use Rattle.provider_stored.specs.Fitting.{HasStrangeReference, IsTaken, Spoils, given_last}
+use Rattle.provider_stored.specs.Bad.IsBad.{OtherToken, OtherSession, OtherCdr, ReferenceNotOwn, PushToStranger, CommandToStranger, PushedTwice, BilledTwice, CreditedTwice}
+use Rattle.provider_stored.specs.Fitting.{HasStrangeReference, IsSaidTwice, IsTaken, Spoils, given_last}
 use Rattle.provider_stored.specs.Fitting.HasStrangeReference.{OfOther, NotGivenYet}
+use Rattle.provider_stored.specs.Fitting.IsSaidTwice.{Bill, Credit}
 use Rattle.provider_stored.specs.Fitting.IsTaken.{NotCounted, HasPush, HasCommand}
 use Rattle.provider_stored.specs.Making.{IsMadeOf}
 use Rattle.stored_rows.specs.Given.{IsNotGiven, IsOwnId}
@@ -127,15 +129,22 @@ cdr_before s v u keyed h =
     let same : cdr_key v ≡ cdr_key u = keyed.inbox.of_cdrs (cdr_key v) u h in
     repeated s (row.Cdr v) (row.Cdr u) (subst (λ k. get s.rows.inbox.cdrs k ≡ Some u) same h) (let back = sym same in λ i. keys.Cdr (back i).0 (back i).1)
 
-pub billed_before : (s : State) (v : Cdr) → AreKeyed s.rows → get s.rows.inbox.cdrs (cdr_key v) ≡ None → IsInConflict s.rows.inbox.cdrs v → Spoils s (row.Cdr v) reason.BilledTwice
-billed_before s v keyed none h peers before rest made order =
+-- the record bills the session as another does, or is a credit of it as another is
+said_twice : (p : Peering) (rows : List Row) (x y : Cdr) (why : BadReason) → IsSaidTwice x why → Contains rows (row.Cdr x) → Contains rows (row.Cdr y) → key x.party ≡ key y.party
+    → key x.id ≢ key y.id → key x.session_id ≡ key y.session_id → AreAlike x y → IsBad p rows (key_of (row.Cdr x)) why
+said_twice p rows x y _ (Bill bill) i j party ids session alike = BilledTwice x y i j party ids session alike bill
+said_twice p rows x y _ (Credit credit) i j party ids session alike = CreditedTwice x y i j party ids session alike credit
+
+pub billed_before : (s : State) (v : Cdr) (why : BadReason) → IsSaidTwice v why → AreKeyed s.rows → get s.rows.inbox.cdrs (cdr_key v) ≡ None → IsInConflict s.rows.inbox.cdrs v
+    → Spoils s (row.Cdr v) why
+billed_before s v why said keyed none h peers before rest made order =
     let u = h.held in
     let own : (key v.party, h.id) ≡ cdr_key u = keyed.inbox.of_cdrs (key v.party, h.id) u h.stands in
     let stands : get s.rows.inbox.cdrs (cdr_key u) ≡ Some u = subst (λ k. get s.rows.inbox.cdrs k ≡ Some u) own h.stands in
     let other : key v.id ≢ h.id = λ same. not_both u (get s.rows.inbox.cdrs (cdr_key v)) none (ap (λ (i : List ℕ). get s.rows.inbox.cdrs (key v.party, i)) same ∙ h.stands) in
     elim h.shares [
       | inl same ↦ absurd (other (sym same))
-      | inr (session, alike) ↦ BilledTwice v u (here before rest (row.Cdr v)) (there peers before rest s (row.Cdr v) (row.Cdr u) made stands)
+      | inr (session, alike) ↦ said_twice peers (before ++ row.Cdr v ∷ rest) v u why said (here before rest (row.Cdr v)) (there peers before rest s (row.Cdr v) (row.Cdr u) made stands)
           (ap (λ (k : List ℕ × List ℕ). k.0) own) (λ same. other (same ∙ sym (ap (λ (k : List ℕ × List ℕ). k.1) own))) (sym session) (sym alike)
     ]
 

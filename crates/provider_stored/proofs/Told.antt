@@ -8,6 +8,8 @@ use Rattle.ocpi_text.specs.Text.{key}
 use Rattle.ocpi_text.specs.declared.own_ids.OwnIdKind.TheVariants.{AuthorizationReference}
 use Rattle.tables.specs.Keys.{text_number_total, text_number_exact}
 use Rattle.tables.proofs.Options.{same_option}
+use Rattle.ocpi_types.specs.Credits.{AreAlike}
+use Rattle.ocpi_types.specs.declared.cdrs.Cdr.{Cdr}
 use Rattle.ocpi_types.specs.declared.rows.Counter.{Counter}
 use Rattle.ocpi_types.specs.declared.rows.Counter.TheVariants as counter
 use Rattle.ocpi_types.specs.declared.rows.Row.{Row}
@@ -26,7 +28,7 @@ use Rattle.provider_rows.specs.State.{Peering, Rows, State, opening}
 use Rattle.provider_rows.specs.Steps.{restarted}
 use Rattle.provider_stored.specs.Bad.{IsBad, IsForeign}
 use Rattle.provider_stored.specs.Bad.IsBad.{Repeated, Foreign, NothingCounted, PushNotGiven, CommandNotGiven, ReferenceNotGiven, NumberShared}
-use Rattle.provider_stored.specs.Bad.IsBad.{OtherToken, OtherSession, OtherCdr, ReferenceNotOwn, PushToStranger, CommandToStranger, PushedTwice, BilledTwice}
+use Rattle.provider_stored.specs.Bad.IsBad.{OtherToken, OtherSession, OtherCdr, ReferenceNotOwn, PushToStranger, CommandToStranger, PushedTwice, BilledTwice, CreditedTwice}
 use Rattle.provider_stored.specs.Fitting.{given_last}
 use Rattle.provider_stored.specs.Making.{BadRowsAreOfNone, IsMadeOf, RowsMakeAgain, RowsTellAll, StartsAgain}
 use Rattle.stored_rows.specs.Given.{IsNotGiven, IsOwnId}
@@ -75,6 +77,13 @@ module _ (p : Peering) (rows : List Row) (s : State) (made : IsMadeOf p rows s) 
       let above : suc g < n = h.above (suc g) ((made.has_rows.exact (row.Count c (suc g))).1 (has_count s.rows c (suc g) e (λ none. omega arith))) in
       omega arith
 
+  -- no session of an operator has two bills, nor two credits
+  not_twice : (x y : Cdr) → Contains rows (row.Cdr x) → Contains rows (row.Cdr y) → key x.party ≡ key y.party → key x.id ≢ key y.id →
+      key x.session_id ≡ key y.session_id → AreAlike x y → ⊥
+  not_twice x y i j party ids session alike =
+      ids (made.whole.once (key y.party) (key x.id) (key y.id) x y
+      (subst (λ (o : List ℕ). get s.rows.inbox.cdrs (o, key x.id) ≡ Some x) party (stands (row.Cdr x) i)) (stands (row.Cdr y) j) session alike)
+
   none_bad : (k : RowKey) (why : BadReason) → IsBad p rows k why → ⊥
   none_bad _ _ (Repeated r) = none_repeated rows made.has_rows.apart r
   none_bad _ _ (Foreign r i f) = no_foreign s.rows r f (stands r i)
@@ -100,9 +109,8 @@ module _ (p : Peering) (rows : List Row) (s : State) (made : IsMadeOf p rows s) 
       strange (subst (λ (t : State). HasPeer t.operators (key c.to)) made.with_peers (sound.commands n c (stands (row.Command n c) i)))
   none_bad _ _ (PushedTwice m n to other a b u apart i j one two) =
       apart (sound.outbox.one_each u m n (record { to = to; push = a }, stands (row.Push m to a) i, one) (record { to = other; push = b }, stands (row.Push n other b) j, two))
-  none_bad _ _ (BilledTwice x y i j party ids session alike) =
-      ids (made.whole.once (key y.party) (key x.id) (key y.id) x y
-      (subst (λ (o : List ℕ). get s.rows.inbox.cdrs (o, key x.id) ≡ Some x) party (stands (row.Cdr x) i)) (stands (row.Cdr y) j) session alike)
+  none_bad _ _ (BilledTwice x y i j party ids session alike bill) = not_twice x y i j party ids session alike
+  none_bad _ _ (CreditedTwice x y i j party ids session alike credit) = not_twice x y i j party ids session alike
 
 pub bad_of_none : BadRowsAreOfNone
 bad_of_none p rows k why bad s _ sound made = none_bad p rows s made sound k why bad

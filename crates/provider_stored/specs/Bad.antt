@@ -3,7 +3,7 @@
 use Rattle.std.specs.Prelude.{◌≡◌, ◌≢◌, ◌⊎◌, ℕ, List, Some, Contains, ⊤}
 use Rattle.ocpi_text.specs.Text.{key}
 use Rattle.ocpi_text.specs.declared.own_ids.OwnIdKind.TheVariants.{AuthorizationReference}
-use Rattle.ocpi_types.specs.Credits.{AreAlike}
+use Rattle.ocpi_types.specs.Credits.{AreAlike, IsBill, IsCredit}
 use Rattle.ocpi_types.specs.Rows.{key_of}
 use Rattle.ocpi_types.specs.declared.cdrs.Cdr.{Cdr}
 use Rattle.ocpi_types.specs.declared.rows.Counter.{Counter}
@@ -56,7 +56,7 @@ pub data IsBad (peers : Peering) (rows : List Row) : RowKey → BadReason → Ty
   OtherSession : (x : Session) → Contains rows (row.Session x) → key x.cdr_token.party ≢ key peers.provider → IsBad peers rows (key_of (row.Session x)) reason.OfOtherParty
   OtherCdr : (x : Cdr) → Contains rows (row.Cdr x) → key x.cdr_token.party ≢ key peers.provider → IsBad peers rows (key_of (row.Cdr x)) reason.OfOtherParty
   ReferenceNotOwn : (n : ℕ) (c : SentCommand) (r : List ℕ) → Contains rows (row.Command n c) → reference_of c.command ≡ Some r →
-      ((number : ℕ) → IsOwnId AuthorizationReference peers.provider r number → ⊥) → IsBad peers rows (keys.Command n) reason.NotOwnId
+      ((number : ℕ) → IsOwnId AuthorizationReference peers.provider r number → ⊥) → IsBad peers rows (keys.Command n) reason.NotOwnReference
   PushToStranger : (n : ℕ) (to : List ℕ) (push : Push) → Contains rows (row.Push n to push) → ¬ HasPeer peers.operators (key to) →
       IsBad peers rows (keys.Push n) reason.UnknownParty
   CommandToStranger : (n : ℕ) (c : SentCommand) → Contains rows (row.Command n c) → ¬ HasPeer peers.operators (key c.to) →
@@ -65,4 +65,6 @@ pub data IsBad (peers : Peering) (rows : List Row) : RowKey → BadReason → Ty
   PushedTwice : (m n : ℕ) (to other : List ℕ) (a b : Push) (u : Subject) → m ≢ n → Contains rows (row.Push m to a) → Contains rows (row.Push n other b) →
       subject to a ≡ Some u → subject other b ≡ Some u → IsBad peers rows (keys.Push m) reason.PushedTwice
   BilledTwice : (x y : Cdr) → Contains rows (row.Cdr x) → Contains rows (row.Cdr y) → key x.party ≡ key y.party → key x.id ≢ key y.id →
-      key x.session_id ≡ key y.session_id → AreAlike x y → IsBad peers rows (key_of (row.Cdr x)) reason.BilledTwice
+      key x.session_id ≡ key y.session_id → AreAlike x y → IsBill x → IsBad peers rows (key_of (row.Cdr x)) reason.BilledTwice
+  CreditedTwice : (x y : Cdr) → Contains rows (row.Cdr x) → Contains rows (row.Cdr y) → key x.party ≡ key y.party → key x.id ≢ key y.id →
+      key x.session_id ≡ key y.session_id → AreAlike x y → IsCredit x → IsBad peers rows (key_of (row.Cdr x)) reason.CreditedTwice

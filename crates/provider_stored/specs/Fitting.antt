@@ -3,7 +3,9 @@ use Rattle.std.specs.Prelude.{◌≡◌, ◌≢◌, ◌<◌, ◌≤◌, ℕ, Lis
 use Rattle.std.specs.List.Sorted.{IsNonDecreasingBy}
 use Rattle.std.specs.FinMap.{get}
 use Rattle.ocpi_text.specs.declared.own_ids.OwnIdKind.TheVariants.{AuthorizationReference}
+use Rattle.ocpi_types.specs.Credits.{IsBill, IsCredit}
 use Rattle.ocpi_types.specs.Rows.{key_of}
+use Rattle.ocpi_types.specs.declared.cdrs.Cdr.{Cdr}
 use Rattle.ocpi_types.specs.declared.rows.Change.TheVariants.{Put}
 use Rattle.ocpi_types.specs.declared.rows.Counter.{Counter}
 use Rattle.ocpi_types.specs.declared.rows.Counter.TheVariants as counter
@@ -59,6 +61,11 @@ pub data IsTaken (r : OutboxRows) (n : ℕ) (of_push of_command : BadReason) : B
   HasPush : (x : Outgoing) → get r.pushes n ≡ Some x → IsTaken r n of_push of_command of_push
   HasCommand : (c : SentCommand) → get r.commands n ≡ Some c → IsTaken r n of_push of_command of_command
 
+-- of two bills of one session one is told as a bill, of two credits as a credit
+pub data IsSaidTwice (x : Cdr) : BadReason → Type 0 where
+  Bill : IsBill x → IsSaidTwice x reason.BilledTwice
+  Credit : IsCredit x → IsSaidTwice x reason.CreditedTwice
+
 -- the reference of the command, if it has one, is the party's own by a number that was given
 pub record IsOwnGiven (party : List ℕ) (last : ℕ) (r : List ℕ) : Type 0 where
   pub number : ℕ
@@ -71,6 +78,6 @@ HasOwnReference party last c = (r : List ℕ) → reference_of c ≡ Some r → 
 -- the command has a reference that is not the party's own, or whose number was not given
 pub data HasStrangeReference (party : List ℕ) (last : ℕ) (c : Command) : BadReason → Type 0 where
   OfOther : (r : List ℕ) → reference_of c ≡ Some r → ((n : ℕ) → IsOwnId AuthorizationReference party r n → ⊥) →
-      HasStrangeReference party last c reason.NotOwnId
+      HasStrangeReference party last c reason.NotOwnReference
   NotGivenYet : (r : List ℕ) (n : ℕ) → reference_of c ≡ Some r → IsOwnId AuthorizationReference party r n → last < n →
       HasStrangeReference party last c reason.NotGiven

@@ -12,6 +12,7 @@ ghost use Rattle.provider_stored.specs.Fitting.{
   IsFit,
   IsFree,
   IsNext,
+  IsSaidTwice,
   IsTaken,
   Spoils,
   given_last,
@@ -111,6 +112,18 @@ fn is_in_conflict(inbox: &Inbox, cdr: &Cdr) -> bool
     )
 }
 
+/// What is said of one of two charge detail records of a session that are both bills, or both credits: which of the two
+/// it is.
+fn twice_reason(cdr: &Cdr) -> BadReason
+    ensures { IsSaidTwice cdr.now result }
+{
+    if cdr.is_credit() {
+        BadReason::CreditedTwice
+    } else {
+        BadReason::BilledTwice
+    }
+}
+
 /// What is wrong with a charge detail record: its token is another party's, or one of that operator and id is held, or
 /// one of its session that is as well a bill or a credit.
 fn cdr_fault(books: &Books, cdr: &Cdr) -> Option<BadReason>
@@ -126,7 +139,7 @@ fn cdr_fault(books: &Books, cdr: &Cdr) -> Option<BadReason>
         return Some(BadReason::Repeated);
     }
     if is_in_conflict(inbox, cdr) {
-        return Some(BadReason::BilledTwice);
+        return Some(twice_reason(cdr));
     }
     None
 }
@@ -207,7 +220,7 @@ fn reference_fault(party: &Party, last: Whole, command: &Command) -> Option<BadR
     };
     let kind = OwnIdKind::AuthorizationReference;
     let Some(number) = own_number(kind, party, reference.as_str()) else {
-        return Some(BadReason::NotOwnId);
+        return Some(BadReason::NotOwnReference);
     };
     if last < number {
         return Some(BadReason::NotGiven);

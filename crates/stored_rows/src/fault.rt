@@ -2,6 +2,7 @@
 
 ghost use Rattle.std.specs.Prelude.{◌≡◌, Some};
 
+use ocpi_text::E4;
 use ocpi_types::RowKey;
 use std::alloc::{AllocError, AllocFailed};
 use std::fmt;
@@ -21,14 +22,22 @@ pub enum BadReason {
     NumberShared,
     /// It is of another party than the node's.
     OfOtherParty,
-    /// Its id, or its authorization reference, is none that the node gives.
+    /// The id of the session or charge detail record is none that the operator gives.
     NotOwnId,
+    /// The authorization reference of the command is none that the provider gives.
+    NotOwnReference,
     /// It is of a party, or to one, with which the node does not deal.
     UnknownParty,
     /// The token of the open start is another provider's.
     TokenOfOtherParty,
-    /// The site has no such EVSE, or no such connector or location of it.
-    UnknownPlace,
+    /// The site has no EVSE of that uid.
+    UnknownEvse,
+    /// The EVSE is of the site, and has no connector of that id.
+    UnknownConnector,
+    /// The EVSE is of the site, and is not at the location that the reservation names.
+    OtherLocation,
+    /// The open start names no EVSE, or no connector.
+    WithoutPlace,
     /// Another row claims its EVSE.
     ClaimedTwice,
     /// The command has no reply.
@@ -37,10 +46,23 @@ pub enum BadReason {
     OpenWithResult,
     /// Another push is about the same, to the same party.
     PushedTwice,
-    /// The session cannot go on: its status is none that a session has, or its cost is not that of its energy.
-    CannotGoOn,
-    /// Another charge detail record is of the same session: both bill it, or both take its bill back.
+    /// The session has the status RESERVATION, which no session of a node has.
+    ReservationStatus,
+    /// The session has no total cost.
+    WithoutCost,
+    /// The session's cost is not that of its energy at the setup's price: another price made it.
+    OtherPrice {
+        /// The energy of the session, in kilowatt-hours.
+        kwh: E4,
+        /// The cost that the session has, without tax.
+        cost: E4,
+        /// What the setup asks for a kilowatt-hour.
+        price: E4,
+    },
+    /// It bills a session that another charge detail record bills.
     BilledTwice,
+    /// It is a credit, and another credit is of the same session.
+    CreditedTwice,
     /// The session of the charge detail record is not there as completed.
     BilledEarly,
     /// The completed session has no bill among the charge detail records.

@@ -1,10 +1,9 @@
 use Rattle.std.proofs.Common.{sym, subst}
 use Rattle.ocpi_types.specs.declared.rows.RowKey.{RowKey}
-use Rattle.stored_rows.specs.declared.fault.BadReason.TheVariants as reason
 use Rattle.tables.specs.Keys.{text_cmp}
 use Rattle.tables.specs.Tables.{shown_of}
 use Rattle.operator_stored.specs.Bills.{BillOf, CreditOf, HasId, InSet, IsMisbilled}
-use Rattle.operator_stored.proofs.Billing.{billed_by, here_of, if_false, if_true, more_below, no_ids, none_below, none_in, once_more, once_none, twice_of}
+use Rattle.operator_stored.proofs.Billing.{billed_by, here_of, more_below, no_ids, none_below, none_in, once_more, once_none, twice_of}
 use Rattle.operator_stored.proofs.bills.add_bills.Goals as goal
 
 pub loop-row-init : goal.loop-row-init
@@ -14,16 +13,16 @@ loop-row-init c = record {
   once = once_none c.args.rows.now;
 }
 
-pub returns-then-is_again-clause-bad : goal.returns-then-is_again-clause-bad
-returns-then-is_again-clause-bad c =
+pub returns-in-Err-clause-bad : goal.returns-in-Err-clause-bad
+returns-in-Err-clause-bad c =
     let at = c.loop-row in
     let here = here_of c.args.rows.now at.row-index c.row-item.result c.loop-row-test.true c.row-item.is in
-    subst (λ (k : RowKey). IsMisbilled c.args.rows.now k reason.BilledTwice) (sym c.key.ensures)
+    subst (λ (k : RowKey). IsMisbilled c.args.rows.now k c.in-Err.reason) (sym c.key.ensures)
     (twice_of c.args.rows.now at.row-index c.row-item.result here (shown_of text_cmp at.bills) at.credits at.invariant.bills at.invariant.credits
-    (if_true _ _ c.is_again.result c.is_again.ensures c.if-is_again.true))
+    c.in-Err.reason c.in-Err.ensures.again)
 
 pub add_bill-requires : goal.add_bill-requires
-add_bill-requires c = if_false _ _ c.is_again.result c.is_again.ensures c.if-is_again.false
+add_bill-requires c = c.in_default.ensures.new
 
 pub loop-row-preserved : goal.loop-row-preserved
 loop-row-preserved c =
@@ -35,7 +34,7 @@ loop-row-preserved c =
       credits = more_below CreditOf c.args.rows.now at.row-index c.row-item.result here (InSet at.credits) at.invariant.credits
           (InSet c.add_bill.new.credits) c.in_ok-add_bill.ensures.credits;
       once = once_more c.args.rows.now at.row-index c.row-item.result here (shown_of text_cmp at.bills) at.credits at.invariant.bills at.invariant.credits at.invariant.once
-          (if_false _ _ c.is_again.result c.is_again.ensures c.if-is_again.false);
+          c.in_default.ensures.new;
     }
 
 pub returns-clause-all : goal.returns-clause-all

@@ -1,12 +1,13 @@
-use Rattle.operator_stored.proofs.Telling.{not_at, is_at, reservation_claimed, reservation_may, reservation_nowhere}
+use Rattle.std.proofs.lemmas.Result.{err_from_is_err_and}
+use Rattle.operator_stored.proofs.Telling.{reservation_claimed, reservation_may, reservation_nowhere}
 use Rattle.operator_stored.proofs.places.may_reserve.Goals as goal
 
-pub returns-then-not-is_at : goal.returns-then-not-is_at
-returns-then-not-is_at c =
-    let s = c.args.books.now.state in
-    let r = c.args.reservation.now in
-    reservation_nowhere s c.args.provider c.args.id r c.requires
-    (λ place. not_at c.is_at.result c.site_book.result.now.site s r c.key-evse.result c.site_book.ensures.site c.key-evse.ensures c.is_at.ensures.1 place c.if-not-is_at.true)
+pub returns-in_err-check_location : goal.returns-in_err-check_location
+returns-in_err-check_location c =
+    let p = err_from_is_err_and c.from_residual.result c.from_residual.ensures.1 in
+    rw (p.1, p.2)
+    (reservation_nowhere c.args.books.now.state c.args.provider c.args.id c.args.reservation.now c.requires c.key-evse.result _ c.key-evse.ensures
+    c.in_err-check_location.ensures.not)
 
 pub returns-then-not-is_unclaimed : goal.returns-then-not-is_unclaimed
 returns-then-not-is_unclaimed c =
@@ -14,8 +15,5 @@ returns-then-not-is_unclaimed c =
 
 pub returns : goal.returns
 returns c =
-    let s = c.args.books.now.state in
-    let r = c.args.reservation.now in
-    reservation_may s c.args.provider c.args.id r c.requires c.key-evse.result c.key-evse.ensures
-    (is_at c.is_at.result c.site_book.result.now.site s r c.key-evse.result c.site_book.ensures.site c.key-evse.ensures c.is_at.ensures.0 c.if-not-is_at.false)
-    c.if-not-is_unclaimed.ensures
+    reservation_may c.args.books.now.state c.args.provider c.args.id c.args.reservation.now c.requires c.key-evse.result c.key-evse.ensures
+    c.in_ok-check_location.ensures.at c.if-not-is_unclaimed.ensures

@@ -1,16 +1,18 @@
 use Rattle.std.proofs.Common.{List, ℕ, subst}
+use Rattle.std.proofs.lemmas.Result.{err_from_is_err_and}
 use Rattle.node_steps.specs.Peers.{HasPeer}
-use Rattle.operator_stored.proofs.TellingSessions.{charge_claimed, charge_may, connector_back, connector_over, session_nowhere, session_of_stranger}
+use Rattle.operator_stored.proofs.TellingSessions.{charge_claimed, charge_may, session_nowhere, session_of_stranger}
 use Rattle.operator_stored.proofs.sessions.may_charge.Goals as goal
 
 pub returns-then-not-is_provider : goal.returns-then-not-is_provider
 returns-then-not-is_provider c = session_of_stranger c.args.books.now.state c.args.session.now c.requires.live
     (subst (λ (k : List ℕ). ¬ HasPeer c.args.books.now.state.providers k) c.key.ensures c.if-not-is_provider.ensures)
 
-pub returns-then-not-has_connector : goal.returns-then-not-has_connector
-returns-then-not-has_connector c = session_nowhere c.args.books.now.state c.args.session.now c.requires.live
-    (connector_back c.has_connector.result c.site_book.result.now.site c.args.books.now.state c.args.session.now c.key-evse.result c.site_book.ensures.site c.key-evse.ensures
-    c.has_connector.ensures.1 c.if-not-has_connector.true)
+pub returns-in_err-check_connector : goal.returns-in_err-check_connector
+returns-in_err-check_connector c =
+    let p = err_from_is_err_and c.from_residual.result c.from_residual.ensures.1 in
+    rw (p.1, p.2)
+    (session_nowhere c.args.books.now.state c.args.session.now c.key-evse.result _ c.key-evse.ensures c.requires.live c.in_err-check_connector.ensures.not)
 
 pub returns-then-not-is_unclaimed : goal.returns-then-not-is_unclaimed
 returns-then-not-is_unclaimed c = charge_claimed c.args.books.now.state c.args.session.now c.key-evse.result c.key-evse.ensures c.requires.next c.requires.live c.requires.own
@@ -19,6 +21,5 @@ returns-then-not-is_unclaimed c = charge_claimed c.args.books.now.state c.args.s
 pub returns : goal.returns
 returns c = charge_may c.args.books.now.state c.args.session.now c.key-evse.result c.key-evse.ensures
     (subst (λ (k : List ℕ). HasPeer c.args.books.now.state.providers k) c.key.ensures c.if-not-is_provider.ensures)
-    (connector_over c.has_connector.result c.site_book.result.now.site c.args.books.now.state c.args.session.now c.key-evse.result c.site_book.ensures.site c.key-evse.ensures
-    c.has_connector.ensures.0 c.if-not-has_connector.false)
+    c.in_ok-check_connector.ensures.of_site
     c.if-not-is_unclaimed.ensures

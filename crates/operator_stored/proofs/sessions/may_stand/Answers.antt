@@ -1,8 +1,12 @@
 use Rattle.std.proofs.Common.{ap, ◌∙◌}
+use Rattle.std.proofs.lemmas.Result.{err_from_is_err_and}
 use Rattle.ocpi_types.specs.declared.site.Site.{Site}
 use Rattle.operator_stored.proofs.TellingSessions.{stuck}
 use Rattle.operator_stored.proofs.sessions.may_stand.Goals as goal
 
-pub returns-then-not-can_go_on : goal.returns-then-not-can_go_on
-returns-then-not-can_go_on c = stuck c.args.books.now.state c.args.session.now c.site.result.now.price
-    (ap (λ (z : Site). z.price) (c.site.ensures ∙ c.site_book.ensures.site)) c.if-not-can_go_on.ensures
+pub returns-in_err-check_version : goal.returns-in_err-check_version
+returns-in_err-check_version c =
+    let p = err_from_is_err_and c.from_residual-in_err-check_version.result c.from_residual-in_err-check_version.ensures.1 in
+    rw (p.1, p.2)
+    (stuck c.args.books.now.state c.args.session.now c.site.result.now.price _
+    (ap (λ (z : Site). z.price) (c.site.ensures ∙ c.site_book.ensures.site)) c.in_err-check_version.ensures.stuck)

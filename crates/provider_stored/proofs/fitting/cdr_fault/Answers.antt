@@ -28,7 +28,7 @@ returns-then-is_in_conflict-clause-spoils c =
     let none = missing_there c.held_cdr.result (get s.rows.inbox.cdrs (cdr_key v))
     (c.held_cdr.ensures ∙ ap (λ (r : InboxRows). get r.cdrs (cdr_key v)) c.inbox-inbox.ensures) (sym c.is_some.ensures ∙ c.if-is_some.false) in
     let h = c.is_in_conflict.ensures.0 c.if-is_in_conflict.true in
-    billed_before s v c.keys_are_own.ensures none (subst (λ (r : InboxRows). IsInConflict r.cdrs v) c.inbox-inbox.ensures h)
+    billed_before s v c.twice_reason.result c.twice_reason.ensures c.keys_are_own.ensures none (subst (λ (r : InboxRows). IsInConflict r.cdrs v) c.inbox-inbox.ensures h)
 
 pub returns-clause-fits : goal.returns-clause-fits
 returns-clause-fits c =

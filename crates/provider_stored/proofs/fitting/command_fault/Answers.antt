@@ -1,5 +1,4 @@
-use Rattle.std.proofs.Common.{◌≡◌, ℕ, List, true, false, sym, subst, ap, ◌∙◌}
-use Rattle.std.specs.Prelude.{Option}
+use Rattle.std.proofs.Common.{◌≡◌, true, false, sym, subst, ap, ◌∙◌}
 use Rattle.token_desk.specs.Stored as desk
 use Rattle.outbox.specs.Outbox.{OutboxRows}
 use Rattle.provider_stored.specs.Fitting.{IsFree, IsTaken}

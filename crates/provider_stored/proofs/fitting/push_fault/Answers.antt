@@ -1,5 +1,5 @@
-use Rattle.std.proofs.Common.{◌≡◌, ℕ, true, false, sym, ap, subst, ◌∙◌}
-use Rattle.std.specs.Prelude.{IfNone, IfSome, Option, None}
+use Rattle.std.proofs.Common.{◌≡◌, ℕ, true, false, sym, subst, ◌∙◌}
+use Rattle.std.specs.Prelude.{Option, None}
 use Rattle.outbox.specs.Outbox.{OutboxRows}
 use Rattle.outbox.specs.Pushes.{IsReplaced, subject}
 use Rattle.provider_stored.specs.Fitting.{IsFree, IsTaken}

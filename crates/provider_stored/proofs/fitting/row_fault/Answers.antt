@@ -55,18 +55,3 @@ returns-in-Command-clause-spoils c =
 
 pub returns-in-Service-clause-spoils : goal.returns-in-Service-clause-spoils
 returns-in-Service-clause-spoils c = foreign c.args.books.now.state c.args.row.now (foreign_row c.args.row.now c.in-Service.is)
-
-pub returns-in-Service-2-clause-spoils : goal.returns-in-Service-2-clause-spoils
-returns-in-Service-2-clause-spoils c = foreign c.args.books.now.state c.args.row.now (foreign_row c.args.row.now c.in-Service.is)
-
-pub returns-in-Service-3-clause-spoils : goal.returns-in-Service-3-clause-spoils
-returns-in-Service-3-clause-spoils c = foreign c.args.books.now.state c.args.row.now (foreign_row c.args.row.now c.in-Service.is)
-
-pub returns-in-Service-4-clause-spoils : goal.returns-in-Service-4-clause-spoils
-returns-in-Service-4-clause-spoils c = foreign c.args.books.now.state c.args.row.now (foreign_row c.args.row.now c.in-Service.is)
-
-pub returns-in-Service-5-clause-spoils : goal.returns-in-Service-5-clause-spoils
-returns-in-Service-5-clause-spoils c = foreign c.args.books.now.state c.args.row.now (foreign_row c.args.row.now c.in-Service.is)
-
-pub returns-in-Service-6-clause-spoils : goal.returns-in-Service-6-clause-spoils
-returns-in-Service-6-clause-spoils c = foreign c.args.books.now.state c.args.row.now (foreign_row c.args.row.now c.in-Service.is)
