@@ -137,15 +137,29 @@ def found_bad(party, shows):
     line("\t".join(["reopen " + party, *told]), "bad rows, as told")
 
 
+def with_numbers(reason, row):
+    """The reason as it is told of that row, in ten-thousandths: another price with the row's energy and cost, and the site's price."""
+    if reason != "OtherPrice":
+        return reason
+    numbers = {"kwh": row[2]["kwh"], "cost": row[2]["total_cost"]["excl_vat"], "price": str(SITE["site"]["price"])}
+    told = ["%s: E4 { units: %d }" % (name, Decimal(number) * 10**4) for name, number in numbers.items()]
+    return "OtherPrice { %s }" % ", ".join(told)
+
+
 def bad(node, reason, *rows, shows=None):
     """No node is made of these rows: the last one shows it, or one of those of which the places are told."""
+    bad_for(node, {place: reason for place in shows or [-1]}, *rows)
+
+
+def bad_for(node, reasons, *rows):
+    """No node is made of these rows: one of these places shows it, each for its reason."""
     party = "BE/BEC" if node is Operators else "NL/TNM"
     names = {REASONS[fault] for fault in node().faults(rows)}
-    if names != {reason}:
-        sys.exit(f"other faults than {reason}: {names}")
-    TOLD.add(reason)
+    if names != set(reasons.values()):
+        sys.exit(f"other faults than {reasons}: {names}")
+    TOLD.update(names)
     store(BOTH, rows)
-    found_bad(party, [(*rows[place][:2], reason) for place in shows or [-1]])
+    found_bad(party, [(*rows[place][:2], with_numbers(reason, rows[place])) for place, reason in reasons.items()])
     line("texts", *kept(rows))
 
 
@@ -155,12 +169,15 @@ REASONS = {
     "SessionNotGiven": "NotGiven", "CdrNotGiven": "NotGiven", "CommandNotGiven": "NotGiven", "ReferenceNotGiven": "NotGiven",
     "NumberShared": "NumberShared", "SessionOfOther": "OfOtherParty", "CdrOfOther": "OfOtherParty", "OtherToken": "OfOtherParty",
     "OtherSession": "OfOtherParty", "OtherCdr": "OfOtherParty", "SessionIdNotOwn": "NotOwnId", "CdrIdNotOwn": "NotOwnId",
-    "ReferenceNotOwn": "NotOwnId", "PushToStranger": "UnknownParty", "TokenOfStranger": "UnknownParty",
+    "ReferenceNotOwn": "NotOwnReference", "PushToStranger": "UnknownParty", "TokenOfStranger": "UnknownParty",
     "CommandOfStranger": "UnknownParty", "SessionOfStranger": "UnknownParty", "CommandToStranger": "UnknownParty",
-    "StartOfOtherToken": "TokenOfOtherParty", "ServiceNowhere": "UnknownPlace", "ReservationNowhere": "UnknownPlace",
-    "StartNowhere": "UnknownPlace", "SessionNowhere": "UnknownPlace", "ClaimedTwice": "ClaimedTwice", "OpenUnanswered": "Unanswered",
-    "ResultUnanswered": "Unanswered", "OpenWithResult": "OpenWithResult", "PushedTwice": "PushedTwice", "Stuck": "CannotGoOn",
-    "BilledTwice": "BilledTwice", "BilledEarly": "BilledEarly", "Unbilled": "Unbilled", "CreditWithoutBill": "CreditWithoutBill",
+    "StartOfOtherToken": "TokenOfOtherParty", "ServiceNowhere": "UnknownEvse", "ReservationNowhere": "UnknownEvse",
+    "StartNowhere": "UnknownEvse", "SessionNowhere": "UnknownEvse", "StartAtNoConnector": "UnknownConnector",
+    "SessionAtNoConnector": "UnknownConnector", "ReservationElsewhere": "OtherLocation", "StartWithoutEvse": "WithoutPlace",
+    "StartWithoutConnector": "WithoutPlace", "ClaimedTwice": "ClaimedTwice", "OpenUnanswered": "Unanswered",
+    "ResultUnanswered": "Unanswered", "OpenWithResult": "OpenWithResult", "PushedTwice": "PushedTwice",
+    "OfReservation": "ReservationStatus", "CostMissing": "WithoutCost", "OtherPrice": "OtherPrice", "BilledTwice": "BilledTwice",
+    "CreditedTwice": "CreditedTwice", "BilledEarly": "BilledEarly", "Unbilled": "Unbilled", "CreditWithoutBill": "CreditWithoutBill",
 }
 # Those of which a store was told.
 TOLD = set()
@@ -183,18 +200,25 @@ def bad_operators():
     bad(Operators, "UnknownParty", reply(1, STRANGER), open_unlock(1, STRANGER))
     bad(Operators, "UnknownParty", sessions, session(1, owner=STRANGER))
     bad(Operators, "TokenOfOtherParty", reply(1), open_start(1, owner="DE/EMP"))
-    bad(Operators, "UnknownPlace", out_of_service("E2"), out_of_service("E4"))
-    bad(Operators, "UnknownPlace", reserved("R1", "E3", "LOC1"))
-    bad(Operators, "UnknownPlace", reply(1), open_start(1, "E4"))
-    bad(Operators, "UnknownPlace", sessions, session(1, connector="2"))
+    bad(Operators, "UnknownEvse", out_of_service("E2"), out_of_service("E4"))
+    bad(Operators, "UnknownEvse", reserved("R1", "E4", "LOC1"))
+    bad(Operators, "OtherLocation", reserved("R1", "E3", "LOC1"))
+    bad(Operators, "UnknownEvse", reply(1), open_start(1, "E4"))
+    bad(Operators, "UnknownConnector", reply(1), open_start(1, "E1", connector="2"))
+    bad(Operators, "WithoutPlace", reply(1), open_start(1, None))
+    bad(Operators, "WithoutPlace", reply(1), open_start(1, "E1", connector=None))
+    bad(Operators, "UnknownEvse", sessions, session(1, evse="E4"))
+    bad(Operators, "UnknownConnector", sessions, session(1, connector="2"))
     bad(Operators, "ClaimedTwice", reserved("R1", "E1"), reserved("R2", "E1"), shows=[0, 1])
     bad(Operators, "ClaimedTwice", sessions, reply(1), session(1), open_start(1, "E1"), shows=[2, 3])
     bad(Operators, "Unanswered", reply(2), open_start(1))
     bad(Operators, "Unanswered", reply(2), settled(1))
     bad(Operators, "OpenWithResult", reply(1), open_unlock(1), settled(1), shows=[1, 2])
     bad(Operators, "PushedTwice", requests, sessions, session_push(1, done), session_push(2, done), shows=[2, 3])
-    bad(Operators, "CannotGoOn", sessions, session(1, kwh="12.3456", cost="3.0865"))
-    bad(Operators, "CannotGoOn", sessions, session(1, "RESERVATION"))
+    bad(Operators, "OtherPrice", sessions, session(1, kwh="12.3456", cost="3.0865"))
+    bad(Operators, "OtherPrice", sessions, cdrs, session(1, "COMPLETED", "12.3456", "3.7036"), bill(1), shows=[2])
+    bad(Operators, "WithoutCost", sessions, session(1, cost=None))
+    bad(Operators, "ReservationStatus", sessions, session(1, "RESERVATION"))
     bad(Operators, "BilledTwice", sessions, cdrs, done, bill(1), bill(2, 1), shows=[3, 4])
     bad(Operators, "BilledEarly", sessions, cdrs, session(1, "ACTIVE"), bill(1))
     bad(Operators, "Unbilled", sessions, cdrs, done)
@@ -202,7 +226,9 @@ def bad_operators():
     bad(Operators, "CreditWithoutBill", *twice, credit(2, 1))
     bad(Operators, "CreditWithoutBill", *twice, credit(3, 1))
     bad(Operators, "CreditWithoutBill", *twice, credit(2, 2, taken_back=bill(1)[2]["id"]))
-    bad(Operators, "BilledTwice", *twice, bill(3, 1), credit(1), credit(3, 1), shows=[4, 6, 7, 8])
+    bad(Operators, "BilledTwice", *twice, bill(3, 1), credit(1), shows=[4, 6])
+    both = {4: "BilledTwice", 6: "BilledTwice", 7: "CreditedTwice", 8: "CreditedTwice"}
+    bad_for(Operators, both, *twice, bill(3, 1), credit(1), credit(3, 1))
     bad(Operators, "BilledEarly", sessions, cdrs, session(1, "ACTIVE"), bill(1), credit(1), shows=[3, 4])
     bad(Operators, "NotGiven", sessions, done, bill(1), credit(1), shows=[2, 3])
     bad(Operators, "NotOwnId", sessions, cdrs, done, bill(1, name="C1"), credit(1, name="C1-C", taken_back="C1"), shows=[3, 4])
@@ -220,20 +246,20 @@ def bad_providers():
     bad(Providers, "OfOtherParty", token_row("AA02"), token_row(party="DE/EMP"))
     bad(Providers, "OfOtherParty", held_session("S2"), held_session(owner="DE/EMP"))
     bad(Providers, "OfOtherParty", held_bill("C2", "S2"), held_bill(owner="DE/EMP"))
-    bad(Providers, "NotOwnId", requests, references, command(3, own_reference(1, "DE/EMP")))
+    bad(Providers, "NotOwnReference", requests, references, command(3, own_reference(1, "DE/EMP")))
     bad(Providers, "UnknownParty", requests, token_push(1, to=STRANGER))
     bad(Providers, "UnknownParty", requests, stop_command(1, STRANGER))
     bad(Providers, "PushedTwice", requests, token_push(1), token_push(2), shows=[1, 2])
     bad(Providers, "BilledTwice", held_bill(), held_bill("C2", "S1"), shows=[0, 1])
-    bad(Providers, "BilledTwice", held_bill(), held_credit(), held_credit("C2-C", "s1"), shows=[1, 2])
+    bad(Providers, "CreditedTwice", held_bill(), held_credit(), held_credit("C2-C", "s1"), shows=[1, 2])
     bad(Providers, "OfOtherParty", held_credit(owner="DE/EMP"))
 
 
 def each_reason_is_told():
     """Each reason but `Repeated`, since a store has one row of a kind and a key."""
     source = (CRATES / "stored_rows" / "src" / "fault.rt").read_text(encoding="utf-8")
-    body = source.split("pub enum BadReason {", 1)[1].split("}", 1)[0]
-    missing = set(re.findall(r"^    (\w+),", body, re.MULTILINE)) - TOLD - {"Repeated"}
+    body = source.split("pub enum BadReason {", 1)[1].split("\n}", 1)[0]
+    missing = set(re.findall(r"^    ([A-Z]\w*)(?:,| \{)$", body, re.MULTILINE)) - TOLD - {"Repeated"}
     if missing:
         sys.exit(f"no store is bad for {missing}")
 
@@ -242,7 +268,7 @@ def each_reason_is_told():
 # and a complete session has no record of the operator's own.
 WRONG_ELSEWHERE = {
     "cdr": ["OfOtherParty", "NotOwnId", "NotGiven", "BilledEarly"], "session": ["OfOtherParty", "NotOwnId", "NotGiven", "Unbilled"],
-    "command": ["OfOtherRole", "NotOwnId"], "spent": ["OfOtherRole"], "result": ["OfOtherRole"], "token": ["OfOtherParty"],
+    "command": ["OfOtherRole", "NotOwnReference"], "spent": ["OfOtherRole"], "result": ["OfOtherRole"], "token": ["OfOtherParty"],
 }
 # Counters of one role.
 COUNTERS = ("session", "cdr", "reference")

@@ -42,7 +42,7 @@ from stored_rules import LAST_NUMBER
 
 STRANGER = "AT/XXX"
 # Of the rows for which one is named another is shown beside it.
-SHOWN_BESIDE = {"ResultOfOpen": "OpenWithResult"}
+SHOWN_BESIDE = {("operator_stored", "ResultOfOpen"): "OpenWithResult", ("operator_stored", "CreditedTwice"): "BilledTwice"}
 CRATES = pathlib.Path(__file__).resolve().parents[2] / "crates"
 
 
@@ -133,17 +133,23 @@ def parties_of_operators(node):
 def places_of_operators(node):
     counted, answered = [count("session", 9)], [reply(1), reply(2, "DE/EMP")]
     beside(node, [out_of_service("e3")], [out_of_service("E4")], "ServiceNowhere")
-    for evse, where in (("E3", "LOC1"), ("E1", "LOC2"), ("E4", "LOC1"), ("E1", "LOC3"), ("1", "LOC1")):
+    for evse, where in (("E4", "LOC1"), ("E4", "LOC3"), ("1", "LOC1")):
         beside(node, [reserved("R1", "e3", "loc2")], [reserved("R1", evse, where)], "ReservationNowhere")
-    for evse, connector in (("E4", "1"), ("E1", "2"), (None, "1"), ("E1", None), (None, None)):
+    for evse, where in (("E3", "LOC1"), ("E1", "LOC2"), ("E1", "LOC3")):
+        beside(node, [reserved("R1", "e3", "loc2")], [reserved("R1", evse, where)], "ReservationElsewhere")
+    without = ["StartWithoutEvse", "StartWithoutConnector"]
+    starts = {("E4", "1"): ["StartNowhere"], ("E4", "2"): ["StartNowhere"], ("E1", "2"): ["StartAtNoConnector"], (None, "1"): without[:1],
+              ("E1", None): without[1:], (None, None): without, ("E4", None): ["StartNowhere", *without[1:]]}
+    for (evse, connector), faults in starts.items():
         inside = [reply(1), open_start(1, "e1", connector="1", where="LOC2")]
-        beside(node, inside, [reply(1), open_start(1, evse, connector=connector)], "StartNowhere")
+        beside(node, inside, [reply(1), open_start(1, evse, connector=connector)], *faults)
     # Another command has no place.
     makes(node, [*answered, open_unlock(1, evse_uid="E4", connector_id="2"), open_unlock(2, "DE/EMP", evse_uid="E1")])
-    for evse, connector in (("E4", "1"), ("E1", "2"), ("", "1")):
+    nowhere = "SessionNowhere"
+    for evse, connector, fault in (("E4", "1", nowhere), ("E1", "2", "SessionAtNoConnector"), ("", "1", nowhere)):
         for status in ("PENDING", "ACTIVE"):
             inside = [*counted, session(1, status, evse="e1", where="LOC2"), session(2, "INVALID", evse=evse, connector=connector)]
-            beside(node, inside, [*counted, session(1, status, evse=evse, connector=connector)], "SessionNowhere")
+            beside(node, inside, [*counted, session(1, status, evse=evse, connector=connector)], fault)
 
 
 def claims(node):
@@ -202,10 +208,12 @@ def sessions(node):
     counted = [count("session", 19), count("cdr", 19)]
     for status in ("PENDING", "ACTIVE", "INVALID"):
         for kwh, right, wrong in (("0.0000", "0.0000", "0.0001"), ("12.3456", "3.0864", "3.0863"), ("0.0007", "0.0001", "0.0002")):
-            beside(node, [*counted, session(1, status, kwh, right)], [*counted, session(1, status, kwh, wrong)], "Stuck")
-        beside(node, [*counted, session(1, status)], [*counted, session(1, status, cost=None)], "Stuck")
-        beside(node, [*counted, session(1, status)], [*counted, session(1, "RESERVATION")], "Stuck")
-    beside(node, [*counted, *charged(1, kwh="0.0003")], [*counted, *charged(1, kwh="0.0003", cost="0.0001")], "Stuck")
+            beside(node, [*counted, session(1, status, kwh, right)], [*counted, session(1, status, kwh, wrong)], "OtherPrice")
+        beside(node, [*counted, session(1, status)], [*counted, session(1, status, cost=None)], "CostMissing")
+        beside(node, [*counted, session(1, status)], [*counted, session(1, "RESERVATION")], "OfReservation")
+    beside(node, [*counted, *charged(1, kwh="0.0003")], [*counted, *charged(1, kwh="0.0003", cost="0.0001")], "OtherPrice")
+    beside(node, [*counted, session(1)], [*counted, session(1, "RESERVATION", cost=None)], "OfReservation", "CostMissing")
+    beside(node, [*counted, session(1)], [*counted, session(1, "RESERVATION", cost="0.0001")], "OfReservation", "OtherPrice")
     # Bills.
     two = [*counted, session(1, "COMPLETED"), session(10, "COMPLETED"), bill(1, 10), bill(2, 1)]
     beside(node, two, [*two, bill(3, 10)], "BilledTwice")
@@ -239,8 +247,8 @@ def credits(node):
     # A credit bills no session.
     beside(node, [*both, credit(1)], [*counted, *two, one[0], bill(2), credit(1)], "CreditWithoutBill")
     twice = [*both, bill(11, 10), credit(10, 10), credit(11, 10)]
-    beside(node, [*both, credit(10, 10), credit(1)], twice, "BilledTwice")
-    beside(node, [*both, credit(10, 10)], [*both, credit(10, 10), credit(11, 10)], "BilledTwice", "CreditWithoutBill")
+    beside(node, [*both, credit(10, 10), credit(1)], twice, "BilledTwice", "CreditedTwice")
+    beside(node, [*both, credit(10, 10)], [*both, credit(10, 10), credit(11, 10)], "CreditedTwice", "CreditWithoutBill")
     for status in ("PENDING", "ACTIVE", "INVALID"):
         beside(node, [*both, credit(1)], [*counted, *two, session(1, status), bill(1), credit(1)], "BilledEarly")
     add_ids_of_credits(node, counted, two)
@@ -338,7 +346,7 @@ def parties_of_providers(node):
     for other in (held_credit("C2-C", "s1"), held_credit("C2", "S1", taken_back="C2")):
         for beside_it in ([], [held_bill()]):
             apart = [held_credit(), held_credit("C2-C", "S2"), *beside_it]
-            beside(node, apart, [held_credit(), other, *beside_it], "BilledTwice")
+            beside(node, apart, [held_credit(), other, *beside_it], "CreditedTwice")
     beside(node, [held_credit(), held_bill()], [held_credit("c1"), held_bill()], "Repeated")
     for owner in (STRANGER, "BE/BEC"):
         beside(node, [held_bill(), held_credit()], [held_bill(), held_credit(owner=owner)], "OtherCdr")
@@ -358,5 +366,5 @@ def add_faults():
     for crate in (operators.crate, providers.crate):
         _, reasons = (CRATES / crate / "specs" / "Bad.antt").read_text(encoding="utf-8").split("pub data IsBad", 1)
         for reason in re.findall(r"^  ([A-Z]\w*) :", reasons, re.MULTILINE):
-            if (crate, SHOWN_BESIDE.get(reason, reason)) not in ALONE:
+            if (crate, SHOWN_BESIDE.get((crate, reason), reason)) not in ALONE:
                 sys.exit(f"no rows of {crate} are bad for {reason} alone")

@@ -104,8 +104,16 @@ class Site:
                 connectors = [connector["id"].upper() for connector in evse["connectors"]]
                 self.evses[evse["uid"].upper()] = (location["id"].upper(), connectors)
 
-    def has_connector(self, evse, connector):
-        return connector.upper() in self.evses.get(evse.upper(), ("", []))[1]
+    def has(self, evse):
+        return evse.upper() in self.evses
+
+    def lacks_connector(self, evse, connector):
+        """The EVSE is of the site, and the connector none of it."""
+        return self.has(evse) and connector.upper() not in self.evses[evse.upper()][1]
+
+    def is_elsewhere(self, evse, location):
+        """The EVSE is of the site, and not at that location."""
+        return self.has(evse) and self.evses[evse.upper()][0] != location.upper()
 
     def cost(self, kwh):
         """In ten-thousandths, rounded down."""
@@ -148,8 +156,15 @@ def command_faults(rows, site):
         yield "CommandOfStranger"
     if any(party_of(tree["body"]["token"]) != owner_and_rest(key)[0] for key, tree in starts):
         yield "StartOfOtherToken"
-    if not all(site.has_connector(tree.get("evse_uid", ""), tree.get("connector_id", "")) for _, tree in starts):
+    places = [(tree.get("evse_uid"), tree.get("connector_id")) for _, tree in starts]
+    if any(evse is None for evse, _ in places):
+        yield "StartWithoutEvse"
+    if any(connector is None for _, connector in places):
+        yield "StartWithoutConnector"
+    if any(evse is not None and not site.has(evse) for evse, _ in places):
         yield "StartNowhere"
+    if any(None not in place and site.lacks_connector(*place) for place in places):
+        yield "StartAtNoConnector"
     if any(key not in replies for key, _ in commands):
         yield "OpenUnanswered"
     if results - replies:
@@ -167,10 +182,14 @@ def place_faults(rows, site):
         yield "SessionOfStranger"
     if any(key not in site.evses for key, _ in of_kind(rows, "service")):
         yield "ServiceNowhere"
-    if any(site.evses.get(tree["evse_uid"].upper(), ("?",))[0] != tree["location_id"].upper() for tree in reserved):
+    if not all(site.has(tree["evse_uid"]) for tree in reserved):
         yield "ReservationNowhere"
-    if not all(site.has_connector(tree["evse_uid"], tree["connector_id"]) for tree in live):
+    if any(site.is_elsewhere(tree["evse_uid"], tree["location_id"]) for tree in reserved):
+        yield "ReservationElsewhere"
+    if not all(site.has(tree["evse_uid"]) for tree in live):
         yield "SessionNowhere"
+    if any(site.lacks_connector(tree["evse_uid"], tree["connector_id"]) for tree in live):
+        yield "SessionAtNoConnector"
     made = [claim for row in rows for claim in claims(*row)]
     if any(one[0] == other[0] and one[1] != other[1] for one, other in pairs(made)):
         yield "ClaimedTwice"
@@ -181,12 +200,14 @@ def bill_faults(rows, site):
     records = [tree for _, tree in of_kind(rows, "cdr")]
     told = [(tree["id"].upper(), tree["session_id"].upper(), tree["credit"]) for tree in records]
     ended = [tree["id"].upper() for tree in sessions if tree["status"] == "COMPLETED"]
-    for tree in sessions:
-        cost = tree.get("total_cost", {}).get("excl_vat")
-        if tree["status"] == "RESERVATION" or cost is None or int(Decimal(cost) * 10**4) != site.cost(tree["kwh"]):
-            yield "Stuck"
-    if any(one[0] != other[0] and one[1:] == other[1:] for one, other in pairs(told)):
-        yield "BilledTwice"
+    costs = [(tree["kwh"], tree["total_cost"]["excl_vat"]) for tree in sessions if "total_cost" in tree]
+    if any(tree["status"] == "RESERVATION" for tree in sessions):
+        yield "OfReservation"
+    if len(costs) < len(sessions):
+        yield "CostMissing"
+    if any(int(Decimal(cost) * 10**4) != site.cost(kwh) for kwh, cost in costs):
+        yield "OtherPrice"
+    yield from {again(one[2]) for one, other in pairs(told) if one[0] != other[0] and one[1:] == other[1:]}
     if any(session not in ended for _, session, _ in told):
         yield "BilledEarly"
     if any(session not in [it for _, it, is_credit in told if not is_credit] for session in ended):
@@ -194,6 +215,11 @@ def bill_faults(rows, site):
     bills = [tree for tree in records if not tree["credit"]]
     if any(tree["credit"] and not any(takes_back(tree, bill) for bill in bills) for tree in records):
         yield "CreditWithoutBill"
+
+
+def again(is_credit):
+    """What two bills, or two credits, of one session are."""
+    return "CreditedTwice" if is_credit else "BilledTwice"
 
 
 def takes_back(credit, bill):
@@ -245,8 +271,8 @@ def provider_faults(parties, rows):
         faults.add("NumberShared")
     if any(tree["to"].upper() not in operators for _, tree in commands):
         faults.add("CommandToStranger")
-    if any(one[0] == other[0] and one[1] != other[1] and one[2:] == other[2:] for one, other in pairs(told)):
-        faults.add("BilledTwice")
+    alike = [(one, other) for one, other in pairs(told) if one[0] == other[0] and one[2:] == other[2:]]
+    faults.update(again(one[3]) for one, other in alike if one[1] != other[1])
     if any(party_of(tree) != provider for _, tree in of_kind(rows, "token")):
         faults.add("OtherToken")
     if any(party_of(tree["cdr_token"]) != provider for _, tree in of_kind(rows, "session")):

@@ -30,12 +30,15 @@ pub struct NodeWords<'a> {
     pub party: &'a str,
     /// The file of its rows, which are in memory where there is none.
     pub store: Option<&'a str>,
+    /// Whether that file must stand, and none is made.
+    pub existing: bool,
     /// Whether each line of the input is written before what it gives.
     pub echo: bool,
 }
 
-/// Takes the command line `ocpi_nodes [answer | play [--store DIR] | node PARTY [--store FILE] [--echo] | settle FILE |
-/// weave FILE.. | help [COMMAND]]`, or gives clap's text: the help or the version that was asked for, or what is wrong.
+/// Takes the command line `ocpi_nodes [answer | play [--store DIR] | node PARTY [--store FILE [--existing]] [--echo] |
+/// settle FILE | weave FILE.. | help [COMMAND]]`, or gives clap's text: the help or the version that was asked for, or
+/// what is wrong.
 pub fn take_words<'a>(alloc: Global, words: &'a [String]) -> Result<Word<'a>, Error> {
     let command = Command::new(alloc, "ocpi_nodes")
         .version("0.1.0")
@@ -95,6 +98,11 @@ fn node<'a>(alloc: Global) -> Result<Command<'a>, Error> {
         .long("store")
         .value_name("FILE")
         .help("Keep the node's rows in this file, and go on from what it has");
+    let existing = Arg::new(alloc, "existing")
+        .long("existing")
+        .action(ArgAction::SetTrue)
+        .help("Make no file: refuse where none stands, as at any start but a node's first")
+        .requires_arg("store")?;
     let echo = Arg::new(alloc, "echo")
         .long("echo")
         .action(ArgAction::SetTrue)
@@ -104,6 +112,7 @@ fn node<'a>(alloc: Global) -> Result<Command<'a>, Error> {
         .after_help(help::NODE)
         .arg(party)?;
     let command = with_arg(command, store)?;
+    let command = with_arg(command, existing)?;
     with_arg(command, echo)
 }
 
@@ -156,6 +165,7 @@ fn word_of<'a>(matches: &ArgMatches<'a>) -> Word<'a> {
         return Word::Node(NodeWords {
             party: given.get_str("party").unwrap_or(""),
             store: given.get_str("store"),
+            existing: given.get_flag("existing"),
             echo: given.get_flag("echo"),
         });
     }

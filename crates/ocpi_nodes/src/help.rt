@@ -60,9 +60,9 @@ Output, on standard output:
   What was answered is written before the program waits for more input.
 
 Stores: with --store DIR the rows of the i-th node, from 1, are kept in the file DIR/node<i>.db. The
-  folder must exist, and the files must not. The rows that an event changes are there before its
-  packets are written. Until the end of the run DIR/node<i>.db-wal is part of it. docs/STORE.md has
-  the tables, and what to ask them.
+  folder must exist, and the files must not: they are made, for their owner alone (mode 0600). The
+  rows that an event changes are there before its packets are written. Until the end of the run
+  DIR/node<i>.db-wal is part of it. docs/STORE.md has the tables, and what to ask them.
 
 Exit status:
   0  no line was refused
@@ -98,10 +98,12 @@ Output, on standard output:
   `line` is the number of the line, from 1, empty ones counted. All that a line gives is written
   before the next line is carried out. With --echo each line is written before what it gives.
 
-Store: with --store FILE the node's rows are kept in that file, which is made where it is missing.
-  Where it has rows, the node goes on from them. The rows that an event changes are there before its
-  packets are written. Until the end of the run FILE-wal is part of it. docs/STORE.md has the
-  tables, and what to ask them.
+Store: with --store FILE the node's rows are kept in that file, which is made where it is missing,
+  for its owner alone (mode 0600). Where it has rows, the node goes on from them. The rows that an
+  event changes are there before its packets are written. Until the end of the run FILE-wal is part
+  of it. docs/STORE.md has the tables, and what to ask them.
+  With --existing too no file is made: where none stands, the store refuses. Give it at each start
+  but a node's first, since a node that begins anew gives numbers again that partners have seen.
 
 Exit status:
   0  no line was refused
@@ -109,7 +111,7 @@ Exit status:
   2  the command line is wrong, or the setup has no such party
   3  the store refused, or no such node has just its rows: standard error has `store: N Name`, and
      then which file or row, why, and what to do. That ends the run, and nothing of that line is
-     written; where it could not be closed at the end, all is written
+     written but its echo; where it could not be closed at the end, all is written
 
 Example, in the folder of the repository:
   ./ocpi_nodes node BE/BEC --store be.db < examples/operators_day.jsonl"#;
@@ -117,6 +119,7 @@ Example, in the folder of the repository:
 /// After the help of `settle`.
 pub const SETTLE: &str =
     r#"Input: the rows of a file that `play --store` or `node --store` made; standard input is not read.
+  A store of version 1 is moved to version 2 for good: earlier programs do not read it then.
 
 Output, on standard output: what is owed by the charge detail records of the file to each operator
   in each currency, as `owed BE/BEC EUR 3.0864`, by operator and then by currency.

@@ -1,12 +1,11 @@
 //! OCPI nodes as programs over lines of JSON.
 #![tactic(auto)]
 
-ghost use Rattle.std.specs.Prelude.{◌≡◌, ◌≢◌, IfErr, IfOk, OnOk, Err, Ok};
+ghost use Rattle.std.specs.Prelude.{◌≡◌, ◌≢◌};
 ghost use Rattle.clap.specs.Values.{kind_of};
-ghost use Rattle.node_programs.specs.Stops.{play_status};
-ghost use Rattle.node_runs.specs.Stops.{node_status};
 
 mod command;
+mod endings;
 mod help;
 mod refusal;
 mod weaving;
@@ -14,17 +13,15 @@ mod weaving;
 use clap::Error;
 use clap::error::ErrorKind;
 use command::{NodeWords, WRONG_WORDS, Word, status_after, take_words};
+use endings::{Told, and_closed, and_node_closed, let_go, report, report_node};
 use line_runs::{LineReader, Ran, RunFault};
-use node_keepers::{FileKeeps, Keeps, ListKeeps, StoreFile, close_all, rows_in};
-use node_programs::{PlayFault, run_answer, run_play, run_settle, status_after_play};
-use node_runs::{NodeRunFault, NodeStop, run_node, status_after_node};
+use node_keepers::{FileKeeps, Found, Keeps, ListKeeps, StoreFile, close_all, rows_in};
+use node_programs::{PlayFault, run_answer, run_play, run_settle};
+use node_runs::{NodeRunFault, run_node};
 use node_store::StoreFault;
-use ocpi_json::{RowKind, write_key};
-use ocpi_types::Word as WordOf;
-use refusal::{words_for, words_for_reason};
+use sqlite::Unknown;
 use std::io::{self, BufReader, BufWriter, IsTerminal, Write};
 use std::process::ExitCode;
-use stored_rows::BadRow;
 use weaving::{report_weave, weave_files};
 
 /// What one read asks for, and what is written at once, in bytes.
@@ -46,30 +43,6 @@ fn run_program(rt: &HostRuntime) -> u8 {
     match take_words(rt.alloc(), words.as_slice()) {
         Ok(word) => run_word(rt, word),
         Err(text) => say(rt, &text),
-    }
-}
-
-/// Says what stopped a run, of a store also which it was and why, and answers the exit status.
-fn report(rt: &HostRuntime, ran: Result<Ran, PlayFault>, place: &str) -> u8
-    ensures { result ≡ play_status ran }
-{
-    if let Err(fault) = ran {
-        let _ = eprintln!(rt; "{fault}");
-        explain(rt, fault, place);
-    }
-    status_after_play(ran)
-}
-
-/// Says why a store refused: the one at that place, where there is a name for it.
-fn explain(rt: &HostRuntime, fault: PlayFault, place: &str) {
-    let PlayFault::Store(refusal) = fault else {
-        return;
-    };
-    let words = words_for(refusal);
-    if place.is_empty() {
-        let _ = eprintln!(rt; "{words}");
-    } else {
-        let _ = eprintln!(rt; "{place}: {words}");
     }
 }
 
@@ -104,20 +77,28 @@ fn say(rt: &HostRuntime, text: &Error) -> u8
 
 /// Runs a program to the standard output, says what stopped it, and answers the exit status.
 fn run_word(rt: &HostRuntime, word: Word<'_>) -> u8 {
-    let mut place = String::new(rt.alloc());
+    let mut told = Told {
+        place: String::new(rt.alloc()),
+        besides: None,
+        unclosed: String::new(rt.alloc()),
+    };
     let ran = match word {
         Word::Answer => answer_buffered(rt),
-        Word::Play(None) => play_buffered(rt, &mut place),
+        Word::Play(None) => play_buffered(rt, &mut told),
         // With no buffer, what an event gives is written before the next event is carried out.
-        Word::Play(Some(folder)) => play_in_files(rt, &mut io::writer(rt), folder, &mut place),
-        Word::Settle(file) => settle_buffered(rt, file, &mut place),
-        Word::Node(words) => {
-            let ran = run_one_node(rt, &words);
-            return report_node(rt, ran, &words);
-        }
+        Word::Play(Some(folder)) => play_in_files(rt, &mut io::writer(rt), folder, &mut told),
+        Word::Settle(file) => settle_buffered(rt, file, &mut told),
+        Word::Node(words) => return run_node_word(rt, &words),
         Word::Weave(files) => return report_weave(rt, weave_files(rt, files.as_slice())),
     };
-    report(rt, ran, place.as_str())
+    report(rt, ran, &told)
+}
+
+/// Runs one node, says what stopped it, and answers the exit status.
+fn run_node_word(rt: &HostRuntime, words: &NodeWords<'_>) -> u8 {
+    let mut besides = None;
+    let ran = run_one_node(rt, words, &mut besides);
+    report_node(rt, ran, besides, words)
 }
 
 /// Answers the standard input to the standard output.
@@ -129,17 +110,17 @@ fn answer_buffered(rt: &HostRuntime) -> Result<Ran, PlayFault> {
 }
 
 /// Plays the standard input to the standard output, with keepers in memory.
-fn play_buffered(rt: &HostRuntime, place: &mut String) -> Result<Ran, PlayFault> {
+fn play_buffered(rt: &HostRuntime, told: &mut Told) -> Result<Ran, PlayFault> {
     match BufWriter::with_capacity(rt.alloc(), BUFFER_BYTES, io::writer(rt)) {
-        Ok(mut writer) => play_in_memory(rt, &mut writer, place),
+        Ok(mut writer) => play_in_memory(rt, &mut writer, told),
         Err(_) => Err(PlayFault::Run(RunFault::WriteFailed)),
     }
 }
 
 /// Writes what is owed by the rows of a file to the standard output.
-fn settle_buffered(rt: &HostRuntime, file: &str, place: &mut String) -> Result<Ran, PlayFault> {
+fn settle_buffered(rt: &HostRuntime, file: &str, told: &mut Told) -> Result<Ran, PlayFault> {
     match BufWriter::with_capacity(rt.alloc(), BUFFER_BYTES, io::writer(rt)) {
-        Ok(mut writer) => settle_file(rt, &mut writer, file, place),
+        Ok(mut writer) => settle_file(rt, &mut writer, file, told),
         Err(_) => Err(PlayFault::Run(RunFault::WriteFailed)),
     }
 }
@@ -164,26 +145,32 @@ fn answer_input<W: Write>(rt: &HostRuntime, writer: &mut W) -> Result<Ran, PlayF
     run_answer(rt.alloc(), &mut input, writer).map_err(PlayFault::Run)
 }
 
-/// Keepers that say where they are, for what is told of a refusal.
+/// Keepers that say where they are, for what is told of a refusal. Those in memory say no text.
 trait Located {
-    /// The file that was refused, or else the folder, since any of its files may have refused a commit; no text for
-    /// keepers in memory. `are_open`: whether the nodes got their keepers.
-    fn place(&self, are_open: bool) -> &str;
+    /// The file that was opened last, or refused; before that, the folder.
+    fn opened_last(&self) -> &str;
+
+    /// The first file whose closing was refused; where none was, the folder.
+    fn unclosed(&self) -> &str;
 }
 
 impl Located for ListKeeps {
-    fn place(&self, _are_open: bool) -> &str {
+    fn opened_last(&self) -> &str {
+        ""
+    }
+
+    fn unclosed(&self) -> &str {
         ""
     }
 }
 
 impl Located for FileKeeps<'_> {
-    fn place(&self, are_open: bool) -> &str {
-        if are_open {
-            self.unclosed()
-        } else {
-            self.path()
-        }
+    fn opened_last(&self) -> &str {
+        self.path()
+    }
+
+    fn unclosed(&self) -> &str {
+        FileKeeps::unclosed(self)
     }
 }
 
@@ -191,9 +178,9 @@ impl Located for FileKeeps<'_> {
 fn play_in_memory<W: Write>(
     rt: &HostRuntime,
     writer: &mut W,
-    place: &mut String,
+    told: &mut Told,
 ) -> Result<Ran, PlayFault> {
-    play_input(rt, writer, ListKeeps::new(rt.alloc()), place)
+    play_input(rt, writer, ListKeeps::new(rt.alloc()), "", told)
 }
 
 /// Plays the standard input with keepers in new files of a folder.
@@ -201,17 +188,19 @@ fn play_in_files<W: Write>(
     rt: &HostRuntime,
     writer: &mut W,
     folder: &str,
-    place: &mut String,
+    told: &mut Told,
 ) -> Result<Ran, PlayFault> {
-    play_input(rt, writer, FileKeeps::new(rt, folder), place)
+    play_input(rt, writer, FileKeeps::new(rt, folder), folder, told)
 }
 
-/// Plays the standard input with these keepers, closes them, and adds to `place` where a refusal may have come from.
+/// Plays the standard input with keepers that have their files in that folder, closes them, and notes what is told of
+/// them.
 fn play_input<W: Write, S: Keeps + Located + Drop>(
     rt: &HostRuntime,
     writer: &mut W,
     keeps: S,
-    place: &mut String,
+    folder: &str,
+    told: &mut Told,
 ) -> Result<Ran, PlayFault> {
     tell_wait(
         rt,
@@ -227,37 +216,47 @@ fn play_input<W: Write, S: Keeps + Located + Drop>(
     let ran = run_play(rt.alloc(), &mut input, writer, &mut keeps, &mut kept);
     let are_open = !kept.is_empty();
     let closed = close_all(&mut keeps, kept);
-    let _ = place.push_str(keeps.place(are_open));
+    let place = if ran.is_ok() {
+        keeps.unclosed()
+    } else if are_open {
+        folder
+    } else {
+        keeps.opened_last()
+    };
+    let _ = told.place.push_str(place);
+    let _ = told.unclosed.push_str(keeps.unclosed());
     drop(keeps);
-    and_closed(ran, closed)
+    let (ran, besides) = and_closed(ran, closed);
+    told.besides = besides;
+    ran
 }
 
-/// How a run went, and then the closing of its stores. What stopped the run is told before what a closing refused.
-fn and_closed(ran: Result<Ran, PlayFault>, closed: Result<(), StoreFault>) -> Result<Ran, PlayFault>
-    ensures ran { IfErr ran (λ fault. result ≡ Err fault) }
-    ensures closed { IfOk ran (λ r. OnOk closed (result ≡ Ok r)) }
-    ensures refused { IfOk ran (λ r. IfErr closed (λ fault. result ≡ Err (PlayFault.Store fault))) }
-{
-    match ran {
-        Ok(ran) => match closed {
-            Ok(()) => Ok(ran),
-            Err(fault) => Err(PlayFault::Store(fault)),
-        },
-        Err(fault) => Err(fault),
-    }
-}
-
-/// Runs a node with its rows in a file, or in memory where none was named.
-fn run_one_node(rt: &HostRuntime, words: &NodeWords<'_>) -> Result<Ran, NodeRunFault> {
+/// Runs a node with its rows in a file, or in memory where none was named. `besides` gets what the closing refused,
+/// where the run had failed before.
+fn run_one_node(
+    rt: &HostRuntime,
+    words: &NodeWords<'_>,
+    besides: &mut Option<StoreFault>,
+) -> Result<Ran, NodeRunFault> {
     match words.store {
-        Some(path) => run_in_file(rt, words, path),
-        None => run_over(rt, words, ListKeeps::new(rt.alloc())),
+        Some(path) => run_in_file(rt, words, path, besides),
+        None => run_over(rt, words, ListKeeps::new(rt.alloc()), besides),
     }
 }
 
-/// Runs a node with its rows in the file at that path.
-fn run_in_file(rt: &HostRuntime, words: &NodeWords<'_>, path: &str) -> Result<Ran, NodeRunFault> {
-    run_over(rt, words, StoreFile::new(rt, path))
+/// Runs a node with its rows in the file at that path, which must stand where the command line says so.
+fn run_in_file(
+    rt: &HostRuntime,
+    words: &NodeWords<'_>,
+    path: &str,
+    besides: &mut Option<StoreFault>,
+) -> Result<Ran, NodeRunFault> {
+    let keeps = if words.existing {
+        StoreFile::existing(rt, path, Unknown)
+    } else {
+        StoreFile::new(rt, path, Unknown)
+    };
+    run_over(rt, words, keeps, besides)
 }
 
 /// Runs a node on the standard input with a keeper of its rows, and closes that. With no buffer, what a line gives is
@@ -266,6 +265,7 @@ fn run_over<S: Keeps + Drop>(
     rt: &HostRuntime,
     words: &NodeWords<'_>,
     keeps: S,
+    besides: &mut Option<StoreFault>,
 ) -> Result<Ran, NodeRunFault> {
     tell_wait(
         rt,
@@ -290,102 +290,48 @@ fn run_over<S: Keeps + Drop>(
     );
     let closed = close_one(&mut keeps, kept);
     drop(keeps);
-    and_node_closed(ran, closed)
+    let (ran, refusal) = and_node_closed(ran, closed);
+    *besides = refusal;
+    ran
 }
 
 /// Closes the keeper of the node, where it was opened.
 fn close_one<S: Keeps>(keeps: &mut S, kept: Option<S::Kept>) -> Result<(), StoreFault> {
     match kept {
-        Some(keep) => keeps.close(1, keep),
+        Some(keep) => let_go(keeps.close(1, keep)),
         None => Ok(()),
     }
 }
 
-/// How a run of one node went, and then the closing of its store. What stopped the run is told before what the closing
-/// refused.
-fn and_node_closed(
-    ran: Result<Ran, NodeRunFault>,
-    closed: Result<(), StoreFault>,
-) -> Result<Ran, NodeRunFault>
-    ensures ran { IfErr ran (λ fault. result ≡ Err fault) }
-    ensures closed { IfOk ran (λ r. OnOk closed (result ≡ Ok r)) }
-    ensures refused { IfOk ran (λ r. IfErr closed (λ fault. result ≡ Err (NodeRunFault.Stop (NodeStop.Store fault)))) }
-{
-    match ran {
-        Ok(ran) => match closed {
-            Ok(()) => Ok(ran),
-            Err(fault) => Err(NodeRunFault::Stop(NodeStop::Store(fault))),
-        },
-        Err(fault) => Err(fault),
-    }
-}
-
-/// Says what stopped a run of one node, of a store also which it was and why, and answers the exit status.
-fn report_node(rt: &HostRuntime, ran: Result<Ran, NodeRunFault>, words: &NodeWords<'_>) -> u8
-    ensures { result ≡ node_status ran }
-{
-    explain_run(rt, &ran, words);
-    status_after_node(ran)
-}
-
-/// Says what stopped a run of one node, if anything did.
-fn explain_run(rt: &HostRuntime, ran: &Result<Ran, NodeRunFault>, words: &NodeWords<'_>) {
-    match ran {
-        Ok(_) => {}
-        Err(NodeRunFault::Run(fault)) => {
-            let _ = eprintln!(rt; "{}", *fault);
-        }
-        Err(NodeRunFault::Stop(stop)) => explain_stop(rt, stop, words),
-    }
-}
-
-/// Says why a node did not begin, or did not go on.
-fn explain_stop(rt: &HostRuntime, stop: &NodeStop, words: &NodeWords<'_>) {
-    match stop {
-        NodeStop::UnknownParty => {
-            let _ = eprintln!(rt; "node: no {} in the setup", words.party);
-        }
-        NodeStop::Store(fault) => {
-            let fault = PlayFault::Store(*fault);
-            let _ = eprintln!(rt; "{fault}");
-            explain(rt, fault, words.store.unwrap_or(""));
-        }
-        NodeStop::BadRows(row) => {
-            let _ = eprintln!(rt; "store: 4 Core(BadRows)");
-            explain_row(rt, row, words.store.unwrap_or(""));
-        }
-    }
-}
-
-/// Says which row of a store shows that no such node has its rows, and what is wrong with it.
-fn explain_row(rt: &HostRuntime, row: &BadRow, place: &str) {
-    let kind = RowKind::of_key(&row.key).word();
-    let reason = words_for_reason(row.reason);
-    match write_key(rt.alloc(), &row.key) {
-        Ok(key) => {
-            let _ = eprintln!(rt; "{place}: {kind} {}: {reason}", key.as_str());
-        }
-        Err(_) => {
-            let _ = eprintln!(rt; "{place}: a {kind} row: {reason}");
-        }
-    }
-}
-
-/// Writes what is owed by the rows of a file. `place` gets its name.
+/// Writes what is owed by the rows of a file, and notes what is told of it.
 fn settle_file<W: Write>(
     rt: &HostRuntime,
     writer: &mut W,
     file: &str,
-    place: &mut String,
+    told: &mut Told,
 ) -> Result<Ran, PlayFault> {
-    let _ = place.push_str(file);
-    let found = match rows_in(rt, file) {
+    let _ = told.place.push_str(file);
+    let _ = told.unclosed.push_str(file);
+    settle_found(rt, writer, rows_in(rt, file, Unknown), told)
+}
+
+/// Writes what is owed by rows that were found. Their file is let go first.
+fn settle_found<W: Write, C: Drop>(
+    rt: &HostRuntime,
+    writer: &mut W,
+    found: Result<Found<C>, StoreFault>,
+    told: &mut Told,
+) -> Result<Ran, PlayFault> {
+    let Found { rows, closed } = match found {
         Ok(found) => found,
         Err(fault) => return Err(PlayFault::Store(fault)),
     };
-    let ran = match run_settle(rt.alloc(), found.rows.as_slice(), writer) {
+    let closed = let_go(closed);
+    let ran = match run_settle(rt.alloc(), rows.as_slice(), writer) {
         Ok(()) => Ok(Ran::Whole),
         Err(fault) => Err(PlayFault::Run(fault)),
     };
-    and_closed(ran, found.closed)
+    let (ran, besides) = and_closed(ran, closed);
+    told.besides = besides;
+    ran
 }

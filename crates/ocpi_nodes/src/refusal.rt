@@ -1,6 +1,8 @@
 //! Why a store refused, or a file was not read, in words, and what to do about it.
 
 use node_store::{Cause, StoreFault};
+use ocpi_text::E4;
+use std::alloc::{AllocError, Global};
 use std::io::ErrorKind;
 use stored_rows::BadReason;
 
@@ -9,12 +11,22 @@ pub fn words_for(fault: StoreFault) -> &'static str {
     match fault {
         StoreFault::Refused(cause) => words_for_cause(cause),
         StoreFault::BadRow => {
-            "a text in it is no row of its kind and key: another program wrote it; use an older copy"
+            "a text in it is no row of its kind and key: another program wrote it; use the file from just before that, or ask your partners if a packet was sent since"
         }
         StoreFault::OldLayout => {
             "its tables are not those of this version: open it with the program that made it"
         }
         StoreFault::Memory => "memory ran out: end other programs first",
+    }
+}
+
+/// The words for a refusal of the store of `node`, where a file that is not there is missing by `--existing` alone.
+pub fn words_for_node(fault: StoreFault) -> &'static str {
+    match fault {
+        StoreFault::Refused(Cause::NotFound) => {
+            "there is no such file, and --existing makes none: name the store that was used before, or see that its disk is mounted"
+        }
+        _ => words_for(fault),
     }
 }
 
@@ -51,42 +63,91 @@ fn words_for_cause(cause: Cause) -> &'static str {
 pub fn words_for_reason(reason: BadReason) -> &'static str {
     match reason {
         BadReason::Repeated => "another row has this kind and this key",
-        BadReason::OfOtherRole => {
-            "a node of this role stores no such row: name the party whose store this is"
-        }
+        BadReason::OfOtherRole => "a node of this role stores no such row",
         BadReason::NothingCounted => "a counter that has given no number has no row",
         BadReason::NotGiven => {
             "its number, or that of its id or reference, is above the last that the counter gave"
         }
         BadReason::NumberShared => "a push and a command have its number",
-        BadReason::OfOtherParty => {
-            "it is of another party than this node's: name the party whose store this is"
-        }
-        BadReason::NotOwnId => {
-            "its id or its reference is none that this node gives: name the party whose store this is"
-        }
-        BadReason::UnknownParty => {
-            "it is of or to a party with which this node does not deal: give the setup of the store"
-        }
+        BadReason::OfOtherParty => "it is of another party than this node's",
+        BadReason::NotOwnId => "its id is none that this node gives",
+        BadReason::NotOwnReference => "its authorization reference is none that this node gives",
+        BadReason::UnknownParty => "it is of or to a party that the setup has not",
         BadReason::TokenOfOtherParty => "the token of the open start is another provider's",
-        BadReason::UnknownPlace => {
-            "the site has no such EVSE, connector or location: give the setup of the store"
+        BadReason::UnknownEvse => "the setup's site has no such EVSE",
+        BadReason::UnknownConnector => "the setup's site has the EVSE, and no such connector of it",
+        BadReason::OtherLocation => {
+            "the setup's site has the EVSE, at another location than it names"
         }
+        BadReason::WithoutPlace => "the open start names no EVSE, or no connector",
         BadReason::ClaimedTwice => "another row claims its EVSE",
         BadReason::Unanswered => "the command has no reply",
         BadReason::OpenWithResult => "the command is open, and has a result",
         BadReason::PushedTwice => "another push is about the same, to the same party",
-        BadReason::CannotGoOn => {
-            "the session has a status that no session has, or a cost that is not that of its energy"
+        BadReason::ReservationStatus => {
+            "the session has the status RESERVATION, which no session of a node has"
         }
-        BadReason::BilledTwice => {
-            "another charge detail record is of the same session: both bill it, or both are credits"
+        BadReason::WithoutCost => "the session has no total cost",
+        BadReason::OtherPrice { .. } => {
+            "its cost is not that of its energy at the setup's price"
         }
-        BadReason::BilledEarly => {
-            "the session of the charge detail record is not there as completed"
-        }
+        BadReason::BilledTwice => "another bill is of the same session",
+        BadReason::CreditedTwice => "another credit is of the same session",
+        BadReason::BilledEarly => "its session is not there as completed",
         BadReason::Unbilled => "the completed session has no bill",
         BadReason::CreditWithoutBill => "the bill that the credit takes back is not there",
+    }
+}
+
+/// The same words with the numbers that the reason has. None, where it has none, and where memory runs out.
+pub fn words_with_numbers(alloc: Global, reason: BadReason) -> Option<String> {
+    match reason {
+        BadReason::OtherPrice { kwh, cost, price } => {
+            words_for_price(alloc, kwh, cost, price).ok()
+        }
+        _ => None,
+    }
+}
+
+fn words_for_price(alloc: Global, kwh: E4, cost: E4, price: E4) -> Result<String, AllocError> {
+    let (kwh, cost, price) = (kwh.write(alloc)?, cost.write(alloc)?, price.write(alloc)?);
+    format!(in alloc;
+        "its cost {cost} for {kwh} kWh is not that of the setup's price {price} a kWh"
+    )
+}
+
+/// What to do about a row that is bad for that reason. It follows the words for it.
+pub fn advice_for(reason: BadReason) -> &'static str {
+    match reason {
+        BadReason::OfOtherRole | BadReason::OfOtherParty => "name the party whose store this is",
+        BadReason::NotOwnReference => {
+            "name the party whose store this is; if this is its store, another program wrote it"
+        }
+        BadReason::UnknownParty
+        | BadReason::UnknownEvse
+        | BadReason::UnknownConnector
+        | BadReason::OtherLocation => "give the setup of the store",
+        BadReason::OtherPrice { .. } => "another price made it; give the setup of the store",
+        BadReason::Repeated
+        | BadReason::NothingCounted
+        | BadReason::NotGiven
+        | BadReason::NumberShared
+        | BadReason::NotOwnId
+        | BadReason::TokenOfOtherParty
+        | BadReason::WithoutPlace
+        | BadReason::ClaimedTwice
+        | BadReason::Unanswered
+        | BadReason::OpenWithResult
+        | BadReason::PushedTwice
+        | BadReason::ReservationStatus
+        | BadReason::WithoutCost
+        | BadReason::BilledTwice
+        | BadReason::CreditedTwice
+        | BadReason::BilledEarly
+        | BadReason::Unbilled
+        | BadReason::CreditWithoutBill => {
+            "another program changed the store; use the file from just before that"
+        }
     }
 }
 

@@ -1,0 +1,186 @@
+//! How a run and the closing of its stores ended, what is told of both, and the exit status.
+
+ghost use Rattle.std.specs.Prelude.{◌≡◌, IfErr, IfOk, IsOk, OnOk, Err, None, Ok, Some};
+ghost use Rattle.node_programs.specs.Stops.{play_status};
+ghost use Rattle.node_runs.specs.Stops.{node_status};
+
+use crate::command::NodeWords;
+use crate::refusal::{advice_for, words_for, words_for_node, words_for_reason, words_with_numbers};
+use line_runs::Ran;
+use node_programs::{PlayFault, status_after_play};
+use node_runs::{NodeRunFault, NodeStop, status_after_node};
+use node_store::StoreFault;
+use ocpi_json::{RowKind, write_key};
+use ocpi_types::Word as WordOf;
+use stored_rows::BadRow;
+
+/// Whether a closing was refused. What it left is let go.
+pub fn let_go<C: Drop>(closed: Result<C, StoreFault>) -> Result<(), StoreFault>
+    ensures closed { IfOk closed (λ left. IsOk result) }
+    ensures refused { IfErr closed (λ fault. result ≡ Err fault) }
+{
+    match closed {
+        Ok(left) => {
+            drop(left);
+            Ok(())
+        }
+        Err(fault) => Err(fault),
+    }
+}
+
+/// How a run went, and then the closing of its stores; and what that closing refused besides, where the run had failed
+/// before. Both are told, what stopped the run first.
+pub fn and_closed(
+    ran: Result<Ran, PlayFault>,
+    closed: Result<(), StoreFault>,
+) -> (Result<Ran, PlayFault>, Option<StoreFault>)
+    ensures ran { IfErr ran (λ fault. result.0 ≡ Err fault) }
+    ensures closed { IfOk ran (λ r. OnOk closed (result.0 ≡ Ok r)) }
+    ensures refused { IfOk ran (λ r. IfErr closed (λ fault. result.0 ≡ Err (PlayFault.Store fault))) }
+    ensures besides { IfErr ran (λ fault. IfErr closed (λ refusal. result.1 ≡ Some refusal)) }
+    ensures once { IfOk ran (λ r. result.1 ≡ None) }
+    ensures nothing { OnOk closed (result.1 ≡ None) }
+{
+    match ran {
+        Ok(ran) => match closed {
+            Ok(()) => (Ok(ran), None),
+            Err(refusal) => (Err(PlayFault::Store(refusal)), None),
+        },
+        Err(fault) => (Err(fault), closed.err()),
+    }
+}
+
+/// How a run of one node went, and then the closing of its store; and what that closing refused besides, where the run
+/// had failed before. Both are told, what stopped the run first.
+pub fn and_node_closed(
+    ran: Result<Ran, NodeRunFault>,
+    closed: Result<(), StoreFault>,
+) -> (Result<Ran, NodeRunFault>, Option<StoreFault>)
+    ensures ran { IfErr ran (λ fault. result.0 ≡ Err fault) }
+    ensures closed { IfOk ran (λ r. OnOk closed (result.0 ≡ Ok r)) }
+    ensures refused { IfOk ran (λ r. IfErr closed (λ fault. result.0 ≡ Err (NodeRunFault.Stop (NodeStop.Store fault)))) }
+    ensures besides { IfErr ran (λ fault. IfErr closed (λ refusal. result.1 ≡ Some refusal)) }
+    ensures once { IfOk ran (λ r. result.1 ≡ None) }
+    ensures nothing { OnOk closed (result.1 ≡ None) }
+{
+    match ran {
+        Ok(ran) => match closed {
+            Ok(()) => (Ok(ran), None),
+            Err(refusal) => (Err(NodeRunFault::Stop(NodeStop::Store(refusal))), None),
+        },
+        Err(fault) => (Err(fault), closed.err()),
+    }
+}
+
+/// What is told of the stores of a run that ended.
+#[derive(Drop)]
+pub struct Told {
+    /// The file that refused, or else the folder, since any of its files may have refused a commit; no text for
+    /// keepers in memory.
+    pub place: String,
+    /// What the closing of a file refused besides, where the run had failed before.
+    pub besides: Option<StoreFault>,
+    /// That file.
+    pub unclosed: String,
+}
+
+/// Says what stopped a run, of a store also which it was and why, then what the closing of a store refused besides, and
+/// answers the exit status.
+pub fn report(rt: &HostRuntime, ran: Result<Ran, PlayFault>, told: &Told) -> u8
+    ensures { result ≡ play_status ran }
+{
+    match ran {
+        Err(PlayFault::Store(refusal)) => tell_refusal(rt, refusal, told.place.as_str()),
+        Err(PlayFault::Run(fault)) => {
+            let _ = eprintln!(rt; "{fault}");
+        }
+        Ok(_) => {}
+    }
+    tell_besides(rt, told.besides, told.unclosed.as_str());
+    status_after_play(ran)
+}
+
+/// Says what the closing of the store at that place refused, if anything, besides what stopped the run.
+fn tell_besides(rt: &HostRuntime, besides: Option<StoreFault>, place: &str) {
+    if let Some(refusal) = besides {
+        tell_refusal(rt, refusal, place);
+    }
+}
+
+/// Says that a store refused, which it was and why: the one at that place, where there is a name for it.
+fn tell_refusal(rt: &HostRuntime, refusal: StoreFault, place: &str) {
+    let _ = eprintln!(rt; "{}", PlayFault::Store(refusal));
+    explain(rt, place, words_for(refusal));
+}
+
+/// Says why the store at that place refused, where there is a name for it.
+fn explain(rt: &HostRuntime, place: &str, words: &str) {
+    if place.is_empty() {
+        let _ = eprintln!(rt; "{words}");
+    } else {
+        let _ = eprintln!(rt; "{place}: {words}");
+    }
+}
+
+/// Says what stopped a run of one node, of a store also which it was and why, then what the closing of its store
+/// refused besides, and answers the exit status.
+pub fn report_node(
+    rt: &HostRuntime,
+    ran: Result<Ran, NodeRunFault>,
+    besides: Option<StoreFault>,
+    words: &NodeWords<'_>,
+) -> u8
+    ensures { result ≡ node_status ran }
+{
+    explain_run(rt, &ran, words);
+    tell_besides(rt, besides, words.store.unwrap_or(""));
+    status_after_node(ran)
+}
+
+/// Says what stopped a run of one node, if anything did.
+fn explain_run(rt: &HostRuntime, ran: &Result<Ran, NodeRunFault>, words: &NodeWords<'_>) {
+    match ran {
+        Ok(_) => {}
+        Err(NodeRunFault::Run(fault)) => {
+            let _ = eprintln!(rt; "{}", *fault);
+        }
+        Err(NodeRunFault::Stop(stop)) => explain_stop(rt, stop, words),
+    }
+}
+
+/// Says why a node did not begin, or did not go on.
+fn explain_stop(rt: &HostRuntime, stop: &NodeStop, words: &NodeWords<'_>) {
+    let place = words.store.unwrap_or("");
+    match stop {
+        NodeStop::UnknownParty => {
+            let _ = eprintln!(rt; "node: no {} in the setup", words.party);
+        }
+        NodeStop::Store(refusal) => {
+            let _ = eprintln!(rt; "{}", PlayFault::Store(*refusal));
+            explain(rt, place, words_for_node(*refusal));
+        }
+        NodeStop::BadRows(row) => {
+            let _ = eprintln!(rt; "store: 4 Core(BadRows)");
+            explain_row(rt, row, place);
+        }
+    }
+}
+
+/// Says which row of a store shows that no such node has its rows, what is wrong with it, and what to do.
+fn explain_row(rt: &HostRuntime, row: &BadRow, place: &str) {
+    let kind = RowKind::of_key(&row.key).word();
+    let told = words_with_numbers(rt.alloc(), row.reason);
+    let words = match &told {
+        Some(told) => told.as_str(),
+        None => words_for_reason(row.reason),
+    };
+    let advice = advice_for(row.reason);
+    match write_key(rt.alloc(), &row.key) {
+        Ok(key) => {
+            let _ = eprintln!(rt; "{place}: {kind} {}: {words}: {advice}", key.as_str());
+        }
+        Err(_) => {
+            let _ = eprintln!(rt; "{place}: a {kind} row: {words}: {advice}");
+        }
+    }
+}
