@@ -73,7 +73,13 @@ impl<'a> FileKeeps<'a> {
 impl Keeps for FileKeeps<'_> {
     type Kept = TableKeep<FileStore<File>>;
 
+    type Closed = ();
+
     ghost may_refuse = { λ place fault. ⊤ };
+
+    ghost found = { λ place keep. ⊤ };
+
+    ghost is_closed = { λ keep closed. ⊤ };
 
     ghost opened = { λ keeps. keeps.opened.items };
 
@@ -130,7 +136,13 @@ impl<'a> StoreFile<'a> {
 impl Keeps for StoreFile<'_> {
     type Kept = TableKeep<FileStore<File>>;
 
+    type Closed = ();
+
     ghost may_refuse = { λ place fault. ⊤ };
+
+    ghost found = { λ place keep. ⊤ };
+
+    ghost is_closed = { λ keep closed. ⊤ };
 
     ghost opened = { λ keeps. keeps.opened.items };
 
