@@ -1,5 +1,5 @@
 -- What a call leaves of a keeper's table.
-use Rattle.std.proofs.Common.{◌≡◌, ◌⊎◌, inl, inr, ℕ, pos, List, [], ◌∷◌, map, OnOk, OnErr, Ok, Err, Result, refl, sym, ap, ◌∙◌}
+use Rattle.std.proofs.Common.{◌≡◌, ◌⊎◌, inl, inr, ℕ, pos, List, [], ◌∷◌, map, OnOk, OnErr, Ok, Err, Result, sym, ap, ◌∙◌}
 use Rattle.sqlite.specs.declared.types.Value.{Value}
 use Rattle.sqlite.specs.declared.types.Value.TheVariants.{Int}
 use Rattle.sqlite.specs.Order.{Row, column}
@@ -11,7 +11,7 @@ use Rattle.row_table.specs.Contents as table
 use Rattle.row_table.specs.Opening.{Finds}
 use Rattle.row_table.specs.Kept.{Kept, IsClean, Leaves, LeavesWhole, MayLeave, content}
 use Rattle.node_store.specs.Contents.{Content}
-use Rattle.node_store.specs.Layout.{IsOfLayoutTwo, KeepsLayout}
+use Rattle.node_store.specs.Layout.{KeepsLayout}
 use Rattle.node_store.specs.Moved.{IsMovedTo}
 
 module _ {S : Type 0} (g : Ghosts S) (old new : Kept S) where

@@ -6,3 +6,4 @@ pub mod Moved
 pub mod Moving
 pub mod Layout
 pub mod Opened
+pub mod Closed

@@ -1,5 +1,5 @@
 -- The edits that move a store of layout 1.
-use Rattle.std.specs.Prelude.{◌≡◌, ◌<◌, ℕ, true, false, cond, List, [], ◌∷◌, length, get_or, Some, Ok, Err}
+use Rattle.std.specs.Prelude.{◌≡◌, ◌<◌, ℕ, false, cond, List, [], ◌∷◌, length, get_or, Some, Ok, Err}
 use Rattle.json_text.specs.Fault.{Read}
 use Rattle.ocpi_types.specs.declared.rows.Row.{Row}
 use Rattle.ocpi_json.specs.RowForms.{row_in, row_in_1, row_text}

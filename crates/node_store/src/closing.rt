@@ -1,6 +1,7 @@
 //! Keepers in databases end.
 
-ghost use Rattle.std.specs.Prelude.{◌≡◌, IfErr};
+ghost use Rattle.std.specs.Prelude.{◌≡◌, IfErr, IfOk};
+ghost use Rattle.node_store.specs.Closed.{AreUsable, IsCopiedIfClean, IsUnclosed};
 ghost use Rattle.node_store.specs.Faults.{IsCommitFault};
 
 use crate::fault::StoreFault;
@@ -17,17 +18,20 @@ impl<S: Alter> TableKeep<S> {
 }
 
 impl<S: Start> TableKeep<FileStore<FileFrom<S>>> {
-    /// Copies the log into the file, empties the log, and gives both back, locked as they were. (No clause says what
-    /// lies on the disk then.) After a refusal the rows are in the file and the log together, as before.
-    pub fn close_files(self) -> Result<Files<FileFrom<S>>, StoreFault>
-        ensures { IfErr result IsCommitFault }
+    /// Copies the log into the file, empties the log, and gives both back, locked as they were. What was committed last
+    /// is in the file alone then, also after a stop. A refusal gives the store back, with its files locked: the rows
+    /// are in the file and the log together, as before.
+    pub fn close_files(
+        self,
+    ) -> Result<Files<FileFrom<S>>, (StoreFault, FileStore<FileFrom<S>>)>
+        ensures copied { IfOk result (λ files. IsCopiedIfClean self.0.conn files) }
+        ensures usable { IfOk result (λ files. AreUsable self.0.conn files) }
+        ensures fault { IfErr result (λ e. IsCommitFault e.0) }
+        ensures unclosed { IfErr result (λ e. IsUnclosed self.0.conn e.1 e.0) }
     {
         match self.into_connection().close_files() {
             Ok(files) => Ok(files),
-            Err((error, store)) => {
-                drop(store);
-                Err(fault_of(error))
-            }
+            Err((error, store)) => Err((fault_of(error), store)),
         }
     }
 }

@@ -35,6 +35,8 @@ pub enum Cause {
     NotEmpty,
     /// The party whose rows were changed has no keeper.
     NoKeeper,
+    /// A keeper that is opened once was opened already.
+    OpenedBefore,
     /// Anything else.
     Other,
 }

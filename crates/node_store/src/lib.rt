@@ -18,9 +18,11 @@ mod moving;
 mod stored;
 mod table_keep;
 mod table_opening;
+mod unopened;
 
 pub use fault::{Cause, StoreFault};
 pub use keep::Keep;
 pub use laws::opening_keeps_rows;
 pub use list_keep::ListKeep;
 pub use table_keep::TableKeep;
+pub use unopened::Unopened;

@@ -1,6 +1,6 @@
 //! Keepers in SQLite databases are opened.
 
-ghost use Rattle.std.specs.Prelude.{◌≡◌, ◌≢◌, ◌⊎◌, IfErr, IfOk, IfSome, None};
+ghost use Rattle.std.specs.Prelude.{◌≡◌, ◌≢◌, ◌⊎◌, IfErr, IfOk, None};
 ghost use Rattle.std.specs.FinMap.{empty};
 ghost use Rattle.sqlite.specs.State.{HasCleanDisk};
 ghost use Rattle.sqlite.specs.Tree.{Trees};
@@ -12,12 +12,14 @@ ghost use Rattle.row_table.specs.Contents.{IsWhole, content_of};
 ghost use Rattle.row_table.specs.Kept.{IsClean, Leaves, MayLeave, content, texts};
 ghost use Rattle.row_table.specs.Opening.{IsOldLayout, ShowsTheSame};
 ghost use Rattle.node_store.specs.Contents.{Content};
+ghost use Rattle.node_store.specs.Faults.{IsCommitFault};
 ghost use Rattle.node_store.specs.Moved.{HasBadText, IsMovedTo, OpensAs, SparesStore, WasBad};
-ghost use Rattle.node_store.specs.Opened.{FindsInFile, SparesFile, WasBadInFile, WasOldInFile};
+ghost use Rattle.node_store.specs.Opened.{FindsInFile, IfConnection, IfFiles, IfNoConnection, IsLeft, IsUnopenedFault, SparesFile, WasBadInFile, WasOldInFile};
 
 use crate::fault::StoreFault;
 use crate::moving::{LAYOUT, OLDER, move_texts};
 use crate::table_keep::{TableKeep, fault_of};
+use crate::unopened::Unopened;
 use row_table::{OpenFault, TextTable};
 use sqlite::{Alter, Connection, FileFrom, FileStore, MemStore, Start};
 use std::alloc::Global;
@@ -113,7 +115,10 @@ impl TableKeep<MemStore> {
 impl<S: Start> TableKeep<FileStore<FileFrom<S>>> {
     /// A keeper in the file at the path. A file that is missing is made, and one of layout 1 is moved to layout 2.
     /// `OldLayout` where the file has tables for other rows, and `BadRow` where it is of layout 1 with a text that is
-    /// no row of its kind and key. A refusal hands the connection back, once there is one.
+    /// no row of its kind and key. Where no database was opened, it is neither of the two. Where no file was opened,
+    /// nothing comes back, and the cause is `CannotOpen`, `DatabaseBusy` or want of memory. After any other refusal the
+    /// files come back, or the connection once there is one: a stop leaves what the files held, or, where that was no
+    /// database yet or an opening had begun to move it, all that the opening would have made of it.
     ///
     /// `S` stands for what the file holds, which no code can read: so the clauses are proved of whatever it holds. A
     /// program names `Unknown`, at which they speak of an empty file alone.
@@ -121,28 +126,29 @@ impl<S: Start> TableKeep<FileStore<FileFrom<S>>> {
         rt: &HostRuntime,
         path: &str,
         start: S,
-    ) -> Result<
-        TableKeep<FileStore<FileFrom<S>>>,
-        (StoreFault, Option<Connection<FileStore<FileFrom<S>>>>),
-    >
+    ) -> Result<TableKeep<FileStore<FileFrom<S>>>, (StoreFault, Option<Unopened<FileFrom<S>>>)>
         // The texts are those of the file as they are in layout 2, or none where there was no table.
         ensures content { IfOk result (λ k. IsClean over_files k.0 → FindsInFile (image_at S.Start) k.0.conn (content over_files k.0)) }
         ensures refusals { IfOk result (λ k. k.1 ≡ 0) }
         ensures stops { IfOk result (λ k. IsClean over_files k.0 → (c : Content) → MayLeave over_files k.0 c → c ≡ texts over_files k.0) }
         // The file is as it was. A stop leaves that, or all that the opening would have made of it.
-        ensures spared { IfErr result (λ e. IfSome e.1 (λ c. HasCleanDisk (file_state c) → SparesFile (image_at S.Start) c)) }
+        ensures spared { IfErr result (λ e. IfConnection e.1 (λ c. HasCleanDisk (file_state c) → SparesFile (image_at S.Start) c)) }
         // `OldLayout` and `BadRow` come only where a database was opened, and by what was found there.
-        ensures old { IfErr result (λ e. IfSome e.1 (λ c. HasCleanDisk (file_state c) → e.0 ≡ StoreFault.OldLayout → WasOldInFile (image_at S.Start) c)) }
-        ensures bad { IfErr result (λ e. IfSome e.1 (λ c. HasCleanDisk (file_state c) → e.0 ≡ StoreFault.BadRow → WasBadInFile (image_at S.Start) c)) }
-        ensures unopened { IfErr result (λ e. e.1 ≡ None → (e.0 ≢ StoreFault.OldLayout) × (e.0 ≢ StoreFault.BadRow)) }
+        ensures old { IfErr result (λ e. IfConnection e.1 (λ c. HasCleanDisk (file_state c) → e.0 ≡ StoreFault.OldLayout → WasOldInFile (image_at S.Start) c)) }
+        ensures bad { IfErr result (λ e. IfConnection e.1 (λ c. HasCleanDisk (file_state c) → e.0 ≡ StoreFault.BadRow → WasBadInFile (image_at S.Start) c)) }
+        // The files had just been opened, and hold what they held.
+        ensures left { IfErr result (λ e. IfFiles e.1 (λ left. IsLeft left e.0)) }
+        ensures unopened { IfErr result (λ e. e.1 ≡ None → IsUnopenedFault e.0) }
+        ensures fault { IfErr result (λ e. IfNoConnection e.1 (IsCommitFault e.0)) }
     {
         let connection = match Connection::open_from(rt, path, false, start) {
             Ok(connection) => connection,
-            Err((error, _)) => return Err((fault_of(error), None)),
+            Err((error, Some(left))) => return Err((fault_of(error), Some(Unopened::Files(left)))),
+            Err((error, None)) => return Err((fault_of(error), None)),
         };
         match TableKeep::adopt(rt.alloc(), connection) {
             Ok(keep) => Ok(keep),
-            Err((fault, connection)) => Err((fault, Some(connection))),
+            Err((fault, connection)) => Err((fault, Some(Unopened::Connection(connection)))),
         }
     }
 }

@@ -42,6 +42,7 @@ fn words_for_cause(cause: Cause) -> &'static str {
         Cause::NotEmpty =>
             "it has rows already, which a -wal file held that lay there: move it away, or name another folder",
         Cause::NoKeeper => "no file is that of the node whose rows changed",
+        Cause::OpenedBefore => "it was opened before in this run, which opens it once",
         Cause::Other => "the database refused it: keep a copy of the file, and report this",
     }
 }

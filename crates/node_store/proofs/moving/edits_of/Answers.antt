@@ -1,4 +1,4 @@
-use Rattle.std.proofs.Common.{subst, ◌∙◌}
+use Rattle.std.proofs.Common.{subst}
 use Rattle.std.proofs.lemmas.List.Elements.{All-more}
 use Rattle.node_store.specs.Moving.{IsMovable}
 use Rattle.node_store.proofs.MovedTexts.{one_more}

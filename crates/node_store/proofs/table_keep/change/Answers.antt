@@ -1,4 +1,4 @@
-use Rattle.std.proofs.Common.{◌≡◌, inl, inr, sym, ap, ◌∙◌}
+use Rattle.std.proofs.Common.{inl, inr, sym, ap, ◌∙◌}
 use Rattle.row_table.specs.Contents.{with_texts}
 use Rattle.row_table.specs.Contents as table
 use Rattle.row_table.specs.Kept.{content, texts}
