@@ -1,5 +1,5 @@
 -- Keepers of files.
-use Rattle.std.proofs.Common.{◌≡◌, ◌<◌, ◌⊎◌, ℕ, List, [], ◌∷◌, inl, inr, sym, ap, ◌∙◌, length, arith}
+use Rattle.std.proofs.Common.{◌≡◌, ◌<◌, ◌⊎◌, ℕ, List, [], ◌∷◌, Result, Ok, Err, IfOk, IfErr, inl, inr, sym, ap, subst, ◌∙◌, length, arith}
 use Rattle.std.specs.FinMap.{empty}
 use Rattle.sqlite_disk.specs.declared.Disk.{Ghosts}
 use Rattle.sqlite.specs.declared.FileStore.{FileStore}
@@ -12,6 +12,13 @@ use Rattle.row_table.specs.Contents.{HasVersion}
 use Rattle.row_table.specs.Contents as table
 use Rattle.node_store.specs.Moved.{OpensAs}
 use Rattle.node_store.specs.Opened.{FindsInFile}
+use Rattle.sqlite_disk.specs.declared.Files.{Files}
+use Rattle.ocpi_types.specs.declared.rows.Row.{Row}
+use Rattle.row_table.specs.Kept.{Kept, IsClean, content, texts}
+use Rattle.sqlite.specs.Files.{over_files}
+use Rattle.node_store.specs.Closed.{IsCopiedIfClean}
+use Rattle.node_store.specs.declared.fault.StoreFault.{StoreFault}
+use Rattle.node_keepers.specs.InFiles.{HadRows, IsBlank, IsFoundIn, WereFoundIfClean}
 
 -- what is found in files of which the database is empty
 found_nothing : (image : Image) (trees : Trees) → length image.db ≡ 0 → AreFoundIn image trees → IsEmpty trees
@@ -36,3 +43,39 @@ begins_blank image now c none found =
     let nothing : IsEmpty trees = found_nothing image trees none found.found.reads in
     let same : (file_state found.was).now.trees ≡ trees = ap (λ (d : Database). d.trees) found.opened.0.clean in
     no_texts (file_state found.was).now c (ap (λ (t : Trees). t 0) same ∙ nothing.0 0 (omega arith)) found.says
+
+-- the same, of one that may have been opened
+pub all_blank : {D : Type 0} {g : Ghosts D} (image : Image) (r : Result (Kept (FileStore D g) × ℕ) StoreFault) → length image.db ≡ 0 →
+    IfOk r (IsFoundIn image) → IfOk r IsBlank
+all_blank image (Ok k) none found = λ clean. begins_blank image k.0.conn (content over_files k.0) none (found clean)
+all_blank image (Err e) none found = tt
+
+-- what is known of a keeper that was opened is known of that which is handed on
+pub handed_on : {K X : Type 0} (P : K → Type 0) (opened : Result K (StoreFault × X)) (r : Result K StoreFault) → IfOk opened (λ k. r ≡ Ok k) →
+    IfErr opened (λ e. r ≡ Err e.0) → IfOk opened P → IfOk r P
+handed_on {K} P (Ok k) r same fault known = subst (λ (x : Result K StoreFault). IfOk x P) (sym same) known
+handed_on {K} P (Err e) r same fault known = subst (λ (x : Result K StoreFault). IfOk x P) (sym fault) tt
+
+each_ok : {X E : Type 0} (P Q : X → Type 0) (r : Result X E) → ((x : X) → P x → Q x) → IfOk r P → IfOk r Q
+each_ok P Q (Ok x) all known = all x known
+each_ok P Q (Err e) all known = tt
+
+-- rows that a keeper of a file had were found in the file
+module _ {D : Type 0} (g : Ghosts D) (image : Image) where
+  abbrev pub TheRows : Kept (FileStore D g) × ℕ → List Row → Files D → Type 0
+  TheRows = HadRows (λ (k : Kept (FileStore D g) × ℕ). texts over_files k.0) (λ (k : Kept (FileStore D g) × ℕ). IsClean over_files k.0)
+      (λ (k : Kept (FileStore D g) × ℕ) (files : Files D). IsCopiedIfClean k.0.conn files)
+
+  the_rows : (k : Kept (FileStore D g) × ℕ) (rows : List Row) (files : Files D) → IsFoundIn image k → TheRows k rows files → WereFoundIfClean g image rows files
+  the_rows k rows files found had = λ clean.
+      let copied = had.left clean in
+      record { first = k.0; found = found (had.earlier copied.was_clean); are = had.are copied.was_clean; last = had.last.0; same = had.same copied.was_clean; copied = copied }
+
+  pub were_found : {F : Type 0} (rows : F → List Row) (closed : F → Result (Files D) StoreFault) (opened : Result (Kept (FileStore D g) × ℕ) StoreFault) (r : Result F StoreFault) →
+      IfOk opened (IsFoundIn image) → IfErr opened (λ e. r ≡ Err e) → IfOk opened (λ k. IfOk r (λ f. IfOk (closed f) (TheRows k (rows f)))) →
+      IfOk r (λ f. IfOk (closed f) (WereFoundIfClean g image (rows f)))
+  were_found rows closed (Ok k) (Ok f) found fault had =
+      each_ok (TheRows k (rows f)) (WereFoundIfClean g image (rows f)) (closed f) (λ files. the_rows k (rows f) files found) had
+  were_found rows closed (Ok k) (Err e) found fault had = tt
+  were_found rows closed (Err e) (Ok f) found fault had = absurd (cc fault)
+  were_found rows closed (Err e) (Err other) found fault had = tt

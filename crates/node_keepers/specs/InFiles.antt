@@ -10,27 +10,35 @@ use Rattle.sqlite.specs.Closing.{IsCopied}
 use Rattle.sqlite.specs.Files.{over_files}
 use Rattle.ocpi_types.specs.declared.rows.Row.{Row}
 use Rattle.row_table.specs.Kept.{Kept, IsClean, content, texts}
-use Rattle.node_store.specs.Contents.{rows_of}
+use Rattle.node_store.specs.Contents.{Content, rows_of}
 use Rattle.node_store.specs.Opened.{FindsInFile}
 
-module _ {D : Type 0} {g : Ghosts D} where
-  -- it has what was found in a file that held this
-  abbrev pub IsFoundIn : Image → Kept (FileStore D g) × ℕ → Type 0
-  IsFoundIn image k = IsClean over_files k.0 → FindsInFile image k.0.conn (content over_files k.0)
+-- it has what was found in a file that held this
+abbrev pub IsFoundIn : {D : Type 0} {g : Ghosts D} → Image → Kept (FileStore D g) × ℕ → Type 0
+IsFoundIn image k = IsClean over_files k.0 → FindsInFile image k.0.conn (content over_files k.0)
 
-  -- it has no text
-  abbrev pub IsBlank : Kept (FileStore D g) × ℕ → Type 0
-  IsBlank k = IsClean over_files k.0 → texts over_files k.0 ≡ empty
+-- it has no text
+abbrev pub IsBlank : {D : Type 0} {g : Ghosts D} → Kept (FileStore D g) × ℕ → Type 0
+IsBlank k = IsClean over_files k.0 → texts over_files k.0 ≡ empty
 
-  -- These rows were found in a file that held this. The keeper that had them was ended, and what it had is in the
-  -- database file alone.
-  pub record WereFound (image : Image) (rows : List Row) (files : Files D) : Type 0 where
-    pub first : Kept (FileStore D g)
-    pub found : FindsInFile image first.conn (content over_files first)
-    pub are : rows_of (texts over_files first) ≡ Some rows
-    pub last : Kept (FileStore D g)
-    pub same : texts over_files last ≡ texts over_files first
-    pub copied : IsCopied last.conn files
+-- A keeper that had these rows was ended, and left this.
+pub record HadRows {K E : Type 0} (content_now : K → Content) (is_honest : K → Type 0) (leaves : K → E → Type 0) (k : K) (rows : List Row) (ended : E) : Type 0 where
+  pub last : K
+  pub left : leaves last ended
+  pub earlier : is_honest last → is_honest k
+  pub are : is_honest last → rows_of (content_now k) ≡ Some rows
+  pub same : is_honest last → content_now last ≡ content_now k
 
-  abbrev pub WereFoundIfClean : Image → List Row → Files D → Type 0
-  WereFoundIfClean image rows files = AreClean g files.log files.db → WereFound image rows files
+-- These rows were found in a file that held this. The keeper that had them was ended, and what it had is in the database
+-- file alone.
+pub record WereFound {D : Type 0} (g : Ghosts D) (image : Image) (rows : List Row) (files : Files D) : Type 0 where
+  pub first : Kept (FileStore D g)
+  pub found : FindsInFile image first.conn (content over_files first)
+  pub are : rows_of (texts over_files first) ≡ Some rows
+  pub last : Kept (FileStore D g)
+  pub same : texts over_files last ≡ texts over_files first
+  pub copied : IsCopied last.conn files
+
+-- as long as the disk returns what was written
+abbrev pub WereFoundIfClean : {D : Type 0} → Ghosts D → Image → List Row → Files D → Type 0
+WereFoundIfClean g image rows files = AreClean g files.log files.db → WereFound g image rows files

@@ -1,14 +1,13 @@
 //! Keepers in files: those of new nodes, that of one node, and the rows of a file that stands.
 
-ghost use Rattle.std.specs.Prelude.{◌≡◌, [], Err, IfErr, IfOk, IfSome, None, Some, string_bytes, true, false, ⊤};
+ghost use Rattle.std.specs.Prelude.{◌≡◌, [], Err, IfErr, IfOk, IfSome, None, Ok, Some, string_bytes, true, false, ⊤};
 ghost use Rattle.node_store.specs.Closed.{IsCopiedIfClean};
 ghost use Rattle.node_store.specs.Faults.{IsCommitFault};
-ghost use Rattle.node_store.specs.Contents.{Content, rows_of};
-ghost use Rattle.node_keepers.specs.InFiles.{IsBlank, IsFoundIn, WereFound};
+ghost use Rattle.node_store.specs.Contents.{Content};
+ghost use Rattle.node_keepers.specs.InFiles.{HadRows, IsBlank, IsFoundIn, WereFoundIfClean};
 ghost use Rattle.row_table.specs.Kept.{IsClean, MayLeave, texts};
 ghost use Rattle.sqlite.specs.Files.{over_files};
 ghost use Rattle.sqlite.specs.WalFiles.{image_at};
-ghost use Rattle.sqlite.specs.WalReads.{AreClean};
 
 use crate::keeps::Keeps;
 use crate::system_files::{
@@ -345,7 +344,7 @@ fn keeper_of<K: Keep + Drop, L: Locked + Drop>(
     standing: &Standing,
     opened: Result<K, (StoreFault, Option<L>)>,
 ) -> Result<K, StoreFault>
-    ensures same { IfOk opened (λ k. IfOk result (λ r. r ≡ k)) }
+    ensures same { IfOk opened (λ k. result ≡ Ok k) }
     ensures fault { IfErr opened (λ e. result ≡ Err e.0) }
 {
     match opened {
@@ -403,8 +402,7 @@ fn rows_of<K: InFile>(
     identity: Option<Identity>,
     opened: Result<K, StoreFault>,
 ) -> Result<Found<K::Ended>, StoreFault>
-    ensures rows { IfOk result (λ f. IfOk f.closed (λ ended. IfOk opened (λ k. (last : K) × K.leaves last ended × (K.is_honest last
-        → K.is_honest k × (rows_of (K.content k) ≡ Some f.rows.items) × (K.content last ≡ K.content k))))) }
+    ensures rows { IfOk opened (λ k. IfOk result (λ f. IfOk f.closed (HadRows K.content K.is_honest K.leaves k f.rows.items))) }
     ensures closed { IfOk result (λ f. IfErr f.closed IsCommitFault) }
     ensures fault { IfErr opened (λ e. result ≡ Err e) }
 {
@@ -427,7 +425,7 @@ pub fn rows_in<S: Start>(
     path: &str,
     start: S,
 ) -> Result<Found<Files<FileFrom<S>>>, StoreFault>
-    ensures rows { IfOk result (λ f. IfOk f.closed (λ files. WereFoundIfClean (image_at S.Start) f.rows.items files)) }
+    ensures rows { IfOk result (λ f. IfOk f.closed (λ files. WereFoundIfClean ⟦<FileFrom<S> as Disk>⟧ (image_at S.Start) f.rows.items files)) }
     ensures closed { IfOk result (λ f. IfErr f.closed IsCommitFault) }
 {
     let standing = find_file(rt, path)?;
