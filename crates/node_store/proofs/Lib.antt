@@ -8,3 +8,4 @@ pub mod Layouts
 pub mod Opening
 pub mod MovedRows
 pub mod MovedStores
+pub mod ClosedFiles

@@ -101,7 +101,7 @@ same_rows old new moved =
 
 -- ---- the law
 
-other_version : (vs : List Value) → vs ≡ Int (pos 1) ∷ [] → vs ≡ Int (pos 2) ∷ [] → ⊥
+pub other_version : (vs : List Value) → vs ≡ Int (pos 1) ∷ [] → vs ≡ Int (pos 2) ∷ [] → ⊥
 other_version vs one two = absurd (let h = sym one ∙ two in cc)
 
 rows_of_two : (c : table.Content) (rows : List Row) → c.versions ≡ Int (pos 2) ∷ [] → HasRows c rows → rows_of c.texts ≡ Some rows

@@ -21,9 +21,7 @@ impl<S: Start> TableKeep<FileStore<FileFrom<S>>> {
     /// Copies the log into the file, empties the log, and gives both back, locked as they were. What was committed last
     /// is in the file alone then, also after a stop. A refusal gives the store back, with its files locked: the rows
     /// are in the file and the log together, as before.
-    pub fn close_files(
-        self,
-    ) -> Result<Files<FileFrom<S>>, (StoreFault, FileStore<FileFrom<S>>)>
+    pub fn close_files(self) -> Result<Files<FileFrom<S>>, (StoreFault, FileStore<FileFrom<S>>)>
         ensures copied { IfOk result (λ files. IsCopiedIfClean self.0.conn files) }
         ensures usable { IfOk result (λ files. AreUsable self.0.conn files) }
         ensures fault { IfErr result (λ e. IsCommitFault e.0) }

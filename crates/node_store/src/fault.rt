@@ -48,7 +48,9 @@ pub enum StoreFault {
     Refused(Cause),
     /// A text that is kept is no row of its kind and key.
     BadRow,
-    /// The store was laid out for other rows.
+    /// The database has something, and not just the two tables of a store with their columns, or not just one version
+    /// that is read. So it was laid out for other rows: by another version of the program, or by another program whose
+    /// tables these are; a third table or another column is enough.
     OldLayout,
     /// Memory ran out.
     Memory,

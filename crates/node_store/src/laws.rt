@@ -1,9 +1,18 @@
-//! The law of what an opening makes of rows.
+//! The laws of what an opening makes of rows, and finds in files that were closed.
 
+ghost use Rattle.node_store.specs.Closed.{ClosedFilesAreFound};
 ghost use Rattle.node_store.specs.Moved.{OpeningKeepsRows};
+
+use sqlite_disk::Disk;
 
 /// A store of layout 1 has the same rows once it is moved to layout 2. So a node that is reopened, also after a stop
 /// inside an opening, is made again of the rows that it stored. A text under another kind than `cdr` stays as it was.
 pub fn opening_keeps_rows()
     ensures { OpeningKeepsRows }
+{}
+
+/// What a keeper had whose files were closed is found again, its version and its texts, with the log that was left and
+/// with none: by the next opening in this run, and by one after a stop. So the file alone is a copy of the store.
+pub fn closed_files_are_found<D: Disk, E: Disk>()
+    ensures { ClosedFilesAreFound D.Disk E.Disk }
 {}

@@ -22,7 +22,7 @@ mod unopened;
 
 pub use fault::{Cause, StoreFault};
 pub use keep::Keep;
-pub use laws::opening_keeps_rows;
+pub use laws::{closed_files_are_found, opening_keeps_rows};
 pub use list_keep::ListKeep;
 pub use table_keep::TableKeep;
 pub use unopened::Unopened;
