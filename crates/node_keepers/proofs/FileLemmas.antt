@@ -1,5 +1,5 @@
 -- Keepers of files.
-use Rattle.std.proofs.Common.{◌≡◌, ◌<◌, ◌⊎◌, ℕ, List, [], ◌∷◌, Result, Ok, Err, IfOk, IfErr, inl, inr, sym, ap, subst, ◌∙◌, length, arith}
+use Rattle.std.proofs.Common.{◌≡◌, ◌<◌, ◌⊎◌, ℕ, List, [], ◌∷◌, Option, Some, None, Result, Ok, Err, IfOk, IfErr, inl, inr, sym, ap, subst, ◌∙◌, length, arith}
 use Rattle.std.specs.FinMap.{empty}
 use Rattle.sqlite_disk.specs.declared.Disk.{Ghosts}
 use Rattle.sqlite.specs.declared.FileStore.{FileStore}
@@ -22,7 +22,7 @@ use Rattle.node_keepers.specs.InFiles.{HadRows, IsBlank, IsFoundIn, WereFoundIfC
 
 -- what is found in files of which the database is empty
 found_nothing : (image : Image) (trees : Trees) → length image.db ≡ 0 → AreFoundIn image trees → IsEmpty trees
-found_nothing image trees none (inl found) = let some : 0 < length image.db = found.1.1.1.0.found.present in absurd (omega (arith, some, none))
+found_nothing image trees none (inl found) = let some : 0 < length image.db = found.3.found.present in absurd (omega (arith, some, none))
 found_nothing image trees none (inr found) = found.1
 
 -- a database without a row has no version
@@ -31,8 +31,8 @@ no_version version trees none has = cc (none, has.only)
 
 -- what is made of a database without a row has no text
 no_texts : (db : Database) (c : table.Content) → db.trees 0 ≡ [] → OpensAs db c → c.texts ≡ empty
-no_texts db c none (inl (inl finds)) = absurd (no_version 2 db.trees none finds.1.0)
-no_texts db c none (inl (inr finds)) = ap (λ (x : table.Content). x.texts) finds.1.1
+no_texts db c none (inl (inl finds)) = absurd (no_version 2 db.trees none finds.1)
+no_texts db c none (inl (inr finds)) = ap (λ (x : table.Content). x.texts) finds.2
 no_texts db c none (inr moved) = absurd (no_version 1 db.trees none moved.0.1)
 
 -- a keeper of files that held nothing has no text
@@ -45,10 +45,10 @@ begins_blank image now c none found =
     no_texts (file_state found.was).now c (ap (λ (t : Trees). t 0) same ∙ nothing.0 0 (omega arith)) found.says
 
 -- the same, of one that may have been opened
-pub all_blank : {D : Type 0} {g : Ghosts D} (image : Image) (r : Result (Kept (FileStore D g) × ℕ) StoreFault) → length image.db ≡ 0 →
-    IfOk r (IsFoundIn image) → IfOk r IsBlank
-all_blank image (Ok k) none found = λ clean. begins_blank image k.0.conn (content over_files k.0) none (found clean)
-all_blank image (Err e) none found = tt
+pub all_blank : {D : Type 0} {g : Ghosts D} (image : Image) (r : Result (Kept (FileStore D g) × ℕ) StoreFault) → IfOk r (IsFoundIn image) →
+    length image.db ≡ 0 → IfOk r IsBlank
+all_blank image (Ok k) found none = λ clean. begins_blank image k.0.conn (content over_files k.0) none (found clean)
+all_blank image (Err e) found none = tt
 
 -- what is known of a keeper that was opened is known of that which is handed on
 pub handed_on : {K X : Type 0} (P : K → Type 0) (opened : Result K (StoreFault × X)) (r : Result K StoreFault) → IfOk opened (λ k. r ≡ Ok k) →
@@ -60,22 +60,46 @@ each_ok : {X E : Type 0} (P Q : X → Type 0) (r : Result X E) → ((x : X) → 
 each_ok P Q (Ok x) all known = all x known
 each_ok P Q (Err e) all known = tt
 
--- rows that a keeper of a file had were found in the file
-module _ {D : Type 0} (g : Ghosts D) (image : Image) where
-  abbrev pub TheRows : Kept (FileStore D g) × ℕ → List Row → Files D → Type 0
-  TheRows = HadRows (λ (k : Kept (FileStore D g) × ℕ). texts over_files k.0) (λ (k : Kept (FileStore D g) × ℕ). IsClean over_files k.0)
-      (λ (k : Kept (FileStore D g) × ℕ) (files : Files D). IsCopiedIfClean k.0.conn files)
+each_err : {X E : Type 0} (P Q : E → Type 0) (r : Result X E) → ((e : E) → P e → Q e) → IfErr r P → IfErr r Q
+each_err P Q (Ok x) all known = tt
+each_err P Q (Err e) all known = all e known
 
-  the_rows : (k : Kept (FileStore D g) × ℕ) (rows : List Row) (files : Files D) → IsFoundIn image k → TheRows k rows files → WereFoundIfClean g image rows files
+-- what follows of a keeper that was opened, for that which was made of it
+of_opened : {K F : Type 0} (Known : K → Type 0) (P : K → F → Type 0) (Q : F → Type 0) (opened : Result K StoreFault) (r : Result F StoreFault) →
+    ((k : K) (f : F) → Known k → P k f → Q f) → IfOk opened Known → IfErr opened (λ e. r ≡ Err e) → IfOk opened (λ k. IfOk r (P k)) → IfOk r Q
+of_opened Known P Q (Ok k) (Ok f) each known fault told = each k f known told
+of_opened Known P Q (Ok k) (Err e) each known fault told = tt
+of_opened Known P Q (Err e) (Ok f) each known fault told = absurd (cc fault)
+of_opened Known P Q (Err e) (Err other) each known fault told = tt
+
+-- a keeper of a file had these rows
+abbrev pub TheRows : {D : Type 0} {g : Ghosts D} → Kept (FileStore D g) × ℕ → Option (List Row) → Files D → Type 0
+TheRows {D} {g} = HadRows (λ (k : Kept (FileStore D g) × ℕ). texts over_files k.0) (λ (k : Kept (FileStore D g) × ℕ). IsClean over_files k.0)
+    (λ (k : Kept (FileStore D g) × ℕ) (files : Files D). IsCopiedIfClean k.0.conn files)
+
+-- they were found in the file
+module _ {D : Type 0} {g : Ghosts D} (image : Image) where
+  the_rows : (k : Kept (FileStore D g) × ℕ) (rows : Option (List Row)) (files : Files D) → IsFoundIn image k → TheRows k rows files → WereFoundIfClean g image rows files
   the_rows k rows files found had = λ clean.
       let copied = had.left clean in
       record { first = k.0; found = found (had.earlier copied.was_clean); are = had.are copied.was_clean; last = had.last.0; same = had.same copied.was_clean; copied = copied }
 
-  pub were_found : {F : Type 0} (rows : F → List Row) (closed : F → Result (Files D) StoreFault) (opened : Result (Kept (FileStore D g) × ℕ) StoreFault) (r : Result F StoreFault) →
-      IfOk opened (IsFoundIn image) → IfErr opened (λ e. r ≡ Err e) → IfOk opened (λ k. IfOk r (λ f. IfOk (closed f) (TheRows k (rows f)))) →
-      IfOk r (λ f. IfOk (closed f) (WereFoundIfClean g image (rows f)))
-  were_found rows closed (Ok k) (Ok f) found fault had =
-      each_ok (TheRows k (rows f)) (WereFoundIfClean g image (rows f)) (closed f) (λ files. the_rows k (rows f) files found) had
-  were_found rows closed (Ok k) (Err e) found fault had = tt
-  were_found rows closed (Err e) (Ok f) found fault had = absurd (cc fault)
-  were_found rows closed (Err e) (Err other) found fault had = tt
+  module _ {F V : Type 0} (opened : Result (Kept (FileStore D g) × ℕ) StoreFault) (r : Result F StoreFault) (found : IfOk opened (IsFoundIn image))
+      (fault : IfErr opened (λ e. r ≡ Err e)) (rows : F → Result V StoreFault) (items : V → List Row) (closed : F → Result (Files D) StoreFault) where
+    pub rows_found : IfOk opened (λ k. IfOk r (λ f. IfOk (rows f) (λ v. IfOk (closed f) (TheRows k (Some (items v)))))) →
+        IfOk r (λ f. IfOk (rows f) (λ v. IfOk (closed f) (WereFoundIfClean g image (Some (items v)))))
+    rows_found told =
+        of_opened (IsFoundIn image) (λ (k : Kept (FileStore D g) × ℕ) (f : F). IfOk (rows f) (λ v. IfOk (closed f) (TheRows k (Some (items v)))))
+        (λ (f : F). IfOk (rows f) (λ v. IfOk (closed f) (WereFoundIfClean g image (Some (items v))))) opened r
+        (λ k f known. each_ok (λ (v : V). IfOk (closed f) (TheRows k (Some (items v)))) (λ (v : V). IfOk (closed f) (WereFoundIfClean g image (Some (items v)))) (rows f)
+        (λ v. each_ok (TheRows k (Some (items v))) (WereFoundIfClean g image (Some (items v))) (closed f) (λ files. the_rows k (Some (items v)) files known)))
+        found fault told
+
+    pub bad_found : (bad : StoreFault) → IfOk opened (λ k. IfOk r (λ f. IfErr (rows f) (λ e. e ≡ bad → IfOk (closed f) (TheRows k None)))) →
+        IfOk r (λ f. IfErr (rows f) (λ e. e ≡ bad → IfOk (closed f) (WereFoundIfClean g image None)))
+    bad_found bad told =
+        of_opened (IsFoundIn image) (λ (k : Kept (FileStore D g) × ℕ) (f : F). IfErr (rows f) (λ e. e ≡ bad → IfOk (closed f) (TheRows k None)))
+        (λ (f : F). IfErr (rows f) (λ e. e ≡ bad → IfOk (closed f) (WereFoundIfClean g image None))) opened r
+        (λ k f known. each_err (λ (e : StoreFault). e ≡ bad → IfOk (closed f) (TheRows k None)) (λ (e : StoreFault). e ≡ bad → IfOk (closed f) (WereFoundIfClean g image None)) (rows f)
+        (λ e had is. each_ok (TheRows k None) (WereFoundIfClean g image None) (closed f) (λ files. the_rows k None files known) (had is)))
+        found fault told

@@ -1,8 +1,9 @@
 //! Keepers in files: those of new nodes, that of one node, and the rows of a file that stands.
 
-ghost use Rattle.std.specs.Prelude.{◌≡◌, [], Err, IfErr, IfOk, IfSome, None, Ok, Some, string_bytes, true, false, ⊤};
+ghost use Rattle.std.specs.Prelude.{◌≡◌, ◌≢◌, [], Err, IfErr, IfOk, IfSome, IsOk, None, Ok, Some, string_bytes, true, false, ⊤};
 ghost use Rattle.node_store.specs.Closed.{IsCopiedIfClean};
 ghost use Rattle.node_store.specs.Faults.{IsCommitFault};
+ghost use Rattle.node_store.specs.declared.fault.StoreFault.TheVariants.{BadRow, OldLayout};
 ghost use Rattle.node_store.specs.Contents.{Content};
 ghost use Rattle.node_keepers.specs.InFiles.{HadRows, IsBlank, IsFoundIn, WereFoundIfClean};
 ghost use Rattle.row_table.specs.Kept.{IsClean, MayLeave, texts};
@@ -98,6 +99,34 @@ impl<'a> FileKeeps<'a> {
         Ok(standing)
     }
 
+    /// Ends the keeper of the node at this place, and notes the path of the first file that refused it. It stands for any
+    /// keeper, since a body that holds one in a file is dear to prove.
+    fn end<K: InFile + Drop>(&mut self, place: usize, keep: K) -> Result<K::Ended, StoreFault>
+        ensures ended { IfOk result (K.leaves keep) }
+        ensures fault { IfErr result IsCommitFault }
+        ensures opened { self.new.opened ≡ self.old.opened }
+    {
+        let path = self.path_of(place);
+        let closed = close_at(self.rt, &path, self.identity_at(place), keep);
+        if closed.is_err() && self.unclosed.is_none() {
+            self.unclosed = path.ok();
+        }
+        closed
+    }
+
+    /// The same of a keeper in a file, whatever that holds.
+    fn end_in_file<S: Start>(
+        &mut self,
+        place: usize,
+        keep: TableKeep<FileStore<FileFrom<S>>>,
+    ) -> Result<Files<FileFrom<S>>, StoreFault>
+        ensures ended { IfOk result (IsCopiedIfClean keep.0.conn) }
+        ensures fault { IfErr result IsCommitFault }
+        ensures opened { self.new.opened ≡ self.old.opened }
+    {
+        self.end(place, keep)
+    }
+
     /// Which file was made last for the node at this place, where that is known.
     fn identity_at(&self, place: usize) -> Option<Identity> {
         let mut identity = None;
@@ -142,12 +171,7 @@ impl Keeps for FileKeeps<'_> {
         place: usize,
         keep: TableKeep<FileStore<File>>,
     ) -> Result<Files<File>, StoreFault> {
-        let path = self.path_of(place);
-        let closed = close_at(self.rt, &path, self.identity_at(place), keep);
-        if closed.is_err() && self.unclosed.is_none() {
-            self.unclosed = path.ok();
-        }
-        closed
+        self.end_in_file(place, keep)
     }
 }
 
@@ -384,11 +408,12 @@ fn open_new(
     open_file(rt, path, standing, Unknown)
 }
 
-/// What was found in a file.
+/// What was found in a file that was opened.
 #[derive(Drop)]
 pub struct Found<F> {
-    /// Its rows, ordered by kind and key.
-    pub rows: Vec<Row>,
+    /// Its rows, ordered by kind and key, or why they were not told: `BadRow` where a text is no row of its kind and
+    /// key, and never `OldLayout`.
+    pub rows: Result<Vec<Row>, StoreFault>,
     /// The file and its log, which was closed once these were read, so that the file holds all rows alone. Both are
     /// locked until they are dropped. After a refusal the rows are in the file and its log together, as before.
     pub closed: Result<F, StoreFault>,
@@ -402,22 +427,23 @@ fn rows_of<K: InFile>(
     identity: Option<Identity>,
     opened: Result<K, StoreFault>,
 ) -> Result<Found<K::Ended>, StoreFault>
-    ensures rows { IfOk opened (λ k. IfOk result (λ f. IfOk f.closed (HadRows K.content K.is_honest K.leaves k f.rows.items))) }
+    ensures told { IfOk opened (λ k. IsOk result) }
+    ensures rows { IfOk opened (λ k. IfOk result (λ f. IfOk f.rows (λ v. IfOk f.closed (HadRows K.content K.is_honest K.leaves k (Some v.items))))) }
+    ensures bad { IfOk opened (λ k. IfOk result (λ f. IfErr f.rows (λ e. e ≡ BadRow → IfOk f.closed (HadRows K.content K.is_honest K.leaves k None)))) }
+    ensures layout { IfOk result (λ f. IfErr f.rows (λ e. e ≢ OldLayout)) }
     ensures closed { IfOk result (λ f. IfErr f.closed IsCommitFault) }
     ensures fault { IfErr opened (λ e. result ≡ Err e) }
 {
     let mut keep = opened?;
-    let loaded = keep.load();
+    let rows = keep.load();
     let closed = keep.end(rt, path, identity);
-    match loaded {
-        Ok(rows) => Ok(Found { rows, closed }),
-        Err(fault) => Err(fault),
-    }
+    Ok(Found { rows, closed })
 }
 
-/// The rows of a file that exists, or why there are none: `NotFound`, `NotAFile` and `PermissionDenied` are told of the
-/// path before the file is opened as a database. The file is closed again; a refusal leaves no file beside it that was
-/// not there before, but a log where the file is empty, where another program has the file, or where no file came back.
+/// The rows of a file that exists. It is refused where it was not opened: `NotFound`, `NotAFile` and `PermissionDenied`
+/// are told of the path before the file is opened as a database. Else the file is closed again. A refusal leaves no
+/// file beside it that was not there before, but a log where the file is empty, where another program has the file, or
+/// where no file came back.
 ///
 /// `S` stands for what the file holds. A program names `Unknown`.
 pub fn rows_in<S: Start>(
@@ -425,7 +451,9 @@ pub fn rows_in<S: Start>(
     path: &str,
     start: S,
 ) -> Result<Found<Files<FileFrom<S>>>, StoreFault>
-    ensures rows { IfOk result (λ f. IfOk f.closed (λ files. WereFoundIfClean ⟦<FileFrom<S> as Disk>⟧ (image_at S.Start) f.rows.items files)) }
+    ensures rows { IfOk result (λ f. IfOk f.rows (λ v. IfOk f.closed (WereFoundIfClean ⟦<FileFrom<S> as Disk>⟧ (image_at S.Start) (Some v.items)))) }
+    ensures bad { IfOk result (λ f. IfErr f.rows (λ e. e ≡ BadRow → IfOk f.closed (WereFoundIfClean ⟦<FileFrom<S> as Disk>⟧ (image_at S.Start) None))) }
+    ensures layout { IfOk result (λ f. IfErr f.rows (λ e. e ≢ OldLayout)) }
     ensures closed { IfOk result (λ f. IfErr f.closed IsCommitFault) }
 {
     let standing = find_file(rt, path)?;
