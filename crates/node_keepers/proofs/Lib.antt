@@ -1,1 +1,2 @@
 mod KeeperLemmas
+mod FileLemmas

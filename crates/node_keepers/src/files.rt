@@ -1,27 +1,42 @@
-//! Keepers in files: those of new nodes, and the rows of one that stands.
+//! Keepers in files: those of new nodes, that of one node, and the rows of a file that stands.
 
-ghost use Rattle.std.specs.Prelude.{◌≡◌, [], Err, IfErr, IfOk, IfSome, None, string_bytes, ⊤};
+ghost use Rattle.std.specs.Prelude.{◌≡◌, ◌≢◌, [], Err, IfErr, IfOk, IfSome, IsOk, None, Ok, Some, string_bytes, true, false, ⊤};
+ghost use Rattle.node_store.specs.Closed.{IsCopiedIfClean};
 ghost use Rattle.node_store.specs.Faults.{IsCommitFault};
+ghost use Rattle.node_store.specs.declared.fault.StoreFault.TheVariants.{BadRow, OldLayout};
 ghost use Rattle.node_store.specs.Contents.{Content};
+ghost use Rattle.node_keepers.specs.InFiles.{HadRows, IsBlank, IsFoundIn, WereFoundIfClean};
 ghost use Rattle.row_table.specs.Kept.{IsClean, MayLeave, texts};
 ghost use Rattle.sqlite.specs.Files.{over_files};
+ghost use Rattle.sqlite.specs.WalFiles.{image_at};
 
 use crate::keeps::Keeps;
-use node_store::{Cause, Keep, StoreFault, TableKeep};
+use crate::system_files::{
+    Identity, LOG_OF_A_PAGE, Locked, Standing, find_file, find_folder, find_or_make_file,
+    make_file, remove_empty_log,
+};
+use node_store::{Cause, Keep, StoreFault, TableKeep, Unopened};
 use ocpi_types::Row;
 use row_table::Past;
-use sqlite::{File, FileStore, Unknown};
+use sqlite::{File, FileFrom, FileStore, Files, Start, Unknown};
+use sqlite_disk::Disk;
 use std::alloc::AllocError;
-use std::fs::{self, OpenOptions};
-use std::io::{self, ErrorKind};
 
-/// Keepers in new files of a folder: `node1.db` of the first node, and so on.
+/// A file that was made for the node at a place.
+#[derive(Clone, Copy)]
+struct MadeFile {
+    place: usize,
+    identity: Option<Identity>,
+}
+
+/// Keepers in new files of a folder: `node1.db` of the first node, and so on. Each file is its owner's alone.
 #[derive(Drop)]
 pub struct FileKeeps<'a> {
     rt: &'a HostRuntime,
     folder: &'a str,
     path: Option<String>,
     unclosed: Option<String>,
+    made: Vec<MadeFile>,
     opened: Past<usize>,
 }
 
@@ -38,6 +53,7 @@ impl<'a> FileKeeps<'a> {
             folder,
             path: None,
             unclosed: None,
+            made: Vec::new(rt.alloc()),
             opened: Past::new(),
         }
     }
@@ -68,53 +84,143 @@ impl<'a> FileKeeps<'a> {
     fn path_of(&self, place: usize) -> Result<String, AllocError> {
         format!(in self.rt.alloc(); "{}/node{place}.db", self.folder)
     }
-}
 
-impl Keeps for FileKeeps<'_> {
-    type Kept = TableKeep<FileStore<File>>;
-
-    ghost may_refuse = { λ place fault. ⊤ };
-
-    ghost opened = { λ keeps. keeps.opened.items };
-
-    /// The folder must exist, and nothing may have the file's name. The path is noted first.
-    fn open(&mut self, place: usize) -> Result<TableKeep<FileStore<File>>, StoreFault> {
-        self.opened = self.opened.note(&place);
-        let path = self.path_of(place)?;
-        self.path = Some(path);
-        find_folder(self.rt, self.folder)?;
-        make_file(self.rt, self.path())?;
-        open_file(self.rt, self.path())
+    /// Makes the file whose path was noted, of the node at this place, and notes which file it is. Room for the note is
+    /// taken before.
+    fn make(&mut self, place: usize) -> Result<Standing, StoreFault>
+        ensures { self.new.opened ≡ self.old.opened }
+    {
+        self.made.reserve(1)?;
+        let standing = make_file(self.rt, self.path())?;
+        self.made.push(MadeFile {
+            place,
+            identity: standing.identity,
+        })?;
+        Ok(standing)
     }
 
-    /// The file holds all rows then, and no other stands beside it. The path is noted where that was refused.
-    fn close(&mut self, place: usize, keep: TableKeep<FileStore<File>>) -> Result<(), StoreFault> {
+    /// Ends the keeper of the node at this place, and notes the path of the first file that refused it. It stands for any
+    /// keeper, since a body that holds one in a file is dear to prove.
+    fn end<K: InFile + Drop>(&mut self, place: usize, keep: K) -> Result<K::Ended, StoreFault>
+        ensures ended { IfOk result (K.leaves keep) }
+        ensures fault { IfErr result IsCommitFault }
+        ensures opened { self.new.opened ≡ self.old.opened }
+    {
         let path = self.path_of(place);
-        let closed = close_at(self.rt, &path, keep);
+        let closed = close_at(self.rt, &path, self.identity_at(place), keep);
         if closed.is_err() && self.unclosed.is_none() {
             self.unclosed = path.ok();
         }
         closed
     }
+
+    /// The same of a keeper in a file, whatever that holds.
+    fn end_in_file<S: Start>(
+        &mut self,
+        place: usize,
+        keep: TableKeep<FileStore<FileFrom<S>>>,
+    ) -> Result<Files<FileFrom<S>>, StoreFault>
+        ensures ended { IfOk result (IsCopiedIfClean keep.0.conn) }
+        ensures fault { IfErr result IsCommitFault }
+        ensures opened { self.new.opened ≡ self.old.opened }
+    {
+        self.end(place, keep)
+    }
+
+    /// Which file was made last for the node at this place, where that is known.
+    fn identity_at(&self, place: usize) -> Option<Identity> {
+        let mut identity = None;
+        for file in self.made.as_slice() {
+            if file.place == place {
+                identity = file.identity;
+            }
+        }
+        identity
+    }
 }
 
-/// The keeper of one node in a file that may exist.
+impl Keeps for FileKeeps<'_> {
+    type Kept = TableKeep<FileStore<File>>;
+
+    type Closed = Files<File>;
+
+    ghost may_refuse = { λ place fault. ⊤ };
+
+    // The file was new, and held nothing.
+    ghost found = { λ place keep. IsBlank keep };
+
+    ghost is_closed = { λ keep files. IsCopiedIfClean keep.0.conn files };
+
+    ghost opened = { λ keeps. keeps.opened.items };
+
+    /// The folder must exist, and nothing may have the file's name. The path is noted first. A refusal for that, or for
+    /// want of memory before, leaves no file that was not there; any other leaves the new file, which is no store yet,
+    /// or one without rows.
+    fn open(&mut self, place: usize) -> Result<TableKeep<FileStore<File>>, StoreFault> {
+        self.opened = self.opened.note(&place);
+        let path = self.path_of(place)?;
+        self.path = Some(path);
+        find_folder(self.rt, self.folder)?;
+        let standing = self.make(place)?;
+        open_new(self.rt, self.path(), &standing)
+    }
+
+    /// The file holds all rows then, and no other stands beside it. The path is noted where that was refused.
+    fn close(
+        &mut self,
+        place: usize,
+        keep: TableKeep<FileStore<File>>,
+    ) -> Result<Files<File>, StoreFault> {
+        self.end_in_file(place, keep)
+    }
+}
+
+/// The keeper of one node in a file that may exist. It is opened once.
+///
+/// `S` stands for what the file holds. A program names `Unknown`.
 #[derive(Drop)]
-pub struct StoreFile<'a> {
+pub struct StoreFile<'a, S> {
     rt: &'a HostRuntime,
     path: &'a str,
+    is_to_stand: bool,
+    start: Option<S>,
+    identity: Option<Identity>,
     opened: Past<usize>,
 }
 
-impl<'a> StoreFile<'a> {
-    /// A keeper of the rows in the file at that path, which is made where it is missing, once the keeper is opened.
-    pub fn new(rt: &'a HostRuntime, path: &'a str) -> StoreFile<'a>
+impl<'a, S: Start> StoreFile<'a, S> {
+    /// A keeper of the rows in the file at that path. Where nothing has its name once the keeper is opened, it is made,
+    /// of its owner alone.
+    pub fn new(rt: &'a HostRuntime, path: &'a str, start: S) -> StoreFile<'a, S>
         ensures path { result.path ≡ path.entry }
+        ensures made { result.is_to_stand ≡ false }
+        ensures start { result.start ≡ Some start }
         ensures opened { result.opened.items ≡ [] }
     {
         StoreFile {
             rt,
             path,
+            is_to_stand: false,
+            start: Some(start),
+            identity: None,
+            opened: Past::new(),
+        }
+    }
+
+    /// A keeper of the rows in the file at that path. Where nothing has its name once the keeper is opened, that is
+    /// refused as `NotFound`, and no file is made.
+    pub fn existing(rt: &'a HostRuntime, path: &'a str, start: S) -> StoreFile<'a, S>
+        ensures path { result.path ≡ path.entry }
+        ensures stands { result.is_to_stand ≡ true }
+        ensures start { result.start ≡ Some start }
+        ensures opened { result.opened.items ≡ [] }
+    {
+        StoreFile {
+            rt,
+            path,
+            is_to_stand: true,
+            start: Some(start),
+            identity: None,
             opened: Past::new(),
         }
     }
@@ -125,46 +231,111 @@ impl<'a> StoreFile<'a> {
     {
         self.path
     }
+
+    /// The file as it stands, where it may be read and written. It is made where it may be missing, and is.
+    fn find(&self) -> Result<Standing, StoreFault> {
+        if self.is_to_stand {
+            find_file(self.rt, self.path)
+        } else {
+            find_or_make_file(self.rt, self.path)
+        }
+    }
 }
 
-impl Keeps for StoreFile<'_> {
-    type Kept = TableKeep<FileStore<File>>;
+impl<S: Start> Keeps for StoreFile<'_, S> {
+    type Kept = TableKeep<FileStore<FileFrom<S>>>;
+
+    type Closed = Files<FileFrom<S>>;
 
     ghost may_refuse = { λ place fault. ⊤ };
 
+    ghost found = { λ place keep. IsFoundIn (image_at S.Start) keep };
+
+    ghost is_closed = { λ keep files. IsCopiedIfClean keep.0.conn files };
+
     ghost opened = { λ keeps. keeps.opened.items };
 
-    /// The folder of the file must exist. Whichever the place is, it is the same file.
-    fn open(&mut self, place: usize) -> Result<TableKeep<FileStore<File>>, StoreFault> {
+    /// The folder of the file must exist. Whichever the place is, it is the same file. A second opening is refused as
+    /// `OpenedBefore`. `NotAFile` and `PermissionDenied` are told of the path, and `NotFound` of one whose file is to
+    /// stand, before the file is opened as a database. A refusal leaves an empty log beside the file only where the
+    /// file is empty, where another program has it open, or where no file came back.
+    fn open(&mut self, place: usize) -> Result<TableKeep<FileStore<FileFrom<S>>>, StoreFault> {
         self.opened = self.opened.note(&place);
-        find_or_make_file(self.rt, self.path)?;
-        open_file(self.rt, self.path)
+        let Some(start) = self.start.take() else {
+            return Err(StoreFault::Refused(Cause::OpenedBefore));
+        };
+        let standing = self.find()?;
+        self.identity = standing.identity;
+        open_file(self.rt, self.path, &standing, start)
     }
 
     /// The file holds all rows then, and no other stands beside it.
-    fn close(&mut self, _place: usize, keep: TableKeep<FileStore<File>>) -> Result<(), StoreFault> {
-        keep.end(self.rt, self.path)
+    fn close(
+        &mut self,
+        _place: usize,
+        keep: TableKeep<FileStore<FileFrom<S>>>,
+    ) -> Result<Files<FileFrom<S>>, StoreFault> {
+        keep.end(self.rt, self.path, self.identity)
+    }
+}
+
+// A file and its log that were closed: the log holds nothing that the file lacks.
+impl<D: Disk> Locked for Files<D> {
+    fn least_log(&self) -> u64 {
+        LOG_OF_A_PAGE
+    }
+}
+
+// What opened no database may have left its mark in the log of a file that it was making.
+impl<D: Disk> Locked for Unopened<D> {
+    fn least_log(&self) -> u64 {
+        match self {
+            Unopened::Files(_) => 1,
+            Unopened::Connection(_) => LOG_OF_A_PAGE,
+        }
     }
 }
 
 /// A keeper whose rows are in a file.
 trait InFile: Keep {
+    /// The file and its log, once the keeper was ended. Both are locked until they are dropped.
+    type Ended: Locked + Drop;
+
+    /// What is known of what a keeper leaves.
+    ghost leaves: { Self → Self.Ended → Type 0 };
+
     /// Ends it, so that the file at that path holds all rows, and no log stands beside it. After a refusal they are in
     /// the file and its log together, as before.
-    fn end(self, rt: &HostRuntime, path: &str) -> Result<(), StoreFault>
-        ensures { IfErr result IsCommitFault };
+    fn end(
+        self,
+        rt: &HostRuntime,
+        path: &str,
+        identity: Option<Identity>,
+    ) -> Result<Self::Ended, StoreFault>
+        ensures ended { IfOk result (leaves self) }
+        ensures fault { IfErr result IsCommitFault };
 }
 
-impl InFile for TableKeep<FileStore<File>> {
-    fn end(self, rt: &HostRuntime, path: &str) -> Result<(), StoreFault> {
+impl<S: Start> InFile for TableKeep<FileStore<FileFrom<S>>> {
+    type Ended = Files<FileFrom<S>>;
+
+    ghost leaves = { λ keep files. IsCopiedIfClean keep.0.conn files };
+
+    fn end(
+        self,
+        rt: &HostRuntime,
+        path: &str,
+        identity: Option<Identity>,
+    ) -> Result<Files<FileFrom<S>>, StoreFault> {
         match self.close_files() {
             Ok(files) => {
-                // Both are locked until they are dropped.
-                remove_empty_log(rt, path);
-                drop(files);
-                Ok(())
+                remove_empty_log(rt, path, identity, &files);
+                Ok(files)
             }
-            Err(fault) => Err(fault),
+            Err((fault, store)) => {
+                drop(store);
+                Err(fault)
+            }
         }
     }
 }
@@ -174,12 +345,14 @@ impl InFile for TableKeep<FileStore<File>> {
 fn close_at<K: InFile + Drop>(
     rt: &HostRuntime,
     path: &Result<String, AllocError>,
+    identity: Option<Identity>,
     keep: K,
-) -> Result<(), StoreFault>
-    ensures { IfErr result IsCommitFault }
+) -> Result<K::Ended, StoreFault>
+    ensures ended { IfOk result (K.leaves keep) }
+    ensures fault { IfErr result IsCommitFault }
 {
     match path {
-        Ok(path) => keep.end(rt, path.as_str()),
+        Ok(path) => keep.end(rt, path.as_str(), identity),
         Err(_) => {
             drop(keep);
             Err(StoreFault::Memory)
@@ -187,151 +360,63 @@ fn close_at<K: InFile + Drop>(
     }
 }
 
-/// The path of the log that the database keeps for the file at a path, which stands.
-fn log_of(rt: &HostRuntime, path: &str) -> io::Result<String> {
-    let file = fs::canonicalize(rt, path)?;
-    Ok(format!(in rt.alloc(); "{}-wal", file.as_str())?)
-}
-
-/// Whether something has the name of the log of the file at a path.
-fn has_log(rt: &HostRuntime, path: &str) -> bool {
-    match log_of(rt, path) {
-        Ok(log) => fs::symlink_metadata(rt, log.as_str()).is_ok(),
-        Err(_) => false,
-    }
-}
-
-/// The least bytes of a log that holds a page: it begins with 32, and a page of at least 512 stands behind 24.
-const LOG_OF_A_PAGE: u64 = 568;
-
-/// Removes the log of the file at a path, where it holds no page. One that cannot be removed does no harm, and stays.
-fn remove_empty_log(rt: &HostRuntime, path: &str) {
-    let Ok(log) = log_of(rt, path) else {
-        return;
-    };
-    if let Ok(found) = fs::symlink_metadata(rt, log.as_str()) {
-        if found.is_file() && found.len() < LOG_OF_A_PAGE {
-            let _ = fs::remove_file(rt, log.as_str());
-        }
-    }
-}
-
-/// A keeper of the file at a path, as it was opened. Where that was refused, an empty log beside the file goes which
-/// had not been there.
-fn without_log<K: Keep + Drop>(
+/// A keeper of the file at a path, as it was opened. Where that was refused and the file is still locked, its log goes
+/// that the opening made.
+fn keeper_of<K: Keep + Drop, L: Locked + Drop>(
     rt: &HostRuntime,
     path: &str,
-    had_log: bool,
-    opened: Result<K, StoreFault>,
+    standing: &Standing,
+    opened: Result<K, (StoreFault, Option<L>)>,
 ) -> Result<K, StoreFault>
-    ensures settled { IfOk opened (λ k. K.is_honest k → (c : Content) → K.may_leave k c → c ≡ K.content k)
-        → IfOk result (λ k. K.is_honest k → (c : Content) → K.may_leave k c → c ≡ K.content k) }
-    ensures fault { IfErr opened (λ e. result ≡ Err e) }
+    ensures same { IfOk opened (λ k. result ≡ Ok k) }
+    ensures fault { IfErr opened (λ e. result ≡ Err e.0) }
 {
-    if opened.is_err() && !had_log {
-        remove_empty_log(rt, path);
-    }
-    opened
-}
-
-/// Opens the file at a path as a database. Where that is refused, the connection goes, and the files with it.
-fn open_database(rt: &HostRuntime, path: &str) -> Result<TableKeep<FileStore<File>>, StoreFault>
-    ensures { IfOk result (λ k. IsClean over_files k.0 → (c : Content) → MayLeave over_files k.0 c → c ≡ texts over_files k.0) }
-{
-    match TableKeep::open_file_from(rt, path, Unknown) {
+    match opened {
         Ok(keep) => Ok(keep),
-        Err((fault, _connection)) => Err(fault),
+        Err((fault, Some(left))) => {
+            standing.remove_made_log(rt, path, &left);
+            drop(left);
+            Err(fault)
+        }
+        Err((fault, None)) => Err(fault),
     }
 }
 
-/// Opens the file at a path, which stands. A refusal leaves no file beside it that was not there before.
-fn open_file(rt: &HostRuntime, path: &str) -> Result<TableKeep<FileStore<File>>, StoreFault>
-    ensures { IfOk result (λ k. IsClean over_files k.0 → (c : Content) → MayLeave over_files k.0 c → c ≡ texts over_files k.0) }
+/// Opens the file at a path, which stands, as a database. A refusal leaves no file beside it that was not there before,
+/// but a log where the file is empty, where another program has the file, or where no file came back.
+fn open_file<S: Start>(
+    rt: &HostRuntime,
+    path: &str,
+    standing: &Standing,
+    start: S,
+) -> Result<TableKeep<FileStore<FileFrom<S>>>, StoreFault>
+    ensures found { IfOk result (IsFoundIn (image_at S.Start)) }
+    ensures stops { IfOk result (λ k. IsClean over_files k.0 → (c : Content) → MayLeave over_files k.0 c → c ≡ texts over_files k.0) }
 {
-    let had_log = has_log(rt, path);
-    without_log(rt, path, had_log, open_database(rt, path))
+    keeper_of(rt, path, standing, TableKeep::open_file_from(rt, path, start))
 }
 
-/// Refuses a name that is none of a folder, the empty one too.
-fn find_folder(rt: &HostRuntime, path: &str) -> Result<(), StoreFault> {
-    match fs::metadata(rt, path) {
-        Ok(found) => {
-            if found.is_dir() {
-                Ok(())
-            } else {
-                Err(StoreFault::Refused(Cause::FolderNotFound))
-            }
-        }
-        Err(error) => Err(fault_from(error.kind(), Cause::FolderNotFound)),
-    }
+/// Opens a file that was just made.
+fn open_new(
+    rt: &HostRuntime,
+    path: &str,
+    standing: &Standing,
+) -> Result<TableKeep<FileStore<File>>, StoreFault>
+    ensures blank { IfOk result IsBlank }
+    ensures stops { IfOk result (λ k. IsClean over_files k.0 → (c : Content) → MayLeave over_files k.0 c → c ≡ texts over_files k.0) }
+{
+    open_file(rt, path, standing, Unknown)
 }
 
-/// Makes an empty file, where nothing has its name.
-fn make_file(rt: &HostRuntime, path: &str) -> Result<(), StoreFault> {
-    match fs::File::create_new(rt, path) {
-        Ok(_) => Ok(()),
-        Err(error) => Err(fault_from(error.kind(), Cause::FolderNotFound)),
-    }
-}
-
-/// Makes an empty file where nothing has its name. Refuses one that may not be read and written, and what is no file.
-fn find_or_make_file(rt: &HostRuntime, path: &str) -> Result<(), StoreFault> {
-    if let Ok(found) = fs::metadata(rt, path) {
-        if !found.is_file() {
-            return Err(StoreFault::Refused(Cause::NotAFile));
-        }
-    }
-    match OpenOptions::new()
-        .read(true)
-        .write(true)
-        .create(true)
-        .open(rt, path)
-    {
-        Ok(_) => Ok(()),
-        Err(error) => Err(fault_from(error.kind(), Cause::FolderNotFound)),
-    }
-}
-
-/// Refuses a path at which no file stands that may be read and written. (The database tells none of these causes.)
-fn try_file(rt: &HostRuntime, path: &str) -> Result<(), StoreFault> {
-    match fs::metadata(rt, path) {
-        Ok(found) => {
-            if !found.is_file() {
-                return Err(StoreFault::Refused(Cause::NotAFile));
-            }
-        }
-        Err(error) => return Err(fault_from(error.kind(), Cause::NotFound)),
-    }
-    match OpenOptions::new().read(true).write(true).open(rt, path) {
-        Ok(_) => Ok(()),
-        Err(error) => Err(fault_from(error.kind(), Cause::NotFound)),
-    }
-}
-
-/// What is told of an error of the system at a file, where `missing` is told of a name that leads nowhere.
-fn fault_from(kind: ErrorKind, missing: Cause) -> StoreFault {
-    match kind {
-        ErrorKind::OutOfMemory => StoreFault::Memory,
-        ErrorKind::NotFound | ErrorKind::NotADirectory => StoreFault::Refused(missing),
-        ErrorKind::AlreadyExists => StoreFault::Refused(Cause::AlreadyExists),
-        ErrorKind::IsADirectory => StoreFault::Refused(Cause::NotAFile),
-        ErrorKind::PermissionDenied | ErrorKind::ReadOnlyFilesystem => {
-            StoreFault::Refused(Cause::PermissionDenied)
-        }
-        ErrorKind::StorageFull | ErrorKind::QuotaExceeded => {
-            StoreFault::Refused(Cause::StorageFull)
-        }
-        _ => StoreFault::Refused(Cause::CannotOpen),
-    }
-}
-
-/// What was found in a file.
+/// What was found in a file that was opened.
 #[derive(Drop)]
-pub struct Found {
-    /// Its rows, ordered by kind and key.
-    pub rows: Vec<Row>,
-    /// Whether the file was closed, once these were read, so that it holds all rows alone.
-    pub closed: Result<(), StoreFault>,
+pub struct Found<F> {
+    /// Its rows, ordered by kind and key, or why they were not told: `BadRow` where a text is no row of its kind and
+    /// key, and never `OldLayout`.
+    pub rows: Result<Vec<Row>, StoreFault>,
+    /// The file and its log, which was closed once these were read, so that the file holds all rows alone. Both are
+    /// locked until they are dropped. After a refusal the rows are in the file and its log together, as before.
+    pub closed: Result<F, StoreFault>,
 }
 
 /// The rows of a keeper that was opened, which ends here. It stands for any keeper, since a body that holds one in a
@@ -339,21 +424,43 @@ pub struct Found {
 fn rows_of<K: InFile>(
     rt: &HostRuntime,
     path: &str,
+    identity: Option<Identity>,
     opened: Result<K, StoreFault>,
-) -> Result<Found, StoreFault> {
+) -> Result<Found<K::Ended>, StoreFault>
+    ensures told { IfOk opened (λ k. IsOk result) }
+    ensures rows { IfOk opened (λ k. IfOk result (λ f. IfOk f.rows (λ v. IfOk f.closed (HadRows K.content K.is_honest K.leaves k (Some v.items))))) }
+    ensures bad { IfOk opened (λ k. IfOk result (λ f. IfErr f.rows (λ e. e ≡ BadRow → IfOk f.closed (HadRows K.content K.is_honest K.leaves k None)))) }
+    ensures layout { IfOk result (λ f. IfErr f.rows (λ e. e ≢ OldLayout)) }
+    ensures closed { IfOk result (λ f. IfErr f.closed IsCommitFault) }
+    ensures fault { IfErr opened (λ e. result ≡ Err e) }
+{
     let mut keep = opened?;
-    let loaded = keep.load();
-    let closed = keep.end(rt, path);
-    match loaded {
-        Ok(rows) => Ok(Found { rows, closed }),
-        Err(fault) => Err(fault),
-    }
+    let rows = keep.load();
+    let closed = keep.end(rt, path, identity);
+    Ok(Found { rows, closed })
 }
 
-/// The rows of a file that exists, or why there are none: `NotFound`, `NotAFile` and `PermissionDenied` are told of the
-/// path before the file is opened as a database. The file is closed again; a refusal leaves no file beside it that was
-/// not there before.
-pub fn rows_in(rt: &HostRuntime, path: &str) -> Result<Found, StoreFault> {
-    try_file(rt, path)?;
-    rows_of(rt, path, open_file(rt, path))
+/// The rows of a file that exists. It is refused where it was not opened: `NotFound`, `NotAFile` and `PermissionDenied`
+/// are told of the path before the file is opened as a database. Else the file is closed again. A refusal leaves no
+/// file beside it that was not there before, but a log where the file is empty, where another program has the file, or
+/// where no file came back.
+///
+/// `S` stands for what the file holds. A program names `Unknown`.
+pub fn rows_in<S: Start>(
+    rt: &HostRuntime,
+    path: &str,
+    start: S,
+) -> Result<Found<Files<FileFrom<S>>>, StoreFault>
+    ensures rows { IfOk result (λ f. IfOk f.rows (λ v. IfOk f.closed (WereFoundIfClean ⟦<FileFrom<S> as Disk>⟧ (image_at S.Start) (Some v.items)))) }
+    ensures bad { IfOk result (λ f. IfErr f.rows (λ e. e ≡ BadRow → IfOk f.closed (WereFoundIfClean ⟦<FileFrom<S> as Disk>⟧ (image_at S.Start) None))) }
+    ensures layout { IfOk result (λ f. IfErr f.rows (λ e. e ≢ OldLayout)) }
+    ensures closed { IfOk result (λ f. IfErr f.closed IsCommitFault) }
+{
+    let standing = find_file(rt, path)?;
+    rows_of(
+        rt,
+        path,
+        standing.identity,
+        open_file(rt, path, &standing, start),
+    )
 }

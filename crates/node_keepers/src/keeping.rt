@@ -83,6 +83,16 @@ fn open_each<S: Keeps>(
     Ok(())
 }
 
+/// Closes a keeper, and lets go what it leaves.
+fn close_one<S: Keeps>(keeps: &mut S, place: usize, keep: S::Kept) -> Result<(), StoreFault>
+    ensures { IfErr result IsCommitFault }
+{
+    match keeps.close(place, keep) {
+        Ok(_) => Ok(()),
+        Err(fault) => Err(fault),
+    }
+}
+
 /// Closes keepers that were opened in this order, all of them. Where one is refused, the fault of the first is told.
 pub fn close_all<S: Keeps>(keeps: &mut S, kept: Vec<KeptNode<S::Kept>>) -> Result<(), StoreFault>
     ensures { IfErr result IsCommitFault }
@@ -92,7 +102,7 @@ pub fn close_all<S: Keeps>(keeps: &mut S, kept: Vec<KeptNode<S::Kept>>) -> Resul
     for node in kept {
         place = place.saturating_add(1);
         let KeptNode { party: _, keep } = node;
-        closed = closed.and(keeps.close(place, keep));
+        closed = closed.and(close_one(keeps, place, keep));
     }
     closed
 }

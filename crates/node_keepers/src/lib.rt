@@ -11,6 +11,7 @@
 mod files;
 mod keeping;
 mod keeps;
+mod system_files;
 
 pub use files::{FileKeeps, Found, StoreFile, rows_in};
 pub use keeping::{KeptNode, close_all, commit, open_all};
