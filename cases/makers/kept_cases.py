@@ -2,7 +2,7 @@
 
 The events are those of the charge of `stored_charge` at each of its two nodes, with the packets and rows that are told there, and
 behind them one request that comes again: they go through; they go on over what is kept behind each event; and each of their commits
-is refused in turn. Beside them stand events that change nothing.
+is refused in turn, and finds no memory in turn. Beside them stand events that change nothing.
 """
 import re
 
@@ -12,6 +12,7 @@ from stored_charge import REPLIES, SETUP, rows_of_charge
 
 PARTIES = ("BE/BEC", "NL/TNM")
 REFUSED = "store 1 Refused"
+STARVED = "store 4 Memory"
 LINES, WANTED = [], []
 
 
@@ -77,17 +78,17 @@ def charge_with_reopenings(party):
         line("stored", *rows)
 
 
-def charge_with_a_refusal(party, number, events):
-    """The commit of that number is refused: all is as before. The same event again gives what it gives without that, and so does
-    what follows."""
+def charge_with_a_refusal(party, number, events, word="refuse", gives_then=REFUSED):
+    """The commit of that number is refused, or finds no memory: all is as before. The same event again gives what it gives without
+    that, and so does what follows."""
     opened(party)
-    line("refuse %d" % number)
+    line("%s %d" % (word, number))
     commits = 0
     for given, gives, _ in events:
         if "changed" in gives:
             commits += 1
         if "changed" in gives and commits == number:
-            line(given, REFUSED)
+            line(given, gives_then)
         line(given, *gives)
     line("stored", *events[-1][2])
 
@@ -98,6 +99,7 @@ def each_commit_refused(party):
     for number, at in enumerate(commits, 1):
         # (two events more follow, where there are any)
         charge_with_a_refusal(party, number, events[: at + 3])
+        charge_with_a_refusal(party, number, events[: at + 3], "starve", STARVED)
 
 
 def refused_again_and_again(party):

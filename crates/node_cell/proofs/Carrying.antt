@@ -1,11 +1,12 @@
 -- Work that is carried out over a keeper: what it leaves, and what is told of its event.
-use Rattle.std.proofs.Common.{◌≡◌, ◌≢◌, ◌⊎◌, ◌∙◌, ◌↔◌, ℕ, suc, List, [], Bool, IsTrue, inl, inr, refl, sym, ap, subst, Result, Ok, Err, IfOk, IfErr, OnOk, OnErr}
+use Rattle.std.proofs.Common.{◌≡◌, ◌≢◌, ◌∙◌, ◌↔◌, ℕ, List, [], Bool, IsTrue, inl, refl, sym, ap, subst, Result, Ok, Err, IfOk, IfErr, OnOk, OnErr}
 use Rattle.ocpi_types.specs.declared.node_events.NodeEventKind.{NodeEventKind}
 use Rattle.ocpi_types.specs.declared.rows.Change.{Change}
 use Rattle.node_core.specs.Works.{Does, IsWork, changes_by, node_after, packets_by}
 use Rattle.node_core.specs.declared.input.NodeInput.{NodeInput}
 use Rattle.node_core.specs.declared.work.NodeWork.{NodeWork}
 use Rattle.node_core.proofs.Doing.{does}
+use Rattle.node_store.specs.Faults.{counted_fault}
 use Rattle.node_rows.specs.Laws.{AreClasses, ChangesAreHeld, RestartsAreHeld}
 use Rattle.stored_laws.specs.Nodes.{NodesCanStartAgain}
 use Rattle.world_steps.specs.Steps.{NodeStep, changes_of, input_of}
@@ -44,11 +45,10 @@ module _ {K : Type 0} (keeper : Keeper K) where
         let w = does old.state i x is in
         staying.took keeper held start alike classes old (record { state = n; keep = k }) w.event h (subst (NodeStep old.state w.event) (sym after) w.step)
         (commits_of (changes_of w.event) (changes_by x) old.keep k w.changes ok.commits)
-    carried old i x (Err (fault.Store refusal)) n k h is after ok same err = kept_back old i x suc n k h is same err.1
+    carried old i x (Err (fault.Store refusal)) n k h is after ok same err = kept_back old i x (counted_fault refusal) n k h is same err.1
     carried old i x (Err (fault.Core refusal)) n k h is after ok same err = absurd err
-    carried old i x (Err fault.Memory) n k h is after ok same (inl left) =
+    carried old i x (Err fault.Memory) n k h is after ok same left =
         subst (λ (m : NodeState). IsStored keeper (record { state = m; keep = k })) (sym same) (subst (λ (q : K). IsStored keeper (record { state = old.state; keep = q })) (sym left) h)
-    carried old i x (Err fault.Memory) n k h is after ok same (inr d) = kept_back old i x (λ m. m) n k h is same d
 
   -- ---- what is told
 
@@ -87,7 +87,6 @@ module _ {K : Type 0} (keeper : Keeper K) where
   pub failed : {A : Type 0} (old new : Stored K) (k : NodeEventKind) (i : NodeInput) (x : NodeWork) (r : Result A ApplyFault) → SaysTheSame i k → IsWork old.state i x →
       OnErr r (new.state ≡ old.state) → IfErr r (λ f. IsNotCarriedOut keeper x old.keep f new.keep) → IfErr r (λ f. Fails keeper old k f new)
   failed old new k i x (Ok a) says is same err = tt
-  failed old new k i x (Err (fault.Store refusal)) says is same err = (err.0, loses old new k i x suc says is same err.1)
+  failed old new k i x (Err (fault.Store refusal)) says is same err = (err.0, loses old new k i x (counted_fault refusal) says is same err.1)
   failed old new k i x (Err (fault.Core refusal)) says is same err = absurd err
-  failed old new k i x (Err fault.Memory) says is same (inl left) = inl (unchanged old new same left)
-  failed old new k i x (Err fault.Memory) says is same (inr d) = inr (loses old new k i x (λ n. n) says is same d)
+  failed old new k i x (Err fault.Memory) says is same left = unchanged old new same left

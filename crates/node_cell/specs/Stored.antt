@@ -1,5 +1,5 @@
 -- A node whose rows a keeper keeps: what holds of it at any time, and what an event makes of it.
-use Rattle.std.specs.Prelude.{◌≡◌, ◌≢◌, ◌⊎◌, ◌↔◌, ℕ, suc, List, [], Bool, true, false, IsTrue, None, Some, length}
+use Rattle.std.specs.Prelude.{◌≡◌, ◌≢◌, ◌⊎◌, ◌↔◌, ℕ, List, [], Bool, true, false, IsTrue, None, Some, length}
 use Rattle.ocpi_types.specs.declared.node_events.NodeEventKind.{NodeEventKind}
 use Rattle.ocpi_types.specs.declared.node_events.NodeEventKind.TheVariants as event
 use Rattle.ocpi_types.specs.declared.packet.Packet.{Packet}
@@ -14,7 +14,7 @@ use Rattle.stored_laws.specs.Nodes.{CanStartAgain, IsOfOpening}
 use Rattle.stored_rows.specs.declared.fault.RowsFault.{RowsFault}
 use Rattle.stored_rows.specs.declared.fault.RowsFault.TheVariants as rows_fault
 use Rattle.node_store.specs.Contents.{Content, rows_of}
-use Rattle.node_store.specs.Faults.{counted_fault}
+use Rattle.node_store.specs.Faults.{IsCommitFault, counted_fault}
 use Rattle.node_rows.specs.Holds.{HoldsRows, StoresAlike}
 use Rattle.node_core.specs.Inputs.{Gets}
 use Rattle.node_core.specs.declared.input.NodeInput.{NodeInput}
@@ -108,18 +108,12 @@ Applies keeper old k Skipped new = Passes old k new
 Applies keeper old k (Stepped packets changed) new =
     Does keeper old k packets.items changed new ⊎ ((k ≡ event.Refused) × (packets.items ≡ []) × (changed ≡ false) × (new ≡ old))
 
--- a keeper refused, which is no want of memory
-abbrev pub IsRefusal : StoreFault → Type 0
-IsRefusal (store.Refused cause) = Unit {0}
-IsRefusal store.BadRow = ⊥
-IsRefusal store.OldLayout = ⊥
-IsRefusal store.Memory = ⊥
-
--- why an event was not done, and what that leaves: the node is as it was
+-- Why an event was not done, and what that leaves: all is as it was, but for a keeper that did not take the changes,
+-- for want of memory too.
 abbrev pub Fails : {K : Type 0} → Keeper K → Stored K → NodeEventKind → ApplyFault → Stored K → Type 0
-Fails keeper old k (fault.Store refusal) new = IsRefusal refusal × Loses keeper old k suc new
+Fails keeper old k (fault.Store refusal) new = IsCommitFault refusal × Loses keeper old k (counted_fault refusal) new
 Fails keeper old k (fault.Core refusal) new = Refuses old k refusal new
-Fails keeper old k fault.Memory new = (new ≡ old) ⊎ Loses keeper old k (λ n. n) new
+Fails keeper old k fault.Memory new = new ≡ old
 
 -- what carrying work out answers: its packets, and whether there were changes, which were committed first
 pub record CarriesOut {K : Type 0} (keeper : Keeper K) (x : NodeWork) (before : K) (packets : List Packet) (changed : Bool) (after : K) : Type 0 where
@@ -136,11 +130,11 @@ pub record IsDeclined {K : Type 0} (keeper : Keeper K) (x : NodeWork) (rise : �
   pub some : changes_by x ≢ []
   pub declines : Declines keeper (changes_by x) rise before after
 
--- why work was not carried out
+-- why work was not carried out: the keeper did not take its changes, or memory ran out before it was asked
 abbrev pub IsNotCarriedOut : {K : Type 0} → Keeper K → NodeWork → K → ApplyFault → K → Type 0
-IsNotCarriedOut keeper x before (fault.Store refusal) after = IsRefusal refusal × IsDeclined keeper x suc before after
+IsNotCarriedOut keeper x before (fault.Store refusal) after = IsCommitFault refusal × IsDeclined keeper x (counted_fault refusal) before after
 IsNotCarriedOut keeper x before (fault.Core refusal) after = ⊥
-IsNotCarriedOut keeper x before fault.Memory after = (after ≡ before) ⊎ IsDeclined keeper x (λ n. n) before after
+IsNotCarriedOut keeper x before fault.Memory after = after ≡ before
 
 -- ---- a node that is made of what is kept
 

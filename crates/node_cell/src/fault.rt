@@ -7,11 +7,11 @@ use stored_rows::BadRow;
 /// Why an event changed nothing.
 #[derive(Clone, Copy)]
 pub enum ApplyFault {
-    /// The keeper refused the event's changes.
+    /// The keeper did not take the event's changes, also for want of memory.
     Store(StoreFault),
     /// The node refuses the event.
     Core(NodeFault),
-    /// Memory ran out, also for the keeper or in the node.
+    /// Memory ran out in the node, before the keeper was asked.
     Memory,
 }
 

@@ -13,12 +13,14 @@ use Rattle.world_steps.specs.Steps.{NodeEvent, NodeStep, changes_of}
 use Rattle.world_steps.specs.World.{NodeState}
 use Rattle.node_cell.specs.Keepers.{IsSettled, Keeper, KeepsOn, Nothing, Taken}
 use Rattle.node_cell.specs.Stored.{Fails, IsStored, Loses, Stored}
+use Rattle.node_cell.specs.declared.fault.ApplyFault.{ApplyFault}
 use Rattle.node_cell.specs.declared.fault.ApplyFault.TheVariants as apply
+use Rattle.node_store.specs.declared.fault.StoreFault.TheVariants as store
 use Rattle.history_laws.specs.Replays as entries
 use Rattle.history_laws.specs.Replays.{EntryStep, Replays}
 use Rattle.node_history.specs.Histories.{IsLeft, QuietStep}
 use Rattle.node_history.specs.Cells as cells
-use Rattle.node_history.specs.Cells.{Adds, Cell, Enters, IsCell, IsNotDone, IsNotEntered, IsOpening, StoredStep, cell_of, first_of}
+use Rattle.node_history.specs.Cells.{Adds, Cell, Enters, IsCell, IsNotDone, IsNotEntered, IsOpening, StoredStep, cell_fault, cell_of, first_of}
 use Rattle.histories.specs.declared.entry.Entry.{Entry}
 use Rattle.node_history.specs.declared.fault.CellFault.{CellFault}
 use Rattle.node_history.specs.declared.fault.CellFault.TheVariants as fault
@@ -104,6 +106,14 @@ module _ {K : Type 0} (keeper : Keeper K) where
       })
 
   -- ---- an event was refused
+
+  pub not_done : (old new : Stored K) (history : List Entry) (k : NodeEventKind) (f : ApplyFault) → Fails keeper old k f new → IsNotDone keeper old history k (cell_fault f) new
+  not_done old new history k (apply.Store (store.Refused cause)) fails = fails
+  not_done old new history k (apply.Store store.BadRow) fails = absurd fails.0
+  not_done old new history k (apply.Store store.OldLayout) fails = absurd fails.0
+  not_done old new history k (apply.Store store.Memory) fails = inr fails.1
+  not_done old new history k (apply.Core refusal) fails = fails
+  not_done old new history k apply.Memory fails = inl fails
 
   module _ (held : ChangesAreHeld) (start : NodesCanStartAgain) where
     lost : (party : List ℕ) (first : NodeState) (history : List Entry) (is_fresh : Bool) (old new : Stored K) (k : NodeEventKind) (rise : ℕ → ℕ) → IsCell keeper (at party first history is_fresh old) → IsStored keeper new →

@@ -1,14 +1,16 @@
 -- A node over its keeper with its history: what holds of it at any time, and what an event makes of it.
-use Rattle.std.specs.Prelude.{◌≡◌, ◌<◌, ◌≤◌, ℕ, List, [], ◌∷◌, ◌++◌, Bool, true, false, Contains, length}
+use Rattle.std.specs.Prelude.{◌≡◌, ◌⊎◌, suc, ◌<◌, ◌≤◌, ℕ, List, [], ◌∷◌, ◌++◌, Bool, true, false, Contains, length}
 use Rattle.ocpi_types.specs.Setups.{party_of}
 use Rattle.ocpi_types.specs.declared.node_events.NodeEventKind.{NodeEventKind}
 use Rattle.ocpi_types.specs.declared.setup.Node.{Node}
 use Rattle.node_store.specs.Contents.{Content}
+use Rattle.node_store.specs.declared.fault.StoreFault.{StoreFault}
+use Rattle.node_store.specs.declared.fault.StoreFault.TheVariants as store
 use Rattle.world_laws.specs.Laws.{IsSetup}
 use Rattle.world_steps.specs.Steps.{NodeEvent, changes_of}
 use Rattle.world_steps.specs.World.{NodeState, opening_of}
 use Rattle.node_cell.specs.Keepers.{Commits, Keeper}
-use Rattle.node_cell.specs.Stored.{Fails, IsStored, Reopens, Stored}
+use Rattle.node_cell.specs.Stored.{IsStored, Loses, Refuses, Reopens, Stored}
 use Rattle.node_cell.specs.declared.fault.ApplyFault.{ApplyFault}
 use Rattle.node_cell.specs.declared.fault.ApplyFault.TheVariants as apply
 use Rattle.history_laws.specs.Replays.{Did, Replays, WasIdle}
@@ -82,9 +84,16 @@ pub record Enters {K : Type 0} (keeper : Keeper K) (old : Cell K) (e : Entry) (n
   pub first : new.first ≡ old.first
   pub fresh : new.is_fresh ≡ old.is_fresh
 
+-- what a keeper's fault is to the cell, which tells its want of memory as any other
+abbrev pub keeper_fault : StoreFault → CellFault
+keeper_fault (store.Refused cause) = Store (store.Refused cause)
+keeper_fault store.BadRow = Store store.BadRow
+keeper_fault store.OldLayout = Store store.OldLayout
+keeper_fault store.Memory = Memory
+
 -- what a fault of the node over its keeper is to the cell
 abbrev pub cell_fault : ApplyFault → CellFault
-cell_fault (apply.Store refusal) = Store refusal
+cell_fault (apply.Store refusal) = keeper_fault refusal
 cell_fault (apply.Core refusal) = Core refusal
 cell_fault apply.Memory = Memory
 
@@ -95,12 +104,19 @@ IsNoRoom history (Store refusal) = ⊥
 IsNoRoom history (Core refusal) = ⊥
 IsNoRoom history Memory = Unit {0}
 
--- why nothing was done
+-- a keeper refused, which is no want of memory
+abbrev pub IsRefusal : StoreFault → Type 0
+IsRefusal (store.Refused cause) = Unit {0}
+IsRefusal store.BadRow = ⊥
+IsRefusal store.OldLayout = ⊥
+IsRefusal store.Memory = ⊥
+
+-- why nothing was done: want of memory may be the node's own, or its keeper's
 abbrev pub IsNotDone : {K : Type 0} → Keeper K → Stored K → List Entry → NodeEventKind → CellFault → Stored K → Type 0
 IsNotDone keeper old history k TraceFull new = (most_entries ≤ length history) × (new ≡ old)
-IsNotDone keeper old history k (Store refusal) new = Fails keeper old k (apply.Store refusal) new
-IsNotDone keeper old history k (Core refusal) new = Fails keeper old k (apply.Core refusal) new
-IsNotDone keeper old history k Memory new = Fails keeper old k apply.Memory new
+IsNotDone keeper old history k (Store refusal) new = IsRefusal refusal × Loses keeper old k suc new
+IsNotDone keeper old history k (Core refusal) new = Refuses old k refusal new
+IsNotDone keeper old history k Memory new = (new ≡ old) ⊎ Loses keeper old k (λ n. n) new
 
 -- why an event was not entered; the cell is as it was, but for its keeper
 pub record IsNotEntered {K : Type 0} (keeper : Keeper K) (old : Cell K) (k : NodeEventKind) (fault : CellFault) (new : Cell K) : Type 0 where

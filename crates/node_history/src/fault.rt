@@ -1,7 +1,7 @@
 //! Why an event was not entered.
 
 ghost use Rattle.std.specs.Prelude.{◌≡◌};
-ghost use Rattle.node_history.specs.Cells.{cell_fault};
+ghost use Rattle.node_history.specs.Cells.{cell_fault, keeper_fault};
 
 use node_cell::ApplyFault;
 use node_steps::NodeFault;
@@ -20,12 +20,25 @@ pub enum CellFault {
     Memory,
 }
 
-/// Why an event that a node did not do is not entered.
+/// Why an event is not entered whose changes the keeper did not take.
+fn keeper_fault(fault: StoreFault) -> CellFault
+    ensures { result ≡ keeper_fault fault }
+{
+    match fault {
+        StoreFault::Refused(cause) => CellFault::Store(StoreFault::Refused(cause)),
+        StoreFault::BadRow => CellFault::Store(StoreFault::BadRow),
+        StoreFault::OldLayout => CellFault::Store(StoreFault::OldLayout),
+        StoreFault::Memory => CellFault::Memory,
+    }
+}
+
+/// Why an event that a node did not do is not entered. Want of memory is told alike, whether it was the node's own or
+/// its keeper's.
 pub(crate) fn cell_fault(fault: ApplyFault) -> CellFault
     ensures { result ≡ cell_fault fault }
 {
     match fault {
-        ApplyFault::Store(refusal) => CellFault::Store(refusal),
+        ApplyFault::Store(refusal) => keeper_fault(refusal),
         ApplyFault::Core(refusal) => CellFault::Core(refusal),
         ApplyFault::Memory => CellFault::Memory,
     }

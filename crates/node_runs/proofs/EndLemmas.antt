@@ -46,7 +46,7 @@ module _ {K : Type 0} (keeper : Keeper K) (may_refuse : ℕ → StoreFault → T
   event_goes_on now next stop later number line turn out (turns.IsOfOtherRole x is passes taken written party same) on = same
   event_goes_on now next stop later number line turn out (turns.IsMalformed fault fails refused written left same) on = same
   event_goes_on now next stop later number line turn out (turns.IsRefused x is fault refuses refused written party same) on = same
-  event_goes_on now next stop later number line turn out (turns.IsStarved x is fails refused written party same) on = same
+  event_goes_on now next stop later number line turn out (turns.IsStarved x is refused written left same) on = same
   event_goes_on now next stop later number line turn out (turns.IsLost x is fault fails ended written party same) on = absurd (on ended)
 
   goes_on : (now : Option (Running K)) (s : Stage K) (number : ℕ) (line : List ℕ) (turn : Turn) (out : List ℕ) (next : Stage K) →

@@ -1,8 +1,7 @@
 -- What the lines of a run make of its node.
-use Rattle.std.proofs.Common.{◌≡◌, ◌++◌, ◌∙◌, ℕ, suc, Bool, List, [], ◌∷◌, Option, Some, None, refl, sym, ap, subst, inl, inr}
+use Rattle.std.proofs.Common.{◌≡◌, ◌++◌, ◌∙◌, ℕ, Bool, List, [], ◌∷◌, Option, Some, None, refl, sym, ap, subst, inl, inr}
 use Rattle.node_laws.specs.Runs.{Run}
 use Rattle.ocpi_types.specs.Setups.{party_of}
-use Rattle.ocpi_types.specs.declared.node_events.NodeEventKind.{NodeEventKind}
 use Rattle.ocpi_types.specs.declared.rows.Row.{Row}
 use Rattle.ocpi_types.specs.declared.setup.Node.{Node}
 use Rattle.ocpi_types.specs.declared.setup.Node.TheVariants as node
@@ -19,8 +18,7 @@ use Rattle.line_runs.specs.declared.run.Turn.{Turn}
 use Rattle.line_runs.specs.declared.run.Turn.TheVariants.{Refused, Taken}
 use Rattle.node_store.specs.declared.fault.StoreFault.{StoreFault}
 use Rattle.node_cell.specs.Keepers.{Keeper}
-use Rattle.node_cell.specs.Stored.{Fails, IsKeptFor, IsStored, Loses, Stored}
-use Rattle.node_cell.specs.declared.fault.ApplyFault.TheVariants as apply
+use Rattle.node_cell.specs.Stored.{IsKeptFor, IsStored, Stored}
 use Rattle.node_core.specs.Members.{IsMadeOfRows}
 use Rattle.node_rows.specs.Holds.{HoldsRows}
 use Rattle.node_rows.specs.Laws.{NodesKeepOpenings}
@@ -61,9 +59,6 @@ module _ {K : Type 0} (keeper : Keeper K) (wanted : Option (List ℕ)) where
         was = record { rows = was.rows; start = was.start; starts = was.starts; did = did; party = party ∙ was.party };
       }
 
-  lost : (now next : Running K) (k : NodeEventKind) (rise : ℕ → ℕ) → next.party ≡ now.party → Loses keeper now.node k rise next.node → HasHistory keeper wanted now → HasHistory keeper wanted next
-  lost now next k rise party loses h = stayed now next party loses.state h
-
   one_event : (now next : Running K) (stop later : Option NodeStop) (number : ℕ) (line : List ℕ) (turn : Turn) (out : List ℕ) →
       EventTurn keeper now stop number line turn out next later → HasHistory keeper wanted now → HasHistory keeper wanted next
   one_event now next stop later number line turn out (turns.DidStep x is packets changed does some taken written party same) h = stepped now next does.event party does.step h
@@ -75,10 +70,8 @@ module _ {K : Type 0} (keeper : Keeper K) (wanted : Option (List ℕ)) where
   one_event now next stop later number line turn out (turns.IsMalformed fault fails refused written left same) h = subst (HasHistory keeper wanted) (sym left) h
   one_event now next stop later number line turn out (turns.IsRefused x is fault refuses refused written party same) h =
       stayed now next party (ap (λ (n : Stored K). n.state) refuses.same) h
-  one_event now next stop later number line turn out (turns.IsStarved x is (inl left) refused written party same) h =
-      stayed now next party (ap (λ (n : Stored K). n.state) left) h
-  one_event now next stop later number line turn out (turns.IsStarved x is (inr loses) refused written party same) h = lost now next x.kind (λ n. n) party loses h
-  one_event now next stop later number line turn out (turns.IsLost x is fault fails ended written party same) h = lost now next x.kind suc party fails.1 h
+  one_event now next stop later number line turn out (turns.IsStarved x is refused written left same) h = subst (HasHistory keeper wanted) (sym left) h
+  one_event now next stop later number line turn out (turns.IsLost x is fault fails ended written party same) h = stayed now next party fails.1.state h
 
   -- what is known of the node that runs, where one does
   abbrev Known : Option (List ℕ) → Option (Running K) → Type 0

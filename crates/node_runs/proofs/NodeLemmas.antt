@@ -48,7 +48,7 @@ module _ {K : Type 0} (keeper : Keeper K) (now : Running K) (node : Stored K) (s
       → EventTurn keeper now stop number line (fault_turn fault) (fault_lines number fault) (record { party = now.party; node = node }) (stop_after stop fault)
   failed (apply.Store fault) fails = IsLost x is fault fails refl refl refl refl
   failed (apply.Core fault) refuses = IsRefused x is fault refuses refl refl refl refl
-  failed apply.Memory fails = IsStarved x is fails refl refl refl refl
+  failed apply.Memory same = IsStarved x is refl refl (ap (λ (n : Stored K). record { party = now.party; node = n }) same) refl
 
 -- the node of a setup line was opened, from a stage with those places
 pub begins : {K : Type 0} (keeper : Keeper K) (may_refuse : ℕ → StoreFault → Type 0) (s : Stage K) (number : ℕ) (line : List ℕ) (setup : List Node) (member : Node) (rows : ℕ) (b : Running K)

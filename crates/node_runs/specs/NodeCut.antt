@@ -50,8 +50,8 @@ event-turn-cut k now next stop stopped number line turn out (turns.IsMalformed f
     turns.IsMalformed fault (subst (Fails fault) (event-cut line) fails) refused written left same
 event-turn-cut k now next stop stopped number line turn out (turns.IsRefused x is fault refuses refused written party same) =
     turns.IsRefused x (of-node-cut now.party line x is) fault refuses refused written party same
-event-turn-cut k now next stop stopped number line turn out (turns.IsStarved x is fails refused written party same) =
-    turns.IsStarved x (of-node-cut now.party line x is) fails refused written party same
+event-turn-cut k now next stop stopped number line turn out (turns.IsStarved x is refused written left same) =
+    turns.IsStarved x (of-node-cut now.party line x is) refused written left same
 event-turn-cut k now next stop stopped number line turn out (turns.IsLost x is fault fails ended written party same) =
     turns.IsLost x (of-node-cut now.party line x is) fault fails ended written party same
 

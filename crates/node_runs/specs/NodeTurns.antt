@@ -149,7 +149,8 @@ pub record IsOfNode (party line : List ℕ) (x : NodeEvent) : Type 0 where
   pub same : key x.node ≡ key party
 
 -- Each other line is an event at the node. What a step changes is committed before anything of it is written; where
--- the keeper refuses that, nothing is written, the node is as before, and it is the last line.
+-- the keeper does not take that, for want of memory too, nothing is written, the node is as before, and it is the last
+-- line.
 pub data EventTurn {K : Type 0} (keeper : Keeper K) (now : Running K) (stop : Option NodeStop) (number : ℕ) (line : List ℕ)
     (turn : Turn) (out : List ℕ) (next : Running K) (stopped : Option NodeStop) : Type 0 where
   -- the node did it, and rows were changed or packets sent
@@ -182,11 +183,11 @@ pub data EventTurn {K : Type 0} (keeper : Keeper K) (now : Running K) (stop : Op
   IsRefused : (x : NodeEvent) → IsOfNode now.party line x → (fault : NodeFault) → Refuses now.node x.kind fault next.node
       → turn ≡ Refused → out ≡ refused_line number fault → next.party ≡ now.party → stopped ≡ stop
       → EventTurn keeper now stop number line turn out next stopped
-  -- memory ran out for it, in the node or for its keeper
-  IsStarved : (x : NodeEvent) → IsOfNode now.party line x → Fails keeper now.node x.kind apply.Memory next.node
-      → turn ≡ Refused → out ≡ refused_line number Memory → next.party ≡ now.party → stopped ≡ stop
+  -- memory ran out for it in the node, before its keeper was asked
+  IsStarved : (x : NodeEvent) → IsOfNode now.party line x
+      → turn ≡ Refused → out ≡ refused_line number Memory → next ≡ now → stopped ≡ stop
       → EventTurn keeper now stop number line turn out next stopped
-  -- the keeper refused its changes
+  -- the keeper did not take its changes, whatever the fault of its commit
   IsLost : (x : NodeEvent) → IsOfNode now.party line x → (fault : StoreFault) → Fails keeper now.node x.kind (apply.Store fault) next.node
       → turn ≡ Ended → out ≡ [] → next.party ≡ now.party → stopped ≡ Some (Store fault)
       → EventTurn keeper now stop number line turn out next stopped

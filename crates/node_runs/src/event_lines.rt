@@ -47,7 +47,7 @@ pub fn answer_event<K: Keep>(
 }
 
 /// Lets an event that was read happen at the node, where it is that node's, which commits its changes first, and then
-/// writes what comes of it. Where they are not committed, nothing is written, and the run ends.
+/// writes what comes of it. Where they are not committed, for want of memory too, nothing is written, and the run ends.
 fn answer_read<K: Keep>(
     alloc: Global,
     running: &mut Running<K>,
@@ -94,7 +94,8 @@ fn answer_own<K: Keep>(
     tell_applied(alloc, applied, number, output)
 }
 
-/// Writes why an event was refused. Where that was the keeper, nothing is written, and the run ends.
+/// Writes why the node refused an event, also for want of memory of its own. Where the keeper did not take its changes,
+/// for want of memory too, nothing is written, and the run ends.
 fn tell_fault(
     stop: &mut Option<NodeStop>,
     fault: ApplyFault,

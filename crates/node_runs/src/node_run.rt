@@ -224,8 +224,9 @@ fn ended(ran: Result<Ran, RunFault>, stop: Option<NodeStop>) -> Result<Ran, Node
 /// The keeper of the node is opened once, as that of the first place, behind the setup and the party; where the setup is
 /// refused or has no such party, none is. The node is made of the rows that are kept. The rows that an event changes are
 /// committed before its packets are written (no clause says when). Where none of this can be had, or a commit is
-/// refused, the run ends, of that line nothing is written but its echo, and `Stop` tells why, unless the last flush
-/// fails too. `kept` gets the keeper as the run left it, where one was opened. However the run ends, it keeps what the
+/// refused, also for want of memory, the run ends, of that line nothing is written but its echo, and `Stop` tells why,
+/// unless the last flush fails too. What the node itself refuses for want of memory, before the commit, is a refusal as
+/// any other, and the run goes on. `kept` gets the keeper as the run left it, where one was opened. However the run ends, it keeps what the
 /// lines that were carried out made of it. Where a write failed, that is all those before and the one whose output was
 /// not written whole.
 ///
