@@ -1,5 +1,5 @@
 -- Keepers of files.
-use Rattle.std.proofs.Common.{◌≡◌, ◌<◌, ◌⊎◌, ℕ, List, [], ◌∷◌, Option, Some, None, Result, Ok, Err, IfOk, IfErr, inl, inr, sym, ap, subst, ◌∙◌, length, arith}
+use Rattle.std.proofs.Common.{◌≡◌, ◌<◌, ℕ, List, [], Option, Some, None, Result, Ok, Err, IfOk, IfErr, inl, inr, sym, ap, subst, ◌∙◌, length, arith}
 use Rattle.std.specs.FinMap.{empty}
 use Rattle.sqlite_disk.specs.declared.Disk.{Ghosts}
 use Rattle.sqlite.specs.declared.FileStore.{FileStore}
@@ -100,6 +100,7 @@ module _ {D : Type 0} {g : Ghosts D} (image : Image) where
     bad_found bad told =
         of_opened (IsFoundIn image) (λ (k : Kept (FileStore D g) × ℕ) (f : F). IfErr (rows f) (λ e. e ≡ bad → IfOk (closed f) (TheRows k None)))
         (λ (f : F). IfErr (rows f) (λ e. e ≡ bad → IfOk (closed f) (WereFoundIfClean g image None))) opened r
-        (λ k f known. each_err (λ (e : StoreFault). e ≡ bad → IfOk (closed f) (TheRows k None)) (λ (e : StoreFault). e ≡ bad → IfOk (closed f) (WereFoundIfClean g image None)) (rows f)
+        (λ k f known. each_err (λ (e : StoreFault). e ≡ bad → IfOk (closed f) (TheRows k None))
+        (λ (e : StoreFault). e ≡ bad → IfOk (closed f) (WereFoundIfClean g image None)) (rows f)
         (λ e had is. each_ok (TheRows k None) (WereFoundIfClean g image None) (closed f) (λ files. the_rows k None files known) (had is)))
         found fault told

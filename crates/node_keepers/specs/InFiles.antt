@@ -29,8 +29,8 @@ pub record HadRows {K E : Type 0} (content_now : K → Content) (is_honest : K �
   pub are : is_honest last → rows_of (content_now k) ≡ rows
   pub same : is_honest last → content_now last ≡ content_now k
 
--- These rows were found in a file that held this, or none where a text was no row. The keeper that had them was ended, and what it had is in the database
--- file alone.
+-- These rows were found in a file that held this, or none where a text was no row. The keeper that had them was ended,
+-- and what it had is in the database file alone.
 pub record WereFound {D : Type 0} (g : Ghosts D) (image : Image) (rows : Option (List Row)) (files : Files D) : Type 0 where
   pub first : Kept (FileStore D g)
   pub found : FindsInFile image first.conn (content over_files first)

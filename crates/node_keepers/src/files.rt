@@ -1,10 +1,26 @@
 //! Keepers in files: those of new nodes, that of one node, and the rows of a file that stands.
 
-ghost use Rattle.std.specs.Prelude.{◌≡◌, ◌≢◌, [], Err, IfErr, IfOk, IfSome, IsOk, None, Ok, Some, string_bytes, true, false, ⊤};
+ghost use Rattle.std.specs.Prelude.{
+  ◌≡◌,
+  ◌≢◌,
+  [],
+  Err,
+  IfErr,
+  IfOk,
+  IfSome,
+  IsOk,
+  None,
+  Ok,
+  Some,
+  string_bytes,
+  true,
+  false,
+  ⊤,
+};
 ghost use Rattle.node_store.specs.Closed.{IsCopiedIfClean};
+ghost use Rattle.node_store.specs.Contents.{Content};
 ghost use Rattle.node_store.specs.Faults.{IsCommitFault};
 ghost use Rattle.node_store.specs.declared.fault.StoreFault.TheVariants.{BadRow, OldLayout};
-ghost use Rattle.node_store.specs.Contents.{Content};
 ghost use Rattle.node_keepers.specs.InFiles.{HadRows, IsBlank, IsFoundIn, WereFoundIfClean};
 ghost use Rattle.row_table.specs.Kept.{IsClean, MayLeave, texts};
 ghost use Rattle.sqlite.specs.Files.{over_files};
@@ -99,8 +115,8 @@ impl<'a> FileKeeps<'a> {
         Ok(standing)
     }
 
-    /// Ends the keeper of the node at this place, and notes the path of the first file that refused it. It stands for any
-    /// keeper, since a body that holds one in a file is dear to prove.
+    /// Ends the keeper of the node at this place, and notes the path of the first file that refused it. It stands for
+    /// any keeper, since a body that holds one in a file is dear to prove.
     fn end<K: InFile + Drop>(&mut self, place: usize, keep: K) -> Result<K::Ended, StoreFault>
         ensures ended { IfOk result (K.leaves keep) }
         ensures fault { IfErr result IsCommitFault }
@@ -154,8 +170,8 @@ impl Keeps for FileKeeps<'_> {
     ghost opened = { λ keeps. keeps.opened.items };
 
     /// The folder must exist, and nothing may have the file's name. The path is noted first. A refusal for that, or for
-    /// want of memory before, leaves no file that was not there; any other leaves the new file, which is no store yet,
-    /// or one without rows.
+    /// want of memory before, leaves no file that was not there. Any other leaves the new file, which is no store yet, or
+    /// one without rows; a log may stand beside it.
     fn open(&mut self, place: usize) -> Result<TableKeep<FileStore<File>>, StoreFault> {
         self.opened = self.opened.note(&place);
         let path = self.path_of(place)?;
@@ -393,7 +409,12 @@ fn open_file<S: Start>(
     ensures found { IfOk result (IsFoundIn (image_at S.Start)) }
     ensures stops { IfOk result (λ k. IsClean over_files k.0 → (c : Content) → MayLeave over_files k.0 c → c ≡ texts over_files k.0) }
 {
-    keeper_of(rt, path, standing, TableKeep::open_file_from(rt, path, start))
+    keeper_of(
+        rt,
+        path,
+        standing,
+        TableKeep::open_file_from(rt, path, start),
+    )
 }
 
 /// Opens a file that was just made.

@@ -34,8 +34,8 @@ pub(crate) struct Standing {
 }
 
 impl Standing {
-    /// What the system tells of a file that was opened at that path. The bytes are counted before a log is looked for: a
-    /// file that is being made new has its log before its first byte.
+    /// What the system tells of a file that was opened at that path. The bytes are counted before a log is looked for:
+    /// a file that is being made new has its log before its first byte.
     fn of(rt: &HostRuntime, path: &str, file: &fs::File) -> Standing {
         match file.metadata() {
             Ok(found) => Standing {
@@ -103,12 +103,7 @@ pub(crate) fn remove_empty_log<L: Locked>(
 }
 
 /// Removes the log of the file at a path, where that is this file and the log has fewer bytes than that.
-fn try_remove_log(
-    rt: &HostRuntime,
-    path: &str,
-    identity: Identity,
-    least: u64,
-) -> io::Result<()> {
+fn try_remove_log(rt: &HostRuntime, path: &str, identity: Identity, least: u64) -> io::Result<()> {
     let real = fs::canonicalize(rt, path)?;
     let file = fs::symlink_metadata(rt, real.as_str())?;
     if Identity::of(&file) != identity {

@@ -1,5 +1,3 @@
-use Rattle.sqlite.specs.WalFiles.{image_at}
-use Rattle.node_keepers.specs.InFiles.{IsFoundIn}
 use Rattle.node_keepers.proofs.FileLemmas.{handed_on}
 use Rattle.node_keepers.proofs.files.open_file.Goals as goal
 
