@@ -216,14 +216,13 @@ fn play_input<W: Write, S: Keeps + Located + Drop>(
     let ran = run_play(rt.alloc(), &mut input, writer, &mut keeps, &mut kept);
     let are_open = !kept.is_empty();
     let closed = close_all(&mut keeps, kept);
-    let place = if ran.is_ok() {
-        keeps.unclosed()
+    if ran.is_ok() {
+        let _ = told.place.push_str(keeps.unclosed());
     } else if are_open {
-        folder
+        let _ = told.place.push_str(folder);
     } else {
-        keeps.opened_last()
-    };
-    let _ = told.place.push_str(place);
+        let _ = told.place.push_str(keeps.opened_last());
+    }
     let _ = told.unclosed.push_str(keeps.unclosed());
     drop(keeps);
     let (ran, besides) = and_closed(ran, closed);
@@ -251,12 +250,11 @@ fn run_in_file(
     path: &str,
     besides: &mut Option<StoreFault>,
 ) -> Result<Ran, NodeRunFault> {
-    let keeps = if words.existing {
-        StoreFile::existing(rt, path, Unknown)
+    if words.existing {
+        run_over(rt, words, StoreFile::existing(rt, path, Unknown), besides)
     } else {
-        StoreFile::new(rt, path, Unknown)
-    };
-    run_over(rt, words, keeps, besides)
+        run_over(rt, words, StoreFile::new(rt, path, Unknown), besides)
+    }
 }
 
 /// Runs a node on the standard input with a keeper of its rows, and closes that. With no buffer, what a line gives is
