@@ -11,7 +11,10 @@ pub fn words_for(fault: StoreFault) -> &'static str {
     match fault {
         StoreFault::Refused(cause) => words_for_cause(cause),
         StoreFault::BadRow => {
-            "a text in it is no row of its kind and key: another program wrote it; use the file from just before that, or ask your partners if a packet was sent since"
+            concat!(
+                "a text in it is no row of its kind and key: another program wrote it; ",
+                "use the file from just before that, or ask your partners if a packet was sent since"
+            )
         }
         StoreFault::OldLayout => {
             "its tables are not those of this version: open it with the program that made it"
