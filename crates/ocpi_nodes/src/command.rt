@@ -89,7 +89,17 @@ fn play<'a>(alloc: Global) -> Result<Command<'a>, Error> {
     Ok(command)
 }
 
+/// The word that goes with `store` alone.
+fn existing<'a>(alloc: Global) -> Result<Arg<'a>, Error> {
+    let arg = Arg::new(alloc, "existing")
+        .long("existing")
+        .action(ArgAction::SetTrue)
+        .help("Make no file: refuse where none stands, as at any start but a node's first");
+    Ok(arg.requires_arg("store")?)
+}
+
 fn node<'a>(alloc: Global) -> Result<Command<'a>, Error> {
+    let existing = existing(alloc)?;
     let party = Arg::new(alloc, "party")
         .value_name("PARTY")
         .required(true)
@@ -98,11 +108,6 @@ fn node<'a>(alloc: Global) -> Result<Command<'a>, Error> {
         .long("store")
         .value_name("FILE")
         .help("Keep the node's rows in this file, and go on from what it has");
-    let existing = Arg::new(alloc, "existing")
-        .long("existing")
-        .action(ArgAction::SetTrue)
-        .help("Make no file: refuse where none stands, as at any start but a node's first")
-        .requires_arg("store")?;
     let echo = Arg::new(alloc, "echo")
         .long("echo")
         .action(ArgAction::SetTrue)

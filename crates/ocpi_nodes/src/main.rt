@@ -19,6 +19,7 @@ use node_keepers::{FileKeeps, Found, Keeps, ListKeeps, StoreFile, close_all, row
 use node_programs::{PlayFault, run_answer, run_play, run_settle};
 use node_runs::{NodeRunFault, run_node};
 use node_store::StoreFault;
+use ocpi_types::Row;
 use sqlite::Unknown;
 use std::io::{self, BufReader, BufWriter, IsTerminal, Write};
 use std::process::ExitCode;
@@ -216,14 +217,13 @@ fn play_input<W: Write, S: Keeps + Located + Drop>(
     let ran = run_play(rt.alloc(), &mut input, writer, &mut keeps, &mut kept);
     let are_open = !kept.is_empty();
     let closed = close_all(&mut keeps, kept);
-    let place = if ran.is_ok() {
-        keeps.unclosed()
+    if ran.is_ok() {
+        let _ = told.place.push_str(keeps.unclosed());
     } else if are_open {
-        folder
+        let _ = told.place.push_str(folder);
     } else {
-        keeps.opened_last()
-    };
-    let _ = told.place.push_str(place);
+        let _ = told.place.push_str(keeps.opened_last());
+    }
     let _ = told.unclosed.push_str(keeps.unclosed());
     drop(keeps);
     let (ran, besides) = and_closed(ran, closed);
@@ -251,12 +251,11 @@ fn run_in_file(
     path: &str,
     besides: &mut Option<StoreFault>,
 ) -> Result<Ran, NodeRunFault> {
-    let keeps = if words.existing {
-        StoreFile::existing(rt, path, Unknown)
+    if words.existing {
+        run_over(rt, words, StoreFile::existing(rt, path, Unknown), besides)
     } else {
-        StoreFile::new(rt, path, Unknown)
-    };
-    run_over(rt, words, keeps, besides)
+        run_over(rt, words, StoreFile::new(rt, path, Unknown), besides)
+    }
 }
 
 /// Runs a node on the standard input with a keeper of its rows, and closes that. With no buffer, what a line gives is
@@ -315,7 +314,7 @@ fn settle_file<W: Write>(
     settle_found(rt, writer, rows_in(rt, file, Unknown), told)
 }
 
-/// Writes what is owed by rows that were found. Their file is let go first.
+/// Writes what is owed by what was found in a file, which is let go first.
 fn settle_found<W: Write, C: Drop>(
     rt: &HostRuntime,
     writer: &mut W,
@@ -327,11 +326,19 @@ fn settle_found<W: Write, C: Drop>(
         Err(fault) => return Err(PlayFault::Store(fault)),
     };
     let closed = let_go(closed);
-    let ran = match run_settle(rt.alloc(), rows.as_slice(), writer) {
-        Ok(()) => Ok(Ran::Whole),
-        Err(fault) => Err(PlayFault::Run(fault)),
+    let ran = match rows {
+        Ok(rows) => settle_rows(rt, writer, rows.as_slice()),
+        Err(fault) => Err(PlayFault::Store(fault)),
     };
     let (ran, besides) = and_closed(ran, closed);
     told.besides = besides;
     ran
+}
+
+/// Writes what is owed by rows.
+fn settle_rows<W: Write>(rt: &HostRuntime, writer: &mut W, rows: &[Row]) -> Result<Ran, PlayFault> {
+    match run_settle(rt.alloc(), rows, writer) {
+        Ok(()) => Ok(Ran::Whole),
+        Err(fault) => Err(PlayFault::Run(fault)),
+    }
 }
