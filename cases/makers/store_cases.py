@@ -3,7 +3,7 @@ which no node is made, and stores of version 1, which are moved to version 2.
 
 A stop before a store is opened leaves it as it was, or as a new one where there was none. So does one while a store of version 1
 is opened: it leaves version 1 with its texts, or version 2 with those in their place. One while a commit is made leaves what was
-before or what is then; one behind that leaves what is then.
+before or what is then; one behind that leaves what is then. All that holds however the stop tears what was not synced.
 """
 import json
 import pathlib
