@@ -9,7 +9,7 @@ use Rattle.line_runs.specs.declared.outcome.RunFault.{RunFault}
 use Rattle.line_runs.specs.declared.outcome.RunFault.TheVariants.{WriteFailed}
 use Rattle.line_runs.specs.declared.run.Turn.{Turn}
 use Rattle.line_runs.specs.declared.run.Turn.TheVariants.{Taken, Refused, Ended}
-use Rattle.node_store.specs.declared.fault.StoreFault.{StoreFault}
+use Rattle.node_keepers.specs.Opening.{Source}
 use Rattle.node_cell.specs.Keepers.{Keeper}
 use Rattle.node_runs.specs.NodeOutputs.{IsKept, NodeBegins, NodeOutputs, NodeStops, asked_for}
 use Rattle.node_runs.specs.NodeTurns.{EventTurn, NodeEndGives, NodeLineGives, NodeTurn, Running, SetupTurn, Stage, keep_in, opening}
@@ -35,7 +35,7 @@ same_fault (Err (Stop stop)) ran fault is e = absurd cc
 pub begun_so : (K : Type 0) (first : Stage K) (wanted asked : Option (List ℕ)) (opened : List ℕ) → first ≡ opening wanted opened → wanted ≡ asked → first ≡ opening asked opened
 begun_so K first wanted asked opened begun is = begun ∙ ap (λ (w : Option (List ℕ)). opening w opened) is
 
-module _ {K : Type 0} (keeper : Keeper K) (may_refuse : ℕ → StoreFault → Type 0) where
+module _ {K : Type 0} (keeper : Keeper K) (source : Source K) where
   -- only a line that ends the run says that the node stopped it
   event_goes_on : (now next : Running K) (stop later : Option NodeStop) (number : ℕ) (line : List ℕ) (turn : Turn) (out : List ℕ) →
       EventTurn keeper now stop number line turn out next later → (turn ≡ Ended → ⊥) → later ≡ stop
@@ -50,72 +50,72 @@ module _ {K : Type 0} (keeper : Keeper K) (may_refuse : ℕ → StoreFault → T
   event_goes_on now next stop later number line turn out (turns.IsLost x is fault fails ended written party same) on = absurd (on ended)
 
   goes_on : (now : Option (Running K)) (s : Stage K) (number : ℕ) (line : List ℕ) (turn : Turn) (out : List ℕ) (next : Stage K) →
-      NodeTurn keeper may_refuse now s number line turn out next → (turn ≡ Ended → ⊥) → next.stop ≡ s.stop
-  goes_on None s number line turn out next (turns.Opened setup read member is rows node starts taken written left) on = ap (λ (t : Stage K). t.stop) left
+      NodeTurn keeper source now s number line turn out next → (turn ≡ Ended → ⊥) → next.stop ≡ s.stop
+  goes_on None s number line turn out next (turns.Opened setup read member is rows node begins taken written left) on = ap (λ (t : Stage K). t.stop) left
   goes_on None s number line turn out next (turns.Unbegun setup read asked spare stop unbegun ended written left) on = absurd (on ended)
   goes_on None s number line turn out next (turns.NoSetup fault fails ended written left) on = absurd (on ended)
   goes_on (Some now) s number line turn out next gives on =
       ap (λ (t : Stage K). t.stop) gives.left ∙ event_goes_on now gives.next s.stop gives.stopped number line turn out gives.is on
 
-  all_go_on : {echo : Bool} {first now : Stage K} {all : List (List ℕ)} {ran : Ran} {out : List ℕ} → AreNumbered (NodeLineGives keeper may_refuse) echo first all ran out now → now.stop ≡ first.stop
+  all_go_on : {echo : Bool} {first now : Stage K} {all : List (List ℕ)} {ran : Ran} {out : List ℕ} → AreNumbered (NodeLineGives keeper source) echo first all ran out now → now.stop ≡ first.stop
   all_go_on none_numbered = refl
   all_go_on (empty_line before) = all_go_on before
   all_go_on (taken_line {s = s} {t = t} {line = line} {more = more} before some gives) = goes_on s.running s _ line Taken more t gives (λ e. absurd cc) ∙ all_go_on before
   all_go_on (refused_line {s = s} {t = t} {line = line} {more = more} before some gives) = goes_on s.running s _ line Refused more t gives (λ e. absurd cc) ∙ all_go_on before
 
-  was_ended : {echo : Bool} {first last : Stage K} {all : List (List ℕ)} {ran : Ran} {out : List ℕ} → IsNumberedRun (NodeLineGives keeper may_refuse) NodeEndGives echo first all ran out last
+  was_ended : {echo : Bool} {first last : Stage K} {all : List (List ℕ)} {ran : Ran} {out : List ℕ} → IsNumberedRun (NodeLineGives keeper source) NodeEndGives echo first all ran out last
       → first.stop ≡ None → (stop : NodeStop) → last.stop ≡ Some stop → ran ≡ WithRefusals
   was_ended (numbered_end before gives) none stop is = absurd (cc (all_go_on before, none, is))
   was_ended (numbered_stop before some gives later) none stop is = refl
 
   abbrev Writes : Bool → Stage K → Option (List ℕ) → Option (List ℕ) → Option (List ℕ) → Stage K → Ran → Type 0
-  Writes echo first text old new last ran = NumberedOutputs (NodeLineGives keeper may_refuse) NodeEndGives echo first text ran old new last
+  Writes echo first text old new last ran = NumberedOutputs (NodeLineGives keeper source) NodeEndGives echo first text ran old new last
 
   ended_writes : (echo : Bool) (first : Stage K) (text old new : Option (List ℕ)) (last : Stage K) (ran : Ran) (stop : NodeStop) → first.stop ≡ None → last.stop ≡ Some stop
       → Writes echo first text old new last ran → Writes echo first text old new last WithRefusals
   ended_writes echo first None old new last ran stop none is wrote = tt
   ended_writes echo first (Some t) None new last ran stop none is wrote = tt
   ended_writes echo first (Some t) (Some before) new last ran stop none is wrote =
-      (wrote.0, subst (λ r. IsNumberedRun (NodeLineGives keeper may_refuse) NodeEndGives echo first (lines t) r wrote.0 last) (was_ended wrote.1 none stop is) wrote.1, wrote.2)
+      (wrote.0, subst (λ r. IsNumberedRun (NodeLineGives keeper source) NodeEndGives echo first (lines t) r wrote.0 last) (was_ended wrote.1 none stop is) wrote.1, wrote.2)
 
   -- of a run from a stage that is the opening, and of what it left
   module _ (opened word : List ℕ) (echo : Bool) (text old new : Option (List ℕ)) (first last : Stage K) (begun : first ≡ opening (asked_for word) opened)
       (kept : Option K) (kept_is : keep_in last.running last.spare ≡ kept) (stored : IsKept keeper last.running) where
-    begins_so : (fault : RunFault) → NumberedBegins (NodeLineGives keeper may_refuse) NodeEndGives echo first text old new last
-        → NodeBegins keeper may_refuse opened word echo text old new kept
+    begins_so : (fault : RunFault) → NumberedBegins (NodeLineGives keeper source) NodeEndGives echo first text old new last
+        → NodeBegins keeper source opened word echo text old new kept
     begins_so fault begins = record {
       last = last;
-      begins = subst (λ (s : Stage K). NumberedBegins (NodeLineGives keeper may_refuse) NodeEndGives echo s text old new last) begun begins;
+      begins = subst (λ (s : Stage K). NumberedBegins (NodeLineGives keeper source) NodeEndGives echo s text old new last) begun begins;
       left = kept_is;
       stored = stored;
     }
 
     pub broken_off : (result : Result Ran NodeRunFault) (ran : Result Ran RunFault) → IfErr result (IfRun (λ fault. ran ≡ Err fault))
-        → IfErr ran (λ fault. NumberedBegins (NodeLineGives keeper may_refuse) NodeEndGives echo first text old new last)
-        → IfErr result (IfRun (λ fault. NodeBegins keeper may_refuse opened word echo text old new kept))
+        → IfErr ran (λ fault. NumberedBegins (NodeLineGives keeper source) NodeEndGives echo first text old new last)
+        → IfErr result (IfRun (λ fault. NodeBegins keeper source opened word echo text old new kept))
     broken_off result ran is begins =
-        stopped result ran (λ fault. NumberedBegins (NodeLineGives keeper may_refuse) NodeEndGives echo first text old new last)
-        (λ fault. NodeBegins keeper may_refuse opened word echo text old new kept) begins_so is begins
+        stopped result ran (λ fault. NumberedBegins (NodeLineGives keeper source) NodeEndGives echo first text old new last)
+        (λ fault. NodeBegins keeper source opened word echo text old new kept) begins_so is begins
 
-    stops_so : (rest : Option (List ℕ)) (fault : RunFault) → (fault ≢ WriteFailed → NumberedStops (NodeLineGives keeper may_refuse) echo first fault text rest old new last)
-        → fault ≢ WriteFailed → NodeStops keeper may_refuse opened word echo fault text rest old new kept
+    stops_so : (rest : Option (List ℕ)) (fault : RunFault) → (fault ≢ WriteFailed → NumberedStops (NodeLineGives keeper source) echo first fault text rest old new last)
+        → fault ≢ WriteFailed → NodeStops keeper source opened word echo fault text rest old new kept
     stops_so rest fault stops other = record {
       last = last;
-      stops = subst (λ (s : Stage K). NumberedStops (NodeLineGives keeper may_refuse) echo s fault text rest old new last) begun (stops other);
+      stops = subst (λ (s : Stage K). NumberedStops (NodeLineGives keeper source) echo s fault text rest old new last) begun (stops other);
       left = kept_is;
       stored = stored;
     }
 
     pub read_to : (rest : Option (List ℕ)) (result : Result Ran NodeRunFault) (ran : Result Ran RunFault) → IfErr result (IfRun (λ fault. ran ≡ Err fault))
-        → IfErr ran (λ fault. fault ≢ WriteFailed → NumberedStops (NodeLineGives keeper may_refuse) echo first fault text rest old new last)
-        → IfErr result (IfRun (λ fault. fault ≢ WriteFailed → NodeStops keeper may_refuse opened word echo fault text rest old new kept))
+        → IfErr ran (λ fault. fault ≢ WriteFailed → NumberedStops (NodeLineGives keeper source) echo first fault text rest old new last)
+        → IfErr result (IfRun (λ fault. fault ≢ WriteFailed → NodeStops keeper source opened word echo fault text rest old new kept))
     read_to rest result ran is stops =
-        stopped result ran (λ fault. fault ≢ WriteFailed → NumberedStops (NodeLineGives keeper may_refuse) echo first fault text rest old new last)
-        (λ fault. fault ≢ WriteFailed → NodeStops keeper may_refuse opened word echo fault text rest old new kept) (stops_so rest) is stops
+        stopped result ran (λ fault. fault ≢ WriteFailed → NumberedStops (NodeLineGives keeper source) echo first fault text rest old new last)
+        (λ fault. fault ≢ WriteFailed → NodeStops keeper source opened word echo fault text rest old new kept) (stops_so rest) is stops
 
     pub went : (stop : Option NodeStop) → stop ≡ last.stop → (result : Result Ran NodeRunFault) (ran : Result Ran RunFault)
         → IfOk result (λ r. (ran ≡ Ok r) × (stop ≡ None)) → IfOk ran (Writes echo first text old new last)
-        → IfOk result (λ r. NodeOutputs keeper may_refuse opened word echo text r None old new kept)
+        → IfOk result (λ r. NodeOutputs keeper source opened word echo text r None old new kept)
     went stop left (Ok r) ran is wrote =
         let writes = subst (λ (x : Result Ran RunFault). IfOk x (Writes echo first text old new last)) is.0 wrote in
         record {
@@ -129,7 +129,7 @@ module _ {K : Type 0} (keeper : Keeper K) (may_refuse : ℕ → StoreFault → T
 
     pub stopped_off : (stop : Option NodeStop) → stop ≡ last.stop → (result : Result Ran NodeRunFault) (ran : Result Ran RunFault)
         → IfErr result (IfStop (λ s. IsOk ran × (stop ≡ Some s))) → IfOk ran (Writes echo first text old new last)
-        → IfErr result (IfStop (λ s. NodeOutputs keeper may_refuse opened word echo text WithRefusals (Some s) old new kept))
+        → IfErr result (IfStop (λ s. NodeOutputs keeper source opened word echo text WithRefusals (Some s) old new kept))
     stopped_off stop left (Ok r) ran is wrote = tt
     stopped_off stop left (Err (Run e)) ran is wrote = tt
     stopped_off stop left (Err (Stop s)) (Err e) is wrote = let ok : false ≡ true = is.0 in absurd cc

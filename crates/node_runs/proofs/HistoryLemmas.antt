@@ -16,7 +16,7 @@ use Rattle.line_runs.specs.Numbered.{AreNumbered, empty_line, none_numbered, ref
 use Rattle.line_runs.specs.declared.outcome.Ran.{Ran}
 use Rattle.line_runs.specs.declared.run.Turn.{Turn}
 use Rattle.line_runs.specs.declared.run.Turn.TheVariants.{Refused, Taken}
-use Rattle.node_store.specs.declared.fault.StoreFault.{StoreFault}
+use Rattle.node_keepers.specs.Opening.{Source}
 use Rattle.node_cell.specs.Keepers.{Keeper}
 use Rattle.node_cell.specs.Stored.{IsKeptFor, IsStored, Stored}
 use Rattle.node_core.specs.Members.{IsMadeOfRows}
@@ -35,8 +35,8 @@ joined s u t [] ys is more = subst (λ (n : NodeState). Run NodeStep n ys t) is 
 joined s u t (x ∷ xs) ys did more = (did.0, did.1, joined did.0 u t xs ys did.2 more)
 
 -- the node goes on, by one step or none
-module _ {K : Type 0} (keeper : Keeper K) (wanted : Option (List ℕ)) where
-  stayed : (now next : Running K) → next.party ≡ now.party → next.node.state ≡ now.node.state → HasHistory keeper wanted now → HasHistory keeper wanted next
+module _ {K : Type 0} (keeper : Keeper K) (source : Source K) (wanted : Option (List ℕ)) where
+  stayed : (now next : Running K) → next.party ≡ now.party → next.node.state ≡ now.node.state → HasHistory keeper source wanted now → HasHistory keeper source wanted next
   stayed now next party same h =
       let was = h.was in
       record {
@@ -45,9 +45,10 @@ module _ {K : Type 0} (keeper : Keeper K) (wanted : Option (List ℕ)) where
         asked = h.asked;
         events = h.events;
         was = record { rows = was.rows; start = was.start; starts = was.starts; did = subst (Run NodeStep was.start.state h.events) (sym same) was.did; party = party ∙ was.party };
+        found = h.found;
       }
 
-  stepped : (now next : Running K) (x : NodeEvent) → next.party ≡ now.party → NodeStep now.node.state x next.node.state → HasHistory keeper wanted now → HasHistory keeper wanted next
+  stepped : (now next : Running K) (x : NodeEvent) → next.party ≡ now.party → NodeStep now.node.state x next.node.state → HasHistory keeper source wanted now → HasHistory keeper source wanted next
   stepped now next x party step h =
       let was = h.was in
       let did = joined was.start.state now.node.state next.node.state h.events (x ∷ []) was.did (next.node.state, step, refl) in
@@ -57,59 +58,59 @@ module _ {K : Type 0} (keeper : Keeper K) (wanted : Option (List ℕ)) where
         asked = h.asked;
         events = h.events ++ x ∷ [];
         was = record { rows = was.rows; start = was.start; starts = was.starts; did = did; party = party ∙ was.party };
+        found = h.found;
       }
 
   one_event : (now next : Running K) (stop later : Option NodeStop) (number : ℕ) (line : List ℕ) (turn : Turn) (out : List ℕ) →
-      EventTurn keeper now stop number line turn out next later → HasHistory keeper wanted now → HasHistory keeper wanted next
+      EventTurn keeper now stop number line turn out next later → HasHistory keeper source wanted now → HasHistory keeper source wanted next
   one_event now next stop later number line turn out (turns.DidStep x is packets changed does some taken written party same) h = stepped now next does.event party does.step h
   one_event now next stop later number line turn out (turns.WasIdle x is does taken written party same) h = stepped now next does.event party does.step h
-  one_event now next stop later number line turn out (turns.WasUnstored x is refused taken written left same) h = subst (HasHistory keeper wanted) (sym left) h
-  one_event now next stop later number line turn out (turns.IsElsewhere x read other taken written left same) h = subst (HasHistory keeper wanted) (sym left) h
+  one_event now next stop later number line turn out (turns.WasUnstored x is refused taken written left same) h = subst (HasHistory keeper source wanted) (sym left) h
+  one_event now next stop later number line turn out (turns.IsElsewhere x read other taken written left same) h = subst (HasHistory keeper source wanted) (sym left) h
   one_event now next stop later number line turn out (turns.IsOfOtherRole x is passes taken written party same) h =
       stayed now next party (ap (λ (n : Stored K). n.state) passes.same) h
-  one_event now next stop later number line turn out (turns.IsMalformed fault fails refused written left same) h = subst (HasHistory keeper wanted) (sym left) h
+  one_event now next stop later number line turn out (turns.IsMalformed fault fails refused written left same) h = subst (HasHistory keeper source wanted) (sym left) h
   one_event now next stop later number line turn out (turns.IsRefused x is fault refuses refused written party same) h =
       stayed now next party (ap (λ (n : Stored K). n.state) refuses.same) h
-  one_event now next stop later number line turn out (turns.IsStarved x is refused written left same) h = subst (HasHistory keeper wanted) (sym left) h
+  one_event now next stop later number line turn out (turns.IsStarved x is refused written left same) h = subst (HasHistory keeper source wanted) (sym left) h
   one_event now next stop later number line turn out (turns.IsLost x is fault fails ended written party same) h = stayed now next party fails.1.state h
 
   -- what is known of the node that runs, where one does
   abbrev Known : Option (List ℕ) → Option (Running K) → Type 0
   Known asked None = Unit {0}
-  Known asked (Some now) = HasHistory keeper asked now
+  Known asked (Some now) = HasHistory keeper source asked now
 
-  module _ (may_refuse : ℕ → StoreFault → Type 0) where
-    record IsKnown (s : Stage K) : Type 0 where
-      wanted_so : s.wanted ≡ wanted
-      known : Known wanted s.running
+  record IsKnown (s : Stage K) : Type 0 where
+    wanted_so : s.wanted ≡ wanted
+    known : Known wanted s.running
 
-    one_line : (now : Option (Running K)) (s : Stage K) (number : ℕ) (line : List ℕ) (turn : Turn) (out : List ℕ) (t : Stage K) →
-        NodeTurn keeper may_refuse now s number line turn out t → IsKnown s → Known wanted now → IsKnown t
-    one_line None s number line turn out t (turns.Opened setup read member is rows start starts taken written left) whole known =
-        let member_is = subst (λ (w : Option (List ℕ)). IsMember setup w member) whole.wanted_so is in
-        let was : WasRun keeper setup member [] (record { party = party_of member; node = start }) = record { rows = rows; start = start; starts = starts; did = refl; party = refl } in
-        subst IsKnown (sym left) (record { wanted_so = whole.wanted_so; known = record { setup = setup; member = member; asked = member_is; events = []; was = was } })
-    one_line None s number line turn out t (turns.Unbegun setup read places spare stop unbegun ended written left) whole known =
-        subst IsKnown (sym left) (record { wanted_so = whole.wanted_so; known = tt })
-    one_line None s number line turn out t (turns.NoSetup fault fails ended written left) whole known = subst IsKnown (sym left) whole
-    one_line (Some now) s number line turn out t gives whole known =
-        subst IsKnown (sym gives.left) (record { wanted_so = whole.wanted_so; known = one_event now gives.next s.stop gives.stopped number line turn out gives.is known })
+  one_line : (now : Option (Running K)) (s : Stage K) (number : ℕ) (line : List ℕ) (turn : Turn) (out : List ℕ) (t : Stage K) →
+      NodeTurn keeper source now s number line turn out t → IsKnown s → Known wanted now → IsKnown t
+  one_line None s number line turn out t (turns.Opened setup read member is rows start begins taken written left) whole known =
+      let member_is = subst (λ (w : Option (List ℕ)). IsMember setup w member) whole.wanted_so is in
+      let was : WasRun keeper setup member [] (record { party = party_of member; node = start }) = record { rows = rows; start = start; starts = begins.starts; did = refl; party = refl } in
+      subst IsKnown (sym left) (record { wanted_so = whole.wanted_so; known = record { setup = setup; member = member; asked = member_is; events = []; was = was; found = begins.found } })
+  one_line None s number line turn out t (turns.Unbegun setup read places spare stop unbegun ended written left) whole known =
+      subst IsKnown (sym left) (record { wanted_so = whole.wanted_so; known = tt })
+  one_line None s number line turn out t (turns.NoSetup fault fails ended written left) whole known = subst IsKnown (sym left) whole
+  one_line (Some now) s number line turn out t gives whole known =
+      subst IsKnown (sym gives.left) (record { wanted_so = whole.wanted_so; known = one_event now gives.next s.stop gives.stopped number line turn out gives.is known })
 
-    all_known : {echo : Bool} {opened : List ℕ} {all : List (List ℕ)} {ran : Ran} {out : List ℕ} {s : Stage K} →
-        AreNumbered (NodeLineGives keeper may_refuse) echo (opening wanted opened) all ran out s → IsKnown s
-    all_known none_numbered = record { wanted_so = refl; known = tt }
-    all_known (empty_line before) = all_known before
-    all_known (taken_line {s = s} {t = t} {line = line} {more = more} before some gives) =
-        let whole = all_known before in one_line s.running s _ line Taken more t gives whole whole.known
-    all_known (refused_line {s = s} {t = t} {line = line} {more = more} before some gives) =
-        let whole = all_known before in one_line s.running s _ line Refused more t gives whole whole.known
+  all_known : {echo : Bool} {opened : List ℕ} {all : List (List ℕ)} {ran : Ran} {out : List ℕ} {s : Stage K} →
+      AreNumbered (NodeLineGives keeper source) echo (opening wanted opened) all ran out s → IsKnown s
+  all_known none_numbered = record { wanted_so = refl; known = tt }
+  all_known (empty_line before) = all_known before
+  all_known (taken_line {s = s} {t = t} {line = line} {more = more} before some gives) =
+      let whole = all_known before in one_line s.running s _ line Taken more t gives whole whole.known
+  all_known (refused_line {s = s} {t = t} {line = line} {more = more} before some gives) =
+      let whole = all_known before in one_line s.running s _ line Refused more t gives whole whole.known
 
-    known_of : (q : Option (Running K)) (now : Running K) → q ≡ Some now → Known wanted q → HasHistory keeper wanted now
-    known_of q now is known = subst (Known wanted) is known
+  known_of : (q : Option (Running K)) (now : Running K) → q ≡ Some now → Known wanted q → HasHistory keeper source wanted now
+  known_of q now is known = subst (Known wanted) is known
 
-pub runs_are_histories : {K : Type 0} (keeper : Keeper K) (may_refuse : ℕ → StoreFault → Type 0) → RunsAreHistories keeper may_refuse
-runs_are_histories keeper may_refuse echo wanted opened all ran out s now answered is =
-    let whole = all_known keeper wanted may_refuse answered in known_of keeper wanted may_refuse s.running now is whole.known
+pub runs_are_histories : {K : Type 0} (keeper : Keeper K) (source : Source K) → RunsAreHistories keeper source
+runs_are_histories keeper source echo wanted opened all ran out s now answered is =
+    let whole = all_known keeper source wanted answered in known_of keeper source wanted s.running now is whole.known
 
 -- ---- two runs
 

@@ -6,6 +6,7 @@ use Rattle.ocpi_text.specs.Text.{key}
 use Rattle.ocpi_types.specs.declared.node_events.NodeEvent.{NodeEvent}
 use Rattle.ocpi_types.specs.declared.packet.Packet.{Packet}
 use Rattle.line_runs.specs.declared.run.Turn.TheVariants.{Taken}
+use Rattle.node_keepers.specs.Opening.{Source}
 use Rattle.node_cell.specs.Keepers.{Keeper}
 use Rattle.node_cell.specs.Stored.{Applies, Does, Fails, Stored}
 use Rattle.node_cell.specs.declared.fault.ApplyFault.{ApplyFault}
@@ -19,9 +20,8 @@ use Rattle.ocpi_json.specs.SetupForms.{setup_in}
 use Rattle.ocpi_types.specs.Setups.{party_of}
 use Rattle.ocpi_types.specs.declared.setup.Node.{Node}
 use Rattle.line_runs.specs.declared.run.Turn.{Turn}
-use Rattle.node_store.specs.declared.fault.StoreFault.{StoreFault}
 use Rattle.node_runs.specs.DoneLines.{opened_line, stepped_line}
-use Rattle.node_runs.specs.NodeTurns.{DidStep, EventTurn, IsLost, IsOfNode, IsMember, IsOfOtherRole, IsRefused, IsStarved, Opened, Running, SetupTurn, Stage, Starts, WasIdle, WasUnstored, applied_lines, fault_lines, fault_turn, first_place, step_line, stop_after}
+use Rattle.node_runs.specs.NodeTurns.{Begins, DidStep, EventTurn, IsLost, IsOfNode, IsMember, IsOfOtherRole, IsRefused, IsStarved, Opened, Running, SetupTurn, Stage, WasIdle, WasUnstored, applied_lines, fault_lines, fault_turn, first_place, step_line, stop_after}
 use Rattle.node_runs.specs.declared.fault.NodeStop.{NodeStop}
 
 module _ {K : Type 0} (keeper : Keeper K) (now : Running K) (node : Stored K) (stop : Option NodeStop) (number : ℕ) (line : List ℕ) (x : NodeEvent) (is : IsOfNode now.party line x) where
@@ -51,11 +51,11 @@ module _ {K : Type 0} (keeper : Keeper K) (now : Running K) (node : Stored K) (s
   failed apply.Memory same = IsStarved x is refl refl (ap (λ (n : Stored K). record { party = now.party; node = n }) same) refl
 
 -- the node of a setup line was opened, from a stage with those places
-pub begins : {K : Type 0} (keeper : Keeper K) (may_refuse : ℕ → StoreFault → Type 0) (s : Stage K) (number : ℕ) (line : List ℕ) (setup : List Node) (member : Node) (rows : ℕ) (b : Running K)
-    (turn : Turn) (next : Stage K) (opened : List ℕ) → setup_in line ≡ Ok setup → IsMember setup s.wanted member → b.party ≡ party_of member → Starts keeper setup member rows b.node → turn ≡ Taken
+pub begins : {K : Type 0} (keeper : Keeper K) (source : Source K) (s : Stage K) (number : ℕ) (line : List ℕ) (setup : List Node) (member : Node) (rows : ℕ) (b : Running K)
+    (turn : Turn) (next : Stage K) (opened : List ℕ) → setup_in line ≡ Ok setup → IsMember setup s.wanted member → b.party ≡ party_of member → Begins keeper source setup member rows b.node → turn ≡ Taken
     → opened ≡ s.opened ++ first_place → next ≡ record { wanted = s.wanted; opened = opened; running = Some b; spare = s.spare; stop = s.stop }
-    → SetupTurn keeper may_refuse s number line turn (opened_line number b.party rows (last_serial b.node.state)) next
-begins {K} keeper may_refuse s number line setup member rows b turn next opened read is party starts taken more left =
+    → SetupTurn keeper source s number line turn (opened_line number b.party rows (last_serial b.node.state)) next
+begins {K} keeper source s number line setup member rows b turn next opened read is party starts taken more left =
     let same : record { wanted = s.wanted; opened = opened; running = Some b; spare = s.spare; stop = s.stop }
     ≡ record { wanted = s.wanted; opened = s.opened ++ first_place; running = Some (record { party = party_of member; node = b.node }); spare = s.spare; stop = s.stop } =
     λ i. record { wanted = s.wanted; opened = more i; running = Some (record { party = party i; node = b.node }); spare = s.spare; stop = s.stop } in

@@ -7,7 +7,7 @@ use Rattle.ocpi_json.specs.SetupForms.{setup_in, setup_of_line}
 use Rattle.ocpi_types.specs.declared.node_events.NodeEvent.{NodeEvent}
 use Rattle.line_runs.specs.declared.run.Turn.{Turn}
 use Rattle.line_runs.specs.declared.lines.TheConstants.{KEPT_BYTES}
-use Rattle.node_store.specs.declared.fault.StoreFault.{StoreFault}
+use Rattle.node_keepers.specs.Opening.{Source}
 use Rattle.node_cell.specs.Keepers.{Keeper}
 use Rattle.program_lines.specs.Cut.{tree-cut}
 use Rattle.node_runs.specs.NodeTurns.{EventTurn, IsOfNode, NodeLineGives, NodeTurn, Running, SetupTurn, Stage}
@@ -25,10 +25,10 @@ event-cut line = ap (λ t. t >>= node_event_of_line) (tree-cut line)
 of-node-cut : (party line : List ℕ) (x : NodeEvent) → IsOfNode party (take KEPT_BYTES line) x → IsOfNode party line x
 of-node-cut party line x is = record { read = sym (event-cut line) ∙ is.read; same = is.same }
 
-setup-turn-cut : {K : Type 0} (keeper : Keeper K) (may_refuse : ℕ → StoreFault → Type 0) (s t : Stage K) (number : ℕ) (line : List ℕ) (turn : Turn) (out : List ℕ)
-    → SetupTurn keeper may_refuse s number (take KEPT_BYTES line) turn out t → SetupTurn keeper may_refuse s number line turn out t
-setup-turn-cut k m s t number line turn out (turns.Opened setup read member is rows node starts taken written next) =
-    turns.Opened setup (sym (setup-cut line) ∙ read) member is rows node starts taken written next
+setup-turn-cut : {K : Type 0} (keeper : Keeper K) (source : Source K) (s t : Stage K) (number : ℕ) (line : List ℕ) (turn : Turn) (out : List ℕ)
+    → SetupTurn keeper source s number (take KEPT_BYTES line) turn out t → SetupTurn keeper source s number line turn out t
+setup-turn-cut k m s t number line turn out (turns.Opened setup read member is rows node begins taken written next) =
+    turns.Opened setup (sym (setup-cut line) ∙ read) member is rows node begins taken written next
 setup-turn-cut k m s t number line turn out (turns.Unbegun setup read asked spare stop unbegun ended written next) =
     turns.Unbegun setup (sym (setup-cut line) ∙ read) asked spare stop unbegun ended written next
 setup-turn-cut k m s t number line turn out (turns.NoSetup fault fails ended written next) =
@@ -55,16 +55,17 @@ event-turn-cut k now next stop stopped number line turn out (turns.IsStarved x i
 event-turn-cut k now next stop stopped number line turn out (turns.IsLost x is fault fails ended written party same) =
     turns.IsLost x (of-node-cut now.party line x is) fault fails ended written party same
 
-turn-cut : {K : Type 0} (keeper : Keeper K) (may_refuse : ℕ → StoreFault → Type 0) (now : Option (Running K)) (s t : Stage K) (number : ℕ)
-    (line : List ℕ) (turn : Turn) (out : List ℕ) → NodeTurn keeper may_refuse now s number (take KEPT_BYTES line) turn out t → NodeTurn keeper may_refuse now s number line turn out t
-turn-cut keeper may_refuse None s t number line turn out gives = setup-turn-cut keeper may_refuse s t number line turn out gives
-turn-cut keeper may_refuse (Some now) s t number line turn out gives = record {
+turn-cut : {K : Type 0} (keeper : Keeper K) (source : Source K) (now : Option (Running K)) (s t : Stage K) (number : ℕ)
+    (line : List ℕ) (turn : Turn) (out : List ℕ)
+    → NodeTurn keeper source now s number (take KEPT_BYTES line) turn out t → NodeTurn keeper source now s number line turn out t
+turn-cut keeper source None s t number line turn out gives = setup-turn-cut keeper source s t number line turn out gives
+turn-cut keeper source (Some now) s t number line turn out gives = record {
   next = gives.next;
   stopped = gives.stopped;
   left = gives.left;
   is = event-turn-cut keeper now gives.next s.stop gives.stopped number line turn out gives.is;
 }
 
-pub node_cut_alike : {K : Type 0} (keeper : Keeper K) (may_refuse : ℕ → StoreFault → Type 0) (s t : Stage K) (number : ℕ) (line : List ℕ) (turn : Turn) (out : List ℕ)
-    → NodeLineGives keeper may_refuse s number (take KEPT_BYTES line) turn out t → NodeLineGives keeper may_refuse s number line turn out t
-node_cut_alike keeper may_refuse s t number line turn out gives = turn-cut keeper may_refuse s.running s t number line turn out gives
+pub node_cut_alike : {K : Type 0} (keeper : Keeper K) (source : Source K) (s t : Stage K) (number : ℕ) (line : List ℕ) (turn : Turn) (out : List ℕ)
+    → NodeLineGives keeper source s number (take KEPT_BYTES line) turn out t → NodeLineGives keeper source s number line turn out t
+node_cut_alike keeper source s t number line turn out gives = turn-cut keeper source s.running s t number line turn out gives

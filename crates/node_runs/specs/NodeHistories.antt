@@ -10,7 +10,7 @@ use Rattle.world_steps.specs.Steps.{AtOperator, AtProvider, NodeEvent, NodeStep}
 use Rattle.world_steps.specs.World.{NodeState, Operates, Provides}
 use Rattle.line_runs.specs.Numbered.{AreNumbered}
 use Rattle.line_runs.specs.declared.outcome.Ran.{Ran}
-use Rattle.node_store.specs.declared.fault.StoreFault.{StoreFault}
+use Rattle.node_keepers.specs.Opening.{Source}
 use Rattle.node_cell.specs.Keepers.{Keeper}
 use Rattle.node_cell.specs.Stored.{IsStored, Stored}
 use Rattle.node_rows.specs.Holds.{StoresAlike}
@@ -27,17 +27,18 @@ pub record WasRun {K : Type 0} (keeper : Keeper K) (setup : List Node) (member :
   pub party : now.party ≡ party_of member
 
 -- what the lines of a run up to any one made of its node
-pub record HasHistory {K : Type 0} (keeper : Keeper K) (wanted : Option (List ℕ)) (now : Running K) : Type 0 where
+pub record HasHistory {K : Type 0} (keeper : Keeper K) (source : Source K) (wanted : Option (List ℕ)) (now : Running K) : Type 0 where
   pub setup : List Node
   pub member : Node
   pub asked : IsMember setup wanted member
   pub events : List NodeEvent
   pub was : WasRun keeper setup member events now
+  pub found : source.found 1 was.starts.fresh
 
-abbrev pub RunsAreHistories : {K : Type 0} → Keeper K → (ℕ → StoreFault → Type 0) → Type 0
-RunsAreHistories {K} keeper may_refuse =
+abbrev pub RunsAreHistories : {K : Type 0} → Keeper K → Source K → Type 0
+RunsAreHistories {K} keeper source =
     (echo : Bool) (wanted : Option (List ℕ)) (opened : List ℕ) (all : List (List ℕ)) (ran : Ran) (out : List ℕ) (s : Stage K) (now : Running K)
-    → AreNumbered (NodeLineGives keeper may_refuse) echo (opening wanted opened) all ran out s → s.running ≡ Some now → HasHistory keeper wanted now
+    → AreNumbered (NodeLineGives keeper source) echo (opening wanted opened) all ran out s → s.running ≡ Some now → HasHistory keeper source wanted now
 
 -- ---- two runs
 

@@ -5,7 +5,7 @@ use Rattle.ocpi_text.specs.declared.fault.TextFault.{TextFault}
 use Rattle.line_runs.specs.Numbered.{NumberedBegins, NumberedOutputs, NumberedStops}
 use Rattle.line_runs.specs.declared.outcome.Ran.{Ran}
 use Rattle.line_runs.specs.declared.outcome.RunFault.{RunFault}
-use Rattle.node_store.specs.declared.fault.StoreFault.{StoreFault}
+use Rattle.node_keepers.specs.Opening.{Source}
 use Rattle.node_cell.specs.Keepers.{Keeper}
 use Rattle.node_cell.specs.Stored.{IsStored}
 use Rattle.node_runs.specs.NodeTurns.{NodeEndGives, NodeLineGives, Running, Stage, keep_in, opening}
@@ -29,28 +29,28 @@ IsKept keeper (Some now) = IsStored keeper now.node
 -- the places whose keepers were to be opened before. `stop` is why
 -- the node did not begin or did not go on, where that ended the run. `kept` is the keeper as the lines that were
 -- answered left it, where one was opened; where a node runs, it has just the rows of that.
-pub record NodeOutputs {K : Type 0} (keeper : Keeper K) (may_refuse : ℕ → StoreFault → Type 0) (opened : List ℕ) (word : List ℕ) (echo : Bool)
+pub record NodeOutputs {K : Type 0} (keeper : Keeper K) (source : Source K) (opened : List ℕ) (word : List ℕ) (echo : Bool)
     (text : Option (List ℕ)) (ran : Ran) (stop : Option NodeStop) (old new : Option (List ℕ)) (kept : Option K) : Type 0 where
   pub last : Stage K
-  pub outputs : NumberedOutputs (NodeLineGives keeper may_refuse) NodeEndGives echo (opening (asked_for word) opened) text ran old new last
+  pub outputs : NumberedOutputs (NodeLineGives keeper source) NodeEndGives echo (opening (asked_for word) opened) text ran old new last
   pub stopped_by : last.stop ≡ stop
   pub left : keep_in last.running last.spare ≡ kept
   pub stored : IsKept keeper last.running
 
 -- The same of a run that reading or writing stopped: what was written is a beginning of an output. The keeper is as the
 -- lines that were answered left it; where the answer to one was not written whole, as that one left it.
-pub record NodeBegins {K : Type 0} (keeper : Keeper K) (may_refuse : ℕ → StoreFault → Type 0) (opened : List ℕ) (word : List ℕ) (echo : Bool)
+pub record NodeBegins {K : Type 0} (keeper : Keeper K) (source : Source K) (opened : List ℕ) (word : List ℕ) (echo : Bool)
     (text old new : Option (List ℕ)) (kept : Option K) : Type 0 where
   pub last : Stage K
-  pub begins : NumberedBegins (NodeLineGives keeper may_refuse) NodeEndGives echo (opening (asked_for word) opened) text old new last
+  pub begins : NumberedBegins (NodeLineGives keeper source) NodeEndGives echo (opening (asked_for word) opened) text old new last
   pub left : keep_in last.running last.spare ≡ kept
   pub stored : IsKept keeper last.running
 
 -- the same of one that reading stopped: what was written, and what the keeper keeps, is what exactly the lines that were
 -- read whole give
-pub record NodeStops {K : Type 0} (keeper : Keeper K) (may_refuse : ℕ → StoreFault → Type 0) (opened : List ℕ) (word : List ℕ) (echo : Bool) (fault : RunFault)
+pub record NodeStops {K : Type 0} (keeper : Keeper K) (source : Source K) (opened : List ℕ) (word : List ℕ) (echo : Bool) (fault : RunFault)
     (text rest old new : Option (List ℕ)) (kept : Option K) : Type 0 where
   pub last : Stage K
-  pub stops : NumberedStops (NodeLineGives keeper may_refuse) echo (opening (asked_for word) opened) fault text rest old new last
+  pub stops : NumberedStops (NodeLineGives keeper source) echo (opening (asked_for word) opened) fault text rest old new last
   pub left : keep_in last.running last.spare ≡ kept
   pub stored : IsKept keeper last.running

@@ -19,6 +19,7 @@ use Rattle.line_runs.specs.declared.outcome.Ran.TheVariants.{Whole, WithRefusals
 use Rattle.line_runs.specs.declared.run.Turn.{Turn}
 use Rattle.line_runs.specs.declared.run.Turn.TheVariants.{Taken, Refused, Ended}
 use Rattle.node_store.specs.declared.fault.StoreFault.{StoreFault}
+use Rattle.node_keepers.specs.Opening.{Source}
 use Rattle.node_cell.specs.Keepers.{IsSettled, Keeper, KeepsOn}
 use Rattle.node_cell.specs.Stored.{Does, Fails, IsKeptFor, IsNotBad, IsReopenFault, Passes, Refuses, Reopens, Stored}
 use Rattle.node_cell.specs.declared.fault.ApplyFault.{ApplyFault}
@@ -74,6 +75,11 @@ pub record Starts {K : Type 0} (keeper : Keeper K) (setup : List Node) (member :
   pub reopens : Reopens keeper setup member fresh rows node
   pub again : keeper.is_honest node.keep → (s : NodeState) → IsKeptFor setup member (keeper.content fresh) s → node.state ≡ restarted s
 
+-- the same, of a keeper that is made of what was found for the node at the first place
+pub record Begins {K : Type 0} (keeper : Keeper K) (source : Source K) (setup : List Node) (member : Node) (rows : ℕ) (node : Stored K) : Type 0 where
+  pub starts : Starts keeper setup member rows node
+  pub found : source.found 1 starts.fresh
+
 -- what is known where none was made of it
 pub record Unmade {K : Type 0} (keeper : Keeper K) (setup : List Node) (member : Node) (fault : ReopenFault) (k : K) : Type 0 where
   pub fresh : K
@@ -88,31 +94,31 @@ first_place = 1 ∷ []
 
 -- Why a node did not begin, the places whose keepers were to be opened, and the keeper, where one was opened: the setup
 -- has no such party, and then none was; none could be had; or no node was made of its rows.
-pub data IsUnbegun {K : Type 0} (keeper : Keeper K) (may_refuse : ℕ → StoreFault → Type 0) (setup : List Node) (wanted : Option (List ℕ))
+pub data IsUnbegun {K : Type 0} (keeper : Keeper K) (source : Source K) (setup : List Node) (wanted : Option (List ℕ))
     (asked : List ℕ) (spare : Option K) (stop : NodeStop) : Type 0 where
   Unknown : ((member : Node) → IsMember setup wanted member → ⊥)
-      → asked ≡ [] → spare ≡ None → stop ≡ UnknownParty → IsUnbegun keeper may_refuse setup wanted asked spare stop
-  Unkept : (member : Node) → IsMember setup wanted member → (fault : StoreFault) → may_refuse 1 fault
-      → asked ≡ first_place → spare ≡ None → stop ≡ Store fault → IsUnbegun keeper may_refuse setup wanted asked spare stop
-  NotMade : (member : Node) → IsMember setup wanted member → (fault : ReopenFault) (k : K) → Unmade keeper setup member fault k
-      → asked ≡ first_place → spare ≡ Some k → stop ≡ stop_of fault → IsUnbegun keeper may_refuse setup wanted asked spare stop
+      → asked ≡ [] → spare ≡ None → stop ≡ UnknownParty → IsUnbegun keeper source setup wanted asked spare stop
+  Unkept : (member : Node) → IsMember setup wanted member → (fault : StoreFault) → source.may_refuse 1 fault
+      → asked ≡ first_place → spare ≡ None → stop ≡ Store fault → IsUnbegun keeper source setup wanted asked spare stop
+  NotMade : (member : Node) → IsMember setup wanted member → (fault : ReopenFault) (k : K) (unmade : Unmade keeper setup member fault k) → source.found 1 unmade.fresh
+      → asked ≡ first_place → spare ≡ Some k → stop ≡ stop_of fault → IsUnbegun keeper source setup wanted asked spare stop
 
 -- The first line opens the keeper and the node, and says so. Where it is no setup, or the node does not begin, it is
 -- the last line.
-pub data SetupTurn {K : Type 0} (keeper : Keeper K) (may_refuse : ℕ → StoreFault → Type 0) (s : Stage K)
+pub data SetupTurn {K : Type 0} (keeper : Keeper K) (source : Source K) (s : Stage K)
     (number : ℕ) (line : List ℕ) (turn : Turn) (out : List ℕ) (next : Stage K) : Type 0 where
   Opened : (setup : List Node) → setup_in line ≡ Ok setup → (member : Node) → IsMember setup s.wanted member
-      → (rows : ℕ) (node : Stored K) → Starts keeper setup member rows node
+      → (rows : ℕ) (node : Stored K) → Begins keeper source setup member rows node
       → turn ≡ Taken → out ≡ opened_line number (party_of member) rows (last_serial node.state)
       → next ≡ record { wanted = s.wanted; opened = s.opened ++ first_place; running = Some (record { party = party_of member; node = node }); spare = s.spare; stop = s.stop }
-      → SetupTurn keeper may_refuse s number line turn out next
+      → SetupTurn keeper source s number line turn out next
   Unbegun : (setup : List Node) → setup_in line ≡ Ok setup
-      → (asked : List ℕ) (spare : Option K) (stop : NodeStop) → IsUnbegun keeper may_refuse setup s.wanted asked spare stop
+      → (asked : List ℕ) (spare : Option K) (stop : NodeStop) → IsUnbegun keeper source setup s.wanted asked spare stop
       → turn ≡ Ended → out ≡ [] → next ≡ record { wanted = s.wanted; opened = s.opened ++ asked; running = None; spare = spare; stop = Some stop }
-      → SetupTurn keeper may_refuse s number line turn out next
+      → SetupTurn keeper source s number line turn out next
   NoSetup : (fault : JsonFault) → FailsToRead fault (setup_in line)
       → turn ≡ Ended → out ≡ malformed_line number fault → next ≡ s
-      → SetupTurn keeper may_refuse s number line turn out next
+      → SetupTurn keeper source s number line turn out next
 
 -- ---- each other line
 
@@ -200,12 +206,12 @@ pub record GoesOn {K : Type 0} (keeper : Keeper K) (now : Running K) (s : Stage 
   pub left : t ≡ record { wanted = s.wanted; opened = s.opened; running = Some next; spare = s.spare; stop = stopped }
 
 -- one line, with no node before the first
-abbrev pub NodeTurn : {K : Type 0} → Keeper K → (ℕ → StoreFault → Type 0) → Option (Running K) → Stage K → ℕ → List ℕ → Turn → List ℕ → Stage K → Type 0
-NodeTurn keeper may_refuse None s number line turn out next = SetupTurn keeper may_refuse s number line turn out next
-NodeTurn keeper may_refuse (Some now) s number line turn out next = GoesOn keeper now s number line turn out next
+abbrev pub NodeTurn : {K : Type 0} → Keeper K → Source K → Option (Running K) → Stage K → ℕ → List ℕ → Turn → List ℕ → Stage K → Type 0
+NodeTurn keeper source None s number line turn out next = SetupTurn keeper source s number line turn out next
+NodeTurn keeper source (Some now) s number line turn out next = GoesOn keeper now s number line turn out next
 
-abbrev pub NodeLineGives : {K : Type 0} → Keeper K → (ℕ → StoreFault → Type 0) → Stage K → ℕ → List ℕ → Turn → List ℕ → Stage K → Type 0
-NodeLineGives keeper may_refuse s number line turn out next = NodeTurn keeper may_refuse s.running s number line turn out next
+abbrev pub NodeLineGives : {K : Type 0} → Keeper K → Source K → Stage K → ℕ → List ℕ → Turn → List ℕ → Stage K → Type 0
+NodeLineGives keeper source s number line turn out next = NodeTurn keeper source s.running s number line turn out next
 
 -- ---- the end
 

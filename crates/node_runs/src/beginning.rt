@@ -8,7 +8,8 @@ ghost use Rattle.node_cell.specs.declared.fault.ReopenFault.{ReopenFault as Reop
 ghost use Rattle.ocpi_types.specs.Setups.{party_of};
 ghost use Rattle.ocpi_types.specs.declared.setup.Node.{Node as NodeOf};
 ghost use Rattle.world_laws.specs.Laws.{IsSetup};
-ghost use Rattle.node_runs.specs.NodeTurns.{IsMember, IsUnbegun, Starts, Unmade, first_place};
+ghost use Rattle.node_keepers.specs.Opening.{source_of};
+ghost use Rattle.node_runs.specs.NodeTurns.{Begins, IsMember, IsUnbegun, Starts, Unmade, first_place};
 ghost use Rattle.node_runs.specs.Stops.{stop_of};
 
 use crate::fault::{NodeStop, stop_of};
@@ -89,8 +90,8 @@ fn member_of<'a>(nodes: &'a [Node], wanted: &Option<Party>) -> Option<&'a Node>
     None
 }
 
-/// Opens the keeper of the party's node, and makes the node of what is kept. Where the setup has no such node, no keeper
-/// is opened.
+/// Opens the keeper of the party's node, which is made of what was found for the first place, and makes the node of what
+/// that keeps. Where the setup has no such node, no keeper is opened.
 pub fn begin<S: Keeps>(
     alloc: Global,
     keeps: &mut S,
@@ -99,9 +100,11 @@ pub fn begin<S: Keeps>(
 ) -> Result<Begun<S::Kept>, Unbegun<S::Kept>>
     ensures ok { IfOk result (λ b. (member : NodeOf) × IsMember setup wanted.now member
         × (b.running.party ≡ party_of member)
-        × Starts (keeper_of S.Kept.content S.Kept.is_honest S.Kept.refusals S.Kept.may_leave) setup member b.rows b.running.node) }
+        × Begins (keeper_of S.Kept.content S.Kept.is_honest S.Kept.refusals S.Kept.may_leave) (source_of S.may_refuse S.found)
+        setup member b.rows b.running.node) }
     ensures err { IfErr result (λ u. (asked : List ℕ) × (S.opened keeps.new ≡ S.opened keeps.old ++ asked)
-        × IsUnbegun (keeper_of S.Kept.content S.Kept.is_honest S.Kept.refusals S.Kept.may_leave) S.may_refuse setup wanted.now asked u.keep u.stop) }
+        × IsUnbegun (keeper_of S.Kept.content S.Kept.is_honest S.Kept.refusals S.Kept.may_leave) (source_of S.may_refuse S.found)
+        setup wanted.now asked u.keep u.stop) }
     ensures opened { OnOk result (S.opened keeps.new ≡ S.opened keeps.old ++ first_place) }
 {
     let nodes = nodes_of(&setup);
@@ -120,7 +123,7 @@ pub fn begin<S: Keeps>(
     }
 }
 
-/// Makes a node of what is kept.
+/// Makes a node of what that keeper keeps.
 fn begin_over<K: Keep>(
     alloc: Global,
     nodes: &[Node],
@@ -130,9 +133,10 @@ fn begin_over<K: Keep>(
     requires setup { IsSetup nodes.now }
     requires member { Contains nodes.now member.now }
     requires settled { IsSettled (keeper_of K.content K.is_honest K.refusals K.may_leave) keep }
-    ensures party { IfOk result (λ b. b.running.party ≡ party_of member.now) }
-    ensures ok { IfOk result (λ b. Starts (keeper_of K.content K.is_honest K.refusals K.may_leave) nodes.now member.now b.rows b.running.node) }
-    ensures err { IfErr result (λ u. (fault : ReopenFaultOf) × (k : K) × Unmade (keeper_of K.content K.is_honest K.refusals K.may_leave) nodes.now member.now fault k
+    ensures ok { IfOk result (λ b. (b.running.party ≡ party_of member.now)
+        × (starts : Starts (keeper_of K.content K.is_honest K.refusals K.may_leave) nodes.now member.now b.rows b.running.node) × (starts.fresh ≡ keep)) }
+    ensures err { IfErr result (λ u. (fault : ReopenFaultOf) × (k : K)
+        × (unmade : Unmade (keeper_of K.content K.is_honest K.refusals K.may_leave) nodes.now member.now fault k) × (unmade.fresh ≡ keep)
         × (u.keep ≡ Some k) × (u.stop ≡ stop_of fault)) }
 {
     match StoredNode::reopen(alloc, nodes, member, keep) {

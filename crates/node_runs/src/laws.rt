@@ -1,6 +1,7 @@
 //! What a run makes of its node.
 
 ghost use Rattle.node_cell.specs.Keepers.{keeper_of};
+ghost use Rattle.node_keepers.specs.Opening.{source_of};
 ghost use Rattle.node_runs.specs.NodeHistories.{RunsAreHistories, StopsGoOn, TwoRunsAreOne};
 
 use node_keepers::Keeps;
@@ -9,7 +10,7 @@ use node_store::Keep;
 
 /// A run is a chain of steps of its node from what that was opened with, whatever the lines are.
 pub fn runs_are_histories<S: Keeps>()
-    ensures { RunsAreHistories (keeper_of S.Kept.content S.Kept.is_honest S.Kept.refusals S.Kept.may_leave) S.may_refuse }
+    ensures { RunsAreHistories (keeper_of S.Kept.content S.Kept.is_honest S.Kept.refusals S.Kept.may_leave) (source_of S.may_refuse S.found) }
 {}
 
 /// Two runs of one node of a setup, one after the other over one store, are one run with a restart between.

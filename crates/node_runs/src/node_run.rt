@@ -7,6 +7,7 @@ ghost use Rattle.line_runs.specs.declared.outcome.Ran.TheVariants.{WithRefusals}
 ghost use Rattle.line_runs.specs.declared.run.Turn.{Turn as TurnOf};
 ghost use Rattle.line_runs.specs.declared.run.Turn.TheVariants.{Taken};
 ghost use Rattle.node_cell.specs.Keepers.{keeper_of};
+ghost use Rattle.node_keepers.specs.Opening.{source_of};
 ghost use Rattle.node_runs.specs.DoneLines.{opened_line};
 ghost use Rattle.node_runs.specs.NodeOutputs.{IsKept, NodeBegins, NodeOutputs, NodeStops, asked_for};
 ghost use Rattle.node_runs.specs.NodeTurns.{NodeEndGives, NodeLineGives, SetupTurn, keep_in, opening};
@@ -98,7 +99,7 @@ impl<K: Keep + Drop, S: Keeps<Kept = K> + Drop> Program<K, S> {
 impl<K: Keep + Drop, S: Keeps<Kept = K>> AnswerNumbered for Program<K, S> {
     ghost use Rattle.node_runs.specs.NodeCut.{node_cut_alike};
 
-    ghost line_gives = { NodeLineGives (keeper_of K.content K.is_honest K.refusals K.may_leave) S.may_refuse };
+    ghost line_gives = { NodeLineGives (keeper_of K.content K.is_honest K.refusals K.may_leave) (source_of S.may_refuse S.found) };
 
     ghost end_gives = { NodeEndGives };
 
@@ -135,7 +136,7 @@ impl<K: Keep + Drop, S: Keeps<Kept = K>> AnswerNumbered for Program<K, S> {
         }
     }
 
-    ghost cut_alike = { node_cut_alike (keeper_of K.content K.is_honest K.refusals K.may_leave) S.may_refuse };
+    ghost cut_alike = { node_cut_alike (keeper_of K.content K.is_honest K.refusals K.may_leave) (source_of S.may_refuse S.found) };
 }
 
 impl<K: Keep + Drop, S: Keeps<Kept = K>> Program<K, S> {
@@ -148,9 +149,9 @@ impl<K: Keep + Drop, S: Keeps<Kept = K>> Program<K, S> {
     ) -> Result<Turn, AllocError>
         requires { self.old.running ≡ None }
         ensures ok { IfOk result (λ turn. (out : List ℕ) × (string_bytes output.new ≡ string_bytes output.old ++ out)
-            × SetupTurn (keeper_of K.content K.is_honest K.refusals K.may_leave) S.may_refuse self.old number line.now turn out self.new) }
+            × SetupTurn (keeper_of K.content K.is_honest K.refusals K.may_leave) (source_of S.may_refuse S.found) self.old number line.now turn out self.new) }
         ensures err { IfErr result (λ _. (turn : TurnOf) × (out : List ℕ)
-            × SetupTurn (keeper_of K.content K.is_honest K.refusals K.may_leave) S.may_refuse self.old number line.now turn out self.new) }
+            × SetupTurn (keeper_of K.content K.is_honest K.refusals K.may_leave) (source_of S.may_refuse S.found) self.old number line.now turn out self.new) }
     {
         let setup = match read_setup(self.alloc, &mut self.scratch, line) {
             Ok(setup) => setup,
@@ -221,14 +222,14 @@ fn ended(ran: Result<Ran, RunFault>, stop: Option<NodeStop>) -> Result<Ran, Node
 /// of the other role, is skipped. A line that is refused changes nothing, and the next follows; a refused or absent
 /// setup ends the run. With `echo` each line that holds something is written as it came, before what it gives.
 ///
-/// The keeper of the node is opened once, as that of the first place, behind the setup and the party; where the setup is
-/// refused or has no such party, none is. The node is made of the rows that are kept. The rows that an event changes are
-/// committed before its packets are written (no clause says when). Where none of this can be had, or a commit is
-/// refused, also for want of memory, the run ends, of that line nothing is written but its echo, and `Stop` tells why,
-/// unless the last flush fails too. What the node itself refuses for want of memory, before the commit, is a refusal as
-/// any other, and the run goes on. `kept` gets the keeper as the run left it, where one was opened. However the run ends, it keeps what the
-/// lines that were carried out made of it. Where a write failed, that is all those before and the one whose output was
-/// not written whole.
+/// The keeper of the node is opened once, as that of the first place, behind the setup and the party; where the setup
+/// is refused or has no such party, none is. It is made of what was found for that place, and the node of the rows that
+/// it keeps. The rows that an event changes are committed before its packets are written (no clause says when). Where
+/// none of this can be had, or a commit is refused, also for want of memory, the run ends, of that line nothing is
+/// written but its echo, and `Stop` tells why, unless the last flush fails too. What the node itself refuses for want
+/// of memory, before the commit, is a refusal as any other, and the run goes on. `kept` gets the keeper as the run left
+/// it, where one was opened. However the run ends, it keeps what the lines that were carried out made of it. Where a
+/// write failed, that is all those before and the one whose output was not written whole.
 ///
 /// Where the run was not stopped, what is written is the output of the input. Where it was stopped, what is written is a
 /// beginning of that: by a failed read or too many reads, what exactly the lines that were read whole give; by the node,
@@ -244,14 +245,14 @@ pub fn run_node<R: BufRead, W: Write, S: Keeps + Drop>(
     kept: &mut Option<S::Kept>,
 ) -> Result<Ran, NodeRunFault>
     ensures output { IfOk result (λ ran. NodeOutputs (keeper_of S.Kept.content S.Kept.is_honest S.Kept.refusals S.Kept.may_leave)
-        S.may_refuse (S.opened keeps) party.now echo (R.Read.remaining input.old.reader) ran None (W.contents writer.old) (W.contents writer.new) kept.new) }
+        (source_of S.may_refuse S.found) (S.opened keeps) party.now echo (R.Read.remaining input.old.reader) ran None (W.contents writer.old) (W.contents writer.new) kept.new) }
     ensures begun { IfErr result (IfRun (λ fault. NodeBegins (keeper_of S.Kept.content S.Kept.is_honest S.Kept.refusals S.Kept.may_leave)
-        S.may_refuse (S.opened keeps) party.now echo (R.Read.remaining input.old.reader) (W.contents writer.old) (W.contents writer.new) kept.new)) }
+        (source_of S.may_refuse S.found) (S.opened keeps) party.now echo (R.Read.remaining input.old.reader) (W.contents writer.old) (W.contents writer.new) kept.new)) }
     ensures stopped { IfErr result (IfRun (λ fault. fault ≢ RunFault.WriteFailed → NodeStops (keeper_of S.Kept.content S.Kept.is_honest S.Kept.refusals S.Kept.may_leave)
-        S.may_refuse (S.opened keeps) party.now echo fault (R.Read.remaining input.old.reader)
+        (source_of S.may_refuse S.found) (S.opened keeps) party.now echo fault (R.Read.remaining input.old.reader)
         (R.Read.remaining input.new.reader) (W.contents writer.old) (W.contents writer.new) kept.new)) }
     ensures node { IfErr result (IfStop (λ stop. NodeOutputs (keeper_of S.Kept.content S.Kept.is_honest S.Kept.refusals S.Kept.may_leave)
-        S.may_refuse (S.opened keeps) party.now echo (R.Read.remaining input.old.reader) WithRefusals (Some stop)
+        (source_of S.may_refuse S.found) (S.opened keeps) party.now echo (R.Read.remaining input.old.reader) WithRefusals (Some stop)
         (W.contents writer.old) (W.contents writer.new) kept.new)) }
     ensures failed { result ≡ Err (NodeRunFault.Run RunFault.ReadFailed) → input.new.failed ≡ true }
     ensures reads { ReadsFewLines (R.Read.remaining input.old.reader) (R.Read.remaining input.new.reader) }

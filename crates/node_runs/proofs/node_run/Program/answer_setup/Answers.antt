@@ -4,6 +4,7 @@ use Rattle.std.proofs.lemmas.Result.{IfOk-weaker}
 use Rattle.line_runs.specs.declared.run.Turn.{Turn}
 use Rattle.line_runs.specs.declared.run.Turn.TheVariants.{Ended, Taken}
 use Rattle.node_cell.specs.Keepers.{keeper_of}
+use Rattle.node_keepers.specs.Opening.{source_of}
 use Rattle.node_runs.specs.DoneLines.{malformed_line, opened_line}
 use Rattle.node_runs.specs.NodeTurns.{NoSetup, Running, SetupTurn, Stage, Unbegun}
 use Rattle.stored_laws.specs.Nodes.{last_serial}
@@ -23,6 +24,7 @@ returns-in-Err-clause-ok g c =
 pub returns-in-Ok-begin-clause-ok : goal.returns-in-Ok-begin-clause-ok
 returns-in-Ok-begin-clause-ok g c =
     let keeper = keeper_of g.K.Keep.content g.K.Keep.is_honest g.K.Keep.refusals g.K.Keep.may_leave in
+    let source = source_of g.S.Keeps.may_refuse g.S.Keeps.found in
     let s : Stage g.row.K.Denot = record { wanted = c.self.inside.wanted; opened = g.S.Keeps.opened c.self.inside.keeps; running = c.self.inside.running; spare = c.self.inside.spare; stop = c.self.inside.stop } in
     let b = c.in-Ok-begin.begun in
     let found = c.in-Ok-begin.ensures.ok in
@@ -30,8 +32,8 @@ returns-in-Ok-begin-clause-ok g c =
     IfOk-weaker c.take_begun.result _ _ (λ turn r. (
       out,
       r.1,
-      subst (λ (w : Stage g.row.K.Denot). SetupTurn keeper g.S.Keeps.may_refuse w c.args.number c.args.line.now turn out c.take_begun.new.self) c.self.view_is
-          (begins keeper g.S.Keeps.may_refuse s c.args.number c.args.line.now c.in-Ok.setup found.0 b.rows b.running turn c.take_begun.new.self _ c.in-Ok.ensures.exact found.1 found.2 found.3 r.0
+      subst (λ (w : Stage g.row.K.Denot). SetupTurn keeper source w c.args.number c.args.line.now turn out c.take_begun.new.self) c.self.view_is
+          (begins keeper source s c.args.number c.args.line.now c.in-Ok.setup found.0 b.rows b.running turn c.take_begun.new.self _ c.in-Ok.ensures.exact found.1 found.2 found.3 r.0
           c.in-Ok-begin.ensures.opened c.take_begun.ensures.stage),
     )) c.take_begun.ensures.ok
 
@@ -39,6 +41,7 @@ returns-in-Ok-begin-clause-ok g c =
 pub returns-in-Ok-begin-clause-err : goal.returns-in-Ok-begin-clause-err
 returns-in-Ok-begin-clause-err g c =
     let keeper = keeper_of g.K.Keep.content g.K.Keep.is_honest g.K.Keep.refusals g.K.Keep.may_leave in
+    let source = source_of g.S.Keeps.may_refuse g.S.Keeps.found in
     let s : Stage g.row.K.Denot = record { wanted = c.self.inside.wanted; opened = g.S.Keeps.opened c.self.inside.keeps; running = c.self.inside.running; spare = c.self.inside.spare; stop = c.self.inside.stop } in
     let b = c.in-Ok-begin.begun in
     let found = c.in-Ok-begin.ensures.ok in
@@ -46,14 +49,15 @@ returns-in-Ok-begin-clause-err g c =
     of_each c.take_begun.result (
       Taken,
       out,
-      subst (λ (w : Stage g.row.K.Denot). SetupTurn keeper g.S.Keeps.may_refuse w c.args.number c.args.line.now Taken out c.take_begun.new.self) c.self.view_is
-          (begins keeper g.S.Keeps.may_refuse s c.args.number c.args.line.now c.in-Ok.setup found.0 b.rows b.running Taken c.take_begun.new.self _ c.in-Ok.ensures.exact found.1 found.2 found.3 refl
+      subst (λ (w : Stage g.row.K.Denot). SetupTurn keeper source w c.args.number c.args.line.now Taken out c.take_begun.new.self) c.self.view_is
+          (begins keeper source s c.args.number c.args.line.now c.in-Ok.setup found.0 b.rows b.running Taken c.take_begun.new.self _ c.in-Ok.ensures.exact found.1 found.2 found.3 refl
           c.in-Ok-begin.ensures.opened c.take_begun.ensures.stage),
     )
 
 pub returns-in-Err-begin-clause-ok : goal.returns-in-Err-begin-clause-ok
 returns-in-Err-begin-clause-ok g c =
     let keeper = keeper_of g.K.Keep.content g.K.Keep.is_honest g.K.Keep.refusals g.K.Keep.may_leave in
+    let source = source_of g.S.Keeps.may_refuse g.S.Keeps.found in
     let s : Stage g.row.K.Denot = record { wanted = c.self.inside.wanted; opened = g.S.Keeps.opened c.self.inside.keeps; running = c.self.inside.running; spare = c.self.inside.spare; stop = c.self.inside.stop } in
     let why = c.in-Err-begin.ensures.err in
     let u = c.in-Err-begin.unbegun in
@@ -62,6 +66,6 @@ returns-in-Err-begin-clause-ok g c =
     let left = left_unbegun c.self.inside.wanted _ _ c.self.inside.running u.keep (Some u.stop) why.1 none in (
       [],
       sym (append-nil (string_bytes c.args.output.now)),
-      subst (λ (w : Stage g.row.K.Denot). SetupTurn keeper g.S.Keeps.may_refuse w c.args.number c.args.line.now Ended [] last) c.self.view_is
+      subst (λ (w : Stage g.row.K.Denot). SetupTurn keeper source w c.args.number c.args.line.now Ended [] last) c.self.view_is
           (Unbegun c.in-Ok.setup c.in-Ok.ensures.exact why.0 u.keep u.stop why.2 refl refl left),
     )
