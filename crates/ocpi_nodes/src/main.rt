@@ -20,7 +20,7 @@ use node_programs::{PlayFault, run_answer, run_play, run_settle};
 use node_runs::{NodeRunFault, run_node};
 use node_store::StoreFault;
 use ocpi_types::Row;
-use sqlite::Unknown;
+use sqlite::{Start, Unknown};
 use std::io::{self, BufReader, BufWriter, IsTerminal, Write};
 use std::process::ExitCode;
 use weaving::{report_weave, weave_files};
@@ -239,22 +239,24 @@ fn run_one_node(
     besides: &mut Option<StoreFault>,
 ) -> Result<Ran, NodeRunFault> {
     match words.store {
-        Some(path) => run_in_file(rt, words, path, besides),
+        Some(path) => run_in_file(rt, words, path, Unknown, besides),
         None => run_over(rt, words, ListKeeps::new(rt.alloc()), besides),
     }
 }
 
-/// Runs a node with its rows in the file at that path, which must stand where the command line says so.
-fn run_in_file(
+/// Runs a node with its rows in the file at that path, which must stand where the command line says so. `start` stands
+/// for what the file holds.
+fn run_in_file<S: Start>(
     rt: &HostRuntime,
     words: &NodeWords<'_>,
     path: &str,
+    start: S,
     besides: &mut Option<StoreFault>,
 ) -> Result<Ran, NodeRunFault> {
     if words.existing {
-        run_over(rt, words, StoreFile::existing(rt, path, Unknown), besides)
+        run_over(rt, words, StoreFile::existing(rt, path, start), besides)
     } else {
-        run_over(rt, words, StoreFile::new(rt, path, Unknown), besides)
+        run_over(rt, words, StoreFile::new(rt, path, start), besides)
     }
 }
 
