@@ -1,0 +1,81 @@
+"""What goes into a node and what comes out: event lines, packets, and what became of an event."""
+from dataclasses import dataclass
+
+from .clock import Clock
+from .json_text import Members
+from .parties import same_party
+
+# The packets that are requests, and those that answer them.
+ANSWERS = ("command_response", "authorization", "ack")
+
+
+@dataclass(frozen=True)
+class Packet:
+    """A packet of a node: who sent it to whom, under which numbers, and the object of OCPI that it carries."""
+
+    sender: str
+    receiver: str
+    serial: int
+    request: int
+    kind: str
+    body: Members
+
+    @staticmethod
+    def of(line: Members) -> "Packet":
+        """The packet of a line that a node wrote."""
+        return Packet(line["from"], line["to"], line["serial"], line["request"], line["kind"], line["body"])
+
+    def members(self) -> Members:
+        """The packet as a node reads it."""
+        return {"from": self.sender, "to": self.receiver, "serial": self.serial, "request": self.request,
+                "kind": self.kind, "body": self.body}
+
+    @property
+    def is_answer(self) -> bool:
+        return self.kind in ANSWERS
+
+
+@dataclass(frozen=True)
+class Outcome:
+    """What became of an event: its `done`, and the packets that the node sent for it."""
+
+    event: Members
+    done: Members
+    packets: tuple[Packet, ...]
+
+    @property
+    def word(self) -> str:
+        """`stepped`, `idle`, `skipped`, `malformed` or `refused`."""
+        return str(self.done["done"])
+
+    def sent(self, kind: str) -> list[Packet]:
+        """The packets of a kind, in the order in which they were sent."""
+        return [packet for packet in self.packets if packet.kind == kind]
+
+    def answer_to(self, sender: str, request: int) -> Packet | None:
+        """The packet that answers a request of a party."""
+        for packet in self.packets:
+            if packet.is_answer and packet.request == request and same_party(packet.receiver, sender):
+                return packet
+        return None
+
+
+class Events:
+    """Makes the event lines of a node, each at the moment that the clock tells, or at one that is given."""
+
+    def __init__(self, node: str, clock: Clock) -> None:
+        self.node = node
+        self.clock = clock
+
+    def make(self, event: str, at: str | None = None, **members: object) -> Members:
+        """An event of a name and its own members."""
+        return {"event": event, "node": self.node, "at": at or self.clock.moment(), **members}
+
+    def deliver(self, packet: Packet) -> Members:
+        return self.make("deliver", packet=packet.members())
+
+    def tick(self) -> Members:
+        return self.make("tick")
+
+    def service(self, evse_uid: str, in_service: bool) -> Members:
+        return {"event": "service", "node": self.node, "evse_uid": evse_uid, "in_service": in_service}

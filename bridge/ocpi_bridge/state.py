@@ -1,0 +1,56 @@
+"""What a bridge keeps in its own SQLite file, so that no stop of it loses what it promised to anybody."""
+import os
+import sqlite3
+from collections.abc import Iterator
+from contextlib import contextmanager
+from pathlib import Path
+from typing import Any
+
+
+class State:
+    """The file. Whoever keeps something in it defines a table of its own, and changes it inside a transaction."""
+
+    def __init__(self, path: Path) -> None:
+        os.close(os.open(path, os.O_CREAT | os.O_RDWR, 0o600))
+        self._connection = sqlite3.connect(path, isolation_level=None, timeout=10)
+        self._depth = 0
+        self.query("PRAGMA journal_mode=WAL")
+        self.query("PRAGMA synchronous=FULL")
+        self.define("CREATE TABLE IF NOT EXISTS value_of (name TEXT PRIMARY KEY, value TEXT NOT NULL)")
+
+    def define(self, *statements: str) -> None:
+        """Makes tables and indexes where they are not there yet."""
+        for statement in statements:
+            self.query(statement)
+
+    @contextmanager
+    def transaction(self) -> Iterator[None]:
+        """All that is changed inside is committed together, or not at all. One inside another belongs to it."""
+        if self._depth == 0:
+            self.query("BEGIN IMMEDIATE")
+        self._depth += 1
+        try:
+            yield
+        except BaseException:
+            self._depth -= 1
+            if self._depth == 0:
+                self.query("ROLLBACK")
+            raise
+        self._depth -= 1
+        if self._depth == 0:
+            self.query("COMMIT")
+
+    def query(self, statement: str, *values: object) -> list[Any]:
+        """Carries out a statement, and gives its rows."""
+        return self._connection.execute(statement, values).fetchall()
+
+    def value(self, name: str) -> str | None:
+        """A single value that was kept under a name."""
+        rows = self.query("SELECT value FROM value_of WHERE name = ?", name)
+        return rows[0][0] if rows else None
+
+    def set_value(self, name: str, value: str) -> None:
+        self.query("INSERT OR REPLACE INTO value_of VALUES (?, ?)", name, value)
+
+    def close(self) -> None:
+        self._connection.close()
