@@ -267,10 +267,10 @@ impl<K: Keep> StoredNode<K> {
     /// Something happens at the node: what comes of it is planned, all memory for it is taken, its changes are
     /// committed, and then it is carried out, which cannot fail.
     ///
-    /// Refused (`Core`) where the node refuses it, (`Memory`) for want of memory in the node, before the keeper is asked,
-    /// and (`Store`) where the keeper does not take its changes, also for want of memory. After `Core` and `Memory` all
-    /// is as it was, the keeper too. After `Store` the node is, and the keeper keeps what it kept; only a stop may then
-    /// leave what the event would have made of it.
+    /// Refused (`Core`) where the node refuses it, (`Memory`) for want of memory in the node, before the keeper is
+    /// asked, and (`Store`) where the keeper does not take its changes, also for want of memory. After `Core` and
+    /// `Memory` all is as it was, the keeper too. After `Store` the node is, and the keeper keeps what it kept; only a
+    /// stop may then leave what the event would have made of it.
     pub fn apply(&mut self, kind: &NodeEventKind) -> Result<Applied, ApplyFault>
         ensures ok { IfOk result (λ a. Applies (keeper_of K.content K.is_honest K.refusals K.may_leave) self.old kind.now a self.new) }
         ensures err { IfErr result (λ f. Fails (keeper_of K.content K.is_honest K.refusals K.may_leave) self.old kind.now f self.new) }

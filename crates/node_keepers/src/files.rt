@@ -170,8 +170,8 @@ impl Keeps for FileKeeps<'_> {
     ghost opened = { λ keeps. keeps.opened.items };
 
     /// The folder must exist, and nothing may have the file's name. The path is noted first. A refusal for that, or for
-    /// want of memory before, leaves no file that was not there. Any other leaves the new file, which is no store yet, or
-    /// one without rows; a log may stand beside it.
+    /// want of memory before, leaves no file that was not there. Any other leaves the new file, which is no store yet,
+    /// or one without rows; a log may stand beside it.
     fn open(&mut self, place: usize) -> Result<TableKeep<FileStore<File>>, StoreFault> {
         self.opened = self.opened.note(&place);
         let path = self.path_of(place)?;
@@ -181,7 +181,8 @@ impl Keeps for FileKeeps<'_> {
         open_new(self.rt, self.path(), &standing)
     }
 
-    /// The file holds all rows then, and no other stands beside it. The path is noted where that was refused.
+    /// The file holds all rows then. A log that was made beside it is removed where it still is this file's, and where
+    /// that can be. The path is noted where the closing was refused.
     fn close(
         &mut self,
         place: usize,
@@ -285,7 +286,8 @@ impl<S: Start> Keeps for StoreFile<'_, S> {
         open_file(self.rt, self.path, &standing, start)
     }
 
-    /// The file holds all rows then, and no other stands beside it.
+    /// The file holds all rows then. A log that was made beside it is removed where it still is this file's, and where
+    /// that can be.
     fn close(
         &mut self,
         _place: usize,
@@ -320,8 +322,8 @@ trait InFile: Keep {
     /// What is known of what a keeper leaves.
     ghost leaves: { Self → Self.Ended → Type 0 };
 
-    /// Ends it, so that the file at that path holds all rows, and no log stands beside it. After a refusal they are in
-    /// the file and its log together, as before.
+    /// Ends it, so that the file at that path holds all rows; whoever gets the files may remove the log beside it. After
+    /// a refusal they are in the file and its log together, as before.
     fn end(
         self,
         rt: &HostRuntime,

@@ -81,6 +81,6 @@ pub record IsLeft {S : Type 0} {h : calls.Ghosts Host} {first : start.Ghosts S} 
   pub db : IsFresh false files.db
   pub cause : IsCleanLeft left → FailsToOpenFiles files left error × LeavesFiles files left
 
--- what is told where no file was opened
+-- what is told where nothing comes back
 abbrev pub IsUnopenedFault : StoreFault → Type 0
 IsUnopenedFault fault = (fault ≡ Refused cause.CannotOpen) ⊎ ((fault ≡ Memory) ⊎ (fault ≡ Refused cause.DatabaseBusy))
