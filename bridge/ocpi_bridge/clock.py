@@ -41,7 +41,14 @@ def moment_of(seconds: float) -> str:
 
 def seconds_of(moment: str) -> float:
     """The seconds since 1970 of a moment that OCPI or OCPP wrote, in UTC where it names no offset. Raises ValueError."""
+    return _since_epoch(moment) / timedelta(seconds=1)
+
+
+def milliseconds_of(moment: str) -> int:
+    """The same in whole milliseconds: what a moment has behind the third digit is cut."""
+    return _since_epoch(moment) // timedelta(milliseconds=1)
+
+
+def _since_epoch(moment: str) -> timedelta:
     read = datetime.fromisoformat(moment.upper())
-    if read.tzinfo is None:
-        read = read.replace(tzinfo=timezone.utc)
-    return (read - EPOCH) / timedelta(seconds=1)
+    return (read if read.tzinfo else read.replace(tzinfo=timezone.utc)) - EPOCH

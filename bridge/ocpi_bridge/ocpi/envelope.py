@@ -1,0 +1,64 @@
+"""OCPI's response format and headers, as the server and the client write and read them."""
+import base64
+import binascii
+from collections.abc import Mapping
+
+from aiohttp import web
+
+from ..json_text import Members, write_json
+from ..parties import codes
+from .requests import identifier
+
+SUCCESS = 1000
+CLIENT_ERROR = 2000
+INVALID = 2001
+UNKNOWN_LOCATION = 2003
+UNKNOWN_TOKEN = 2004
+SERVER_ERROR = 3000
+
+
+class Refusal(Exception):
+    """A request that is answered by an error: the HTTP status, OCPI's status code, and words for a person."""
+
+    def __init__(self, http_status: int, status_code: int, message: str) -> None:
+        super().__init__(message)
+        self.http_status = http_status
+        self.status_code = status_code
+        self.message = message
+
+
+def answer(timestamp: str, data: object = None, status_code: int = SUCCESS, message: str | None = None,
+           http_status: int = 200, headers: Mapping[str, str] | None = None) -> web.Response:
+    """A response in OCPI's format. `data` and `status_message` are left out where they are None."""
+    members: Members = {"data": data, "status_code": status_code, "status_message": message, "timestamp": timestamp}
+    return web.Response(text=write_json({name: value for name, value in members.items() if value is not None}),
+                        status=http_status, content_type="application/json", headers=headers)
+
+
+def authorization(token: str) -> str:
+    """The header `Authorization` with a credentials token."""
+    return "Token " + base64.b64encode(token.encode()).decode()
+
+
+def token_of(header: str | None) -> str:
+    """The credentials token in a header `Authorization`. Raises Refusal (401) where there is none."""
+    scheme, _, encoded = (header or "").partition(" ")
+    if scheme.lower() != "token":
+        raise Refusal(401, INVALID, "Authorization: missing, or no Token")
+    try:
+        return base64.b64decode(encoded.strip(), validate=True).decode()
+    except (binascii.Error, ValueError):
+        raise Refusal(401, INVALID, "Authorization: the token is not in Base64") from None
+
+
+def routing_headers(sender: str, receiver: str) -> dict[str, str]:
+    """The headers that say from which party to which a message goes."""
+    from_codes, to_codes = codes(sender), codes(receiver)
+    return {"OCPI-from-country-code": from_codes[0], "OCPI-from-party-id": from_codes[1],
+            "OCPI-to-country-code": to_codes[0], "OCPI-to-party-id": to_codes[1]}
+
+
+def request_headers(sender: str, receiver: str, serial: int, request: int) -> dict[str, str]:
+    """The headers of a request that is a packet: both ids, and the parties."""
+    return {"X-Request-ID": identifier(sender, serial), "X-Correlation-ID": identifier(sender, request),
+            **routing_headers(sender, receiver)}
