@@ -10,6 +10,7 @@ from ..events import Outcome, Packet
 from ..json_text import Members, read_json, write_json
 from ..parties import party_key, party_of, same_party
 from ..state import State
+from .claims import Claims
 
 # The module of each packet that carries an object, and the member that identifies the object.
 OBJECTS = {"put_session": ("sessions", "id"), "post_cdr": ("cdrs", "id"), "put_token": ("tokens", "uid")}
@@ -23,6 +24,7 @@ class Objects:
 
     def __init__(self, state: State) -> None:
         self._state = state
+        self.claims = Claims(state)
         state.define(
             """CREATE TABLE IF NOT EXISTS object_of (
                 module TEXT, party TEXT, identifier TEXT, token_type TEXT, partner TEXT NOT NULL,
@@ -36,6 +38,7 @@ class Objects:
 
     def note(self, outcome: Outcome) -> None:
         """Keeps what the node sent, and what it accepted. To be called inside the transaction that ends the line."""
+        self.claims.note(outcome)
         for packet in outcome.packets:
             if packet.kind == "put_token":
                 self._keep(packet, partner="")

@@ -1,0 +1,59 @@
+"""Lists of sender interfaces: which part of a list a request asks for, and the headers that lead to the next one."""
+from collections.abc import Mapping
+from dataclasses import dataclass
+from urllib.parse import urlencode
+
+from ..clock import milliseconds_of
+from .envelope import INVALID, Refusal
+
+MOST = 1000
+MOST_DIGITS = 18
+
+
+@dataclass(frozen=True)
+class Part:
+    """The part of a list: from `date_from` on and before `date_to` (milliseconds since 1970), of that `limit` objects
+    behind the first `offset`."""
+
+    date_from: int | None
+    date_to: int | None
+    offset: int
+    limit: int
+
+    def includes(self, last_updated: str) -> bool:
+        """Whether an object of this `last_updated` is in the list."""
+        moment = milliseconds_of(last_updated)
+        return (self.date_from is None or self.date_from <= moment) and (self.date_to is None or moment < self.date_to)
+
+    def headers(self, query: Mapping[str, str], address: str, count: int) -> dict[str, str]:
+        """The headers of a response, where the list at an address has so many objects in all."""
+        headers = {"X-Total-Count": str(count), "X-Limit": str(self.limit)}
+        if self.offset + self.limit < count:
+            dates = {name: query[name] for name in ("date_from", "date_to") if name in query}
+            following = urlencode({**dates, "offset": self.offset + self.limit, "limit": self.limit})
+            headers["Link"] = f'<{address}?{following}>; rel="next"'
+        return headers
+
+
+def part_of(query: Mapping[str, str]) -> Part:
+    """The part that a query asks for. Raises Refusal (2001)."""
+    limit = _whole(query, "limit", MOST)
+    if limit == 0:
+        raise Refusal(200, INVALID, "limit: 1 or more")
+    return Part(_moment(query, "date_from"), _moment(query, "date_to"), _whole(query, "offset", 0), min(limit, MOST))
+
+
+def _moment(query: Mapping[str, str], name: str) -> int | None:
+    try:
+        return milliseconds_of(query[name]) if name in query else None
+    except (ValueError, OverflowError):
+        raise Refusal(200, INVALID, f"{name}: a moment, as 2025-01-01T10:00:00Z") from None
+
+
+def _whole(query: Mapping[str, str], name: str, otherwise: int) -> int:
+    text = query.get(name)
+    if text is None:
+        return otherwise
+    if not (text.isascii() and text.isdecimal() and len(text) <= MOST_DIGITS):
+        raise Refusal(200, INVALID, f"{name}: a whole number of at most {MOST_DIGITS} digits")
+    return int(text)
