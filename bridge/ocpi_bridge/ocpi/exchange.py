@@ -1,0 +1,129 @@
+"""One HTTP request to a partner and its response, bounded in time and in size, and what a partner's versions list."""
+import uuid
+from collections.abc import Mapping
+from dataclasses import dataclass
+from urllib.parse import quote
+
+import aiohttp
+from yarl import URL
+
+from ..admin.metrics import Metrics
+from ..clock import Clock
+from ..json_text import Members, NotJson, NumberTooLarge, read_json, write_json
+from .envelope import SUCCESS, authorization
+from .partners import Endpoints
+
+SECONDS = 10.0
+MOST_BYTES = 1_000_000
+VERSION = "2.2.1"
+# The characters that a URL may have as they are. All others are percent-encoded.
+PLAIN = "!#$%&'()*+,/:;=?@[]~"
+
+
+class NoResponse(Exception):
+    """Nothing came that can be used. `was_sent` is false where surely nothing reached the partner."""
+
+    def __init__(self, message: str, was_sent: bool = True) -> None:
+        super().__init__(message)
+        self.was_sent = was_sent
+
+
+class NoVersion(Exception):
+    """A partner speaks, but not the version of this bridge."""
+
+
+@dataclass(frozen=True)
+class Response:
+    """What came: the members of a body in OCPI's format (none where it has another form), and the list's next page."""
+
+    status: int
+    headers: Mapping[str, str]
+    body: Members
+    next_page: str | None
+
+
+class Exchange:
+    """The connections to all partners. To be made and closed while the event loop runs."""
+
+    def __init__(self, clock: Clock, metrics: Metrics) -> None:
+        self._clock = clock
+        self._metrics = metrics
+        # A connection is kept for a few seconds alone: one that the partner ends meanwhile would lose a request.
+        self._session = aiohttp.ClientSession(
+            connector=aiohttp.TCPConnector(limit=0, keepalive_timeout=3), cookie_jar=aiohttp.DummyCookieJar(),
+            timeout=aiohttp.ClientTimeout(total=None), auto_decompress=False,
+            headers={"Accept-Encoding": "identity"})
+
+    async def ask(self, party: str, method: str, url: str, token: str, body: Members | None = None,
+                  headers: Mapping[str, str] | None = None) -> Response:
+        """Sends a request with a credentials token, and gives what is answered. Raises NoResponse."""
+        status = "lost"
+        try:
+            response = await self._clock.within(SECONDS, self._ask(method, url, token, body, headers or new_ids()))
+            status = str(response.status)
+            return response
+        except aiohttp.ClientConnectorError as fault:
+            raise NoResponse(f"no connection: {fault}", was_sent=False) from None
+        except (aiohttp.ClientError, TimeoutError, OSError, ValueError) as fault:
+            raise NoResponse(f"no response: {type(fault).__name__}") from None
+        finally:
+            self._metrics.count("ocpi_http_requests_total", partner=party, direction="out", status=status)
+
+    async def data(self, party: str, url: str, token: str) -> tuple[object, str | None]:
+        """The `data` that a GET gives, and the next page of a list. Raises NoResponse where it is no success."""
+        response = await self.ask(party, "GET", url, token)
+        if response.status != 200 or response.body.get("status_code") != SUCCESS:
+            raise NoResponse(f"HTTP {response.status}, status_code {response.body.get('status_code')}")
+        return response.body.get("data"), response.next_page
+
+    async def endpoints(self, party: str, versions_url: str, token: str) -> Endpoints:
+        """Where the modules of a partner stand. Raises NoResponse, and NoVersion where it has no 2.2.1."""
+        versions, _ = await self.data(party, versions_url, token)
+        details_url = next((version["url"] for version in _objects(versions, "version", "url")
+                            if version["version"] == VERSION), None)
+        if details_url is None:
+            raise NoVersion(VERSION)
+        details, _ = await self.data(party, details_url, token)
+        listed = _objects(details.get("endpoints") if isinstance(details, dict) else None, "identifier", "role", "url")
+        return {(one["identifier"], one["role"]): one["url"] for one in listed}
+
+    async def close(self) -> None:
+        await self._session.close()
+
+    async def _ask(self, method: str, url: str, token: str, body: Members | None,
+                   headers: Mapping[str, str]) -> Response:
+        address = URL(quote(url, safe=PLAIN), encoded=True)
+        if address.scheme not in ("http", "https") or not address.host:
+            raise NoResponse("no address of HTTP", was_sent=False)
+        text = None if body is None else write_json(body).encode()
+        sent = {"Authorization": authorization(token), **headers}
+        if text is not None:
+            sent["Content-Type"] = "application/json"
+        async with self._session.request(method, address, data=text, headers=sent, allow_redirects=False) as response:
+            pieces = bytearray()
+            async for piece in response.content.iter_chunked(65_536):
+                pieces += piece
+                if len(pieces) > MOST_BYTES:
+                    raise NoResponse("the response is too large")
+            page = str(response.links["next"]["url"]) if "next" in response.links else None
+            return Response(response.status, response.headers, _members(bytes(pieces)), page)
+
+
+def new_ids() -> dict[str, str]:
+    """The ids of a request that is no packet."""
+    return {"X-Request-ID": str(uuid.uuid4()), "X-Correlation-ID": str(uuid.uuid4())}
+
+
+def _members(text: bytes) -> Members:
+    try:
+        body = read_json(text)
+    except (NotJson, NumberTooLarge):
+        return {}
+    return body if isinstance(body, dict) else {}
+
+
+def _objects(listed: object, *names: str) -> list[dict[str, str]]:
+    """The objects of a list that have texts under these names."""
+    elements = listed if isinstance(listed, list) else []
+    return [element for element in elements
+            if isinstance(element, dict) and all(isinstance(element.get(name), str) for name in names)]
