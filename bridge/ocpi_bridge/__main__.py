@@ -1,0 +1,27 @@
+"""Runs a bridge: `python3 -m ocpi_bridge CONFIG`, or registers it at a partner."""
+import argparse
+import asyncio
+import sys
+from pathlib import Path
+
+from .application import Bridge
+from .configuration import WrongConfiguration, read_configuration
+from .logs import set_up_logs
+
+
+def main() -> int:
+    """Reads the command line and the configuration. Gives the status."""
+    parser = argparse.ArgumentParser("ocpi_bridge", description="A node behind OCPI 2.2.1 and OCPP 1.6.")
+    parser.add_argument("configuration", metavar="CONFIG", type=Path, help="the configuration, a JSON file")
+    parser.add_argument("--json-logs", action="store_true", help="write logs as JSON, an object a line")
+    words = parser.parse_args()
+    set_up_logs(words.json_logs)
+    try:
+        configuration = read_configuration(words.configuration)
+    except WrongConfiguration as wrong:
+        print(wrong, file=sys.stderr)
+        return 2
+    return asyncio.run(Bridge(configuration).run())
+
+
+sys.exit(main())

@@ -1,0 +1,28 @@
+"""The log of a bridge: one line each on standard error, as text or as JSON."""
+import json
+import logging
+import sys
+import time
+
+
+class JsonLines(logging.Formatter):
+    """Writes a record as an object of `time`, `level`, `logger` and `message`."""
+
+    def format(self, record: logging.LogRecord) -> str:
+        moment = time.strftime("%Y-%m-%dT%H:%M:%S", time.gmtime(record.created)) + f".{int(record.msecs):03}Z"
+        return json.dumps({"time": moment, "level": record.levelname, "logger": record.name,
+                           "message": super().format(record)})
+
+
+class TextLines(logging.Formatter):
+    """Writes a record as its message, in which line ends are written out."""
+
+    def format(self, record: logging.LogRecord) -> str:
+        return super().format(record).replace("\r", "\\r").replace("\n", "\\n")
+
+
+def set_up_logs(as_json: bool) -> None:
+    """Has all that is logged written to standard error."""
+    handler = logging.StreamHandler(sys.stderr)
+    handler.setFormatter(JsonLines() if as_json else TextLines())
+    logging.basicConfig(level=logging.INFO, handlers=[handler])

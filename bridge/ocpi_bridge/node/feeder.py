@@ -1,0 +1,284 @@
+"""Feeds a node, one line at a time, so that no stop of the node or of the bridge loses an event or has it done twice.
+
+Each line is kept in `state` until its `done` came, with the serial of the last packet that was seen by then. After a
+stop a kept line is fed again, but where a packet of it came out or the node's serial has risen: then it was carried
+out, and what it gave is lost, as links lose packets.
+"""
+import asyncio
+import logging
+import time
+from collections import deque
+from collections.abc import Awaitable, Callable
+from typing import TypeVar
+
+from ..admin.metrics import Metrics
+from ..configuration import NodeSettings
+from ..events import Events, Outcome, Packet
+from ..json_text import Members, write_json
+from ..state import State
+from .child import Child, ChildEnded, has_existing
+from .lines import Line, Waiting, kept_line, next_line
+from .transcript import Transcript
+
+LOG = logging.getLogger("node")
+Result = TypeVar("Result")
+Listener = Callable[[Outcome], None]
+# How long an opened store is waited for that the node of a killed bridge may still have, in seconds of real time.
+LOCKED_WITHIN = 10.0
+LONGEST_DELAY = 30.0
+
+
+class OutcomeLost(Exception):
+    """The event was carried out, and a stop of the node lost what it gave. The node has had a tick since."""
+
+
+class NodeEnded(Exception):
+    """The bridge is stopping, and the event may be carried out at its next start, or never."""
+
+
+class SetupRefused(Exception):
+    """The node cannot read its setup."""
+
+
+class Feeder:
+    """The node of a bridge. `run` starts it, and again after each stop; `feed` has it carry out an event."""
+
+    def __init__(self, settings: NodeSettings, events: Events, state: State, metrics: Metrics) -> None:
+        self._settings = settings
+        self._events = events
+        self._state = state
+        self._metrics = metrics
+        self._before: list[Listener] = []
+        self._after: list[Listener] = []
+        self._opened: list[Callable[[], None]] = []
+        self._queue: deque[Waiting] = deque()
+        self._line = kept_line(state.value("node.line"))
+        self._serial = int(state.value("node.serial") or "0")
+        self._lost: list[Waiting] = []
+        self._takes_arrays = False
+        self._woken, self._stopping, self._closed, self._reopened = (asyncio.Event() for _ in range(4))
+        self._reopened.set()
+        self._closing = asyncio.Lock()
+        self._has_ended = False
+        self._ticked = float("-inf")
+        self._delay = 0.0
+        self.is_open = False
+
+    def before_commit(self, listener: Listener) -> None:
+        """Has a listener called with each outcome, inside of the transaction of `state` that forgets its line."""
+        self._before.append(listener)
+
+    def after_commit(self, listener: Listener) -> None:
+        """Has a listener called with each outcome, in order, behind that transaction."""
+        self._after.append(listener)
+
+    def after_opening(self, listener: Callable[[], None]) -> None:
+        """Has a listener called whenever the node was opened and had its first tick."""
+        self._opened.append(listener)
+
+    def tick_age(self) -> float:
+        """Seconds of real time since a tick was answered."""
+        return time.monotonic() - self._ticked
+
+    async def feed(self, event: Members) -> Outcome:
+        """Has an event carried out, behind those that wait. A caller that is cancelled does not take it back.
+
+        Raises OutcomeLost and NodeEnded; NotJson where the event is nested deeper than a node reads.
+        """
+        if self._has_ended or self._stopping.is_set():
+            raise NodeEnded()
+        outcome: asyncio.Future[Outcome] = asyncio.get_running_loop().create_future()
+        self._queue.append(Waiting.of(event, outcome))
+        self._woken.set()
+        return await outcome
+
+    async def stop(self) -> None:
+        """Ends the node behind the line in flight; `run` then returns."""
+        self._stopping.set()
+        self._woken.set()
+
+    async def while_closed(self, action: Callable[[], Awaitable[Result]]) -> Result:
+        """Ends the node, awaits an action, and starts the node again. Events wait meanwhile. Raises NodeEnded."""
+        async with self._closing:
+            self._reopened.clear()
+            self._woken.set()
+            try:
+                await self._closed.wait()
+                if self._has_ended:
+                    raise NodeEnded()
+                return await action()
+            finally:
+                self._closed.clear()
+                self._reopened.set()
+
+    async def run(self) -> int:
+        """Runs the node until `stop`, or until it ends with a status that no new start mends. Gives its status."""
+        transcript = Transcript(self._settings.transcript) if self._settings.transcript else None
+        ticks = asyncio.create_task(self._tick_each_second())
+        try:
+            return await self._run_again_and_again(transcript)
+        finally:
+            ticks.cancel()
+            self._has_ended = True
+            self._closed.set()
+            for waiting in (*(self._line.waiting if self._line else ()), *self._lost, *self._queue):
+                waiting.fail(NodeEnded())
+            if transcript is not None:
+                transcript.close()
+
+    async def _tick_each_second(self) -> None:
+        while True:
+            await self._events.clock.sleep(1)
+            if self.is_open and not any(waiting.event["event"] == "tick" for waiting in self._queue):
+                self._queue.append(Waiting.of(self._events.tick()))
+                self._woken.set()
+
+    async def _run_again_and_again(self, transcript: Transcript | None) -> int:
+        knows_existing = await has_existing(self._settings)
+        locked_until: float | None = None
+        while True:
+            existing = knows_existing and self._state.value("node.was_opened") is not None
+            child = await Child.start(self._settings, existing, transcript)
+            status = await self._run_once(child)
+            if not self._reopened.is_set() and status in (0, 1):
+                self._closed.set()
+                await self._reopened.wait()
+            elif self._stopping.is_set():
+                return status
+            elif status == 3 and child.found_lock:
+                locked_until = locked_until or time.monotonic() + LOCKED_WITHIN
+                if time.monotonic() > locked_until:
+                    return status
+                await asyncio.sleep(0.2)
+            elif status in (2, 3):
+                return status
+            else:
+                locked_until = None
+                await self._pause(status)
+            if self._stopping.is_set():
+                return status
+
+    async def _pause(self, status: int) -> None:
+        """Waits before the node is started again, each time longer until it could be opened."""
+        LOG.error("the node ended with status %d, and is started again in %d s", status, self._delay)
+        self._metrics.count("ocpi_node_restarts_total")
+        try:
+            await self._events.clock.within(self._delay, self._stopping.wait())
+        except TimeoutError:
+            pass
+        self._delay = min(max(1.0, 2 * self._delay), LONGEST_DELAY)
+
+    async def _run_once(self, child: Child) -> int:
+        """Opens the node, and feeds it until it ends or has to. Gives its status."""
+        try:
+            await self._open(child)
+            while not self._has_to_end():
+                if self._line is not None:
+                    await self._carry_out(child, self._line)
+                elif self._queue:
+                    with self._state.transaction():
+                        self._keep(next_line(self._queue, self._takes_arrays))
+                else:
+                    self._woken.clear()
+                    await self._woken.wait()
+        except ChildEnded:
+            pass
+        finally:
+            self.is_open = False
+            status = await child.end()
+        return status
+
+    def _has_to_end(self) -> bool:
+        return self._stopping.is_set() or not self._reopened.is_set()
+
+    async def _open(self, child: Child) -> None:
+        await child.write(self._settings.setup_line)
+        opened = await child.read()
+        if opened["done"] != "opened":
+            raise SetupRefused(f"the node refused its setup: {opened.get('name')} {opened.get('field', '')}")
+        self._judge_kept_line(opened["serial"])
+        if self._line is not None:
+            await self._carry_out(child, self._line)
+        self._takes_arrays = (await self._carry_out(child, Line("[]", [])))["done"] == "all"
+        tick = Waiting.of(self._events.tick())
+        await self._carry_out(child, Line(tick.text, [tick]))
+        self._delay = 0.0
+        self.is_open = True
+        for listener in self._opened:
+            listener()
+        for waiting in self._lost:
+            waiting.fail(OutcomeLost())
+        self._lost.clear()
+
+    def _judge_kept_line(self, serial: int) -> None:
+        """Says of the line that a stop left whether it was carried out, by the serial with which the node opened."""
+        line = self._line
+        if line is not None and (line.has_output or serial > self._serial):
+            self._lost += line.waiting
+            line = None
+        if serial < self._serial:
+            LOG.error("the store is an older one: its last serial is %d, and %d was seen", serial, self._serial)
+        self._serial = serial
+        with self._state.transaction():
+            self._state.set_value("node.was_opened", "yes")
+            self._keep(line)
+
+    def _keep(self, line: Line | None) -> None:
+        self._line = line
+        self._state.set_value("node.line", "" if line is None else line.text)
+        self._state.set_value("node.serial", str(self._serial))
+
+    async def _carry_out(self, child: Child, line: Line) -> Members:
+        """Feeds a line and reads all that it gives. Returns its `done`. Raises ChildEnded."""
+        if line is not self._line:
+            with self._state.transaction():
+                self._keep(line)
+        started = time.monotonic()
+        await child.write(line.text)
+        outcomes: list[Outcome] = []
+        packets: list[Packet] = []
+        while True:
+            output = await child.read()
+            line.has_output = True
+            if "kind" in output:
+                packets.append(Packet.of(output))
+                self._serial = packets[-1].serial
+                continue
+            if "event" in output or not line.is_array:
+                outcomes.append(Outcome(line.waiting[output.get("event", 0)].event, output, tuple(packets)))
+                packets = []
+            if "event" not in output:
+                break
+        self._metrics.observe("ocpi_line_seconds", time.monotonic() - started)
+        self._settle(line, outcomes)
+        return output
+
+    def _settle(self, line: Line, outcomes: list[Outcome]) -> None:
+        """Forgets a line, keeps what it changed and the next one, and then tells who waits."""
+        if len(outcomes) < len(line.waiting):
+            # As a whole the array could not be read: one of its events is at fault, and is found by itself.
+            for waiting in reversed(line.waiting):
+                waiting.alone = True
+                self._queue.appendleft(waiting)
+        with self._state.transaction():
+            for outcome in outcomes:
+                for listener in self._before:
+                    listener(outcome)
+            goes_on = self.is_open and not self._has_to_end()
+            self._keep(next_line(self._queue, self._takes_arrays) if goes_on else None)
+        for waiting, outcome in zip(line.waiting, outcomes):
+            self._count(outcome)
+            for listener in self._after:
+                listener(outcome)
+            waiting.succeed(outcome)
+
+    def _count(self, outcome: Outcome) -> None:
+        self._metrics.count("ocpi_lines_total", done=outcome.word)
+        if outcome.event["event"] == "deliver":
+            self._metrics.count("ocpi_packets_total", kind=outcome.event["packet"]["kind"], direction="in")
+        for packet in outcome.packets:
+            self._metrics.count("ocpi_packets_total", kind=packet.kind, direction="out")
+        if outcome.event["event"] == "tick":
+            self._ticked = time.monotonic()
+        if outcome.word not in ("stepped", "idle"):
+            LOG.warning("%s: %s", outcome.event["event"], write_json(outcome.done))

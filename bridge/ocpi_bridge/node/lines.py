@@ -1,0 +1,71 @@
+"""The lines that are fed to a node: one event, or several in an array, and who waits for what becomes of them."""
+from asyncio import Future
+from collections import deque
+from dataclasses import dataclass
+
+from ..events import Outcome
+from ..json_text import Members, read_json, write_json
+
+# What a node takes in one line.
+MOST_EVENTS = 256
+MOST_BYTES = 1_048_576
+
+
+@dataclass
+class Waiting:
+    """An event with its text. One that is `alone` is fed in a line of its own."""
+
+    event: Members
+    text: str
+    outcome: "Future[Outcome] | None" = None
+    alone: bool = False
+
+    @staticmethod
+    def of(event: Members, outcome: "Future[Outcome] | None" = None) -> "Waiting":
+        """An event, and where its outcome is awaited. Raises NotJson where it is nested too deep."""
+        return Waiting(event, write_json(event), outcome)
+
+    def succeed(self, outcome: Outcome) -> None:
+        if self.outcome is not None and not self.outcome.done():
+            self.outcome.set_result(outcome)
+
+    def fail(self, fault: Exception) -> None:
+        if self.outcome is not None and not self.outcome.done():
+            self.outcome.set_exception(fault)
+
+
+@dataclass
+class Line:
+    """A line. `has_output` says that something came out for it: then its events were carried out."""
+
+    text: str
+    waiting: list[Waiting]
+    has_output: bool = False
+
+    @property
+    def is_array(self) -> bool:
+        return self.text.startswith("[")
+
+
+def kept_line(text: str | None) -> Line | None:
+    """The line that an earlier run of the bridge kept, whose events nobody awaits any more."""
+    if not text:
+        return None
+    kept = read_json(text)
+    return Line(text, [Waiting.of(event) for event in (kept if isinstance(kept, list) else [kept])])
+
+
+def next_line(queue: deque[Waiting], takes_arrays: bool) -> Line | None:
+    """Takes the next line off those that wait: in an array what waits, as far as a line goes, else one event."""
+    if not queue:
+        return None
+    taken = [queue.popleft()]
+    size = len(taken[0].text) + 2
+    while takes_arrays and queue and len(taken) < MOST_EVENTS and not taken[-1].alone and not queue[0].alone:
+        size += len(queue[0].text) + 1
+        if size > MOST_BYTES:
+            break
+        taken.append(queue.popleft())
+    if len(taken) == 1:
+        return Line(taken[0].text, taken)
+    return Line(f"[{','.join(waiting.text for waiting in taken)}]", taken)
