@@ -145,6 +145,10 @@ class RunningBridge:
         assert self._process is not None
         return self._process.pid
 
+    def runs(self) -> bool:
+        """Whether it was started and has not ended."""
+        return self._process is not None and self._process.poll() is None
+
     def log(self) -> str:
         """All that it and its earlier runs wrote to standard error."""
         path = self.folder / "log"
