@@ -1,0 +1,47 @@
+"""The thirty charges of a trial, drawn from its seed: who charges where, how it begins, and how it ends."""
+from dataclasses import dataclass
+from random import Random
+
+from .parties import PLACES, PROVIDERS, Place
+
+CHARGES = 30
+RESERVED = 5
+STOPPED_BY_THE_PROVIDER = 3
+# The whitelists of the tokens that are swiped. The last two have the operator ask the provider.
+SWIPED = ("ALWAYS", "ALLOWED", "ALWAYS", "NEVER", "ALLOWED_OFFLINE")
+
+
+@dataclass(frozen=True)
+class Charge:
+    """One charge. Each has a token of its own, so that what is started by it can be told from all else.
+
+    `begins` is `ordered`, `reserved` (and then ordered), or `swiped`. `ends` is the reason that the charge point gives
+    in the end: `Local`, `Remote` (the provider stops it) or `UnlockCommand`.
+    """
+
+    number: int
+    place: Place
+    provider: str
+    begins: str
+    whitelist: str
+    ends: str
+    is_credited: bool
+
+    @property
+    def token_uid(self) -> str:
+        return f"{self.provider[3:]}-TAG-{self.number:02}"
+
+
+def drawn(chance: Random) -> list[Charge]:
+    """The charges, in the order in which they are asked for at each place."""
+    begins = ["reserved"] * RESERVED + ["swiped"] * len(SWIPED)
+    begins += ["ordered"] * (CHARGES - len(begins))
+    ends = ["Local"] * (RESERVED + len(SWIPED)) + ["Remote"] * STOPPED_BY_THE_PROVIDER + ["UnlockCommand"]
+    ends += ["Local"] * (CHARGES - len(ends))
+    whitelists = ["ALWAYS"] * RESERVED + list(SWIPED)
+    whitelists += ["ALWAYS"] * (CHARGES - len(whitelists))
+    credited = chance.randrange(CHARGES)
+    kinds = list(zip(begins, whitelists, ends))
+    order = chance.sample(range(CHARGES), CHARGES)
+    return [Charge(number, PLACES[number % len(PLACES)], chance.choice(PROVIDERS), *kinds[kind], kind == credited)
+            for number, kind in enumerate(order)]

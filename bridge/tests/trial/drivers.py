@@ -1,0 +1,175 @@
+"""Carries charges out, as drivers and their providers do: asks again for what did not come about, until it did."""
+import asyncio
+import time
+from base64 import b64encode
+from collections.abc import Mapping
+from datetime import datetime, timedelta
+from random import Random
+from typing import Any
+
+import aiohttp
+
+from ..running import Members, RunningBridge
+from .charge_point import ChargePoint, Transaction
+from .charges import Charge
+from .chance import happens
+from .parties import CONNECTOR, LOCATION, Secrets
+
+# In seconds of the machine. A command lasts 1.5 of them, and a question about a token half a second.
+A_START_TAKES = 3.0
+A_RESERVATION_TAKES = 3.0
+AN_END_TAKES = 2.5
+A_REPORT_TAKES = 20.0
+A_CHARGE_TAKES = 60.0
+# In seconds of the bridges' clocks: 12 of the machine.
+A_RESERVATION_LASTS = timedelta(seconds=240)
+
+
+class NotCarriedOut(Exception):
+    """A charge did not come about within its time."""
+
+
+class Drivers:
+    """Asks for charges by the admin addresses of the bridges, and by tokens that are shown at charge points."""
+
+    def __init__(self, bridges: Mapping[str, RunningBridge], charge_points: Mapping[str, ChargePoint],
+                 secrets: Secrets, chance: Random) -> None:
+        self._bridges = bridges
+        self._charge_points = charge_points
+        self._secrets = secrets
+        self._chance = chance
+        self.done: list[tuple[Charge, Transaction]] = []
+        self.credited: list[str] = []
+
+    async def carry_out(self, charges: list[Charge]) -> None:
+        """Carries out the charges of one place, one after another. Raises NotCarriedOut."""
+        for charge in charges:
+            try:
+                await asyncio.wait_for(self._carry_out(charge), A_CHARGE_TAKES)
+            except asyncio.TimeoutError:
+                raise NotCarriedOut(f"{charge}") from None
+
+    async def _carry_out(self, charge: Charge) -> None:
+        charge_point = self._charge_points[charge.place.charge_point]
+        charge_point.ends[charge.token_uid] = charge.ends
+        await self._insist(charge.provider, "/tokens", self._token(charge))
+        if charge.begins == "reserved":
+            await self._reserve(charge)
+        transaction = await self._begin(charge, charge_point)
+        if charge.ends != "Local":
+            await self._end(charge, charge_point, transaction)
+        await charge_point.until(lambda: transaction.is_reported, A_REPORT_TAKES)
+        if charge.is_credited:
+            await self._credit(charge)
+        self.done.append((charge, transaction))
+
+    def _token(self, charge: Charge) -> Members:
+        return {"country_code": charge.provider[:2], "party_id": charge.provider[3:], "uid": charge.token_uid,
+                "type": "RFID", "contract_id": f"C{charge.number:08}", "issuer": charge.provider, "valid": True,
+                "whitelist": charge.whitelist, "last_updated": "2025-01-01T00:00:00Z"}
+
+    async def _begin(self, charge: Charge, charge_point: ChargePoint) -> Transaction:
+        """Asks for a charge, or shows the token, until a transaction was let charge for it."""
+        while True:
+            if charge.begins == "swiped":
+                await charge_point.swipe(charge.token_uid, happens(self._chance, 0.5))
+            else:
+                await self._order(charge, "start_session", **self._token_and_place(charge), connector_id=CONNECTOR)
+            transaction = await charge_point.let_charge(charge.token_uid, A_START_TAKES)
+            if transaction is not None:
+                return transaction
+
+    async def _reserve(self, charge: Charge) -> None:
+        """Reserves the EVSE under one id, again where it is not told to be reserved within some time."""
+        while True:
+            moment, _ = await self._evse_status(charge)
+            expiry = datetime.fromisoformat(moment.rstrip("Z")) + A_RESERVATION_LASTS
+            await self._order(charge, "reserve_now", **self._token_and_place(charge),
+                              expiry_date=f"{expiry:%Y-%m-%dT%H:%M:%SZ}", reservation_id=f"R{charge.number}")
+            end = time.monotonic() + A_RESERVATION_TAKES
+            while time.monotonic() < end:
+                if (await self._evse_status(charge))[1] == "RESERVED":
+                    return
+                await asyncio.sleep(0.1)
+
+    async def _end(self, charge: Charge, charge_point: ChargePoint, transaction: Transaction) -> None:
+        """Has the provider stop the session or unlock its connector, until the charge point was asked to."""
+        while not transaction.asked_to_end.is_set() and not transaction.is_reported:
+            if charge.ends == "UnlockCommand":
+                await self._order(charge, "unlock_connector", location_id=LOCATION, evse_uid=charge.place.evse_uid,
+                                  connector_id=CONNECTOR)
+            else:
+                session = await self._session(charge, charge.provider)
+                if session is not None:
+                    await self._order(charge, "stop_session", session_id=session["id"])
+            await charge_point.until(transaction.asked_to_end.is_set, AN_END_TAKES)
+
+    async def _credit(self, charge: Charge) -> None:
+        """Takes the bill of a charge back, at its operator."""
+        identifier = await self._completed_session(charge)
+        answer = await self._insist(charge.place.operator, "/credits", {"session_id": identifier})
+        if answer["done"]["done"] not in ("stepped", "idle"):
+            raise NotCarriedOut(f"credit of {identifier}: {answer}")
+        self.credited.append(identifier)
+
+    async def _completed_session(self, charge: Charge) -> str:
+        """The id of the session of a charge, once it is completed at its operator."""
+        while True:
+            session = await self._session(charge, charge.place.operator)
+            if session is not None and session["status"] == "COMPLETED":
+                return str(session["id"])
+            await asyncio.sleep(0.2)
+
+    def _token_and_place(self, charge: Charge) -> dict[str, str]:
+        return {"token_uid": charge.token_uid, "token_type": "RFID", "location_id": LOCATION,
+                "evse_uid": charge.place.evse_uid}
+
+    async def _order(self, charge: Charge, order: str, **members: str) -> None:
+        """Gives an order once. Where the bridge does not answer, nobody knows whether it was given."""
+        await self._post(charge.provider, "/orders", {"operator": charge.place.operator, "order": order, **members})
+
+    async def _session(self, charge: Charge, party: str) -> Members | None:
+        """The last session by the token of a charge, as a bridge tells it."""
+        sessions = await self._get(self._bridges[party].admin_url + "/sessions", {})
+        found = [session for session in sessions or [] if session["cdr_token"]["uid"] == charge.token_uid]
+        return max(found, key=lambda session: str(session["id"]), default=None)
+
+    async def _evse_status(self, charge: Charge) -> tuple[str, str]:
+        """The moment by the operator's clock, and the status of the EVSE of a charge, as its locations tell both."""
+        operator = self._bridges[charge.place.operator]
+        token = b64encode(self._secrets.tokens[charge.provider, charge.place.operator].encode()).decode()
+        url = operator.ocpi_url + "/ocpi/2.2.1/sender/locations"
+        while True:
+            answer = await self._get(url, {"Authorization": f"Token {token}"})
+            if answer is not None:
+                return str(answer["timestamp"]), next(
+                    str(evse["status"]) for location in answer["data"] for evse in location["evses"]
+                    if evse["uid"] == charge.place.evse_uid)
+            await asyncio.sleep(0.2)
+
+    async def _insist(self, party: str, path: str, body: Members) -> Members:
+        """Posts until there is an answer. What is posted may be carried out more than once."""
+        while True:
+            answer = await self._post(party, path, body)
+            if answer is not None:
+                return answer
+            await asyncio.sleep(0.2)
+
+    async def _post(self, party: str, path: str, body: Members) -> Members | None:
+        """The answer of an admin address, or None where the bridge was killed, or is not open."""
+        try:
+            answer = await self._bridges[party].admin_post(path, body)
+        except (aiohttp.ClientError, OSError, asyncio.TimeoutError, KeyError, ValueError):
+            return None
+        if answer["status"] in (502, 503, 504):
+            return None
+        if answer["status"] != 200:
+            raise NotCarriedOut(f"{party} POST {path} {body}: {answer}")
+        return dict(answer["answer"])
+
+    async def _get(self, url: str, headers: Mapping[str, str]) -> Any:
+        try:
+            async with aiohttp.ClientSession() as session, session.get(url, headers=headers) as response:
+                return await response.json() if response.status == 200 else None
+        except (aiohttp.ClientError, OSError, asyncio.TimeoutError, ValueError):
+            return None

@@ -1,0 +1,58 @@
+"""Kills bridges and nodes at moments that are drawn by chance, and starts the bridges again."""
+import asyncio
+import os
+import signal
+from collections.abc import Mapping
+from random import Random
+
+from ..running import RunningBridge
+
+KILLS = 10
+VICTIMS = ("bridge", "node", "both")
+# In seconds of the machine: between kills, and until a bridge is started again.
+LONGEST_PAUSE = 3.0
+LONGEST_ABSENCE = 1.0
+
+
+class Kills:
+    """Who was killed, and the most memory that a bridge had by then."""
+
+    def __init__(self, bridges: Mapping[str, RunningBridge], chance: Random) -> None:
+        self._bridges = bridges
+        self._chance = chance
+        self.told: list[str] = []
+        self.most_memory = 0
+
+    async def carry_out(self) -> None:
+        """Kills ten times, one after another. Ends with all bridges up."""
+        for _ in range(KILLS):
+            await asyncio.sleep(self._chance.uniform(0.3, LONGEST_PAUSE))
+            party = self._chance.choice(sorted(self._bridges))
+            victim = self._chance.choice(VICTIMS)
+            self.note_memory(party)
+            await self._kill(self._bridges[party], victim)
+            self.told.append(f"{victim} of {party}")
+
+    def note_memory(self, party: str) -> None:
+        self.most_memory = max(self.most_memory, self._bridges[party].peak_memory())
+
+    async def _kill(self, bridge: RunningBridge, victim: str) -> None:
+        if victim == "node":
+            os.kill(await self._node_of(bridge), signal.SIGKILL)
+            return
+        if victim == "bridge":
+            bridge.kill_bridge()
+        else:
+            bridge.kill()
+        bridge.addresses = {}
+        await asyncio.sleep(self._chance.uniform(0.0, LONGEST_ABSENCE))
+        await bridge.start()
+
+    async def _node_of(self, bridge: RunningBridge) -> int:
+        """The process of a bridge's node. Where it was killed just before, it is about to be started again."""
+        for _ in range(100):
+            try:
+                return bridge.node_pid()
+            except (AssertionError, OSError):
+                await asyncio.sleep(0.05)
+        return bridge.node_pid()

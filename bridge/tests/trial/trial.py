@@ -1,0 +1,163 @@
+"""One trial: four nodes behind four bridges, bad links between them, kills, and thirty charges."""
+import asyncio
+import re
+import tempfile
+import time
+from dataclasses import dataclass
+from pathlib import Path
+
+import aiohttp
+
+from ..running import RunningBridge
+from . import checks
+from .chance import stream
+from .charge_point import ChargePoint
+from .charges import drawn
+from .drivers import Drivers, NotCarriedOut
+from .kills import Kills
+from .parties import CLOCK_FACTOR, OPERATORS, PARTIES, PLACES, Secrets, bridges
+from .proxy import Budget, Proxy
+from .records import records_of
+
+MOST_REQUESTS = 20_000
+MOST_MEMORY = 300_000_000
+# In seconds of the machine.
+CHARGES_WITHIN = 150.0
+QUIET_WITHIN = 60.0
+QUIET_FOR = 1.5
+WAITING = re.compile(r"^(ocpi_open_commands|ocpi_unacknowledged_pushes)(?:\{[^}]*\})? (\S+)$", re.MULTILINE)
+
+
+@dataclass
+class Report:
+    """What came of a trial: what was at fault, how long it took, and what it had, in words."""
+
+    faults: list[str]
+    seconds: float
+    words: str
+
+
+class Trial:
+    """All parts of one trial, in a folder that is gone afterwards."""
+
+    def __init__(self, seed: int, folder: Path) -> None:
+        self._folder = folder
+        self._secrets = Secrets.drawn(stream(seed, "secrets"))
+        self._charges = drawn(stream(seed, "charges"))
+        self._budget = Budget(MOST_REQUESTS)
+        self._proxies = {party: Proxy(stream(seed, "proxy", party), self._budget) for party in PARTIES}
+        self._charge_points = {place.charge_point: self._charge_point(seed, place.operator, place.charge_point)
+                               for place in PLACES}
+        self._bridges: dict[str, RunningBridge] = {}
+        self._seed = seed
+        self.faults: list[str] = []
+
+    def _charge_point(self, seed: int, operator: str, identifier: str) -> ChargePoint:
+        def address() -> str | None:
+            bridge = self._bridges[operator]
+            return bridge.ocpp_url if "ocpp" in bridge.addresses else None
+        return ChargePoint(identifier, self._secrets.passwords[identifier], address,
+                           stream(seed, "charge point", identifier), CLOCK_FACTOR)
+
+    async def carry_out(self) -> str:
+        """Runs the trial, and gives what it had in words. Its faults are in `faults`."""
+        for proxy in self._proxies.values():
+            await proxy.open()
+        self._bridges = bridges(self._folder, {party: proxy.url for party, proxy in self._proxies.items()},
+                                self._secrets)
+        for party, proxy in self._proxies.items():
+            proxy.target = self._bridges[party].ocpi_url
+        running = [asyncio.create_task(charge_point.run()) for charge_point in self._charge_points.values()]
+        try:
+            await asyncio.gather(*(bridge.start() for bridge in self._bridges.values()))
+            return await self._charge_and_check()
+        finally:
+            for task in running:
+                task.cancel()
+            await asyncio.gather(*running, return_exceptions=True)
+            for proxy in self._proxies.values():
+                await proxy.close()
+            for bridge in self._bridges.values():
+                bridge.kill()
+
+    async def _charge_and_check(self) -> str:
+        kills = Kills(self._bridges, stream(self._seed, "kills"))
+        drivers = Drivers(self._bridges, self._charge_points, self._secrets, stream(self._seed, "drivers"))
+        work = [drivers.carry_out([charge for charge in self._charges if charge.place == place]) for place in PLACES]
+        for ended in await asyncio.wait_for(asyncio.gather(kills.carry_out(), *work, return_exceptions=True),
+                                            CHARGES_WITHIN):
+            if isinstance(ended, NotCarriedOut):
+                self.faults.append(str(ended))
+            elif isinstance(ended, BaseException):
+                raise ended
+        await self._quiet()
+        for party, bridge in self._bridges.items():
+            kills.note_memory(party)
+            status = await bridge.stop()
+            if status not in (0, 1):
+                self.faults.append(f"{party} ended with status {status}")
+        self._check(drivers, kills)
+        return self._words(kills)
+
+    async def _quiet(self) -> None:
+        """Waits until nothing is under way for some time, or too much time is over."""
+        end, since = time.monotonic() + QUIET_WITHIN, time.monotonic()
+        while time.monotonic() - since < QUIET_FOR:
+            if time.monotonic() > end:
+                self.faults.append("not quiet: " + ", ".join(await self._unrest()))
+                return
+            if await self._unrest():
+                since = time.monotonic()
+            await asyncio.sleep(0.1)
+
+    async def _unrest(self) -> list[str]:
+        """What is under way."""
+        found = [f"{identifier} charges or reports" for identifier, charge_point in self._charge_points.items()
+                 if not charge_point.is_quiet]
+        found += [f"requests to {party}" for party, proxy in self._proxies.items() if not proxy.is_quiet]
+        for party, bridge in self._bridges.items():
+            try:
+                text = str(await bridge.admin_get("/metrics"))
+            except (aiohttp.ClientError, OSError, KeyError, AssertionError) as fault:
+                found.append(f"no metrics of {party}: {fault!r}")
+                continue
+            found += [f"{name} of {party} is {value}" for name, value in WAITING.findall(text) if float(value) != 0]
+        return found
+
+    def _check(self, drivers: Drivers, kills: Kills) -> None:
+        """Adds what is at fault at the end."""
+        records = records_of(self._bridges)
+        self.faults += checks.has_quiet_rows(records) + checks.settles(self._bridges, records)
+        self.faults += checks.is_held_alike(records) + checks.is_started_once(records, self._charge_points)
+        self.faults += checks.is_billed_once(records, self._charge_points)
+        self.faults += checks.is_as_drawn(drivers.done, self._charges, drivers.credited, records)
+        self.faults += checks.weaves(self._bridges)
+        self.faults += checks.keeps_secrets(self._bridges, self._secrets, self._charges)
+        if kills.most_memory > MOST_MEMORY:
+            self.faults.append(f"a bridge used {kills.most_memory / 1e6:.0f} MB")
+        if self._budget.made > self._budget.left:
+            self.faults.append(f"{self._budget.made} requests were made")
+
+    def _words(self, kills: Kills) -> str:
+        transactions = [one for charge_point in self._charge_points.values() for one in charge_point.transactions]
+        refused = sum(1 for one in transactions if not one.was_let_charge)
+        return (f"{len(self._charges)} charges, {len(transactions)} transactions of which {refused} were refused, "
+                f"{len(kills.told)} kills, {self._budget.made} requests, {kills.most_memory / 1e6:.0f} MB at most")
+
+
+def room() -> str | None:
+    """The folder for what a trial keeps: one in memory where there is one. A kill loses nothing of it."""
+    return "/dev/shm" if Path("/dev/shm").is_dir() else None
+
+
+async def carry_out(seed: int) -> Report:
+    """Carries out the trial of a seed."""
+    begun = time.monotonic()
+    with tempfile.TemporaryDirectory(prefix="trial", dir=room()) as folder:
+        trial = Trial(seed, Path(folder))
+        try:
+            words = await trial.carry_out()
+        except (AssertionError, asyncio.TimeoutError) as fault:
+            trial.faults.append(f"{type(fault).__name__}: {fault}")
+            words = "not at its end"
+    return Report(trial.faults, time.monotonic() - begun, words)
