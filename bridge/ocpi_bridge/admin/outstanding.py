@@ -1,0 +1,86 @@
+"""What is outstanding: commands without a result, pushes without an acknowledgement, and what a provider owes."""
+from decimal import Decimal
+
+from ..events import Outcome, Packet
+from ..json_text import Members, Number, read_json, write_json
+from ..parties import party_key
+from ..state import State
+
+COMMANDS = ("start_session", "stop_session", "reserve_now", "cancel_reservation", "unlock_connector")
+PUSHES = ("command_result", "put_session", "post_cdr", "put_token")
+MOST_COMMANDS = 1000
+
+
+class Outstanding:
+    """Follows the packets of a node. A bill counts once for what is owed, however often it comes."""
+
+    def __init__(self, state: State) -> None:
+        self._state = state
+        state.define(
+            "CREATE TABLE IF NOT EXISTS push_that_waits (receiver TEXT, subject TEXT, request INTEGER,"
+            " PRIMARY KEY (receiver, subject))",
+            "CREATE TABLE IF NOT EXISTS command_given (request INTEGER PRIMARY KEY, operator TEXT, kind TEXT,"
+            " body TEXT, response TEXT, result TEXT)",
+            "CREATE TABLE IF NOT EXISTS owed_for (operator TEXT, record TEXT, currency TEXT, amount INTEGER,"
+            " PRIMARY KEY (operator, record))")
+
+    def note(self, outcome: Outcome) -> None:
+        """Keeps what an event and its packets change. Called in the transaction in which its line is forgotten."""
+        for packet in outcome.packets:
+            if packet.kind in PUSHES:
+                self._state.query(
+                    "INSERT INTO push_that_waits VALUES (?, ?, ?) ON CONFLICT DO UPDATE SET request = excluded.request",
+                    party_key(packet.receiver), _subject(packet), packet.request)
+            elif packet.kind in COMMANDS:
+                self._state.query("INSERT OR IGNORE INTO command_given VALUES (?, ?, ?, ?, NULL, NULL)", packet.request,
+                                  party_key(packet.receiver), packet.kind, write_json(packet.body))
+        if outcome.event["event"] == "deliver" and outcome.word in ("stepped", "idle"):
+            packet = Packet.of(outcome.event["packet"])
+            answer = outcome.answer_to(packet.sender, packet.request)
+            if packet.is_answer or (answer is not None and answer.body["status_code"] == 1000):
+                self._take(packet, party_key(packet.sender), packet.body)
+
+    def _take(self, packet: Packet, sender: str, body: Members) -> None:
+        """Keeps what an answer says, or a request that was answered with success."""
+        if packet.kind == "ack" and body["status_code"] == 1000:
+            self._state.query("DELETE FROM push_that_waits WHERE receiver = ? AND request = ?", sender, packet.request)
+        elif packet.kind == "command_response":
+            response = body["data"]["result"] if body["status_code"] == 1000 else str(body["status_code"])
+            self._state.query("UPDATE command_given SET response = ? WHERE request = ? AND operator = ?"
+                              " AND response IS NULL", response, packet.request, sender)
+        elif packet.kind == "command_result":
+            self._state.query("UPDATE command_given SET result = ? WHERE request = ? AND operator = ?"
+                              " AND result IS NULL", body["result"], body["response_url"].rpartition("/")[2], sender)
+        elif packet.kind == "post_cdr":
+            amount = int(Decimal(str(body["total_cost"]["excl_vat"])).scaleb(4))
+            self._state.query("INSERT OR IGNORE INTO owed_for VALUES (?, ?, ?, ?)", sender, party_key(body["id"]),
+                              body["currency"], amount)
+
+    def commands(self) -> list[Members]:
+        """The newest commands that a provider gave, the newest first, with what was answered and what came of each."""
+        return [{"number": number, "operator": operator, "kind": kind, "response": response, "result": result,
+                 "body": read_json(body)}
+                for number, operator, kind, body, response, result in self._state.query(
+                    "SELECT * FROM command_given ORDER BY request DESC LIMIT ?", MOST_COMMANDS)]
+
+    def open_commands(self) -> int:
+        """How many commands of a provider wait for a response or a result."""
+        return int(self._state.query("SELECT COUNT(*) FROM command_given WHERE result IS NULL"
+                                     " AND (response IS NULL OR response = 'ACCEPTED')")[0][0])
+
+    def pushes(self) -> int:
+        """How many pushes wait for an acknowledgement."""
+        return int(self._state.query("SELECT COUNT(*) FROM push_that_waits")[0][0])
+
+    def owed(self) -> list[Members]:
+        """What a provider owes each operator in each currency, to four decimals."""
+        return [{"operator": operator, "currency": currency, "amount": Number(f"{Decimal(amount).scaleb(-4):.4f}")}
+                for operator, currency, amount in self._state.query(
+                    "SELECT operator, currency, SUM(amount) FROM owed_for GROUP BY operator, currency ORDER BY 1, 2")]
+
+
+def _subject(packet: Packet) -> str:
+    """What a push is about. A newer push about the same, to the same party, takes the place of the older one."""
+    body = packet.body
+    return f"{packet.kind} " + party_key(str(body.get("response_url") or f"{body.get('type')} {body.get('uid')} "
+                                             f"{body.get('id')}"))
