@@ -1,7 +1,7 @@
 """The addresses for whoever runs the node: orders, tokens, credits, service, lists, backup, metrics, health, the page.
 
-It listens on loopback alone. A browser of the same machine reaches that too, so what a page of another address asks
-for is refused, and so is what comes under another name than this machine's own.
+They are on loopback alone. As a browser of the same machine reaches that too, what a page of another address asks for
+is refused, and so is what comes under another name than this machine's own.
 """
 import asyncio
 from collections.abc import Awaitable, Callable
@@ -21,12 +21,12 @@ from ..state import State
 from .backup import back_up
 from .metrics import Metrics
 from .outstanding import Outstanding
-from .view import View
+from .view import view
 
 Handler = Callable[[web.Request], Awaitable[web.StreamResponse]]
 
 PAGE = Path(__file__).parent / "page"
-FILES = {"/": ("page.html", "text/html"), "/page.js": ("page.js", "text/javascript"), "/page.css": ("page.css", "text/css")}
+FILES = {"": ("page.html", "text/html"), "page.js": ("page.js", "text/javascript"), "page.css": ("page.css", "text/css")}
 HEADERS = {"Cache-Control": "no-store", "X-Content-Type-Options": "nosniff",
            "Content-Security-Policy": "default-src 'none'; script-src 'self'; style-src 'self'; connect-src 'self'; "
                                       "img-src data:; base-uri 'none'; form-action 'none'; frame-ancestors 'none'"}
@@ -36,131 +36,163 @@ HEALTHY_WITHIN = 5.0
 LOOK_EVERY = 0.5
 
 
-def admin_application(configuration: Configuration, state: State, events: Events, feeder: Feeder, objects: Objects,
-                      partners: Partners, metrics: Metrics, central_system: CentralSystem | None) -> web.Application:
-    """All these addresses. To be made before the feeder runs, since it follows what is outstanding from then on."""
-    outstanding = Outstanding(state)
-    feeder.before_commit(outstanding.note)
-    commands = central_system.commands if central_system else outstanding.commands
-    metrics.gauge("ocpi_unacknowledged_pushes", outstanding.pushes)
-    metrics.gauge("ocpi_open_commands", lambda: len(commands()) if central_system else outstanding.open_commands())
-    metrics.gauge("ocpi_charge_points_connected", central_system.connected_count if central_system else lambda: 0)
-    view = View(configuration, objects, outstanding, central_system)
-    admin = _Admin(configuration, events, feeder, metrics, central_system, view)
-    application = web.Application(middlewares=[_guard], client_max_size=1 << 20)
-    application.on_shutdown.append(admin.end_streams)
-    application.add_routes([
-        web.post("/orders", admin.order), web.post("/tokens", admin.token), web.post("/credits", admin.credit),
-        web.post("/service", admin.service), web.post("/backup", admin.backup),
-        web.get("/metrics", admin.metrics_text), web.get("/health", admin.health), web.get("/events", admin.stream)])
-    for path, (name, kind) in FILES.items():
-        application.router.add_get(path, _file((PAGE / name).read_text(), kind))
-    for module in ("sessions", "cdrs", "tokens"):
-        application.router.add_get(f"/{module}", _list(lambda module=module: objects.all(module)))
-    application.router.add_get("/commands", _list(commands))
-    application.router.add_get("/charge_points", _list(central_system.charge_points if central_system else list))
-    application.router.add_get("/partners", _list(lambda: [
-        {"party": partner.party, "kind": partner.kind, "registered": partner.is_registered,
-         "versions_url": partner.versions_url} for partner in partners.all()]))
-    return application
-
-
 class _Refused(Exception):
-    """A request that is refused: the HTTP status, and why, in words."""
+    """A request that is refused: the HTTP status, why, in words, and what the node said, where it said something."""
 
-    def __init__(self, status: int, words: str) -> None:
+    def __init__(self, status: int, words: str, **said: object) -> None:
         super().__init__(words)
         self.status = status
+        self.said = said
 
 
-class _Admin:
-    """What the addresses do that are more than a list."""
+class Admin:
+    """All these addresses. To be made before the feeder runs, since it follows what is outstanding from then on."""
 
-    def __init__(self, configuration: Configuration, events: Events, feeder: Feeder, metrics: Metrics,
-                 central_system: CentralSystem | None, view: View) -> None:
+    def __init__(self, configuration: Configuration, state: State, events: Events, feeder: Feeder, objects: Objects,
+                 partners: Partners, metrics: Metrics, central_system: CentralSystem | None) -> None:
         self._configuration = configuration
         self._events = events
         self._feeder = feeder
+        self._objects = objects
         self._metrics = metrics
         self._central_system = central_system
-        self._view = view
         self._ends = asyncio.Event()
+        self._outstanding = outstanding = Outstanding(state)
+        feeder.before_commit(outstanding.note)
+        metrics.gauge("ocpi_unacknowledged_pushes", outstanding.pushes)
+        metrics.gauge("ocpi_open_commands", outstanding.open_commands)
+        metrics.gauge("ocpi_charge_points_connected", central_system.connected_count if central_system else lambda: 0)
+        self._lists: dict[str, Callable[[], list[Members]]] = {
+            "sessions": lambda: objects.all("sessions"), "cdrs": lambda: objects.all("cdrs"),
+            "tokens": lambda: objects.all("tokens"), "commands": outstanding.commands,
+            "charge_points": central_system.charge_points if central_system else list,
+            "partners": lambda: [{"party": partner.party, "kind": partner.kind, "registered": partner.is_registered,
+                                  "versions_url": partner.versions_url} for partner in partners.all()]}
 
-    async def order(self, request: web.Request) -> web.Response:
-        if self._central_system:
-            raise _Refused(409, "this node is an operator: orders are a provider's")
-        return _answer(await self._fed({**await _body(request), **self._events.make("submit")}))
+    def application(self) -> web.Application:
+        application = web.Application(middlewares=[_guard], client_max_size=1 << 20)
+        application.on_shutdown.append(self._end_streams)
+        application.add_routes([
+            web.post("/orders", self._feeding("submit", False)), web.post("/tokens", self._feeding("token", False)),
+            web.post("/credits", self._feeding("credit", True)), web.post("/service", self._service),
+            web.post("/backup", self._backup), web.get("/metrics", self._metrics_text),
+            web.get("/health", self._health), web.get("/events", self._stream)])
+        for name, read in self._lists.items():
+            application.router.add_get(f"/{name}", _list(read))
+        for name, (file, kind) in FILES.items():
+            application.router.add_get(f"/{name}", _file((PAGE / file).read_text(), kind))
+        return application
 
-    async def token(self, request: web.Request) -> web.Response:
-        if self._central_system:
-            raise _Refused(409, "this node is an operator: it gets its tokens from providers")
-        return _answer(await self._fed(self._events.make("token", token=await _body(request))))
+    def _want_role(self, is_operator: bool) -> None:
+        if self._configuration.is_operator != is_operator:
+            roles = ("an operator", "a provider") if is_operator else ("a provider", "an operator")
+            raise _Refused(409, f"only {roles[0]} does this, and this node is {roles[1]}")
 
-    async def credit(self, request: web.Request) -> web.Response:
-        if not self._central_system:
-            raise _Refused(409, "this node is a provider: bills are taken back by their operator")
-        return _answer(await self._fed({**await _body(request), **self._events.make("credit")}))
-
-    async def service(self, request: web.Request) -> web.Response:
-        """The node is told first, so that nothing new is let charge there while the charge point is asked."""
-        if not self._central_system:
-            raise _Refused(409, "this node is a provider: it has no EVSE")
-        body = await _body(request)
-        evse_uid, in_service = body.get("evse_uid"), body.get("in_service")
-        if not isinstance(evse_uid, str) or not isinstance(in_service, bool):
-            raise _Refused(400, "wanted: evse_uid, a text, and in_service, true or false")
-        if evse_uid.upper() not in (evse["uid"].upper() for evse in self._view.evses):
-            raise _Refused(404, "evse_uid: the site has no such EVSE")
-        answer = await self._fed(self._events.service(evse_uid, in_service))
-        answer["charge_point"] = await self._central_system.change_availability(evse_uid, in_service)
-        return _answer(answer)
-
-    async def backup(self, request: web.Request) -> web.Response:
-        to = (await _body(request)).get("to")
-        if not isinstance(to, str) or not Path(to).is_absolute() or "\0" in to:
-            raise _Refused(400, "to: wanted is the absolute path of a file that is not there yet")
-        try:
-            return _answer(await back_up(self._feeder, self._configuration.node.store, Path(to)))
-        except FileExistsError:
-            raise _Refused(409, "to: there is such a file, and it stays as it is") from None
-        except OSError as fault:
-            raise _Refused(409, f"to: no copy was made: {fault.strerror}") from None
-
-    async def metrics_text(self, _: web.Request) -> web.Response:
-        return web.Response(body=self._metrics.text().encode(),
-                            headers={"Content-Type": "text/plain; version=0.0.4; charset=utf-8"})
-
-    async def health(self, _: web.Request) -> web.Response:
-        is_open, age = self._feeder.is_open, self._feeder.tick_age()
-        is_healthy = is_open and age <= HEALTHY_WITHIN
-        return _answer({"open": is_open, "healthy": is_healthy}, 200 if is_healthy else 503)
-
-    async def stream(self, request: web.Request) -> web.StreamResponse:
-        """Server-sent events: all that the page shows, at once and whenever it changed."""
-        response = web.StreamResponse(headers={**HEADERS, "Content-Type": "text/event-stream"})
-        await response.prepare(request)
-        shown = None
-        while not self._ends.is_set():
-            text = write_json(self._view.members())
-            await response.write(f"data: {text}\n\n".encode() if text != shown else b":\n")
-            shown = text
-            try:
-                await asyncio.wait_for(self._ends.wait(), LOOK_EVERY)
-            except TimeoutError:
-                pass
-        return response
-
-    async def end_streams(self, _: web.Application) -> None:
-        self._ends.set()
+    def _feeding(self, event: str, is_operator: bool) -> Handler:
+        """Feeds the body of a request as an event of a role, and answers what came of it."""
+        async def handler(request: web.Request) -> web.Response:
+            body = await _body(request)
+            self._want_role(is_operator)
+            members = {"token": body} if event == "token" else body
+            return _answer(await self._fed({**members, **self._events.make(event)}))
+        return handler
 
     async def _fed(self, event: Members) -> Members:
-        """What the node made of an event. A `done` that says that nothing was carried out refuses the request."""
+        """What the node made of an event. Raises _Refused where it did not carry it out."""
         try:
             outcome = await self._feeder.feed(event)
         except OutcomeLost:
-            raise _Refused(504, "it was carried out, but a stop of the node lost what came of it: see the lists") from None
+            raise _Refused(504, "carried out, but a stop of the node lost what came of it: see the lists") from None
         except NodeEnded:
             raise _Refused(503, "the bridge is ending") from None
+        told = {"done": outcome.done, "packets": [packet.members() for packet in outcome.packets]}
         if outcome.word not in ("stepped", "idle"):
-            raise _NotDone(outcome.done)
-        return {"done": outcome.done, "packets": [packet.members() for packet in outcome.packets]}
+            words = " ".join(str(outcome.done[name]) for name in ("done", "name", "field") if name in outcome.done)
+            raise _Refused(400 if outcome.word == "malformed" else 409, f"the node does not do it: {words}", **told)
+        return told
+
+    async def _service(self, request: web.Request) -> web.Response:
+        """Tells the node first, so that nothing new is let charge there while the charge point is asked."""
+        body = await _body(request)
+        self._want_role(is_operator=True)
+        evse_uid, in_service = body.get("evse_uid"), body.get("in_service")
+        if not isinstance(evse_uid, str) or not isinstance(in_service, bool):
+            raise _Refused(400, "wanted: evse_uid, a text, and in_service, true or false")
+        told = await self._fed(self._events.service(evse_uid, in_service))
+        if self._central_system:
+            told["charge_point"] = await self._central_system.change_availability(evse_uid, in_service)
+        return _answer(told)
+
+    async def _backup(self, request: web.Request) -> web.Response:
+        to = (await _body(request)).get("to")
+        if not isinstance(to, str) or "\0" in to or not Path(to).is_absolute():
+            raise _Refused(400, "to: wanted is the absolute path of a file that is not there yet")
+        try:
+            return _answer(await back_up(self._feeder, self._configuration.node.store, Path(to)))
+        except OSError as fault:
+            raise _Refused(409, f"to: no copy was made: {fault.strerror}") from None
+
+    async def _metrics_text(self, _: web.Request) -> web.Response:
+        return web.Response(text=self._metrics.text(), headers={"Content-Type": "text/plain; version=0.0.4"})
+
+    async def _health(self, _: web.Request) -> web.Response:
+        is_healthy = self._feeder.is_open and self._feeder.tick_age() <= HEALTHY_WITHIN
+        return _answer({"healthy": is_healthy}, 200 if is_healthy else 503)
+
+    async def _stream(self, request: web.Request) -> web.StreamResponse:
+        """Server-sent events: all that the page shows, at once and whenever it changed."""
+        response = web.StreamResponse(headers={**HEADERS, "Content-Type": "text/event-stream"})
+        await response.prepare(request)
+        shown = ""
+        while not self._ends.is_set():
+            text = write_json(view(self._configuration, self._objects, self._outstanding, self._central_system))
+            await response.write(f"data: {text}\n\n".encode() if text != shown else b":\n\n")
+            shown = text
+            await asyncio.wait({asyncio.ensure_future(self._ends.wait())}, timeout=LOOK_EVERY)
+        return response
+
+    async def _end_streams(self, _: web.Application) -> None:
+        self._ends.set()
+
+
+def _answer(value: object, status: int = 200) -> web.Response:
+    return web.Response(text=write_json(value), status=status, content_type="application/json", headers=HEADERS)
+
+
+def _list(read: Callable[[], list[Members]]) -> Handler:
+    async def handler(_: web.Request) -> web.Response:
+        return _answer(read())
+    return handler
+
+
+def _file(text: str, kind: str) -> Handler:
+    async def handler(_: web.Request) -> web.Response:
+        return web.Response(text=text, content_type=kind, headers=HEADERS)
+    return handler
+
+
+async def _body(request: web.Request) -> Members:
+    """The JSON object that a request carries."""
+    if request.content_type != "application/json":
+        raise _Refused(415, "Content-Type: wanted is application/json")
+    try:
+        body = read_json(await request.read())
+    except (NotJson, NumberTooLarge) as fault:
+        raise _Refused(400, f"the body is no JSON: {fault}") from None
+    if not isinstance(body, dict):
+        raise _Refused(400, "the body is no JSON object")
+    return body
+
+
+@web.middleware
+async def _guard(request: web.Request, handler: Handler) -> web.StreamResponse:
+    """Lets through what comes from this machine under its own name, and gives each refusal as JSON."""
+    try:
+        here = f"http://{request.host}"
+        if urlsplit(here).hostname not in LOOPBACK or request.headers.get("Origin", here) != here:
+            raise _Refused(403, "Host and Origin: wanted is the very address on which the bridge listens")
+        return await handler(request)
+    except _Refused as refusal:
+        return _answer({"error": str(refusal), **refusal.said}, refusal.status)
+    except web.HTTPException as refusal:
+        return _answer({"error": refusal.reason}, refusal.status)
