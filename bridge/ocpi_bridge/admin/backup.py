@@ -1,5 +1,6 @@
 """Copies the store of a node to a new file, while the node is ended."""
 import asyncio
+import errno
 import os
 import shutil
 import tempfile
@@ -11,36 +12,26 @@ from ..node.feeder import Feeder
 
 
 async def back_up(feeder: Feeder, store: Path, copy: Path) -> Members:
-    """Ends the node, copies its store, and starts it again. Tells the copy's bytes and the seconds that it took.
-
-    Raises FileExistsError where there is such a file, and OSError where the copy cannot be made.
-    """
-    began = time.monotonic()
+    """Tells the bytes of the copy, and the seconds. Raises OSError where there is such a file, or none can be made."""
     if copy.exists():
-        raise FileExistsError(copy)
-
-    async def copied() -> int:
-        return await asyncio.to_thread(copy_whole, store, copy)
-
-    size = await feeder.while_closed(copied)
+        raise FileExistsError(errno.EEXIST, os.strerror(errno.EEXIST))
+    began = time.monotonic()
+    size = await feeder.while_closed(lambda: asyncio.to_thread(copy_whole, store, copy))
     return {"bytes": size, "seconds": round(time.monotonic() - began, 3)}
 
 
 def copy_whole(source: Path, copy: Path) -> int:
-    """Copies a file to one of mode 0600, which has its name only once all of it is on the disk. Tells its bytes."""
-    part, name = tempfile.mkstemp(dir=copy.parent, prefix=copy.name + ".")
+    """Copies a file to a new one of mode 0600, which has its name once all of it is on the disk. Tells its bytes."""
+    part, name = tempfile.mkstemp(dir=copy.parent, prefix=copy.name)
     try:
-        with os.fdopen(part, "wb") as written, source.open("rb") as read:
-            shutil.copyfileobj(read, written, 1 << 20)
+        with open(part, "wb") as written, source.open("rb") as read:
+            shutil.copyfileobj(read, written)
             written.flush()
             os.fsync(written.fileno())
-            size = written.tell()
         os.link(name, copy)
     finally:
         os.unlink(name)
     folder = os.open(copy.parent, os.O_RDONLY)
-    try:
-        os.fsync(folder)
-    finally:
-        os.close(folder)
-    return size
+    os.fsync(folder)
+    os.close(folder)
+    return copy.stat().st_size

@@ -8,7 +8,6 @@ from ..state import State
 
 COMMANDS = ("start_session", "stop_session", "reserve_now", "cancel_reservation", "unlock_connector")
 PUSHES = ("command_result", "put_session", "post_cdr", "put_token")
-MOST_COMMANDS = 1000
 
 
 class Outstanding:
@@ -56,12 +55,12 @@ class Outstanding:
             self._state.query("INSERT OR IGNORE INTO owed_for VALUES (?, ?, ?, ?)", sender, party_key(body["id"]),
                               body["currency"], amount)
 
-    def commands(self) -> list[Members]:
+    def commands(self, most: int = 1000) -> list[Members]:
         """The newest commands that a provider gave, the newest first, with what was answered and what came of each."""
         return [{"number": number, "operator": operator, "kind": kind, "response": response, "result": result,
                  "body": read_json(body)}
                 for number, operator, kind, body, response, result in self._state.query(
-                    "SELECT * FROM command_given ORDER BY request DESC LIMIT ?", MOST_COMMANDS)]
+                    "SELECT * FROM command_given ORDER BY request DESC LIMIT ?", most)]
 
     def open_commands(self) -> int:
         """How many commands of a provider wait for a response or a result."""

@@ -14,6 +14,7 @@ from ..configuration import Configuration
 from ..events import Events
 from ..json_text import Members, NotJson, NumberTooLarge, read_json, write_json
 from ..node.feeder import Feeder, NodeEnded, OutcomeLost
+from ..ocpi.locations import Locations
 from ..ocpi.objects import Objects
 from ..ocpi.partners import Partners
 from ..ocpp.central_system import CentralSystem
@@ -26,7 +27,8 @@ from .view import view
 Handler = Callable[[web.Request], Awaitable[web.StreamResponse]]
 
 PAGE = Path(__file__).parent / "page"
-FILES = {"": ("page.html", "text/html"), "page.js": ("page.js", "text/javascript"), "page.css": ("page.css", "text/css")}
+FILES = {"": ("page.html", "text/html"), "page.js": ("page.js", "text/javascript"),
+         "page.css": ("page.css", "text/css")}
 HEADERS = {"Cache-Control": "no-store", "X-Content-Type-Options": "nosniff",
            "Content-Security-Policy": "default-src 'none'; script-src 'self'; style-src 'self'; connect-src 'self'; "
                                       "img-src data:; base-uri 'none'; form-action 'none'; frame-ancestors 'none'"}
@@ -49,22 +51,27 @@ class Admin:
     """All these addresses. To be made before the feeder runs, since it follows what is outstanding from then on."""
 
     def __init__(self, configuration: Configuration, state: State, events: Events, feeder: Feeder, objects: Objects,
-                 partners: Partners, metrics: Metrics, central_system: CentralSystem | None) -> None:
+                 partners: Partners, metrics: Metrics, locations: Locations | None = None,
+                 central_system: CentralSystem | None = None) -> None:
+        """`locations` are an operator's, and so is `central_system`, where it has charge points."""
         self._configuration = configuration
         self._events = events
         self._feeder = feeder
         self._objects = objects
         self._metrics = metrics
+        self._locations = locations
         self._central_system = central_system
         self._ends = asyncio.Event()
         self._outstanding = outstanding = Outstanding(state)
         feeder.before_commit(outstanding.note)
+        commands = central_system.commands if central_system else outstanding.commands
         metrics.gauge("ocpi_unacknowledged_pushes", outstanding.pushes)
-        metrics.gauge("ocpi_open_commands", outstanding.open_commands)
+        metrics.gauge("ocpi_open_commands",
+                      lambda: len(commands()) if central_system else outstanding.open_commands())
         metrics.gauge("ocpi_charge_points_connected", central_system.connected_count if central_system else lambda: 0)
         self._lists: dict[str, Callable[[], list[Members]]] = {
             "sessions": lambda: objects.all("sessions"), "cdrs": lambda: objects.all("cdrs"),
-            "tokens": lambda: objects.all("tokens"), "commands": outstanding.commands,
+            "tokens": lambda: objects.all("tokens"), "commands": commands,
             "charge_points": central_system.charge_points if central_system else list,
             "partners": lambda: [{"party": partner.party, "kind": partner.kind, "registered": partner.is_registered,
                                   "versions_url": partner.versions_url} for partner in partners.all()]}
@@ -145,7 +152,7 @@ class Admin:
         await response.prepare(request)
         shown = ""
         while not self._ends.is_set():
-            text = write_json(view(self._configuration, self._objects, self._outstanding, self._central_system))
+            text = write_json(view(self._configuration, self._objects, self._outstanding, self._locations))
             await response.write(f"data: {text}\n\n".encode() if text != shown else b":\n\n")
             shown = text
             await asyncio.wait({asyncio.ensure_future(self._ends.wait())}, timeout=LOOK_EVERY)
