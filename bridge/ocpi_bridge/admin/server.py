@@ -41,10 +41,10 @@ LOOK_EVERY = 0.5
 class _Refused(Exception):
     """A request that is refused: the HTTP status, why, in words, and what the node said, where it said something."""
 
-    def __init__(self, status: int, words: str, **said: object) -> None:
+    def __init__(self, status: int, words: str, said: Members | None = None) -> None:
         super().__init__(words)
         self.status = status
-        self.said = said
+        self.said = said or {}
 
 
 class Admin:
@@ -64,15 +64,15 @@ class Admin:
         self._ends = asyncio.Event()
         self._outstanding = outstanding = Outstanding(state)
         feeder.before_commit(outstanding.note)
-        commands = central_system.commands if central_system else outstanding.commands
         metrics.gauge("ocpi_unacknowledged_pushes", outstanding.pushes)
         metrics.gauge("ocpi_open_commands",
-                      lambda: len(commands()) if central_system else outstanding.open_commands())
-        metrics.gauge("ocpi_charge_points_connected", central_system.connected_count if central_system else lambda: 0)
+                      lambda: len(central_system.commands()) if central_system else outstanding.open_commands())
+        metrics.gauge("ocpi_charge_points_connected", lambda: central_system.connected_count() if central_system else 0)
         self._lists: dict[str, Callable[[], list[Members]]] = {
             "sessions": lambda: objects.all("sessions"), "cdrs": lambda: objects.all("cdrs"),
-            "tokens": lambda: objects.all("tokens"), "commands": commands,
-            "charge_points": central_system.charge_points if central_system else list,
+            "tokens": lambda: objects.all("tokens"),
+            "commands": lambda: central_system.commands() if central_system else outstanding.commands(),
+            "charge_points": lambda: central_system.charge_points() if central_system else [],
             "partners": lambda: [{"party": partner.party, "kind": partner.kind, "registered": partner.is_registered,
                                   "versions_url": partner.versions_url} for partner in partners.all()]}
 
@@ -112,10 +112,12 @@ class Admin:
             raise _Refused(504, "carried out, but a stop of the node lost what came of it: see the lists") from None
         except NodeEnded:
             raise _Refused(503, "the bridge is ending") from None
-        told = {"done": outcome.done, "packets": [packet.members() for packet in outcome.packets]}
+        except NotJson as fault:
+            raise _Refused(400, f"the body is no JSON that a node reads: {fault}") from None
+        told: Members = {"done": outcome.done, "packets": [packet.members() for packet in outcome.packets]}
         if outcome.word not in ("stepped", "idle"):
             words = " ".join(str(outcome.done[name]) for name in ("done", "name", "field") if name in outcome.done)
-            raise _Refused(400 if outcome.word == "malformed" else 409, f"the node does not do it: {words}", **told)
+            raise _Refused(400 if outcome.word == "malformed" else 409, f"the node does not do it: {words}", told)
         return told
 
     async def _service(self, request: web.Request) -> web.Response:

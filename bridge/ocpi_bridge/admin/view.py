@@ -10,8 +10,9 @@ MOST_SHOWN = 50
 MOST_TOKENS = 500
 
 
-def view(configuration: Configuration, objects: Objects, outstanding: Outstanding, locations: Locations | None) -> Members:
-    """Party, role, sessions and bills; of an operator `evses`; of a provider its operators, tokens, commands and debts."""
+def view(configuration: Configuration, objects: Objects, outstanding: Outstanding,
+         locations: Locations | None) -> Members:
+    """Party, role, sessions and bills; an operator's EVSEs, or a provider's operators, tokens, commands and debts."""
     shown: Members = {"party": configuration.node.party, "is_operator": configuration.is_operator,
                       "sessions": _newest(objects, "sessions", MOST_SHOWN),
                       "cdrs": _newest(objects, "cdrs", MOST_SHOWN)}
