@@ -1,0 +1,239 @@
+"""The admin addresses of a provider and an operator, what is outstanding, and the text of the metrics."""
+import asyncio
+import json
+import subprocess
+import tempfile
+import unittest
+from pathlib import Path
+from typing import Any
+
+import aiohttp
+
+from ocpi_bridge.admin.metrics import METRICS, Metrics
+from ocpi_bridge.admin.outstanding import Outstanding
+from ocpi_bridge.events import Outcome, Packet
+from ocpi_bridge.json_text import Members
+from ocpi_bridge.state import State
+
+from .running import PROGRAM, RunningBridge, charge_point, operator, partner, provider
+
+SETUP = [operator("BE/BEC", ["E1", "E2"]), provider("NL/TNM")]
+NOBODY = "http://127.0.0.1:9/ocpi/versions"
+TOKEN = {"country_code": "NL", "party_id": "TNM", "uid": "AA01", "type": "RFID", "contract_id": "NL-TNM-000001",
+         "issuer": "TNM", "valid": True, "whitelist": "ALWAYS", "last_updated": "2025-01-01T09:00:00Z"}
+START = {"operator": "BE/BEC", "order": "start_session", "token_uid": "AA01", "token_type": "RFID",
+         "location_id": "LOC1", "evse_uid": "E1"}
+
+
+class AdminTest(unittest.IsolatedAsyncioTestCase):
+    """One bridge whose partner is never there."""
+
+    party = "NL/TNM"
+
+    async def asyncSetUp(self) -> None:
+        folder = tempfile.TemporaryDirectory()
+        self.addCleanup(folder.cleanup)
+        self.folder = Path(folder.name)
+        other = "BE/BEC" if self.party == "NL/TNM" else "NL/TNM"
+        points = [charge_point("CP1", ["E1", "E2"])] if self.party == "BE/BEC" else None
+        self.bridge = RunningBridge(self.folder / "bridge", SETUP, self.party,
+                                    [partner(other, "node", "theirs", "ours", NOBODY)], points)
+        self.addCleanup(self.bridge.kill)
+        await self.bridge.start()
+
+    async def get_metric(self, name: str) -> float:
+        """The number of a metric that has no labels."""
+        text = await self.bridge.admin_get("/metrics")
+        return float([line.split()[1] for line in text.splitlines() if line.startswith(name + " ")][0])
+
+    async def status_of(self, method: str, path: str, **request: Any) -> int:
+        """The status of a request that is refused. Each refusal says why, in JSON."""
+        async with aiohttp.ClientSession() as session:
+            async with session.request(method, self.bridge.admin_url + path, **request) as response:
+                self.assertTrue((await response.json())["error"])
+                return response.status
+
+
+class ProviderTest(AdminTest):
+    async def test_tokens_and_orders_are_fed_and_shown(self) -> None:
+        saved = await self.bridge.admin_post("/tokens", TOKEN)
+        self.assertEqual(saved["status"], 200)
+        self.assertEqual([saved["answer"]["done"]["done"], saved["answer"]["done"]["packets"]], ["stepped", 1])
+        self.assertEqual(saved["answer"]["packets"][0]["kind"], "put_token")
+        ordered = await self.bridge.admin_post("/orders", {**START, "event": "credit", "at": "1970-01-01T00:00:00Z"})
+        packet = ordered["answer"]["packets"][0]
+        self.assertEqual((packet["kind"], packet["to"], packet["request"]), ("start_session", "BE/BEC", 2))
+        self.assertEqual([token["uid"] for token in await self.bridge.admin_get("/tokens")], ["AA01"])
+        commands = await self.bridge.admin_get("/commands")
+        self.assertEqual([(command["kind"], command["response"], command["result"]) for command in commands],
+                         [("start_session", None, None)])
+        self.assertEqual(await self.get_metric("ocpi_open_commands"), 1)
+        self.assertEqual(await self.get_metric("ocpi_unacknowledged_pushes"), 1)
+        self.assertEqual(await self.bridge.admin_get("/partners"), [
+            {"party": "BE/BEC", "kind": "node", "registered": True, "versions_url": NOBODY}])
+        self.assertEqual([await self.bridge.admin_get(path) for path in ("/sessions", "/cdrs", "/charge_points")],
+                         [[], [], []])
+
+    async def test_what_the_node_refuses_changes_nothing(self) -> None:
+        for body, status, name in ((START, 409, "UnknownToken"), ({**START, "operator": "DE/XXX"}, 409, "UnknownOperator"),
+                                   ({"operator": "BE/BEC", "order": "start_session"}, 400, "Missing")):
+            refused = await self.bridge.admin_post("/orders", body)
+            self.assertEqual((refused["status"], refused["answer"]["done"]["name"]), (status, name))
+            self.assertIn(name, refused["answer"]["error"])
+        refused = await self.bridge.admin_post("/tokens", {**TOKEN, "party_id": "XXX"})
+        self.assertEqual((refused["status"], refused["answer"]["done"]["name"]), (409, "NotForMe"))
+        self.assertEqual(await self.bridge.admin_get("/tokens"), [])
+        self.assertEqual(await self.get_metric("ocpi_open_commands"), 0)
+
+    async def test_requests_of_other_sites_and_wrong_forms(self) -> None:
+        url = self.bridge.admin_url
+        self.assertEqual(await self.status_of("GET", "/tokens", headers={"Host": "attacker.example"}), 403)
+        self.assertEqual(await self.status_of("POST", "/tokens", json=TOKEN, headers={"Origin": "http://a.example"}), 403)
+        self.assertEqual(await self.status_of("POST", "/tokens", json=TOKEN, headers={"Origin": "null"}), 403)
+        self.assertEqual(await self.status_of("POST", "/tokens", data=json.dumps(TOKEN)), 415)
+        json_type = {"Content-Type": "application/json"}
+        for body in ("", "{", "[]", "[" * 5000, "\xff"):
+            self.assertEqual(await self.status_of("POST", "/tokens", data=body.encode("latin-1"), headers=json_type), 400)
+        self.assertEqual(await self.status_of("POST", "/tokens", data="[" * 2_000_000, headers=json_type), 413)
+        self.assertEqual(await self.status_of("POST", "/credits", json={"session_id": "S"}), 409)
+        self.assertEqual(await self.status_of("POST", "/service", json={"evse_uid": "E1", "in_service": False}), 409)
+        self.assertEqual(await self.status_of("GET", "/nothing"), 404)
+        self.assertEqual(await self.status_of("GET", "/orders"), 405)
+        self.assertEqual(await self.bridge.admin_get("/tokens"), [])
+        async with aiohttp.ClientSession() as session:
+            async with session.post(url + "/tokens", json=TOKEN, headers={"Origin": url}) as response:
+                self.assertEqual(response.status, 200)
+
+    async def test_the_page_is_told_at_once_and_when_something_changed(self) -> None:
+        async with aiohttp.ClientSession() as session:
+            async with session.get(self.bridge.admin_url + "/") as page:
+                policy = page.headers["Content-Security-Policy"]
+                self.assertIn("default-src 'none'", policy)
+                self.assertNotIn("unsafe", policy)
+            async with session.get(self.bridge.admin_url + "/events") as events:
+                self.assertEqual((await self.next_event(events))["tokens"], [])
+                await self.bridge.admin_post("/tokens", TOKEN)
+                self.assertEqual((await self.next_event(events))["tokens"][0]["uid"], "AA01")
+                self.assertEqual(await self.bridge.stop(), 0)
+
+    async def next_event(self, events: aiohttp.ClientResponse) -> Members:
+        while True:
+            line = await asyncio.wait_for(events.content.readline(), 10)
+            if line.startswith(b"data: "):
+                told: Members = json.loads(line[6:])
+                return told
+
+
+class OperatorTest(AdminTest):
+    party = "BE/BEC"
+
+    async def test_backup_waits_for_nothing_and_is_whole(self) -> None:
+        """The copy is made of a node that has ended: one file, for its owner alone, which `settle` reads."""
+        await self.bridge.admin_post("/service", {"evse_uid": "E1", "in_service": False})
+        copy = self.folder / "copy.db"
+        made, fed = await asyncio.gather(
+            self.bridge.admin_post("/backup", {"to": str(copy)}),
+            self.bridge.admin_post("/service", {"evse_uid": "E2", "in_service": False}))
+        self.assertEqual((made["status"], fed["status"]), (200, 200))
+        self.assertEqual((made["answer"]["bytes"], copy.stat().st_mode & 0o777), (copy.stat().st_size, 0o600))
+        settled = subprocess.run([PROGRAM, "settle", copy], capture_output=True, timeout=30)
+        self.assertEqual((settled.returncode, settled.stdout), (0, b""))
+        before = copy.read_bytes()
+        self.assertEqual(await self.status_of("POST", "/backup", json={"to": str(copy)}), 409)
+        self.assertEqual(await self.status_of("POST", "/backup", json={"to": str(self.folder / "none" / "a.db")}), 409)
+        self.assertEqual(await self.status_of("POST", "/backup", json={"to": "copy.db"}), 400)
+        self.assertEqual(copy.read_bytes(), before)
+        self.assertEqual(sorted(path.name for path in self.folder.iterdir()), ["bridge", "copy.db"])
+        self.assertEqual((await self.bridge.admin_post("/credits", {"session_id": "S"}))["answer"]["done"]["done"], "idle")
+
+    async def test_service_orders_metrics_and_health(self) -> None:
+        told = await self.bridge.admin_post("/service", {"evse_uid": "E1", "in_service": False})
+        self.assertEqual((told["status"], told["answer"]["done"]["done"]), (200, "stepped"))
+        again = await self.bridge.admin_post("/service", {"evse_uid": "E1", "in_service": False})
+        self.assertEqual(again["answer"]["done"]["done"], "idle")
+        self.assertEqual(await self.status_of("POST", "/service", json={"evse_uid": "E1"}), 400)
+        self.assertEqual(await self.status_of("POST", "/orders", json=START), 409)
+        self.assertEqual(await self.status_of("POST", "/tokens", json=TOKEN), 409)
+        self.assertEqual([point["id"] for point in await self.bridge.admin_get("/charge_points")], ["CP1"])
+        text = await self.bridge.admin_get("/metrics")
+        for name, (kind, _) in METRICS.items():
+            self.assertIn(f"# TYPE {name} {kind}\n", text)
+        self.assertIn('ocpi_lines_total{done="stepped"} 1\n', text)
+        self.assertEqual(await self.bridge.admin_get("/health"), {"healthy": True})
+
+
+class OutstandingTest(unittest.TestCase):
+    def setUp(self) -> None:
+        folder = tempfile.TemporaryDirectory()
+        self.addCleanup(folder.cleanup)
+        state = State(Path(folder.name) / "state.db")
+        self.addCleanup(state.close)
+        self.outstanding = Outstanding(state)
+
+    def note(self, event: Members, *packets: Packet) -> None:
+        self.outstanding.note(Outcome(event, {"done": "stepped", "packets": len(packets)}, packets))
+
+    def deliver(self, sender: str, request: int, kind: str, body: Members, status: int | None = None) -> None:
+        """A packet that comes, and is answered with a status where one is given."""
+        packet = Packet(sender, "NL/TNM", 1, request, kind, body)
+        answers = [] if status is None else [Packet("NL/TNM", sender, 1, request, "ack", {"status_code": status})]
+        self.note({"event": "deliver", "packet": packet.members()}, *answers)
+
+    def test_a_push_waits_until_its_own_number_is_acknowledged(self) -> None:
+        for request, receiver in ((1, "NL/TNM"), (2, "NL/TNM"), (3, "DE/XXX")):
+            session = {"country_code": "BE", "party_id": "BEC", "id": "S1"}
+            self.note({"event": "tick"}, Packet("BE/BEC", receiver, 1, request, "put_session", session))
+        self.assertEqual(self.outstanding.pushes(), 2)
+        self.deliver("nl/tnm", 1, "ack", {"status_code": 1000})
+        self.deliver("NL/TNM", 2, "ack", {"status_code": 2001})
+        self.deliver("NL/TNM", 3, "ack", {"status_code": 1000})
+        self.assertEqual(self.outstanding.pushes(), 2)
+        self.deliver("nl/tnm", 2, "ack", {"status_code": 1000})
+        self.assertEqual(self.outstanding.pushes(), 1)
+
+    def test_a_record_counts_once_and_a_credit_takes_it_back(self) -> None:
+        bill = {"id": "C1", "currency": "EUR", "total_cost": {"excl_vat": "3.08649"}}
+        for status in (1000, 1000, 2001):
+            self.deliver("BE/BEC", 1, "post_cdr", bill, status)
+        self.deliver("BE/BEC", 2, "post_cdr", {**bill, "id": "C2", "total_cost": {"excl_vat": 2}}, 2001)
+        self.assertEqual(self.outstanding.owed(), [{"operator": "BE/BEC", "currency": "EUR", "amount": "3.0864"}])
+        self.deliver("be/bec", 3, "post_cdr", {**bill, "id": "c1-C", "total_cost": {"excl_vat": "-4.5"}}, 1000)
+        self.assertEqual(self.outstanding.owed()[0]["amount"], "-1.4136")
+
+    def test_a_command_is_open_until_a_refusal_or_a_result(self) -> None:
+        for request in (7, 8, 9):
+            url = f"https://node.invalid/NL/TNM/{request}"
+            self.note({"event": "submit"},
+                      Packet("NL/TNM", "BE/BEC", 1, request, "stop_session", {"session_id": "S", "response_url": url}))
+        self.deliver("BE/BEC", 7, "command_response", {"status_code": 1000, "data": {"result": "ACCEPTED", "timeout": 30}})
+        self.deliver("BE/BEC", 8, "command_response", {"status_code": 1000, "data": {"result": "REJECTED", "timeout": 30}})
+        self.assertEqual(self.outstanding.open_commands(), 2)
+        self.deliver("BE/BEC", 1, "command_result", {"response_url": "https://node.invalid/NL/TNM/7", "result": "FAILED"},
+                     1000)
+        self.deliver("BE/BEC", 9, "command_response", {"status_code": 2003})
+        self.assertEqual(self.outstanding.open_commands(), 0)
+        self.assertEqual([(command["number"], command["response"], command["result"])
+                          for command in self.outstanding.commands()],
+                         [(9, "2003", None), (8, "REJECTED", None), (7, "ACCEPTED", "FAILED")])
+
+
+class MetricsTest(unittest.TestCase):
+    def test_the_text_is_that_of_prometheus(self) -> None:
+        """Buckets count all durations up to their bound; quotes, backslashes and line ends of labels are escaped."""
+        metrics = Metrics()
+        metrics.count("ocpi_http_requests_total", partner='a"\\\n', direction="in", status="200")
+        metrics.count("ocpi_http_requests_total", 2, partner='a"\\\n', direction="in", status="200")
+        for seconds in (0.25, 0.3, 20.0):
+            metrics.observe("ocpi_line_seconds", seconds)
+        metrics.gauge("ocpi_open_commands", lambda: 4)
+        lines = metrics.text().splitlines()
+        for line in ('ocpi_http_requests_total{direction="in",partner="a\\"\\\\\\n",status="200"} 3',
+                     'ocpi_line_seconds_bucket{le="0.1"} 0', 'ocpi_line_seconds_bucket{le="0.25"} 1',
+                     'ocpi_line_seconds_bucket{le="0.5"} 2', 'ocpi_line_seconds_bucket{le="+Inf"} 3',
+                     "ocpi_line_seconds_sum 20.55", "ocpi_line_seconds_count 3", "# TYPE ocpi_line_seconds histogram",
+                     "ocpi_node_restarts_total 0", "ocpi_open_commands 4"):
+            self.assertIn(line, lines)
+
+
+if __name__ == "__main__":
+    unittest.main()
