@@ -75,7 +75,8 @@ class ProviderTest(AdminTest):
                          [[], [], []])
 
     async def test_what_the_node_refuses_changes_nothing(self) -> None:
-        for body, status, name in ((START, 409, "UnknownToken"), ({**START, "operator": "DE/XXX"}, 409, "UnknownOperator"),
+        for body, status, name in ((START, 409, "UnknownToken"),
+                                   ({**START, "operator": "DE/XXX"}, 409, "UnknownOperator"),
                                    ({"operator": "BE/BEC", "order": "start_session"}, 400, "Missing")):
             refused = await self.bridge.admin_post("/orders", body)
             self.assertEqual((refused["status"], refused["answer"]["done"]["name"]), (status, name))
@@ -88,12 +89,13 @@ class ProviderTest(AdminTest):
     async def test_requests_of_other_sites_and_wrong_forms(self) -> None:
         url = self.bridge.admin_url
         self.assertEqual(await self.status_of("GET", "/tokens", headers={"Host": "attacker.example"}), 403)
-        self.assertEqual(await self.status_of("POST", "/tokens", json=TOKEN, headers={"Origin": "http://a.example"}), 403)
-        self.assertEqual(await self.status_of("POST", "/tokens", json=TOKEN, headers={"Origin": "null"}), 403)
+        for origin in ("http://attacker.example", "null", url.replace("http", "https")):
+            self.assertEqual(await self.status_of("POST", "/tokens", json=TOKEN, headers={"Origin": origin}), 403)
         self.assertEqual(await self.status_of("POST", "/tokens", data=json.dumps(TOKEN)), 415)
         json_type = {"Content-Type": "application/json"}
         for body in ("", "{", "[]", "[" * 5000, "\xff"):
-            self.assertEqual(await self.status_of("POST", "/tokens", data=body.encode("latin-1"), headers=json_type), 400)
+            sent = body.encode("latin-1")
+            self.assertEqual(await self.status_of("POST", "/tokens", data=sent, headers=json_type), 400)
         self.assertEqual(await self.status_of("POST", "/tokens", data="[" * 2_000_000, headers=json_type), 413)
         self.assertEqual(await self.status_of("POST", "/credits", json={"session_id": "S"}), 409)
         self.assertEqual(await self.status_of("POST", "/service", json={"evse_uid": "E1", "in_service": False}), 409)
@@ -144,7 +146,8 @@ class OperatorTest(AdminTest):
         self.assertEqual(await self.status_of("POST", "/backup", json={"to": "copy.db"}), 400)
         self.assertEqual(copy.read_bytes(), before)
         self.assertEqual(sorted(path.name for path in self.folder.iterdir()), ["bridge", "copy.db"])
-        self.assertEqual((await self.bridge.admin_post("/credits", {"session_id": "S"}))["answer"]["done"]["done"], "idle")
+        credited = await self.bridge.admin_post("/credits", {"session_id": "S"})
+        self.assertEqual(credited["answer"]["done"]["done"], "idle")
 
     async def test_service_orders_metrics_and_health(self) -> None:
         told = await self.bridge.admin_post("/service", {"evse_uid": "E1", "in_service": False})
@@ -205,11 +208,12 @@ class OutstandingTest(unittest.TestCase):
             url = f"https://node.invalid/NL/TNM/{request}"
             self.note({"event": "submit"},
                       Packet("NL/TNM", "BE/BEC", 1, request, "stop_session", {"session_id": "S", "response_url": url}))
-        self.deliver("BE/BEC", 7, "command_response", {"status_code": 1000, "data": {"result": "ACCEPTED", "timeout": 30}})
-        self.deliver("BE/BEC", 8, "command_response", {"status_code": 1000, "data": {"result": "REJECTED", "timeout": 30}})
+        for request, result in ((7, "ACCEPTED"), (8, "REJECTED")):
+            data = {"result": result, "timeout": 30}
+            self.deliver("BE/BEC", request, "command_response", {"status_code": 1000, "data": data})
         self.assertEqual(self.outstanding.open_commands(), 2)
-        self.deliver("BE/BEC", 1, "command_result", {"response_url": "https://node.invalid/NL/TNM/7", "result": "FAILED"},
-                     1000)
+        failed = {"response_url": "https://node.invalid/NL/TNM/7", "result": "FAILED"}
+        self.deliver("BE/BEC", 1, "command_result", failed, 1000)
         self.deliver("BE/BEC", 9, "command_response", {"status_code": 2003})
         self.assertEqual(self.outstanding.open_commands(), 0)
         self.assertEqual([(command["number"], command["response"], command["result"])
