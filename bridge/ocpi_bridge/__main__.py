@@ -4,7 +4,7 @@ import asyncio
 import sys
 from pathlib import Path
 
-from .application import Bridge
+from .application import run
 from .configuration import WrongConfiguration, read_configuration
 from .logs import set_up_logs
 
@@ -21,7 +21,7 @@ def main() -> int:
     except WrongConfiguration as wrong:
         print(wrong, file=sys.stderr)
         return 2
-    return asyncio.run(Bridge(configuration).run())
+    return asyncio.run(run(configuration))
 
 
 sys.exit(main())

@@ -6,38 +6,93 @@ import signal
 from .admin.metrics import Metrics
 from .clock import Clock
 from .configuration import Configuration
-from .events import Events
+from .events import Events, Outcome
+from .listening import Listener
 from .node.feeder import Feeder
+from .ocpi.answers import Once
+from .ocpi.client import Client
+from .ocpi.exchange import Exchange
 from .ocpi.objects import Objects
+from .ocpi.partners import Partners
+from .ocpi.requests import Requests
+from .ocpp.central_system import CentralSystem
 from .state import State
 
 LOG = logging.getLogger("bridge")
 
 
 class Bridge:
-    """One node among its partners and charge points."""
+    """One node among its partners and charge points. To be made while the event loop runs."""
 
     def __init__(self, configuration: Configuration) -> None:
-        self.configuration = configuration
-        self.state = State(configuration.state)
-        self.clock = kept_clock(self.state, configuration.clock_factor)
-        self.metrics = Metrics()
-        self.events = Events(configuration.node.party, self.clock)
-        self.feeder = Feeder(configuration.node, self.events, self.state, self.metrics)
-        self.objects = Objects(self.state)
-        self.feeder.before_commit(self.objects.note)
+        self._state = state = State(configuration.state)
+        clock = kept_clock(state, configuration.clock_factor)
+        events = Events(configuration.node.party, clock)
+        metrics = Metrics()
+        self._feeder = feeder = Feeder(configuration.node, events, state, metrics)
+        objects = Objects(state)
+        feeder.before_commit(objects.note)
+        partners = Partners(configuration, state)
+        requests = Requests(state)
+        self._client = Client(configuration, partners, Exchange(clock, metrics), requests, Once(state), events, clock,
+                              feeder.feed)
+        feeder.after_commit(self._send)
+        self._listeners: list[Listener] = []
+        self._central_system: CentralSystem | None = None
+        if configuration.ocpp is not None:
+            self._central_system = central_system = CentralSystem(configuration.ocpp, events, state, feeder, objects)
+            feeder.before_commit(central_system.note)
+            feeder.after_commit(central_system.act)
+            feeder.after_opening(central_system.opened)
+            self._listeners.append(Listener("ocpp", configuration.ocpp.listen, central_system.application()))
+
+    def _send(self, outcome: Outcome) -> None:
+        for packet in outcome.packets:
+            if not packet.is_answer:
+                self._client.send(packet)
 
     async def run(self) -> int:
         """Runs until it is told to stop, or its node ends for good. Gives the node's status."""
-        loop = asyncio.get_running_loop()
-        opened = asyncio.Event()
-        self.feeder.after_opening(opened.set)
-        node = asyncio.create_task(self.feeder.run())
+        opened, stopping = asyncio.Event(), asyncio.Event()
+        self._feeder.after_opening(opened.set)
         for number in (signal.SIGTERM, signal.SIGINT):
-            loop.add_signal_handler(number, lambda: asyncio.ensure_future(self.feeder.stop()))
-        status = await node
-        self.state.close()
-        return status
+            asyncio.get_running_loop().add_signal_handler(number, stopping.set)
+        stop = asyncio.create_task(stopping.wait())
+        node = asyncio.create_task(self._feeder.run())
+        tasks: list[asyncio.Task[None]] = []
+        try:
+            await _first(node, stop, asyncio.create_task(opened.wait()))
+            if opened.is_set():
+                for listener in self._listeners:
+                    await listener.open()
+                tasks = [asyncio.create_task(self._client.run())]
+                await _first(node, stop, *tasks)
+        finally:
+            await self._end(node, tasks)
+        return await node
+
+    async def _end(self, node: "asyncio.Task[int]", tasks: "list[asyncio.Task[None]]") -> None:
+        """Takes no more requests, ends the node, and then all connections."""
+        for listener in self._listeners:
+            listener.stop()
+        for task in tasks:
+            task.cancel()
+        await self._feeder.stop()
+        await asyncio.wait([node])
+        await self._client.close()
+        for listener in self._listeners:
+            await listener.close()
+        self._state.close()
+
+
+async def run(configuration: Configuration) -> int:
+    """Runs a bridge. Gives the status with which to end."""
+    return await Bridge(configuration).run()
+
+
+async def _first(*tasks: "asyncio.Task[int] | asyncio.Task[bool] | asyncio.Task[None]") -> None:
+    """Waits until one of them ends."""
+    await asyncio.wait(tasks, return_when=asyncio.FIRST_COMPLETED)
 
 
 def kept_clock(state: State, factor: float) -> Clock:
