@@ -4,6 +4,7 @@ import logging
 import signal
 
 from .admin.metrics import Metrics
+from .admin.server import Admin
 from .clock import Clock
 from .configuration import Configuration
 from .events import Events, Outcome
@@ -12,6 +13,7 @@ from .node.feeder import Feeder
 from .ocpi.answers import Once
 from .ocpi.client import Client
 from .ocpi.exchange import Exchange
+from .ocpi.locations import Locations
 from .ocpi.objects import Objects
 from .ocpi.partners import Partners
 from .ocpi.requests import Requests
@@ -45,6 +47,11 @@ class Bridge:
             feeder.after_commit(central_system.act)
             feeder.after_opening(central_system.opened)
             self._listeners.append(Listener("ocpp", configuration.ocpp.listen, central_system.application()))
+        locations = None if configuration.site is None else Locations(
+            state, clock, objects, configuration.node.party, configuration.site,
+            self._central_system.evse_status if self._central_system else lambda _: None)
+        admin = Admin(configuration, state, events, feeder, objects, partners, metrics, locations, self._central_system)
+        self._listeners.append(Listener("admin", configuration.admin, admin.application()))
 
     def _send(self, outcome: Outcome) -> None:
         for packet in outcome.packets:
