@@ -3,14 +3,13 @@ from ..configuration import Configuration
 from ..json_text import Members
 from ..parties import codes, party_of, same_party
 from .envelope import INVALID, Refusal
-from .exchange import VERSION, Exchange, NoResponse, NoVersion
+from .exchange import UNUSABLE, VERSION, Exchange, NoResponse
 from .partners import Partner, Partners, new_token
 
 OPERATOR_ENDPOINTS = (("commands", "RECEIVER"), ("tokens", "RECEIVER"), ("sessions", "SENDER"), ("cdrs", "SENDER"),
                       ("locations", "SENDER"))
 PROVIDER_ENDPOINTS = (("commands", "SENDER"), ("sessions", "RECEIVER"), ("cdrs", "RECEIVER"), ("tokens", "SENDER"))
-UNUSABLE = 3001
-UNSUPPORTED_VERSION = 3002
+LOOK_UP_SECONDS = 8.0
 LONGEST_TOKEN = 64
 LONGEST_URL = 255
 
@@ -47,12 +46,14 @@ class Credentials:
             return None
         their_token, versions_url = read_credentials(self._configuration, partner.party, body)
         try:
-            urls = await self._exchange.endpoints(partner.party, versions_url, their_token)
+            urls = await self._exchange.clock.within(
+                LOOK_UP_SECONDS, self._exchange.endpoints(partner.party, versions_url, their_token))
         except NoResponse as fault:
-            raise Refusal(200, UNUSABLE, f"url: {fault}") from None
-        except NoVersion:
-            raise Refusal(200, UNSUPPORTED_VERSION, f"url: no version {VERSION} there") from None
-        if self._partners.by_token(partner.token or "") != partner:
+            raise Refusal(200, fault.status_code, f"url: {fault}") from None
+        except TimeoutError:
+            raise Refusal(200, UNUSABLE, "url: no response in time") from None
+        current = self._partners.by_token(partner.token or "")
+        if current is None or current.is_registered != partner.is_registered:
             raise Refusal(405, INVALID, "another request has registered meanwhile")
         token = new_token()
         self._partners.register(partner.party, token, their_token, versions_url, urls)

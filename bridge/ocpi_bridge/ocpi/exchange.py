@@ -16,25 +16,24 @@ from .partners import Endpoints
 SECONDS = 10.0
 MOST_BYTES = 1_000_000
 VERSION = "2.2.1"
+UNUSABLE = 3001
+UNSUPPORTED_VERSION = 3002
 # The characters that a URL may have as they are. All others are percent-encoded.
 PLAIN = "!#$%&'()*+,/:;=?@[]~"
 
 
 class NoResponse(Exception):
-    """Nothing came that can be used. `was_sent` is false where surely nothing reached the partner."""
+    """Nothing came that can be used. Without `was_sent` surely nothing reached the partner."""
 
-    def __init__(self, message: str, was_sent: bool = True) -> None:
+    def __init__(self, message: str, was_sent: bool = True, status_code: int = UNUSABLE) -> None:
         super().__init__(message)
         self.was_sent = was_sent
-
-
-class NoVersion(Exception):
-    """A partner speaks, but not the version of this bridge."""
+        self.status_code = status_code
 
 
 @dataclass(frozen=True)
 class Response:
-    """What came: the members of a body in OCPI's format (none where it has another form), and the list's next page."""
+    """What came: the members of a body (none where it is no object), and where a list has its next page."""
 
     status: int
     headers: Mapping[str, str]
@@ -43,23 +42,19 @@ class Response:
 
 
 class Exchange:
-    """The connections to all partners. To be made and closed while the event loop runs."""
+    """The connections to all partners."""
 
     def __init__(self, clock: Clock, metrics: Metrics) -> None:
-        self._clock = clock
+        self.clock = clock
         self._metrics = metrics
-        # A connection is kept for a few seconds alone: one that the partner ends meanwhile would lose a request.
-        self._session = aiohttp.ClientSession(
-            connector=aiohttp.TCPConnector(limit=0, keepalive_timeout=3), cookie_jar=aiohttp.DummyCookieJar(),
-            timeout=aiohttp.ClientTimeout(total=None), auto_decompress=False,
-            headers={"Accept-Encoding": "identity"})
+        self._session: aiohttp.ClientSession | None = None
 
     async def ask(self, party: str, method: str, url: str, token: str, body: Members | None = None,
                   headers: Mapping[str, str] | None = None) -> Response:
         """Sends a request with a credentials token, and gives what is answered. Raises NoResponse."""
         status = "lost"
         try:
-            response = await self._clock.within(SECONDS, self._ask(method, url, token, body, headers or new_ids()))
+            response = await self.clock.within(SECONDS, self._ask(method, url, token, body, headers or _new_ids()))
             status = str(response.status)
             return response
         except aiohttp.ClientConnectorError as fault:
@@ -77,29 +72,34 @@ class Exchange:
         return response.body.get("data"), response.next_page
 
     async def endpoints(self, party: str, versions_url: str, token: str) -> Endpoints:
-        """Where the modules of a partner stand. Raises NoResponse, and NoVersion where it has no 2.2.1."""
+        """Where the modules of a partner stand in its OCPI 2.2.1. Raises NoResponse."""
         versions, _ = await self.data(party, versions_url, token)
-        details_url = next((version["url"] for version in _objects(versions, "version", "url")
-                            if version["version"] == VERSION), None)
-        if details_url is None:
-            raise NoVersion(VERSION)
-        details, _ = await self.data(party, details_url, token)
+        urls = [one["url"] for one in _objects(versions, "version", "url") if one["version"] == VERSION]
+        if not urls:
+            raise NoResponse(f"its versions list no {VERSION}", status_code=UNSUPPORTED_VERSION)
+        details, _ = await self.data(party, urls[0], token)
         listed = _objects(details.get("endpoints") if isinstance(details, dict) else None, "identifier", "role", "url")
         return {(one["identifier"], one["role"]): one["url"] for one in listed}
 
     async def close(self) -> None:
-        await self._session.close()
+        if self._session is not None:
+            await self._session.close()
 
     async def _ask(self, method: str, url: str, token: str, body: Members | None,
                    headers: Mapping[str, str]) -> Response:
         address = URL(quote(url, safe=PLAIN), encoded=True)
         if address.scheme not in ("http", "https") or not address.host:
             raise NoResponse("no address of HTTP", was_sent=False)
-        text = None if body is None else write_json(body).encode()
-        sent = {"Authorization": authorization(token), **headers}
-        if text is not None:
+        sent = {"Authorization": authorization(token), "Accept-Encoding": "identity", **headers}
+        if body is not None:
             sent["Content-Type"] = "application/json"
-        async with self._session.request(method, address, data=text, headers=sent, allow_redirects=False) as response:
+        if self._session is None:
+            # A connection is kept for a few seconds alone: one that the partner ends meanwhile would lose a request.
+            self._session = aiohttp.ClientSession(
+                connector=aiohttp.TCPConnector(limit=0, keepalive_timeout=3), cookie_jar=aiohttp.DummyCookieJar(),
+                timeout=aiohttp.ClientTimeout(total=None), auto_decompress=False)
+        async with self._session.request(method, address, headers=sent, allow_redirects=False,
+                                         data=None if body is None else write_json(body).encode()) as response:
             pieces = bytearray()
             async for piece in response.content.iter_chunked(65_536):
                 pieces += piece
@@ -109,7 +109,7 @@ class Exchange:
             return Response(response.status, response.headers, _members(bytes(pieces)), page)
 
 
-def new_ids() -> dict[str, str]:
+def _new_ids() -> dict[str, str]:
     """The ids of a request that is no packet."""
     return {"X-Request-ID": str(uuid.uuid4()), "X-Correlation-ID": str(uuid.uuid4())}
 

@@ -2,16 +2,15 @@
 
 What registering gave is kept in the state, and goes before the configuration, also when the registration has ended. A
 token of the configuration that no registration used up yet lets its partner register, also once more: so whoever lost
-tokens on the way begins again with a new one. An offer is the token that `--register` gave away and that is not
-confirmed yet. A running bridge sees what another process registers at its next look.
+tokens on the way begins again with a new one. What another process registers is seen at the next look.
 """
 import hmac
-import json
 import secrets
 from collections.abc import Mapping
 from dataclasses import dataclass, field
 
-from ..configuration import Configuration
+from ..configuration import Configuration, PartnerSettings
+from ..json_text import Members, read_json, write_json
 from ..parties import party_key
 from ..state import State
 
@@ -41,12 +40,6 @@ class Partners:
         self._version: int | None = None
         self._partners: dict[str, Partner] = {}
         self._tokens: list[tuple[bytes, Partner]] = []
-        state.define(
-            "CREATE TABLE IF NOT EXISTS registration (party TEXT PRIMARY KEY, token TEXT, their_token TEXT,"
-            " versions_url TEXT, used TEXT NOT NULL)",
-            "CREATE TABLE IF NOT EXISTS offer (party TEXT PRIMARY KEY, token TEXT NOT NULL)",
-            "CREATE TABLE IF NOT EXISTS endpoints (party TEXT PRIMARY KEY, versions_url TEXT NOT NULL,"
-            " urls TEXT NOT NULL)")
 
     def by_token(self, token: str) -> Partner | None:
         """The partner that presents a token. Takes as long whichever it is, and whether it is one at all."""
@@ -67,62 +60,65 @@ class Partners:
         self._look()
         return list(self._partners.values())
 
-    def register(self, party: str, token: str, their_token: str, versions_url: str, urls: Endpoints) -> None:
+    def register(self, party: str, token: str, their_token: str, versions_url: str, endpoints: Endpoints) -> None:
         """Keeps both tokens of a registration, in place of what was there, and ends an offer."""
-        self._keep(party, token, their_token, versions_url)
-        self.set_endpoints(party, versions_url, urls)
+        self._keep(party, token=token, their_token=their_token, versions_url=versions_url, offer=None,
+                   used=self._settings[party_key(party)].token)
+        self.set_endpoints(party, versions_url, endpoints)
 
     def unregister(self, party: str) -> None:
         """Ends a registration: neither token is used any more."""
-        self._keep(party, None, None, None)
+        self._keep(party, token=None, their_token=None, versions_url=None, used=self._settings[party_key(party)].token)
 
     def offer(self, party: str) -> str:
         """A new token with which the partner may look up this bridge while it is asked to register."""
         token = new_token()
-        with self._state.transaction():
-            self._state.query("INSERT OR REPLACE INTO offer VALUES (?, ?)", party_key(party), token)
-        self._version = None
+        self._keep(party, offer=token)
         return token
 
-    def set_endpoints(self, party: str, versions_url: str, urls: Endpoints) -> None:
-        """Keeps where the modules of a partner stand, as its version details listed them. None: to be asked again."""
-        text = json.dumps([[module, role, url] for (module, role), url in urls.items()])
+    def set_endpoints(self, party: str, versions_url: str, endpoints: Endpoints) -> None:
+        """Keeps where the modules of a partner stand, by its version details. None: they have to be asked again."""
+        self._keep(party, details_of=versions_url, endpoints=[[*names, url] for names, url in endpoints.items()])
+
+    def _keep(self, party: str, **members: object) -> None:
         with self._state.transaction():
-            self._state.query("INSERT OR REPLACE INTO endpoints VALUES (?, ?, ?)", party_key(party), versions_url, text)
+            self._state.set_value(_name(party), write_json({**self._kept(party), **members}))
         self._version = None
 
-    def _keep(self, party: str, token: str | None, their_token: str | None, versions_url: str | None) -> None:
-        key = party_key(party)
-        with self._state.transaction():
-            self._state.query("DELETE FROM offer WHERE party = ?", key)
-            self._state.query("INSERT OR REPLACE INTO registration VALUES (?, ?, ?, ?, ?)",
-                              key, token, their_token, versions_url, self._settings[key].token)
-        self._version = None
+    def _kept(self, party: str) -> Members:
+        kept: Members = read_json(self._state.value(_name(party)) or "{}")
+        return kept
 
     def _look(self) -> None:
         """Reads the state again where this or another process has changed it."""
         version = int(self._state.query("PRAGMA data_version")[0][0])
-        if version == self._version:
-            return
-        registrations = {row[0]: row[1:] for row in self._state.query("SELECT * FROM registration")}
-        offers = dict(self._state.query("SELECT party, token FROM offer"))
-        urls = {row[0]: row[1:] for row in self._state.query("SELECT * FROM endpoints")}
-        self._tokens = []
-        for key, settings in self._settings.items():
-            token, theirs, versions, used = registrations.get(
-                key, (settings.token, settings.their_token, settings.versions_url, settings.token))
-            known = urls[key][1] if key in urls and urls[key][0] == versions else "[]"
-            endpoints = {(module, role): url for module, role, url in json.loads(known)}
-            partner = Partner(settings.party, settings.kind, token, theirs, versions, endpoints, theirs is not None)
-            self._partners[key] = partner
-            if token is not None:
-                self._tokens.append((token.encode(), partner))
-            for other in (offers.get(key), settings.token if settings.token != used else None):
-                if other is not None:
-                    self._tokens.append((other.encode(), Partner(settings.party, settings.kind, other)))
-        self._version = version
+        if version != self._version:
+            self._tokens = []
+            for key, settings in self._settings.items():
+                self._read(key, settings)
+            self._version = version
+
+    def _read(self, key: str, settings: PartnerSettings) -> None:
+        kept = self._kept(key)
+        token, theirs, versions = settings.token, settings.their_token, settings.versions_url
+        if "used" in kept:
+            token, theirs, versions = kept["token"], kept["their_token"], kept["versions_url"]
+        known = kept.get("endpoints", []) if kept.get("details_of") == versions else []
+        partner = Partner(settings.party, settings.kind, token, theirs, versions,
+                          {(module, role): url for module, role, url in known}, theirs is not None)
+        self._partners[key] = partner
+        if token is not None:
+            self._tokens.append((token.encode(), partner))
+        unused = settings.token if kept.get("used", settings.token) != settings.token else None
+        for other in (kept.get("offer"), unused):
+            if other is not None:
+                self._tokens.append((other.encode(), Partner(settings.party, settings.kind, other)))
 
 
 def new_token() -> str:
     """A token that nobody guesses, of characters that need no escape (OCPI: at most 64)."""
     return secrets.token_urlsafe(32)
+
+
+def _name(party: str) -> str:
+    return f"partner {party_key(party)}"
