@@ -12,11 +12,13 @@ from .listening import Listener
 from .node.feeder import Feeder
 from .ocpi.answers import Once
 from .ocpi.client import Client
+from .ocpi.credentials import Credentials
 from .ocpi.exchange import Exchange
 from .ocpi.locations import Locations
 from .ocpi.objects import Objects
 from .ocpi.partners import Partners
 from .ocpi.requests import Requests
+from .ocpi.server import ocpi_application
 from .ocpp.central_system import CentralSystem
 from .state import State
 
@@ -36,8 +38,8 @@ class Bridge:
         feeder.before_commit(objects.note)
         partners = Partners(configuration, state)
         requests = Requests(state)
-        self._client = Client(configuration, partners, Exchange(clock, metrics), requests, Once(state), events, clock,
-                              feeder.feed)
+        exchange = Exchange(clock, metrics)
+        self._client = Client(configuration, partners, exchange, requests, Once(state), events, clock, feeder.feed)
         feeder.after_commit(self._send)
         self._listeners: list[Listener] = []
         self._central_system: CentralSystem | None = None
@@ -50,6 +52,9 @@ class Bridge:
         locations = None if configuration.site is None else Locations(
             state, clock, objects, configuration.node.party, configuration.site,
             self._central_system.evse_status if self._central_system else lambda _: None)
+        ocpi = ocpi_application(configuration, events, objects, requests, partners,
+                                Credentials(configuration, partners, exchange), locations, metrics, feeder.feed)
+        self._listeners.append(Listener("ocpi", configuration.ocpi.listen, ocpi))
         admin = Admin(configuration, state, events, feeder, objects, partners, metrics, locations, self._central_system)
         self._listeners.append(Listener("admin", configuration.admin, admin.application()))
 

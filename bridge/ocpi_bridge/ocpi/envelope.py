@@ -62,3 +62,8 @@ def request_headers(sender: str, receiver: str, serial: int, request: int) -> di
     """The headers of a request that is a packet: both ids, and the parties."""
     return {"X-Request-ID": identifier(sender, serial), "X-Correlation-ID": identifier(sender, request),
             **routing_headers(sender, receiver)}
+
+
+def is_printable(text: str) -> bool:
+    """Whether a text has characters of printable ASCII alone, as OCPI's ids have."""
+    return all(" " <= character <= "~" for character in text)

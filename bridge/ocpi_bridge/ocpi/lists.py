@@ -3,8 +3,11 @@ from collections.abc import Mapping
 from dataclasses import dataclass
 from urllib.parse import urlencode
 
+from aiohttp import web
+
 from ..clock import milliseconds_of
-from .envelope import INVALID, Refusal
+from ..json_text import Members
+from .envelope import INVALID, Refusal, answer
 
 MOST = 1000
 MOST_DIGITS = 18
@@ -13,26 +16,28 @@ MOST_DIGITS = 18
 @dataclass(frozen=True)
 class Part:
     """The part of a list: from `date_from` on and before `date_to` (milliseconds since 1970), of that `limit` objects
-    behind the first `offset`."""
+    behind the first `offset`. `dates` are both moments as they were given."""
 
     date_from: int | None
     date_to: int | None
     offset: int
     limit: int
+    dates: Mapping[str, str]
 
     def includes(self, last_updated: str) -> bool:
         """Whether an object of this `last_updated` is in the list."""
         moment = milliseconds_of(last_updated)
         return (self.date_from is None or self.date_from <= moment) and (self.date_to is None or moment < self.date_to)
 
-    def headers(self, query: Mapping[str, str], address: str, count: int) -> dict[str, str]:
-        """The headers of a response, where the list at an address has so many objects in all."""
-        headers = {"X-Total-Count": str(count), "X-Limit": str(self.limit)}
-        if self.offset + self.limit < count:
-            dates = {name: query[name] for name in ("date_from", "date_to") if name in query}
-            following = urlencode({**dates, "offset": self.offset + self.limit, "limit": self.limit})
-            headers["Link"] = f'<{address}?{following}>; rel="next"'
-        return headers
+
+def list_answer(timestamp: str, part: Part, address: str, count: int, objects: list[Members]) -> web.Response:
+    """The response with a part of a list at an address, which has so many objects in all."""
+    headers = {"X-Total-Count": str(count), "X-Limit": str(part.limit)}
+    following = part.offset + part.limit
+    if following < count:
+        query = urlencode({**part.dates, "offset": following, "limit": part.limit})
+        headers["Link"] = f'<{address}?{query}>; rel="next"'
+    return answer(timestamp, objects, headers=headers)
 
 
 def part_of(query: Mapping[str, str]) -> Part:
@@ -40,7 +45,8 @@ def part_of(query: Mapping[str, str]) -> Part:
     limit = _whole(query, "limit", MOST)
     if limit == 0:
         raise Refusal(200, INVALID, "limit: 1 or more")
-    return Part(_moment(query, "date_from"), _moment(query, "date_to"), _whole(query, "offset", 0), min(limit, MOST))
+    return Part(_moment(query, "date_from"), _moment(query, "date_to"), _whole(query, "offset", 0), min(limit, MOST),
+                {name: query[name] for name in ("date_from", "date_to") if name in query})
 
 
 def _moment(query: Mapping[str, str], name: str) -> int | None:

@@ -2,8 +2,6 @@
 from ..parties import party_key
 from ..state import State
 
-MOST_NUMBER = 10**18 - 1
-
 
 class Requests:
     """Kept in the state, so that a request that comes again after a stop has the number and the address of before."""
@@ -31,7 +29,8 @@ class Requests:
             number = int(self._state.value("last_request") or "0") + 1
             self._state.set_value("last_request", str(number))
             if correlation is not None:
-                self._state.query("INSERT INTO request_number VALUES (?, ?, ?)", party_key(partner), correlation, number)
+                self._state.query("INSERT INTO request_number VALUES (?, ?, ?)",
+                                  party_key(partner), correlation, number)
             return number
 
     def keep_url(self, partner: str, number: int, url: str) -> None:
