@@ -10,13 +10,13 @@ from .configuration import Configuration
 from .events import Events, Outcome
 from .listening import Listener
 from .node.feeder import Feeder
-from .ocpi.answers import Once
 from .ocpi.client import Client
 from .ocpi.credentials import Credentials
 from .ocpi.exchange import Exchange
 from .ocpi.locations import Locations
 from .ocpi.objects import Objects
 from .ocpi.partners import Partners
+from .ocpi.pulling import Pulling
 from .ocpi.requests import Requests
 from .ocpi.server import ocpi_application
 from .ocpp.central_system import CentralSystem
@@ -38,8 +38,10 @@ class Bridge:
         feeder.before_commit(objects.note)
         partners = Partners(configuration, state)
         requests = Requests(state)
-        exchange = Exchange(clock, metrics)
-        self._client = Client(configuration, partners, exchange, requests, Once(state), events, clock, feeder.feed)
+        self._exchange = exchange = Exchange(clock, metrics)
+        self._client = Client(configuration, state, partners, exchange, requests, events, feeder.feed)
+        self._pulling = Pulling(self._client, objects, state, configuration.is_operator)
+        feeder.after_opening(self._pulling.wake)
         feeder.after_commit(self._send)
         self._listeners: list[Listener] = []
         self._central_system: CentralSystem | None = None
@@ -77,7 +79,7 @@ class Bridge:
             if opened.is_set():
                 for listener in self._listeners:
                     await listener.open()
-                tasks = [asyncio.create_task(self._client.run())]
+                tasks = [asyncio.create_task(self._client.run()), asyncio.create_task(self._pulling.run())]
                 await _first(node, stop, *tasks)
         finally:
             await self._end(node, tasks)
@@ -91,7 +93,7 @@ class Bridge:
             task.cancel()
         await self._feeder.stop()
         await asyncio.wait([node])
-        await self._client.close()
+        await self._exchange.close()
         for listener in self._listeners:
             await listener.close()
         self._state.close()
