@@ -7,6 +7,7 @@ from pathlib import Path
 from .application import run
 from .configuration import WrongConfiguration, read_configuration
 from .logs import set_up_logs
+from .ocpi.registration import register
 
 
 def main() -> int:
@@ -14,6 +15,8 @@ def main() -> int:
     parser = argparse.ArgumentParser("ocpi_bridge", description="A node behind OCPI 2.2.1 and OCPP 1.6.")
     parser.add_argument("configuration", metavar="CONFIG", type=Path, help="the configuration, a JSON file")
     parser.add_argument("--json-logs", action="store_true", help="write logs as JSON, an object a line")
+    parser.add_argument("--register", nargs=3, metavar=("PARTY", "URL", "TOKEN"),
+                        help="register at a partner, whose versions stand at URL, by its TOKEN, and end")
     words = parser.parse_args()
     set_up_logs(words.json_logs)
     try:
@@ -21,7 +24,7 @@ def main() -> int:
     except WrongConfiguration as wrong:
         print(wrong, file=sys.stderr)
         return 2
-    return asyncio.run(run(configuration))
+    return asyncio.run(register(configuration, *words.register) if words.register else run(configuration))
 
 
 sys.exit(main())
