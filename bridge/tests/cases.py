@@ -11,6 +11,7 @@ from .ocpi_party import OcpiParty, Received, Reply
 from .running import PROGRAM, Members, RunningBridge, charge_point, operator, partner, provider
 
 PASSWORD = "password-of-CP1-f5a1"
+MOST_MEMORY = 300_000_000
 
 
 class BridgeCase(unittest.IsolatedAsyncioTestCase):
@@ -18,8 +19,7 @@ class BridgeCase(unittest.IsolatedAsyncioTestCase):
 
     clock_factor: float | None = None
     words: Sequence[str] = ()
-    # The endings of statuses that the bridge may have when it is stopped: 1 where a line was refused.
-    may_end_with: Sequence[int] = (0, 1)
+    bridge: RunningBridge
 
     def make_folder(self) -> Path:
         """A folder that goes with the test."""
@@ -46,7 +46,8 @@ class BridgeCase(unittest.IsolatedAsyncioTestCase):
 
     async def end_bridge(self, bridge: RunningBridge, secrets: Sequence[str]) -> None:
         if bridge.runs():
-            self.assertIn(await bridge.stop(), self.may_end_with, bridge.log()[-2000:])
+            # 1 where a line was refused.
+            self.assertIn(await bridge.stop(), (0, 1), bridge.log()[-2000:])
         log = bridge.log()
         for secret in (*secrets, PASSWORD):
             self.assertNotIn(secret, log)
@@ -60,6 +61,10 @@ class BridgeCase(unittest.IsolatedAsyncioTestCase):
         """Sees that a reply has this status of OCPI, under an HTTP status that is no fault of the server."""
         self.assertEqual(status_code, reply.status_code, reply)
         self.assertLess(reply.http_status, 500)
+
+    def assert_memory(self) -> None:
+        """Sees that the bridge had at most 300 MB at once."""
+        self.assertLess(self.bridge.peak_memory(), MOST_MEMORY)
 
     def settle(self, bridge: RunningBridge) -> str:
         """What the store of a bridge's node, which must have ended, says is owed."""

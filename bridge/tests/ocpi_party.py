@@ -6,7 +6,7 @@ import asyncio
 import base64
 import json
 import uuid
-from collections.abc import Awaitable, Callable, Mapping
+from collections.abc import Awaitable, Callable, Mapping, Sequence
 from dataclasses import dataclass
 from datetime import datetime, timezone
 from typing import Any
@@ -246,6 +246,6 @@ def quoted(text: str) -> str:
                    "".join(f"%{byte:02X}" for byte in character.encode()) for character in text)
 
 
-async def gathered(asked: list[Awaitable[Reply]], within: float) -> list[Reply]:
+async def gathered(asked: Sequence[Awaitable[Reply]], within: float) -> list[Reply]:
     """All replies, within so many seconds. Raises TimeoutError."""
     return list(await asyncio.wait_for(asyncio.gather(*asked), within))

@@ -118,7 +118,11 @@ class RegisteringOurselves(BridgeCase):
                           [partner("NL/PLN", "ocpi", "unused-8e1f")], []), [self.provider])
 
     async def run_register(self, url: str, with_token: str) -> "subprocess.CompletedProcess[str]":
-        words = [RUN, self.bridge.folder / "bridge.json", "--register", "NL/PLN", url, with_token]
+        return await self.run_register_of("NL/PLN", url, with_token)
+
+    async def run_register_of(self, party: str, url: str, with_token: str) -> "subprocess.CompletedProcess[str]":
+        """Runs the command for any party, and gives how it ended."""
+        words = [str(RUN), str(self.bridge.folder / "bridge.json"), "--register", party, url, with_token]
         return await asyncio.to_thread(subprocess.run, words, capture_output=True, text=True, timeout=60)
 
     async def test_both_sides_have_their_tokens(self) -> None:
@@ -163,7 +167,6 @@ class RegisteringOurselves(BridgeCase):
         await self.test_both_sides_have_their_tokens()
 
     async def test_a_party_that_is_no_partner(self) -> None:
-        words = [RUN, self.bridge.folder / "bridge.json", "--register", "FR/XXX", self.provider.versions_url, "x"]
-        ended = await asyncio.to_thread(subprocess.run, words, capture_output=True, text=True, timeout=60)
+        ended = await self.run_register_of("FR/XXX", self.provider.versions_url, "any")
         self.assertNotEqual(0, ended.returncode)
         self.assertTrue(ended.stderr.strip())
