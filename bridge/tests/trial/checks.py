@@ -109,7 +109,7 @@ def is_billed_once(records: Mapping[str, Records], charge_points: Mapping[str, C
                  if not cdr["credit"] and cdr["cdr_location"]["evse_uid"] == place.evse_uid]
         billed = Counter(bill["total_energy"].normalize() for bill in bills)
         if not wanted == charged == billed:
-            faults.append(f"{place.evse_uid}: let charge {told(wanted)}; sessions {told(charged)}; bills {told(billed)}")
+            faults.append(f"{place.evse_uid}: charged {told(wanted)}; sessions {told(charged)}; bills {told(billed)}")
         energies = {session["id"]: session["kwh"] for session in sessions}
         faults += [f"billed otherwise: {bill}" for bill in bills
                    if energies.get(bill["session_id"]) != bill["total_energy"]]

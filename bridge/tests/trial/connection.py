@@ -79,6 +79,7 @@ class Connection:
                     return await self._send(action, payload, identifier)
                 except ConnectionLost:
                     identifier = identifier if happens(self._chance, 0.5) else str(uuid.uuid4())
+                    await asyncio.sleep(0.05)
 
     async def call(self, action: str, payload: Payload) -> Payload:
         """Sends a call once. Raises ConnectionLost."""
@@ -114,8 +115,9 @@ class Connection:
                 theirs = datetime.fromisoformat(answer["currentTime"].replace("Z", "+00:00"))
                 self._origin = ((theirs - datetime(1970, 1, 1, tzinfo=timezone.utc)) / timedelta(seconds=1),
                                 time.monotonic())
-            self._opened.set()
-            await self._booted()
+            if self._socket is not None:
+                self._opened.set()
+                await self._booted()
         except ConnectionLost:
             pass
 

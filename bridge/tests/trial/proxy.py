@@ -77,7 +77,7 @@ class Proxy:
         self._session = ClientSession(timeout=ClientTimeout(total=5), auto_decompress=False)
         application = web.Application(client_max_size=4 << 20)
         application.router.add_route("*", "/{path:.*}", self._handle)
-        self._runner = web.AppRunner(application, access_log=None, shutdown_timeout=1)
+        self._runner = web.AppRunner(application, access_log=None)
         await self._runner.setup()
         site = web.TCPSite(self._runner, "127.0.0.1", 0, shutdown_timeout=1)
         await site.start()
