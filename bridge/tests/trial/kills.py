@@ -34,16 +34,20 @@ class Kills:
             self.told.append(f"{victim} of {party}")
 
     def note_memory(self, party: str) -> None:
-        self.most_memory = max(self.most_memory, self._bridges[party].peak_memory())
+        """Notes what a bridge used so far. Raises AssertionError where it ended by itself."""
+        try:
+            self.most_memory = max(self.most_memory, self._bridges[party].peak_memory())
+        except OSError:
+            raise AssertionError(f"{party} ended by itself: {self._bridges[party].log()[-2000:]}") from None
 
     async def _kill(self, bridge: RunningBridge, victim: str) -> None:
-        if victim == "node":
-            os.kill(await self._node_of(bridge), signal.SIGKILL)
-            return
-        if victim == "bridge":
+        node = None if victim == "bridge" else await self._node_of(bridge)
+        if victim != "node":
             bridge.kill_bridge()
-        else:
-            bridge.kill()
+        if node is not None:
+            os.kill(node, signal.SIGKILL)
+        if victim == "node":
+            return
         bridge.addresses = {}
         await asyncio.sleep(self._chance.uniform(0.0, LONGEST_ABSENCE))
         await bridge.start()
