@@ -7,7 +7,7 @@ from pathlib import Path
 from .application import run
 from .configuration import WrongConfiguration, read_configuration
 from .logs import set_up_logs
-from .ocpi.registration import register
+from .ocpi.credentials import register
 
 
 def main() -> int:

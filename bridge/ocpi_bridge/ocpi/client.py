@@ -8,17 +8,18 @@ import asyncio
 import logging
 from collections.abc import Awaitable, Callable
 from dataclasses import replace
+from typing import Any
 
+from ..clock import Clock, milliseconds_of, moment_of
 from ..configuration import Configuration
 from ..events import Events, Outcome, Packet
 from ..json_text import Members, NotJson, read_json, write_json
 from ..node.feeder import NodeEnded, OutcomeLost
 from ..parties import party_key
 from ..state import State
-from .answers import answer_of
-from .envelope import SUCCESS, request_headers
-from .exchange import Exchange, NoResponse
-from .packets import COMMANDS, HttpRequest, http_request, with_results_url
+from .envelope import INVALID, SUCCESS, request_headers
+from .exchange import Exchange, NoResponse, Response
+from .packets import ANSWER_OF, COMMANDS, HttpRequest, http_request, with_results_url
 from .partners import Partner, Partners
 from .requests import Requests, number_in_url
 
@@ -26,11 +27,14 @@ MOST_WAITING = 1000
 LONGEST_PAUSE = 60.0
 ONCE = ("start_session", "reserve_now", "stop_session")
 
-log = logging.getLogger("ocpi")
+log = logging.getLogger(__name__)
 
 
 class NoAddress(NoResponse):
     """A request has no address at its partner, so it was not sent."""
+
+    def __init__(self, message: str) -> None:
+        super().__init__(message, was_sent=False)
 
 
 class Queue:
@@ -80,13 +84,13 @@ class Client:
     async def endpoint(self, partner: Partner, module: str, role: str) -> str:
         """Where a module of a partner stands. Its versions are asked where nothing is known yet. Raises NoResponse."""
         if partner.their_token is None or partner.versions_url is None:
-            raise NoAddress("not registered", was_sent=False)
+            raise NoAddress("not registered")
         endpoints = partner.endpoints
         if not endpoints:
             endpoints = await self.exchange.endpoints(partner.party, partner.versions_url, partner.their_token)
             self.partners.set_endpoints(partner.party, partner.versions_url, endpoints)
         if (module, role) not in endpoints:
-            raise NoAddress(f"it lists no {module} {role}", was_sent=False)
+            raise NoAddress(f"it lists no {module} {role}")
         return endpoints[module, role]
 
     async def deliver(self, packet: Packet) -> bool:
@@ -96,7 +100,7 @@ class Client:
         except NotJson:
             log.warning("%s of %s: nested too deep", packet.kind, packet.sender)
         except OutcomeLost:
-            log.info("%s of %s: carried out before a stop of the node", packet.kind, packet.sender)
+            pass
         except NodeEnded:
             return False
         return True
@@ -158,5 +162,50 @@ class Client:
             number = number_in_url(packet.body["response_url"], partner.party)
             url = None if number is None else self.requests.url(partner.party, number)
         if url is None or partner.their_token is None:
-            raise NoAddress("its result has no address", was_sent=False)
+            raise NoAddress("its result has no address")
         return request, url
+
+
+def answer_of(packet: Packet, kind: str, response: Response, clock: Clock) -> Packet | None:
+    """The packet by which a partner of a kind answers a request. None where it is lost.
+
+    A 4xx to a question about a token is an answer: who gives it is not offline. A partner of kind `node` tells the
+    serial of its node's packet. Without one its bridge has answered, which counts only as the refusal of a question.
+    """
+    question = packet.kind == "authorize"
+    status_code, data = response.body.get("status_code"), response.body.get("data")
+    if question and 400 <= response.status < 500:
+        status_code = INVALID
+    elif response.status >= 300 or not isinstance(status_code, int):
+        return None
+    text = response.headers.get("X-Serial", "")
+    serial = int(text) if kind == "node" and text.isascii() and text.isdecimal() and len(text) <= 18 else None
+    if kind == "node" and serial is None and (not question or status_code == SUCCESS):
+        return None
+    body: Members = {"status_code": status_code, "timestamp": response.body.get("timestamp")}
+    if serial is None:
+        body["timestamp"] = _moment(body["timestamp"]) or clock.moment()
+    if data is not None and status_code == SUCCESS and ANSWER_OF[packet.kind] != "ack":
+        body["data"] = _restricted(data, packet.body.get("location")) if question and kind == "ocpi" else data
+    return Packet(packet.receiver, packet.sender, serial or 0, packet.request, ANSWER_OF[packet.kind], body)
+
+
+def _moment(text: object) -> str | None:
+    """A moment as each node reads it, where it is one."""
+    try:
+        return moment_of(milliseconds_of(str(text)) / 1000)
+    except (ValueError, OverflowError):
+        return None
+
+
+def _restricted(data: Any, asked: Any) -> Any:
+    """An AuthorizationInfo with NOT_ALLOWED for an ALLOWED whose `location` lacks the EVSE that was asked about."""
+    if not isinstance(data, dict) or data.get("allowed") != "ALLOWED" or data.get("location") is None:
+        return data
+    return data if _evses(asked) <= _evses(data["location"]) else {**data, "allowed": "NOT_ALLOWED"}
+
+
+def _evses(location: Any) -> set[tuple[str, str]]:
+    """The EVSEs of LocationReferences, each with its location, as they are compared."""
+    uids = location.get("evse_uids") if isinstance(location, dict) else None
+    return {(str(location.get("location_id")).upper(), str(uid).upper()) for uid in uids or []}

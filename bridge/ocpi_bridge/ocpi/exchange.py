@@ -51,10 +51,15 @@ class Exchange:
 
     async def ask(self, party: str, method: str, url: str, token: str, body: Members | None = None,
                   headers: Mapping[str, str] | None = None) -> Response:
-        """Sends a request with a credentials token, and gives what is answered. Raises NoResponse."""
+        """Sends a request with a credentials token, and gives what is answered. Raises NoResponse.
+
+        Without `headers` it is no packet, and has ids of its own.
+        """
         status = "lost"
+        ids = {"X-Request-ID": str(uuid.uuid4()), "X-Correlation-ID": str(uuid.uuid4())}
+        sent = {"Authorization": authorization(token), "Accept-Encoding": "identity", **(headers or ids)}
         try:
-            response = await self.clock.within(SECONDS, self._ask(method, url, token, body, headers or _new_ids()))
+            response = await self.clock.within(SECONDS, self._ask(method, url, sent, body))
             status = str(response.status)
             return response
         except aiohttp.ClientConnectorError as fault:
@@ -78,40 +83,35 @@ class Exchange:
         if not urls:
             raise NoResponse(f"its versions list no {VERSION}", status_code=UNSUPPORTED_VERSION)
         details, _ = await self.data(party, urls[0], token)
-        listed = _objects(details.get("endpoints") if isinstance(details, dict) else None, "identifier", "role", "url")
-        return {(one["identifier"], one["role"]): one["url"] for one in listed}
+        listed = details.get("endpoints") if isinstance(details, dict) else None
+        return {(one["identifier"], one["role"]): one["url"] for one in _objects(listed, "identifier", "role", "url")}
 
     async def close(self) -> None:
         if self._session is not None:
             await self._session.close()
 
-    async def _ask(self, method: str, url: str, token: str, body: Members | None,
-                   headers: Mapping[str, str]) -> Response:
+    async def _ask(self, method: str, url: str, headers: Mapping[str, str], body: Members | None) -> Response:
         address = URL(quote(url, safe=PLAIN), encoded=True)
         if address.scheme not in ("http", "https") or not address.host:
             raise NoResponse("no address of HTTP", was_sent=False)
-        sent = {"Authorization": authorization(token), "Accept-Encoding": "identity", **headers}
-        if body is not None:
-            sent["Content-Type"] = "application/json"
         if self._session is None:
             # A connection is kept for a few seconds alone: one that the partner ends meanwhile would lose a request.
             self._session = aiohttp.ClientSession(
                 connector=aiohttp.TCPConnector(limit=0, keepalive_timeout=3), cookie_jar=aiohttp.DummyCookieJar(),
                 timeout=aiohttp.ClientTimeout(total=None), auto_decompress=False)
-        async with self._session.request(method, address, headers=sent, allow_redirects=False,
-                                         data=None if body is None else write_json(body).encode()) as response:
+        data = None if body is None else write_json(body).encode()
+        typed = headers if data is None else {**headers, "Content-Type": "application/json"}
+        async with self._session.request(method, address, headers=typed, data=data, allow_redirects=False) as response:
             pieces = bytearray()
             async for piece in response.content.iter_chunked(65_536):
                 pieces += piece
                 if len(pieces) > MOST_BYTES:
                     raise NoResponse("the response is too large")
             page = str(response.links["next"]["url"]) if "next" in response.links else None
+            if page is not None and URL(page).origin() != address.origin():
+                # The token is for no other address.
+                raise NoResponse("the next page is at another address")
             return Response(response.status, response.headers, _members(bytes(pieces)), page)
-
-
-def _new_ids() -> dict[str, str]:
-    """The ids of a request that is no packet."""
-    return {"X-Request-ID": str(uuid.uuid4()), "X-Correlation-ID": str(uuid.uuid4())}
 
 
 def _members(text: bytes) -> Members:

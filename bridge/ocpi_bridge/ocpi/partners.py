@@ -2,11 +2,11 @@
 
 What registering gave is kept in the state, and goes before the configuration, also when the registration has ended. A
 token of the configuration that no registration used up yet lets its partner register, also once more: so whoever lost
-tokens on the way begins again with a new one. What another process registers is seen at the next look.
+tokens on the way begins again with a new one. All is read anew at each use, as another process may register.
 """
 import hmac
 import secrets
-from collections.abc import Mapping
+from collections.abc import Iterator, Mapping
 from dataclasses import dataclass, field
 
 from ..configuration import Configuration, PartnerSettings
@@ -37,28 +37,28 @@ class Partners:
     def __init__(self, configuration: Configuration, state: State) -> None:
         self._settings = {party_key(settings.party): settings for settings in configuration.partners}
         self._state = state
-        self._version: int | None = None
-        self._partners: dict[str, Partner] = {}
-        self._tokens: list[tuple[bytes, Partner]] = []
 
     def by_token(self, token: str) -> Partner | None:
         """The partner that presents a token. Takes as long whichever it is, and whether it is one at all."""
-        self._look()
-        presented = token.encode("utf-8", "surrogatepass")
         found = None
-        for known, partner in self._tokens:
-            if hmac.compare_digest(known, presented):
+        for known, partner in self._tokens():
+            if hmac.compare_digest(known.encode(), token.encode("utf-8", "surrogatepass")):
                 found = partner
         return found
 
     def of(self, party: str) -> Partner:
         """The partner of a party. Raises KeyError where the configuration has none."""
-        self._look()
-        return self._partners[party_key(party)]
+        settings = self._settings[party_key(party)]
+        kept = self._kept(party)
+        mine, theirs, versions = settings.token, settings.their_token, settings.versions_url
+        if "used" in kept:
+            mine, theirs, versions = kept["token"], kept["their_token"], kept["versions_url"]
+        known = kept.get("endpoints", []) if kept.get("details_of") == versions else []
+        return Partner(settings.party, settings.kind, mine, theirs, versions,
+                       {(module, role): url for module, role, url in known}, theirs is not None)
 
     def all(self) -> list[Partner]:
-        self._look()
-        return list(self._partners.values())
+        return [self.of(key) for key in self._settings]
 
     def register(self, party: str, token: str, their_token: str, versions_url: str, endpoints: Endpoints) -> None:
         """Keeps both tokens of a registration, in place of what was there, and ends an offer."""
@@ -80,45 +80,26 @@ class Partners:
         """Keeps where the modules of a partner stand, by its version details. None: they have to be asked again."""
         self._keep(party, details_of=versions_url, endpoints=[[*names, url] for names, url in endpoints.items()])
 
-    def _keep(self, party: str, **members: object) -> None:
-        with self._state.transaction():
-            self._state.set_value(_name(party), write_json({**self._kept(party), **members}))
-        self._version = None
+    def _tokens(self) -> Iterator[tuple[str, Partner]]:
+        """Each token that a partner may present, with what it shows."""
+        for key, settings in self._settings.items():
+            partner, kept = self.of(key), self._kept(key)
+            if partner.token is not None:
+                yield partner.token, partner
+            unused = settings.token if kept.get("used", settings.token) != settings.token else None
+            for token in (kept.get("offer"), unused):
+                if token is not None:
+                    yield token, Partner(settings.party, settings.kind, token)
 
     def _kept(self, party: str) -> Members:
-        kept: Members = read_json(self._state.value(_name(party)) or "{}")
+        kept: Members = read_json(self._state.value(f"partner {party_key(party)}") or "{}")
         return kept
 
-    def _look(self) -> None:
-        """Reads the state again where this or another process has changed it."""
-        version = int(self._state.query("PRAGMA data_version")[0][0])
-        if version != self._version:
-            self._tokens = []
-            for key, settings in self._settings.items():
-                self._read(key, settings)
-            self._version = version
-
-    def _read(self, key: str, settings: PartnerSettings) -> None:
-        kept = self._kept(key)
-        token, theirs, versions = settings.token, settings.their_token, settings.versions_url
-        if "used" in kept:
-            token, theirs, versions = kept["token"], kept["their_token"], kept["versions_url"]
-        known = kept.get("endpoints", []) if kept.get("details_of") == versions else []
-        partner = Partner(settings.party, settings.kind, token, theirs, versions,
-                          {(module, role): url for module, role, url in known}, theirs is not None)
-        self._partners[key] = partner
-        if token is not None:
-            self._tokens.append((token.encode(), partner))
-        unused = settings.token if kept.get("used", settings.token) != settings.token else None
-        for other in (kept.get("offer"), unused):
-            if other is not None:
-                self._tokens.append((other.encode(), Partner(settings.party, settings.kind, other)))
+    def _keep(self, party: str, **members: object) -> None:
+        with self._state.transaction():
+            self._state.set_value(f"partner {party_key(party)}", write_json({**self._kept(party), **members}))
 
 
 def new_token() -> str:
     """A token that nobody guesses, of characters that need no escape (OCPI: at most 64)."""
     return secrets.token_urlsafe(32)
-
-
-def _name(party: str) -> str:
-    return f"partner {party_key(party)}"

@@ -18,7 +18,7 @@ MOST_PAGES = 10_000
 # An object may be listed somewhat later than others that were changed after it, by so many milliseconds.
 OVERLAP = 60_000
 
-log = logging.getLogger("ocpi")
+log = logging.getLogger(__name__)
 
 
 class Pulling:
@@ -58,11 +58,11 @@ class Pulling:
         query = {"date_from": moment_of(max(latest - OVERLAP, 0) / 1000), "limit": PAGE}
         page: str | None = await self._client.endpoint(partner, module, "SENDER") + "?" + urlencode(query)
         for _ in range(MOST_PAGES):
-            if page is None:
-                break
-            data, page = await self._client.exchange.data(partner.party, page, partner.their_token or "")
+            data, page = await self._client.exchange.data(partner.party, page or "", partner.their_token or "")
             for listed in data if isinstance(data, list) else []:
                 latest = max(latest, await self._hand_on(partner, kind, listed))
+            if not data or page is None:
+                break
         now = int(self._client.events.clock.seconds() * 1000)
         self._state.set_value(name, str(min(latest, now)))
 
