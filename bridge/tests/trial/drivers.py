@@ -130,9 +130,9 @@ class Drivers:
 
     async def _session(self, charge: Charge, party: str) -> Members | None:
         """The last session by the token of a charge, as a bridge tells it."""
-        sessions = await self._get(self._bridges[party].admin_url + "/sessions", {})
-        found = [session for session in sessions or [] if session["cdr_token"]["uid"] == charge.token_uid]
-        return max(found, key=lambda session: str(session["id"]), default=None)
+        sessions: list[Members] = await self._get(self._bridges[party].admin_url + "/sessions", {}) or []
+        found = [session for session in sessions if session["cdr_token"]["uid"] == charge.token_uid]
+        return sorted(found, key=lambda session: str(session["id"]))[-1] if found else None
 
     async def _evse_status(self, charge: Charge) -> tuple[str, str]:
         """The moment by the operator's clock, and the status of the EVSE of a charge, as its locations tell both."""

@@ -22,8 +22,9 @@ from .records import records_of
 MOST_REQUESTS = 20_000
 MOST_MEMORY = 300_000_000
 # In seconds of the machine.
-CHARGES_WITHIN = 150.0
-QUIET_WITHIN = 60.0
+ENDS_WITHIN = 200.0
+CHARGES_WITHIN = 120.0
+QUIET_WITHIN = 40.0
 QUIET_FOR = 1.5
 WAITING = re.compile(r"^(ocpi_open_commands|ocpi_unacknowledged_pushes)(?:\{[^}]*\})? (\S+)$", re.MULTILINE)
 
@@ -156,7 +157,7 @@ async def carry_out(seed: int) -> Report:
     with tempfile.TemporaryDirectory(prefix="trial", dir=room()) as folder:
         trial = Trial(seed, Path(folder))
         try:
-            words = await trial.carry_out()
+            words = await asyncio.wait_for(trial.carry_out(), ENDS_WITHIN)
         except (AssertionError, asyncio.TimeoutError) as fault:
             trial.faults.append(f"{type(fault).__name__}: {fault}")
             words = "not at its end"
