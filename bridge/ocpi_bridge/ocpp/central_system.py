@@ -1,56 +1,207 @@
 """The central system of OCPP 1.6-J: charge points connect to it, and it stands between them and the node."""
+import asyncio
+import base64
+import hmac
+import logging
+from collections.abc import Coroutine
+from typing import Any
+
 from aiohttp import web
 
-from ..configuration import OcppSettings
+from ..clock import seconds_of
+from ..configuration import ChargePointSettings, OcppSettings
 from ..events import Events, Outcome
 from ..json_text import Members
-from ..node.feeder import Feeder
+from ..node.feeder import Feeder, NodeEnded
 from ..ocpi.objects import Objects
 from ..state import State
+from .charge_points import ChargePoint, ChargePoints
+from .commands import Commands
+from .connection import Connection
+from .orders import Orders
+from .reports import Reports
+from .sessions import Sessions, repeated
+from .transactions import Transactions
+
+LOG = logging.getLogger("ocpp")
+SUBPROTOCOL = "ocpp1.6"
+LARGEST_FRAME = 1_048_576
+# Seconds of real time between pings, so that a connection that is gone is seen.
+PING_EACH = 30.0
+# After how many seconds a session ends for which nobody plugs in, counted while its charge point has a connection.
+PLUGGED_IN_WITHIN = 120.0
+# After how many seconds a charge point is asked for the status of a connector that it did not tell by itself.
+STATUS_WITHIN = 30.0
 
 
 class CentralSystem:
     """Serves the charge points of an operator's node."""
 
     def __init__(self, settings: OcppSettings, events: Events, state: State, feeder: Feeder, objects: Objects) -> None:
-        self.settings = settings
-        self.events = events
-        self.state = state
-        self.feeder = feeder
-        self.objects = objects
+        self._events = events
+        self._clock = events.clock
+        self._charge_points = ChargePoints(settings, state)
+        self._transactions = Transactions(state)
+        self._commands = Commands(state, events.clock)
+        self._sessions = Sessions(events, feeder, objects, self._commands)
+        self._orders = Orders(self._charge_points, self._transactions, self._commands, self._sessions, self._spawn)
+        self._reports = Reports(events.clock, self._charge_points, self._transactions, self._commands, self._sessions,
+                                self._orders.stop)
+        self._pending: dict[str, Members] = {}
+        self._tasks: set[asyncio.Task[None]] = set()
 
     def application(self) -> web.Application:
         """The web application at `/ocpp/{id}`. Its shutdown closes all connections."""
-        return web.Application()
+        application = web.Application()
+        application.router.add_get("/ocpp/{id}", self._connect)
+        application.on_shutdown.append(self._close)
+        return application
+
+    def _spawn(self, work: Coroutine[Any, Any, None]) -> None:
+        """Has something done in a task of its own."""
+        task = asyncio.create_task(_guarded(work))
+        self._tasks.add(task)
+        task.add_done_callback(self._tasks.discard)
+
+    async def _close(self, application: web.Application) -> None:
+        for charge_point in self._charge_points.by_id.values():
+            if charge_point.connection is not None:
+                await charge_point.connection.close()
+        for task in self._tasks:
+            task.cancel()
+
+    async def _connect(self, request: web.Request) -> web.WebSocketResponse:
+        charge_point = self._charge_points.by_id.get(request.match_info["id"])
+        if charge_point is None:
+            raise web.HTTPNotFound()
+        if not _is_authentic(charge_point.settings, request.headers.get("Authorization", "")):
+            raise web.HTTPUnauthorized(headers={"WWW-Authenticate": 'Basic realm="OCPP"'})
+        socket = web.WebSocketResponse(protocols=(SUBPROTOCOL,), heartbeat=PING_EACH, max_msg_size=LARGEST_FRAME)
+        await socket.prepare(request)
+        if socket.ws_protocol == SUBPROTOCOL:
+            await self._serve(charge_point, socket)
+        await socket.close()
+        return socket
+
+    async def _serve(self, charge_point: ChargePoint, socket: web.WebSocketResponse) -> None:
+        """Serves a connection until it ends. It takes the place of one that the charge point has."""
+        connection = Connection(socket, self._clock, lambda call: self._reports.answer(charge_point, call))
+        if charge_point.connection is not None:
+            self._spawn(charge_point.connection.close())
+        charge_point.connection, charge_point.connected_since = connection, self._clock.seconds()
+        charge_point.reported = set()
+        LOG.info("%s: connected", charge_point.settings.id)
+        self._spawn(connection.work())
+        self._spawn(self._ask_for_statuses(charge_point, connection))
+        self._orders.begin()
+        try:
+            await connection.read()
+        finally:
+            if charge_point.connection is connection:
+                charge_point.connection = None
+                LOG.info("%s: connection ended", charge_point.settings.id)
+
+    async def _ask_for_statuses(self, charge_point: ChargePoint, connection: Connection) -> None:
+        """Asks for what a charge point, or a bridge that was stopped, may have missed."""
+        await self._clock.sleep(STATUS_WITHIN)
+        for connector in charge_point.settings.connectors:
+            if charge_point.connection is connection and connector not in charge_point.reported:
+                message = {"requestedMessage": "StatusNotification", "connectorId": connector}
+                async with connection.asking("TriggerMessage", message) as answer:
+                    if answer is None:
+                        return
 
     def note(self, outcome: Outcome) -> None:
         """Keeps what an outcome opens and ends. Called inside the state's transaction in which the line is forgotten."""
+        self._commands.note(outcome)
+        if outcome.event["event"] == "service" and outcome.word in ("stepped", "idle"):
+            self._charge_points.note_service(outcome.event["evse_uid"], outcome.event["in_service"])
 
     def act(self, outcome: Outcome) -> None:
         """Begins what an outcome asks of charge points. Called behind that transaction."""
+        self._sessions.act(outcome)
+        for packet in outcome.sent("put_session"):
+            if packet.body["status"] == "PENDING":
+                self._pending[packet.body["id"]] = packet.body
+            else:
+                self._pending.pop(packet.body["id"], None)
+        if outcome.event["event"] == "tick":
+            self._end_unused()
+        if outcome.sent("command_response"):
+            self._orders.begin()
 
     def opened(self) -> None:
         """Takes up again what waited for the node. Called each time that the node has opened its store."""
+        self._sessions.opened()
+        for place in self._charge_points.places.values():
+            session = self._sessions.living(place.settings.evse_uid)
+            if session is not None and session["status"] == "PENDING":
+                self._pending[session["id"]] = session
+        self._orders.begin()
+
+    def _end_unused(self) -> None:
+        """Ends each PENDING session for which nobody plugged in."""
+        for session in list(self._pending.values()):
+            place = self._charge_points.place(session["evse_uid"])
+            if place is None or place.charge_point.connection is None:
+                continue
+            since = max(seconds_of(session["last_updated"]), place.charge_point.connected_since)
+            if self._clock.seconds() > since + PLUGGED_IN_WITHIN:
+                del self._pending[session["id"]]
+                self._spawn(self._end_session(place.charge_point, session["id"]))
+
+    async def _end_session(self, charge_point: ChargePoint, session_id: str) -> None:
+        async with charge_point.lock:
+            await repeated(lambda: self._sessions.withdraw(session_id))
 
     def charge_points(self) -> list[Members]:
         """Each charge point: its `id`, whether it is `connected`, and its `connectors` with their `status`."""
-        return []
+        return [{"id": point.settings.id, "connected": point.connection is not None, "connectors": [
+            {"connector": place.connector, "evse_uid": place.settings.evse_uid,
+             "connector_id": place.settings.connector_id, "status": self._charge_points.status(place)}
+            for place in self._charge_points.of(point)]} for point in self._charge_points.by_id.values()]
 
     def commands(self) -> list[Members]:
         """The commands that are open: `provider`, `number`, `command`, `evse_uid`, `session_id`."""
-        return []
+        return [{"provider": command.provider, "number": command.number, "command": command.kind,
+                 "evse_uid": command.evse_uid, "session_id": command.session_id}
+                for command in self._commands.opened()]
 
     def evse_status(self, evse_uid: str) -> str | None:
         """`OUTOFORDER` where the charge point is away or Faulted, `INOPERATIVE` where out of service, else None."""
-        return None
+        return self._charge_points.evse_status(evse_uid)
 
     async def change_availability(self, evse_uid: str, in_service: bool) -> str:
         """Asks a charge point to take an EVSE out of service or back. The caller feeds `service`.
 
         Gives OCPP's status, or `Unreachable` where the charge point is away or does not answer.
         """
-        return "Unreachable"
+        place = self._charge_points.place(evse_uid)
+        if place is None or place.charge_point.connection is None:
+            return "Unreachable"
+        payload = {"connectorId": place.connector, "type": "Operative" if in_service else "Inoperative"}
+        async with place.charge_point.connection.asking("ChangeAvailability", payload) as answer:
+            return "Unreachable" if answer is None else str(answer.get("status"))
 
     def connected_count(self) -> int:
         """How many charge points have a connection."""
-        return 0
+        return sum(point.connection is not None for point in self._charge_points.by_id.values())
+
+
+async def _guarded(work: Coroutine[Any, Any, None]) -> None:
+    """Does what a task is for. What fails is told, and the node's end is what a stop of the bridge leaves."""
+    try:
+        await work
+    except NodeEnded:
+        pass
+    except Exception:
+        LOG.exception("a charge point could not be served")
+
+
+def _is_authentic(settings: ChargePointSettings, header: str) -> bool:
+    """Whether a request shows the id and the password of a charge point, where it has one."""
+    if settings.password is None:
+        return True
+    wanted = base64.b64encode(f"{settings.id}:{settings.password}".encode()).decode()
+    scheme, _, shown = header.partition(" ")
+    return scheme.lower() == "basic" and hmac.compare_digest(shown.strip().encode(), wanted.encode())

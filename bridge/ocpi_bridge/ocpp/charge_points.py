@@ -1,0 +1,95 @@
+"""The charge points of a bridge: their connections, and what is kept of their connectors."""
+import asyncio
+import hashlib
+from dataclasses import dataclass, field
+
+from ..configuration import ChargePointSettings, ConnectorSettings, OcppSettings
+from ..state import State
+from .connection import Connection
+
+OUT_OF_SERVICE = {"Unavailable", "Faulted"}
+LONGEST_ID_TAG = 20
+
+
+@dataclass
+class ChargePoint:
+    """A charge point. Whoever feeds the node what it reports, or looks at what stands at its EVSEs, has its lock."""
+
+    settings: ChargePointSettings
+    connection: Connection | None = None
+    connected_since: float = 0.0
+    reported: set[int] = field(default_factory=set)
+    lock: asyncio.Lock = field(default_factory=asyncio.Lock)
+
+
+@dataclass(frozen=True)
+class Place:
+    """Where an EVSE is: a connector of a charge point."""
+
+    charge_point: ChargePoint
+    connector: int
+    settings: ConnectorSettings
+
+
+class ChargePoints:
+    """All charge points by their ids, all EVSEs by their uids, and the last status of each connector."""
+
+    def __init__(self, settings: OcppSettings, state: State) -> None:
+        self.by_id = {name: ChargePoint(point) for name, point in settings.charge_points.items()}
+        self.places = {connector.evse_uid.upper(): Place(point, number, connector)
+                       for point in self.by_id.values() for number, connector in point.settings.connectors.items()}
+        self._state = state
+        state.define(
+            """CREATE TABLE IF NOT EXISTS ocpp_connector (charge_point TEXT, connector INTEGER, status TEXT NOT NULL,
+                PRIMARY KEY (charge_point, connector)) WITHOUT ROWID""",
+            "CREATE TABLE IF NOT EXISTS ocpp_out_of_service (evse_uid TEXT PRIMARY KEY) WITHOUT ROWID",
+            "CREATE TABLE IF NOT EXISTS ocpp_id_tag (id_tag TEXT PRIMARY KEY, uid TEXT NOT NULL) WITHOUT ROWID")
+
+    def place(self, evse_uid: str | None) -> Place | None:
+        """Where an EVSE is. None where no charge point has it."""
+        return self.places.get((evse_uid or "").upper())
+
+    def of(self, charge_point: ChargePoint) -> list[Place]:
+        """The connectors of a charge point."""
+        return [place for place in self.places.values() if place.charge_point is charge_point]
+
+    def at(self, charge_point: ChargePoint, connector: int) -> Place | None:
+        """The connector of a charge point that has a number."""
+        return next((place for place in self.of(charge_point) if place.connector == connector), None)
+
+    def status(self, place: Place) -> str | None:
+        """The last status that a connector reported."""
+        rows = self._state.query("SELECT status FROM ocpp_connector WHERE charge_point = ? AND connector = ?",
+                                 place.charge_point.settings.id, place.connector)
+        return str(rows[0][0]) if rows else None
+
+    def set_status(self, place: Place, status: str) -> None:
+        self._state.query("INSERT OR REPLACE INTO ocpp_connector VALUES (?, ?, ?)", place.charge_point.settings.id,
+                          place.connector, status)
+
+    def note_service(self, evse_uid: str, in_service: bool) -> None:
+        """Keeps what an event `service` said."""
+        statement = ("DELETE FROM ocpp_out_of_service WHERE evse_uid = ?" if in_service else
+                     "INSERT OR IGNORE INTO ocpp_out_of_service VALUES (?)")
+        self._state.query(statement, evse_uid.upper())
+
+    def evse_status(self, evse_uid: str) -> str | None:
+        """`OUTOFORDER` where nothing can be charged, `INOPERATIVE` where the EVSE is out of service, else None."""
+        place = self.place(evse_uid)
+        if place is None or place.charge_point.connection is None or self.status(place) == "Faulted":
+            return "OUTOFORDER"
+        is_out = self._state.query("SELECT 1 FROM ocpp_out_of_service WHERE evse_uid = ?", evse_uid.upper())
+        return "INOPERATIVE" if is_out else None
+
+    def id_tag_of(self, uid: str) -> str:
+        """What a token is called at charge points: its uid, or a text of the bridge where that is too long for OCPP."""
+        if len(uid) <= LONGEST_ID_TAG:
+            return uid
+        id_tag = hashlib.sha256(uid.upper().encode()).hexdigest()[:LONGEST_ID_TAG].upper()
+        self._state.query("INSERT OR IGNORE INTO ocpp_id_tag VALUES (?, ?)", id_tag, uid)
+        return id_tag
+
+    def uid_of(self, id_tag: str) -> str:
+        """The uid of the token that a charge point calls so."""
+        rows = self._state.query("SELECT uid FROM ocpp_id_tag WHERE id_tag = ?", id_tag.upper())
+        return str(rows[0][0]) if rows else id_tag

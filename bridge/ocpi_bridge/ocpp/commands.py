@@ -1,0 +1,123 @@
+"""The commands that partners gave and the node accepted: which are open, and which a charge point was asked for."""
+from dataclasses import dataclass
+
+from ..clock import Clock, seconds_of
+from ..events import Outcome, Packet
+from ..json_text import Members
+from ..state import State
+
+# Commands that a charge point carries out. The node ends each by itself after this time, in seconds.
+KINDS = ("start_session", "stop_session", "unlock_connector")
+OPEN_FOR = 30.0
+REPORTS = ("accepts", "refuses", "unlocked")
+OPEN, ASKED, REFUSED, PAST = "open", "asked", "refused", "past"
+
+
+@dataclass(frozen=True)
+class Command:
+    """A command. EVSE and session of a start are those of its session, once that has begun."""
+
+    provider: str
+    number: int
+    kind: str
+    evse_uid: str | None
+    connector_id: str | None
+    token_uid: str | None
+    session_id: str | None
+    has_ended: bool
+
+
+class Commands:
+    """Keeps them for good, so that a charge point is asked once for each, however often a command comes."""
+
+    def __init__(self, state: State, clock: Clock) -> None:
+        self._state = state
+        self._clock = clock
+        state.define(
+            f"""CREATE TABLE IF NOT EXISTS ocpp_command (provider TEXT COLLATE NOCASE, number INTEGER, kind TEXT,
+                evse_uid TEXT COLLATE NOCASE, connector_id TEXT COLLATE NOCASE, token_uid TEXT COLLATE NOCASE,
+                reference TEXT COLLATE NOCASE, session_id TEXT COLLATE NOCASE, response_url TEXT,
+                state TEXT DEFAULT '{OPEN}', ended_by INTEGER UNIQUE, PRIMARY KEY (provider, number))""",
+            "CREATE INDEX IF NOT EXISTS ocpp_command_open ON ocpp_command (number) WHERE ended_by IS NULL",
+            "CREATE INDEX IF NOT EXISTS ocpp_command_evse ON ocpp_command (evse_uid, state)",
+            "CREATE INDEX IF NOT EXISTS ocpp_command_reference ON ocpp_command (provider, reference)")
+
+    def note(self, outcome: Outcome) -> None:
+        """Keeps what an outcome opens, ends and begins. Called inside of the transaction that forgets its line."""
+        event = outcome.event
+        number = event["number"] if event["event"] in REPORTS else None
+        if event["event"] == "deliver":
+            self._note_accepted(outcome, Packet.of(event["packet"]))
+            number = event["packet"]["request"]
+        for packet in outcome.sent("command_result"):
+            self._end(packet, number)
+        for packet in outcome.sent("put_session"):
+            if packet.body["status"] == "PENDING" and packet.body["auth_method"] == "COMMAND":
+                self._note_session(packet)
+
+    def _note_accepted(self, outcome: Outcome, command: Packet) -> None:
+        """Keeps a command that is open. A repeat of an old one, of which a stop lost the first answer, is not."""
+        answer = outcome.answer_to(command.sender, command.request)
+        if command.kind not in KINDS or answer is None or answer.body.get("data", {}).get("result") != "ACCEPTED":
+            return
+        if seconds_of(answer.body["timestamp"]) + OPEN_FOR > self._clock.seconds():
+            body = command.body
+            self._state.query(
+                """INSERT OR IGNORE INTO ocpp_command (provider, number, kind, evse_uid, connector_id, token_uid,
+                reference, session_id, response_url) VALUES (?, ?, ?, ?, ?, ?, ?, ?, ?)""",
+                command.sender, command.request, command.kind, body.get("evse_uid"), body.get("connector_id"),
+                body.get("token", {}).get("uid"), body.get("authorization_reference"), body.get("session_id"),
+                body["response_url"])
+
+    def _end(self, result: Packet, number: int | None) -> None:
+        """Ends the command of a result: that of a number, or behind a tick that of its `response_url`."""
+        if not self._state.query("SELECT 1 FROM ocpp_command WHERE ended_by = ?", result.request):
+            self._state.query(
+                """UPDATE ocpp_command SET ended_by = ? WHERE rowid = (SELECT rowid FROM ocpp_command
+                WHERE ended_by IS NULL AND provider = ? AND response_url = ? AND number = ifnull(?, number)
+                ORDER BY number LIMIT 1)""", result.request, result.receiver, result.body["response_url"], number)
+
+    def _note_session(self, session: Packet) -> None:
+        """Keeps which session a start began, and where."""
+        body = session.body
+        self._state.query(
+            """UPDATE ocpp_command SET session_id = ?1, evse_uid = ?2 WHERE rowid = (SELECT rowid FROM ocpp_command
+            WHERE kind = 'start_session' AND provider = ?3 AND reference IS ?4 AND token_uid = ?5
+            AND ifnull(session_id, ?1) = ?1 AND ifnull(evse_uid, ?2) = ?2 ORDER BY session_id DESC, number LIMIT 1)""",
+            body["id"], body["evse_uid"], session.receiver, body.get("authorization_reference"),
+            body["cdr_token"]["uid"])
+
+    def find(self, provider: str, number: int) -> Command:
+        """A command that is kept. Raises IndexError."""
+        return self._where("provider = ? AND number = ?", provider, number)[0]
+
+    def opened(self) -> list[Command]:
+        """The commands that are open."""
+        return self._where("ended_by IS NULL ORDER BY number")
+
+    def unasked(self) -> list[Command]:
+        """Those of them that no charge point was asked for."""
+        return self._where(f"ended_by IS NULL AND state = '{OPEN}' ORDER BY number")
+
+    def start_for(self, evse_uid: str, token_uid: str) -> Command | None:
+        """A start to which a transaction of a token belongs: one that is open, or that a charge point was asked for.
+
+        Not one that the charge point refused, nor one of which a transaction came.
+        """
+        found = self._where(f"(state = '{ASKED}' OR state = '{OPEN}' AND ended_by IS NULL) AND kind = 'start_session' "
+                            "AND evse_uid = ? AND token_uid = ? ORDER BY number DESC", evse_uid, token_uid)
+        return found[0] if found else None
+
+    def forget_asked(self, evse_uid: str) -> None:
+        """No later transaction at an EVSE is that of a start that has ended by now."""
+        self._state.query(f"UPDATE ocpp_command SET state = '{PAST}' WHERE state = '{ASKED}' AND evse_uid = ? "
+                          "AND ended_by IS NOT NULL", evse_uid)
+
+    def set_state(self, command: Command, word: str) -> None:
+        self._state.query("UPDATE ocpp_command SET state = ? WHERE provider = ? AND number = ?", word,
+                          command.provider, command.number)
+
+    def _where(self, where: str, *values: object) -> list[Command]:
+        rows = self._state.query("SELECT provider, number, kind, evse_uid, connector_id, token_uid, session_id,"
+                                 f" ended_by IS NOT NULL FROM ocpp_command WHERE {where}", *values)
+        return [Command(*row) for row in rows]

@@ -1,0 +1,62 @@
+"""Checks the calls that a charge point of OCPP 1.6 makes by its tables of fields, which stand in `fields.json`.
+
+There a number is the most characters of a text, a list has objects of its form, and a word names another form. A field
+with `?` at its end may be left out. Members that are in no table are read past.
+"""
+import json
+import re
+from pathlib import Path
+from typing import Any
+
+from ..clock import seconds_of
+from ..json_text import Members
+from .frames import CallError, is_text
+
+TABLES: Members = json.loads(Path(__file__).with_name("fields.json").read_text())
+ID_TOKEN = re.compile(r"[ -~]{0,20}")
+LEAST = {"from 0": 0, "from 1": 1, "integer": -10**18}
+
+
+def check_payload(action: str, payload: Members) -> None:
+    """Raises CallError where the action is not known, or where a member of its payload is missing or does not fit."""
+    if action not in TABLES["calls"]:
+        raise CallError("NotImplemented", f"{action[:50]}: unknown")
+    _check_members(TABLES["calls"][action], payload, action)
+
+
+def _check_members(fields: Members, members: Members, path: str) -> None:
+    for field, form in fields.items():
+        name = field.removesuffix("?")
+        value = members.get(name)
+        if value in (None, []):
+            if name == field:
+                raise CallError("OccurenceConstraintViolation", f"{path}.{name}: missing")
+        elif not isinstance(form, list):
+            _check(form, value, f"{path}.{name}")
+        elif isinstance(value, list):
+            for place, element in enumerate(value):
+                _check(form[0], element, f"{path}.{name}[{place}]")
+        else:
+            raise CallError("PropertyConstraintViolation", f"{path}.{name}: no list")
+
+
+def _check(form: str | int, value: Any, path: str) -> None:
+    if form in TABLES["objects"] and isinstance(value, dict):
+        _check_members(TABLES["objects"][form], value, path)
+    elif not _fits(form, value):
+        wanted = f"text of at most {form} characters" if isinstance(form, int) else form
+        raise CallError("PropertyConstraintViolation", f"{path}: no {wanted}")
+
+
+def _fits(form: Any, value: Any) -> bool:
+    if not is_text(value):
+        is_whole = isinstance(value, int) and not isinstance(value, bool)
+        return form in LEAST and is_whole and bool(value >= LEAST[form])
+    if form == "dateTime":
+        try:
+            return seconds_of(value) >= 0
+        except (ValueError, OverflowError):
+            return False
+    if form == "IdToken":
+        return ID_TOKEN.fullmatch(value) is not None
+    return len(value) <= form if isinstance(form, int) else value in TABLES["words"].get(form, ())

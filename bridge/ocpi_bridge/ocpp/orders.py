@@ -1,0 +1,129 @@
+"""Asks charge points for what the node's open commands want, and tells the node what they answered.
+
+A charge point is asked once for each command, and that is kept before it is asked. One that has no connection is asked
+when it has one again, if the command is still open then. Where it does not answer nothing is fed, and the node ends the
+command at its time: whatever starts nevertheless is the command's, and is stopped.
+"""
+from collections.abc import Callable, Coroutine
+from typing import Any
+
+from ..json_text import Members
+from .charge_points import ChargePoint, ChargePoints, Place
+from .commands import ASKED, REFUSED, Command, Commands
+from .sessions import Sessions, repeated
+from .transactions import Transaction, Transactions
+
+Spawn = Callable[[Coroutine[Any, Any, None]], None]
+
+
+class Orders:
+    """Carries out commands, each in a task of its own."""
+
+    def __init__(self, charge_points: ChargePoints, transactions: Transactions, commands: Commands, sessions: Sessions,
+                 spawn: Spawn) -> None:
+        self._charge_points = charge_points
+        self._transactions = transactions
+        self._commands = commands
+        self._sessions = sessions
+        self._spawn = spawn
+        self._under_way: set[tuple[str, int]] = set()
+        self._stopping: set[int] = set()
+
+    def begin(self) -> None:
+        """Begins with each open command that no charge point was asked for yet."""
+        for command in self._commands.unasked():
+            if (command.provider, command.number) not in self._under_way:
+                self._under_way.add((command.provider, command.number))
+                self._spawn(self._carry_out(command))
+
+    async def _carry_out(self, command: Command) -> None:
+        try:
+            if command.kind == "unlock_connector":
+                await self._unlock(command)
+            elif command.kind == "stop_session":
+                await self._stop_session(command)
+            elif command.evse_uid is not None:
+                await self._start(command)
+            else:
+                await self._start_anywhere(command)
+        finally:
+            self._under_way.discard((command.provider, command.number))
+
+    async def _start(self, command: Command) -> None:
+        place = self._charge_points.place(command.evse_uid)
+        if place is not None and self._sessions.living(place.settings.evse_uid) is None:
+            await self._ask_to_start(command, place)
+
+    async def _ask_to_start(self, command: Command, place: Place) -> None:
+        id_tag = self._charge_points.id_tag_of(str(command.token_uid))
+        await self._ask(command, place.charge_point, "RemoteStartTransaction",
+                        {"connectorId": place.connector, "idTag": id_tag})
+
+    async def _start_anywhere(self, command: Command) -> None:
+        """A start that names no EVSE: which one the node took is told by the session that it begins."""
+        begun = await repeated(lambda: self._sessions.accept(self._commands.find(command.provider, command.number)))
+        place = self._charge_points.place(begun.evse_uid)
+        if place is not None and place.charge_point.connection is None:
+            async with place.charge_point.lock:
+                await repeated(lambda: self._sessions.withdraw(begun.session_id))
+        elif place is not None:
+            await self._ask_to_start(begun, place)
+
+    async def _unlock(self, command: Command) -> None:
+        place = self._charge_points.place(command.evse_uid)
+        if place is not None and place.settings.connector_id.upper() == str(command.connector_id).upper():
+            await self._ask(command, place.charge_point, "UnlockConnector", {"connectorId": place.connector})
+
+    async def _stop_session(self, command: Command) -> None:
+        """A session without a transaction is ended by the bridge: no charge point has anything to stop."""
+        session = self._sessions.find(str(command.session_id))
+        place = self._charge_points.place(session["evse_uid"]) if session is not None else None
+        if session is None or place is None or place.charge_point.connection is None:
+            return
+        async with place.charge_point.lock:
+            transaction = self._transactions.of_session(session["id"])
+            if transaction is None:
+                self._commands.set_state(command, ASKED)
+                await repeated(lambda: self._sessions.accept(command))
+                await repeated(lambda: self._sessions.withdraw(command.session_id))
+                return
+        await self._ask(command, place.charge_point, "RemoteStopTransaction", {"transactionId": transaction.number})
+
+    async def _ask(self, command: Command, charge_point: ChargePoint, action: str, payload: Members) -> None:
+        if charge_point.connection is None:
+            return
+        self._commands.set_state(command, ASKED)
+        async with charge_point.connection.asking(action, payload) as answer:
+            if answer is not None:
+                async with charge_point.lock:
+                    status = answer.get("status")
+                    await repeated(lambda: self._tell(command, status))
+
+    async def _tell(self, command: Command, status: object) -> None:
+        """Feeds what a charge point answered. (A start that names no EVSE was accepted before.)"""
+        if status == "Unlocked" and command.kind == "unlock_connector":
+            await self._sessions.report("unlocked", provider=command.provider, number=command.number)
+        elif status == "Accepted" and command.kind != "unlock_connector":
+            await self._sessions.accept(self._commands.find(command.provider, command.number))
+        else:
+            self._commands.set_state(command, REFUSED)
+            if command.has_ended:
+                await self._sessions.withdraw(command.session_id)
+            else:
+                await self._sessions.report("refuses", provider=command.provider, number=command.number)
+
+    def stop(self, transaction: Transaction) -> None:
+        """Has a transaction stopped that goes on without a session."""
+        charge_point = self._charge_points.by_id.get(transaction.charge_point)
+        if charge_point is not None and transaction.number not in self._stopping:
+            self._stopping.add(transaction.number)
+            self._spawn(self._stop_transaction(charge_point, transaction))
+
+    async def _stop_transaction(self, charge_point: ChargePoint, transaction: Transaction) -> None:
+        try:
+            if charge_point.connection is not None:
+                async with charge_point.connection.asking("RemoteStopTransaction",
+                                                          {"transactionId": transaction.number}):
+                    pass
+        finally:
+            self._stopping.discard(transaction.number)

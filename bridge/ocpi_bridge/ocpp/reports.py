@@ -1,0 +1,175 @@
+"""Answers what charge points report: each call is fed to the node as the events that it is, and answered behind them.
+
+A charge point reports again what was not answered. So each point at which bridge, node or connection may stop leaves
+the next report of the same to go on from there. A stop
+
+- before a StartTransaction is kept, or behind that: it comes again, and is known by its connector and `timestamp`;
+- behind `accepts` or `swipe`: the session that began is at the EVSE, is PENDING and is of that token;
+- behind the `link` of transaction and session: where the session is PENDING still, `starts` is fed, else it was;
+- behind `starts`, before the answer: the transaction charges, and is answered alike;
+- behind a `meter`: it is fed once more, and changes no energy;
+- behind `stops`, before the answer: no living session is that of the transaction, and nothing is fed.
+"""
+from collections.abc import Awaitable, Callable
+from decimal import Decimal
+
+from ..clock import Clock
+from ..json_text import Members
+from .charge_points import OUT_OF_SERVICE, ChargePoint, ChargePoints, Place
+from .commands import Commands
+from .fields import check_payload
+from .frames import Call
+from .meter_values import kilowatt_hours, register_of
+from .sessions import Sessions, repeated
+from .transactions import CHARGING, NEW, REFUSED, STOPPED, Transaction, Transactions
+
+HEARTBEAT_EACH = 60
+Handler = Callable[[ChargePoint, Members], Awaitable[Members]]
+
+
+class Reports:
+    """Answers the calls of charge points. `stop` is called with each transaction that goes on without a session."""
+
+    def __init__(self, clock: Clock, charge_points: ChargePoints, transactions: Transactions, commands: Commands,
+                 sessions: Sessions, stop: Callable[[Transaction], None]) -> None:
+        self._clock = clock
+        self._charge_points = charge_points
+        self._transactions = transactions
+        self._commands = commands
+        self._sessions = sessions
+        self._stop = stop
+        self._handlers: dict[str, Handler] = {
+            "BootNotification": self._boot, "Heartbeat": self._heartbeat, "StatusNotification": self._status,
+            "Authorize": self._authorize, "StartTransaction": self._start, "MeterValues": self._meter,
+            "StopTransaction": self._end, "DataTransfer": self._data}
+
+    async def answer(self, charge_point: ChargePoint, call: Call) -> Members:
+        """What a call is answered. Raises CallError, NodeEnded, and EventRefused where the charge point may repeat."""
+        check_payload(call.action, call.payload)
+        async with charge_point.lock:
+            return await repeated(lambda: self._handlers[call.action](charge_point, call.payload))
+
+    async def _boot(self, charge_point: ChargePoint, payload: Members) -> Members:
+        return {"status": "Accepted", "currentTime": self._clock.moment(), "interval": HEARTBEAT_EACH}
+
+    async def _heartbeat(self, charge_point: ChargePoint, payload: Members) -> Members:
+        return {"currentTime": self._clock.moment()}
+
+    async def _data(self, charge_point: ChargePoint, payload: Members) -> Members:
+        return {"status": "UnknownVendorId"}
+
+    async def _status(self, charge_point: ChargePoint, payload: Members) -> Members:
+        """A status of one connector, or at connector 0 of each, which a better one of it leaves as they are."""
+        status, connector = payload["status"], payload["connectorId"]
+        charge_point.reported.add(connector)
+        for place in self._charge_points.of(charge_point):
+            before = self._charge_points.status(place)
+            if connector == place.connector or connector == 0 and {status, before} & OUT_OF_SERVICE:
+                await self._report_status(place, before, status)
+                self._charge_points.set_status(place, status)
+        return {}
+
+    async def _report_status(self, place: Place, before: str | None, status: str) -> None:
+        evse_uid = place.settings.evse_uid
+        if status in OUT_OF_SERVICE:
+            await self._sessions.service(evse_uid, False)
+        elif before in OUT_OF_SERVICE:
+            await self._sessions.service(evse_uid, True)
+        if status == "Faulted" and not self._transactions.charging_at(place.charge_point.settings.id, place.connector):
+            await self._sessions.report("fault", evse_uid=evse_uid)
+
+    async def _authorize(self, charge_point: ChargePoint, payload: Members) -> Members:
+        """A token that was shown at no named connector: a swipe where it is clear which one is meant."""
+        uid = self._charge_points.uid_of(payload["idTag"])
+        places = self._charge_points.of(charge_point)
+        shown_at = [place for place in places if self._charge_points.status(place) == "Preparing"]
+        shown_at = places if len(places) == 1 else shown_at
+        if any(self._is_let_charge(place, uid) for place in places) or len(shown_at) != 1:
+            return {"idTagInfo": {"status": "Accepted"}}
+        self._commands.forget_asked(shown_at[0].settings.evse_uid)
+        await self._sessions.swipe(shown_at[0], uid)
+        return {"idTagInfo": {"status": "Accepted" if self._is_let_charge(shown_at[0], uid) else "Invalid"}}
+
+    def _is_let_charge(self, place: Place, uid: str) -> bool:
+        """Whether a session or an open start of a token stands at a connector."""
+        session = self._sessions.living(place.settings.evse_uid)
+        if session is not None:
+            return bool(session["cdr_token"]["uid"].upper() == uid.upper())
+        command = self._commands.start_for(place.settings.evse_uid, uid)
+        return command is not None and not command.has_ended
+
+    async def _start(self, charge_point: ChargePoint, payload: Members) -> Members:
+        """A transaction that begins. It is let charge where it is that of a session."""
+        transaction = self._transactions.begin(charge_point.settings.id, payload)
+        if transaction.state == NEW:
+            place = self._charge_points.at(charge_point, transaction.connector)
+            session = await self._session_of(place, transaction) if place is not None else None
+            if session is None:
+                transaction = self._transactions.update(transaction, REFUSED, None)
+            else:
+                transaction = self._transactions.update(transaction, NEW, session["id"])
+                if session["status"] == "PENDING":
+                    await self._sessions.report("starts", self._sessions.moment(payload["timestamp"]),
+                                                evse_uid=session["evse_uid"])
+                transaction = self._transactions.update(transaction, CHARGING, session["id"])
+            if place is not None:
+                self._commands.forget_asked(place.settings.evse_uid)
+        if transaction.state == REFUSED:
+            self._stop(transaction)
+        status = "Invalid" if transaction.session_id is None else "Accepted"
+        return {"idTagInfo": {"status": status}, "transactionId": transaction.number}
+
+    async def _session_of(self, place: Place, transaction: Transaction) -> Members | None:
+        """The session of a new transaction: one that it is known to be, or that waits for its token, or of a swipe."""
+        evse_uid, uid = place.settings.evse_uid, self._charge_points.uid_of(transaction.id_tag)
+        session = self._sessions.living(evse_uid)
+        if transaction.session_id is not None:
+            return session if session is not None and session["id"] == transaction.session_id else None
+        if session is None:
+            command = self._commands.start_for(evse_uid, uid)
+            if command is None:
+                await self._sessions.swipe(place, uid)
+            else:
+                await self._sessions.accept(command)
+            session = self._sessions.living(evse_uid)
+        if session is None or session["status"] != "PENDING" or session["cdr_token"]["uid"].upper() != uid.upper():
+            return None
+        return session if self._transactions.of_session(session["id"]) is None else None
+
+    def _session_that_charges(self, transaction: Transaction) -> Members | None:
+        """The living session of a transaction. None where it has none, or where another stands at its EVSE."""
+        known = self._sessions.find(transaction.session_id) if transaction.session_id is not None else None
+        return known if known is not None and known["status"] in ("PENDING", "ACTIVE") else None
+
+    async def _meter(self, charge_point: ChargePoint, payload: Members) -> Members:
+        """Readings of a transaction. One that goes on without a session is stopped."""
+        transaction = self._transactions.find(charge_point.settings.id, payload.get("transactionId"))
+        if transaction is None or transaction.state == STOPPED:
+            return {}
+        if self._session_that_charges(transaction) is None:
+            self._stop(transaction)
+            return {}
+        for meter_value in payload["meterValue"]:
+            register = register_of(meter_value)
+            if register is not None:
+                await self._report_energy(transaction, register, meter_value["timestamp"])
+        return {}
+
+    async def _report_energy(self, transaction: Transaction, register: Decimal, timestamp: str) -> None:
+        session, energy = self._session_that_charges(transaction), kilowatt_hours(register, transaction.meter_start)
+        if session is not None and energy is not None:
+            await self._sessions.report("meter", self._sessions.moment(timestamp), evse_uid=session["evse_uid"],
+                                        kwh=energy)
+
+    async def _end(self, charge_point: ChargePoint, payload: Members) -> Members:
+        """A transaction that ended: its last reading, and the end of its session."""
+        transaction = self._transactions.find(charge_point.settings.id, payload["transactionId"])
+        if transaction is None or transaction.state == STOPPED:
+            return {}
+        session = self._session_that_charges(transaction)
+        if session is not None:
+            await self._report_energy(transaction, Decimal(payload["meterStop"]), payload["timestamp"])
+            await self._sessions.report("stops", self._sessions.moment(payload["timestamp"]),
+                                        evse_uid=session["evse_uid"])
+        self._transactions.update(transaction, STOPPED, transaction.session_id)
+        return {}
