@@ -1,0 +1,182 @@
+"""A charge point of OCPP 1.6 for trials, with one connector. Its driver's acts are the lines of its standard input.
+
+`plug`, `start TOKEN`, `meter WH` (the register rises by so much), `stop`, `unplug` (which also ends a fault), `fault`.
+Each status is written to standard output. What was not answered is sent again on the next connection.
+"""
+import argparse
+import asyncio
+import sys
+from collections import deque
+from datetime import datetime, timezone
+from urllib.parse import quote
+from uuid import uuid4
+
+import aiohttp
+
+from .json_text import Members, write_json
+from .ocpp.frames import CALL, RESULT, Call, CallError, read_frame
+
+# In seconds: between readings that it makes by itself, and before it connects again. What each adds is in Wh.
+METER_EACH, RECONNECT_AFTER = 1.0, 0.5
+STEP = "250"
+
+
+class ChargePoint:
+    """Whether a car is plugged in, which token may charge it, and the transaction that runs."""
+
+    def __init__(self, is_automatic: bool) -> None:
+        self.is_automatic = is_automatic
+        self.is_plugged_in = self.is_running = False
+        self.token: str | None = None
+        self.transaction: int | None = None
+        self.register = 0
+        self.calls: deque[tuple[str, str, Members]] = deque()
+        self.has_calls = asyncio.Event()
+        self.call("BootNotification", chargePointVendor="Trial", chargePointModel="One")
+        self.set_status("Available")
+
+    def call(self, action: str, **payload: object) -> None:
+        """Queues a call, which is sent until it is answered."""
+        self.calls.append((str(uuid4()), action, payload))
+        self.has_calls.set()
+
+    def set_status(self, status: str) -> None:
+        self.status = status
+        print(status, flush=True)
+        self.call("StatusNotification", connectorId=1, errorCode="OtherError" if status == "Faulted" else "NoError",
+                  status=status, timestamp=now())
+
+    def do(self, *words: str) -> None:
+        """Does what a driver does. What makes no sense as things stand is passed over."""
+        match words:
+            case ["plug"] if self.status == "Available":
+                self.is_plugged_in = True
+                self.set_status("Preparing")
+            case ["start", token] if not self.is_running:
+                self.call("Authorize", idTag=token)
+            case ["meter", watt_hours]:
+                self.register += int(watt_hours)
+                if self.transaction is not None:
+                    self.call("MeterValues", connectorId=1, transactionId=self.transaction, meterValue=[
+                        {"timestamp": now(), "sampledValue": [{"value": str(self.register)}]}])
+            case ["stop", *reason] if self.transaction is not None:
+                self.call("StopTransaction", transactionId=self.transaction, meterStop=self.register, timestamp=now(),
+                          reason=reason[0] if reason else "Local")
+                self.transaction, self.token, self.is_running = None, None, False
+                self.set_status("Finishing")
+            case ["unplug"]:
+                self.do("stop", "EVDisconnected")
+                self.is_plugged_in, self.token = False, None
+                self.set_status("Available")
+            case ["fault"]:
+                self.do("stop", "Other")
+                self.set_status("Faulted")
+        if self.is_plugged_in and self.token is not None and not self.is_running:
+            self.is_running = True
+            self.call("StartTransaction", connectorId=1, idTag=self.token, meterStart=self.register, timestamp=now())
+
+    def take(self, action: str, payload: Members, answer: Members) -> None:
+        """Takes in what a call of its own was answered."""
+        status = answer.get("idTagInfo", {}).get("status")
+        if action == "Authorize" and status == "Accepted":
+            self.token = payload["idTag"]
+        elif action == "StartTransaction" and "transactionId" in answer:
+            self.transaction = answer["transactionId"]
+            if status == "Accepted":
+                self.set_status("Charging")
+            else:
+                self.do("stop", "DeAuthorized")
+        self.do()
+
+    def answer(self, call: Call) -> tuple[str, list[list[str]]]:
+        """The status that answers a call of the central system, and what is done behind it."""
+        match call.action:
+            case "RemoteStartTransaction" if self.status in ("Available", "Preparing") and not self.is_running:
+                self.token = call.payload["idTag"]
+                return "Accepted", [["plug"] if self.is_automatic else []]
+            case "RemoteStopTransaction" if call.payload["transactionId"] == self.transaction:
+                return "Accepted", [["stop", "Remote"], *([["unplug"]] if self.is_automatic else [])]
+            case "UnlockConnector":
+                return "Unlocked", [["stop", "UnlockCommand"]]
+            case "ChangeAvailability":
+                return "Scheduled" if self.is_running else "Accepted", []
+            case "TriggerMessage" if call.payload["requestedMessage"] == "StatusNotification":
+                self.set_status(self.status)
+                return "Accepted", []
+        return "Rejected", []
+
+    async def serve(self, socket: aiohttp.ClientWebSocketResponse) -> None:
+        """Makes its calls one at a time and answers those of the other side, until the connection ends."""
+        sender = asyncio.create_task(self._send_calls(socket))
+        async for message in socket:
+            try:
+                frame = read_frame(str(message.data))
+            except CallError:
+                continue
+            if isinstance(frame, Call):
+                status, acts = self.answer(frame)
+                await socket.send_str(write_json([RESULT, frame.message_id, {"status": status}]))
+                for act in acts:
+                    self.do(*act)
+            elif self.calls and self.calls[0][0] == frame.message_id:
+                _, action, payload = self.calls.popleft()
+                self.take(action, payload, frame.payload)
+                self.answered.set()
+        sender.cancel()
+
+    async def _send_calls(self, socket: aiohttp.ClientWebSocketResponse) -> None:
+        while True:
+            await self.has_calls.wait()
+            self.answered = asyncio.Event()
+            await socket.send_str(write_json([CALL, *self.calls[0]]))
+            await self.answered.wait()
+            if not self.calls:
+                self.has_calls.clear()
+
+
+def now() -> str:
+    return datetime.now(timezone.utc).isoformat(timespec="milliseconds").replace("+00:00", "Z")
+
+
+async def read_input(charge_point: ChargePoint) -> None:
+    """Does what each line says, until there are no more."""
+    reader = asyncio.StreamReader()
+    await asyncio.get_running_loop().connect_read_pipe(lambda: asyncio.StreamReaderProtocol(reader), sys.stdin)
+    async for line in reader:
+        charge_point.do(*line.decode().split())
+
+
+async def meter_by_itself(charge_point: ChargePoint) -> None:
+    while True:
+        await asyncio.sleep(METER_EACH)
+        if charge_point.transaction is not None:
+            charge_point.do("meter", STEP)
+
+
+async def run(url: str, name: str, password: str, is_automatic: bool) -> None:
+    """Connects, and again whenever the connection ends."""
+    charge_point = ChargePoint(is_automatic)
+    tasks = [asyncio.create_task(read_input(charge_point))]
+    if is_automatic:
+        tasks.append(asyncio.create_task(meter_by_itself(charge_point)))
+    async with aiohttp.ClientSession(auth=aiohttp.BasicAuth(name, password)) as session:
+        while True:
+            try:
+                async with session.ws_connect(f"{url.rstrip('/')}/{quote(name, '')}", protocols=("ocpp1.6",)) as socket:
+                    await charge_point.serve(socket)
+            except (aiohttp.ClientError, OSError):
+                pass
+            await asyncio.sleep(RECONNECT_AFTER)
+
+
+if __name__ == "__main__":
+    parser = argparse.ArgumentParser("charge_point", description="A charge point of OCPP 1.6 for trials.")
+    parser.add_argument("url", metavar="URL", help="the central system's address, before the id")
+    parser.add_argument("name", metavar="ID")
+    parser.add_argument("password", metavar="PASSWORD")
+    parser.add_argument("--auto", action="store_true", help="plug, meter and unplug as remote calls ask")
+    words = parser.parse_args()
+    try:
+        asyncio.run(run(words.url, words.name, words.password, words.auto))
+    except KeyboardInterrupt:
+        pass
