@@ -51,7 +51,9 @@ class BridgeCase(unittest.IsolatedAsyncioTestCase):
         log = bridge.log()
         for secret in (*secrets, PASSWORD):
             self.assertNotIn(secret, log)
-        self.assertNotIn("Traceback", log)
+        # What is no HTTP is told by the library.
+        faults = [line for line in log.splitlines() if "Traceback" in line and "aiohttp.http_exceptions" not in line]
+        self.assertEqual([], faults)
 
     def assert_status(self, reply: Reply, http_status: int, status_code: int) -> None:
         """Sees that a reply has this HTTP status and this status of OCPI."""

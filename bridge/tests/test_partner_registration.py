@@ -72,7 +72,7 @@ class Registration(BridgeCase):
     async def test_what_was_agreed_stands_after_a_restart(self) -> None:
         first = self.provider.bridge_token
         second = await self.register()
-        self.assertEqual(0, await self.bridge.stop())
+        await self.bridge.stop()
         await self.bridge.start()
         self.assertEqual((401, 200), (await self.reads_sessions(first), await self.reads_sessions(second)))
         await self.provider.ask("DELETE", self.url, token=second)

@@ -18,7 +18,7 @@ from ..node.feeder import NodeEnded, OutcomeLost
 from ..parties import party_key
 from ..state import State
 from .envelope import INVALID, SUCCESS, request_headers
-from .exchange import Exchange, NoResponse, Response
+from .exchange import Exchange, NoAddress, NoResponse, Response
 from .packets import ANSWER_OF, COMMANDS, HttpRequest, http_request, with_results_url
 from .partners import Partner, Partners
 from .requests import Requests, number_in_url
@@ -28,13 +28,6 @@ LONGEST_PAUSE = 60.0
 ONCE = ("start_session", "reserve_now", "stop_session")
 
 log = logging.getLogger(__name__)
-
-
-class NoAddress(NoResponse):
-    """A request has no address at its partner, so it was not sent."""
-
-    def __init__(self, message: str) -> None:
-        super().__init__(message, was_sent=False)
 
 
 class Queue:

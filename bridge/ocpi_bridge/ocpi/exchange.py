@@ -31,6 +31,13 @@ class NoResponse(Exception):
         self.status_code = status_code
 
 
+class NoAddress(NoResponse):
+    """A request has no address at its partner, so it was not sent."""
+
+    def __init__(self, message: str) -> None:
+        super().__init__(message, was_sent=False)
+
+
 @dataclass(frozen=True)
 class Response:
     """What came: the members of a body (none where it is no object), and where a list has its next page."""
@@ -91,9 +98,7 @@ class Exchange:
             await self._session.close()
 
     async def _ask(self, method: str, url: str, headers: Mapping[str, str], body: Members | None) -> Response:
-        address = URL(quote(url, safe=PLAIN), encoded=True)
-        if address.scheme not in ("http", "https") or not address.host:
-            raise NoResponse("no address of HTTP", was_sent=False)
+        address = _address(url)
         if self._session is None:
             # A connection is kept for a few seconds alone: one that the partner ends meanwhile would lose a request.
             self._session = aiohttp.ClientSession(
@@ -112,6 +117,17 @@ class Exchange:
                 # The token is for no other address.
                 raise NoResponse("the next page is at another address")
             return Response(response.status, response.headers, _members(bytes(pieces)), page)
+
+
+def _address(url: str) -> URL:
+    """A URL as it is asked. Raises NoAddress."""
+    try:
+        address = URL(quote(url, safe=PLAIN), encoded=True)
+    except ValueError:
+        raise NoAddress("no URL") from None
+    if address.scheme not in ("http", "https") or not address.host:
+        raise NoAddress("no address of HTTP")
+    return address
 
 
 def _members(text: bytes) -> Members:
