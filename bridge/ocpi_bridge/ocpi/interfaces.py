@@ -5,12 +5,12 @@ from urllib.parse import unquote
 
 from aiohttp import web
 
-from ..clock import Clock
+from ..clock import Clock, milliseconds_of
 from ..json_text import Members, read_json
 from ..parties import party_of, same_party
 from .delivery import Delivery
 from .envelope import INVALID, UNKNOWN_LOCATION, UNKNOWN_TOKEN, Refusal, answer
-from .lists import list_answer, part_of
+from .lists import Part, list_answer, part_of
 from .locations import Locations
 from .objects import OBJECTS, Objects
 from .packets import COMMANDS
@@ -51,7 +51,7 @@ class Interfaces:
                 ("POST", f"{receiver}/commands/{{name:{'|'.join(COMMAND_KINDS)}}}", self.post_command),
                 ("GET", f"{sender}/sessions", self.get_list), ("GET", f"{sender}/cdrs", self.get_list),
                 ("GET", f"{sender}/locations", self.get_locations),
-                ("GET", sender + "/locations/{identifiers:.*}", self.get_location)]
+                ("GET", sender + "/locations/{identifiers:[^/]*(/[^/]*){0,2}}", self.get_location)]
         return [web.route(method, path, handler) for method, path, handler in routes]
 
     async def post_command(self, request: web.Request) -> web.Response:
@@ -114,7 +114,7 @@ class Interfaces:
     async def get_locations(self, request: web.Request) -> web.Response:
         assert self._locations is not None
         part = part_of(request.query)
-        listed = [location for location in self._locations.all() if part.includes(location["last_updated"])]
+        listed = [location for location in self._locations.all() if _is_within(part, location["last_updated"])]
         return list_answer(self._clock.moment(), part, f"{self._url}/ocpi/2.2.1/sender/locations", len(listed),
                            listed[part.offset:part.offset + part.limit])
 
@@ -124,6 +124,11 @@ class Interfaces:
         if found is None:
             raise Refusal(404, UNKNOWN_LOCATION, "locations: not known")
         return answer(self._clock.moment(), found)
+
+
+def _is_within(part: Part, last_updated: str) -> bool:
+    moment = milliseconds_of(last_updated)
+    return (part.date_from is None or part.date_from <= moment) and (part.date_to is None or moment < part.date_to)
 
 
 def _module(request: web.Request) -> str:

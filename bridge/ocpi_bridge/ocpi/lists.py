@@ -1,4 +1,4 @@
-"""Lists of sender interfaces: which part of a list a request asks for, and the headers that lead to the next one."""
+"""Lists of sender interfaces: which part of a list a request asks for, and the response that leads to the next one."""
 from collections.abc import Mapping
 from dataclasses import dataclass
 from urllib.parse import urlencode
@@ -24,10 +24,14 @@ class Part:
     limit: int
     dates: Mapping[str, str]
 
-    def includes(self, last_updated: str) -> bool:
-        """Whether an object of this `last_updated` is in the list."""
-        moment = milliseconds_of(last_updated)
-        return (self.date_from is None or self.date_from <= moment) and (self.date_to is None or moment < self.date_to)
+
+def part_of(query: Mapping[str, str]) -> Part:
+    """The part that a query asks for. Raises Refusal (2001)."""
+    limit = _whole(query, "limit", MOST)
+    if limit == 0:
+        raise Refusal(200, INVALID, "limit: wanted is 1 or more")
+    return Part(_moment(query, "date_from"), _moment(query, "date_to"), _whole(query, "offset", 0), min(limit, MOST),
+                {name: query[name] for name in ("date_from", "date_to") if name in query})
 
 
 def list_answer(timestamp: str, part: Part, address: str, count: int, objects: list[Members]) -> web.Response:
@@ -40,26 +44,15 @@ def list_answer(timestamp: str, part: Part, address: str, count: int, objects: l
     return answer(timestamp, objects, headers=headers)
 
 
-def part_of(query: Mapping[str, str]) -> Part:
-    """The part that a query asks for. Raises Refusal (2001)."""
-    limit = _whole(query, "limit", MOST)
-    if limit == 0:
-        raise Refusal(200, INVALID, "limit: 1 or more")
-    return Part(_moment(query, "date_from"), _moment(query, "date_to"), _whole(query, "offset", 0), min(limit, MOST),
-                {name: query[name] for name in ("date_from", "date_to") if name in query})
-
-
 def _moment(query: Mapping[str, str], name: str) -> int | None:
     try:
         return milliseconds_of(query[name]) if name in query else None
     except (ValueError, OverflowError):
-        raise Refusal(200, INVALID, f"{name}: a moment, as 2025-01-01T10:00:00Z") from None
+        raise Refusal(200, INVALID, f"{name}: wanted is a moment, as 2025-01-01T10:00:00Z") from None
 
 
 def _whole(query: Mapping[str, str], name: str, otherwise: int) -> int:
-    text = query.get(name)
-    if text is None:
-        return otherwise
+    text = query.get(name, str(otherwise))
     if not (text.isascii() and text.isdecimal() and len(text) <= MOST_DIGITS):
-        raise Refusal(200, INVALID, f"{name}: a whole number of at most {MOST_DIGITS} digits")
+        raise Refusal(200, INVALID, f"{name}: wanted is a whole number of at most {MOST_DIGITS} digits")
     return int(text)

@@ -5,10 +5,7 @@ from ..clock import Clock, milliseconds_of
 from ..json_text import Members, write_json
 from ..parties import codes
 from ..state import State
-from .claims import RESERVATION
 from .objects import Objects
-
-OWN_MEMBERS = ("latitude", "longitude", "evses")
 
 
 class Locations:
@@ -30,20 +27,22 @@ class Locations:
 
     def find(self, *identifiers: str) -> Members | None:
         """A location, or an EVSE of one, or a connector of that, by their ids."""
-        for location in self._site["locations"]:
-            if location["id"].upper() == identifiers[0].upper():
-                with self._state.transaction():
-                    return _part(self._location(location), identifiers[1:])
-        return None
+        part: Members = {"locations": self.all()}
+        for members, own, identifier in zip(("locations", "evses", "connectors"), ("id", "uid", "id"), identifiers):
+            found = [one for one in part[members] if one[own].upper() == identifier.upper()]
+            if not found:
+                return None
+            part = found[0]
+        return part
 
     def _location(self, setup: Members) -> Members:
+        """A location: members that no node reads are as they stand in the setup."""
         country, identifier = codes(self._party)
-        location = {
-            "country_code": country, "party_id": identifier, "publish": True, "time_zone": "UTC",
-            **{name: value for name, value in setup.items() if name not in OWN_MEMBERS},
-            "coordinates": {"latitude": setup["latitude"], "longitude": setup["longitude"]}}
+        location: Members = {
+            "country_code": country, "party_id": identifier, "publish": True, "time_zone": "UTC", **setup}
+        evses = [self._evse(setup["id"], evse) for evse in location.pop("evses")]
+        location["coordinates"] = {name: location.pop(name) for name in ("latitude", "longitude")}
         since = self._since(setup["id"], location)
-        evses = [self._evse(setup["id"], evse) for evse in setup["evses"]]
         return {**location, "evses": evses, "last_updated": max([since, *(evse["last_updated"] for evse in evses)])}
 
     def _evse(self, location_id: str, setup: Members) -> Members:
@@ -54,34 +53,16 @@ class Locations:
         return {**evse, "connectors": connectors, "last_updated": since}
 
     def _status(self, evse_uid: str) -> str:
-        unusable = self._evse_status(evse_uid)
+        unusable, session = self._evse_status(evse_uid), self._objects.living_session(evse_uid)
         if unusable is not None:
             return unusable
-        session = self._objects.living_session(evse_uid)
         if session is not None:
             return "CHARGING" if session["status"] == "ACTIVE" else "BLOCKED"
-        claim = self._objects.claims.of(evse_uid, milliseconds_of(self._clock.moment()))
-        if claim is None:
-            return "AVAILABLE"
-        return "RESERVED" if claim == RESERVATION else "BLOCKED"
+        return self._objects.claims.status(evse_uid, milliseconds_of(self._clock.moment())) or "AVAILABLE"
 
     def _since(self, name: str, place: Members) -> str:
         """The moment at which a place was first seen as it is now."""
-        text = write_json(place)
-        rows = self._state.query("SELECT text, since FROM place WHERE name = ?", name)
-        if rows and rows[0][0] == text:
-            return str(rows[0][1])
-        moment = self._clock.moment()
-        self._state.query("INSERT OR REPLACE INTO place VALUES (?, ?, ?)", name, text, moment)
-        return moment
-
-
-def _part(location: Members, identifiers: tuple[str, ...]) -> Members | None:
-    """What a location, or an EVSE of it, has by ids: the first is an EVSE's, the second a connector's."""
-    part = location
-    for members, own, identifier in zip(("evses", "connectors"), ("uid", "id"), identifiers):
-        found = [one for one in part[members] if one[own].upper() == identifier.upper()]
-        if not found:
-            return None
-        part = found[0]
-    return part
+        text, moment = write_json(place), self._clock.moment()
+        self._state.query("INSERT INTO place VALUES (?, ?, ?) ON CONFLICT DO UPDATE SET text = excluded.text,"
+                          " since = excluded.since WHERE text <> excluded.text", name, text, moment)
+        return str(self._state.query("SELECT since FROM place WHERE name = ?", name)[0][0])
