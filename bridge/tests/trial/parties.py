@@ -29,6 +29,11 @@ def places_of(party: str) -> list[Place]:
     return [Place(party, f"{party[3:]}-CP{number}", f"{party[3:]}-E{number}") for number in (1, 2, 3)]
 
 
+def partners_of(party: str) -> tuple[str, ...]:
+    """Whom a party deals with."""
+    return PROVIDERS if party in OPERATORS else OPERATORS
+
+
 PLACES = tuple(place for party in OPERATORS for place in places_of(party))
 
 
@@ -41,8 +46,7 @@ class Secrets:
 
     @staticmethod
     def drawn(chance: Random) -> "Secrets":
-        tokens = {(one, other): f"{chance.getrandbits(160):040x}"
-                  for one in PARTIES for other in PARTIES if one != other}
+        tokens = {(one, other): f"{chance.getrandbits(160):040x}" for one in PARTIES for other in partners_of(one)}
         return Secrets(tokens, {place.charge_point: f"{chance.getrandbits(80):020x}" for place in PLACES})
 
     def spellings(self) -> list[str]:
@@ -66,7 +70,7 @@ def bridges(folder: Path, urls: dict[str, str], secrets: Secrets) -> dict[str, R
 
 def _bridge(folder: Path, party: str, urls: dict[str, str], secrets: Secrets) -> RunningBridge:
     partners = [partner(other, "node", secrets.tokens[other, party], secrets.tokens[party, other],
-                        urls[other] + "/ocpi/versions") for other in PARTIES if other != party]
+                        urls[other] + "/ocpi/versions") for other in partners_of(party)]
     charge_points = [charge_point(place.charge_point, [place.evse_uid], secrets.passwords[place.charge_point])
                      for place in places_of(party)] if party in OPERATORS else None
     return RunningBridge(folder / party.replace("/", "_"), setup(), party, partners, charge_points, CLOCK_FACTOR,
