@@ -117,6 +117,9 @@ class Feeder:
         ticks = asyncio.create_task(self._tick_each_second())
         try:
             return await self._run_again_and_again(transcript)
+        except SetupRefused as refused:
+            LOG.error("the node refuses its setup: %s", refused)
+            return 2
         finally:
             ticks.cancel()
             self._has_ended = True
@@ -195,7 +198,7 @@ class Feeder:
         await child.write(self._settings.setup_line)
         opened = await child.read()
         if opened["done"] != "opened":
-            raise SetupRefused(f"the node refused its setup: {opened.get('name')} {opened.get('field', '')}")
+            raise SetupRefused(write_json(opened))
         self._judge_kept_line(opened["serial"])
         if self._line is not None:
             await self._carry_out(child, self._line)

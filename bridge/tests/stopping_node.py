@@ -1,0 +1,59 @@
+"""Stands between a bridge and the real program, and stops both at a point that a file beside the store names.
+
+The file `STORE.stop` has a number, a point and what stops. The number counts the events that are fed, without ticks.
+The points: `before` the program has the line, `silent` once it has answered and nobody has seen that, `begun` where
+only the first line that it gives is seen, `cut` within its `done`, and `after` all of it. What stops is the `node`, or
+the `bridge`: then nothing more is answered, until the input ends.
+"""
+import os
+import signal
+import subprocess
+import sys
+from pathlib import Path
+
+
+def main() -> None:
+    """Hands lines on, one at a time, as a bridge feeds them."""
+    words = sys.argv[1:]
+    program = os.environ["OCPI_NODES"]
+    if words[0] == "help":
+        os.execv(program, [program, *words])
+    plan = Path(words[words.index("--store") + 1] + ".stop")
+    node = subprocess.Popen([program, *words], stdin=subprocess.PIPE, stdout=subprocess.PIPE)
+    assert node.stdin is not None and node.stdout is not None
+    count = 0
+    for line in sys.stdin.buffer:
+        is_event = line.startswith(b"{") and not line.startswith((b'{"nodes"', b'{"event":"tick"'))
+        count += is_event
+        number, point, stops = plan.read_text().split() if plan.exists() else ("0", "", "")
+        is_now = is_event and count == int(number)
+        if is_now:
+            plan.unlink()
+        if is_now and point == "before":
+            stop(node, stops)
+        node.stdin.write(line)
+        node.stdin.flush()
+        given = [node.stdout.readline()]
+        while given[-1] and not given[-1].startswith(b'{"done"'):
+            given.append(node.stdout.readline())
+        if is_now and point != "after":
+            given = {"silent": [], "begun": given[:1], "cut": [*given[:-1], given[-1][:9]]}[point]
+        sys.stdout.buffer.write(b"".join(given))
+        sys.stdout.buffer.flush()
+        if is_now:
+            stop(node, stops)
+    node.stdin.close()
+    sys.exit(node.wait())
+
+
+def stop(node: "subprocess.Popen[bytes]", stops: str) -> None:
+    """Kills the program and this process; where the bridge is to be stopped, only when the input ends."""
+    if stops == "bridge":
+        sys.stdin.buffer.read()
+    node.kill()
+    node.wait()
+    os.kill(os.getpid(), signal.SIGKILL)
+
+
+if __name__ == "__main__":
+    main()
