@@ -16,9 +16,10 @@ import aiohttp
 from .json_text import Members, write_json
 from .ocpp.frames import CALL, RESULT, Call, CallError, read_frame
 
-# In seconds: between readings that it makes by itself, and before it connects again. What each adds is in Wh.
+# In seconds: between readings that it makes by itself, and before it connects again. In Wh: what each adds, and with
+# how much a car is full.
 METER_EACH, RECONNECT_AFTER = 1.0, 0.5
-STEP = "250"
+STEP, FULL = 1000, 12_000
 
 
 class ChargePoint:
@@ -29,7 +30,7 @@ class ChargePoint:
         self.is_plugged_in = self.is_running = False
         self.token: str | None = None
         self.transaction: int | None = None
-        self.register = 0
+        self.register = self.full = 0
         self.calls: deque[tuple[str, str, Members]] = deque()
         self.has_calls = asyncio.Event()
         self.call("BootNotification", chargePointVendor="Trial", chargePointModel="One")
@@ -72,7 +73,7 @@ class ChargePoint:
                 self.do("stop", "Other")
                 self.set_status("Faulted")
         if self.is_plugged_in and self.token is not None and not self.is_running:
-            self.is_running = True
+            self.is_running, self.full = True, self.register + FULL
             self.call("StartTransaction", connectorId=1, idTag=self.token, meterStart=self.register, timestamp=now())
 
     def take(self, action: str, payload: Members, answer: Members) -> None:
@@ -149,8 +150,8 @@ async def read_input(charge_point: ChargePoint) -> None:
 async def meter_by_itself(charge_point: ChargePoint) -> None:
     while True:
         await asyncio.sleep(METER_EACH)
-        if charge_point.transaction is not None:
-            charge_point.do("meter", STEP)
+        if charge_point.transaction is not None and charge_point.register < charge_point.full:
+            charge_point.do("meter", str(STEP))
 
 
 async def run(url: str, name: str, password: str, is_automatic: bool) -> None:
