@@ -27,8 +27,8 @@ RUN = REPOSITORY / "bridge" / "run"
 LISTENING = re.compile(r"\b(ocpi|ocpp|admin): listening on (127\.0\.0\.1:\d+)")
 
 # The seconds within which a bridge has to listen, and to end. They are long, since tests run side by side.
-STARTS_WITHIN = 30.0
-ENDS_WITHIN = 20.0
+STARTS_WITHIN = 60.0
+ENDS_WITHIN = 30.0
 
 
 def free_port() -> int:

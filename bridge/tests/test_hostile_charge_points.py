@@ -29,7 +29,7 @@ class Floods(FramesCase):
         try:
             await self.charge_point.send(large)
             await asyncio.wait(ends, return_when=asyncio.FIRST_COMPLETED)
-        except ConnectionError:
+        except (ConnectionError, aiohttp.ClientError):
             pass
         for end in ends:
             end.cancel()
