@@ -5,6 +5,7 @@ is refused, and so is what comes under another name than this machine's own.
 """
 import asyncio
 from collections.abc import Awaitable, Callable
+from functools import partial
 from pathlib import Path
 from urllib.parse import urlsplit
 
@@ -26,9 +27,8 @@ from .view import view
 
 Handler = Callable[[web.Request], Awaitable[web.StreamResponse]]
 
-PAGE = Path(__file__).parent / "page"
-FILES = {"": ("page.html", "text/html"), "page.js": ("page.js", "text/javascript"),
-         "page.css": ("page.css", "text/css")}
+PAGE = {"/": ("page.html", "text/html"), "/page.js": ("page.js", "text/javascript"),
+        "/page.css": ("page.css", "text/css")}
 HEADERS = {"Cache-Control": "no-store", "X-Content-Type-Options": "nosniff",
            "Content-Security-Policy": "default-src 'none'; script-src 'self'; style-src 'self'; connect-src 'self'; "
                                       "img-src data:; base-uri 'none'; form-action 'none'; frame-ancestors 'none'"}
@@ -36,15 +36,6 @@ LOOPBACK = ("127.0.0.1", "localhost", "::1")
 # Seconds within which a tick must have been answered, and seconds between two looks at what a page shows.
 HEALTHY_WITHIN = 5.0
 LOOK_EVERY = 0.5
-
-
-class _Refused(Exception):
-    """A request that is refused: the HTTP status, why, in words, and what the node said, where it said something."""
-
-    def __init__(self, status: int, words: str, said: Members | None = None) -> None:
-        super().__init__(words)
-        self.status = status
-        self.said = said or {}
 
 
 class Admin:
@@ -57,89 +48,84 @@ class Admin:
         self._configuration = configuration
         self._events = events
         self._feeder = feeder
-        self._objects = objects
         self._metrics = metrics
-        self._locations = locations
         self._central_system = central_system
-        self._ends = asyncio.Event()
-        self._outstanding = outstanding = Outstanding(state)
+        self._end: asyncio.Future[None] = asyncio.get_running_loop().create_future()
+        outstanding = Outstanding(state)
         feeder.before_commit(outstanding.note)
         metrics.gauge("ocpi_unacknowledged_pushes", outstanding.pushes)
         metrics.gauge("ocpi_open_commands",
                       lambda: len(central_system.commands()) if central_system else outstanding.open_commands())
         metrics.gauge("ocpi_charge_points_connected", lambda: central_system.connected_count() if central_system else 0)
+        self._view = partial(view, configuration, objects, outstanding, locations)
         self._lists: dict[str, Callable[[], list[Members]]] = {
-            "sessions": lambda: objects.all("sessions"), "cdrs": lambda: objects.all("cdrs"),
-            "tokens": lambda: objects.all("tokens"),
-            "commands": lambda: central_system.commands() if central_system else outstanding.commands(),
-            "charge_points": lambda: central_system.charge_points() if central_system else [],
-            "partners": lambda: [{"party": partner.party, "kind": partner.kind, "registered": partner.is_registered,
-                                  "versions_url": partner.versions_url} for partner in partners.all()]}
+            "/sessions": partial(objects.all, "sessions"), "/cdrs": partial(objects.all, "cdrs"),
+            "/tokens": partial(objects.all, "tokens"),
+            "/commands": lambda: central_system.commands() if central_system else outstanding.commands(),
+            "/charge_points": lambda: central_system.charge_points() if central_system else [],
+            "/partners": lambda: [{"party": partner.party, "kind": partner.kind, "registered": partner.is_registered,
+                                   "versions_url": partner.versions_url} for partner in partners.all()]}
 
     def application(self) -> web.Application:
         application = web.Application(middlewares=[_guard], client_max_size=1 << 20)
         application.on_shutdown.append(self._end_streams)
         application.add_routes([
-            web.post("/orders", self._feeding("submit", False)), web.post("/tokens", self._feeding("token", False)),
-            web.post("/credits", self._feeding("credit", True)), web.post("/service", self._service),
+            web.post("/orders", partial(self._feed, "submit", False)),
+            web.post("/tokens", partial(self._feed, "token", False)),
+            web.post("/credits", partial(self._feed, "credit", True)), web.post("/service", self._service),
             web.post("/backup", self._backup), web.get("/metrics", self._metrics_text),
-            web.get("/health", self._health), web.get("/events", self._stream)])
-        for name, read in self._lists.items():
-            application.router.add_get(f"/{name}", _list(read))
-        for name, (file, kind) in FILES.items():
-            application.router.add_get(f"/{name}", _file((PAGE / file).read_text(), kind))
+            web.get("/health", self._health), web.get("/events", self._stream),
+            *(web.get(path, partial(self._list, path)) for path in self._lists),
+            *(web.get(path, _page) for path in PAGE)])
         return application
 
-    def _want_role(self, is_operator: bool) -> None:
-        if self._configuration.is_operator != is_operator:
-            roles = ("an operator", "a provider") if is_operator else ("a provider", "an operator")
-            raise _Refused(409, f"only {roles[0]} does this, and this node is {roles[1]}")
+    async def _list(self, path: str, _: web.Request) -> web.Response:
+        return _answer(self._lists[path]())
 
-    def _feeding(self, event: str, is_operator: bool) -> Handler:
+    async def _feed(self, event: str, is_operators: bool, request: web.Request) -> web.Response:
         """Feeds the body of a request as an event of a role, and answers what came of it."""
-        async def handler(request: web.Request) -> web.Response:
-            body = await _body(request)
-            self._want_role(is_operator)
-            members = {"token": body} if event == "token" else body
-            return _answer(await self._fed({**members, **self._events.make(event)}))
-        return handler
+        body = await self._body(request, is_operators)
+        members = {"token": body} if event == "token" else body
+        return _answer(*await self._fed({**members, **self._events.make(event)}))
 
-    async def _fed(self, event: Members) -> Members:
-        """What the node made of an event. Raises _Refused where it did not carry it out."""
+    async def _fed(self, event: Members) -> tuple[Members, int]:
+        """What the node made of an event, and the HTTP status: where it was not carried out, it is a refusal's."""
         try:
             outcome = await self._feeder.feed(event)
         except OutcomeLost:
-            raise _Refused(504, "carried out, but a stop of the node lost what came of it: see the lists") from None
+            raise web.HTTPGatewayTimeout(
+                text="carried out, but a stop of the node lost what came of it: see the lists") from None
         except NodeEnded:
-            raise _Refused(503, "the bridge is ending") from None
+            raise web.HTTPServiceUnavailable(text="the bridge is ending") from None
         except NotJson as fault:
-            raise _Refused(400, f"the body is no JSON that a node reads: {fault}") from None
+            raise web.HTTPBadRequest(text=f"the body is no JSON that a node reads: {fault}") from None
         told: Members = {"done": outcome.done, "packets": [packet.members() for packet in outcome.packets]}
-        if outcome.word not in ("stepped", "idle"):
-            words = " ".join(str(outcome.done[name]) for name in ("done", "name", "field") if name in outcome.done)
-            raise _Refused(400 if outcome.word == "malformed" else 409, f"the node does not do it: {words}", told)
-        return told
+        if outcome.word in ("stepped", "idle"):
+            return told, 200
+        words = " ".join(str(outcome.done[name]) for name in ("done", "name", "field") if name in outcome.done)
+        return {"error": f"the node does not do it: {words}", **told}, 400 if outcome.word == "malformed" else 409
 
     async def _service(self, request: web.Request) -> web.Response:
         """Tells the node first, so that nothing new is let charge there while the charge point is asked."""
-        body = await _body(request)
-        self._want_role(is_operator=True)
+        body = await self._body(request, is_operators=True)
         evse_uid, in_service = body.get("evse_uid"), body.get("in_service")
         if not isinstance(evse_uid, str) or not isinstance(in_service, bool):
-            raise _Refused(400, "wanted: evse_uid, a text, and in_service, true or false")
-        told = await self._fed(self._events.service(evse_uid, in_service))
-        if self._central_system:
+            raise web.HTTPBadRequest(text="wanted: evse_uid, a text, and in_service, true or false")
+        told, status = await self._fed(self._events.service(evse_uid, in_service))
+        if self._central_system and status == 200:
             told["charge_point"] = await self._central_system.change_availability(evse_uid, in_service)
-        return _answer(told)
+        return _answer(told, status)
 
     async def _backup(self, request: web.Request) -> web.Response:
-        to = (await _body(request)).get("to")
+        to = (await self._body(request)).get("to")
         if not isinstance(to, str) or "\0" in to or not Path(to).is_absolute():
-            raise _Refused(400, "to: wanted is the absolute path of a file that is not there yet")
+            raise web.HTTPBadRequest(text="to: wanted is the absolute path of a file that is not there yet")
         try:
             return _answer(await back_up(self._feeder, self._configuration.node.store, Path(to)))
+        except NodeEnded:
+            raise web.HTTPServiceUnavailable(text="the bridge is ending") from None
         except OSError as fault:
-            raise _Refused(409, f"to: no copy was made: {fault.strerror}") from None
+            raise web.HTTPConflict(text=f"to: no copy was made: {fault.strerror}") from None
 
     async def _metrics_text(self, _: web.Request) -> web.Response:
         return web.Response(text=self._metrics.text(), headers={"Content-Type": "text/plain; version=0.0.4"})
@@ -153,55 +139,48 @@ class Admin:
         response = web.StreamResponse(headers={**HEADERS, "Content-Type": "text/event-stream"})
         await response.prepare(request)
         shown = ""
-        while not self._ends.is_set():
-            text = write_json(view(self._configuration, self._objects, self._outstanding, self._locations))
+        while not self._end.done():
+            text = write_json(self._view())
             await response.write(f"data: {text}\n\n".encode() if text != shown else b":\n\n")
             shown = text
-            await asyncio.wait({asyncio.ensure_future(self._ends.wait())}, timeout=LOOK_EVERY)
+            await asyncio.wait({self._end}, timeout=LOOK_EVERY)
         return response
 
     async def _end_streams(self, _: web.Application) -> None:
-        self._ends.set()
+        self._end.set_result(None)
+
+    async def _body(self, request: web.Request, is_operators: bool | None = None) -> Members:
+        """The JSON object that a request carries, where the node has the role that the request wants."""
+        if request.content_type != "application/json":
+            raise web.HTTPUnsupportedMediaType(text="Content-Type: wanted is application/json")
+        try:
+            body = read_json(await request.read())
+        except (NotJson, NumberTooLarge) as fault:
+            raise web.HTTPBadRequest(text=f"the body is no JSON: {fault}") from None
+        if not isinstance(body, dict):
+            raise web.HTTPBadRequest(text="the body is no JSON object")
+        if is_operators not in (None, self._configuration.is_operator):
+            raise web.HTTPConflict(text=f"only {'an operator' if is_operators else 'a provider'} does this")
+        return body
 
 
 def _answer(value: object, status: int = 200) -> web.Response:
     return web.Response(text=write_json(value), status=status, content_type="application/json", headers=HEADERS)
 
 
-def _list(read: Callable[[], list[Members]]) -> Handler:
-    async def handler(_: web.Request) -> web.Response:
-        return _answer(read())
-    return handler
-
-
-def _file(text: str, kind: str) -> Handler:
-    async def handler(_: web.Request) -> web.Response:
-        return web.Response(text=text, content_type=kind, headers=HEADERS)
-    return handler
-
-
-async def _body(request: web.Request) -> Members:
-    """The JSON object that a request carries."""
-    if request.content_type != "application/json":
-        raise _Refused(415, "Content-Type: wanted is application/json")
-    try:
-        body = read_json(await request.read())
-    except (NotJson, NumberTooLarge) as fault:
-        raise _Refused(400, f"the body is no JSON: {fault}") from None
-    if not isinstance(body, dict):
-        raise _Refused(400, "the body is no JSON object")
-    return body
+async def _page(request: web.Request) -> web.Response:
+    name, content_type = PAGE[request.path]
+    return web.Response(text=(Path(__file__).parent / "page" / name).read_text(), content_type=content_type,
+                        headers=HEADERS)
 
 
 @web.middleware
 async def _guard(request: web.Request, handler: Handler) -> web.StreamResponse:
     """Lets through what comes from this machine under its own name, and gives each refusal as JSON."""
+    here = f"http://{request.host}"
     try:
-        here = f"http://{request.host}"
         if urlsplit(here).hostname not in LOOPBACK or request.headers.get("Origin", here) != here:
-            raise _Refused(403, "Host and Origin: wanted is the very address on which the bridge listens")
+            raise web.HTTPForbidden(text="Host and Origin: wanted is the very address on which the bridge listens")
         return await handler(request)
-    except _Refused as refusal:
-        return _answer({"error": str(refusal), **refusal.said}, refusal.status)
     except web.HTTPException as refusal:
-        return _answer({"error": refusal.reason}, refusal.status)
+        return _answer({"error": refusal.text}, refusal.status)
