@@ -28,6 +28,7 @@ class Transaction:
     status: str = ""
     number: int = 0
     is_reported: bool = False
+    is_claimed: bool = False
     asked_to_end: asyncio.Event = field(default_factory=asyncio.Event)
     reason: str = "Local"
 
@@ -67,12 +68,16 @@ class ChargePoint:
             for task in self._tasks:
                 task.cancel()
 
-    async def let_charge(self, id_tag: str, seconds: float) -> Transaction | None:
-        """The transaction of a token that was let charge, or None where there is none within that time."""
+    async def claim(self, id_tag: str, ends: str, seconds: float) -> Transaction | None:
+        """A transaction of a token that was let charge, ends so and was not claimed yet, or None where none begins."""
         def find() -> Transaction | None:
-            return next((one for one in self.transactions if one.id_tag == id_tag and one.was_let_charge), None)
+            return next((one for one in self.transactions if one.id_tag == id_tag and one.was_let_charge
+                         and one.ends == ends and not one.is_claimed), None)
         await self.until(lambda: find() is not None, seconds)
-        return find()
+        claimed = find()
+        if claimed is not None:
+            claimed.is_claimed = True
+        return claimed
 
     async def until(self, holds: Callable[[], bool], seconds: float) -> bool:
         """Waits until something holds of this charge point, for at most so many seconds."""
@@ -202,7 +207,7 @@ class ChargePoint:
             self.faults.append(f"{self.identifier}: asked to start {payload['idTag']} while {running.id_tag} charges")
         if payload.get("connectorId", CONNECTOR) != CONNECTOR:
             self.faults.append(f"{self.identifier}: asked to start at connector {payload['connectorId']}")
-        if running is not None or self._is_swiped or happens(self._chance, 0.1):
+        if running is not None or self._is_swiped or happens(self._chance, 0.05):
             return "Rejected"
         self.accepted_starts.append(payload["idTag"])
         self._begin(payload["idTag"])

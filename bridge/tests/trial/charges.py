@@ -13,7 +13,7 @@ SWIPED = ("ALWAYS", "ALLOWED", "ALWAYS", "NEVER", "ALLOWED_OFFLINE")
 
 @dataclass(frozen=True)
 class Charge:
-    """One charge. Each has a token of its own, so that what is started by it can be told from all else.
+    """One charge. Its token is used at its place alone, and by no other charge where it is swiped.
 
     `begins` is `ordered`, `reserved` (and then ordered), or `swiped`. `ends` is the reason that the charge point gives
     in the end: `Local`, `Remote` (the provider stops it) or `UnlockCommand`.
@@ -29,7 +29,9 @@ class Charge:
 
     @property
     def token_uid(self) -> str:
-        return f"{self.provider[3:]}-TAG-{self.number:02}"
+        """At most 20 characters, as `idTag` has."""
+        tail = f"SWIPED-{self.number:02}" if self.begins == "swiped" else self.place.charge_point
+        return f"{self.provider[3:]}-{tail}"
 
 
 def drawn(chance: Random) -> list[Charge]:

@@ -16,7 +16,8 @@ from .chance import happens
 from .parties import CONNECTOR, LOCATION, Secrets
 
 # In seconds of the machine. A command lasts 1.5 of them, and a question about a token half a second.
-A_START_TAKES = 3.0
+A_START_TAKES = 4.0
+A_SWIPE_TAKES = 1.0
 A_RESERVATION_TAKES = 3.0
 AN_END_TAKES = 2.5
 A_REPORT_TAKES = 20.0
@@ -40,6 +41,7 @@ class Drivers:
         self._chance = chance
         self.done: list[tuple[Charge, Transaction]] = []
         self.credited: list[str] = []
+        self._tokens: set[str] = set()
 
     async def carry_out(self, charges: list[Charge]) -> None:
         """Carries out the charges of one place, one after another. Raises NotCarriedOut."""
@@ -52,7 +54,9 @@ class Drivers:
     async def _carry_out(self, charge: Charge) -> None:
         charge_point = self._charge_points[charge.place.charge_point]
         charge_point.ends[charge.token_uid] = charge.ends
-        await self._insist(charge.provider, "/tokens", self._token(charge))
+        if charge.token_uid not in self._tokens:
+            self._tokens.add(charge.token_uid)
+            await self._insist(charge.provider, "/tokens", self._token(charge))
         if charge.begins == "reserved":
             await self._reserve(charge)
         transaction = await self._begin(charge, charge_point)
@@ -60,7 +64,7 @@ class Drivers:
             await self._end(charge, charge_point, transaction)
         await charge_point.until(lambda: transaction.is_reported, A_REPORT_TAKES)
         if charge.is_credited:
-            await self._credit(charge)
+            await self._credit(charge, transaction)
         self.done.append((charge, transaction))
 
     def _token(self, charge: Charge) -> Members:
@@ -73,9 +77,10 @@ class Drivers:
         while True:
             if charge.begins == "swiped":
                 await charge_point.swipe(charge.token_uid, happens(self._chance, 0.5))
+                transaction = await charge_point.claim(charge.token_uid, charge.ends, A_SWIPE_TAKES)
             else:
                 await self._order(charge, "start_session", **self._token_and_place(charge), connector_id=CONNECTOR)
-            transaction = await charge_point.let_charge(charge.token_uid, A_START_TAKES)
+                transaction = await charge_point.claim(charge.token_uid, charge.ends, A_START_TAKES)
             if transaction is not None:
                 return transaction
 
@@ -95,29 +100,29 @@ class Drivers:
     async def _end(self, charge: Charge, charge_point: ChargePoint, transaction: Transaction) -> None:
         """Has the provider stop the session or unlock its connector, until the charge point was asked to."""
         while not transaction.asked_to_end.is_set() and not transaction.is_reported:
+            living = [session["id"] for session in await self._sessions(charge, charge.provider)
+                      if session["status"] in ("PENDING", "ACTIVE")]
             if charge.ends == "UnlockCommand":
                 await self._order(charge, "unlock_connector", location_id=LOCATION, evse_uid=charge.place.evse_uid,
                                   connector_id=CONNECTOR)
-            else:
-                session = await self._session(charge, charge.provider)
-                if session is not None:
-                    await self._order(charge, "stop_session", session_id=session["id"])
+            elif living:
+                await self._order(charge, "stop_session", session_id=living[0])
             await charge_point.until(transaction.asked_to_end.is_set, AN_END_TAKES)
 
-    async def _credit(self, charge: Charge) -> None:
+    async def _credit(self, charge: Charge, transaction: Transaction) -> None:
         """Takes the bill of a charge back, at its operator."""
-        identifier = await self._completed_session(charge)
+        identifier = await self._completed_session(charge, transaction)
         answer = await self._insist(charge.place.operator, "/credits", {"session_id": identifier})
         if answer["done"]["done"] not in ("stepped", "idle"):
             raise NotCarriedOut(f"credit of {identifier}: {answer}")
         self.credited.append(identifier)
 
-    async def _completed_session(self, charge: Charge) -> str:
-        """The id of the session of a charge, once it is completed at its operator."""
+    async def _completed_session(self, charge: Charge, transaction: Transaction) -> str:
+        """The id of the session of a transaction, once it is completed at its operator."""
         while True:
-            session = await self._session(charge, charge.place.operator)
-            if session is not None and session["status"] == "COMPLETED":
-                return str(session["id"])
+            for session in await self._sessions(charge, charge.place.operator):
+                if session["status"] == "COMPLETED" and round(session["kwh"] * 1000) == transaction.energy:
+                    return str(session["id"])
             await asyncio.sleep(0.2)
 
     def _token_and_place(self, charge: Charge) -> dict[str, str]:
@@ -128,19 +133,16 @@ class Drivers:
         """Gives an order once. Where the bridge does not answer, nobody knows whether it was given."""
         await self._post(charge.provider, "/orders", {"operator": charge.place.operator, "order": order, **members})
 
-    async def _session(self, charge: Charge, party: str) -> Members | None:
-        """The last session by the token of a charge, as a bridge tells it."""
-        sessions: list[Members] = await self._get(self._bridges[party].admin_url + "/sessions", {}) or []
-        found = [session for session in sessions if session["cdr_token"]["uid"] == charge.token_uid]
-        return sorted(found, key=lambda session: str(session["id"]))[-1] if found else None
+    async def _sessions(self, charge: Charge, party: str) -> list[Members]:
+        """The sessions by the token of a charge, as a bridge tells them."""
+        sessions: list[Members] = await self._get("admin", party, "/sessions") or []
+        return [session for session in sessions if session["cdr_token"]["uid"] == charge.token_uid]
 
     async def _evse_status(self, charge: Charge) -> tuple[str, str]:
         """The moment by the operator's clock, and the status of the EVSE of a charge, as its locations tell both."""
-        operator = self._bridges[charge.place.operator]
         token = b64encode(self._secrets.tokens[charge.provider, charge.place.operator].encode()).decode()
-        url = operator.ocpi_url + "/ocpi/2.2.1/sender/locations"
         while True:
-            answer = await self._get(url, {"Authorization": f"Token {token}"})
+            answer = await self._get("ocpi", charge.place.operator, "/ocpi/2.2.1/sender/locations", f"Token {token}")
             if answer is not None:
                 return str(answer["timestamp"]), next(
                     str(evse["status"]) for location in answer["data"] for evse in location["evses"]
@@ -167,9 +169,12 @@ class Drivers:
             raise NotCarriedOut(f"{party} POST {path} {body}: {answer}")
         return dict(answer["answer"])
 
-    async def _get(self, url: str, headers: Mapping[str, str]) -> Any:
+    async def _get(self, listener: str, party: str, path: str, authorization: str = "") -> Any:
+        """The JSON at a path of a bridge, or None where the bridge was killed, or is not open."""
+        headers = {"Authorization": authorization} if authorization else {}
         try:
+            url = f"http://{self._bridges[party].addresses[listener]}{path}"
             async with aiohttp.ClientSession() as session, session.get(url, headers=headers) as response:
                 return await response.json() if response.status == 200 else None
-        except (aiohttp.ClientError, OSError, asyncio.TimeoutError, ValueError):
+        except (aiohttp.ClientError, OSError, asyncio.TimeoutError, KeyError, ValueError):
             return None

@@ -12,10 +12,12 @@ from .chance import happens
 # Headers of one connection, which are not passed on.
 OF_A_CONNECTION = ("host", "connection", "keep-alive", "content-length", "transfer-encoding")
 # In seconds of the machine. A bridge of a trial awaits a response for half a second.
-LONGEST_DELAY = 0.9
-LONGEST_DELAY_OF_A_RESPONSE = 0.6
+LONGEST_DELAY = 0.4
+LONGEST_DELAY_OF_A_RESPONSE = 0.3
 LONGEST_DELAY_OF_A_REPEAT = 1.5
 SILENCE = 2.0
+# How often the sender of what is lost is told so, by the end of its connection. Else it waits.
+TOLD = 0.85
 
 
 @dataclass
@@ -47,7 +49,7 @@ class Fate:
             copies.append(chance.uniform(0.0, LONGEST_DELAY_OF_A_REPEAT))
         response_delay = chance.uniform(0.02, LONGEST_DELAY_OF_A_RESPONSE) if happens(chance) else 0.0
         return Fate(() if happens(chance) else tuple(copies), happens(chance, 0.5), happens(chance), response_delay,
-                    happens(chance, 0.7))
+                    happens(chance, TOLD))
 
 
 @dataclass(frozen=True)
