@@ -86,8 +86,7 @@ class ServerCase(unittest.IsolatedAsyncioTestCase):
         opened = asyncio.Event()
         self.feeder.after_opening(opened.set)
         running = asyncio.create_task(self.feeder.run())
-        self.addAsyncCleanup(asyncio.wait_for, running, WITHIN)
-        self.addAsyncCleanup(self.feeder.stop)
+        self.addAsyncCleanup(self._stop, running)
         await asyncio.wait_for(opened.wait(), WITHIN)
         exchange = Exchange(self.clock, self.metrics)
         self.addAsyncCleanup(exchange.close)
@@ -107,12 +106,16 @@ class ServerCase(unittest.IsolatedAsyncioTestCase):
         self.session = aiohttp.ClientSession(timeout=aiohttp.ClientTimeout(total=WITHIN))
         self.addAsyncCleanup(self.session.close)
 
+    async def _stop(self, running: "asyncio.Task[int]") -> None:
+        await self.feeder.stop()
+        await asyncio.wait_for(running, WITHIN)
+
     async def feed(self, event: Members) -> Outcome:
         return await self.feeding(event)
 
     async def tell(self, event: str, **members: object) -> Outcome:
         """Feeds an event that is no delivery."""
-        return await asyncio.wait_for(self.feeder.feed(self.events.make(event, **members)), WITHIN)
+        return await asyncio.wait_for(self.feeder.feed({**self.events.make(event), **members}), WITHIN)
 
     async def ask(self, token: str, method: str, path: str, body: object = None, number: int | None = None,
                   headers: Mapping[str, str] | None = None, text: bytes | None = None) -> Answer:
@@ -226,12 +229,13 @@ class OperatorServer(ServerCase):
         self.assertEqual(again.body["data"]["result"], "REJECTED")
 
     async def test_refusals_of_the_node_name_the_member(self) -> None:
-        for change, words in (({"valid": None}, "valid: missing"), ({"valid": 1}, "valid: wanted is true or false"),
-                              ({"uid": "AA01\u00e9"}, "uid: the path says otherwise"),
-                              ({"contract_id": "A" * 37}, "contract_id: wanted is at most 36 characters of printable "
-                               "ASCII"),
-                              ({"whitelist": "SOMETIMES"}, "whitelist: wanted is one of ALWAYS, ALLOWED, "
-                               "ALLOWED_OFFLINE, NEVER")):
+        changes: list[tuple[Members, str]] = [
+            ({"valid": None}, "valid: missing"),
+            ({"valid": 1}, "valid: wanted is true or false"),
+            ({"uid": "AA01\u00e9"}, "uid: the path says otherwise"),
+            ({"contract_id": "A" * 37}, "contract_id: wanted is at most 36 characters of printable ASCII"),
+            ({"whitelist": "NO"}, "whitelist: wanted is one of ALWAYS, ALLOWED, ALLOWED_OFFLINE, NEVER")]
+        for change, words in changes:
             answer = await self.ask("node", "PUT", self.token_path, {**self.token, **change}, 1)
             self.assertEqual(answer.told, (200, 2001))
             self.assertEqual(answer.body["status_message"], words)
@@ -271,7 +275,7 @@ class OperatorServer(ServerCase):
         self.assertEqual((await self.ask("node", "PATCH", "credentials", {})).status, 405)
 
     async def test_a_token_that_is_changed(self) -> None:
-        changes = {"valid": False, "last_updated": "2025-02-01T10:00:00Z"}
+        changes: Members = {"valid": False, "last_updated": "2025-02-01T10:00:00Z"}
         self.assertEqual((await self.ask("ocpi", "PATCH", "receiver/tokens/DE/EVC/AA01", changes)).told, (404, 2004))
         token = ocpi_objects.token("DE/EVC")
         await self.ask("ocpi", "PUT", "receiver/tokens/DE/EVC/AA01", token)
@@ -425,7 +429,7 @@ class ProviderServer(ServerCase):
     async def test_a_session_that_is_put_and_changed(self) -> None:
         session = ocpi_objects.session("FR/CPX", self.token, last_updated="2025-01-01T10:00:00Z")
         path = f"receiver/sessions/FR/CPX/{session['id']}"
-        changes = {"status": "COMPLETED", "kwh": 2.5, "last_updated": "2025-01-01T11:00:00Z"}
+        changes: Members = {"status": "COMPLETED", "kwh": 2.5, "last_updated": "2025-01-01T11:00:00Z"}
         self.assertEqual((await self.ask("ocpi", "PATCH", path, changes)).told, (404, 2003))
         self.assertEqual((await self.ask("ocpi", "PUT", path, session)).told, (200, 1000))
         early = {**changes, "kwh": 9, "last_updated": "2025-01-01T09:00:00Z"}
