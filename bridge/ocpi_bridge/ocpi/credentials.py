@@ -18,7 +18,7 @@ from ..parties import codes, party_of, same_party
 from ..state import State
 from .envelope import INVALID, SUCCESS, Refusal
 from .exchange import UNUSABLE, VERSION, Exchange, NoResponse
-from .partners import Partner, Partners, new_token
+from .partners import Partner, Partners
 
 OPERATOR_MODULES = (("commands", "RECEIVER"), ("tokens", "RECEIVER"), ("sessions", "SENDER"), ("cdrs", "SENDER"),
                     ("locations", "SENDER"))
@@ -67,7 +67,7 @@ class Credentials:
         current = self._partners.by_token(partner.token or "")
         if current is None or current.is_registered != partner.is_registered:
             raise Refusal(405, INVALID, "another request has registered meanwhile")
-        token = new_token()
+        token = self._partners.offer(partner.party)
         self._partners.register(partner.party, token, their_token, versions_url, endpoints)
         return own_credentials(self._configuration, token)
 

@@ -48,14 +48,7 @@ class Partners:
 
     def of(self, party: str) -> Partner:
         """The partner of a party. Raises KeyError where the configuration has none."""
-        settings = self._settings[party_key(party)]
-        kept = self._kept(party)
-        mine, theirs, versions = settings.token, settings.their_token, settings.versions_url
-        if "used" in kept:
-            mine, theirs, versions = kept["token"], kept["their_token"], kept["versions_url"]
-        known = kept.get("endpoints", []) if kept.get("details_of") == versions else []
-        return Partner(settings.party, settings.kind, mine, theirs, versions,
-                       {(module, role): url for module, role, url in known}, theirs is not None)
+        return _partner(self._settings[party_key(party)], self._kept(party))
 
     def all(self) -> list[Partner]:
         return [self.of(key) for key in self._settings]
@@ -71,8 +64,8 @@ class Partners:
         self._keep(party, token=None, their_token=None, versions_url=None, used=self._settings[party_key(party)].token)
 
     def offer(self, party: str) -> str:
-        """A new token with which the partner may look up this bridge while it is asked to register."""
-        token = new_token()
+        """A new token, of at most 64 characters, by which the partner may look up this bridge while it registers."""
+        token = secrets.token_urlsafe(32)
         self._keep(party, offer=token)
         return token
 
@@ -83,7 +76,8 @@ class Partners:
     def _tokens(self) -> Iterator[tuple[str, Partner]]:
         """Each token that a partner may present, with what it shows."""
         for key, settings in self._settings.items():
-            partner, kept = self.of(key), self._kept(key)
+            kept = self._kept(key)
+            partner = _partner(settings, kept)
             if partner.token is not None:
                 yield partner.token, partner
             unused = settings.token if kept.get("used", settings.token) != settings.token else None
@@ -100,6 +94,10 @@ class Partners:
             self._state.set_value(f"partner {party_key(party)}", write_json({**self._kept(party), **members}))
 
 
-def new_token() -> str:
-    """A token that nobody guesses, of characters that need no escape (OCPI: at most 64)."""
-    return secrets.token_urlsafe(32)
+def _partner(settings: PartnerSettings, kept: Members) -> Partner:
+    mine, theirs, versions = settings.token, settings.their_token, settings.versions_url
+    if "used" in kept:
+        mine, theirs, versions = kept["token"], kept["their_token"], kept["versions_url"]
+    known = kept.get("endpoints", []) if kept.get("details_of") == versions else []
+    return Partner(settings.party, settings.kind, mine, theirs, versions,
+                   {(module, role): url for module, role, url in known}, theirs is not None)
