@@ -4,6 +4,7 @@ A bridge is `bridge/run CONFIG` in a folder of its own. All waits are bounded. W
 kept in a file, so that a test can look for what must not stand in a log.
 """
 import asyncio
+import ctypes
 import json
 import os
 import random
@@ -29,6 +30,15 @@ LISTENING = re.compile(r"\b(ocpi|ocpp|admin): listening on (127\.0\.0\.1:\d+)")
 # The seconds within which a bridge has to listen, and to end. They are long, since tests run side by side.
 STARTS_WITHIN = 60.0
 ENDS_WITHIN = 30.0
+
+
+# Of Linux: the signal that a process gets when the one that started it ends.
+SET_SIGNAL_AT_END_OF_PARENT = 1
+
+
+def end_with_parent() -> None:
+    """Has this process killed when the one that started it ends, however that ends."""
+    ctypes.CDLL(None).prctl(SET_SIGNAL_AT_END_OF_PARENT, signal.SIGKILL)
 
 
 def free_port() -> int:
@@ -159,7 +169,8 @@ class RunningBridge:
         (self.folder / "bridge.json").write_text(json.dumps(self.configuration))
         with (self.folder / "log").open("ab") as log:
             self._process = subprocess.Popen([RUN, self.folder / "bridge.json", *self.words], stdin=subprocess.DEVNULL,
-                                             stdout=log, stderr=log, start_new_session=True)
+                                             stdout=log, stderr=log, start_new_session=True,
+                                             preexec_fn=end_with_parent)
         return self._process
 
     async def start(self, within: float = STARTS_WITHIN) -> None:

@@ -15,6 +15,8 @@ from concurrent.futures import ThreadPoolExecutor
 from dataclasses import dataclass, field
 from pathlib import Path
 
+from .running import end_with_parent
+
 BRIDGE = Path(__file__).resolve().parents[1]
 # The seconds that a process may take, and the lines of one that failed which are shown.
 MOST_SECONDS = 240
@@ -77,7 +79,7 @@ def run_process(name: str, words: list[str]) -> tuple[int, str]:
     """Runs a process in the folder of the bridge: its status, or -1 where it took too long, and what it wrote."""
     with tempfile.TemporaryFile("w+", errors="replace") as written:
         process = subprocess.Popen([sys.executable, *words], cwd=BRIDGE, stdin=subprocess.DEVNULL, stdout=written,
-                                   stderr=subprocess.STDOUT, start_new_session=True)
+                                   stderr=subprocess.STDOUT, start_new_session=True, preexec_fn=end_with_parent)
         try:
             status = process.wait(MOST_SECONDS)
         except subprocess.TimeoutExpired:
