@@ -1,0 +1,100 @@
+"""Pulling: what a partner did not push is asked for page by page, once, and from where the last time ended."""
+import json
+from urllib.parse import unquote
+
+from aiohttp import web
+
+from ocpi_bridge.events import Outcome, Packet
+from ocpi_bridge.ocpi.exchange import NoResponse
+from ocpi_bridge.ocpi.objects import Objects
+from ocpi_bridge.ocpi.pulling import Pulling
+
+from .client_cases import ClientCase
+from .ocpi_objects import session, token
+from .ocpi_party import Received, answered
+from .running import Members
+
+
+class Sessions(ClientCase):
+    """A provider's bridge, and an operator whose sessions are listed two a page."""
+
+    kind = "ocpi"
+
+    def begin(self) -> None:
+        super().begin()
+        self.objects = Objects(self.state)
+        self.pulling = Pulling(self.client, self.objects, self.state, is_operator=False)
+
+    async def feed(self, event: Members) -> Outcome:
+        """Takes an object as a node does that accepts it."""
+        await super().feed(event)
+        packet = Packet.of(event["packet"])
+        ack = Packet(packet.receiver, packet.sender, len(self.delivered), packet.request, "ack",
+                     {"status_code": 1000, "timestamp": "2025-01-01T10:00:00Z"})
+        outcome = Outcome(event, {"done": "stepped", "line": 1, "packets": 1}, (ack,))
+        with self.state.transaction():
+            self.objects.note(outcome)
+        return outcome
+
+    def has(self, *minutes: int, party: str = "BE/BEC") -> None:
+        """Has the operator list a session for each minute in which one was last updated."""
+        self.party.lists["sessions"] = [
+            session(party, token("NL/TNM"), id=f"S{minute}", last_updated=f"2025-01-01T10:{minute:02}:00Z")
+            for minute in minutes]
+
+    async def pull(self) -> list[str]:
+        """Pulls once, and gives the ids of what was handed on."""
+        before = len(self.delivered)
+        await self.pulling._pull(self.client.partners.of("BE/BEC"), "put_session")
+        return [packet.body["id"] for packet in self.delivered[before:]]
+
+    def asked_from(self) -> list[str]:
+        """The moments from which lists were asked for."""
+        return [unquote(received.raw_path.partition("date_from=")[2].partition("&")[0])
+                for received in self.asked("sessions")]
+
+    async def test_all_pages_and_then_what_is_new(self) -> None:
+        self.has(0, 1, 2, 3, 4)
+        self.assertEqual(["S0", "S1", "S2", "S3", "S4"], await self.pull())
+        packet = self.delivered[0]
+        self.assertEqual(("BE/BEC", "NL/TNM", "put_session"), (packet.sender, packet.receiver, packet.kind))
+        self.assertEqual(5, len({packet.request for packet in self.delivered}))
+        self.begin()
+        self.has(4, 5)
+        self.assertEqual(["S5"], await self.pull())
+        self.assertEqual(["1970-01-01T00:00:00.000Z"] * 3 + ["2025-01-01T10:03:00.000Z"], self.asked_from())
+
+    async def test_a_pull_that_fails_is_begun_again_from_where_the_last_one_ended(self) -> None:
+        self.has(0, 1, 2)
+        pages = iter([True, False])
+
+        async def ends(received: Received) -> web.StreamResponse:
+            listed = self.party.lists["sessions"][:2]
+            if next(pages):
+                return answered(listed, headers={"Link": f'<{self.party.url}/2.2.1/sessions?offset=2>; rel="next"'})
+            return web.Response(status=500)
+        self.party.answers["sessions"] = ends
+        with self.assertRaises(NoResponse):
+            await self.pull()
+        self.party.answers.clear()
+        self.assertEqual(["S2"], await self.pull())
+        self.assertEqual({"1970-01-01T00:00:00.000Z", ""}, set(self.asked_from()))
+
+    async def test_what_is_anothers_or_has_no_version_is_passed_over(self) -> None:
+        self.has(0, party="FR/XXX")
+        wrong: list[object] = [7, {}, {**self.party.lists["sessions"][0], "last_updated": 7}]
+        self.has(1)
+        listed = [*wrong, *self.party.lists["sessions"]]
+
+        async def gives(received: Received) -> web.StreamResponse:
+            return web.Response(text=json.dumps({"data": listed, "status_code": 1000}), content_type="application/json")
+        self.party.answers["sessions"] = gives
+        with self.assertLogs("ocpi_bridge.ocpi.pulling"):
+            self.assertEqual(["S1"], await self.pull())
+
+    async def test_a_list_without_an_end_ends(self) -> None:
+        async def endless(received: Received) -> web.StreamResponse:
+            return answered([], headers={"Link": f'<{self.party.url}/2.2.1/sessions?offset=0>; rel="next"'})
+        self.party.answers["sessions"] = endless
+        self.assertEqual([], await self.pull())
+        self.assertEqual(1, len(self.asked("sessions")))
