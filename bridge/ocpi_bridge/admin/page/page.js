@@ -7,7 +7,9 @@ const LIVING = ["PENDING", "ACTIVE"];
 let shown = {};
 
 const partyOf = (object) => `${object.country_code}/${object.party_id}`;
-const momentOf = (text) => new Date(text).toLocaleString();
+// The other party of a session or a bill: its provider at an operator, and its operator at a provider.
+const partnerOf = (object) => partyOf(shown.is_operator ? object.cdr_token : object);
+const momentOf = (text) => new Date(text).toLocaleString("sv-SE");
 const energyOf = (kilowattHours) => `${Number(kilowattHours).toFixed(4)} kWh`;
 const costOf = (price, currency) => price ? `${Number(price.excl_vat).toFixed(4)} ${currency}` : "";
 const wordsOf = (word) => word ? word.replaceAll("_", " ").toLowerCase() : "";
@@ -108,13 +110,14 @@ function showEvses() {
 
 function showSessions() {
   fill("sessions", shown.sessions.map((session) => {
-    const cells = [momentOf(session.start_date_time), session.evse_uid, partyOf(session), session.cdr_token.uid,
+    const cells = [momentOf(session.start_date_time), session.evse_uid, partnerOf(session), session.cdr_token.uid,
       badge(session.status), { number: energyOf(session.kwh) },
       { number: costOf(session.total_cost, session.currency) }];
     const stop = () => post("orders", { operator: partyOf(session), order: "stop_session", session_id: session.id },
       `The session at ${session.evse_uid} was asked to stop`);
     if (!shown.is_operator) {
-      cells.push(LIVING.includes(session.status) ? button("Stop", `Stop the session at ${session.evse_uid}`, stop) : "");
+      const words = `Stop the session at ${session.evse_uid}`;
+      cells.push(LIVING.includes(session.status) ? button("Stop", words, stop) : "");
     }
     return { key: `${partyOf(session)} ${session.id}`, says: session, cells };
   }));
@@ -126,7 +129,7 @@ function showBills() {
     const isCredited = credited.has(cdr.id);
     const kind = cdr.credit ? "credit" : isCredited ? "bill, taken back" : "bill";
     const cost = costOf(cdr.total_cost, cdr.currency);
-    const cells = [momentOf(cdr.end_date_time), cdr.cdr_location.evse_uid, partyOf(cdr), partyOf(cdr.cdr_token), kind,
+    const cells = [momentOf(cdr.end_date_time), cdr.cdr_location.evse_uid, partnerOf(cdr), cdr.cdr_token.uid, kind,
       { number: energyOf(cdr.total_energy) }, { number: cost }];
     const credit = () => {
       if (window.confirm(`Take back the bill of ${cost}? This cannot be undone, and no second bill can be made.`)) {
