@@ -1,13 +1,13 @@
 """The configuration of a bridge: a JSON file, whose every fault is refused by its path before anything starts."""
-import ipaddress
 import os
-import re
 from collections.abc import Iterable
 from dataclasses import dataclass
 from pathlib import Path
+from typing import Any
 
 from .json_text import Members, write_json
-from .members import Reader, WrongConfiguration, read_file
+from .members import (Address, WrongConfiguration, address, each_of, file_in, list_of, loopback, object_of, positive,
+                      read_file, refuse, text_of, url)
 
 __all__ = ["Address", "ChargePointSettings", "Configuration", "ConnectorSettings", "NodeSettings", "OcpiSettings",
            "OcppSettings", "PartnerSettings", "WrongConfiguration", "read_configuration"]
@@ -22,14 +22,6 @@ class NodeSettings:
     setup_line: str
     store: Path
     transcript: Path | None
-
-
-@dataclass(frozen=True)
-class Address:
-    """Where to listen. Port 0 lets the system pick one."""
-
-    host: str
-    port: int
 
 
 @dataclass(frozen=True)
@@ -98,43 +90,39 @@ class Configuration:
 
 def read_configuration(path: Path) -> Configuration:
     """Reads the file, and the setup that it names. Raises WrongConfiguration with the path of what is wrong."""
-    folder = path.absolute().parent
-    file = Reader(read_file(path, str(path)), "")
-    node = file.object("node")
-    setup = read_file(node.path("setup", folder), "node.setup")
+    file = read_form(read_file(path, str(path)), path.absolute().parent)
+    node, ocpi = file["node"], file["ocpi"]
+    setup = read_file(node["setup"], "node.setup")
     sites = _sites(setup)
-    settings = _node(node, setup, sites, folder)
-    site = sites[settings.party]
-    configuration = Configuration(
-        node=settings, state=file.path("state", folder), ocpi=_ocpi(file.object("ocpi")), ocpp=_ocpp(file, site),
-        admin=_admin(file.object("admin")), partners=_partners(file, sites, site is None),
-        clock_factor=file.positive("clock_factor", 1.0), site=site, setup=setup)
-    file.end()
-    if configuration.state == settings.store:
-        file.refuse("state", "the node's store")
-    return configuration
+    party = spelled(node["party"], sites) or refuse("node.party", "not in the setup")
+    site = sites[party]
+    if not os.access(node["program"], os.X_OK):
+        refuse("node.program", "no program")
+    if file["state"] == node["store"]:
+        refuse("state", "the node's store")
+    if file["ocpp"] and site is None:
+        refuse("ocpp", "a provider has no charge points")
+    return Configuration(
+        node=NodeSettings(node["program"], party, write_json(setup), node["store"], node["transcript"]),
+        state=file["state"], ocpi=OcpiSettings(ocpi["listen"], ocpi["url"].rstrip("/"), ocpi["business"]),
+        ocpp=_ocpp(file["ocpp"], site) if file["ocpp"] and site else None, admin=file["admin"]["listen"],
+        partners=_partners(file["partners"], [name for name in sites if (sites[name] is None) == (site is not None)]),
+        clock_factor=file["clock_factor"] or 1.0, site=site, setup=setup)
 
 
-def _sites(setup: object) -> dict[str, Members | None]:
-    """The site of each party of a setup. Only what the bridge itself needs is tried here: the node reads the rest."""
-    try:
-        nodes: list[Members] = setup["nodes"]  # type: ignore[index]
-        return {str(node["party"]): node.get("site") for node in nodes}
-    except (AttributeError, KeyError, TypeError):
-        raise WrongConfiguration("node.setup: no setup of nodes, each with its party") from None
-
-
-def _node(node: Reader, setup: object, sites: dict[str, Members | None], folder: Path) -> NodeSettings:
-    party = spelled(node.text("party"), sites)
-    if party is None:
-        node.refuse("party", "not in the setup")
-    settings = NodeSettings(
-        program=node.path("program", folder), party=party, setup_line=write_json(setup),
-        store=node.path("store", folder), transcript=node.path("transcript", folder) if node.has("transcript") else None)
-    if not os.access(settings.program, os.X_OK):
-        node.refuse("program", "no program")
-    node.end()
-    return settings
+def read_form(value: Any, folder: Path) -> Members:
+    """The members of the file, each of its form. Paths are relative to the folder."""
+    text, token, file = text_of(255), text_of(64), file_in(folder)
+    connectors = each_of(object_of({"evse_uid": text, "connector_id": text}))
+    charge_points = list_of(object_of({"id": text, "connectors": connectors}, {"password": text}))
+    partners = list_of(object_of({"party": text, "kind": text, "token": token},
+                                 {"their_token": token, "versions_url": url}))
+    members: Members = object_of(
+        {"node": object_of({"program": file, "party": text, "setup": file, "store": file}, {"transcript": file}),
+         "state": file, "ocpi": object_of({"listen": address, "url": url, "business": text_of(100)}),
+         "admin": object_of({"listen": loopback}), "partners": partners},
+        {"ocpp": object_of({"listen": address, "charge_points": charge_points}), "clock_factor": positive})(value, "")
+    return members
 
 
 def spelled(name: str, names: Iterable[str]) -> str | None:
@@ -142,103 +130,56 @@ def spelled(name: str, names: Iterable[str]) -> str | None:
     return next((known for known in names if known.upper() == name.upper()), None)
 
 
-def _address(reader: Reader) -> Address:
-    host, _, port = reader.text("listen").rpartition(":")
-    if not host or not port.isdecimal() or int(port) > 65535:
-        reader.refuse("listen", "no HOST:PORT")
-    return Address(host.strip("[]"), int(port))
-
-
-def _ocpi(ocpi: Reader) -> OcpiSettings:
-    settings = OcpiSettings(_address(ocpi), _url(ocpi, "url").rstrip("/"), ocpi.text("business", 100))
-    ocpi.end()
-    return settings
-
-
-def _url(reader: Reader, member: str) -> str:
-    url = reader.text(member)
-    if not re.fullmatch(r"https?://[^/?# ]+[^?# ]*", url):
-        reader.refuse(member, "no address with http or https")
-    return url
-
-
-def _admin(admin: Reader) -> Address:
-    address = _address(admin)
+def _sites(setup: Any) -> dict[str, Members | None]:
+    """The site of each party of a setup. Only what the bridge itself needs is tried here: the node reads the rest."""
     try:
-        loopback = address.host == "localhost" or ipaddress.ip_address(address.host).is_loopback
-    except ValueError:
-        loopback = False
-    if not loopback:
-        admin.refuse("listen", "no loopback address")
-    admin.end()
-    return address
+        return {str(node["party"]): node.get("site") for node in setup["nodes"]}
+    except (AttributeError, KeyError, TypeError):
+        refuse("node.setup", "no setup of nodes, each with its party")
 
 
-def _ocpp(file: Reader, site: Members | None) -> OcppSettings | None:
-    if not file.has("ocpp"):
-        return None
-    if site is None:
-        file.refuse("ocpp", "a provider has no charge points")
-    ocpp = file.object("ocpp")
+def _ocpp(ocpp: Members, site: Members) -> OcppSettings:
     evses = {evse["uid"]: [connector["id"] for connector in evse["connectors"]]
              for location in site["locations"] for evse in location["evses"]}
-    listen = _address(ocpp)
     charge_points: dict[str, ChargePointSettings] = {}
-    for reader in ocpp.objects("charge_points"):
-        charge_point = _charge_point(reader, evses)
-        if charge_point.id in charge_points:
-            reader.refuse("id", "that of another charge point")
-        charge_points[charge_point.id] = charge_point
-    ocpp.end()
-    return OcppSettings(listen, charge_points)
+    for place, entry in enumerate(ocpp["charge_points"]):
+        path = f"ocpp.charge_points[{place}]"
+        if entry["id"] in charge_points:
+            refuse(f"{path}.id", "that of another charge point")
+        connectors = {}
+        for number, connector in entry["connectors"].items():
+            if not number.isdecimal() or not 0 < int(number) < 10**9:
+                refuse(f"{path}.connectors.{number}", "no number of a connector, from 1")
+            connectors[int(number)] = _connector(connector, f"{path}.connectors.{number}", evses)
+        charge_points[entry["id"]] = ChargePointSettings(entry["id"], entry["password"], connectors)
+    return OcppSettings(ocpp["listen"], charge_points)
 
 
-def _charge_point(reader: Reader, evses: dict[str, list[str]]) -> ChargePointSettings:
-    """Takes the EVSEs that it uses out of those of the site, so that none is used twice."""
-    connectors = reader.object("connectors")
-    found: dict[int, ConnectorSettings] = {}
-    for number in connectors.names():
-        if not re.fullmatch("[1-9][0-9]{0,8}", number):
-            connectors.refuse(number, "no number of a connector, from 1")
-        connector = connectors.object(number)
-        evse_uid = spelled(connector.text("evse_uid"), evses)
-        if evse_uid is None:
-            connector.refuse("evse_uid", "not in the site, or that of another connector")
-        connector_id = spelled(connector.text("connector_id"), evses.pop(evse_uid))
-        if connector_id is None:
-            connector.refuse("connector_id", f"not at the EVSE {evse_uid}")
-        connector.end()
-        found[int(number)] = ConnectorSettings(evse_uid, connector_id)
-    settings = ChargePointSettings(reader.text("id"), reader.text_or_none("password"), found)
-    reader.end()
-    return settings
+def _connector(connector: Members, path: str, evses: dict[str, list[str]]) -> ConnectorSettings:
+    """Takes the EVSE out of those of the site that are free, so that none is used twice."""
+    evse_uid = (spelled(connector["evse_uid"], evses)
+                or refuse(f"{path}.evse_uid", "not in the site, or that of another connector"))
+    connector_id = (spelled(connector["connector_id"], evses.pop(evse_uid))
+                    or refuse(f"{path}.connector_id", f"not at the EVSE {evse_uid}"))
+    return ConnectorSettings(evse_uid, connector_id)
 
 
-def _partners(file: Reader, sites: dict[str, Members | None], for_provider: bool) -> tuple[PartnerSettings, ...]:
+def _partners(entries: list[Members], missing: list[str]) -> tuple[PartnerSettings, ...]:
     """The partners. An operator's are the providers of the setup, each once, and a provider's its operators."""
-    missing = [party for party, site in sites.items() if (site is not None) == for_provider]
     found: list[PartnerSettings] = []
-    for reader in file.objects("partners"):
-        party = spelled(reader.text("party"), missing)
-        if party is None:
-            reader.refuse("party", "no partner of this node in the setup, or here twice")
+    for place, entry in enumerate(entries):
+        path = f"partners[{place}]"
+        party = (spelled(entry["party"], missing)
+                 or refuse(f"{path}.party", "no partner of this node in the setup, or here twice"))
         missing.remove(party)
-        found.append(_partner(reader, party))
-        if any(found[-1].token == other.token for other in found[:-1]):
-            reader.refuse("token", "that of another partner")
+        if entry["kind"] not in ("node", "ocpi"):
+            refuse(f"{path}.kind", "neither node nor ocpi")
+        for name, other in (("their_token", "versions_url"), ("versions_url", "their_token")):
+            if entry[name] is None and entry[other] is not None:
+                refuse(f"{path}.{name}", "missing")
+        if any(entry["token"] == partner.token for partner in found):
+            refuse(f"{path}.token", "that of another partner")
+        found.append(PartnerSettings(**{**entry, "party": party}))
     if missing:
-        file.refuse("partners", f"none for {missing[0]}")
+        refuse("partners", f"none for {missing[0]}")
     return tuple(found)
-
-
-def _partner(reader: Reader, party: str) -> PartnerSettings:
-    kind = reader.text("kind")
-    if kind not in ("node", "ocpi"):
-        reader.refuse("kind", "neither node nor ocpi")
-    token = reader.text("token", 64)
-    if reader.has("their_token") or reader.has("versions_url"):
-        settings = PartnerSettings(party, kind, token, reader.text("their_token", 64), _url(reader, "versions_url"))
-    else:
-        settings = PartnerSettings(party, kind, token, None, None)
-    reader.end()
-    return settings

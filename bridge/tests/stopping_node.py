@@ -1,9 +1,9 @@
 """Stands between a bridge and the real program, and stops both at a point that a file beside the store names.
 
-The file `STORE.stop` has a number, a point and what stops. The number counts the events that are fed, without ticks.
-The points: `before` the program has the line, `silent` once it has answered and nobody has seen that, `begun` where
-only the first line that it gives is seen, `cut` within its `done`, and `after` all of it. What stops is the `node`, or
-the `bridge`: then nothing more is answered, until the input ends.
+The file `STORE.stop` has a point and what stops, at the next event that is no tick. The points: `before` the program
+has the line, `silent` once it has answered and nobody has seen that, `begun` where only the first line that it gives is
+seen, `cut` within its `done`, and `after` all of it. What stops is the `node`, or the `bridge`: then nothing more is
+answered, until the input ends.
 """
 import os
 import signal
@@ -21,13 +21,11 @@ def main() -> None:
     plan = Path(words[words.index("--store") + 1] + ".stop")
     node = subprocess.Popen([program, *words], stdin=subprocess.PIPE, stdout=subprocess.PIPE)
     assert node.stdin is not None and node.stdout is not None
-    count = 0
     for line in sys.stdin.buffer:
         is_event = line.startswith(b"{") and not line.startswith((b'{"nodes"', b'{"event":"tick"'))
-        count += is_event
-        number, point, stops = plan.read_text().split() if plan.exists() else ("0", "", "")
-        is_now = is_event and count == int(number)
+        is_now = is_event and plan.exists()
         if is_now:
+            point, stops = plan.read_text().split()
             plan.unlink()
         if is_now and point == "before":
             stop(node, stops)
@@ -37,7 +35,8 @@ def main() -> None:
         while given[-1] and not given[-1].startswith(b'{"done"'):
             given.append(node.stdout.readline())
         if is_now and point != "after":
-            given = {"silent": [], "begun": given[:1], "cut": [*given[:-1], given[-1][:9]]}[point]
+            seen: dict[str, list[bytes]] = {"silent": [], "begun": given[:1], "cut": [*given[:-1], given[-1][:9]]}
+            given = seen[point]
         sys.stdout.buffer.write(b"".join(given))
         sys.stdout.buffer.flush()
         if is_now:

@@ -2,6 +2,7 @@
 import asyncio
 import logging
 from asyncio.subprocess import PIPE, Process
+from contextlib import suppress
 
 from ..configuration import NodeSettings
 from ..json_text import Members, read_json
@@ -63,6 +64,8 @@ class Child:
         self._process.stdin.close()
         await self._process.stdout.read()
         await self._errors
+        with suppress(ConnectionError):
+            await self._process.stdin.wait_closed()
         status = await self._process.wait()
         return status if status >= 0 else 128 - status
 
