@@ -88,7 +88,12 @@ class ProviderTest(AdminTest):
 
     async def test_requests_of_other_sites_and_wrong_forms(self) -> None:
         url = self.bridge.admin_url
-        self.assertEqual(await self.status_of("GET", "/tokens", headers={"Host": "attacker.example"}), 403)
+        for host in ("attacker.example", "127.0.0.1.attacker.example:80", "[::1", "10.0.0.1"):
+            self.assertEqual(await self.status_of("GET", "/tokens", headers={"Host": host}), 403)
+        for host in ("localhost:8103", "[::1]:8103", "127.0.0.1"):
+            async with aiohttp.ClientSession() as session:
+                async with session.get(url + "/tokens", headers={"Host": host}) as response:
+                    self.assertEqual(response.status, 200)
         for origin in ("http://attacker.example", "null", url.replace("http", "https")):
             self.assertEqual(await self.status_of("POST", "/tokens", json=TOKEN, headers={"Origin": origin}), 403)
         self.assertEqual(await self.status_of("POST", "/tokens", data=json.dumps(TOKEN)), 415)

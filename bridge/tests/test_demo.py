@@ -54,6 +54,7 @@ class DemoTest(unittest.TestCase):
         process = self.start()
         printed, _ = process.communicate(timeout=150)
         self.assertEqual((printed, process.returncode), (PRINTED + SETTLED, 0))
+        self.assertIn(f"```\n{printed}```\n", (REPOSITORY / "bridge" / "README.md").read_text())
         self.assertEqual(self.left(), [])
 
     def test_it_stays_until_it_is_interrupted(self) -> None:

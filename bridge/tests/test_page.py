@@ -1,4 +1,4 @@
-"""The two pages in a browser: a person saves a token, starts a session, sees it metered, stops it, and sees its bill."""
+"""The pages in a browser: a person saves a token, starts a session, sees it metered, stops it, and sees its bill."""
 import asyncio
 import subprocess
 import tempfile

@@ -4,10 +4,11 @@ They are on loopback alone. As a browser of the same machine reaches that too, w
 is refused, and so is what comes under another name than this machine's own.
 """
 import asyncio
+import re
 from collections.abc import Awaitable, Callable
 from functools import partial
+from ipaddress import ip_address
 from pathlib import Path
-from urllib.parse import urlsplit
 
 from aiohttp import web
 
@@ -32,7 +33,6 @@ PAGE = {"/": ("page.html", "text/html"), "/page.js": ("page.js", "text/javascrip
 HEADERS = {"Cache-Control": "no-store", "X-Content-Type-Options": "nosniff",
            "Content-Security-Policy": "default-src 'none'; script-src 'self'; style-src 'self'; connect-src 'self'; "
                                       "img-src data:; base-uri 'none'; form-action 'none'; frame-ancestors 'none'"}
-LOOPBACK = ("127.0.0.1", "localhost", "::1")
 # Seconds within which a tick must have been answered, and seconds between two looks at what a page shows.
 HEALTHY_WITHIN = 5.0
 LOOK_EVERY = 0.5
@@ -174,12 +174,21 @@ async def _page(request: web.Request) -> web.Response:
                         headers=HEADERS)
 
 
+def _is_loopback(host: str) -> bool:
+    """Whether a header `Host` names this machine alone. Any other name may lead here too, for whoever owns it."""
+    name = re.sub(r":\d*$", "", host).strip("[]")
+    try:
+        return name == "localhost" or ip_address(name).is_loopback
+    except ValueError:
+        return False
+
+
 @web.middleware
 async def _guard(request: web.Request, handler: Handler) -> web.StreamResponse:
     """Lets through what comes from this machine under its own name, and gives each refusal as JSON."""
-    here = f"http://{request.host}"
+    origin = f"http://{request.host}"
     try:
-        if urlsplit(here).hostname not in LOOPBACK or request.headers.get("Origin", here) != here:
+        if not _is_loopback(request.host) or request.headers.get("Origin", origin) != origin:
             raise web.HTTPForbidden(text="Host and Origin: wanted is the very address on which the bridge listens")
         return await handler(request)
     except web.HTTPException as refusal:

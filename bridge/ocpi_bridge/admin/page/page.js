@@ -26,7 +26,8 @@ async function post(path, body, done) {
     const response = await fetch(path, {
       method: "POST", headers: { "Content-Type": "application/json" }, body: JSON.stringify(body) });
     const answer = await response.json();
-    tell(response.ok ? done : answer.error, !response.ok);
+    const asked = answer.charge_point ? `. Its charge point says: ${answer.charge_point}` : "";
+    tell(response.ok ? done + asked : answer.error, !response.ok);
   } catch (fault) {
     tell(`The bridge does not answer: ${fault.message}`, true);
   }
@@ -93,18 +94,26 @@ function offer(select, options) {
   if (options.some(([value]) => value === chosen)) select.value = chosen;
 }
 
+// The buttons that change whether an EVSE is in service. Where nothing can be charged, nobody sees which it is: both.
+function serviceButtons(evse) {
+  const change = (words, inService, told) => button(words, `${words}: ${evse.uid}`, () =>
+    post("service", { evse_uid: evse.uid, in_service: inService }, `${evse.uid} is ${told}`));
+  const buttons = document.createElement("span");
+  if (evse.status !== "INOPERATIVE") buttons.append(change("Take out of service", false, "out of service"));
+  if (["INOPERATIVE", "OUTOFORDER"].includes(evse.status)) {
+    buttons.append(change("Put into service", true, "in service"));
+  }
+  return buttons;
+}
+
 function showEvses() {
   fill("evses", shown.evses.map((evse) => {
     const session = evse.session;
-    const isOut = evse.status === "INOPERATIVE";
-    const change = () => post("service", { evse_uid: evse.uid, in_service: isOut },
-      `${evse.uid} is ${isOut ? "in" : "out of"} service`);
     return { key: evse.uid, says: evse, cells: [
       evse.uid, evse.location, badge(evse.status), session ? badge(session.status) : "",
       session ? session.cdr_token.uid : "", { number: session ? energyOf(session.kwh) : "" },
       { number: session ? costOf(session.total_cost, session.currency) : "" },
-      button(isOut ? "Put into service" : "Take out of service",
-        `${isOut ? "Put into service" : "Take out of service"}: ${evse.uid}`, change)] };
+      serviceButtons(evse)] };
   }));
 }
 
