@@ -1,6 +1,7 @@
 """The program `node` as a child process: a line in, lines out, and its end."""
 import asyncio
 import logging
+import subprocess
 from asyncio.subprocess import PIPE, Process
 from contextlib import suppress
 
@@ -77,8 +78,6 @@ class Child:
             LOG.warning("%s", text)
 
 
-async def has_existing(settings: NodeSettings) -> bool:
+def has_existing(settings: NodeSettings) -> bool:
     """Whether the program has the option that makes no new store."""
-    process = await asyncio.create_subprocess_exec(settings.program, "help", "node", stdout=PIPE, stderr=PIPE)
-    words, _ = await process.communicate()
-    return b"--existing" in words
+    return b"--existing" in subprocess.run([settings.program, "help", "node"], capture_output=True, check=False).stdout

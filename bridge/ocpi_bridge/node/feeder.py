@@ -137,7 +137,7 @@ class Feeder:
                 self._woken.set()
 
     async def _run_again_and_again(self, transcript: Transcript | None) -> int:
-        knows_existing = await has_existing(self._settings)
+        knows_existing = has_existing(self._settings)
         locked_until: float | None = None
         while True:
             existing = knows_existing and self._state.value("node.was_opened") is not None
