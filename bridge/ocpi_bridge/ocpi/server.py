@@ -120,7 +120,10 @@ class _Server:
             response.headers.update(routing_headers(self._party, partner.party))
         asking = "unknown" if partner is None else partner.party
         self._metrics.count("ocpi_http_requests_total", partner=asking, direction="in", status=str(response.status))
-        logger.info("%s %s %s: %d", asking, request.method, request.rel_url.raw_path, response.status)
+        # The path itself may have a driver's token.
+        resource = request.match_info.route.resource
+        path = "unknown path" if resource is None else resource.canonical
+        logger.info("%s %s %s: %d", asking, request.method, path, response.status)
 
 
 def _agree(request: web.Request, header: str, party: str) -> bool:

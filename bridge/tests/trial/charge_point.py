@@ -14,7 +14,7 @@ Payload = dict[str, Any]
 
 CONNECTOR = 1
 # In seconds of the machine: how long a car charges that waits to be stopped from afar.
-LONGEST_CHARGE = 12.0
+LONGEST_CHARGE = 20.0
 
 
 @dataclass
@@ -207,7 +207,7 @@ class ChargePoint:
             self.faults.append(f"{self.identifier}: asked to start {payload['idTag']} while {running.id_tag} charges")
         if payload.get("connectorId", CONNECTOR) != CONNECTOR:
             self.faults.append(f"{self.identifier}: asked to start at connector {payload['connectorId']}")
-        if running is not None or self._is_swiped or happens(self._chance, 0.05):
+        if not self._connection.has_booted or running is not None or self._is_swiped or happens(self._chance, 0.05):
             return "Rejected"
         self.accepted_starts.append(payload["idTag"])
         self._begin(payload["idTag"])

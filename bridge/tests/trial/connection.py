@@ -50,6 +50,11 @@ class Connection:
         self._origin: tuple[float, float] | None = None
         self.refused: list[str] = []
 
+    @property
+    def has_booted(self) -> bool:
+        """Whether the central system told the time by now."""
+        return self._origin is not None
+
     def moment(self) -> str:
         """Now, by the clock that the central system set when the charge point first booted."""
         assert self._origin is not None

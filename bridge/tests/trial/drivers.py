@@ -100,7 +100,7 @@ class Drivers:
     async def _end(self, charge: Charge, charge_point: ChargePoint, transaction: Transaction) -> None:
         """Has the provider stop the session or unlock its connector, until the charge point was asked to."""
         while not transaction.asked_to_end.is_set() and not transaction.is_reported:
-            living = [session["id"] for session in await self._sessions(charge, charge.provider)
+            living = [session["id"] for session in await self._sessions(charge)
                       if session["status"] in ("PENDING", "ACTIVE")]
             if charge.ends == "UnlockCommand":
                 await self._order(charge, "unlock_connector", location_id=LOCATION, evse_uid=charge.place.evse_uid,
@@ -120,7 +120,7 @@ class Drivers:
     async def _completed_session(self, charge: Charge, transaction: Transaction) -> str:
         """The id of the session of a transaction, once it is completed at its operator."""
         while True:
-            for session in await self._sessions(charge, charge.place.operator):
+            for session in await self._sessions(charge):
                 if session["status"] == "COMPLETED" and round(session["kwh"] * 1000) == transaction.energy:
                     return str(session["id"])
             await asyncio.sleep(0.2)
@@ -133,9 +133,9 @@ class Drivers:
         """Gives an order once. Where the bridge does not answer, nobody knows whether it was given."""
         await self._post(charge.provider, "/orders", {"operator": charge.place.operator, "order": order, **members})
 
-    async def _sessions(self, charge: Charge, party: str) -> list[Members]:
-        """The sessions by the token of a charge, as a bridge tells them."""
-        sessions: list[Members] = await self._get("admin", party, "/sessions") or []
+    async def _sessions(self, charge: Charge) -> list[Members]:
+        """The sessions by the token of a charge, as the bridge of its operator tells them."""
+        sessions: list[Members] = await self._get("admin", charge.place.operator, "/sessions") or []
         return [session for session in sessions if session["cdr_token"]["uid"] == charge.token_uid]
 
     async def _evse_status(self, charge: Charge) -> tuple[str, str]:
