@@ -6,6 +6,7 @@ is refused, and so is what comes under another name than this machine's own.
 import asyncio
 import re
 from collections.abc import Awaitable, Callable
+from contextlib import suppress
 from functools import partial
 from ipaddress import ip_address
 from pathlib import Path
@@ -50,7 +51,7 @@ class Admin:
         self._feeder = feeder
         self._metrics = metrics
         self._central_system = central_system
-        self._end: asyncio.Future[None] = asyncio.get_running_loop().create_future()
+        self._end = asyncio.Event()
         outstanding = Outstanding(state)
         feeder.before_commit(outstanding.note)
         metrics.gauge("ocpi_unacknowledged_pushes", outstanding.pushes)
@@ -139,15 +140,16 @@ class Admin:
         response = web.StreamResponse(headers={**HEADERS, "Content-Type": "text/event-stream"})
         await response.prepare(request)
         shown = ""
-        while not self._end.done():
+        while not self._end.is_set():
             text = write_json(self._view())
             await response.write(f"data: {text}\n\n".encode() if text != shown else b":\n\n")
             shown = text
-            await asyncio.wait({self._end}, timeout=LOOK_EVERY)
+            with suppress(TimeoutError):
+                await asyncio.wait_for(self._end.wait(), LOOK_EVERY)
         return response
 
     async def _end_streams(self, _: web.Application) -> None:
-        self._end.set_result(None)
+        self._end.set()
 
     async def _body(self, request: web.Request, is_operators: bool | None = None) -> Members:
         """The JSON object that a request carries, where the node has the role that the request wants."""
