@@ -59,6 +59,8 @@ class Sessions(ClientCase):
         packet = self.delivered[0]
         self.assertEqual(("BE/BEC", "NL/TNM", "put_session"), (packet.sender, packet.receiver, packet.kind))
         self.assertEqual(5, len({packet.request for packet in self.delivered}))
+        routes = [[received.headers[f"OCPI-{end}-party-id"] for end in ("from", "to")] for received in self.asked()]
+        self.assertEqual([["TNM", "BEC"]] * 3, routes)
         self.begin()
         self.has(4, 5)
         self.assertEqual(["S5"], await self.pull())
@@ -82,7 +84,8 @@ class Sessions(ClientCase):
 
     async def test_what_is_anothers_or_has_no_version_is_passed_over(self) -> None:
         self.has(0, party="FR/XXX")
-        wrong: list[object] = [7, {}, {**self.party.lists["sessions"][0], "last_updated": 7}]
+        first = self.party.lists["sessions"][0]
+        wrong: list[object] = [7, {}, {**first, "last_updated": 7}, {**first, "id": {"nested": []}}]
         self.has(1)
         listed = [*wrong, *self.party.lists["sessions"]]
 

@@ -60,11 +60,11 @@ class Exchange:
                   headers: Mapping[str, str] | None = None) -> Response:
         """Sends a request with a credentials token, and gives what is answered. Raises NoResponse.
 
-        Without `headers` it is no packet, and has ids of its own.
+        Where `headers` have no ids, as of a packet, it has ids of its own.
         """
         status = "lost"
-        ids = {"X-Request-ID": str(uuid.uuid4()), "X-Correlation-ID": str(uuid.uuid4())}
-        sent = {"Authorization": authorization(token), "Accept-Encoding": "identity", **(headers or ids)}
+        sent = {"Authorization": authorization(token), "Accept-Encoding": "identity", "X-Request-ID": str(uuid.uuid4()),
+                "X-Correlation-ID": str(uuid.uuid4()), **(headers or {})}
         try:
             response = await self.clock.within(SECONDS, self._ask(method, url, sent, body))
             status = str(response.status)
@@ -76,9 +76,10 @@ class Exchange:
         finally:
             self._metrics.count("ocpi_http_requests_total", partner=party, direction="out", status=status)
 
-    async def data(self, party: str, url: str, token: str) -> tuple[object, str | None]:
+    async def data(self, party: str, url: str, token: str,
+                   headers: Mapping[str, str] | None = None) -> tuple[object, str | None]:
         """The `data` that a GET gives, and the next page of a list. Raises NoResponse where it is no success."""
-        response = await self.ask(party, "GET", url, token)
+        response = await self.ask(party, "GET", url, token, headers=headers)
         if response.status != 200 or response.body.get("status_code") != SUCCESS:
             raise NoResponse(f"HTTP {response.status}, status_code {response.body.get('status_code')}")
         return response.body.get("data"), response.next_page

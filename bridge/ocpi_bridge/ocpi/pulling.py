@@ -8,6 +8,7 @@ from ..events import Packet
 from ..parties import party_key, party_of, same_party
 from ..state import State
 from .client import Client
+from .envelope import routing_headers
 from .exchange import NoResponse
 from .objects import OBJECTS, Objects
 from .partners import Partner
@@ -45,6 +46,8 @@ class Pulling:
                         await self._pull(partner, kind)
                     except NoResponse as fault:
                         log.warning("list of %s of %s: %s", OBJECTS[kind][0], partner.party, fault)
+                    except Exception:
+                        log.exception("list of %s of %s: not read", OBJECTS[kind][0], partner.party)
             try:
                 await self._client.events.clock.within(SECONDS_BETWEEN, self._woken.wait())
             except TimeoutError:
@@ -57,8 +60,9 @@ class Pulling:
         latest = int(self._state.value(name) or "0")
         query = {"date_from": moment_of(max(latest - OVERLAP, 0) / 1000), "limit": PAGE}
         page: str | None = await self._client.endpoint(partner, module, "SENDER") + "?" + urlencode(query)
+        headers = routing_headers(self._client.events.node, partner.party)
         for _ in range(MOST_PAGES):
-            data, page = await self._client.exchange.data(partner.party, page or "", partner.their_token or "")
+            data, page = await self._client.exchange.data(partner.party, page or "", partner.their_token or "", headers)
             for listed in data if isinstance(data, list) else []:
                 latest = max(latest, await self._hand_on(partner, kind, listed))
             if not data or page is None:
@@ -73,8 +77,8 @@ class Pulling:
             body = dict(listed)  # type: ignore[call-overload]
             updated = milliseconds_of(body["last_updated"])
             party = party_of(body["country_code"], body["party_id"])
-            held = self._objects.find(module, party, body[identifier], body.get("type", "RFID"))
-        except (KeyError, TypeError, ValueError, AttributeError):
+            held = self._objects.find(module, party, str(body[identifier]), str(body.get("type", "RFID")))
+        except (KeyError, TypeError, ValueError, AttributeError, OverflowError):
             log.warning("list of %s of %s: an object lacks what tells its version", module, partner.party)
             return 0
         if same_party(party, partner.party) and (held is None or milliseconds_of(held["last_updated"]) < updated):
