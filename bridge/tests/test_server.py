@@ -379,8 +379,8 @@ class OperatorServer(ServerCase):
             await self.ask("node", "GET", self.token_path + "?type=RFID")
             await self.ask("wrong", "GET", "sender/tokens%0A")
         self.assertEqual([record.getMessage() for record in logs.records],
-                         ["NL/TNM GET /ocpi/2.2.1/receiver/tokens/NL/TNM/AA01: 404",
-                          "unknown GET /ocpi/2.2.1/sender/tokens%0A: 401"])
+                         ["NL/TNM GET /ocpi/2.2.1/receiver/tokens/{country_code}/{party_id}/{identifier}: 404",
+                          "unknown GET unknown path: 401"])
         counted = 'ocpi_http_requests_total{direction="in",partner="NL/TNM",status="404"} 1'
         self.assertIn(counted, self.metrics.text().splitlines())
 

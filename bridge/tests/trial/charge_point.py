@@ -56,6 +56,11 @@ class ChargePoint:
         self._changed = asyncio.Event()
 
     @property
+    def _is_busy(self) -> bool:
+        """Nothing can begin now: something runs, a token is shown, or it did not boot yet."""
+        return self._running is not None or self._is_swiped or not self._connection.has_booted
+
+    @property
     def is_quiet(self) -> bool:
         """Nothing runs, and all that was reported was answered."""
         return self._running is None and all(transaction.is_reported for transaction in self.transactions)
@@ -95,7 +100,7 @@ class ChargePoint:
 
     async def swipe(self, id_tag: str, authorizes_first: bool) -> None:
         """A driver shows a token. Where Authorize is sent first, a transaction begins only where that is accepted."""
-        if self._running is not None or self._is_swiped:
+        if self._is_busy:
             return
         self._is_swiped = True
         try:
@@ -207,7 +212,7 @@ class ChargePoint:
             self.faults.append(f"{self.identifier}: asked to start {payload['idTag']} while {running.id_tag} charges")
         if payload.get("connectorId", CONNECTOR) != CONNECTOR:
             self.faults.append(f"{self.identifier}: asked to start at connector {payload['connectorId']}")
-        if not self._connection.has_booted or running is not None or self._is_swiped or happens(self._chance, 0.05):
+        if self._is_busy or happens(self._chance, 0.05):
             return "Rejected"
         self.accepted_starts.append(payload["idTag"])
         self._begin(payload["idTag"])
