@@ -34,6 +34,11 @@ PAGE = {"/": ("page.html", "text/html"), "/page.js": ("page.js", "text/javascrip
 HEADERS = {"Cache-Control": "no-store", "X-Content-Type-Options": "nosniff",
            "Content-Security-Policy": "default-src 'none'; script-src 'self'; style-src 'self'; connect-src 'self'; "
                                       "img-src data:; base-uri 'none'; form-action 'none'; frame-ancestors 'none'"}
+# The HTTP status of what a request may fail by, and what it means.
+FAILURES = {
+    NotJson: (400, "the body is no JSON that a node reads"), NodeEnded: (503, "the bridge is ending"),
+    NumberTooLarge: (400, "the body has a number of a size that no node takes"),
+    OutcomeLost: (504, "carried out, but a stop of the node lost what came of it: see the lists")}
 # Seconds within which a tick must have been answered, and seconds between two looks at what a page shows.
 HEALTHY_WITHIN = 5.0
 LOOK_EVERY = 0.5
@@ -91,15 +96,7 @@ class Admin:
 
     async def _fed(self, event: Members) -> tuple[Members, int]:
         """What the node made of an event, and the HTTP status: where it was not carried out, it is a refusal's."""
-        try:
-            outcome = await self._feeder.feed(event)
-        except OutcomeLost:
-            raise web.HTTPGatewayTimeout(
-                text="carried out, but a stop of the node lost what came of it: see the lists") from None
-        except NodeEnded:
-            raise web.HTTPServiceUnavailable(text="the bridge is ending") from None
-        except NotJson as fault:
-            raise web.HTTPBadRequest(text=f"the body is no JSON that a node reads: {fault}") from None
+        outcome = await self._feeder.feed(event)
         told: Members = {"done": outcome.done, "packets": [packet.members() for packet in outcome.packets]}
         if outcome.word in ("stepped", "idle"):
             return told, 200
@@ -123,8 +120,6 @@ class Admin:
             raise web.HTTPBadRequest(text="to: wanted is the absolute path of a file that is not there yet")
         try:
             return _answer(await back_up(self._feeder, self._configuration.node.store, Path(to)))
-        except NodeEnded:
-            raise web.HTTPServiceUnavailable(text="the bridge is ending") from None
         except OSError as fault:
             raise web.HTTPConflict(text=f"to: no copy was made: {fault.strerror}") from None
 
@@ -155,10 +150,7 @@ class Admin:
         """The JSON object that a request carries, where the node has the role that the request wants."""
         if request.content_type != "application/json":
             raise web.HTTPUnsupportedMediaType(text="Content-Type: wanted is application/json")
-        try:
-            body = read_json(await request.read())
-        except (NotJson, NumberTooLarge) as fault:
-            raise web.HTTPBadRequest(text=f"the body is no JSON: {fault}") from None
+        body = read_json(await request.read())
         if not isinstance(body, dict):
             raise web.HTTPBadRequest(text="the body is no JSON object")
         if is_operators not in (None, self._configuration.is_operator):
@@ -195,3 +187,6 @@ async def _guard(request: web.Request, handler: Handler) -> web.StreamResponse:
         return await handler(request)
     except web.HTTPException as refusal:
         return _answer({"error": refusal.text}, refusal.status)
+    except tuple(FAILURES) as failure:
+        status, words = FAILURES[type(failure)]
+        return _answer({"error": words}, status)
