@@ -22,57 +22,83 @@ class ChildEnded(Exception):
 class Child:
     """A running program. It is in a session of its own, so that a signal from the terminal reaches the bridge alone."""
 
-    def __init__(self, process: Process, transcript: Transcript | None) -> None:
-        self._process = process
-        self._transcript = transcript
-        self._errors = asyncio.create_task(self._log_errors())
+    def __init__(self, process: Process, settings: NodeSettings) -> None:
+        assert process.stdin is not None and process.stdout is not None and process.stderr is not None
+        self._process, self._input, self._output = process, process.stdin, process.stdout
+        self._settings = settings
+        self._transcript: Transcript | None = None
+        self._has_wrong_setup = False
+        self._errors = asyncio.create_task(self._log_errors(process.stderr))
         self.found_lock = False
 
     @classmethod
-    async def start(cls, settings: NodeSettings, existing: bool, transcript: Transcript | None) -> "Child":
+    async def start(cls, settings: NodeSettings, existing: bool) -> "Child":
         """Starts the program. Raises OSError where it cannot be started."""
         words = ["node", settings.party, "--store", str(settings.store), *(["--existing"] if existing else [])]
         process = await asyncio.create_subprocess_exec(
             settings.program, *words, stdin=PIPE, stdout=PIPE, stderr=PIPE, limit=MOST_BYTES, start_new_session=True)
-        return cls(process, transcript)
+        return cls(process, settings)
+
+    async def open(self) -> int:
+        """Feeds the setup, and gives the serial of the last packet that the node sent. Raises ChildEnded.
+
+        The transcript is touched only once the store is open, since another bridge may write it until then.
+        """
+        await self._feed(self._settings.setup_line.encode() + b"\n")
+        line = await self._next_line()
+        opened: Members = read_json(line)
+        if opened["done"] != "opened":
+            LOG.error("the node refuses its setup: %s", line.decode().rstrip())
+            self._has_wrong_setup = True
+            raise ChildEnded()
+        if self._settings.transcript is not None:
+            self._transcript = Transcript(self._settings.transcript)
+            self._transcript.echo(self._settings.setup_line.encode() + b"\n")
+            self._transcript.append(line)
+        return int(opened["serial"])
 
     async def write(self, line: str) -> None:
-        """Feeds a line. The transcript has it before the program does."""
-        assert self._process.stdin is not None
+        """Feeds a line. The transcript has it before the program does. Raises ChildEnded."""
         ended = line.encode() + b"\n"
         if self._transcript is not None:
             self._transcript.echo(ended)
-        try:
-            self._process.stdin.write(ended)
-            await self._process.stdin.drain()
-        except ConnectionError:
-            raise ChildEnded() from None
+        await self._feed(ended)
 
     async def read(self) -> Members:
         """The next line that the program writes. Raises ChildEnded where there is none, or where it was cut."""
-        assert self._process.stdout is not None
-        line = await self._process.stdout.readline()
-        if not line.endswith(b"\n"):
-            raise ChildEnded()
+        line = await self._next_line()
         if self._transcript is not None:
             self._transcript.append(line)
         members: Members = read_json(line)
         return members
 
+    async def _feed(self, line: bytes) -> None:
+        try:
+            self._input.write(line)
+            await self._input.drain()
+        except ConnectionError:
+            raise ChildEnded() from None
+
+    async def _next_line(self) -> bytes:
+        line = await self._output.readline()
+        if not line.endswith(b"\n"):
+            raise ChildEnded()
+        return line
+
     async def end(self) -> int:
-        """Ends the program's input and waits for its end. Gives its status, that of a signal as 128 more."""
-        assert self._process.stdin is not None and self._process.stdout is not None
-        self._process.stdin.close()
-        await self._process.stdout.read()
+        """Ends the program's input and waits for its end. Gives its status: of a signal 128 more, of a wrong setup 2."""
+        self._input.close()
+        await self._output.read()
         await self._errors
         with suppress(ConnectionError):
-            await self._process.stdin.wait_closed()
+            await self._input.wait_closed()
         status = await self._process.wait()
-        return status if status >= 0 else 128 - status
+        if self._transcript is not None:
+            self._transcript.close()
+        return 2 if self._has_wrong_setup else status if status >= 0 else 128 - status
 
-    async def _log_errors(self) -> None:
-        assert self._process.stderr is not None
-        async for line in self._process.stderr:
+    async def _log_errors(self, errors: asyncio.StreamReader) -> None:
+        async for line in errors:
             text = line.decode(errors="replace").rstrip()
             self.found_lock = self.found_lock or LOCKED in text
             LOG.warning("%s", text)

@@ -6,6 +6,7 @@ out, and what it gave is lost, as links lose packets.
 """
 import asyncio
 import logging
+import sqlite3
 import time
 from collections import deque
 from collections.abc import Awaitable, Callable
@@ -18,7 +19,6 @@ from ..json_text import Members, write_json
 from ..state import State
 from .child import Child, ChildEnded, has_existing
 from .lines import Line, Waiting, kept_line, next_line
-from .transcript import Transcript
 
 LOG = logging.getLogger("node")
 Result = TypeVar("Result")
@@ -34,10 +34,6 @@ class OutcomeLost(Exception):
 
 class NodeEnded(Exception):
     """The bridge is stopping, and the event may be carried out at its next start, or never."""
-
-
-class SetupRefused(Exception):
-    """The node cannot read its setup."""
 
 
 class Feeder:
@@ -103,7 +99,8 @@ class Feeder:
             self._reopened.clear()
             self._woken.set()
             try:
-                await self._closed.wait()
+                if not self._has_ended:
+                    await self._closed.wait()
                 if self._has_ended:
                     raise NodeEnded()
                 return await action()
@@ -113,21 +110,15 @@ class Feeder:
 
     async def run(self) -> int:
         """Runs the node until `stop`, or until it ends with a status that no new start mends. Gives its status."""
-        transcript = Transcript(self._settings.transcript) if self._settings.transcript else None
         ticks = asyncio.create_task(self._tick_each_second())
         try:
-            return await self._run_again_and_again(transcript)
-        except SetupRefused as refused:
-            LOG.error("the node refuses its setup: %s", refused)
-            return 2
+            return await self._run_again_and_again()
         finally:
             ticks.cancel()
             self._has_ended = True
             self._closed.set()
             for waiting in (*(self._line.waiting if self._line else ()), *self._lost, *self._queue):
                 waiting.fail(NodeEnded())
-            if transcript is not None:
-                transcript.close()
 
     async def _tick_each_second(self) -> None:
         while True:
@@ -136,12 +127,12 @@ class Feeder:
                 self._queue.append(Waiting.of(self._events.tick()))
                 self._woken.set()
 
-    async def _run_again_and_again(self, transcript: Transcript | None) -> int:
+    async def _run_again_and_again(self) -> int:
         knows_existing = has_existing(self._settings)
         locked_until: float | None = None
         while True:
             existing = knows_existing and self._state.value("node.was_opened") is not None
-            child = await Child.start(self._settings, existing, transcript)
+            child = await Child.start(self._settings, existing)
             status = await self._run_once(child)
             if not self._reopened.is_set() and status in (0, 1):
                 self._closed.set()
@@ -195,11 +186,7 @@ class Feeder:
         return self._stopping.is_set() or not self._reopened.is_set()
 
     async def _open(self, child: Child) -> None:
-        await child.write(self._settings.setup_line)
-        opened = await child.read()
-        if opened["done"] != "opened":
-            raise SetupRefused(write_json(opened))
-        self._judge_kept_line(opened["serial"])
+        self._judge_kept_line(await child.open())
         if self._line is not None:
             await self._carry_out(child, self._line)
         self._takes_arrays = (await self._carry_out(child, Line("[]", [])))["done"] == "all"
@@ -265,14 +252,12 @@ class Feeder:
                 self._queue.appendleft(waiting)
         with self._state.transaction():
             for outcome in outcomes:
-                for listener in self._before:
-                    listener(outcome)
+                _tell(self._before, outcome)
             goes_on = self.is_open and not self._has_to_end()
             self._keep(next_line(self._queue, self._takes_arrays) if goes_on else None)
         for waiting, outcome in zip(line.waiting, outcomes):
             self._count(outcome)
-            for listener in self._after:
-                listener(outcome)
+            _tell(self._after, outcome)
             waiting.succeed(outcome)
 
     def _count(self, outcome: Outcome) -> None:
@@ -285,3 +270,14 @@ class Feeder:
             self._ticked = time.monotonic()
         if outcome.word not in ("stepped", "idle"):
             LOG.warning("%s: %s", outcome.event["event"], write_json(outcome.done))
+
+
+def _tell(listeners: list[Listener], outcome: Outcome) -> None:
+    """Calls listeners. A fault of one is logged: if it ended the bridge, the same line might end each new start too."""
+    for listener in listeners:
+        try:
+            listener(outcome)
+        except sqlite3.Error:
+            raise
+        except Exception:
+            LOG.exception("%s: the outcome was not taken in", outcome.event["event"])
