@@ -50,7 +50,7 @@ class ClientCase(unittest.IsolatedAsyncioTestCase):
 
     is_operator = False
     kind = "node"
-    clock_factor = 50.0
+    clock_factor = 5.0
 
     async def asyncSetUp(self) -> None:
         folder = tempfile.TemporaryDirectory()

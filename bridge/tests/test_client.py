@@ -74,7 +74,7 @@ class Commands(ClientCase):
             return answered()
         for answer in (too_much, nothing):
             self.party.answers["commands"] = answer
-            await asyncio.wait_for(self.carry(self.packet("unlock_connector", 7, unlock(7))), 5)
+            await asyncio.wait_for(self.carry(self.packet("unlock_connector", 7, unlock(7))), 20)
         self.assertEqual([], self.delivered)
         self.assertIn('ocpi_http_requests_total{direction="out",partner="BE/BEC",status="lost"} 2', self.metrics.text())
 
@@ -173,11 +173,15 @@ class Once(ClientCase):
         self.assertEqual((1, []), (len(self.asked()), self.delivered))
 
     async def test_what_surely_was_not_sent_goes_again(self) -> None:
-        partner = self.client.partners.of("BE/BEC")
-        away = {("commands", "RECEIVER"): f"http://127.0.0.1:{free_port()}/commands"}
-        self.client.partners.set_endpoints("BE/BEC", partner.versions_url or "", away)
-        await self.carry(self.packet("stop_session", 7, stop(7)))
-        self.client.partners.set_endpoints("BE/BEC", partner.versions_url or "", {})
+        async def says_nothing(_: asyncio.StreamReader, writer: asyncio.StreamWriter) -> None:
+            self.addCleanup(writer.close)
+        silent = await asyncio.start_server(says_nothing, "127.0.0.1", 0)
+        self.addCleanup(silent.close)
+        port = silent.sockets[0].getsockname()[1]
+        for url in (f"http://127.0.0.1:{free_port()}", f"https://127.0.0.1:{port}"):
+            self.client.partners.set_endpoints("BE/BEC", self.party.versions_url, {("commands", "RECEIVER"): url})
+            await self.carry(self.packet("stop_session", 7, stop(7)))
+        self.client.partners.set_endpoints("BE/BEC", self.party.versions_url, {})
         await self.carry(self.packet("stop_session", 7, stop(7)))
         self.assertEqual((1, [7]), (len(self.asked()), [answer.request for answer in self.delivered]))
 
@@ -189,7 +193,7 @@ class Once(ClientCase):
 class Queues(ClientCase):
     """What waits for a partner, and how often it is asked."""
 
-    clock_factor = 20.0
+    clock_factor = 10.0
 
     async def begin_to_send(self) -> None:
         task = asyncio.create_task(self.client.run())
@@ -230,7 +234,6 @@ class Queues(ClientCase):
         pauses = [later - earlier for earlier, later in zip(moments, moments[1:])]
         for pause, least in zip(pauses, (0, 1, 2, 4, 8)):
             self.assertGreaterEqual(pause, least)
-        self.assertLess(pauses[0], 4)
         self.party.answers["commands"] = with_serial(ACCEPTED)
         for request in range(7, 10):
             self.client.send(self.packet("unlock_connector", request, unlock(request)))

@@ -14,6 +14,7 @@ from .envelope import SUCCESS, authorization
 from .partners import Endpoints
 
 SECONDS = 10.0
+SECONDS_TO_CONNECT = 5.0
 MOST_BYTES = 1_000_000
 VERSION = "2.2.1"
 UNUSABLE = 3001
@@ -71,6 +72,8 @@ class Exchange:
             return response
         except aiohttp.ClientConnectorError as fault:
             raise NoResponse(f"no connection: {fault}", was_sent=False) from None
+        except aiohttp.ServerTimeoutError:
+            raise NoResponse("no connection in time", was_sent=False) from None
         except (aiohttp.ClientError, TimeoutError, OSError, ValueError) as fault:
             raise NoResponse(f"no response: {type(fault).__name__}") from None
         finally:
@@ -104,7 +107,8 @@ class Exchange:
             # A connection is kept for a few seconds alone: one that the partner ends meanwhile would lose a request.
             self._session = aiohttp.ClientSession(
                 connector=aiohttp.TCPConnector(limit=0, keepalive_timeout=3), cookie_jar=aiohttp.DummyCookieJar(),
-                timeout=aiohttp.ClientTimeout(total=None), auto_decompress=False)
+                timeout=aiohttp.ClientTimeout(total=None, sock_connect=SECONDS_TO_CONNECT / self.clock.factor),
+                auto_decompress=False)
         data = None if body is None else write_json(body).encode()
         typed = headers if data is None else {**headers, "Content-Type": "application/json"}
         async with self._session.request(method, address, headers=typed, data=data, allow_redirects=False) as response:
