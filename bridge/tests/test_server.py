@@ -457,6 +457,18 @@ class ProviderServer(ServerCase):
         second = await self.ask("ocpi", "POST", "receiver/cdrs", {**cdr, "id": "C2"})
         self.assertEqual((second.told, second.headers.get("Location")), ((200, 2001), None))
 
+    async def test_a_repeat_with_another_object_changes_nothing(self) -> None:
+        first, other = (ocpi_objects.cdr("BE/BEC", self.token, "S1", id=identifier) for identifier in ("C1", "C2"))
+        for cdr in (first, other, {**first, "last_updated": "2099-01-01T00:00:00Z"}):
+            self.assertEqual((await self.ask("node", "POST", "receiver/cdrs", cdr, 1)).told, (200, 1000))
+        self.assertEqual((await self.ask("node", "GET", "receiver/cdrs/BE/BEC/C1")).body["data"], first)
+        self.assertEqual((await self.ask("node", "GET", "receiver/cdrs/BE/BEC/C2")).told, (404, 2003))
+
+    async def test_members_that_no_node_reads_may_be_anything(self) -> None:
+        cdr = ocpi_objects.cdr("BE/BEC", self.token, "S1", id="C1", evse_uid=5, status=[None], type={})
+        self.assertEqual((await self.ask("node", "POST", "receiver/cdrs", cdr, 1)).told, (200, 1000))
+        self.assertEqual((await self.ask("node", "GET", "receiver/cdrs/BE/BEC/C1")).body["data"], cdr)
+
     async def test_tokens_by_pages(self) -> None:
         for uid in ("AA01", "AA02", "AA03"):
             await self.tell("token", token={**self.token, "uid": uid})

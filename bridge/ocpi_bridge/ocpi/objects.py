@@ -27,6 +27,8 @@ class Objects:
                 module TEXT, party TEXT, identifier TEXT, token_type TEXT, partner TEXT NOT NULL,
                 last_updated INTEGER NOT NULL, status TEXT NOT NULL, evse_uid TEXT NOT NULL, body TEXT NOT NULL,
                 PRIMARY KEY (module, party, identifier, token_type)) WITHOUT ROWID""",
+            """CREATE TABLE IF NOT EXISTS accepted_request (partner TEXT, number INTEGER, PRIMARY KEY (partner, number))
+                WITHOUT ROWID""",
             "CREATE INDEX IF NOT EXISTS object_of_partner ON object_of (module, partner, last_updated, identifier)",
             "CREATE INDEX IF NOT EXISTS object_by_time ON object_of (module, last_updated, identifier)",
             f"CREATE INDEX IF NOT EXISTS living_session ON object_of (evse_uid) WHERE {LIVING}")
@@ -40,20 +42,26 @@ class Objects:
         if outcome.event["event"] == "deliver":
             packet = Packet.of(outcome.event["packet"])
             answer = outcome.answer_to(packet.sender, packet.request)
-            if (packet.kind in OBJECTS and answer is not None and answer.body["status_code"] == ACCEPTED
-                    and same_party(_party(packet.body), packet.sender)):
-                self._keep(packet, packet.sender)
+            if packet.kind in OBJECTS and answer is not None and answer.body["status_code"] == ACCEPTED:
+                self._accept(packet)
+
+    def _accept(self, packet: Packet) -> None:
+        """Keeps an object of a partner's own. A node answers a repeat unseen: so another object in one is none."""
+        is_first = self._state.query("INSERT OR IGNORE INTO accepted_request VALUES (?, ?) RETURNING number",
+                                     party_key(packet.sender), packet.request)
+        if is_first and same_party(_party(packet.body), packet.sender):
+            self._keep(packet, packet.sender)
 
     def _keep(self, packet: Packet, partner: str) -> None:
         (module, identifier), body = OBJECTS[packet.kind], packet.body
+        status, evse_uid = (body["status"], body["evse_uid"].upper()) if module == "sessions" else ("", "")
         self._state.query(
             """INSERT INTO object_of VALUES (?, ?, ?, ?, ?, ?, ?, ?, ?)
             ON CONFLICT DO UPDATE SET partner = excluded.partner, last_updated = excluded.last_updated,
                 status = excluded.status, evse_uid = excluded.evse_uid, body = excluded.body
             WHERE excluded.last_updated > last_updated AND status NOT IN ('COMPLETED', 'INVALID')""",
             module, party_key(_party(body)), body[identifier].upper(), body["type"] if module == "tokens" else "",
-            party_key(partner), milliseconds_of(body["last_updated"]), body["status"] if module == "sessions" else "",
-            body.get("evse_uid", "").upper(), write_json(body))
+            party_key(partner), milliseconds_of(body["last_updated"]), status, evse_uid, write_json(body))
 
     def find(self, module: str, party: str, identifier: str, token_type: str = "RFID") -> Members | None:
         """The object of a party and an id (of a token also a type) in `sessions`, `cdrs` or `tokens`."""
