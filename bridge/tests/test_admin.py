@@ -13,6 +13,7 @@ from ocpi_bridge.admin.metrics import METRICS, Metrics
 from ocpi_bridge.admin.outstanding import Outstanding
 from ocpi_bridge.events import Outcome, Packet
 from ocpi_bridge.json_text import Members
+from ocpi_bridge.ocpi.objects import Objects
 from ocpi_bridge.state import State
 
 from .running import PROGRAM, RunningBridge, charge_point, operator, partner, provider
@@ -170,26 +171,34 @@ class OperatorTest(AdminTest):
         self.assertEqual(await self.bridge.admin_get("/health"), {"healthy": True})
 
 
+MOMENT = "2025-01-01T10:00:00Z"
+
+
 class OutstandingTest(unittest.TestCase):
     def setUp(self) -> None:
         folder = tempfile.TemporaryDirectory()
         self.addCleanup(folder.cleanup)
         state = State(Path(folder.name) / "state.db")
         self.addCleanup(state.close)
-        self.outstanding = Outstanding(state)
+        self.objects = Objects(state)
+        self.outstanding = Outstanding(state, self.objects)
 
     def note(self, event: Members, *packets: Packet) -> None:
-        self.outstanding.note(Outcome(event, {"done": "stepped", "packets": len(packets)}, packets))
+        outcome = Outcome({**event, "at": MOMENT}, {"done": "stepped", "packets": len(packets)}, packets)
+        self.objects.note(outcome)
+        self.outstanding.note(outcome)
 
     def deliver(self, sender: str, request: int, kind: str, body: Members, status: int | None = None) -> None:
         """A packet that comes, and is answered with a status where one is given."""
         packet = Packet(sender, "NL/TNM", 1, request, kind, body)
-        answers = [] if status is None else [Packet("NL/TNM", sender, 1, request, "ack", {"status_code": status})]
+        ack = Packet("NL/TNM", sender, 1, request, "ack", {"status_code": status, "timestamp": MOMENT})
+        answers = [] if status is None else [ack]
         self.note({"event": "deliver", "packet": packet.members()}, *answers)
 
     def test_a_push_waits_until_its_own_number_is_acknowledged(self) -> None:
         for request, receiver in ((1, "NL/TNM"), (2, "NL/TNM"), (3, "DE/XXX")):
-            session = {"country_code": "BE", "party_id": "BEC", "id": "S1"}
+            session = {"country_code": "BE", "party_id": "BEC", "id": "S1", "evse_uid": "E1", "status": "ACTIVE",
+                       "last_updated": MOMENT}
             self.note({"event": "tick"}, Packet("BE/BEC", receiver, 1, request, "put_session", session))
         self.assertEqual(self.outstanding.pushes(), 2)
         self.deliver("nl/tnm", 1, "ack", {"status_code": 1000})
@@ -200,11 +209,13 @@ class OutstandingTest(unittest.TestCase):
         self.assertEqual(self.outstanding.pushes(), 1)
 
     def test_a_record_counts_once_and_a_credit_takes_it_back(self) -> None:
-        bill = {"id": "C1", "currency": "EUR", "total_cost": {"excl_vat": "3.08649"}}
+        bill = {"country_code": "BE", "party_id": "BEC", "id": "C1", "currency": "EUR",
+                "total_cost": {"excl_vat": "3.08649"}, "last_updated": MOMENT}
         for status in (1000, 1000, 2001):
             self.deliver("BE/BEC", 1, "post_cdr", bill, status)
         self.deliver("BE/BEC", 2, "post_cdr", {**bill, "id": "C2", "total_cost": {"excl_vat": 2}}, 2001)
         self.assertEqual(self.outstanding.owed(), [{"operator": "BE/BEC", "currency": "EUR", "amount": "3.0864"}])
+        self.deliver("BE/BEC", 1, "post_cdr", {**bill, "id": "C3"}, 1000)
         self.deliver("be/bec", 3, "post_cdr", {**bill, "id": "c1-C", "total_cost": {"excl_vat": "-4.5"}}, 1000)
         self.assertEqual(self.outstanding.owed()[0]["amount"], "-1.4136")
 

@@ -3,6 +3,7 @@ from decimal import Decimal
 
 from ..events import Outcome, Packet
 from ..json_text import Members, Number, read_json, write_json
+from ..ocpi.objects import Objects
 from ..parties import party_key
 from ..state import State
 
@@ -13,8 +14,9 @@ PUSHES = ("command_result", "put_session", "post_cdr", "put_token")
 class Outstanding:
     """Follows the packets of a node. A bill counts once for what is owed, however often it comes."""
 
-    def __init__(self, state: State) -> None:
-        self._state = state
+    def __init__(self, state: State, objects: Objects) -> None:
+        """`objects` take note of each outcome before this does."""
+        self._state, self._objects = state, objects
         state.define(
             "CREATE TABLE IF NOT EXISTS push_that_waits (receiver TEXT, subject TEXT, request INTEGER,"
             " PRIMARY KEY (receiver, subject))",
@@ -50,7 +52,7 @@ class Outstanding:
         elif packet.kind == "command_result":
             self._state.query("UPDATE command_given SET result = ? WHERE request = ? AND operator = ?"
                               " AND result IS NULL", body["result"], body["response_url"].rpartition("/")[2], sender)
-        elif packet.kind == "post_cdr":
+        elif packet.kind == "post_cdr" and self._objects.find("cdrs", sender, body["id"]) == body:
             amount = int(Decimal(str(body["total_cost"]["excl_vat"])).scaleb(4))
             self._state.query("INSERT OR IGNORE INTO owed_for VALUES (?, ?, ?, ?)", sender, party_key(body["id"]),
                               body["currency"], amount)
