@@ -22,15 +22,11 @@ async def back_up(feeder: Feeder, store: Path, copy: Path) -> Members:
 
 def copy_whole(source: Path, copy: Path) -> int:
     """Copies a file to a new one of mode 0600, which has its name once all of it is on the disk. Tells its bytes."""
-    part, name = tempfile.mkstemp(dir=copy.parent, prefix=copy.name)
-    try:
-        with open(part, "wb") as written, source.open("rb") as read:
-            shutil.copyfileobj(read, written)
-            written.flush()
-            os.fsync(written.fileno())
-        os.link(name, copy)
-    finally:
-        os.unlink(name)
+    with tempfile.NamedTemporaryFile(dir=copy.parent) as written, source.open("rb") as read:
+        shutil.copyfileobj(read, written)
+        written.flush()
+        os.fsync(written.fileno())
+        os.link(written.name, copy)
     folder = os.open(copy.parent, os.O_RDONLY)
     os.fsync(folder)
     os.close(folder)

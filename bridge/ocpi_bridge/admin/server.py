@@ -5,6 +5,7 @@ is refused, and so is what comes under another name than this machine's own.
 """
 import asyncio
 import re
+import time
 from collections.abc import Awaitable, Callable
 from contextlib import suppress
 from functools import partial
@@ -39,7 +40,7 @@ FAILURES = {
     NotJson: (400, "the body is no JSON that a node reads"), NodeEnded: (503, "the bridge is ending"),
     NumberTooLarge: (400, "the body has a number of a size that no node takes"),
     OutcomeLost: (504, "carried out, but a stop of the node lost what came of it: see the lists")}
-# Seconds within which a tick must have been answered, and seconds between two looks at what a page shows.
+# Seconds within which a tick must have been answered, and the least seconds between two looks at what a page shows.
 HEALTHY_WITHIN = 5.0
 LOOK_EVERY = 0.5
 
@@ -65,8 +66,8 @@ class Admin:
         metrics.gauge("ocpi_charge_points_connected", lambda: central_system.connected_count() if central_system else 0)
         self._view = partial(view, configuration, objects, outstanding, locations)
         self._lists: dict[str, Callable[[], list[Members]]] = {
-            "/sessions": partial(objects.all, "sessions"), "/cdrs": partial(objects.all, "cdrs"),
-            "/tokens": partial(objects.all, "tokens"),
+            "/sessions": partial(objects.newest, "sessions"), "/cdrs": partial(objects.newest, "cdrs"),
+            "/tokens": partial(objects.newest, "tokens"),
             "/commands": lambda: central_system.commands() if central_system else outstanding.commands(),
             "/charge_points": lambda: central_system.charge_points() if central_system else [],
             "/partners": lambda: [{"party": partner.party, "kind": partner.kind, "registered": partner.is_registered,
@@ -86,7 +87,9 @@ class Admin:
         return application
 
     async def _list(self, path: str, _: web.Request) -> web.Response:
-        return _answer(self._lists[path]())
+        """Writes the list in a thread, since it may be long, and the node goes on meanwhile."""
+        text = await asyncio.to_thread(write_json, self._lists[path]())
+        return web.Response(text=text, content_type="application/json", headers=HEADERS)
 
     async def _feed(self, event: str, is_operators: bool, request: web.Request) -> web.Response:
         """Feeds the body of a request as an event of a role, and answers what came of it."""
@@ -131,16 +134,21 @@ class Admin:
         return _answer({"healthy": is_healthy}, 200 if is_healthy else 503)
 
     async def _stream(self, request: web.Request) -> web.StreamResponse:
-        """Server-sent events: all that the page shows, at once and whenever it changed."""
+        """Server-sent events: all that the page shows, at once and whenever it changed.
+
+        Where a look takes long, as at a large site, the next one comes later: a page takes a tenth of the time at most.
+        """
         response = web.StreamResponse(headers={**HEADERS, "Content-Type": "text/event-stream"})
         await response.prepare(request)
         shown = ""
         while not self._end.is_set():
+            began = time.monotonic()
             text = write_json(self._view())
+            pause = max(LOOK_EVERY, 9 * (time.monotonic() - began))
             await response.write(f"data: {text}\n\n".encode() if text != shown else b":\n\n")
             shown = text
             with suppress(TimeoutError):
-                await asyncio.wait_for(self._end.wait(), LOOK_EVERY)
+                await asyncio.wait_for(self._end.wait(), pause)
         return response
 
     async def _end_streams(self, _: web.Application) -> None:

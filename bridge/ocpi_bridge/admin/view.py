@@ -14,19 +14,12 @@ def view(configuration: Configuration, objects: Objects, outstanding: Outstandin
          locations: Locations | None) -> Members:
     """Party, role, sessions and bills; an operator's EVSEs, or a provider's operators, tokens, commands and debts."""
     shown: Members = {"party": configuration.node.party, "is_operator": configuration.is_operator,
-                      "sessions": _newest(objects, "sessions", MOST_SHOWN),
-                      "cdrs": _newest(objects, "cdrs", MOST_SHOWN)}
+                      "sessions": objects.newest("sessions", MOST_SHOWN), "cdrs": objects.newest("cdrs", MOST_SHOWN)}
     if locations is not None:
         return {**shown, "evses": [
             {"uid": evse["uid"], "location": f"{location['address']}, {location['city']}", "status": evse["status"],
              "session": objects.living_session(evse["uid"])}
             for location in locations.all() for evse in location["evses"]]}
     return {**shown, "operators": [node for node in configuration.setup["nodes"] if node.get("site")],
-            "tokens": _newest(objects, "tokens", MOST_TOKENS), "commands": outstanding.commands(MOST_SHOWN),
+            "tokens": objects.newest("tokens", MOST_TOKENS), "commands": outstanding.commands(MOST_SHOWN),
             "owed": outstanding.owed()}
-
-
-def _newest(objects: Objects, module: str, most: int) -> list[Members]:
-    count, _ = objects.page(module, None, None, None, 0, 0)
-    _, found = objects.page(module, None, None, None, max(0, count - most), most)
-    return found[::-1]

@@ -84,9 +84,9 @@ class Objects:
         return count, self._bodies(f"{where} ORDER BY last_updated, identifier, party, token_type LIMIT ? OFFSET ?",
                                    *values, limit, offset)
 
-    def all(self, module: str) -> list[Members]:
-        """All objects of a module, the newest first."""
-        return self._bodies("module = ? ORDER BY last_updated DESC, identifier", module)
+    def newest(self, module: str, most: int = -1) -> list[Members]:
+        """The objects of a module, the newest first: all of them, or so many at most."""
+        return self._bodies("module = ? ORDER BY last_updated DESC, identifier DESC LIMIT ?", module, most)
 
     def living_session(self, evse_uid: str) -> Members | None:
         """The session at an EVSE of the node that is PENDING or ACTIVE."""
