@@ -5,12 +5,28 @@ from dataclasses import dataclass
 from pathlib import Path
 from typing import Any
 
-from .json_text import Members, write_json
-from .members import (Address, WrongConfiguration, address, each_of, file_in, list_of, loopback, object_of, positive,
-                      read_file, refuse, text_of, url)
+from .json_text import Members, Number, write_json
+from .members import WrongConfiguration as WrongConfiguration
+from .members import each_of, file_in, list_of, matching, object_of, read_file, refuse, text_of
 
-__all__ = ["Address", "ChargePointSettings", "Configuration", "ConnectorSettings", "NodeSettings", "OcpiSettings",
-           "OcppSettings", "PartnerSettings", "WrongConfiguration", "read_configuration"]
+PORT = ":([0-9]{1,4}|[1-5][0-9]{4}|6[0-4][0-9]{3}|65[0-4][0-9]{2}|655[0-2][0-9]|6553[0-5])"
+LISTEN = matching(".+" + PORT, "no HOST:PORT")
+LOOPBACK = matching(rf"(localhost|127(\.[0-9]{{1,3}}){{3}}|\[::1\]){PORT}", "no HOST:PORT of loopback")
+URL = matching("https?://[^/?# ]+[^?# ]*", "no address with http or https")
+KIND = matching("node|ocpi", "neither node nor ocpi")
+
+
+@dataclass(frozen=True)
+class Address:
+    """Where to listen. Port 0 lets the system pick one."""
+
+    host: str
+    port: int
+
+    @staticmethod
+    def of(text: str) -> "Address":
+        host, _, port = text.rpartition(":")
+        return Address(host.strip("[]"), int(port))
 
 
 @dataclass(frozen=True)
@@ -90,7 +106,7 @@ class Configuration:
 
 def read_configuration(path: Path) -> Configuration:
     """Reads the file, and the setup that it names. Raises WrongConfiguration with the path of what is wrong."""
-    file = read_form(read_file(path, str(path)), path.absolute().parent)
+    file = _read_form(read_file(path, str(path)), path.absolute().parent)
     node, ocpi = file["node"], file["ocpi"]
     setup = read_file(node["setup"], "node.setup")
     sites = _sites(setup)
@@ -104,25 +120,30 @@ def read_configuration(path: Path) -> Configuration:
         refuse("ocpp", "a provider has no charge points")
     return Configuration(
         node=NodeSettings(node["program"], party, write_json(setup), node["store"], node["transcript"]),
-        state=file["state"], ocpi=OcpiSettings(ocpi["listen"], ocpi["url"].rstrip("/"), ocpi["business"]),
-        ocpp=_ocpp(file["ocpp"], site) if file["ocpp"] and site else None, admin=file["admin"]["listen"],
+        state=file["state"], ocpi=OcpiSettings(Address.of(ocpi["listen"]), ocpi["url"].rstrip("/"), ocpi["business"]),
+        ocpp=_ocpp(file["ocpp"], site) if file["ocpp"] and site else None, admin=Address.of(file["admin"]["listen"]),
         partners=_partners(file["partners"], [name for name in sites if (sites[name] is None) == (site is not None)]),
         clock_factor=file["clock_factor"] or 1.0, site=site, setup=setup)
 
 
-def read_form(value: Any, folder: Path) -> Members:
+def _read_form(value: Any, folder: Path) -> Members:
     """The members of the file, each of its form. Paths are relative to the folder."""
     text, token, file = text_of(255), text_of(64), file_in(folder)
     connectors = each_of(object_of({"evse_uid": text, "connector_id": text}))
     charge_points = list_of(object_of({"id": text, "connectors": connectors}, {"password": text}))
-    partners = list_of(object_of({"party": text, "kind": text, "token": token},
-                                 {"their_token": token, "versions_url": url}))
+    partners = list_of(object_of({"party": text, "kind": KIND, "token": token},
+                                 {"their_token": token, "versions_url": URL}))
     members: Members = object_of(
         {"node": object_of({"program": file, "party": text, "setup": file, "store": file}, {"transcript": file}),
-         "state": file, "ocpi": object_of({"listen": address, "url": url, "business": text_of(100)}),
-         "admin": object_of({"listen": loopback}), "partners": partners},
-        {"ocpp": object_of({"listen": address, "charge_points": charge_points}), "clock_factor": positive})(value, "")
+         "state": file, "ocpi": object_of({"listen": LISTEN, "url": URL, "business": text_of(100)}),
+         "admin": object_of({"listen": LOOPBACK}), "partners": partners},
+        {"ocpp": object_of({"listen": LISTEN, "charge_points": charge_points}), "clock_factor": _positive})(value, "")
     return members
+
+
+def _positive(value: Any, path: str) -> float:
+    number = float(value) if isinstance(value, (int, Number)) and not isinstance(value, bool) else 0.0
+    return number if 0 < number < float("inf") else refuse(path, "no number above 0")
 
 
 def spelled(name: str, names: Iterable[str]) -> str | None:
@@ -152,7 +173,7 @@ def _ocpp(ocpp: Members, site: Members) -> OcppSettings:
                 refuse(f"{path}.connectors.{number}", "no number of a connector, from 1")
             connectors[int(number)] = _connector(connector, f"{path}.connectors.{number}", evses)
         charge_points[entry["id"]] = ChargePointSettings(entry["id"], entry["password"], connectors)
-    return OcppSettings(ocpp["listen"], charge_points)
+    return OcppSettings(Address.of(ocpp["listen"]), charge_points)
 
 
 def _connector(connector: Members, path: str, evses: dict[str, list[str]]) -> ConnectorSettings:
@@ -172,8 +193,6 @@ def _partners(entries: list[Members], missing: list[str]) -> tuple[PartnerSettin
         party = (spelled(entry["party"], missing)
                  or refuse(f"{path}.party", "no partner of this node in the setup, or here twice"))
         missing.remove(party)
-        if entry["kind"] not in ("node", "ocpi"):
-            refuse(f"{path}.kind", "neither node nor ocpi")
         for name, other in (("their_token", "versions_url"), ("versions_url", "their_token")):
             if entry[name] is None and entry[other] is not None:
                 refuse(f"{path}.{name}", "missing")

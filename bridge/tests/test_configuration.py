@@ -11,12 +11,14 @@ from ocpi_bridge.configuration import WrongConfiguration, read_configuration
 from .running import charge_point, operator, partner, provider
 
 NOBODY = "http://127.0.0.1:9/ocpi/versions"
-SETUP: dict[str, Any] = {"nodes": [operator("BE/BEC", ["E1", "E2"]), operator("BE/OTH", ["E9"]), provider("NL/TNM"), provider("DE/ABC")]}
+SETUP: dict[str, Any] = {"nodes": [operator("BE/BEC", ["E1", "E2"]), operator("BE/OTH", ["E9"]), provider("NL/TNM"),
+                                   provider("DE/ABC")]}
 GIVEN: dict[str, Any] = {
     "node": {"program": "program", "party": "be/bec", "setup": "setup.json", "store": "be.db"},
     "state": "be.bridge.db",
     "ocpi": {"listen": "127.0.0.1:8101", "url": "https://ocpi.example.com/bec/", "business": "BEC"},
-    "ocpp": {"listen": "[::1]:0", "charge_points": [charge_point("CP1", ["e1"], "secret"), charge_point("CP2", ["E2"])]},
+    "ocpp": {"listen": "[::1]:0", "charge_points": [charge_point("CP1", ["e1"], "secret"),
+                                                    charge_point("CP2", ["E2"])]},
     "admin": {"listen": "127.0.0.1:8103"},
     "partners": [partner("nl/tnm", "node", "A", "B", NOBODY), partner("DE/ABC", "ocpi", "C")]}
 MISSING = object()
@@ -83,7 +85,7 @@ class ConfigurationTest(unittest.TestCase):
         self.refused("ocpi.url: no address with http or https", ("ocpi/url", "ftp://ocpi.example.com"))
         self.refused("ocpi.business: no text of 1 to 100 printable characters", ("ocpi/business", ""))
         self.refused("clock_factor: no number above 0", ("clock_factor", 0))
-        self.refused("admin.listen: no loopback address", ("admin/listen", "0.0.0.0:8103"))
+        self.refused("admin.listen: no HOST:PORT of loopback", ("admin/listen", "0.0.0.0:8103"))
 
     def test_the_setup_and_the_partners(self) -> None:
         first, second = GIVEN["partners"]
@@ -108,7 +110,8 @@ class ConfigurationTest(unittest.TestCase):
         def points(*given: Any) -> tuple[str, Any]:
             return "ocpp", {"listen": "127.0.0.1:0", "charge_points": list(given)}
 
-        self.refused("ocpp.charge_points[1].id: that of another charge point", points(first, charge_point("CP1", ["E2"])))
+        self.refused("ocpp.charge_points[1].id: that of another charge point",
+                     points(first, charge_point("CP1", ["E2"])))
         self.refused("ocpp.charge_points[1].connectors.1.evse_uid: not in the site, or that of another connector",
                      points(first, charge_point("CP2", ["E1"])))
         self.refused("ocpp.charge_points[0].connectors.1.evse_uid: not in the site, or that of another connector",

@@ -1,4 +1,4 @@
-"""The node's feeder: what stops of the node and of the bridge leave, the program's statuses, and lines of many events."""
+"""The feeder: what stops of the node and of the bridge leave, the statuses of the program, lines of many events."""
 import asyncio
 import dataclasses
 import json
