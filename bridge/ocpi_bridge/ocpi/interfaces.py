@@ -5,19 +5,19 @@ from urllib.parse import unquote
 
 from aiohttp import web
 
-from ..clock import Clock, milliseconds_of
+from ..clock import Clock
 from ..json_text import Members, read_json
 from ..parties import party_of, same_party
 from .delivery import Delivery
 from .envelope import INVALID, UNKNOWN_LOCATION, UNKNOWN_TOKEN, Refusal, answer
-from .lists import Part, list_answer, part_of
+from .lists import list_answer, part_of
 from .locations import Locations
 from .objects import OBJECTS, Objects
 from .packets import COMMANDS
 from .requests import nodes_url
 
 COMMAND_KINDS = {name: kind for kind, name in COMMANDS.items()}
-PUT_KINDS = {"sessions": "put_session", "tokens": "put_token"}
+OBJECT_KINDS = {module: kind for kind, (module, _) in OBJECTS.items()}
 # Segments of a path that may be empty, as an id may be.
 OBJECT = "{country_code:[^/]*}/{party_id:[^/]*}/{identifier:[^/]*}"
 
@@ -42,16 +42,15 @@ class Interfaces:
             ("GET", objects, self.get), ("PUT", objects, self.put), ("PATCH", objects, self.patch)]
         if self._locations is None:
             routes += [
-                ("POST", f"{receiver}/cdrs", self.post_cdr), ("GET", f"{receiver}/cdrs/{OBJECT}", self.get),
+                ("POST", f"{receiver}/cdrs", self.put), ("GET", f"{receiver}/cdrs/{OBJECT}", self.get),
                 ("POST", sender + "/commands/results/{number:[0-9]+}", self.post_result),
                 ("GET", f"{sender}/tokens", self.get_list),
                 ("POST", sender + "/tokens/{token_uid:[^/]*}/authorize", self.authorize)]
         else:
             routes += [
                 ("POST", f"{receiver}/commands/{{name:{'|'.join(COMMAND_KINDS)}}}", self.post_command),
-                ("GET", f"{sender}/sessions", self.get_list), ("GET", f"{sender}/cdrs", self.get_list),
-                ("GET", f"{sender}/locations", self.get_locations),
-                ("GET", sender + "/locations/{identifiers:[^/]*(/[^/]*){0,2}}", self.get_location)]
+                ("GET", f"{sender}/{{module:sessions|cdrs|locations}}", self.get_list),
+                ("GET", sender + "/locations/{identifiers:[^/]*(/[^/]*){0,2}}", self.get)]
         return [web.route(method, path, handler) for method, path, handler in routes]
 
     async def post_command(self, request: web.Request) -> web.Response:
@@ -73,13 +72,11 @@ class Interfaces:
             body["location"] = await _members(request)
         return await self._delivery.carry_out(request, "authorize", body)
 
-    async def post_cdr(self, request: web.Request) -> web.Response:
-        return await self._delivery.carry_out(request, "post_cdr", await _members(request))
-
     async def put(self, request: web.Request) -> web.Response:
+        """Takes a whole session, token or CDR."""
         body = await _members(request)
         _compare(request, body)
-        return await self._delivery.carry_out(request, PUT_KINDS[_module(request)], body)
+        return await self._delivery.carry_out(request, OBJECT_KINDS[_module(request)], body)
 
     async def patch(self, request: web.Request) -> web.Response:
         """Puts the members of the body into the object that is held, and hands on the whole: one after another."""
@@ -89,46 +86,31 @@ class Interfaces:
             raise Refusal(200, INVALID, "last_updated: missing")
         async with self._patching:
             body = {**self._held(request), **changes}
-            return await self._delivery.carry_out(request, PUT_KINDS[_module(request)], body)
+            return await self._delivery.carry_out(request, OBJECT_KINDS[_module(request)], body)
 
     async def get(self, request: web.Request) -> web.Response:
         return answer(self._clock.moment(), self._held(request))
 
     def _held(self, request: web.Request) -> Members:
-        """The object that a path names. Raises Refusal where none is held that is of the partner that asks."""
-        module, (country, identifier, name) = _module(request), _segments(request)
-        party = party_of(country, identifier)
-        if same_party(party, request["partner"].party):
-            found = self._objects.find(module, party, name, _token_type(request))
-            if found is not None:
-                return found
-        raise Refusal(404, UNKNOWN_TOKEN if module == "tokens" else UNKNOWN_LOCATION, f"{module}: not held")
+        """What a path names: a place, or an object of the partner that asks. Raises Refusal where there is none."""
+        module, segments, found = _module(request), _segments(request), None
+        if module == "locations" and self._locations is not None:
+            found = self._locations.find(*segments)
+        elif same_party(party_of(*segments[:2]), request["partner"].party):
+            found = self._objects.find(module, request["partner"].party, segments[2], _token_type(request))
+        if found is None:
+            raise Refusal(404, UNKNOWN_TOKEN if module == "tokens" else UNKNOWN_LOCATION, f"{module}: not held")
+        return found
 
     async def get_list(self, request: web.Request) -> web.Response:
-        """The sessions or CDRs of the partner that asks, or all tokens."""
+        """The locations, the tokens, or the sessions or CDRs of the partner that asks."""
         part, module = part_of(request.query), _module(request)
-        partner = None if module == "tokens" else request["partner"].party
-        count, objects = self._objects.page(module, partner, part.date_from, part.date_to, part.offset, part.limit)
+        if module == "locations" and self._locations is not None:
+            count, objects = self._locations.page(part.date_from, part.date_to, part.offset, part.limit)
+        else:
+            partner = None if module == "tokens" else request["partner"].party
+            count, objects = self._objects.page(module, partner, part.date_from, part.date_to, part.offset, part.limit)
         return list_answer(self._clock.moment(), part, f"{self._url}/ocpi/2.2.1/sender/{module}", count, objects)
-
-    async def get_locations(self, request: web.Request) -> web.Response:
-        assert self._locations is not None
-        part = part_of(request.query)
-        listed = [location for location in self._locations.all() if _is_within(part, location["last_updated"])]
-        return list_answer(self._clock.moment(), part, f"{self._url}/ocpi/2.2.1/sender/locations", len(listed),
-                           listed[part.offset:part.offset + part.limit])
-
-    async def get_location(self, request: web.Request) -> web.Response:
-        assert self._locations is not None
-        found = self._locations.find(*_segments(request))
-        if found is None:
-            raise Refusal(404, UNKNOWN_LOCATION, "locations: not known")
-        return answer(self._clock.moment(), found)
-
-
-def _is_within(part: Part, last_updated: str) -> bool:
-    moment = milliseconds_of(last_updated)
-    return (part.date_from is None or part.date_from <= moment) and (part.date_to is None or moment < part.date_to)
 
 
 def _module(request: web.Request) -> str:
@@ -153,9 +135,9 @@ async def _members(request: web.Request) -> Members:
 
 
 def _compare(request: web.Request, body: Members) -> None:
-    """Raises Refusal where a body says otherwise than the path. What it does not say its node asks for."""
+    """Raises Refusal where a body says otherwise than the path. What it does not say the node asks for."""
     module = _module(request)
-    named = dict(zip(("country_code", "party_id", OBJECTS[PUT_KINDS[module]][1]), _segments(request)))
+    named = dict(zip(("country_code", "party_id", OBJECTS[OBJECT_KINDS[module]][1]), _segments(request)))
     if module == "tokens":
         named["type"] = _token_type(request)
     for name, text in named.items():

@@ -25,6 +25,12 @@ class Locations:
             locations = [self._location(location) for location in self._site["locations"]]
         return sorted(locations, key=lambda location: (location["last_updated"], location["id"].upper()))
 
+    def page(self, date_from: int | None, date_to: int | None, offset: int, limit: int) -> tuple[int, list[Members]]:
+        """How many locations a list has, and those of one page. The moments are as those of `Objects.page`."""
+        found = [location for location in self.all() if (date_from or 0) <= milliseconds_of(location["last_updated"])
+                 and (date_to is None or milliseconds_of(location["last_updated"]) < date_to)]
+        return len(found), found[offset:offset + limit]
+
     def find(self, *identifiers: str) -> Members | None:
         """A location, or an EVSE of one, or a connector of that, by their ids."""
         part: Members = {"locations": self.all()}
