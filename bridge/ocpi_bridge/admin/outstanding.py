@@ -8,7 +8,8 @@ from ..parties import party_key
 from ..state import State
 
 COMMANDS = ("start_session", "stop_session", "reserve_now", "cancel_reservation", "unlock_connector")
-PUSHES = ("command_result", "put_session", "post_cdr", "put_token")
+# Each push, and the members that say what it is about. A newer one about the same, to the same party, takes its place.
+PUSHES = {"command_result": ["response_url"], "put_session": ["id"], "post_cdr": ["id"], "put_token": ["type", "uid"]}
 
 
 class Outstanding:
@@ -29,9 +30,9 @@ class Outstanding:
         """Keeps what an event and its packets change. Called in the transaction in which its line is forgotten."""
         for packet in outcome.packets:
             if packet.kind in PUSHES:
-                self._state.query(
-                    "INSERT INTO push_that_waits VALUES (?, ?, ?) ON CONFLICT DO UPDATE SET request = excluded.request",
-                    party_key(packet.receiver), _subject(packet), packet.request)
+                subject = " ".join([packet.kind, *(packet.body[name].upper() for name in PUSHES[packet.kind])])
+                self._state.query("INSERT OR REPLACE INTO push_that_waits VALUES (?, ?, ?)",
+                                  party_key(packet.receiver), subject, packet.request)
             elif packet.kind in COMMANDS:
                 self._state.query("INSERT OR IGNORE INTO command_given VALUES (?, ?, ?, ?, NULL, NULL)", packet.request,
                                   party_key(packet.receiver), packet.kind, write_json(packet.body))
@@ -78,10 +79,3 @@ class Outstanding:
         return [{"operator": operator, "currency": currency, "amount": Number(f"{Decimal(amount).scaleb(-4):.4f}")}
                 for operator, currency, amount in self._state.query(
                     "SELECT operator, currency, SUM(amount) FROM owed_for GROUP BY operator, currency ORDER BY 1, 2")]
-
-
-def _subject(packet: Packet) -> str:
-    """What a push is about. A newer push about the same, to the same party, takes the place of the older one."""
-    body = packet.body
-    return f"{packet.kind} " + party_key(str(body.get("response_url") or f"{body.get('type')} {body.get('uid')} "
-                                             f"{body.get('id')}"))
