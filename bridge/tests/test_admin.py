@@ -1,5 +1,6 @@
 """The admin addresses of a provider and an operator, what is outstanding, and the text of the metrics."""
 import asyncio
+import dataclasses
 import json
 import subprocess
 import tempfile
@@ -181,7 +182,8 @@ class OutstandingTest(unittest.TestCase):
         state = State(Path(folder.name) / "state.db")
         self.addCleanup(state.close)
         self.objects = Objects(state)
-        self.outstanding = Outstanding(state, self.objects)
+        self.is_open = True
+        self.outstanding = Outstanding(state, self.objects, lambda: self.is_open)
 
     def note(self, event: Members, *packets: Packet) -> None:
         outcome = Outcome({**event, "at": MOMENT}, {"done": "stepped", "packets": len(packets)}, packets)
@@ -207,6 +209,14 @@ class OutstandingTest(unittest.TestCase):
         self.assertEqual(self.outstanding.pushes(), 2)
         self.deliver("nl/tnm", 2, "ack", {"status_code": 1000})
         self.assertEqual(self.outstanding.pushes(), 1)
+
+    def test_what_a_first_tick_does_not_send_again_was_answered(self) -> None:
+        order = Packet("NL/TNM", "BE/BEC", 1, 7, "stop_session", {"session_id": "S", "response_url": "U"})
+        token = Packet("NL/TNM", "BE/BEC", 2, 8, "put_token", TOKEN)
+        self.note({"event": "submit"}, order, dataclasses.replace(order, request=9), token)
+        self.is_open = False
+        self.note({"event": "tick"}, dataclasses.replace(order, serial=3))
+        self.assertEqual((self.outstanding.pushes(), self.outstanding.open_commands()), (0, 1))
 
     def test_a_record_counts_once_and_a_credit_takes_it_back(self) -> None:
         bill = {"country_code": "BE", "party_id": "BEC", "id": "C1", "currency": "EUR",

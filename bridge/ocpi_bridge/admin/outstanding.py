@@ -1,4 +1,5 @@
 """What is outstanding: commands without a result, pushes without an acknowledgement, and what a provider owes."""
+from collections.abc import Callable
 from decimal import Decimal
 
 from ..events import Outcome, Packet
@@ -15,9 +16,9 @@ PUSHES = {"command_result": ["response_url"], "put_session": ["id"], "post_cdr":
 class Outstanding:
     """Follows the packets of a node. A bill counts once for what is owed, however often it comes."""
 
-    def __init__(self, state: State, objects: Objects) -> None:
-        """`objects` take note of each outcome before this does."""
-        self._state, self._objects = state, objects
+    def __init__(self, state: State, objects: Objects, is_open: Callable[[], bool] = lambda: True) -> None:
+        """`objects` take note of each outcome before this does. The node `is_open` behind its first tick."""
+        self._state, self._objects, self._is_open = state, objects, is_open
         state.define(
             "CREATE TABLE IF NOT EXISTS push_that_waits (receiver TEXT, subject TEXT, request INTEGER,"
             " PRIMARY KEY (receiver, subject))",
@@ -28,6 +29,8 @@ class Outstanding:
 
     def note(self, outcome: Outcome) -> None:
         """Keeps what an event and its packets change. Called in the transaction in which its line is forgotten."""
+        if outcome.event["event"] == "tick" and not self._is_open():
+            self._forget_answered(outcome)
         for packet in outcome.packets:
             if packet.kind in PUSHES:
                 subject = " ".join([packet.kind, *(packet.body[name].upper() for name in PUSHES[packet.kind])])
@@ -41,6 +44,13 @@ class Outstanding:
             answer = outcome.answer_to(packet.sender, packet.request)
             if packet.is_answer or (answer is not None and answer.body["status_code"] == 1000):
                 self._take(packet, party_key(packet.sender), packet.body)
+
+    def _forget_answered(self, outcome: Outcome) -> None:
+        """A node's first tick sends again all that waits for an answer. A stop lost the answers to what it leaves out."""
+        self._state.query("DELETE FROM push_that_waits")
+        sent = ", ".join(str(packet.request) for packet in outcome.packets)
+        self._state.query("UPDATE command_given SET response = 'LOST' WHERE response IS NULL AND result IS NULL"
+                          f" AND request NOT IN ({sent})")
 
     def _take(self, packet: Packet, sender: str, body: Members) -> None:
         """Keeps what an answer says, or a request that was answered with success."""

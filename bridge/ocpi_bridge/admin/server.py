@@ -58,7 +58,7 @@ class Admin:
         self._metrics = metrics
         self._central_system = central_system
         self._end = asyncio.Event()
-        outstanding = Outstanding(state, objects)
+        outstanding = Outstanding(state, objects, lambda: feeder.is_open)
         feeder.before_commit(outstanding.note)
         metrics.gauge("ocpi_unacknowledged_pushes", outstanding.pushes)
         metrics.gauge("ocpi_open_commands",
