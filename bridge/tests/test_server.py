@@ -152,7 +152,7 @@ class OperatorServer(ServerCase):
         self.assertEqual(put.told, (200, 1000))
         self.assertNotIn("data", put.body)
         self.assertRegex(put.body["timestamp"], r"^20\d\d-\d\d-\d\dT\d\d:\d\d:\d\d(\.\d{3})?Z$")
-        self.assertEqual(put.headers["Content-Type"].partition(";")[0], "application/json")
+        self.assertEqual(put.headers["Content-Type"], "application/json")
         self.assertEqual(put.headers["X-Request-ID"], "NL/TNM/101")
         self.assertEqual(put.headers["X-Correlation-ID"], "NL/TNM/1")
         self.assertEqual(put.headers["X-Serial"], "1")
@@ -248,8 +248,9 @@ class OperatorServer(ServerCase):
             self.assertEqual((await self.ask("node", "POST", path, number=1, text=text)).told, (400, 2001), text[:20])
         for text in (b"[]", b"1", b"null", b"{}", b'{"session_id":1e999999999}'):
             self.assertEqual((await self.ask("node", "POST", path, number=1, text=text)).told, (200, 2001), text)
-        large = b'{"session_id":"' + b"A" * (1 << 20) + b'"}'
-        self.assertEqual((await self.ask("node", "POST", path, number=1, text=large)).status, 413)
+        for size, status in ((1_000_000, 200), (1_000_001, 413)):
+            large = b'{"session_id":"' + b"A" * (size - 17) + b'"}'
+            self.assertEqual((await self.ask("node", "POST", path, number=1, text=large)).status, status)
 
     async def test_who_may_ask(self) -> None:
         path = "receiver/commands/STOP_SESSION"

@@ -31,8 +31,8 @@ def answer(timestamp: str, data: object = None, status_code: int = SUCCESS, mess
            http_status: int = 200, headers: Mapping[str, str] | None = None) -> web.Response:
     """A response in OCPI's format. `data` and `status_message` are left out where they are None."""
     members: Members = {"data": data, "status_code": status_code, "status_message": message, "timestamp": timestamp}
-    return web.Response(text=write_json({name: value for name, value in members.items() if value is not None}),
-                        status=http_status, content_type="application/json", headers=headers)
+    text = write_json({name: value for name, value in members.items() if value is not None})
+    return web.Response(body=text.encode(), status=http_status, content_type="application/json", headers=headers)
 
 
 def authorization(token: str) -> str:

@@ -25,7 +25,7 @@ logger = logging.getLogger(__name__)
 # What a partner that is not registered may ask for too. Their messages have no routing headers.
 VERSIONS, DETAILS, CREDENTIALS = "/ocpi/versions", "/ocpi/2.2.1", "/ocpi/2.2.1/credentials"
 CONFIGURATION_PATHS = (VERSIONS, DETAILS, CREDENTIALS)
-LARGEST_BODY = 1 << 20
+LARGEST_BODY = 1_000_000
 # How long a request waits for its answer, in seconds of the clock.
 LONGEST_WAIT = 8
 
@@ -37,7 +37,7 @@ def ocpi_application(configuration: Configuration, events: Events, objects: Obje
     party, url, clock = events.node, configuration.ocpi.url, events.clock
     delivery = Delivery(url, events, requests, feed)
     server = _Server(party, clock, partners, credentials, metrics)
-    application = web.Application(middlewares=[server.respond], client_max_size=LARGEST_BODY)
+    application = web.Application(middlewares=[server.respond], client_max_size=LARGEST_BODY + 1)
     application.router.add_routes(Interfaces(party, url, clock, objects, delivery, locations).routes())
     application.router.add_routes([
         web.route("GET", VERSIONS, server.versions), web.route("GET", DETAILS, server.details),
