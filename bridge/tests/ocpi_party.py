@@ -24,6 +24,9 @@ INTERFACES = {
     "CPO": {"credentials": "SENDER", "commands": "RECEIVER", "tokens": "RECEIVER", "sessions": "SENDER",
             "cdrs": "SENDER", "locations": "SENDER"}}
 
+# How often a request is sent that is answered 504 each time.
+MOST_ATTEMPTS = 5
+
 
 def now() -> str:
     """The moment, as OCPI writes it."""
@@ -196,15 +199,25 @@ class OcpiParty:
     async def ask(self, method: str, url: str, body: object = None, *, data: bytes | None = None,
                   token: str | None = None, correlation: str | None = None,
                   headers: Mapping[str, str | None] | None = None) -> Reply:
-        """Sends a request to a URL, used as it is written. `headers` go before the usual ones, or drop them (None)."""
-        assert self._session is not None
+        """Sends a request to a URL, used as it is written. `headers` go before the usual ones, or drop them (None).
+
+        What is answered 504 is sent again under the same ids.
+        """
         sent: dict[str, str | None] = {**self.headers(token, correlation), **(headers or {})}
         if body is not None:
             data = json.dumps(body).encode()
         if data is not None:
             sent.setdefault("Content-Type", "application/json")
         kept = {name: value for name, value in sent.items() if value is not None}
-        async with self._session.request(method, URL(url, encoded=True), data=data, headers=kept,
+        for _ in range(MOST_ATTEMPTS):
+            reply = await self._ask_once(method, url, data, kept)
+            if reply.http_status != 504:
+                break
+        return reply
+
+    async def _ask_once(self, method: str, url: str, data: bytes | None, headers: Mapping[str, str]) -> Reply:
+        assert self._session is not None
+        async with self._session.request(method, URL(url, encoded=True), data=data, headers=headers,
                                          timeout=aiohttp.ClientTimeout(60)) as response:
             text = await response.text()
             members = json.loads(text) if response.content_type == "application/json" and text else {}

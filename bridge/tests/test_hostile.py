@@ -21,21 +21,18 @@ class ManyAtOnce(OperatorCase):
         uids = [f"T{number}" for number in range(500)]
         await self.provider.endpoint("tokens", "RECEIVER")
         replies = await gathered([self.provider.put_token(token(self.provider.party, uid)) for uid in uids], 120)
-        kept = {uid for uid, reply in zip(uids, replies) if reply.status_code == 1000}
-        # What waits longer than eight seconds is answered 504, and comes again.
-        self.assertLessEqual({reply.http_status for reply in replies}, {200, 201, 504})
-        self.assertTrue(kept)
+        self.assertEqual({1000}, {reply.status_code for reply in replies})
         self.assert_memory()
         self.bridge.kill()
         await self.bridge.start()
-        self.assertLessEqual(kept, await held_tokens(self.provider, uids))
+        self.assertEqual(set(uids), await held_tokens(self.provider, uids))
 
     async def test_500_starts_of_one_evse_start_once(self) -> None:
         charge_point = await self.begin_charge_point()
         starts = [start_session(self.token, self.response_url("start")) for _ in range(500)]
         await self.provider.endpoint("commands", "RECEIVER")
         replies = await gathered([self.provider.command("START_SESSION", start) for start in starts], 120)
-        self.assertLessEqual({reply.http_status for reply in replies}, {200, 504})
+        self.assertEqual({1000}, {reply.status_code for reply in replies})
         identifier, _ = await charge_point.asked("RemoteStartTransaction")
         await charge_point.give(identifier, {"status": "Accepted"})
         await self.version("PENDING")
@@ -54,7 +51,7 @@ class ManyAtOnce(OperatorCase):
         self.assertEqual({401}, set(statuses[:100]))
         self.assertEqual({400}, set(statuses[100:200]))
         self.assertEqual({413}, set(statuses[200:300]))
-        self.assertLessEqual(set(statuses[300:]), {200, 201, 504})
+        self.assertLessEqual(set(statuses[300:]), {200, 201})
         self.assert_memory()
 
 
@@ -69,17 +66,15 @@ class ManyBills(ProviderCase):
         url = await self.operator.endpoint("cdrs", "RECEIVER")
         asked = [self.operator.put_session(each) for each in sessions]
         replies = await gathered(asked + [self.operator.ask("POST", url, bill) for bill in bills], 120)
-        self.assertLessEqual({reply.http_status for reply in replies}, {200, 201, 504})
-        kept = [[each["id"] for each, reply in zip(objects, answers) if reply.status_code == 1000]
-                for objects, answers in ((sessions, replies[:250]), (bills, replies[250:]))]
+        self.assertEqual({1000}, {reply.status_code for reply in replies})
         self.assert_memory()
         self.bridge.kill()
         await self.bridge.start()
-        for path, identifiers in zip(("/sessions", "/cdrs"), kept):
-            self.assertTrue(identifiers)
+        for path, pushed in (("/sessions", sessions), ("/cdrs", bills)):
             held = [each["id"] for each in await self.bridge.admin_get(path)]
-            self.assertLessEqual(set(identifiers), set(held))
-            self.assertEqual(len(set(held)), len(held))
+            self.assertEqual(sorted(each["id"] for each in pushed), sorted(held))
+        await self.bridge.stop()
+        self.assertEqual("owed BE/PLO EUR 750.0000\n", self.settle(self.bridge))
 
 
 class Slow(OperatorCase):

@@ -6,7 +6,7 @@ import aiohttp
 
 from .cases import OperatorCase
 from .charge_point_frames import ChargePoint
-from .ocpi_objects import start_session
+from .ocpi_objects import start_session, token
 from .ocpi_party import token_header
 
 
@@ -22,23 +22,30 @@ class Logs(OperatorCase):
         for path in ("%0d%0aERROR%20forged-line", "%0AERROR%20forged-line", "%1b%5b31mforged-line"):
             await self.provider.ask("GET", f"{versions}/{path}")
             await self.provider.ask("PUT", f"{self.bridge.ocpi_url}/ocpi/2.2.1/receiver/tokens/NL/PLN/{path}", {})
+        driver = token(self.provider.party, "drivers-token")
         for correlation in ("a\tb", "x" * 1000):
-            await self.provider.put_token(self.token, correlation=correlation)
-        with self.assertRaises(aiohttp.WSServerHandshakeError):
-            await ChargePoint(self.bridge.ocpp_url, "CP1", "stolen-secret").connect()
+            await self.provider.put_token(driver, correlation=correlation)
+        await self.provider.put_token({**driver, "type": "drivers-token"})
+        for identifier in ("CP1", "%0d%0aERROR%20forged-line", "stolen-secret"):
+            with self.assertRaises(aiohttp.WSServerHandshakeError):
+                await ChargePoint(self.bridge.ocpp_url, identifier, "stolen-secret").connect()
         charge_point = await self.begin_charge_point()
         await charge_point.frame('[2,"1","DataTransfer",{"vendorId":"v","data":"one\\nERROR forged-line"}]')
         await charge_point.frame('hello\nERROR forged-line')
-        await self.provider.command("START_SESSION", start_session(self.token, self.provider.url + "/results/1"))
+        await self.provider.command("START_SESSION", start_session(driver, self.provider.url + "/results/1"))
         identifier, _ = await charge_point.asked("RemoteStartTransaction")
         await charge_point.give(identifier, {"status": "Accepted"})
         await self.version("PENDING")
         await self.bridge.stop()
 
+    def assert_no_secret(self, log: str) -> None:
+        for secret in ("stolen-secret", "drivers-token"):
+            self.assertNotIn(secret, log)
+
     async def test_no_secret_and_no_forged_line(self) -> None:
         await self.provoke()
         log = self.bridge.log()
-        self.assertNotIn("stolen-secret", log)
+        self.assert_no_secret(log)
         self.assertNotIn("\x1b", log)
         self.assertEqual([], [line for line in log.splitlines() if re.match(r"\W*(ERROR )?forged-line", line)])
 
@@ -51,7 +58,7 @@ class JsonLogs(Logs):
     async def test_no_secret_and_no_forged_line(self) -> None:
         await self.provoke()
         log = self.bridge.log()
-        self.assertNotIn("stolen-secret", log)
+        self.assert_no_secret(log)
         lines = [json.loads(line) for line in log.splitlines()]
         self.assertTrue(lines)
         self.assertTrue(all(isinstance(line, dict) and "message" in line for line in lines))
