@@ -9,7 +9,6 @@ import time
 from collections.abc import Awaitable, Callable
 from contextlib import suppress
 from functools import partial
-from ipaddress import ip_address
 from pathlib import Path
 
 from aiohttp import web
@@ -35,6 +34,8 @@ PAGE = {"/": ("page.html", "text/html"), "/page.js": ("page.js", "text/javascrip
 HEADERS = {"Cache-Control": "no-store", "X-Content-Type-Options": "nosniff",
            "Content-Security-Policy": "default-src 'none'; script-src 'self'; style-src 'self'; connect-src 'self'; "
                                       "img-src data:; base-uri 'none'; form-action 'none'; frame-ancestors 'none'"}
+# What names this machine alone, as the header `Host` has it. Any other name may lead here too, for whoever owns it.
+OWN_NAME = re.compile(r"(localhost|127(\.\d{1,3}){3}|\[::1\])(:\d+)?")
 # The HTTP status of what a request may fail by, and what it means.
 FAILURES = {
     NotJson: (400, "the body is no JSON that a node reads"), NodeEnded: (503, "the bridge is ending"),
@@ -176,21 +177,12 @@ async def _page(request: web.Request) -> web.Response:
                         headers=HEADERS)
 
 
-def _is_loopback(host: str) -> bool:
-    """Whether a header `Host` names this machine alone. Any other name may lead here too, for whoever owns it."""
-    name = re.sub(r":\d*$", "", host).strip("[]")
-    try:
-        return name == "localhost" or ip_address(name).is_loopback
-    except ValueError:
-        return False
-
-
 @web.middleware
 async def _guard(request: web.Request, handler: Handler) -> web.StreamResponse:
     """Lets through what comes from this machine under its own name, and gives each refusal as JSON."""
     origin = f"http://{request.host}"
     try:
-        if not _is_loopback(request.host) or request.headers.get("Origin", origin) != origin:
+        if not OWN_NAME.fullmatch(request.host) or request.headers.get("Origin", origin) != origin:
             raise web.HTTPForbidden(text="Host and Origin: wanted is the very address on which the bridge listens")
         return await handler(request)
     except web.HTTPException as refusal:
