@@ -2,6 +2,7 @@
 import asyncio
 import logging
 import signal
+from typing import Any
 
 from .admin.metrics import Metrics
 from .admin.server import Admin
@@ -66,31 +67,33 @@ class Bridge:
                 self._client.send(packet)
 
     async def run(self) -> int:
-        """Runs until it is told to stop, or its node ends for good. Gives the node's status."""
+        """Runs until it is told to stop, or its node ends for good. Gives the node's status, or 1 where it is worse."""
         opened, stopping = asyncio.Event(), asyncio.Event()
         self._feeder.after_opening(opened.set)
         for number in (signal.SIGTERM, signal.SIGINT):
             asyncio.get_running_loop().add_signal_handler(number, stopping.set)
-        stop = asyncio.create_task(stopping.wait())
         node = asyncio.create_task(self._feeder.run())
-        tasks: list[asyncio.Task[None]] = []
+        stop = asyncio.create_task(stopping.wait())
+        tasks: list[asyncio.Task[Any]] = [node, stop, asyncio.create_task(opened.wait())]
+        worst = 0
         try:
-            await _first(node, stop, asyncio.create_task(opened.wait()))
+            await asyncio.wait(tasks, return_when=asyncio.FIRST_COMPLETED)
             if opened.is_set():
                 for listener in self._listeners:
                     await listener.open()
-                tasks = [asyncio.create_task(self._client.run()), asyncio.create_task(self._pulling.run())]
-                await _first(node, stop, *tasks)
+                tasks = [node, stop, asyncio.create_task(self._client.run()), asyncio.create_task(self._pulling.run())]
+                await asyncio.wait(tasks, return_when=asyncio.FIRST_COMPLETED)
+        except OSError as fault:
+            LOG.error("%s", fault)
+            worst = 1
         finally:
-            await self._end(node, tasks)
-        return await node
+            await self._end(node)
+        return max(worst, await node)
 
-    async def _end(self, node: "asyncio.Task[int]", tasks: "list[asyncio.Task[None]]") -> None:
+    async def _end(self, node: "asyncio.Task[int]") -> None:
         """Takes no more requests, ends the node, and then all connections."""
         for listener in self._listeners:
             listener.stop()
-        for task in tasks:
-            task.cancel()
         await self._feeder.stop()
         await asyncio.wait([node])
         await self._exchange.close()
@@ -102,11 +105,6 @@ class Bridge:
 async def run(configuration: Configuration) -> int:
     """Runs a bridge. Gives the status with which to end."""
     return await Bridge(configuration).run()
-
-
-async def _first(*tasks: "asyncio.Task[int] | asyncio.Task[bool] | asyncio.Task[None]") -> None:
-    """Waits until one of them ends."""
-    await asyncio.wait(tasks, return_when=asyncio.FIRST_COMPLETED)
 
 
 def kept_clock(state: State, factor: float) -> Clock:

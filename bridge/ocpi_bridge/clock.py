@@ -10,7 +10,7 @@ EPOCH = datetime(1970, 1, 1, tzinfo=timezone.utc)
 
 
 class Clock:
-    """Goes `factor` times as fast as the machine's, from a moment at which both told the same (in seconds since 1970)."""
+    """Goes `factor` times as fast as the machine's, from `origin` on (seconds since 1970), where both tell the same."""
 
     def __init__(self, factor: float = 1.0, origin: float | None = None) -> None:
         self.factor = factor
@@ -40,7 +40,7 @@ def moment_of(seconds: float) -> str:
 
 
 def seconds_of(moment: str) -> float:
-    """The seconds since 1970 of a moment that OCPI or OCPP wrote, in UTC where it names no offset. Raises ValueError."""
+    """Seconds since 1970 of a moment that OCPI or OCPP wrote, in UTC where it names no offset. Raises ValueError."""
     return _since_epoch(moment) / timedelta(seconds=1)
 
 

@@ -129,7 +129,8 @@ class StopTest(FeederCase):
         self.assertEqual(1, await running.end())
         noted = [json.dumps(outcome.event) for outcome in running.noted if outcome.event["event"] != "tick"]
         self.assertEqual(len(set(noted)), len(noted), "an outcome was told twice")
-        settled = subprocess.run([PROGRAM, "settle", running.settings.store], capture_output=True, text=True, timeout=60)
+        settled = subprocess.run([PROGRAM, "settle", running.settings.store], capture_output=True, text=True,
+                                 timeout=60)
         return seen, settled.stdout
 
     async def test_no_stop_loses_a_line_or_has_it_done_twice(self) -> None:
@@ -178,7 +179,7 @@ class ProgramTest(FeederCase):
         orphan.stdin.write(SETUP + "\n")
         orphan.stdin.flush()
         orphan.stdout.readline()
-        with mock.patch.object(feeder_module, "LOCKED_WITHIN", 0.3):
+        with mock.patch.object(feeder_module, "LOCKED_DELAYS", (0.1, 0.2)):
             self.assertEqual(3, await within(Running(folder, PROGRAM).task))
         running = Running(folder, PROGRAM)
         await asyncio.sleep(0.3)

@@ -46,7 +46,7 @@ class Outstanding:
                 self._take(packet, party_key(packet.sender), packet.body)
 
     def _forget_answered(self, outcome: Outcome) -> None:
-        """A node's first tick sends again all that waits for an answer. A stop lost the answers to what it leaves out."""
+        """A node's first tick sends all that waits for an answer. A stop lost the answers to what it leaves out."""
         self._state.query("DELETE FROM push_that_waits")
         sent = ", ".join(str(packet.request) for packet in outcome.packets)
         self._state.query("UPDATE command_given SET response = 'LOST' WHERE response IS NULL AND result IS NULL"

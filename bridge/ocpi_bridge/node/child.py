@@ -86,7 +86,7 @@ class Child:
         return line
 
     async def end(self) -> int:
-        """Ends the program's input and waits for its end. Gives its status: of a signal 128 more, of a wrong setup 2."""
+        """Ends the program's input, and waits. Gives its status: 128 more of a signal, 2 of a wrong setup."""
         self._input.close()
         await self._output.read()
         await self._errors

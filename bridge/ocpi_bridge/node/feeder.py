@@ -23,8 +23,8 @@ from .lines import Line, Waiting, kept_line, next_line
 LOG = logging.getLogger("node")
 Result = TypeVar("Result")
 Listener = Callable[[Outcome], None]
-# How long an opened store is waited for that the node of a killed bridge may still have, in seconds of real time.
-LOCKED_WITHIN = 10.0
+# How long a store is waited for that the node of a killed bridge still has: seconds of real time, until each new try.
+LOCKED_DELAYS = (0.1, 0.2, 0.4, 0.8, 1.5, 2.0, 2.0, 3.0)
 LONGEST_DELAY = 30.0
 
 
@@ -129,7 +129,7 @@ class Feeder:
 
     async def _run_again_and_again(self) -> int:
         knows_existing = has_existing(self._settings)
-        locked_until: float | None = None
+        locked_delays = iter(LOCKED_DELAYS)
         while True:
             existing = knows_existing and self._state.value("node.was_opened") is not None
             child = await Child.start(self._settings, existing)
@@ -137,17 +137,12 @@ class Feeder:
             if not self._reopened.is_set() and status in (0, 1):
                 self._closed.set()
                 await self._reopened.wait()
-            elif self._stopping.is_set():
-                return status
-            elif status == 3 and child.found_lock:
-                locked_until = locked_until or time.monotonic() + LOCKED_WITHIN
-                if time.monotonic() > locked_until:
-                    return status
-                await asyncio.sleep(0.2)
+            elif status == 3 and child.found_lock and (delay := next(locked_delays, None)):
+                await asyncio.sleep(delay)
             elif status in (2, 3):
                 return status
-            else:
-                locked_until = None
+            elif not self._stopping.is_set():
+                locked_delays = iter(LOCKED_DELAYS)
                 await self._pause(status)
             if self._stopping.is_set():
                 return status
