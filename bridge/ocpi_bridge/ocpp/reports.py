@@ -164,12 +164,11 @@ class Reports:
     async def _end(self, charge_point: ChargePoint, payload: Members) -> Members:
         """A transaction that ended: its last reading, and the end of its session."""
         transaction = self._transactions.find(charge_point.settings.id, payload["transactionId"])
-        if transaction is None or transaction.state == STOPPED:
-            return {}
-        session = self._session_that_charges(transaction)
-        if session is not None:
+        session = self._session_that_charges(transaction) if transaction is not None else None
+        if transaction is not None and session is not None:
             await self._report_energy(transaction, Decimal(payload["meterStop"]), payload["timestamp"])
             await self._sessions.report("stops", self._sessions.moment(payload["timestamp"]),
                                         evse_uid=session["evse_uid"])
-        self._transactions.update(transaction, STOPPED, transaction.session_id)
-        return {}
+        if transaction is not None:
+            self._transactions.update(transaction, STOPPED, transaction.session_id)
+        return {} if payload.get("idTag") is None else {"idTagInfo": {"status": "Accepted"}}
