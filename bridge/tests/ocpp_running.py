@@ -23,8 +23,9 @@ from .running import PROGRAM, operator, provider
 
 Result = TypeVar("Result")
 SETUP = json.dumps({"nodes": [operator("BE/BEC", ["E1", "E2", "E3"]), provider("NL/TNM")]})
-TOKEN: Members = {"country_code": "NL", "party_id": "TNM", "uid": "AA01", "type": "RFID", "contract_id": "NL-TNM-000001",
-         "issuer": "TNM", "valid": True, "whitelist": "ALWAYS", "last_updated": "2025-01-01T09:00:00Z"}
+TOKEN: Members = {
+    "country_code": "NL", "party_id": "TNM", "uid": "AA01", "type": "RFID", "contract_id": "NL-TNM-000001",
+    "issuer": "TNM", "valid": True, "whitelist": "ALWAYS", "last_updated": "2025-01-01T09:00:00Z"}
 START: Members = {"evse_uid": "E1", "connector_id": "1", "location_id": "LOC1", "token": TOKEN}
 # Seconds of real time in which anything that is awaited has to come.
 COMES_WITHIN = 30.0
@@ -43,6 +44,7 @@ class Operating:
         self.clock = Clock(factor)
         self.outcomes: list[Outcome] = []
         self.port = 0
+        self.stops: tuple[int, str] | None = None
 
     async def begin(self) -> None:
         """Starts all parts, and listens where it listened before."""
@@ -55,7 +57,7 @@ class Operating:
                          "CP2": ChargePointSettings("CP2", None, {1: connectors[2]})}
         self.central_system = CentralSystem(OcppSettings(Address("127.0.0.1", 0), charge_points), self.events,
                                             self.state, self.feeder, self.objects)
-        for listener in (self.objects.note, self.outcomes.append, self.central_system.note):
+        for listener in (self.objects.note, self._keep, self.central_system.note):
             self.feeder.before_commit(listener)
         self.feeder.after_commit(self.central_system.act)
         opened = asyncio.Event()
@@ -68,6 +70,13 @@ class Operating:
         site = web.TCPSite(self.runner, "127.0.0.1", self.port)
         await site.start()
         self.port = self.runner.addresses[0][1]
+
+    def _keep(self, outcome: Outcome) -> None:
+        """Keeps an outcome. Behind so many events that are no ticks, has the program stop at the next one."""
+        self.outcomes.append(outcome)
+        if self.stops is not None and self.stops[0] == sum(each.event["event"] != "tick" for each in self.outcomes):
+            (self.folder / "node.db.stop").write_text(self.stops[1])
+            self.stops = None
 
     async def kill(self) -> None:
         """Ends all where it stands: what is not in the state is gone."""
@@ -93,7 +102,8 @@ class Operating:
 
     async def start(self, request: int, **other: object) -> None:
         """Delivers a START_SESSION, with a reference of its own."""
-        members = {**START, "authorization_reference": f"R{request}", **other}
+        members: Members = {**START, "authorization_reference": f"R{request}"}
+        members.update(other)
         await self.command("start_session", request, **{name: value for name, value in members.items() if value})
 
     def results(self) -> list[tuple[str, str]]:
@@ -122,7 +132,7 @@ class Station:
     def __init__(self, operating: Operating, name: str = "CP1") -> None:
         self.operating = operating
         self.name = name
-        self.answers = {"UnlockConnector": "Unlocked", "TriggerMessage": "NotImplemented"}
+        self.answers: dict[str, str] = {"UnlockConnector": "Unlocked", "TriggerMessage": "NotImplemented"}
         self.asked: "asyncio.Queue[tuple[str, Members]]" = asyncio.Queue()
         self.connected = asyncio.Event()
         self._calls: dict[str, tuple[str, "asyncio.Future[list[Any]]"]] = {}

@@ -1,6 +1,5 @@
-"""The central system of OCPP 1.6 before a real node: which call is which event, what is answered, and what stops leave."""
+"""The central system of OCPP 1.6 before a real node: which call is which event, and what is answered."""
 import asyncio
-import sys
 import tempfile
 import time
 import unittest
@@ -8,10 +7,6 @@ from collections.abc import Callable
 from pathlib import Path
 
 from .ocpp_running import TOKEN, Operating, Station, moment, within
-from .running import PROGRAM
-
-STOPPING = (f"#!/bin/sh\nOCPI_NODES='{PROGRAM}' exec '{sys.executable}' '{Path(__file__).parent}/stopping_node.py' "
-            '"$@"\n')
 
 
 class OcppCase(unittest.IsolatedAsyncioTestCase):
@@ -22,21 +17,13 @@ class OcppCase(unittest.IsolatedAsyncioTestCase):
     async def asyncSetUp(self) -> None:
         folder = tempfile.TemporaryDirectory()
         self.addCleanup(folder.cleanup)
-        self.operating = await self.begin_operating(Path(folder.name))
+        self.operating = Operating(Path(folder.name), factor=self.factor)
+        await self.operating.begin()
+        self.addAsyncCleanup(self.operating.kill)
         await self.operating.deliver("put_token", TOKEN, 1)
-        self.station = self.begin_station("CP1")
+        self.station = Station(self.operating)
+        self.addAsyncCleanup(self.station.close)
         await within(self.station.connected.wait())
-
-    async def begin_operating(self, folder: Path, program: Path = PROGRAM) -> Operating:
-        operating = Operating(folder, program, self.factor)
-        await operating.begin()
-        self.addAsyncCleanup(operating.kill)
-        return operating
-
-    def begin_station(self, name: str) -> Station:
-        station = Station(self.operating, name)
-        self.addAsyncCleanup(station.close)
-        return station
 
     async def eventually(self, wanted: object, look: Callable[[], object]) -> None:
         """Waits until something is as it is wanted."""
@@ -250,63 +237,3 @@ class TimeTest(OcppCase):
         for uid, whitelist, status in (("AA02", "NEVER", "Invalid"), ("AA03", "ALLOWED_OFFLINE", "Accepted")):
             await self.operating.deliver("put_token", {**TOKEN, "uid": uid, "whitelist": whitelist}, int(uid[-1]))
             self.assertEqual(status, (await self.station.begin(int(uid[-1]), uid))["idTagInfo"]["status"])
-
-
-class StopTest(OcppCase):
-    """A charge with a stop at each point of each of its lines: always one session, one bill and one remote start."""
-
-    async def asyncSetUp(self) -> None:
-        """Each charge has an operator of its own."""
-
-    async def charge(self, number: int, point: str, stops: str, is_asked: bool) -> None:
-        """Charges by a command or by a token, with a stop at a line of a number."""
-        with tempfile.TemporaryDirectory() as folder:
-            program = Path(folder) / "program"
-            program.write_text(STOPPING)
-            program.chmod(0o755)
-            self.operating = operating = Operating(Path(folder), program)
-            await operating.begin()
-            plan = Path(folder) / "node.db.stop"
-            plan.write_text(f"{number} {point} {stops}")
-            stopping = asyncio.create_task(self.stop_bridge(plan)) if stops == "bridge" else None
-            station = Station(operating)
-            try:
-                await operating.deliver("put_token", TOKEN, 1)
-                if is_asked:
-                    await operating.start(2)
-                    await station.was_asked("RemoteStartTransaction")
-                begun = await station.begin()
-                self.assertEqual("Accepted", begun["idTagInfo"]["status"])
-                self.assertEqual(begun, await station.begin())
-                await station.meter(begun["transactionId"], "2000")
-                for _ in range(2):
-                    await station.end(begun["transactionId"], 3500)
-                if stopping is not None:
-                    await within(stopping)
-                self.assertEqual([("E1", "COMPLETED", "2.5000")], operating.sessions())
-                self.assertEqual((["2.5000"], True), (operating.bills(), station.asked.empty()))
-            finally:
-                await station.close()
-                await operating.kill()
-
-    async def stop_bridge(self, plan: Path) -> None:
-        """Once the node says no more, has the bridge end where it stands, and begin again."""
-        while plan.exists():
-            await asyncio.sleep(0.01)
-        await asyncio.sleep(0.05)
-        await self.operating.kill()
-        await self.operating.begin()
-
-    async def each_stop(self, stops: str) -> None:
-        points = ("before", "silent", "begun", "cut", "after")
-        cases = [(number, point, is_asked) for is_asked, last in ((True, 7), (False, 6))
-                 for number in range(1, last + 1) for point in points]
-        for number, point, is_asked in cases:
-            with self.subTest(number=number, point=point, is_asked=is_asked):
-                await self.charge(number, point, stops, is_asked)
-
-    async def test_a_stop_of_the_node(self) -> None:
-        await self.each_stop("node")
-
-    async def test_a_stop_of_the_bridge(self) -> None:
-        await self.each_stop("bridge")

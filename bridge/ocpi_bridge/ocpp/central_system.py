@@ -112,7 +112,7 @@ class CentralSystem:
                         return
 
     def note(self, outcome: Outcome) -> None:
-        """Keeps what an outcome opens and ends. Called inside the state's transaction in which the line is forgotten."""
+        """Keeps what an outcome opens and ends. Called inside of the transaction that forgets its line."""
         self._commands.note(outcome)
         if outcome.event["event"] == "service" and outcome.word in ("stepped", "idle"):
             self._charge_points.note_service(outcome.event["evse_uid"], outcome.event["in_service"])

@@ -42,6 +42,7 @@ class Sessions:
         self._objects = objects
         self._commands = commands
         self._questions: dict[tuple[str, int], tuple[float, asyncio.Future[None]]] = {}
+        self._was_open = False
 
     async def report(self, event: str, at: str | None = None, **members: object) -> Outcome:
         """Feeds an event of a name. Raises EventRefused, OutcomeLost and NodeEnded."""
@@ -89,7 +90,15 @@ class Sessions:
                 await waiting[1]
 
     def act(self, outcome: Outcome) -> None:
-        """Takes in a question about a token, and what decides it: an answer, or a tick behind its time."""
+        """Takes in a question about a token, and what decides it: an answer, or a tick behind its time.
+
+        A node that was started again awaits no answer to a question from before, as its first outcome tells.
+        """
+        if self._was_open and not self._feeder.is_open:
+            for _, decided in self._questions.values():
+                decided.set_exception(OutcomeLost())
+            self._questions.clear()
+            self._was_open = False
         event = outcome.event
         for question in outcome.sent("authorize"):
             decided = asyncio.get_running_loop().create_future()
@@ -107,7 +116,5 @@ class Sessions:
                 self._questions.pop(key)[1].set_result(None)
 
     def opened(self) -> None:
-        """The node knows of no question from before it was opened."""
-        for _, decided in self._questions.values():
-            decided.set_exception(OutcomeLost())
-        self._questions.clear()
+        """Called each time that the node has opened its store."""
+        self._was_open = True
