@@ -1,6 +1,7 @@
 """Runs a bridge: `python3 -m ocpi_bridge CONFIG`, or registers it at a partner."""
 import argparse
 import asyncio
+import resource
 import sys
 from pathlib import Path
 
@@ -18,6 +19,8 @@ def main() -> int:
     parser.add_argument("--register", nargs=3, metavar=("PARTY", "URL", "TOKEN"),
                         help="register at a partner, whose versions stand at URL, by its TOKEN, and end")
     words = parser.parse_args()
+    most_files = resource.getrlimit(resource.RLIMIT_NOFILE)[1]
+    resource.setrlimit(resource.RLIMIT_NOFILE, (most_files, most_files))
     set_up_logs(words.json_logs)
     try:
         configuration = read_configuration(words.configuration)

@@ -9,7 +9,7 @@ import logging
 import sqlite3
 import time
 from collections import deque
-from collections.abc import Awaitable, Callable
+from collections.abc import Awaitable, Callable, Iterable
 from typing import TypeVar
 
 from ..admin.metrics import Metrics
@@ -189,8 +189,7 @@ class Feeder:
         await self._carry_out(child, Line(tick.text, [tick]))
         self._delay = 0.0
         self.is_open = True
-        for listener in self._opened:
-            listener()
+        _tell(self._opened)
         for waiting in self._lost:
             waiting.fail(OutcomeLost())
         self._lost.clear()
@@ -267,12 +266,12 @@ class Feeder:
             LOG.warning("%s: %s", outcome.event["event"], write_json(outcome.done))
 
 
-def _tell(listeners: list[Listener], outcome: Outcome) -> None:
+def _tell(listeners: Iterable[Callable[..., None]], *arguments: Outcome) -> None:
     """Calls listeners. A fault of one is logged: if it ended the bridge, the same line might end each new start too."""
     for listener in listeners:
         try:
-            listener(outcome)
+            listener(*arguments)
         except sqlite3.Error:
             raise
         except Exception:
-            LOG.exception("%s: the outcome was not taken in", outcome.event["event"])
+            LOG.exception("what the node did was not taken in")
