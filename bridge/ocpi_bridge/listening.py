@@ -22,7 +22,9 @@ class Listener:
         self._name = name
         self._address = address
         application.middlewares.insert(0, self._arrive)
-        self._runner = web.AppRunner(application, access_log=None, keepalive_timeout=ARRIVES_WITHIN)
+        # No body is decompressed: a small one could become very large.
+        self._runner = web.AppRunner(
+            application, access_log=None, keepalive_timeout=ARRIVES_WITHIN, auto_decompress=False)
         self._silent: set[object] = set()
         self._server: asyncio.Server | None = None
 

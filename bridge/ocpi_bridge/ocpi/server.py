@@ -68,8 +68,8 @@ class _Server:
             response = self._error(400, INVALID, "the body is no JSON that is read here")
         except NumberTooLarge:
             response = self._error(200, INVALID, "the body has a number that is too large")
-        except ConnectionError:
-            response = self._error(400, INVALID, "the request ended before it was whole")
+        except (ConnectionError, web.RequestPayloadError):
+            response = self._error(400, INVALID, "the body is not whole, or not coded as its headers say")
         except TimeoutError:
             response = self._error(504, SERVER_ERROR, "the node did not answer in time: send the request again")
         except web.HTTPException as exception:
