@@ -2,6 +2,9 @@
 import asyncio
 import dataclasses
 import json
+import os
+import random
+import signal
 import subprocess
 import tempfile
 import unittest
@@ -17,7 +20,7 @@ from ocpi_bridge.json_text import Members
 from ocpi_bridge.ocpi.objects import Objects
 from ocpi_bridge.state import State
 
-from .running import PROGRAM, RunningBridge, charge_point, operator, partner, provider
+from .running import PROGRAM, RunningBridge, charge_point, eventually, operator, partner, provider
 
 SETUP = [operator("BE/BEC", ["E1", "E2"]), provider("NL/TNM")]
 NOBODY = "http://127.0.0.1:9/ocpi/versions"
@@ -75,6 +78,38 @@ class ProviderTest(AdminTest):
             {"party": "BE/BEC", "kind": "node", "registered": True, "versions_url": NOBODY}])
         self.assertEqual([await self.bridge.admin_get(path) for path in ("/sessions", "/cdrs", "/charge_points")],
                          [[], [], []])
+
+    async def test_no_order_is_lost_or_given_twice_where_the_node_is_killed(self) -> None:
+        """Each is answered 200, or 504 where what came of it was lost; after either it was given once."""
+        await self.bridge.admin_post("/tokens", TOKEN)
+        drawn = random.Random(7)
+
+        async def kill_node() -> bool:
+            try:
+                await self.bridge.admin_get("/health")
+                os.kill(self.bridge.node_pid(), signal.SIGKILL)
+            except (AssertionError, ProcessLookupError):
+                return False
+            return True
+
+        async def kill_nodes() -> None:
+            for _ in range(6):
+                await asyncio.sleep(drawn.uniform(0.05, 0.5))
+                await eventually(kill_node, "the node is open")
+
+        killing = asyncio.create_task(kill_nodes())
+        statuses: list[int] = []
+        while not killing.done() or len(statuses) < 20:
+            statuses.append((await self.bridge.admin_post("/orders", START))["status"])
+        await killing
+        self.assertLessEqual(set(statuses), {200, 504})
+        self.assertGreaterEqual(await self.get_metric("ocpi_node_restarts_total"), 5)
+
+        async def all_given() -> bool:
+            return len(await self.bridge.admin_get("/commands")) >= len(statuses)
+        await eventually(all_given, "each order is in the list")
+        numbers = [command["number"] for command in await self.bridge.admin_get("/commands")]
+        self.assertEqual(numbers, list(range(len(statuses) + 1, 1, -1)))
 
     async def test_what_the_node_refuses_changes_nothing(self) -> None:
         for body, status, name in ((START, 409, "UnknownToken"),
