@@ -45,7 +45,7 @@ class Locations:
         """A location: members that no node reads are as they stand in the setup."""
         country, identifier = codes(self._party)
         location: Members = {
-            "country_code": country, "party_id": identifier, "publish": True, "time_zone": "UTC", **setup}
+            "time_zone": "UTC", **setup, "country_code": country, "party_id": identifier, "publish": True}
         evses = [self._evse(setup["id"], evse) for evse in location.pop("evses")]
         location["coordinates"] = {name: location.pop(name) for name in ("latitude", "longitude")}
         since = self._since(setup["id"], location)
