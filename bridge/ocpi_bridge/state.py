@@ -8,7 +8,7 @@ from typing import Any
 
 
 class State:
-    """The file. Whoever keeps something in it defines a table of its own, and changes it inside a transaction."""
+    """The file. Whoever keeps something in it has a table of its own (schema.sql), and changes it in a transaction."""
 
     def __init__(self, path: Path) -> None:
         os.close(os.open(path, os.O_CREAT | os.O_RDWR, 0o600))
@@ -16,12 +16,7 @@ class State:
         self._depth = 0
         self.query("PRAGMA journal_mode=WAL")
         self.query("PRAGMA synchronous=FULL")
-        self.define("CREATE TABLE IF NOT EXISTS value_of (name TEXT PRIMARY KEY, value TEXT NOT NULL)")
-
-    def define(self, *statements: str) -> None:
-        """Makes tables and indexes where they are not there yet."""
-        for statement in statements:
-            self.query(statement)
+        self._connection.executescript(Path(__file__).with_name("schema.sql").read_text())
 
     @contextmanager
     def transaction(self) -> Iterator[None]:

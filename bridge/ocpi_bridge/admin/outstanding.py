@@ -19,13 +19,6 @@ class Outstanding:
     def __init__(self, state: State, objects: Objects, is_open: Callable[[], bool] = lambda: True) -> None:
         """`objects` take note of each outcome before this does. The node `is_open` behind its first tick."""
         self._state, self._objects, self._is_open = state, objects, is_open
-        state.define(
-            "CREATE TABLE IF NOT EXISTS push_that_waits (receiver TEXT, subject TEXT, request INTEGER,"
-            " PRIMARY KEY (receiver, subject))",
-            "CREATE TABLE IF NOT EXISTS command_given (request INTEGER PRIMARY KEY, operator TEXT, kind TEXT,"
-            " body TEXT, response TEXT, result TEXT)",
-            "CREATE TABLE IF NOT EXISTS owed_for (operator TEXT, record TEXT, currency TEXT, amount INTEGER,"
-            " PRIMARY KEY (operator, record))")
 
     def note(self, outcome: Outcome) -> None:
         """Keeps what an event and its packets change. Called in the transaction in which its line is forgotten."""

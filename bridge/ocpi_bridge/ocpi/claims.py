@@ -13,8 +13,6 @@ class Claims:
 
     def __init__(self, state: State) -> None:
         self._state = state
-        state.define("CREATE TABLE IF NOT EXISTS claim (evse_uid TEXT PRIMARY KEY, status TEXT NOT NULL,"
-                     " partner TEXT NOT NULL, name TEXT NOT NULL, until INTEGER NOT NULL)")
 
     def status(self, evse_uid: str, now: int) -> str | None:
         """BLOCKED by a start, RESERVED, or None, at a moment in milliseconds since 1970."""

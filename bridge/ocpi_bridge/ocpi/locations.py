@@ -16,8 +16,6 @@ class Locations:
         """`evse_status` tells OUTOFORDER or INOPERATIVE of the uid of an EVSE, or None where it may be used."""
         self._state, self._clock, self._objects = state, clock, objects
         self._party, self._site, self._evse_status = party, site, evse_status
-        state.define(
-            "CREATE TABLE IF NOT EXISTS place (name TEXT PRIMARY KEY, text TEXT NOT NULL, since TEXT NOT NULL)")
 
     def all(self) -> list[Members]:
         """All locations, by `last_updated` and then by id."""

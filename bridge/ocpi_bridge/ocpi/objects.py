@@ -22,16 +22,6 @@ class Objects:
     def __init__(self, state: State) -> None:
         self._state = state
         self.claims = Claims(state)
-        state.define(
-            """CREATE TABLE IF NOT EXISTS object_of (
-                module TEXT, party TEXT, identifier TEXT, token_type TEXT, partner TEXT NOT NULL,
-                last_updated INTEGER NOT NULL, status TEXT NOT NULL, evse_uid TEXT NOT NULL, body TEXT NOT NULL,
-                PRIMARY KEY (module, party, identifier, token_type)) WITHOUT ROWID""",
-            """CREATE TABLE IF NOT EXISTS accepted_request (partner TEXT, number INTEGER, PRIMARY KEY (partner, number))
-                WITHOUT ROWID""",
-            "CREATE INDEX IF NOT EXISTS object_of_partner ON object_of (module, partner, last_updated, identifier)",
-            "CREATE INDEX IF NOT EXISTS object_by_time ON object_of (module, last_updated, identifier)",
-            f"CREATE INDEX IF NOT EXISTS living_session ON object_of (evse_uid) WHERE {LIVING}")
 
     def note(self, outcome: Outcome) -> None:
         """Keeps what the node sent, and accepted of who speaks for it, in the transaction that ends the line."""

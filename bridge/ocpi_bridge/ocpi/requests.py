@@ -8,11 +8,6 @@ class Requests:
 
     def __init__(self, state: State) -> None:
         self._state = state
-        state.define(
-            """CREATE TABLE IF NOT EXISTS request_number (partner TEXT, correlation TEXT, number INTEGER NOT NULL,
-                PRIMARY KEY (partner, correlation)) WITHOUT ROWID""",
-            """CREATE TABLE IF NOT EXISTS response_url (partner TEXT, number INTEGER, url TEXT NOT NULL,
-                PRIMARY KEY (partner, number)) WITHOUT ROWID""")
 
     def number(self, partner: str, correlation: str | None = None) -> int:
         """The number of a request of a partner that is no such node: a correlation id always has the same one.

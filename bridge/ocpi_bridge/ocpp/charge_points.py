@@ -39,11 +39,6 @@ class ChargePoints:
         self.places = {connector.evse_uid.upper(): Place(point, number, connector)
                        for point in self.by_id.values() for number, connector in point.settings.connectors.items()}
         self._state = state
-        state.define(
-            """CREATE TABLE IF NOT EXISTS ocpp_connector (charge_point TEXT, connector INTEGER, status TEXT NOT NULL,
-                PRIMARY KEY (charge_point, connector)) WITHOUT ROWID""",
-            "CREATE TABLE IF NOT EXISTS ocpp_out_of_service (evse_uid TEXT PRIMARY KEY) WITHOUT ROWID",
-            "CREATE TABLE IF NOT EXISTS ocpp_id_tag (id_tag TEXT PRIMARY KEY, uid TEXT NOT NULL) WITHOUT ROWID")
 
     def place(self, evse_uid: str | None) -> Place | None:
         """Where an EVSE is. None where no charge point has it."""

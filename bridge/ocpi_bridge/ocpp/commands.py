@@ -33,14 +33,6 @@ class Commands:
     def __init__(self, state: State, clock: Clock) -> None:
         self._state = state
         self._clock = clock
-        state.define(
-            f"""CREATE TABLE IF NOT EXISTS ocpp_command (provider TEXT COLLATE NOCASE, number INTEGER, kind TEXT,
-                evse_uid TEXT COLLATE NOCASE, connector_id TEXT COLLATE NOCASE, token_uid TEXT COLLATE NOCASE,
-                reference TEXT COLLATE NOCASE, session_id TEXT COLLATE NOCASE, response_url TEXT,
-                state TEXT DEFAULT '{OPEN}', ended_by INTEGER UNIQUE, PRIMARY KEY (provider, number))""",
-            "CREATE INDEX IF NOT EXISTS ocpp_command_open ON ocpp_command (number) WHERE ended_by IS NULL",
-            "CREATE INDEX IF NOT EXISTS ocpp_command_evse ON ocpp_command (evse_uid, state)",
-            "CREATE INDEX IF NOT EXISTS ocpp_command_reference ON ocpp_command (provider, reference)")
 
     def note(self, outcome: Outcome) -> None:
         """Keeps what an outcome opens, ends and begins. Called inside of the transaction that forgets its line."""

@@ -27,13 +27,6 @@ class Transactions:
 
     def __init__(self, state: State) -> None:
         self._state = state
-        state.define(
-            """CREATE TABLE IF NOT EXISTS ocpp_transaction (number INTEGER PRIMARY KEY AUTOINCREMENT,
-                charge_point TEXT NOT NULL, connector INTEGER NOT NULL, started INTEGER NOT NULL, id_tag TEXT NOT NULL,
-                meter_start INTEGER NOT NULL, session_id TEXT UNIQUE, state TEXT NOT NULL,
-                UNIQUE (charge_point, connector, started))""",
-            f"""CREATE INDEX IF NOT EXISTS ocpp_transaction_charging ON ocpp_transaction (charge_point, connector)
-                WHERE state = '{CHARGING}'""")
 
     def begin(self, charge_point: str, payload: Members) -> Transaction:
         """The transaction of a StartTransaction: a new one, or the one that it told of before."""
