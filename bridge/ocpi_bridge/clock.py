@@ -30,7 +30,8 @@ class Clock:
 
     async def within(self, seconds: float, waited: Awaitable[Result]) -> Result:
         """Awaits something for at most so many seconds of this clock. Raises TimeoutError."""
-        return await asyncio.wait_for(waited, seconds / self.factor)
+        async with asyncio.timeout(seconds / self.factor):
+            return await waited
 
 
 def moment_of(seconds: float) -> str:

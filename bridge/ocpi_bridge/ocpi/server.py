@@ -1,6 +1,8 @@
 """The OCPI server: who may ask, which path leads where, and the format and the headers of each response."""
+import asyncio
 import logging
 from collections.abc import Awaitable, Callable
+from contextlib import AbstractAsyncContextManager, nullcontext
 from urllib.parse import unquote
 
 from aiohttp import web
@@ -26,6 +28,8 @@ logger = logging.getLogger(__name__)
 VERSIONS, DETAILS, CREDENTIALS = "/ocpi/versions", "/ocpi/2.2.1", "/ocpi/2.2.1/credentials"
 CONFIGURATION_PATHS = (VERSIONS, DETAILS, CREDENTIALS)
 LARGEST_BODY = 1_000_000
+# Requests with larger bodies than OCPI's usually are: so many at once are read and carried out, the others wait.
+LARGE_BODY, MOST_LARGE = 8_192, 8
 # How long a request waits for its answer, in seconds of the clock.
 LONGEST_WAIT = 8
 
@@ -50,6 +54,7 @@ class _Server:
                  metrics: Metrics) -> None:
         self._party, self._clock, self._partners = party, clock, partners
         self._credentials, self._metrics = credentials, metrics
+        self._large = asyncio.Semaphore(MOST_LARGE)
 
     @web.middleware
     async def respond(self, request: web.Request,
@@ -58,10 +63,11 @@ class _Server:
         response: web.StreamResponse
         try:
             request["partner"] = self._partner(request)
-            await request.read()
-            asked = handler(request)
-            within = request.path not in CONFIGURATION_PATHS
-            response = await (self._clock.within(LONGEST_WAIT, asked) if within else asked)
+            async with self._room(request):
+                await request.read()
+                asked = handler(request)
+                within = request.path not in CONFIGURATION_PATHS
+                response = await (self._clock.within(LONGEST_WAIT, asked) if within else asked)
         except Refusal as refusal:
             response = self._error(refusal.http_status, refusal.status_code, refusal.message)
         except (NotJson, UnicodeDecodeError):
@@ -80,6 +86,15 @@ class _Server:
             response = self._error(500, SERVER_ERROR, "the bridge could not carry out the request")
         self._complete(request, response)
         return response
+
+    def _room(self, request: web.Request) -> AbstractAsyncContextManager[None]:
+        """What a request waits for before its body is read. Raises web.HTTPException where that is too large."""
+        length = request.content_length or 0
+        if length > LARGEST_BODY:
+            raise web.HTTPRequestEntityTooLarge(LARGEST_BODY, length)
+        if length >= LARGE_BODY or request.can_read_body and not length:
+            return self._large
+        return nullcontext()
 
     def _error(self, http_status: int, status_code: int, message: str) -> web.Response:
         return answer(self._clock.moment(), None, status_code, message, http_status)
