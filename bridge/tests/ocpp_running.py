@@ -114,12 +114,12 @@ class Operating:
 
     def sessions(self) -> list[tuple[str, str, str]]:
         """EVSE, status and energy of each session, by their ids."""
-        found = sorted(self.objects.all("sessions"), key=lambda session: str(session["id"]))
+        found = sorted(self.objects.newest("sessions"), key=lambda session: str(session["id"]))
         return [(session["evse_uid"], session["status"], session["kwh"]) for session in found]
 
     def bills(self) -> list[str]:
         """The energy of each bill."""
-        return [record["total_energy"] for record in self.objects.all("cdrs")]
+        return [record["total_energy"] for record in self.objects.newest("cdrs")]
 
     def fed(self, name: str) -> list[Outcome]:
         """What became of the events of a name."""

@@ -42,7 +42,7 @@ class CommandTest(OcppCase):
         begun = await self.station.begin()
         self.assertEqual("Accepted", begun["idTagInfo"]["status"])
         await self.station.meter(begun["transactionId"], "2500")
-        session = self.operating.objects.all("sessions")[0]
+        session = self.operating.objects.newest("sessions")[0]
         self.assertEqual(("ACTIVE", "COMMAND", moment(0), "1.5000"), (
             session["status"], session["auth_method"], session["start_date_time"], session["kwh"]))
         await self.operating.command("stop_session", 3, session_id=session["id"])
@@ -69,9 +69,9 @@ class CommandTest(OcppCase):
         await self.operating.command("unlock_connector", 3, location_id="LOC1", evse_uid="E1", connector_id="1")
         await self.eventually([("2", "FAILED"), ("3", "FAILED")], lambda: sorted(self.operating.results()))
         begun = await self.station.begin()
-        self.assertEqual("WHITELIST", self.operating.objects.all("sessions")[0]["auth_method"])
+        self.assertEqual("WHITELIST", self.operating.objects.newest("sessions")[0]["auth_method"])
         self.station.answers |= {"RemoteStopTransaction": "Rejected"}
-        session = self.operating.objects.all("sessions")[0]
+        session = self.operating.objects.newest("sessions")[0]
         await self.operating.command("stop_session", 4, session_id=session["id"])
         await self.eventually(("4", "FAILED"), lambda: self.operating.results()[-1])
         await self.station.end(begun["transactionId"], 1000)
@@ -86,12 +86,20 @@ class CommandTest(OcppCase):
     async def test_a_stop_before_a_car_is_plugged_in(self) -> None:
         await self.operating.start(2)
         await self.eventually([("2", "ACCEPTED")], self.operating.results)
-        session = self.operating.objects.all("sessions")[0]
+        session = self.operating.objects.newest("sessions")[0]
         await self.operating.command("stop_session", 3, session_id=session["id"])
         await self.eventually([("E1", "INVALID", "0.0000")], self.operating.sessions)
         begun = await self.station.begin()
         self.assertEqual("Invalid", begun["idTagInfo"]["status"])
         self.assertEqual(1, len(self.operating.sessions()))
+
+    async def test_an_answer_that_was_lost(self) -> None:
+        """The transaction tells that the charge point accepted, where its answer did not come in time."""
+        self.station.answers["RemoteStartTransaction"] = "silent"
+        await self.operating.start(2)
+        await self.station.was_asked("RemoteStartTransaction")
+        self.assertEqual("Accepted", (await self.station.begin())["idTagInfo"]["status"])
+        self.assertEqual([("2", "ACCEPTED")], self.operating.results())
 
     async def test_a_long_uid_has_a_text_in_its_place(self) -> None:
         long = {**TOKEN, "uid": "0123456789-0123456789-0123456789"}
@@ -214,22 +222,14 @@ class TimeTest(OcppCase):
         await self.station.end(begun["transactionId"], 1000)
         self.assertEqual("Accepted", (await self.station.begin(5))["idTagInfo"]["status"])
 
-    async def test_an_answer_that_was_lost(self) -> None:
-        """The transaction tells that the charge point accepted, where its answer did not come in time."""
-        self.station.answers["RemoteStartTransaction"] = "silent"
-        await self.operating.start(2)
-        await self.station.was_asked("RemoteStartTransaction")
-        self.assertEqual("Accepted", (await self.station.begin())["idTagInfo"]["status"])
-        self.assertEqual([("2", "ACCEPTED")], self.operating.results())
-
     async def test_a_charge_point_that_is_away_is_not_asked(self) -> None:
         await self.operating.start(2, evse_uid="E3")
         await self.eventually([("2", "TIMEOUT")], self.operating.results)
         self.assertEqual([], self.operating.fed("refuses") + self.operating.fed("accepts"))
 
     async def test_a_session_ends_for_which_nobody_plugs_in(self) -> None:
-        await self.operating.start(2)
-        await self.eventually([("E1", "PENDING", "0.0000")], self.operating.sessions)
+        await self.station.status("Preparing")
+        self.assertEqual("Accepted", (await self.station.call("Authorize", idTag="AA01"))["idTagInfo"]["status"])
         await self.eventually([("E1", "INVALID", "0.0000")], self.operating.sessions)
 
     async def test_a_provider_that_does_not_answer(self) -> None:

@@ -24,7 +24,7 @@ class Charge:
         self.way = way
 
     async def run(self, number: int, point: str, stops: str) -> tuple[object, ...]:
-        """Charges 2.5 kWh with a stop at a line. Gives the sessions, the energy of the bills, and what else was asked."""
+        """Charges 2.5 kWh with a stop at a line. Gives the sessions, the bills' energies, and what else was asked."""
         await self.operating.begin()
         self.operating.stops = number - 1, f"{point} {stops}"
         tasks = [asyncio.create_task(work) for work in (self.stop_bridge(stops), self.answer_questions())]

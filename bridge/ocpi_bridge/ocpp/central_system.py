@@ -26,8 +26,8 @@ from .transactions import Transactions
 LOG = logging.getLogger("ocpp")
 SUBPROTOCOL = "ocpp1.6"
 LARGEST_FRAME = 1_048_576
-# Seconds of real time between pings, so that a connection that is gone is seen.
-PING_EACH = 30.0
+# Seconds of real time: between pings, so that a connection that is gone is seen, and for a charge point to close one.
+PING_EACH, CLOSED_WITHIN = 30.0, 2.0
 # After how many seconds a session ends for which nobody plugs in, counted while its charge point has a connection.
 PLUGGED_IN_WITHIN = 120.0
 # After how many seconds a charge point is asked for the status of a connector that it did not tell by itself.
@@ -64,9 +64,8 @@ class CentralSystem:
         task.add_done_callback(self._tasks.discard)
 
     async def _close(self, application: web.Application) -> None:
-        for charge_point in self._charge_points.by_id.values():
-            if charge_point.connection is not None:
-                await charge_point.connection.close()
+        points = self._charge_points.by_id.values()
+        await asyncio.gather(*(point.connection.close() for point in points if point.connection is not None))
         for task in self._tasks:
             task.cancel()
 
@@ -76,7 +75,8 @@ class CentralSystem:
             raise web.HTTPNotFound()
         if not _is_authentic(charge_point.settings, request.headers.get("Authorization", "")):
             raise web.HTTPUnauthorized(headers={"WWW-Authenticate": 'Basic realm="OCPP"'})
-        socket = web.WebSocketResponse(protocols=(SUBPROTOCOL,), heartbeat=PING_EACH, max_msg_size=LARGEST_FRAME)
+        socket = web.WebSocketResponse(protocols=(SUBPROTOCOL,), timeout=CLOSED_WITHIN, heartbeat=PING_EACH,
+                                       max_msg_size=LARGEST_FRAME)
         await socket.prepare(request)
         if socket.ws_protocol == SUBPROTOCOL:
             await self._serve(charge_point, socket)
@@ -159,7 +159,7 @@ class CentralSystem:
         return [{"id": point.settings.id, "connected": point.connection is not None, "connectors": [
             {"connector": place.connector, "evse_uid": place.settings.evse_uid,
              "connector_id": place.settings.connector_id, "status": self._charge_points.status(place)}
-            for place in self._charge_points.of(point)]} for point in self._charge_points.by_id.values()]
+            for place in point.places.values()]} for point in self._charge_points.by_id.values()]
 
     def commands(self) -> list[Members]:
         """The commands that are open: `provider`, `number`, `command`, `evse_uid`, `session_id`."""

@@ -1,7 +1,9 @@
 """The charge points of a bridge: their connections, and what is kept of their connectors."""
 import asyncio
 import hashlib
+from collections.abc import Callable, Coroutine
 from dataclasses import dataclass, field
+from typing import Any
 
 from ..configuration import ChargePointSettings, ConnectorSettings, OcppSettings
 from ..state import State
@@ -9,6 +11,8 @@ from .connection import Connection
 
 OUT_OF_SERVICE = {"Unavailable", "Faulted"}
 LONGEST_ID_TAG = 20
+# Has something done in a task of its own.
+Spawn = Callable[[Coroutine[Any, Any, None]], None]
 
 
 @dataclass
@@ -16,6 +20,7 @@ class ChargePoint:
     """A charge point. Whoever feeds the node what it reports, or looks at what stands at its EVSEs, has its lock."""
 
     settings: ChargePointSettings
+    places: "dict[int, Place]" = field(default_factory=dict)
     connection: Connection | None = None
     connected_since: float = 0.0
     reported: set[int] = field(default_factory=set)
@@ -36,21 +41,15 @@ class ChargePoints:
 
     def __init__(self, settings: OcppSettings, state: State) -> None:
         self.by_id = {name: ChargePoint(point) for name, point in settings.charge_points.items()}
-        self.places = {connector.evse_uid.upper(): Place(point, number, connector)
-                       for point in self.by_id.values() for number, connector in point.settings.connectors.items()}
+        self.places: dict[str, Place] = {}
+        for point in self.by_id.values():
+            for number, connector in point.settings.connectors.items():
+                point.places[number] = self.places[connector.evse_uid.upper()] = Place(point, number, connector)
         self._state = state
 
     def place(self, evse_uid: str | None) -> Place | None:
         """Where an EVSE is. None where no charge point has it."""
         return self.places.get((evse_uid or "").upper())
-
-    def of(self, charge_point: ChargePoint) -> list[Place]:
-        """The connectors of a charge point."""
-        return [place for place in self.places.values() if place.charge_point is charge_point]
-
-    def at(self, charge_point: ChargePoint, connector: int) -> Place | None:
-        """The connector of a charge point that has a number."""
-        return next((place for place in self.of(charge_point) if place.connector == connector), None)
 
     def status(self, place: Place) -> str | None:
         """The last status that a connector reported."""
@@ -64,16 +63,14 @@ class ChargePoints:
 
     def note_service(self, evse_uid: str, in_service: bool) -> None:
         """Keeps what an event `service` said."""
-        statement = ("DELETE FROM ocpp_out_of_service WHERE evse_uid = ?" if in_service else
-                     "INSERT OR IGNORE INTO ocpp_out_of_service VALUES (?)")
-        self._state.query(statement, evse_uid.upper())
+        self._state.query("INSERT OR REPLACE INTO ocpp_service VALUES (?, ?)", evse_uid.upper(), in_service)
 
     def evse_status(self, evse_uid: str) -> str | None:
         """`OUTOFORDER` where nothing can be charged, `INOPERATIVE` where the EVSE is out of service, else None."""
         place = self.place(evse_uid)
         if place is None or place.charge_point.connection is None or self.status(place) == "Faulted":
             return "OUTOFORDER"
-        is_out = self._state.query("SELECT 1 FROM ocpp_out_of_service WHERE evse_uid = ?", evse_uid.upper())
+        is_out = self._state.query("SELECT 1 FROM ocpp_service WHERE evse_uid = ? AND NOT in_service", evse_uid.upper())
         return "INOPERATIVE" if is_out else None
 
     def id_tag_of(self, uid: str) -> str:

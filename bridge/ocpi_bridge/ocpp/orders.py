@@ -4,16 +4,11 @@ A charge point is asked once for each command, and that is kept before it is ask
 when it has one again, if the command is still open then. Where it does not answer nothing is fed, and the node ends the
 command at its time: whatever starts nevertheless is the command's, and is stopped.
 """
-from collections.abc import Callable, Coroutine
-from typing import Any
-
 from ..json_text import Members
-from .charge_points import ChargePoint, ChargePoints, Place
+from .charge_points import ChargePoint, ChargePoints, Place, Spawn
 from .commands import ASKED, REFUSED, Command, Commands
 from .sessions import Sessions, repeated
 from .transactions import Transaction, Transactions
-
-Spawn = Callable[[Coroutine[Any, Any, None]], None]
 
 
 class Orders:
@@ -38,21 +33,18 @@ class Orders:
 
     async def _carry_out(self, command: Command) -> None:
         try:
-            if command.kind == "unlock_connector":
-                await self._unlock(command)
-            elif command.kind == "stop_session":
+            place = self._charge_points.place(command.evse_uid)
+            if command.kind == "stop_session":
                 await self._stop_session(command)
-            elif command.evse_uid is not None:
-                await self._start(command)
-            else:
+            elif command.evse_uid is None:
                 await self._start_anywhere(command)
+            elif place is not None and command.kind == "unlock_connector":
+                if place.settings.connector_id.upper() == str(command.connector_id).upper():
+                    await self._ask(command, place.charge_point, "UnlockConnector", {"connectorId": place.connector})
+            elif place is not None and self._sessions.living(place.settings.evse_uid) is None:
+                await self._ask_to_start(command, place)
         finally:
             self._under_way.discard((command.provider, command.number))
-
-    async def _start(self, command: Command) -> None:
-        place = self._charge_points.place(command.evse_uid)
-        if place is not None and self._sessions.living(place.settings.evse_uid) is None:
-            await self._ask_to_start(command, place)
 
     async def _ask_to_start(self, command: Command, place: Place) -> None:
         id_tag = self._charge_points.id_tag_of(str(command.token_uid))
@@ -68,11 +60,6 @@ class Orders:
                 await repeated(lambda: self._sessions.withdraw(begun.session_id))
         elif place is not None:
             await self._ask_to_start(begun, place)
-
-    async def _unlock(self, command: Command) -> None:
-        place = self._charge_points.place(command.evse_uid)
-        if place is not None and place.settings.connector_id.upper() == str(command.connector_id).upper():
-            await self._ask(command, place.charge_point, "UnlockConnector", {"connectorId": place.connector})
 
     async def _stop_session(self, command: Command) -> None:
         """A session without a transaction is ended by the bridge: no charge point has anything to stop."""
@@ -90,12 +77,10 @@ class Orders:
         await self._ask(command, place.charge_point, "RemoteStopTransaction", {"transactionId": transaction.number})
 
     async def _ask(self, command: Command, charge_point: ChargePoint, action: str, payload: Members) -> None:
-        if charge_point.connection is None:
-            return
-        self._commands.set_state(command, ASKED)
-        async with charge_point.connection.asking(action, payload) as answer:
-            if answer is not None:
-                async with charge_point.lock:
+        if charge_point.connection is not None:
+            self._commands.set_state(command, ASKED)
+            async with charge_point.connection.asking(action, payload) as answer, charge_point.lock:
+                if answer is not None:
                     status = answer.get("status")
                     await repeated(lambda: self._tell(command, status))
 
@@ -114,16 +99,13 @@ class Orders:
 
     def stop(self, transaction: Transaction) -> None:
         """Has a transaction stopped that goes on without a session."""
-        charge_point = self._charge_points.by_id.get(transaction.charge_point)
-        if charge_point is not None and transaction.number not in self._stopping:
+        if transaction.number not in self._stopping:
             self._stopping.add(transaction.number)
-            self._spawn(self._stop_transaction(charge_point, transaction))
+            self._spawn(self._stop_transaction(transaction))
 
-    async def _stop_transaction(self, charge_point: ChargePoint, transaction: Transaction) -> None:
-        try:
-            if charge_point.connection is not None:
-                async with charge_point.connection.asking("RemoteStopTransaction",
-                                                          {"transactionId": transaction.number}):
-                    pass
-        finally:
-            self._stopping.discard(transaction.number)
+    async def _stop_transaction(self, transaction: Transaction) -> None:
+        connection = self._charge_points.by_id[transaction.charge_point].connection
+        if connection is not None:
+            async with connection.asking("RemoteStopTransaction", {"transactionId": transaction.number}):
+                pass
+        self._stopping.discard(transaction.number)

@@ -39,30 +39,25 @@ class Reports:
         self._sessions = sessions
         self._stop = stop
         self._handlers: dict[str, Handler] = {
-            "BootNotification": self._boot, "Heartbeat": self._heartbeat, "StatusNotification": self._status,
-            "Authorize": self._authorize, "StartTransaction": self._start, "MeterValues": self._meter,
-            "StopTransaction": self._end, "DataTransfer": self._data}
+            "StatusNotification": self._status, "Authorize": self._authorize, "StartTransaction": self._start,
+            "MeterValues": self._meter, "StopTransaction": self._end}
 
     async def answer(self, charge_point: ChargePoint, call: Call) -> Members:
         """What a call is answered. Raises CallError, NodeEnded, and EventRefused where the charge point may repeat."""
         check_payload(call.action, call.payload)
-        async with charge_point.lock:
-            return await repeated(lambda: self._handlers[call.action](charge_point, call.payload))
-
-    async def _boot(self, charge_point: ChargePoint, payload: Members) -> Members:
-        return {"status": "Accepted", "currentTime": self._clock.moment(), "interval": HEARTBEAT_EACH}
-
-    async def _heartbeat(self, charge_point: ChargePoint, payload: Members) -> Members:
-        return {"currentTime": self._clock.moment()}
-
-    async def _data(self, charge_point: ChargePoint, payload: Members) -> Members:
-        return {"status": "UnknownVendorId"}
+        if call.action in self._handlers:
+            async with charge_point.lock:
+                return await repeated(lambda: self._handlers[call.action](charge_point, call.payload))
+        if call.action == "DataTransfer":
+            return {"status": "UnknownVendorId"}
+        now: Members = {"currentTime": self._clock.moment()}
+        return now if call.action == "Heartbeat" else {"status": "Accepted", "interval": HEARTBEAT_EACH, **now}
 
     async def _status(self, charge_point: ChargePoint, payload: Members) -> Members:
         """A status of one connector, or at connector 0 of each, which a better one of it leaves as they are."""
         status, connector = payload["status"], payload["connectorId"]
         charge_point.reported.add(connector)
-        for place in self._charge_points.of(charge_point):
+        for place in charge_point.places.values():
             before = self._charge_points.status(place)
             if connector == place.connector or connector == 0 and {status, before} & OUT_OF_SERVICE:
                 await self._report_status(place, before, status)
@@ -81,7 +76,7 @@ class Reports:
     async def _authorize(self, charge_point: ChargePoint, payload: Members) -> Members:
         """A token that was shown at no named connector: a swipe where it is clear which one is meant."""
         uid = self._charge_points.uid_of(payload["idTag"])
-        places = self._charge_points.of(charge_point)
+        places = list(charge_point.places.values())
         shown_at = [place for place in places if self._charge_points.status(place) == "Preparing"]
         shown_at = places if len(places) == 1 else shown_at
         if any(self._is_let_charge(place, uid) for place in places) or len(shown_at) != 1:
@@ -102,7 +97,7 @@ class Reports:
         """A transaction that begins. It is let charge where it is that of a session."""
         transaction = self._transactions.begin(charge_point.settings.id, payload)
         if transaction.state == NEW:
-            place = self._charge_points.at(charge_point, transaction.connector)
+            place = charge_point.places.get(transaction.connector)
             session = await self._session_of(place, transaction) if place is not None else None
             if session is None:
                 transaction = self._transactions.update(transaction, REFUSED, None)
