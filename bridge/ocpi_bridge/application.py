@@ -87,15 +87,17 @@ class Bridge:
             LOG.error("%s", fault)
             worst = 1
         finally:
-            await self._end(node)
+            await self._end(tasks)
         return max(worst, await node)
 
-    async def _end(self, node: "asyncio.Task[int]") -> None:
-        """Takes no more requests, ends the node, and then all connections."""
+    async def _end(self, tasks: "list[asyncio.Task[Any]]") -> None:
+        """Takes no more requests, ends the node, which is the first task, and then all connections."""
         for listener in self._listeners:
             listener.stop()
+        for task in tasks[1:]:
+            task.cancel()
         await self._feeder.stop()
-        await asyncio.wait([node])
+        await asyncio.wait(tasks)
         await self._exchange.close()
         for listener in self._listeners:
             await listener.close()

@@ -210,11 +210,11 @@ class ArrayTest(FeederCase):
         return {"event": name, "node": "NL/TNM", **members}
 
     def fed(self, running: Running) -> list[list[str]]:
-        """The events of each line that the program got, without the setup, the line `[]` and ticks."""
+        """The events of each line that the program got, without the setup and ticks."""
         lines = [json.loads(line) for line in (running.folder / "node.lines").read_text().splitlines()]
-        events = [[event["event"] for event in (line if isinstance(line, list) else [line]) if "event" in event]
-                  for line in lines]
-        return [line for line in events if line not in ([], ["tick"])]
+        events = [[event["event"] for event in (line if isinstance(line, list) else [line])
+                   if event.get("event", "tick") != "tick"] for line in lines]
+        return [line for line in events if line]
 
     async def carry_out(self, events: list[Members]) -> tuple[Running, list[str]]:
         """Feeds events at once. Gives what became of each."""
