@@ -45,7 +45,6 @@ class ChargePoint:
         self.identifier = identifier
         self.transactions: list[Transaction] = []
         self.accepted_starts: list[str] = []
-        self.faults: list[str] = []
         self.ends: dict[str, str] = {}
         self._chance = chance
         self._running: Transaction | None = None
@@ -53,6 +52,7 @@ class ChargePoint:
         self._register = chance.randrange(1_000_000)
         self._tasks: set["asyncio.Task[None]"] = set()
         self._connection = Connection(identifier, password, address, chance, factor, self._answer, self._booted)
+        self.faults = self._connection.faults
         self._changed = asyncio.Event()
 
     @property
@@ -209,9 +209,9 @@ class ChargePoint:
     def _start_from_afar(self, payload: Payload) -> str:
         running = self._running
         if running is not None and running.was_let_charge:
-            self.faults.append(f"{self.identifier}: asked to start {payload['idTag']} while {running.id_tag} charges")
+            self.faults.append(f"asked to start {payload['idTag']} while {running.id_tag} charges")
         if payload.get("connectorId", CONNECTOR) != CONNECTOR:
-            self.faults.append(f"{self.identifier}: asked to start at connector {payload['connectorId']}")
+            self.faults.append(f"asked to start at connector {payload['connectorId']}")
         if self._is_busy or happens(self._chance, 0.05):
             return "Rejected"
         self.accepted_starts.append(payload["idTag"])

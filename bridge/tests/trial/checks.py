@@ -77,7 +77,7 @@ def is_started_once(records: Mapping[str, Records], charge_points: Mapping[str, 
             there = [session for session in sessions if session["evse_uid"] == place.evse_uid]
             faults += overlaps(there)
     for identifier, charge_point in charge_points.items():
-        faults += charge_point.faults
+        faults += [f"{identifier}: {fault}" for fault in charge_point.faults]
         for id_tag, count in Counter(charge_point.accepted_starts).items():
             accepted = sum(1 for provider in PROVIDERS for command in records[provider].members("command")
                            if command["kind"] == "start_session" and command["body"]["token"]["uid"] == id_tag)
@@ -150,7 +150,7 @@ def weaves(bridges: Mapping[str, RunningBridge]) -> list[str]:
     if status != 0:
         return [f"weave: {woven[:500]} {words}"]
     status, played, words = run("play", text=woven)
-    if status not in (0, 1):
+    if status != 0:
         return [f"play: status {status} {words}"]
     owed = {line for line in played.splitlines() if line.startswith("owed ")}
     faults = []

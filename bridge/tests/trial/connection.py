@@ -48,7 +48,8 @@ class Connection:
         self._turn = asyncio.Lock()
         self._awaited: dict[str, "asyncio.Future[Payload]"] = {}
         self._origin: tuple[float, float] | None = None
-        self.refused: list[str] = []
+        self._last: tuple[str, Payload, Payload] | None = None
+        self.faults: list[str] = []
 
     @property
     def has_booted(self) -> bool:
@@ -81,7 +82,9 @@ class Connection:
             while True:
                 await self._opened.wait()
                 try:
-                    return await self._send(action, payload, identifier)
+                    answer = await self._send(action, payload, identifier)
+                    self._last = action, payload, answer
+                    return answer
                 except ConnectionLost:
                     identifier = identifier if happens(self._chance, 0.5) else str(uuid.uuid4())
                     await asyncio.sleep(0.05)
@@ -120,11 +123,19 @@ class Connection:
                 theirs = datetime.fromisoformat(answer["currentTime"].replace("Z", "+00:00"))
                 self._origin = ((theirs - datetime(1970, 1, 1, tzinfo=timezone.utc)) / timedelta(seconds=1),
                                 time.monotonic())
+            if self._last is not None and happens(self._chance):
+                await self._send_again(*self._last)
             if self._socket is not None:
                 self._opened.set()
                 await self._booted()
         except ConnectionLost:
             pass
+
+    async def _send_again(self, action: str, payload: Payload, answer: Payload) -> None:
+        """Sends the last report once more, as after a power cut in which its answer was lost."""
+        again = await self._send(action, payload, str(uuid.uuid4()))
+        if again != answer:
+            self.faults.append(f"{action} {payload} was answered {answer}, and then {again}")
 
     def _lose(self) -> None:
         """Cuts the connection as a lost radio link does, without a word."""
@@ -160,7 +171,7 @@ class Connection:
             await self._take_call(str(frame[1]), frame[2], frame[3])
             return
         if frame[0] == ERROR:
-            self.refused.append(json.dumps(frame))
+            self.faults.append(f"refused by {frame}")
         awaited = self._awaited.pop(str(frame[1]), None)
         if awaited is None or awaited.done():
             return
