@@ -220,6 +220,13 @@ class Queues(ClientCase):
             queue.put(self.packet("unlock_connector", request, unlock(request)))
         self.assertEqual(list(range(2, MOST_WAITING + 2)), [(await queue.get()).request for _ in range(MOST_WAITING)])
 
+    async def test_a_question_goes_first(self) -> None:
+        """Its driver waits, and a node awaits its answer for ten seconds alone."""
+        queue = Queue()
+        for request, kind in enumerate(("put_session", "post_cdr", "authorize"), 1):
+            queue.put(self.packet(kind, request, {}))
+        self.assertEqual([3, 1, 2], [(await queue.get()).request for _ in range(3)])
+
     async def test_one_that_fails_again_and_again_is_asked_less_often(self) -> None:
         moments: list[float] = []
 

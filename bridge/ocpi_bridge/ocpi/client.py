@@ -31,7 +31,11 @@ log = logging.getLogger(__name__)
 
 
 class Queue:
-    """The requests that wait for one partner, by their numbers."""
+    """The requests that wait for one partner, by their numbers.
+
+    They go out in order, but that a question about a token goes first: its driver waits, and its answer is awaited for
+    ten seconds alone.
+    """
 
     def __init__(self) -> None:
         self._waiting: dict[int, Packet] = {}
@@ -46,7 +50,8 @@ class Queue:
 
     async def get(self) -> Packet:
         await self._filled.wait()
-        packet = self._waiting.pop(next(iter(self._waiting)))
+        questions = (number for number, packet in self._waiting.items() if packet.kind == "authorize")
+        packet = self._waiting.pop(next(questions, next(iter(self._waiting))))
         if not self._waiting:
             self._filled.clear()
         return packet

@@ -56,6 +56,7 @@ class Exchange:
         self.clock = clock
         self._metrics = metrics
         self._session: aiohttp.ClientSession | None = None
+        self._details: dict[str, str] = {}
 
     async def ask(self, party: str, method: str, url: str, token: str, body: Members | None = None,
                   headers: Mapping[str, str] | None = None) -> Response:
@@ -83,17 +84,23 @@ class Exchange:
                    headers: Mapping[str, str] | None = None) -> tuple[object, str | None]:
         """The `data` that a GET gives, and the next page of a list. Raises NoResponse where it is no success."""
         response = await self.ask(party, "GET", url, token, headers=headers)
-        if response.status != 200 or response.body.get("status_code") != SUCCESS:
-            raise NoResponse(f"HTTP {response.status}, status_code {response.body.get('status_code')}")
-        return response.body.get("data"), response.next_page
+        return _data_of(response), response.next_page
 
     async def endpoints(self, party: str, versions_url: str, token: str) -> Endpoints:
-        """Where the modules of a partner stand in its OCPI 2.2.1. Raises NoResponse."""
-        versions, _ = await self.data(party, versions_url, token)
-        urls = [one["url"] for one in _objects(versions, "version", "url") if one["version"] == VERSION]
-        if not urls:
-            raise NoResponse(f"its versions list no {VERSION}", status_code=UNSUPPORTED_VERSION)
-        details, _ = await self.data(party, urls[0], token)
+        """Where the modules of a partner stand in its OCPI 2.2.1. Raises NoResponse.
+
+        Where the answer of its details is lost, the next call asks for these alone: a bad link has two requests less
+        often answered one behind the other.
+        """
+        if versions_url not in self._details:
+            versions, _ = await self.data(party, versions_url, token)
+            urls = [one["url"] for one in _objects(versions, "version", "url") if one["version"] == VERSION]
+            if not urls:
+                raise NoResponse(f"its versions list no {VERSION}", status_code=UNSUPPORTED_VERSION)
+            self._details[versions_url] = urls[0]
+        response = await self.ask(party, "GET", self._details[versions_url], token)
+        self._details.pop(versions_url, None)
+        details = _data_of(response)
         listed = details.get("endpoints") if isinstance(details, dict) else None
         return {(one["identifier"], one["role"]): one["url"] for one in _objects(listed, "identifier", "role", "url")}
 
@@ -133,6 +140,13 @@ def _address(url: str) -> URL:
     if address.scheme not in ("http", "https") or not address.host:
         raise NoAddress("no address of HTTP")
     return address
+
+
+def _data_of(response: Response) -> object:
+    """The `data` of a response. Raises NoResponse where it is no success."""
+    if response.status != 200 or response.body.get("status_code") != SUCCESS:
+        raise NoResponse(f"HTTP {response.status}, status_code {response.body.get('status_code')}")
+    return response.body.get("data")
 
 
 def _members(text: bytes) -> Members:
