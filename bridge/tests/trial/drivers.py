@@ -21,7 +21,7 @@ A_SWIPE_TAKES = 1.0
 A_RESERVATION_TAKES = 3.0
 AN_END_TAKES = 2.5
 A_REPORT_TAKES = 20.0
-A_CHARGE_TAKES = 60.0
+A_CHARGE_TAKES = 90.0
 # In seconds of the bridges' clocks: 12 of the machine.
 A_RESERVATION_LASTS = timedelta(seconds=240)
 

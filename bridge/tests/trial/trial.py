@@ -22,8 +22,8 @@ from .records import records_of
 MOST_REQUESTS = 20_000
 MOST_MEMORY = 300_000_000
 # In seconds of the machine.
-ENDS_WITHIN = 200.0
-CHARGES_WITHIN = 120.0
+ENDS_WITHIN = 210.0
+CHARGES_WITHIN = 150.0
 QUIET_WITHIN = 40.0
 QUIET_FOR = 1.5
 WAITING = re.compile(r"^(ocpi_open_commands|ocpi_unacknowledged_pushes)(?:\{[^}]*\})? (\S+)$", re.MULTILINE)
