@@ -1,6 +1,5 @@
 """The admin addresses of a provider and an operator."""
 import asyncio
-import dataclasses
 import json
 import os
 import random

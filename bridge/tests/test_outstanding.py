@@ -1,4 +1,5 @@
 """What is outstanding at a node, as its packets tell, and the text of the metrics."""
+import dataclasses
 import tempfile
 import unittest
 from pathlib import Path
@@ -9,6 +10,8 @@ from ocpi_bridge.events import Outcome, Packet
 from ocpi_bridge.json_text import Members
 from ocpi_bridge.ocpi.objects import Objects
 from ocpi_bridge.state import State
+
+from .test_admin import TOKEN
 
 MOMENT = "2025-01-01T10:00:00Z"
 
