@@ -1,4 +1,5 @@
 """What a provider that is no node asks of an operator's bridge: lists by pages, places, tokens, and what is refused."""
+import gzip
 from typing import Any
 
 from .cases import OperatorCase
@@ -218,6 +219,13 @@ class Statuses(OperatorCase):
             with self.subTest(text=text):
                 self.assert_refused(await self.provider.ask("POST", url, data=text), 2001)
         self.assertEqual(413, (await self.provider.ask("POST", url, data=b" " * 2_000_000)).http_status)
+
+    async def test_no_body_is_made_larger(self) -> None:
+        """A body that were above 1 MB if it were decompressed is no JSON as it comes."""
+        url = await self.provider.endpoint("commands", "RECEIVER") + "/STOP_SESSION"
+        packed = gzip.compress(b" " * 10_000_000)
+        reply = await self.provider.ask("POST", url, data=packed, headers={"Content-Encoding": "gzip"})
+        self.assert_status(reply, 400, 2001)
 
     async def test_a_body_of_another_content_type_is_taken(self) -> None:
         reply = await self.provider.put_token(self.token, headers={"Content-Type": "text/plain"})

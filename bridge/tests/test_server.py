@@ -251,8 +251,6 @@ class OperatorServer(ServerCase):
         for size, status in ((1_000_000, 200), (1_000_001, 413)):
             large = b'{"session_id":"' + b"A" * (size - 17) + b'"}'
             self.assertEqual((await self.ask("node", "POST", path, number=1, text=large)).status, status)
-        coded = {"Content-Encoding": "gzip"}
-        self.assertEqual((await self.ask("node", "POST", path, number=1, text=b"{}", headers=coded)).status, 400)
 
     async def test_who_may_ask(self) -> None:
         path = "receiver/commands/STOP_SESSION"
