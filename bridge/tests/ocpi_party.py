@@ -25,7 +25,7 @@ INTERFACES = {
             "cdrs": "SENDER", "locations": "SENDER"}}
 
 # How often a request is sent that is answered 504 each time.
-MOST_ATTEMPTS = 5
+MOST_ATTEMPTS = 10
 
 
 def now() -> str:

@@ -54,6 +54,16 @@ class ManyAtOnce(OperatorCase):
         self.assertLessEqual(set(statuses[300:]), {200, 201})
         self.assert_memory()
 
+    async def test_large_bodies_at_once(self) -> None:
+        """Bodies that take many times their size once they are read."""
+        url = await self.provider.endpoint("tokens", "RECEIVER")
+        large = [b"[" + b"{}," * 260_000 + b"{}]", b"[" * 100 + b"1," * 400_000 + b"1" + b"]" * 100]
+        asked = [self.provider.ask("PUT", f"{url}/NL/PLN/AA01", data=body) for body in large for _ in range(40)]
+        asked += [self.provider.put_token({**self.token, "x": "y" * 800_000}) for _ in range(20)]
+        replies = await gathered(asked, 120)
+        self.assertEqual([2001] * 80 + [1000] * 20, [reply.status_code for reply in replies])
+        self.assert_memory()
+
 
 class ManyBills(ProviderCase):
     """Hundreds of sessions and bills at the same time."""

@@ -1,8 +1,8 @@
 """The OCPI server: who may ask, which path leads where, and the format and the headers of each response."""
 import asyncio
 import logging
-from collections.abc import Awaitable, Callable
-from contextlib import AbstractAsyncContextManager, nullcontext
+from collections.abc import AsyncIterator, Awaitable, Callable
+from contextlib import asynccontextmanager
 from urllib.parse import unquote
 
 from aiohttp import web
@@ -87,14 +87,21 @@ class _Server:
         self._complete(request, response)
         return response
 
-    def _room(self, request: web.Request) -> AbstractAsyncContextManager[None]:
-        """What a request waits for before its body is read. Raises web.HTTPException where that is too large."""
+    @asynccontextmanager
+    async def _room(self, request: web.Request) -> AsyncIterator[None]:
+        """Inside a body is read and carried out. Raises TimeoutError where there is no room for a large one, and
+        web.HTTPException for one that is too large."""
         length = request.content_length or 0
         if length > LARGEST_BODY:
             raise web.HTTPRequestEntityTooLarge(LARGEST_BODY, length)
-        if length >= LARGE_BODY or request.can_read_body and not length:
-            return self._large
-        return nullcontext()
+        if length < LARGE_BODY and (length or not request.can_read_body):
+            yield
+            return
+        await self._clock.within(LONGEST_WAIT, self._large.acquire())
+        try:
+            yield
+        finally:
+            self._large.release()
 
     def _error(self, http_status: int, status_code: int, message: str) -> web.Response:
         return answer(self._clock.moment(), None, status_code, message, http_status)

@@ -14,6 +14,8 @@ from .frames import CALL, RESULT, Answer, Call, CallError, read_frame
 
 LOG = logging.getLogger("ocpp")
 ANSWER_WITHIN = 30.0
+# The characters of calls that may wait. A charge point that sends more does not wait for answers at all.
+MOST_WAITING = 4_000_000
 Handler = Callable[[Call], Awaitable[Members]]
 
 
@@ -30,6 +32,7 @@ class Connection:
         self._handler = handler
         self._inbox: asyncio.Queue[tuple[str, Call] | asyncio.Event | None] = asyncio.Queue()
         self._times: dict[str, int] = {}
+        self._waiting = 0
         self._one_at_a_time = asyncio.Lock()
         self._asked: tuple[str, asyncio.Future[Members | None], asyncio.Event] | None = None
         self._is_open = True
@@ -59,8 +62,11 @@ class Connection:
                 self._inbox.put_nowait(self._asked[2])
         elif text in self._times:
             self._times[text] += 1
+        elif self._waiting + len(text) > MOST_WAITING:
+            await self.close()
         else:
             self._times[text] = 1
+            self._waiting += len(text)
             self._inbox.put_nowait((text, frame))
 
     async def work(self) -> None:
@@ -71,6 +77,7 @@ class Connection:
                 continue
             text, call = item
             answer = await self._answer(call)
+            self._waiting -= len(text)
             if answer is None:
                 await self.close()
                 return
