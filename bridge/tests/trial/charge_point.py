@@ -42,7 +42,6 @@ class ChargePoint:
 
     def __init__(self, identifier: str, password: str, address: Callable[[], str | None], chance: Random,
                  factor: float) -> None:
-        self.identifier = identifier
         self.transactions: list[Transaction] = []
         self.accepted_starts: list[str] = []
         self.ends: dict[str, str] = {}
