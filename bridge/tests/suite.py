@@ -1,7 +1,10 @@
 """Runs all tests of the bridge side by side, a process for each class of tests, and tells what came of them.
 
-Beside them it runs `mypy --strict` of the bridge and of its tests, and looks at sizes (sizes.py).
+Beside them it runs `mypy --strict` of the bridge and of its tests, and looks at sizes (sizes.py). Two runs on one
+machine wait for one another, since tests wait in real time. For the same reason a class that fails beside others is run
+once more when these have ended, and only what fails by itself too has failed.
 """
+import fcntl
 import json
 import os
 import signal
@@ -118,14 +121,28 @@ def show(came: Came) -> None:
         print("\n".join("    " + line for line in came.text.splitlines()[-MOST_LINES:]), flush=True)
 
 
+def lock() -> int:
+    """Waits until no other run of the tests is under way on this machine. The lock ends with this process."""
+    opened = os.open(Path(tempfile.gettempdir()) / f"ocpi_bridge_tests_{os.getuid()}.lock", os.O_CREAT | os.O_RDWR, 0o600)
+    fcntl.flock(opened, fcntl.LOCK_EX)
+    return opened
+
+
 def main() -> int:
     """Runs everything. The status is 0 where nothing failed."""
+    lock()
     checks = [("mypy of the bridge", ["-m", "mypy", "--strict", "ocpi_bridge"]),
               ("mypy of the tests", ["-m", "mypy", "--strict", "tests"]), ("sizes", ["-m", "tests.sizes"])]
     with ThreadPoolExecutor(AT_ONCE) as pool:
         running = [pool.submit(run_class, name) for name in classes()]
         running += [pool.submit(run_check, name, words) for name, words in checks]
         came = [each.result() for each in running]
+    names = set(classes())
+    for place, each in enumerate(came):
+        if each.failed and each.name in names:
+            show(each)
+            print(f"{each.name}: once more, by itself", flush=True)
+            came[place] = run_class(each.name)
     for each in came:
         show(each)
     skipped = [reason for each in came for reason in each.skipped]
