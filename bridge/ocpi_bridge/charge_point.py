@@ -7,14 +7,14 @@ import argparse
 import asyncio
 import sys
 from collections import deque
-from datetime import datetime, timezone
 from urllib.parse import quote
-from uuid import uuid4
 
 import aiohttp
 
-from .json_text import Members, write_json
-from .ocpp.frames import CALL, RESULT, Call, CallError, read_frame
+from .clock import Clock
+from .json_text import Members
+from .ocpp.connection import Connection
+from .ocpp.frames import Call
 
 # In seconds: between readings that it makes by itself, and before it connects again. In Wh: what each adds, and with
 # how much a car is full.
@@ -31,21 +31,22 @@ class ChargePoint:
         self.token: str | None = None
         self.transaction: int | None = None
         self.register = self.full = 0
-        self.calls: deque[tuple[str, str, Members]] = deque()
+        self.clock = Clock()
+        self.calls: deque[tuple[str, Members]] = deque()
         self.has_calls = asyncio.Event()
         self.call("BootNotification", chargePointVendor="Trial", chargePointModel="One")
         self.set_status("Available")
 
     def call(self, action: str, **payload: object) -> None:
         """Queues a call, which is sent until it is answered."""
-        self.calls.append((str(uuid4()), action, payload))
+        self.calls.append((action, payload))
         self.has_calls.set()
 
     def set_status(self, status: str) -> None:
         self.status = status
         print(status, flush=True)
         self.call("StatusNotification", connectorId=1, errorCode="OtherError" if status == "Faulted" else "NoError",
-                  status=status, timestamp=now())
+                  status=status, timestamp=self.clock.moment())
 
     def do(self, *words: str) -> None:
         """Does what a driver does. What makes no sense as things stand is passed over."""
@@ -59,9 +60,9 @@ class ChargePoint:
                 self.register += int(watt_hours)
                 if self.transaction is not None:
                     self.call("MeterValues", connectorId=1, transactionId=self.transaction, meterValue=[
-                        {"timestamp": now(), "sampledValue": [{"value": str(self.register)}]}])
+                        {"timestamp": self.clock.moment(), "sampledValue": [{"value": str(self.register)}]}])
             case ["stop", *reason] if self.transaction is not None:
-                self.call("StopTransaction", transactionId=self.transaction, meterStop=self.register, timestamp=now(),
+                self.call("StopTransaction", transactionId=self.transaction, meterStop=self.register, timestamp=self.clock.moment(),
                           reason=reason[0] if reason else "Local")
                 self.transaction, self.token, self.is_running = None, None, False
                 self.set_status("Finishing")
@@ -74,7 +75,7 @@ class ChargePoint:
                 self.set_status("Faulted")
         if self.is_plugged_in and self.token is not None and not self.is_running:
             self.is_running, self.full = True, self.register + FULL
-            self.call("StartTransaction", connectorId=1, idTag=self.token, meterStart=self.register, timestamp=now())
+            self.call("StartTransaction", connectorId=1, idTag=self.token, meterStart=self.register, timestamp=self.clock.moment())
 
     def take(self, action: str, payload: Members, answer: Members) -> None:
         """Takes in what a call of its own was answered."""
@@ -89,54 +90,39 @@ class ChargePoint:
                 self.do("stop", "DeAuthorized")
         self.do()
 
-    def answer(self, call: Call) -> tuple[str, list[list[str]]]:
-        """The status that answers a call of the central system, and what is done behind it."""
+    async def answer(self, call: Call) -> Members:
+        """Answers a call of the central system. What follows of it is done behind the answer."""
+        status, acts = "Rejected", []
         match call.action:
             case "RemoteStartTransaction" if self.status in ("Available", "Preparing") and not self.is_running:
                 self.token = call.payload["idTag"]
-                return "Accepted", [["plug"] if self.is_automatic else []]
+                status, acts = "Accepted", [["plug"] if self.is_automatic else []]
             case "RemoteStopTransaction" if call.payload["transactionId"] == self.transaction:
-                return "Accepted", [["stop", "Remote"], *([["unplug"]] if self.is_automatic else [])]
+                status, acts = "Accepted", [["stop", "Remote"], *([["unplug"]] if self.is_automatic else [])]
             case "UnlockConnector":
-                return "Unlocked", [["stop", "UnlockCommand"]]
+                status, acts = "Unlocked", [["stop", "UnlockCommand"]]
             case "ChangeAvailability":
-                return "Scheduled" if self.is_running else "Accepted", []
+                status = "Scheduled" if self.is_running else "Accepted"
             case "TriggerMessage" if call.payload["requestedMessage"] == "StatusNotification":
-                self.set_status(self.status)
-                return "Accepted", []
-        return "Rejected", []
+                status = "Accepted"
+                asyncio.get_running_loop().call_soon(self.set_status, self.status)
+        for act in acts:
+            asyncio.get_running_loop().call_soon(self.do, *act)
+        return {"status": status}
 
-    async def serve(self, socket: aiohttp.ClientWebSocketResponse) -> None:
-        """Makes its calls one at a time and answers those of the other side, until the connection ends."""
-        sender = asyncio.create_task(self._send_calls(socket))
-        async for message in socket:
-            try:
-                frame = read_frame(str(message.data))
-            except CallError:
-                continue
-            if isinstance(frame, Call):
-                status, acts = self.answer(frame)
-                await socket.send_str(write_json([RESULT, frame.message_id, {"status": status}]))
-                for act in acts:
-                    self.do(*act)
-            elif self.calls and self.calls[0][0] == frame.message_id:
-                _, action, payload = self.calls.popleft()
-                self.take(action, payload, frame.payload)
-                self.answered.set()
-        sender.cancel()
-
-    async def _send_calls(self, socket: aiohttp.ClientWebSocketResponse) -> None:
+    async def make_calls(self, connection: Connection) -> None:
+        """Makes its calls one at a time, until one is not answered. That is made again on the next connection."""
         while True:
             await self.has_calls.wait()
-            self.answered = asyncio.Event()
-            await socket.send_str(write_json([CALL, *self.calls[0]]))
-            await self.answered.wait()
-            if not self.calls:
-                self.has_calls.clear()
-
-
-def now() -> str:
-    return datetime.now(timezone.utc).isoformat(timespec="milliseconds").replace("+00:00", "Z")
+            action, payload = self.calls[0]
+            async with connection.asking(action, payload) as answer:
+                if answer is None:
+                    await connection.close()
+                    return
+                self.calls.popleft()
+                if not self.calls:
+                    self.has_calls.clear()
+                self.take(action, payload, answer)
 
 
 async def read_input(charge_point: ChargePoint) -> None:
@@ -164,7 +150,10 @@ async def run(url: str, name: str, password: str, is_automatic: bool) -> None:
         while True:
             try:
                 async with session.ws_connect(f"{url.rstrip('/')}/{quote(name, '')}", protocols=("ocpp1.6",)) as socket:
-                    await charge_point.serve(socket)
+                    connection = Connection(socket, charge_point.clock, charge_point.answer)
+                    calls = asyncio.create_task(charge_point.make_calls(connection))
+                    await asyncio.gather(connection.read(), connection.work())
+                    calls.cancel()
             except (aiohttp.ClientError, OSError):
                 pass
             await asyncio.sleep(RECONNECT_AFTER)

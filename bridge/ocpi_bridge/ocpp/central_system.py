@@ -28,8 +28,9 @@ SUBPROTOCOL = "ocpp1.6"
 LARGEST_FRAME = 1_048_576
 # Seconds of real time: between pings, so that a connection that is gone is seen, and for a charge point to close one.
 PING_EACH, CLOSED_WITHIN = 30.0, 2.0
-# After how many seconds a session ends for which nobody plugs in, counted while its charge point has a connection.
-PLUGGED_IN_WITHIN = 120.0
+# After how many seconds a session ends for which nobody plugs in. A charge point that was away may have to tell of a
+# transaction first: for that it has so many seconds from its connection on.
+PLUGGED_IN_WITHIN, TOLD_WITHIN = 120.0, 10.0
 # After how many seconds a charge point is asked for the status of a connector that it did not tell by itself.
 STATUS_WITHIN = 30.0
 
@@ -145,8 +146,8 @@ class CentralSystem:
             place = self._charge_points.place(session["evse_uid"])
             if place is None or place.charge_point.connection is None:
                 continue
-            since = max(seconds_of(session["last_updated"]), place.charge_point.connected_since)
-            if self._clock.seconds() > since + PLUGGED_IN_WITHIN:
+            until = seconds_of(session["last_updated"]) + PLUGGED_IN_WITHIN
+            if self._clock.seconds() > max(until, place.charge_point.connected_since + TOLD_WITHIN):
                 del self._pending[session["id"]]
                 self._spawn(self._end_session(place.charge_point, session["id"]))
 

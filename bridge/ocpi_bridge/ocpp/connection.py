@@ -5,7 +5,7 @@ from collections.abc import AsyncIterator, Awaitable, Callable
 from contextlib import asynccontextmanager
 from uuid import uuid4
 
-from aiohttp import WSMsgType, web
+from aiohttp import ClientWebSocketResponse, WSMsgType, web
 
 from ..clock import Clock
 from ..json_text import Members, write_json
@@ -26,7 +26,7 @@ class Connection:
     remote start and tell of the transaction in the next frame.
     """
 
-    def __init__(self, socket: web.WebSocketResponse, clock: Clock, handler: Handler) -> None:
+    def __init__(self, socket: web.WebSocketResponse | ClientWebSocketResponse, clock: Clock, handler: Handler) -> None:
         self._socket = socket
         self._clock = clock
         self._handler = handler
