@@ -144,6 +144,14 @@ def is_as_drawn(done: Iterable[tuple[Charge, Transaction]], charges: Iterable[Ch
     return faults
 
 
+def is_ordered_once(posted: Mapping[str, int], answered: Mapping[str, int],
+                    records: Mapping[str, Records]) -> list[str]:
+    """Each order that was answered became one command, and each other one at most one."""
+    given = {provider: len(records[provider].texts("command")) for provider in PROVIDERS}
+    return [f"{provider} gave {given[provider]} commands for {posted[provider]} orders, {answered[provider]} answered"
+            for provider in PROVIDERS if not answered[provider] <= given[provider] <= posted[provider]]
+
+
 def weaves(bridges: Mapping[str, RunningBridge]) -> list[str]:
     """The transcripts of all four are one run, which can be played, and in which the same is owed."""
     status, woven, words = run("weave", *(bridges[party].transcript for party in PARTIES))

@@ -2,6 +2,7 @@
 import asyncio
 import time
 from base64 import b64encode
+from collections import Counter
 from collections.abc import Mapping
 from datetime import datetime, timedelta
 from random import Random
@@ -41,6 +42,8 @@ class Drivers:
         self._chance = chance
         self.done: list[tuple[Charge, Transaction]] = []
         self.credited: list[str] = []
+        self.posted: Counter[str] = Counter()
+        self.answered: Counter[str] = Counter()
         self._tokens: set[str] = set()
 
     async def carry_out(self, charges: list[Charge]) -> None:
@@ -131,7 +134,10 @@ class Drivers:
 
     async def _order(self, charge: Charge, order: str, **members: str) -> None:
         """Gives an order once. Where the bridge does not answer, nobody knows whether it was given."""
-        await self._post(charge.provider, "/orders", {"operator": charge.place.operator, "order": order, **members})
+        body: Members = {"operator": charge.place.operator, "order": order, **members}
+        self.posted[charge.provider] += 1
+        if await self._post(charge.provider, "/orders", body) is not None:
+            self.answered[charge.provider] += 1
 
     async def _sessions(self, charge: Charge) -> list[Members]:
         """The sessions by the token of a charge, as the bridge of its operator tells them."""

@@ -24,7 +24,7 @@ MOST_MEMORY = 300_000_000
 # In seconds of the machine.
 ENDS_WITHIN = 210.0
 CHARGES_WITHIN = 150.0
-QUIET_WITHIN = 40.0
+QUIET_WITHIN = 60.0
 QUIET_FOR = 1.5
 WAITING = re.compile(r"^(ocpi_open_commands|ocpi_unacknowledged_pushes)(?:\{[^}]*\})? (\S+)$", re.MULTILINE)
 
@@ -103,12 +103,14 @@ class Trial:
     async def _quiet(self) -> None:
         """Waits until nothing is under way for some time, or too much time is over."""
         end, since = time.monotonic() + QUIET_WITHIN, time.monotonic()
+        unrest: list[str] = []
         while time.monotonic() - since < QUIET_FOR:
             if time.monotonic() > end:
-                self.faults.append("not quiet: " + ", ".join(await self._unrest()))
+                self.faults.append("not quiet: " + ", ".join(unrest))
                 return
-            if await self._unrest():
-                since = time.monotonic()
+            now = await self._unrest()
+            if now:
+                unrest, since = now, time.monotonic()
             await asyncio.sleep(0.1)
 
     async def _unrest(self) -> list[str]:
@@ -132,6 +134,7 @@ class Trial:
         self.faults += checks.is_held_alike(records) + checks.is_started_once(records, self._charge_points)
         self.faults += checks.is_billed_once(records, self._charge_points)
         self.faults += checks.is_as_drawn(drivers.done, self._charges, drivers.credited, records)
+        self.faults += checks.is_ordered_once(drivers.posted, drivers.answered, records)
         self.faults += checks.weaves(self._bridges)
         self.faults += checks.keeps_secrets(self._bridges, self._secrets, self._charges)
         if kills.most_memory > MOST_MEMORY:
