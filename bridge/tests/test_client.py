@@ -217,7 +217,7 @@ class Queues(ClientCase):
     async def test_the_oldest_is_lost_where_too_many_wait(self) -> None:
         queue = Queue()
         for request in range(MOST_WAITING + 2):
-            queue.put(self.packet("unlock_connector", request, unlock(request)))
+            queue.put_nowait(self.packet("unlock_connector", request, unlock(request)))
         self.assertEqual(list(range(2, MOST_WAITING + 2)), [(await queue.get()).request for _ in range(MOST_WAITING)])
 
     async def test_a_question_goes_first(self) -> None:

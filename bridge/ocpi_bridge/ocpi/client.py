@@ -7,7 +7,7 @@ before it is sent, with what is answered, and is sent once.
 import asyncio
 import logging
 from collections.abc import Awaitable, Callable
-from dataclasses import replace
+from contextlib import suppress
 from typing import Any
 
 from ..clock import Clock, milliseconds_of, moment_of
@@ -17,11 +17,11 @@ from ..json_text import Members, NotJson, read_json, write_json
 from ..node.feeder import NodeEnded, OutcomeLost
 from ..parties import party_key
 from ..state import State
-from .envelope import INVALID, SUCCESS, request_headers
-from .exchange import Exchange, NoAddress, NoResponse, Response
-from .packets import ANSWER_OF, COMMANDS, HttpRequest, http_request, with_results_url
+from .envelope import INVALID, SUCCESS, routing_headers
+from .exchange import Exchange, NoAddress, NoResponse, NotSent, Response
+from .packets import COMMANDS, FORMS, path_of
 from .partners import Partner, Partners
-from .requests import Requests, number_in_url
+from .requests import NODES_URL, RESULTS_PATH, Requests, number_in, number_of
 
 MOST_WAITING = 1000
 LONGEST_PAUSE = 60.0
@@ -30,31 +30,24 @@ ONCE = ("start_session", "reserve_now", "stop_session")
 log = logging.getLogger(__name__)
 
 
-class Queue:
-    """The requests that wait for one partner, by their numbers.
+class Queue(asyncio.Queue[Packet]):
+    """The requests that wait for one partner, by their numbers. Where too many wait the oldest is lost.
 
     They go out in order, but that a question about a token goes first: its driver waits, and its answer is awaited for
     ten seconds alone.
     """
 
-    def __init__(self) -> None:
-        self._waiting: dict[int, Packet] = {}
-        self._filled = asyncio.Event()
+    def _init(self, maxsize: int) -> None:
+        self._queue: dict[int, Packet] = {}
 
-    def put(self, packet: Packet) -> None:
-        """Where too many wait the oldest is lost."""
-        self._waiting[packet.request] = packet
-        if len(self._waiting) > MOST_WAITING:
-            del self._waiting[next(iter(self._waiting))]
-        self._filled.set()
+    def _put(self, item: Packet) -> None:
+        self._queue[item.request] = item
+        if len(self._queue) > MOST_WAITING:
+            del self._queue[next(iter(self._queue))]
 
-    async def get(self) -> Packet:
-        await self._filled.wait()
-        questions = (number for number, packet in self._waiting.items() if packet.kind == "authorize")
-        packet = self._waiting.pop(next(questions, next(iter(self._waiting))))
-        if not self._waiting:
-            self._filled.clear()
-        return packet
+    def _get(self) -> Packet:
+        questions = (number for number, packet in self._queue.items() if packet.kind == "authorize")
+        return self._queue.pop(next(questions, next(iter(self._queue))))
 
 
 class Client:
@@ -62,57 +55,48 @@ class Client:
 
     def __init__(self, configuration: Configuration, state: State, partners: Partners, exchange: Exchange,
                  requests: Requests, events: Events, feed: Callable[[Members], Awaitable[Outcome]]) -> None:
-        self._url = configuration.ocpi.url
-        self._state = state
-        self.partners = partners
-        self.exchange = exchange
-        self.requests = requests
-        self.events = events
-        self._feed = feed
+        self._url, self._state, self._feed = configuration.ocpi.url, state, feed
+        self.partners, self.exchange, self.requests, self.events = partners, exchange, requests, events
         self._queues = {party_key(partner.party): Queue() for partner in configuration.partners}
 
     def send(self, packet: Packet) -> None:
         """Takes a request of the node, to be sent to its receiver."""
-        self._queues[party_key(packet.receiver)].put(packet)
+        self._queues[party_key(packet.receiver)].put_nowait(packet)
 
     async def run(self) -> None:
-        """Sends what waits, until it is cancelled."""
+        """Sends what waits, until it is cancelled or the bridge ends."""
         await asyncio.gather(*(self._work(queue) for queue in self._queues.values()))
 
     async def endpoint(self, partner: Partner, module: str, role: str) -> str:
         """Where a module of a partner stands. Its versions are asked where nothing is known yet. Raises NoResponse."""
-        if partner.their_token is None or partner.versions_url is None:
-            raise NoAddress("not registered")
         endpoints = partner.endpoints
         if not endpoints:
-            endpoints = await self.exchange.endpoints(partner.party, partner.versions_url, partner.their_token)
+            endpoints = await self.exchange.endpoints(partner)
             self.partners.set_endpoints(partner.party, partner.versions_url, endpoints)
         if (module, role) not in endpoints:
             raise NoAddress(f"it lists no {module} {role}")
         return endpoints[module, role]
 
-    async def deliver(self, packet: Packet) -> bool:
-        """Hands a packet to the node. False where the bridge ends before."""
+    async def deliver(self, packet: Packet) -> None:
+        """Hands a packet to the node. Raises NodeEnded where the bridge ends before."""
         try:
             await self._feed(self.events.deliver(packet))
         except NotJson:
             log.warning("%s of %s: nested too deep", packet.kind, packet.sender)
         except OutcomeLost:
             pass
-        except NodeEnded:
-            return False
-        return True
 
     async def _work(self, queue: Queue) -> None:
         failures = 0
         while True:
             packet = await queue.get()
             try:
-                answered = await self._send(packet)
+                failures = 0 if await self._send(packet) else failures + 1
+            except NodeEnded:
+                return
             except Exception:
                 log.exception("%s to %s: lost", packet.kind, packet.receiver)
-                answered = False
-            failures = 0 if answered else failures + 1
+                failures += 1
             if failures > 1:
                 await self.events.clock.sleep(min(2.0 ** min(failures - 2, 10), LONGEST_PAUSE))
 
@@ -123,20 +107,23 @@ class Client:
         once = partner.kind == "ocpi" and packet.kind in ONCE
         kept = self._state.value(name) if once else None
         if kept is not None:
-            return not kept or await self.deliver(Packet.of(read_json(kept)))
+            if kept:
+                await self.deliver(Packet.of(read_json(kept)))
+            return True
         try:
-            request, url = await self._address(packet, partner)
+            url, body = await self._request(packet, partner)
             if once:
                 self._state.set_value(name, "")
-            response = await self.exchange.ask(
-                partner.party, request.method, url, partner.their_token or "", request.body,
-                request_headers(packet.sender, packet.receiver, packet.serial, packet.request))
+            response = await self.exchange.ask(partner, FORMS[packet.kind].method, url, body, {
+                "X-Request-ID": f"{packet.sender}/{packet.serial}",
+                "X-Correlation-ID": f"{packet.sender}/{packet.request}",
+                **routing_headers(packet.sender, packet.receiver)})
         except NoResponse as fault:
-            if once and not fault.was_sent:
+            if once and isinstance(fault, NotSent):
                 self._state.query("DELETE FROM value_of WHERE name = ?", name)
             log.warning("%s to %s: lost, %s", packet.kind, partner.party, fault)
             return isinstance(fault, NoAddress)
-        if response.status == 404 and partner.versions_url is not None:
+        if response.status == 404:
             self.partners.set_endpoints(partner.party, partner.versions_url, {})
         answer = answer_of(packet, partner.kind, response, self.events.clock)
         if answer is None or answer.body["status_code"] != SUCCESS:
@@ -148,20 +135,22 @@ class Client:
             await self.deliver(answer)
         return response.status < 500
 
-    async def _address(self, packet: Packet, partner: Partner) -> tuple[HttpRequest, str]:
-        """The request that a packet is, and its URL. Raises NoResponse."""
-        request = http_request(packet)
+    async def _request(self, packet: Packet, partner: Partner) -> tuple[str, Members | None]:
+        """The URL and the body of the request that a packet is. Raises NoResponse."""
+        form, body = FORMS[packet.kind], packet.body
+        if packet.kind == "command_result":
+            url: str | None = body["response_url"]
+            if partner.kind == "node":
+                number = number_in(body["response_url"].removeprefix(NODES_URL), partner.party)
+                url = self.requests.url(partner.party, number)
+            if url is None:
+                raise NoAddress("its result has no address")
+            return url, {"result": body["result"]}
         if packet.kind in COMMANDS:
-            request = replace(request, body=with_results_url(packet, self._url))
-        if packet.kind != "command_result":
-            return request, await self.endpoint(partner, request.module, request.role) + request.path
-        url: str | None = packet.body["response_url"]
-        if partner.kind == "node":
-            number = number_in_url(packet.body["response_url"], partner.party)
-            url = None if number is None else self.requests.url(partner.party, number)
-        if url is None or partner.their_token is None:
-            raise NoAddress("its result has no address")
-        return request, url
+            number_of_result = body["response_url"].rpartition("/")[2]
+            body = {**body, "response_url": self._url + RESULTS_PATH + number_of_result}
+        address = await self.endpoint(partner, form.module, form.role) + path_of(form.path, body)
+        return address, body.get("location") if packet.kind == "authorize" else body
 
 
 def answer_of(packet: Packet, kind: str, response: Response, clock: Clock) -> Packet | None:
@@ -170,30 +159,28 @@ def answer_of(packet: Packet, kind: str, response: Response, clock: Clock) -> Pa
     A 4xx to a question about a token is an answer: who gives it is not offline. A partner of kind `node` tells the
     serial of its node's packet. Without one its bridge has answered, which counts only as the refusal of a question.
     """
-    question = packet.kind == "authorize"
+    question, answering = packet.kind == "authorize", FORMS[packet.kind].answer
     status_code, data = response.body.get("status_code"), response.body.get("data")
     if question and 400 <= response.status < 500:
         status_code = INVALID
     elif response.status >= 300 or not isinstance(status_code, int):
         return None
-    text = response.headers.get("X-Serial", "")
-    serial = int(text) if kind == "node" and text.isascii() and text.isdecimal() and len(text) <= 18 else None
+    serial = number_of(response.headers.get("X-Serial", "")) if kind == "node" else None
     if kind == "node" and serial is None and (not question or status_code == SUCCESS):
         return None
     body: Members = {"status_code": status_code, "timestamp": response.body.get("timestamp")}
     if serial is None:
         body["timestamp"] = _moment(body["timestamp"]) or clock.moment()
-    if data is not None and status_code == SUCCESS and ANSWER_OF[packet.kind] != "ack":
+    if data is not None and status_code == SUCCESS and answering != "ack":
         body["data"] = _restricted(data, packet.body.get("location")) if question and kind == "ocpi" else data
-    return Packet(packet.receiver, packet.sender, serial or 0, packet.request, ANSWER_OF[packet.kind], body)
+    return Packet(packet.receiver, packet.sender, serial or 0, packet.request, answering, body)
 
 
 def _moment(text: object) -> str | None:
     """A moment as each node reads it, where it is one."""
-    try:
+    with suppress(ValueError, OverflowError):
         return moment_of(milliseconds_of(str(text)) / 1000)
-    except (ValueError, OverflowError):
-        return None
+    return None
 
 
 def _restricted(data: Any, asked: Any) -> Any:

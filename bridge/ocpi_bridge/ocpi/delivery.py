@@ -7,10 +7,10 @@ from ..events import Events, Outcome, Packet
 from ..json_text import Members, write_json
 from ..node.feeder import NodeEnded, OutcomeLost
 from .envelope import INVALID, SERVER_ERROR, SUCCESS, Refusal, answer, is_printable
-from .packets import COMMANDS, path_of
+from .packets import COMMANDS, OBJECT_PATH, path_of
 from .partners import Partner
 from .refusals import refusal_of
-from .requests import Requests, nodes_url, number_in
+from .requests import NODES_URL, Requests, number_in
 
 # The longest line that a node reads, in bytes, and the longest address that a command may have.
 LONGEST_LINE = 1 << 20
@@ -31,7 +31,7 @@ class Delivery:
         url = body.get("response_url")
         if kind in COMMANDS and partner.kind == "node" and isinstance(url, str) and len(url) <= LONGEST_URL:
             self._requests.keep_url(partner.party, number, url)
-            body = {**body, "response_url": nodes_url(request.headers["X-Correlation-ID"])}
+            body = {**body, "response_url": NODES_URL + request.headers["X-Correlation-ID"]}
         packet = Packet(partner.party, self._events.node, serial, number, kind, body)
         outcome = await self._outcome(packet)
         if outcome.word not in ("stepped", "idle"):
@@ -70,8 +70,7 @@ class Delivery:
         body, status_code, data = packet.body, sent.body["status_code"], sent.body.get("data")
         headers = {"X-Serial": str(sent.serial)}
         if packet.kind == "post_cdr" and status_code == SUCCESS:
-            headers["Location"] = self._url + "/ocpi/2.2.1/receiver/cdrs" + path_of(
-                body["country_code"], body["party_id"], body["id"])
+            headers["Location"] = f"{self._url}/ocpi/2.2.1/receiver/cdrs{path_of(OBJECT_PATH, body)}"
         if partner.kind == "ocpi" and "location" in body and data is not None and data.get("allowed") == "ALLOWED":
             data = {**data, "location": body["location"]}
         return answer(sent.body["timestamp"], data, status_code, headers=headers)

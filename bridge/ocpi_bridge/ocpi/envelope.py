@@ -7,7 +7,6 @@ from aiohttp import web
 
 from ..json_text import Members, write_json
 from ..parties import codes
-from .requests import identifier
 
 SUCCESS = 1000
 CLIENT_ERROR = 2000
@@ -56,12 +55,6 @@ def routing_headers(sender: str, receiver: str) -> dict[str, str]:
     from_codes, to_codes = codes(sender), codes(receiver)
     return {"OCPI-from-country-code": from_codes[0], "OCPI-from-party-id": from_codes[1],
             "OCPI-to-country-code": to_codes[0], "OCPI-to-party-id": to_codes[1]}
-
-
-def request_headers(sender: str, receiver: str, serial: int, request: int) -> dict[str, str]:
-    """The headers of a request that is a packet: both ids, and the parties."""
-    return {"X-Request-ID": identifier(sender, serial), "X-Correlation-ID": identifier(sender, request),
-            **routing_headers(sender, receiver)}
 
 
 def is_printable(text: str) -> bool:

@@ -1,6 +1,7 @@
 """One HTTP request to a partner and its response, bounded in time and in size, and what a partner's versions list."""
 import uuid
 from collections.abc import Mapping
+from contextlib import suppress
 from dataclasses import dataclass
 from urllib.parse import quote
 
@@ -11,32 +12,30 @@ from ..admin.metrics import Metrics
 from ..clock import Clock
 from ..json_text import Members, NotJson, NumberTooLarge, read_json, write_json
 from .envelope import SUCCESS, authorization
-from .partners import Endpoints
+from .partners import Endpoints, Partner
 
 SECONDS = 10.0
 SECONDS_TO_CONNECT = 5.0
 MOST_BYTES = 1_000_000
 VERSION = "2.2.1"
-UNUSABLE = 3001
-UNSUPPORTED_VERSION = 3002
 # The characters that a URL may have as they are. All others are percent-encoded.
 PLAIN = "!#$%&'()*+,/:;=?@[]~"
 
 
 class NoResponse(Exception):
-    """Nothing came that can be used. Without `was_sent` surely nothing reached the partner."""
-
-    def __init__(self, message: str, was_sent: bool = True, status_code: int = UNUSABLE) -> None:
-        super().__init__(message)
-        self.was_sent = was_sent
-        self.status_code = status_code
+    """Nothing came that can be used."""
 
 
-class NoAddress(NoResponse):
-    """A request has no address at its partner, so it was not sent."""
+class NotSent(NoResponse):
+    """Surely nothing reached the partner."""
 
-    def __init__(self, message: str) -> None:
-        super().__init__(message, was_sent=False)
+
+class NoAddress(NotSent):
+    """A request has no address at its partner."""
+
+
+class OtherVersions(NoResponse):
+    """The partner speaks no OCPI 2.2.1."""
 
 
 @dataclass(frozen=True)
@@ -50,75 +49,72 @@ class Response:
 
 
 class Exchange:
-    """The connections to all partners."""
+    """The connections to all partners. To be made while the event loop runs."""
 
     def __init__(self, clock: Clock, metrics: Metrics) -> None:
         self.clock = clock
         self._metrics = metrics
-        self._session: aiohttp.ClientSession | None = None
         self._details: dict[str, str] = {}
+        # A connection is kept for a few seconds alone: one that the partner ends meanwhile would lose a request.
+        self._session = aiohttp.ClientSession(
+            connector=aiohttp.TCPConnector(limit=0, keepalive_timeout=3), cookie_jar=aiohttp.DummyCookieJar(),
+            timeout=aiohttp.ClientTimeout(total=None, sock_connect=SECONDS_TO_CONNECT / clock.factor),
+            auto_decompress=False, json_serialize=write_json)
 
-    async def ask(self, party: str, method: str, url: str, token: str, body: Members | None = None,
+    async def ask(self, partner: Partner, method: str, url: str, body: Members | None = None,
                   headers: Mapping[str, str] | None = None) -> Response:
-        """Sends a request with a credentials token, and gives what is answered. Raises NoResponse.
+        """Sends a request with the token that a partner gave, and gives what is answered. Raises NoResponse.
 
         Where `headers` have no ids, as of a packet, it has ids of its own.
         """
+        if partner.their_token is None:
+            raise NoAddress("not registered")
         status = "lost"
-        sent = {"Authorization": authorization(token), "Accept-Encoding": "identity", "X-Request-ID": str(uuid.uuid4()),
-                "X-Correlation-ID": str(uuid.uuid4()), **(headers or {})}
+        sent = {"Authorization": authorization(partner.their_token), "Accept-Encoding": "identity",
+                "X-Request-ID": str(uuid.uuid4()), "X-Correlation-ID": str(uuid.uuid4()), **(headers or {})}
         try:
             response = await self.clock.within(SECONDS, self._ask(method, url, sent, body))
             status = str(response.status)
             return response
-        except aiohttp.ClientConnectorError as fault:
-            raise NoResponse(f"no connection: {fault}", was_sent=False) from None
-        except aiohttp.ServerTimeoutError:
-            raise NoResponse("no connection in time", was_sent=False) from None
+        except (aiohttp.ClientConnectorError, aiohttp.ServerTimeoutError) as fault:
+            raise NotSent(f"no connection: {getattr(fault, 'strerror', None) or 'not in time'}") from None
         except (aiohttp.ClientError, TimeoutError, OSError, ValueError) as fault:
             raise NoResponse(f"no response: {type(fault).__name__}") from None
         finally:
-            self._metrics.count("ocpi_http_requests_total", partner=party, direction="out", status=status)
+            self._metrics.count("ocpi_http_requests_total", partner=partner.party, direction="out", status=status)
 
-    async def data(self, party: str, url: str, token: str,
+    async def data(self, partner: Partner, url: str,
                    headers: Mapping[str, str] | None = None) -> tuple[object, str | None]:
         """The `data` that a GET gives, and the next page of a list. Raises NoResponse where it is no success."""
-        response = await self.ask(party, "GET", url, token, headers=headers)
+        response = await self.ask(partner, "GET", url, headers=headers)
         return _data_of(response), response.next_page
 
-    async def endpoints(self, party: str, versions_url: str, token: str) -> Endpoints:
+    async def endpoints(self, partner: Partner) -> Endpoints:
         """Where the modules of a partner stand in its OCPI 2.2.1. Raises NoResponse.
 
         Where the answer of its details is lost, the next call asks for these alone: a bad link has two requests less
         often answered one behind the other.
         """
+        versions_url = partner.versions_url or ""
         if versions_url not in self._details:
-            versions, _ = await self.data(party, versions_url, token)
-            urls = [one["url"] for one in _objects(versions, "version", "url") if one["version"] == VERSION]
+            versions, _ = await self.data(partner, versions_url)
+            urls = [one["url"] for one in objects_of(versions, "version", "url") if one["version"] == VERSION]
             if not urls:
-                raise NoResponse(f"its versions list no {VERSION}", status_code=UNSUPPORTED_VERSION)
+                raise OtherVersions(f"its versions list no {VERSION}")
             self._details[versions_url] = urls[0]
-        response = await self.ask(party, "GET", self._details[versions_url], token)
+        response = await self.ask(partner, "GET", self._details[versions_url])
         self._details.pop(versions_url, None)
         details = _data_of(response)
         listed = details.get("endpoints") if isinstance(details, dict) else None
-        return {(one["identifier"], one["role"]): one["url"] for one in _objects(listed, "identifier", "role", "url")}
+        return {(one["identifier"], one["role"]): one["url"] for one in objects_of(listed, "identifier", "role", "url")}
 
     async def close(self) -> None:
-        if self._session is not None:
-            await self._session.close()
+        await self._session.close()
 
     async def _ask(self, method: str, url: str, headers: Mapping[str, str], body: Members | None) -> Response:
         address = _address(url)
-        if self._session is None:
-            # A connection is kept for a few seconds alone: one that the partner ends meanwhile would lose a request.
-            self._session = aiohttp.ClientSession(
-                connector=aiohttp.TCPConnector(limit=0, keepalive_timeout=3), cookie_jar=aiohttp.DummyCookieJar(),
-                timeout=aiohttp.ClientTimeout(total=None, sock_connect=SECONDS_TO_CONNECT / self.clock.factor),
-                auto_decompress=False)
-        data = None if body is None else write_json(body).encode()
-        typed = headers if data is None else {**headers, "Content-Type": "application/json"}
-        async with self._session.request(method, address, headers=typed, data=data, allow_redirects=False) as response:
+        async with self._session.request(method, address, headers=headers, json=body,
+                                         allow_redirects=False) as response:
             pieces = bytearray()
             async for piece in response.content.iter_chunked(65_536):
                 pieces += piece
@@ -133,13 +129,11 @@ class Exchange:
 
 def _address(url: str) -> URL:
     """A URL as it is asked. Raises NoAddress."""
-    try:
+    with suppress(ValueError):
         address = URL(quote(url, safe=PLAIN), encoded=True)
-    except ValueError:
-        raise NoAddress("no URL") from None
-    if address.scheme not in ("http", "https") or not address.host:
-        raise NoAddress("no address of HTTP")
-    return address
+        if address.scheme in ("http", "https") and address.host:
+            return address
+    raise NoAddress("no address of HTTP")
 
 
 def _data_of(response: Response) -> object:
@@ -157,7 +151,7 @@ def _members(text: bytes) -> Members:
     return body if isinstance(body, dict) else {}
 
 
-def _objects(listed: object, *names: str) -> list[dict[str, str]]:
+def objects_of(listed: object, *names: str) -> list[dict[str, str]]:
     """The objects of a list that have texts under these names."""
     elements = listed if isinstance(listed, list) else []
     return [element for element in elements

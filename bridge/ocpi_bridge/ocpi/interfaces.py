@@ -14,7 +14,7 @@ from .lists import list_answer, part_of
 from .locations import Locations
 from .objects import OBJECTS, Objects
 from .packets import COMMANDS
-from .requests import nodes_url
+from .requests import NODES_URL
 
 COMMAND_KINDS = {name: kind for kind, name in COMMANDS.items()}
 OBJECT_KINDS = {module: kind for kind, (module, _) in OBJECTS.items()}
@@ -60,7 +60,7 @@ class Interfaces:
         return await self._delivery.carry_out(request, kind, body)
 
     async def post_result(self, request: web.Request) -> web.Response:
-        url = nodes_url(f"{self._party}/{request.match_info['number']}")
+        url = f"{NODES_URL}{self._party}/{request.match_info['number']}"
         body = {**await _members(request), "response_url": url}
         return await self._delivery.carry_out(request, "command_result", body)
 

@@ -53,7 +53,8 @@ class Partners:
     def all(self) -> list[Partner]:
         return [self.of(key) for key in self._settings]
 
-    def register(self, party: str, token: str, their_token: str, versions_url: str, endpoints: Endpoints) -> None:
+    def register(self, party: str, token: str, their_token: str | None, versions_url: str | None,
+                 endpoints: Endpoints) -> None:
         """Keeps both tokens of a registration, in place of what was there, and ends an offer."""
         self._keep(party, token=token, their_token=their_token, versions_url=versions_url, offer=None,
                    used=self._settings[party_key(party)].token)
@@ -69,7 +70,7 @@ class Partners:
         self._keep(party, offer=token)
         return token
 
-    def set_endpoints(self, party: str, versions_url: str, endpoints: Endpoints) -> None:
+    def set_endpoints(self, party: str, versions_url: str | None, endpoints: Endpoints) -> None:
         """Keeps where the modules of a partner stand, by its version details. None: they have to be asked again."""
         self._keep(party, details_of=versions_url, endpoints=[[*names, url] for names, url in endpoints.items()])
 

@@ -1,10 +1,12 @@
 """Asks partners that push nothing twice for what was missed: an operator's sessions and CDRs, a provider's tokens."""
 import asyncio
 import logging
+from contextlib import suppress
 from urllib.parse import urlencode
 
 from ..clock import milliseconds_of, moment_of
 from ..events import Packet
+from ..node.feeder import NodeEnded
 from ..parties import party_key, party_of, same_party
 from ..state import State
 from .client import Client
@@ -37,21 +39,20 @@ class Pulling:
         self._woken.set()
 
     async def run(self) -> None:
-        """Pulls until it is cancelled."""
+        """Pulls until it is cancelled or the bridge ends."""
         while True:
             self._woken.clear()
             for partner in self._client.partners.all():
                 for kind in self._kinds if partner.kind == "ocpi" and partner.is_registered else ():
                     try:
                         await self._pull(partner, kind)
-                    except NoResponse as fault:
-                        log.warning("list of %s of %s: %s", OBJECTS[kind][0], partner.party, fault)
-                    except Exception:
-                        log.exception("list of %s of %s: not read", OBJECTS[kind][0], partner.party)
-            try:
+                    except NodeEnded:
+                        return
+                    except Exception as fault:
+                        log.warning("list of %s of %s: %s", OBJECTS[kind][0], partner.party, fault,
+                                    exc_info=not isinstance(fault, NoResponse))
+            with suppress(TimeoutError):
                 await self._client.events.clock.within(SECONDS_BETWEEN, self._woken.wait())
-            except TimeoutError:
-                pass
 
     async def _pull(self, partner: Partner, kind: str) -> None:
         """Hands on a whole list, page by page, and then keeps its latest `last_updated`."""
@@ -62,7 +63,7 @@ class Pulling:
         page: str | None = await self._client.endpoint(partner, module, "SENDER") + "?" + urlencode(query)
         headers = routing_headers(self._client.events.node, partner.party)
         for _ in range(MOST_PAGES):
-            data, page = await self._client.exchange.data(partner.party, page or "", partner.their_token or "", headers)
+            data, page = await self._client.exchange.data(partner, page or "", headers)
             for listed in data if isinstance(data, list) else []:
                 latest = max(latest, await self._hand_on(partner, kind, listed))
             if not data or page is None:
@@ -84,6 +85,5 @@ class Pulling:
         if same_party(party, partner.party) and (held is None or milliseconds_of(held["last_updated"]) < updated):
             number = self._client.requests.number(partner.party)
             packet = Packet(partner.party, self._client.events.node, 0, number, kind, body)
-            if not await self._client.deliver(packet):
-                raise NoResponse("the bridge ends")
+            await self._client.deliver(packet)
         return updated

@@ -1,6 +1,12 @@
 """The numbers of requests, and the addresses to which results of commands are posted."""
-from ..parties import party_key
+import re
+
+from ..parties import party_key, same_party
 from ..state import State
+
+# What stands before such a text in the `response_url` that a node writes, and at a bridge before the number alone.
+NODES_URL = "https://node.invalid/"
+RESULTS_PATH = "/ocpi/2.2.1/sender/commands/results/"
 
 
 class Requests:
@@ -33,36 +39,19 @@ class Requests:
         with self._state.transaction():
             self._state.query("INSERT OR REPLACE INTO response_url VALUES (?, ?, ?)", party_key(partner), number, url)
 
-    def url(self, partner: str, number: int) -> str | None:
+    def url(self, partner: str, number: int | None) -> str | None:
         """The address that was kept."""
         rows = self._state.query("SELECT url FROM response_url WHERE partner = ? AND number = ?",
                                  party_key(partner), number)
         return rows[0][0] if rows else None
 
 
-def identifier(party: str, number: int) -> str:
-    """A serial or the number of a request as the text of a header: `NL/TNM/7`."""
-    return f"{party}/{number}"
+def number_of(text: str) -> int | None:
+    """A whole number of at most 18 digits, where a text is one."""
+    return int(text) if re.fullmatch("[0-9]{1,18}", text) else None
 
 
 def number_in(text: str, party: str) -> int | None:
-    """The number in such a text of a party."""
+    """The number in such a text as `NL/TNM/7`, of a party: a serial or the number of a request in a header."""
     start, _, digits = text.rpartition("/")
-    if party_key(start) != party_key(party) or not digits.isdecimal() or not digits.isascii():
-        return None
-    return int(digits) if len(digits) <= 18 else None
-
-
-def nodes_url(text: str) -> str:
-    """The `response_url` that a node writes for a request whose correlation id is this text."""
-    return f"https://node.invalid/{text}"
-
-
-def number_in_url(url: str, party: str) -> int | None:
-    """The number of the request in the `response_url` that the node of a party wrote."""
-    return number_in(url.removeprefix("https://node.invalid/"), party)
-
-
-def results_url(url: str, number: int) -> str:
-    """The address to which the result of the node's request of that number is posted, at the bridge with this `url`."""
-    return f"{url}/ocpi/2.2.1/sender/commands/results/{number}"
+    return number_of(digits) if same_party(start, party) else None
