@@ -224,7 +224,7 @@ class Queues(ClientCase):
         """Its driver waits, and a node awaits its answer for ten seconds alone."""
         queue = Queue()
         for request, kind in enumerate(("put_session", "post_cdr", "authorize"), 1):
-            queue.put(self.packet(kind, request, {}))
+            queue.put_nowait(self.packet(kind, request, {}))
         self.assertEqual([3, 1, 2], [(await queue.get()).request for _ in range(3)])
 
     async def test_one_that_fails_again_and_again_is_asked_less_often(self) -> None:
