@@ -62,8 +62,8 @@ class ChargePoint:
                     self.call("MeterValues", connectorId=1, transactionId=self.transaction, meterValue=[
                         {"timestamp": self.clock.moment(), "sampledValue": [{"value": str(self.register)}]}])
             case ["stop", *reason] if self.transaction is not None:
-                self.call("StopTransaction", transactionId=self.transaction, meterStop=self.register, timestamp=self.clock.moment(),
-                          reason=reason[0] if reason else "Local")
+                self.call("StopTransaction", transactionId=self.transaction, meterStop=self.register,
+                          timestamp=self.clock.moment(), reason=reason[0] if reason else "Local")
                 self.transaction, self.token, self.is_running = None, None, False
                 self.set_status("Finishing")
             case ["unplug"]:
@@ -75,7 +75,8 @@ class ChargePoint:
                 self.set_status("Faulted")
         if self.is_plugged_in and self.token is not None and not self.is_running:
             self.is_running, self.full = True, self.register + FULL
-            self.call("StartTransaction", connectorId=1, idTag=self.token, meterStart=self.register, timestamp=self.clock.moment())
+            self.call("StartTransaction", connectorId=1, idTag=self.token, meterStart=self.register,
+                      timestamp=self.clock.moment())
 
     def take(self, action: str, payload: Members, answer: Members) -> None:
         """Takes in what a call of its own was answered."""

@@ -2,7 +2,8 @@
 
 A charge point is asked once for each command, and that is kept before it is asked. One that has no connection is asked
 when it has one again, if the command is still open then. Where it does not answer nothing is fed, and the node ends the
-command at its time: whatever starts nevertheless is the command's, and is stopped.
+command at its time. Where a transaction starts nevertheless, as behind an answer that a stop of the bridge lost, that
+is the command's: it is let charge if the node still takes that the charge point accepted, and stopped if not.
 """
 from ..json_text import Members
 from .charge_points import ChargePoint, ChargePoints, Place, Spawn

@@ -5,7 +5,7 @@ the next report of the same to go on from there. A stop
 
 - before a StartTransaction is kept, or behind that: it comes again, and is known by its connector and `timestamp`;
 - behind `accepts` or `swipe`: the session that began is at the EVSE, is PENDING and is of that token;
-- behind the `link` of transaction and session: where the session is PENDING still, `starts` is fed, else it was;
+- once it is kept which session the transaction is: while that is PENDING, `starts` is fed, and else it was;
 - behind `starts`, before the answer: the transaction charges, and is answered alike;
 - behind a `meter`: it is fed once more, and changes no energy;
 - behind `stops`, before the answer: no living session is that of the transaction, and nothing is fed.
@@ -54,7 +54,7 @@ class Reports:
         return now if call.action == "Heartbeat" else {"status": "Accepted", "interval": HEARTBEAT_EACH, **now}
 
     async def _status(self, charge_point: ChargePoint, payload: Members) -> Members:
-        """A status of one connector, or at connector 0 of each, which a better one of it leaves as they are."""
+        """A status of one connector, or at connector 0 of each: one that is in service then only ends one that is not."""
         status, connector = payload["status"], payload["connectorId"]
         charge_point.reported.add(connector)
         for place in charge_point.places.values():
