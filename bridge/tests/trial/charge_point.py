@@ -130,7 +130,14 @@ class ChargePoint:
     def _spawn(self, work: Awaitable[None]) -> None:
         task = asyncio.ensure_future(work)
         self._tasks.add(task)
-        task.add_done_callback(self._tasks.discard)
+        task.add_done_callback(self._forget)
+
+    def _forget(self, task: "asyncio.Task[None]") -> None:
+        """What fails in a task is a fault of the trial."""
+        self._tasks.discard(task)
+        fault = None if task.cancelled() else task.exception()
+        if fault is not None:
+            self.faults.append(repr(fault))
 
     async def _charge(self, transaction: Transaction) -> None:
         """Reports a transaction from its start to its end. Each report is repeated until it is answered."""

@@ -92,6 +92,8 @@ class Connection:
     async def call(self, action: str, payload: Payload) -> Payload:
         """Sends a call once. Raises ConnectionLost."""
         async with self._turn:
+            if not self._opened.is_set():
+                raise ConnectionLost
             return await self._send(action, payload, str(uuid.uuid4()))
 
     async def _live(self, session: ClientSession, url: str) -> None:

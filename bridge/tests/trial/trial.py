@@ -3,8 +3,10 @@ import asyncio
 import re
 import tempfile
 import time
+from collections.abc import Coroutine
 from dataclasses import dataclass
 from pathlib import Path
+from typing import Any
 
 import aiohttp
 
@@ -13,7 +15,7 @@ from . import checks
 from .chance import stream
 from .charge_point import ChargePoint
 from .charges import drawn
-from .drivers import Drivers, NotCarriedOut
+from .drivers import Drivers
 from .kills import Kills
 from .parties import CLOCK_FACTOR, OPERATORS, PARTIES, PLACES, Secrets, bridges
 from .proxy import Budget, Proxy
@@ -26,7 +28,8 @@ ENDS_WITHIN = 210.0
 CHARGES_WITHIN = 150.0
 QUIET_WITHIN = 60.0
 QUIET_FOR = 1.5
-WAITING = re.compile(r"^(ocpi_open_commands|ocpi_unacknowledged_pushes)(?:\{[^}]*\})? (\S+)$", re.MULTILINE)
+NUMBERS = ("ocpi_open_commands", "ocpi_unacknowledged_pushes")
+WAITING = re.compile(r"^(\w+) (\d+)(?:\.0)?$", re.MULTILINE)
 
 
 @dataclass
@@ -75,7 +78,8 @@ class Trial:
         finally:
             for task in running:
                 task.cancel()
-            await asyncio.gather(*running, return_exceptions=True)
+            self.faults += [repr(ended) for ended in await asyncio.gather(*running, return_exceptions=True)
+                            if not isinstance(ended, asyncio.CancelledError)]
             for proxy in self._proxies.values():
                 await proxy.close()
             for bridge in self._bridges.values():
@@ -85,12 +89,7 @@ class Trial:
         kills = Kills(self._bridges, stream(self._seed, "kills"))
         drivers = Drivers(self._bridges, self._charge_points, self._secrets, stream(self._seed, "drivers"))
         work = [drivers.carry_out([charge for charge in self._charges if charge.place == place]) for place in PLACES]
-        for ended in await asyncio.wait_for(asyncio.gather(kills.carry_out(), *work, return_exceptions=True),
-                                            CHARGES_WITHIN):
-            if isinstance(ended, NotCarriedOut):
-                self.faults.append(str(ended))
-            elif isinstance(ended, BaseException):
-                raise ended
+        await self._all_of(kills.carry_out(), *work)
         await self._quiet()
         for party, bridge in self._bridges.items():
             kills.note_memory(party)
@@ -99,6 +98,16 @@ class Trial:
                 self.faults.append(f"{party} ended with status {status}")
         self._check(drivers, kills)
         return self._words(kills)
+
+    async def _all_of(self, *work: Coroutine[Any, Any, None]) -> None:
+        """Waits for kills and drivers. What was not carried out within its time is a fault, and the checks tell it."""
+        tasks = [asyncio.create_task(one) for one in work]
+        _, late = await asyncio.wait(tasks, timeout=CHARGES_WITHIN)
+        for task in late:
+            task.cancel()
+        for ended in await asyncio.gather(*tasks, return_exceptions=True):
+            if isinstance(ended, BaseException):
+                self.faults.append(repr(ended))
 
     async def _quiet(self) -> None:
         """Waits until nothing is under way for some time, or too much time is over."""
@@ -124,7 +133,8 @@ class Trial:
             except (aiohttp.ClientError, OSError, KeyError, AssertionError) as fault:
                 found.append(f"no metrics of {party}: {fault!r}")
                 continue
-            found += [f"{name} of {party} is {value}" for name, value in WAITING.findall(text) if float(value) != 0]
+            waiting = dict(WAITING.findall(text))
+            found += [f"{name} of {party} is {waiting.get(name)}" for name in NUMBERS if waiting.get(name) != "0"]
         return found
 
     def _check(self, drivers: Drivers, kills: Kills) -> None:
