@@ -1,4 +1,5 @@
 """What tests of a whole bridge begin with: an operator's or a provider's bridge, and parties that are no nodes."""
+import asyncio
 import subprocess
 import tempfile
 import unittest
@@ -36,6 +37,8 @@ class BridgeCase(unittest.IsolatedAsyncioTestCase):
 
     async def begin_bridge(self, bridge: RunningBridge, parties: Sequence[OcpiParty]) -> RunningBridge:
         """Starts a bridge, which is stopped at the end of the test."""
+        # The loop of a test case is one for finding faults in it, which takes many times as long.
+        asyncio.get_running_loop().set_debug(False)
         self.addCleanup(bridge.kill)
         self.addAsyncCleanup(self.end_bridge, bridge, [secret for party in parties
                                                        for secret in (party.token, party.bridge_token)])
