@@ -9,7 +9,8 @@ from .ocpp_running import TOKEN, Operating, Station, moment, within
 from .running import PROGRAM
 
 STOPPING = Path(__file__).parent / "stopping_node.py"
-POINTS = ("before", "silent", "begun", "after")
+# A line of which a packet was seen is another case than one of which none was for a bridge that goes on alone.
+POINTS = {"node": ("before", "silent", "begun", "after"), "bridge": ("before", "silent", "after")}
 
 
 class Charge:
@@ -76,7 +77,7 @@ class StopCase(unittest.IsolatedAsyncioTestCase):
 
     async def each_stop(self, stops: str, way: str, lines: range) -> None:
         for number in lines:
-            for point in POINTS:
+            for point in POINTS[stops]:
                 with self.subTest(number=number, point=point), tempfile.TemporaryDirectory() as folder:
                     self.assertEqual(([("E1", "COMPLETED", "2.5000")], ["2.5000"], 0),
                                      await Charge(Path(folder), way).run(number, point, stops))
@@ -102,6 +103,10 @@ class SwipeStopTest(StopCase):
     async def test_a_stop_of_the_node(self) -> None:
         await self.each_stop("node", "token", range(2, 4))
         await self.each_stop("node", "question", range(2, 5))
+
+
+class SwipeBridgeStopTest(StopCase):
+    """The same, where the bridge stops."""
 
     async def test_a_stop_of_the_bridge(self) -> None:
         await self.each_stop("bridge", "token", range(2, 4))

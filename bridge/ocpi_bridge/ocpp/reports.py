@@ -54,7 +54,7 @@ class Reports:
         return now if call.action == "Heartbeat" else {"status": "Accepted", "interval": HEARTBEAT_EACH, **now}
 
     async def _status(self, charge_point: ChargePoint, payload: Members) -> Members:
-        """A status of one connector, or at connector 0 of each: one that is in service then only ends one that is not."""
+        """A status of one connector, or at connector 0 of each: one in service then only ends one that is not."""
         status, connector = payload["status"], payload["connectorId"]
         charge_point.reported.add(connector)
         for place in charge_point.places.values():
