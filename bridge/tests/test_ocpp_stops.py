@@ -9,7 +9,7 @@ from .ocpp_running import TOKEN, Operating, Station, moment, within
 from .running import PROGRAM
 
 STOPPING = Path(__file__).parent / "stopping_node.py"
-# A line of which a packet was seen is another case than one of which none was for a bridge that goes on alone.
+# A bridge that is started again remembers no packet of a line that it saw, so `begun` is as `silent` there.
 POINTS = {"node": ("before", "silent", "begun", "after"), "bridge": ("before", "silent", "after")}
 
 
