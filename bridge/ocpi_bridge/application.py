@@ -14,12 +14,13 @@ from .node.feeder import Feeder
 from .ocpi.client import Client
 from .ocpi.credentials import Credentials
 from .ocpi.exchange import Exchange
+from .ocpi.interfaces import Interfaces
 from .ocpi.locations import Locations
 from .ocpi.objects import Objects
 from .ocpi.partners import Partners
 from .ocpi.pulling import Pulling
 from .ocpi.requests import Requests
-from .ocpi.server import ocpi_application
+from .ocpi.server import Server
 from .ocpp.central_system import CentralSystem
 from .state import State
 
@@ -55,9 +56,9 @@ class Bridge:
         locations = None if configuration.site is None else Locations(
             state, clock, objects, configuration.node.party, configuration.site,
             self._central_system.evse_status if self._central_system else lambda _: None)
-        ocpi = ocpi_application(configuration, events, objects, requests, partners,
-                                Credentials(configuration, partners, exchange), locations, metrics, feeder.feed)
-        self._listeners.append(Listener("ocpi", configuration.ocpi.listen, ocpi))
+        interfaces = Interfaces(configuration.ocpi.url, events, objects, requests, locations, feeder.feed)
+        server = Server(events, partners, Credentials(configuration, partners, exchange), interfaces, metrics)
+        self._listeners.append(Listener("ocpi", configuration.ocpi.listen, server.application()))
         admin = Admin(configuration, state, events, feeder, objects, partners, metrics, locations, self._central_system)
         self._listeners.append(Listener("admin", configuration.admin, admin.application()))
 

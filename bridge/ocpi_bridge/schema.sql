@@ -8,7 +8,7 @@ CREATE TABLE IF NOT EXISTS request_number (
 CREATE TABLE IF NOT EXISTS response_url (
     partner TEXT, number INTEGER, url TEXT NOT NULL, PRIMARY KEY (partner, number)) WITHOUT ROWID;
 
--- ocpi/objects.py
+-- ocpi/objects.py: Objects
 CREATE TABLE IF NOT EXISTS object_of (
     module TEXT, party TEXT, identifier TEXT, token_type TEXT, partner TEXT NOT NULL, last_updated INTEGER NOT NULL,
     status TEXT NOT NULL, evse_uid TEXT NOT NULL, body TEXT NOT NULL,
@@ -19,7 +19,7 @@ CREATE INDEX IF NOT EXISTS living_session ON object_of (evse_uid)
     WHERE module = 'sessions' AND status IN ('PENDING', 'ACTIVE');
 CREATE TABLE IF NOT EXISTS accepted_request (partner TEXT, number INTEGER, PRIMARY KEY (partner, number)) WITHOUT ROWID;
 
--- ocpi/claims.py
+-- ocpi/objects.py: Claims
 CREATE TABLE IF NOT EXISTS claim (
     evse_uid TEXT PRIMARY KEY, status TEXT NOT NULL, partner TEXT NOT NULL, name TEXT NOT NULL, until INTEGER NOT NULL);
 

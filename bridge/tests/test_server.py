@@ -20,11 +20,12 @@ from ocpi_bridge.node.feeder import Feeder, OutcomeLost
 from ocpi_bridge.ocpi.credentials import Credentials
 from ocpi_bridge.ocpi.envelope import authorization
 from ocpi_bridge.ocpi.exchange import Exchange
+from ocpi_bridge.ocpi.interfaces import Interfaces
 from ocpi_bridge.ocpi.locations import Locations
 from ocpi_bridge.ocpi.objects import Objects
 from ocpi_bridge.ocpi.partners import Partners
 from ocpi_bridge.ocpi.requests import Requests
-from ocpi_bridge.ocpi.server import ocpi_application
+from ocpi_bridge.ocpi.server import Server
 from ocpi_bridge.state import State
 
 from . import ocpi_objects
@@ -95,9 +96,9 @@ class ServerCase(unittest.IsolatedAsyncioTestCase):
         self.unusable: dict[str, str] = {}
         locations = None if site is None else Locations(
             self.state, self.clock, self.objects, self.party, site, self.unusable.get)
-        application = ocpi_application(
-            self.configuration, self.events, self.objects, self.requests, partners,
-            Credentials(self.configuration, partners, exchange), locations, self.metrics, self.feed)
+        interfaces = Interfaces(URL_OF_BRIDGE, self.events, self.objects, self.requests, locations, self.feed)
+        credentials = Credentials(self.configuration, partners, exchange)
+        application = Server(self.events, partners, credentials, interfaces, self.metrics).application()
         # What the server feeds by: tests put another thing in its place.
         self.feeding: Callable[[Members], Awaitable[Outcome]] = self.feeder.feed
         self.server = TestServer(application)
@@ -299,7 +300,7 @@ class OperatorServer(ServerCase):
         for module in ("sessions", "cdrs"):
             first = await self.ask("node", "GET", f"sender/{module}?limit=2")
             self.assertEqual([first.headers[name] for name in ("X-Total-Count", "X-Limit")], ["3", "2"])
-            link = f'<{URL_OF_BRIDGE}/ocpi/2.2.1/sender/{module}?offset=2&limit=2>; rel="next"'
+            link = f'<{URL_OF_BRIDGE}/ocpi/2.2.1/sender/{module}?limit=2&offset=2>; rel="next"'
             self.assertEqual(first.headers["Link"], link)
             second = await self.ask("node", "GET", f"sender/{module}?offset=2&limit=2")
             self.assertNotIn("Link", second.headers)

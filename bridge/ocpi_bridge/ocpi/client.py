@@ -147,8 +147,7 @@ class Client:
                 raise NoAddress("its result has no address")
             return url, {"result": body["result"]}
         if packet.kind in COMMANDS:
-            number_of_result = body["response_url"].rpartition("/")[2]
-            body = {**body, "response_url": self._url + RESULTS_PATH + number_of_result}
+            body = {**body, "response_url": self._url + RESULTS_PATH + body["response_url"].rpartition("/")[2]}
         address = await self.endpoint(partner, form.module, form.role) + path_of(form.path, body)
         return address, body.get("location") if packet.kind == "authorize" else body
 
@@ -170,17 +169,12 @@ def answer_of(packet: Packet, kind: str, response: Response, clock: Clock) -> Pa
         return None
     body: Members = {"status_code": status_code, "timestamp": response.body.get("timestamp")}
     if serial is None:
-        body["timestamp"] = _moment(body["timestamp"]) or clock.moment()
+        body["timestamp"] = clock.moment()
+        with suppress(ValueError, OverflowError):
+            body["timestamp"] = moment_of(milliseconds_of(str(response.body.get("timestamp"))) / 1000)
     if data is not None and status_code == SUCCESS and answering != "ack":
         body["data"] = _restricted(data, packet.body.get("location")) if question and kind == "ocpi" else data
     return Packet(packet.receiver, packet.sender, serial or 0, packet.request, answering, body)
-
-
-def _moment(text: object) -> str | None:
-    """A moment as each node reads it, where it is one."""
-    with suppress(ValueError, OverflowError):
-        return moment_of(milliseconds_of(str(text)) / 1000)
-    return None
 
 
 def _restricted(data: Any, asked: Any) -> Any:

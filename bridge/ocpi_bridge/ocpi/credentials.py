@@ -17,7 +17,7 @@ from ..configuration import Configuration
 from ..json_text import Members
 from ..parties import codes, party_of, same_party
 from ..state import State
-from .envelope import INVALID, SUCCESS, Refusal
+from .envelope import INVALID, Refusal
 from .exchange import VERSION, Exchange, NoResponse, OtherVersions, objects_of
 from .partners import Partner, Partners
 
@@ -82,10 +82,7 @@ class Credentials:
             raise NoResponse("its version details list no credentials")
         offered = self._partners.offer(party)
         response = await self._exchange.ask(partner, "POST", address, self._own(offered))
-        if response.status >= 300 or response.body.get("status_code") != SUCCESS:
-            raise NoResponse(f"it refuses our credentials: HTTP {response.status}, status_code "
-                             f"{response.body.get('status_code')} {response.body.get('status_message', '')!a}")
-        told = self._told(partner, response.body.get("data"))
+        told = self._told(partner, response.data)
         self._partners.register(party, offered, told.their_token, told.versions_url,
                                 endpoints if told.versions_url == url else {})
 

@@ -1,11 +1,12 @@
 """OCPI's response format and headers, as the server and the client write and read them."""
 import base64
-import binascii
 from collections.abc import Mapping
+from contextlib import suppress
+from pathlib import Path
 
 from aiohttp import web
 
-from ..json_text import Members, write_json
+from ..json_text import Members, read_json, write_json
 from ..parties import codes
 
 SUCCESS = 1000
@@ -14,6 +15,8 @@ INVALID = 2001
 UNKNOWN_LOCATION = 2003
 UNKNOWN_TOKEN = 2004
 SERVER_ERROR = 3000
+# What a request is answered that a node refused.
+REFUSALS = read_json(Path(__file__).with_name("refusals.json").read_bytes())
 
 
 class Refusal(Exception):
@@ -24,6 +27,14 @@ class Refusal(Exception):
         self.http_status = http_status
         self.status_code = status_code
         self.message = message
+
+
+def refusal_of(done: Members) -> Refusal:
+    """The refusal that tells a partner of a `done` that is `malformed` or `refused`, and names the member at fault."""
+    name, member = done.get("name"), done.get("field")
+    http_status, status_code, words = REFUSALS["answers"].get(name, REFUSALS["answers"]["otherwise"])
+    wanted = REFUSALS["wanted"].get(name, {}).get(member, "another form")
+    return Refusal(http_status, status_code, words.format(member=member, wanted=wanted))
 
 
 def answer(timestamp: str, data: object = None, status_code: int = SUCCESS, message: str | None = None,
@@ -42,12 +53,10 @@ def authorization(token: str) -> str:
 def token_of(header: str | None) -> str:
     """The credentials token in a header `Authorization`. Raises Refusal (401) where there is none."""
     scheme, _, encoded = (header or "").partition(" ")
-    if scheme.lower() != "token":
-        raise Refusal(401, INVALID, "Authorization: missing, or no Token")
-    try:
-        return base64.b64decode(encoded.strip(), validate=True).decode()
-    except (binascii.Error, ValueError):
-        raise Refusal(401, INVALID, "Authorization: the token is not in Base64") from None
+    with suppress(ValueError):
+        if scheme.lower() == "token":
+            return base64.b64decode(encoded.strip(), validate=True).decode()
+    raise Refusal(401, INVALID, "Authorization: wanted is Token and the token in Base64")
 
 
 def routing_headers(sender: str, receiver: str) -> dict[str, str]:

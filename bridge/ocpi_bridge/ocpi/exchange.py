@@ -47,6 +47,14 @@ class Response:
     body: Members
     next_page: str | None
 
+    @property
+    def data(self) -> object:
+        """The `data` of the body. Raises NoResponse where the response is no success."""
+        if self.status >= 300 or self.body.get("status_code") != SUCCESS:
+            raise NoResponse(f"HTTP {self.status}, status_code {self.body.get('status_code')} "
+                             f"{self.body.get('status_message', '')!a}")
+        return self.body.get("data")
+
 
 class Exchange:
     """The connections to all partners. To be made while the event loop runs."""
@@ -83,12 +91,6 @@ class Exchange:
         finally:
             self._metrics.count("ocpi_http_requests_total", partner=partner.party, direction="out", status=status)
 
-    async def data(self, partner: Partner, url: str,
-                   headers: Mapping[str, str] | None = None) -> tuple[object, str | None]:
-        """The `data` that a GET gives, and the next page of a list. Raises NoResponse where it is no success."""
-        response = await self.ask(partner, "GET", url, headers=headers)
-        return _data_of(response), response.next_page
-
     async def endpoints(self, partner: Partner) -> Endpoints:
         """Where the modules of a partner stand in its OCPI 2.2.1. Raises NoResponse.
 
@@ -97,15 +99,14 @@ class Exchange:
         """
         versions_url = partner.versions_url or ""
         if versions_url not in self._details:
-            versions, _ = await self.data(partner, versions_url)
-            urls = [one["url"] for one in objects_of(versions, "version", "url") if one["version"] == VERSION]
+            versions = await self.ask(partner, "GET", versions_url)
+            urls = [one["url"] for one in objects_of(versions.data, "version", "url") if one["version"] == VERSION]
             if not urls:
                 raise OtherVersions(f"its versions list no {VERSION}")
             self._details[versions_url] = urls[0]
-        response = await self.ask(partner, "GET", self._details[versions_url])
+        details = await self.ask(partner, "GET", self._details[versions_url])
         self._details.pop(versions_url, None)
-        details = _data_of(response)
-        listed = details.get("endpoints") if isinstance(details, dict) else None
+        listed = details.data.get("endpoints") if isinstance(details.data, dict) else None
         return {(one["identifier"], one["role"]): one["url"] for one in objects_of(listed, "identifier", "role", "url")}
 
     async def close(self) -> None:
@@ -134,13 +135,6 @@ def _address(url: str) -> URL:
         if address.scheme in ("http", "https") and address.host:
             return address
     raise NoAddress("no address of HTTP")
-
-
-def _data_of(response: Response) -> object:
-    """The `data` of a response. Raises NoResponse where it is no success."""
-    if response.status != 200 or response.body.get("status_code") != SUCCESS:
-        raise NoResponse(f"HTTP {response.status}, status_code {response.body.get('status_code')}")
-    return response.body.get("data")
 
 
 def _members(text: bytes) -> Members:

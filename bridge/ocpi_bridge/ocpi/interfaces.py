@@ -1,25 +1,36 @@
-"""The interfaces of OCPI's modules that a node has: what each method at each path does."""
+"""The interfaces of OCPI's modules that a node has: what each method at each path does.
+
+A request that is a packet is delivered to the node, and answered by what the node sends for it. The others the bridge
+answers by itself.
+"""
 import asyncio
-from collections.abc import Awaitable, Callable
+from collections.abc import Awaitable, Callable, Mapping
 from urllib.parse import unquote
 
 from aiohttp import web
 
-from ..clock import Clock
-from ..json_text import Members, read_json
+from ..clock import milliseconds_of
+from ..events import Events, Outcome, Packet
+from ..json_text import Members, read_json, write_json
 from ..parties import party_of, same_party
-from .delivery import Delivery
-from .envelope import INVALID, UNKNOWN_LOCATION, UNKNOWN_TOKEN, Refusal, answer
-from .lists import list_answer, part_of
+from .envelope import (INVALID, SERVER_ERROR, SUCCESS, UNKNOWN_LOCATION, UNKNOWN_TOKEN, Refusal, answer, is_printable,
+                       refusal_of)
 from .locations import Locations
-from .objects import OBJECTS, Objects
-from .packets import COMMANDS
-from .requests import NODES_URL
+from .objects import FOREVER, OBJECTS, Objects, Part
+from .packets import COMMANDS, OBJECT_PATH, path_of
+from .partners import Partner
+from .requests import NODES_URL, RESULTS_PATH, Requests, number_in, number_of
 
 COMMAND_KINDS = {name: kind for kind, name in COMMANDS.items()}
 OBJECT_KINDS = {module: kind for kind, (module, _) in OBJECTS.items()}
+SENDER, RECEIVER = "/ocpi/2.2.1/sender", "/ocpi/2.2.1/receiver"
 # Segments of a path that may be empty, as an id may be.
 OBJECT = "{country_code:[^/]*}/{party_id:[^/]*}/{identifier:[^/]*}"
+# The longest line that a node reads, in bytes, and the longest address that a command may have. The most objects that a
+# response lists.
+LONGEST_LINE = 1 << 20
+LONGEST_URL = 255
+MOST_LISTED = 1000
 
 Handler = Callable[[web.Request], Awaitable[web.Response]]
 
@@ -27,42 +38,41 @@ Handler = Callable[[web.Request], Awaitable[web.Response]]
 class Interfaces:
     """Handles what a registered partner asks for, which is `request["partner"]`."""
 
-    def __init__(self, party: str, url: str, clock: Clock, objects: Objects, delivery: Delivery,
-                 locations: Locations | None) -> None:
-        """`locations` are those of an operator, and None at a provider."""
-        self._party, self._url, self._clock = party, url, clock
-        self._objects, self._delivery, self._locations = objects, delivery, locations
+    def __init__(self, url: str, events: Events, objects: Objects, requests: Requests, locations: Locations | None,
+                 feed: Callable[[Members], Awaitable[Outcome]]) -> None:
+        """`locations` are those of an operator, and None at a provider. `feed` carries out an event, and goes on where
+        nobody waits any more."""
+        self._url, self._events, self._clock, self._feed = url, events, events.clock, feed
+        self._objects, self._requests, self._locations = objects, requests, locations
         self._patching = asyncio.Lock()
 
     def routes(self) -> list[web.RouteDef]:
         """The routes of an operator or of a provider."""
-        sender, receiver = "/ocpi/2.2.1/sender", "/ocpi/2.2.1/receiver"
-        objects = f"{receiver}/{'sessions' if self._locations is None else 'tokens'}/{OBJECT}"
+        objects = f"{RECEIVER}/{'sessions' if self._locations is None else 'tokens'}/{OBJECT}"
         routes: list[tuple[str, str, Handler]] = [
             ("GET", objects, self.get), ("PUT", objects, self.put), ("PATCH", objects, self.patch)]
         if self._locations is None:
             routes += [
-                ("POST", f"{receiver}/cdrs", self.put), ("GET", f"{receiver}/cdrs/{OBJECT}", self.get),
-                ("POST", sender + "/commands/results/{number:[0-9]+}", self.post_result),
-                ("GET", f"{sender}/tokens", self.get_list),
-                ("POST", sender + "/tokens/{token_uid:[^/]*}/authorize", self.authorize)]
+                ("POST", f"{RECEIVER}/cdrs", self.put), ("GET", f"{RECEIVER}/cdrs/{OBJECT}", self.get),
+                ("POST", RESULTS_PATH + "{number:[0-9]+}", self.post_result),
+                ("GET", f"{SENDER}/tokens", self.get_list),
+                ("POST", SENDER + "/tokens/{token_uid:[^/]*}/authorize", self.authorize)]
         else:
             routes += [
-                ("POST", f"{receiver}/commands/{{name:{'|'.join(COMMAND_KINDS)}}}", self.post_command),
-                ("GET", f"{sender}/{{module:sessions|cdrs|locations}}", self.get_list),
-                ("GET", sender + "/locations/{identifiers:[^/]*(/[^/]*){0,2}}", self.get)]
+                ("POST", f"{RECEIVER}/commands/{{name:{'|'.join(COMMAND_KINDS)}}}", self.post_command),
+                ("GET", f"{SENDER}/{{module:sessions|cdrs|locations}}", self.get_list),
+                ("GET", SENDER + "/locations/{identifiers:[^/]*(/[^/]*){0,2}}", self.get)]
         return [web.route(method, path, handler) for method, path, handler in routes]
 
     async def post_command(self, request: web.Request) -> web.Response:
         kind, body = COMMAND_KINDS[request.match_info["name"]], await _members(request)
         if kind == "start_session" and request["partner"].kind == "ocpi" and not body.get("authorization_reference"):
             raise Refusal(200, INVALID, "authorization_reference: missing")
-        return await self._delivery.carry_out(request, kind, body)
+        return await self._deliver(request, kind, body)
 
     async def post_result(self, request: web.Request) -> web.Response:
-        url = f"{NODES_URL}{self._party}/{request.match_info['number']}"
-        body = {**await _members(request), "response_url": url}
-        return await self._delivery.carry_out(request, "command_result", body)
+        url = f"{NODES_URL}{self._events.node}/{request.match_info['number']}"
+        return await self._deliver(request, "command_result", {**await _members(request), "response_url": url})
 
     async def authorize(self, request: web.Request) -> web.Response:
         body: Members = {"token_uid": _segments(request)[0]}
@@ -70,13 +80,13 @@ class Interfaces:
             body["type"] = request.query["type"]
         if (await request.read()).strip():
             body["location"] = await _members(request)
-        return await self._delivery.carry_out(request, "authorize", body)
+        return await self._deliver(request, "authorize", body)
 
     async def put(self, request: web.Request) -> web.Response:
         """Takes a whole session, token or CDR."""
         body = await _members(request)
         _compare(request, body)
-        return await self._delivery.carry_out(request, OBJECT_KINDS[_module(request)], body)
+        return await self._deliver(request, OBJECT_KINDS[_module(request)], body)
 
     async def patch(self, request: web.Request) -> web.Response:
         """Puts the members of the body into the object that is held, and hands on the whole: one after another."""
@@ -85,11 +95,23 @@ class Interfaces:
         if changes.get("last_updated") is None:
             raise Refusal(200, INVALID, "last_updated: missing")
         async with self._patching:
-            body = {**self._held(request), **changes}
-            return await self._delivery.carry_out(request, OBJECT_KINDS[_module(request)], body)
+            return await self._deliver(request, OBJECT_KINDS[_module(request)], {**self._held(request), **changes})
 
     async def get(self, request: web.Request) -> web.Response:
         return answer(self._clock.moment(), self._held(request))
+
+    async def get_list(self, request: web.Request) -> web.Response:
+        """The locations, the tokens, or the sessions or CDRs of the partner that asks."""
+        part, module = _part_of(request.query), _module(request)
+        if module == "locations" and self._locations is not None:
+            count, listed = self._locations.page(part)
+        else:
+            count, listed = self._objects.page(module, "" if module == "tokens" else request["partner"].party, part)
+        headers, following = {"X-Total-Count": str(count), "X-Limit": str(part.limit)}, part.offset + part.limit
+        if following < count:
+            path = request.rel_url.update_query(offset=following, limit=part.limit)
+            headers["Link"] = f'<{self._url}{path}>; rel="next"'
+        return answer(self._clock.moment(), listed, headers=headers)
 
     def _held(self, request: web.Request) -> Members:
         """What a path names: a place, or an object of the partner that asks. Raises Refusal where there is none."""
@@ -102,15 +124,44 @@ class Interfaces:
             raise Refusal(404, UNKNOWN_TOKEN if module == "tokens" else UNKNOWN_LOCATION, f"{module}: not held")
         return found
 
-    async def get_list(self, request: web.Request) -> web.Response:
-        """The locations, the tokens, or the sessions or CDRs of the partner that asks."""
-        part, module = part_of(request.query), _module(request)
-        if module == "locations" and self._locations is not None:
-            count, objects = self._locations.page(part.date_from, part.date_to, part.offset, part.limit)
-        else:
-            partner = None if module == "tokens" else request["partner"].party
-            count, objects = self._objects.page(module, partner, part.date_from, part.date_to, part.offset, part.limit)
-        return list_answer(self._clock.moment(), part, f"{self._url}/ocpi/2.2.1/sender/{module}", count, objects)
+    async def _deliver(self, request: web.Request, kind: str, body: Members) -> web.Response:
+        """Delivers a packet of a kind and a body, and answers as the node does. Raises Refusal."""
+        partner: Partner = request["partner"]
+        serial, number = self._numbers(request.headers, partner)
+        url = body.get("response_url")
+        if kind in COMMANDS and partner.kind == "node" and isinstance(url, str) and len(url) <= LONGEST_URL:
+            self._requests.keep_url(partner.party, number, url)
+            body = {**body, "response_url": NODES_URL + request.headers["X-Correlation-ID"]}
+        event = self._events.deliver(Packet(partner.party, self._events.node, serial, number, kind, body))
+        if len(write_json(event)) > LONGEST_LINE:
+            raise Refusal(413, INVALID, "the body is too long")
+        outcome = await self._feed(event)
+        if outcome.word not in ("stepped", "idle"):
+            raise refusal_of(outcome.done)
+        sent = outcome.answer_to(partner.party, number)
+        if sent is None:
+            raise Refusal(504, SERVER_ERROR, "the answer was lost: send the request again")
+        status_code, data = sent.body["status_code"], sent.body.get("data")
+        headers = {"X-Serial": str(sent.serial)}
+        if kind == "post_cdr" and status_code == SUCCESS:
+            headers["Location"] = f"{self._url}{RECEIVER}/cdrs{path_of(OBJECT_PATH, body)}"
+        if partner.kind == "ocpi" and "location" in body and data is not None and data.get("allowed") == "ALLOWED":
+            data = {**data, "location": body["location"]}
+        return answer(sent.body["timestamp"], data, status_code, headers=headers)
+
+    def _numbers(self, headers: Mapping[str, str], partner: Partner) -> tuple[int, int]:
+        """The serial and the number of a request."""
+        correlation = headers.get("X-Correlation-ID", "")
+        if not is_printable(correlation):
+            raise Refusal(200, INVALID, "X-Correlation-ID: wanted are characters of printable ASCII")
+        if partner.kind == "ocpi":
+            return 0, self._requests.number(partner.party, correlation or None)
+        serial = number_in(headers.get("X-Request-ID", ""), partner.party)
+        number = number_in(correlation, partner.party)
+        if serial is None or number is None:
+            name = "X-Request-ID" if serial is None else "X-Correlation-ID"
+            raise Refusal(200, INVALID, f"{name}: wanted is {partner.party}/NUMBER")
+        return serial, number
 
 
 def _module(request: web.Request) -> str:
@@ -144,3 +195,26 @@ def _compare(request: web.Request, body: Members) -> None:
         value = body.get(name)
         if isinstance(value, str) and value.upper() != text.upper():
             raise Refusal(200, INVALID, f"{name}: the path says otherwise")
+
+
+def _part_of(query: Mapping[str, str]) -> Part:
+    """The part that a query asks for. Raises Refusal (2001)."""
+    limit = _whole(query, "limit", MOST_LISTED)
+    if limit == 0:
+        raise Refusal(200, INVALID, "limit: wanted is 1 or more")
+    return Part(_moment(query, "date_from", -FOREVER), _moment(query, "date_to", FOREVER), _whole(query, "offset", 0),
+                min(limit, MOST_LISTED))
+
+
+def _moment(query: Mapping[str, str], name: str, otherwise: int) -> int:
+    try:
+        return milliseconds_of(query[name]) if name in query else otherwise
+    except (ValueError, OverflowError):
+        raise Refusal(200, INVALID, f"{name}: wanted is a moment, as 2025-01-01T10:00:00Z") from None
+
+
+def _whole(query: Mapping[str, str], name: str, otherwise: int) -> int:
+    number = number_of(query.get(name, str(otherwise)))
+    if number is None:
+        raise Refusal(200, INVALID, f"{name}: wanted is a whole number of at most 18 digits")
+    return number

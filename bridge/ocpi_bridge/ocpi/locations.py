@@ -5,7 +5,7 @@ from ..clock import Clock, milliseconds_of
 from ..json_text import Members, write_json
 from ..parties import codes
 from ..state import State
-from .objects import Objects
+from .objects import Objects, Part
 
 
 class Locations:
@@ -23,11 +23,11 @@ class Locations:
             locations = [self._location(location) for location in self._site["locations"]]
         return sorted(locations, key=lambda location: (location["last_updated"], location["id"].upper()))
 
-    def page(self, date_from: int | None, date_to: int | None, offset: int, limit: int) -> tuple[int, list[Members]]:
-        """How many locations a list has, and those of one page. The moments are as those of `Objects.page`."""
-        found = [location for location in self.all() if (date_from or 0) <= milliseconds_of(location["last_updated"])
-                 and (date_to is None or milliseconds_of(location["last_updated"]) < date_to)]
-        return len(found), found[offset:offset + limit]
+    def page(self, part: Part) -> tuple[int, list[Members]]:
+        """How many locations there are by the dates of a part, and those of the part."""
+        found = [location for location in self.all()
+                 if part.date_from <= milliseconds_of(location["last_updated"]) < part.date_to]
+        return len(found), found[part.offset:part.offset + part.limit]
 
     def find(self, *identifiers: str) -> Members | None:
         """A location, or an EVSE of one, or a connector of that, by their ids."""

@@ -1,19 +1,33 @@
 """The sessions, CDRs and tokens that passed through the bridge: for GET and lists, and for who asks what stands where.
 
-While a node runs nobody else can read its rows. So the bridge keeps the newest version of each object that its node
+Beside them stand the EVSEs that commands claim. While a node runs nobody else can read its rows. So the bridge keeps the newest version of each object that its node
 sent or accepted.
 """
+from dataclasses import dataclass
+
 from ..clock import milliseconds_of
 from ..events import Outcome, Packet
 from ..json_text import Members, read_json, write_json
 from ..parties import party_key, party_of, same_party
 from ..state import State
-from .claims import Claims
 
 # The module of each packet that carries an object, and the member that identifies the object.
 OBJECTS = {"put_session": ("sessions", "id"), "post_cdr": ("cdrs", "id"), "put_token": ("tokens", "uid")}
 ACCEPTED = 1000
 LIVING = "module = 'sessions' AND status IN ('PENDING', 'ACTIVE')"
+# Milliseconds behind all moments.
+FOREVER = 2**62
+
+
+@dataclass(frozen=True)
+class Part:
+    """The part of a list: from `date_from` on and before `date_to` (milliseconds since 1970), of that `limit` objects
+    behind the first `offset`."""
+
+    date_from: int
+    date_to: int
+    offset: int
+    limit: int
 
 
 class Objects:
@@ -59,20 +73,16 @@ class Objects:
                                       party_key(party), identifier.upper(), token_type if module == "tokens" else "")),
                     None)
 
-    def page(self, module: str, partner: str | None, date_from: int | None, date_to: int | None, offset: int,
-             limit: int) -> tuple[int, list[Members]]:
-        """How many objects a list has, and those of one page, by `last_updated` and then by id.
+    def page(self, module: str, partner: str, part: Part) -> tuple[int, list[Members]]:
+        """How many objects a list has by its dates, and those of its part, by `last_updated` and then by id.
 
-        The list is of one partner, or of all. The moments are milliseconds since 1970: `last_updated` is `date_from`
-        or later, and before `date_to`.
+        The list is of the objects that concern one partner, or of a provider's tokens, which are for all ("").
         """
-        conditions = {"module = ?": module, "partner = ?": None if partner is None else party_key(partner),
-                      "last_updated >= ?": date_from, "last_updated < ?": date_to}
-        where = " AND ".join(condition for condition, value in conditions.items() if value is not None)
-        values = [value for value in conditions.values() if value is not None]
+        where = "module = ? AND partner = ? AND last_updated >= ? AND last_updated < ?"
+        values = (module, party_key(partner), part.date_from, part.date_to)
         count = self._state.query(f"SELECT count(*) FROM object_of WHERE {where}", *values)[0][0]
         return count, self._bodies(f"{where} ORDER BY last_updated, identifier, party, token_type LIMIT ? OFFSET ?",
-                                   *values, limit, offset)
+                                   *values, part.limit, part.offset)
 
     def newest(self, module: str, most: int = -1) -> list[Members]:
         """The objects of a module, the newest first: all of them, or so many at most."""
@@ -89,3 +99,50 @@ class Objects:
 
 def _party(body: Members) -> str:
     return party_of(body["country_code"], body["party_id"])
+
+
+class Claims:
+    """Which EVSEs an open start or a reservation claims, as far as packets tell it: each EVSE has one claim at most.
+
+    Knows the claims of commands that name an EVSE. Which one the node took for another no packet tells.
+    """
+
+    def __init__(self, state: State) -> None:
+        self._state = state
+
+    def status(self, evse_uid: str, now: int) -> str | None:
+        """BLOCKED by a start, RESERVED, or None, at a moment in milliseconds since 1970."""
+        rows = self._state.query("SELECT status FROM claim WHERE evse_uid = ? AND until > ?", evse_uid.upper(), now)
+        return rows[0][0] if rows else None
+
+    def note(self, outcome: Outcome) -> None:
+        """Takes in what became of an event, inside the transaction that ends its line."""
+        for packet in outcome.sent("command_result"):
+            self._end(packet.receiver, packet.body["response_url"])
+        for packet in outcome.sent("put_session"):
+            if packet.body["status"] in ("PENDING", "ACTIVE"):
+                self._state.query("DELETE FROM claim WHERE evse_uid = ?", packet.body["evse_uid"].upper())
+        if outcome.event["event"] == "deliver":
+            self._note_command(outcome, Packet.of(outcome.event["packet"]))
+
+    def _note_command(self, outcome: Outcome, command: Packet) -> None:
+        """Takes in a command that is accepted now. A repeat is answered with the moment of the first answer."""
+        answer, body = outcome.answer_to(command.sender, command.request), command.body
+        if answer is None or answer.body.get("data", {}).get("result") != "ACCEPTED" or (
+                milliseconds_of(answer.body["timestamp"]) != milliseconds_of(outcome.event["at"])):
+            return
+        results = [packet.body["result"] for packet in outcome.sent("command_result")]
+        if command.kind == "start_session" and not results:
+            self._begin(command, "BLOCKED", body["response_url"], FOREVER)
+        elif command.kind in ("reserve_now", "cancel_reservation") and results == ["ACCEPTED"]:
+            self._end(command.sender, body["reservation_id"].upper())
+            if command.kind == "reserve_now":
+                self._begin(command, "RESERVED", body["reservation_id"].upper(), milliseconds_of(body["expiry_date"]))
+
+    def _begin(self, command: Packet, status: str, name: str, until: int) -> None:
+        if command.body.get("evse_uid") is not None:
+            self._state.query("INSERT OR REPLACE INTO claim VALUES (?, ?, ?, ?, ?)", command.body["evse_uid"].upper(),
+                              status, party_key(command.sender), name, until)
+
+    def _end(self, partner: str, name: str) -> None:
+        self._state.query("DELETE FROM claim WHERE partner = ? AND name = ?", party_key(partner), name)

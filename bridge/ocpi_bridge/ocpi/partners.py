@@ -6,10 +6,10 @@ tokens on the way begins again with a new one. All is read anew at each use, as 
 """
 import hmac
 import secrets
-from collections.abc import Iterator, Mapping
-from dataclasses import dataclass, field
+from collections.abc import Mapping
+from dataclasses import asdict, dataclass, field
 
-from ..configuration import Configuration, PartnerSettings
+from ..configuration import Configuration
 from ..json_text import Members, read_json, write_json
 from ..parties import party_key
 from ..state import State
@@ -41,14 +41,22 @@ class Partners:
     def by_token(self, token: str) -> Partner | None:
         """The partner that presents a token. Takes as long whichever it is, and whether it is one at all."""
         found = None
-        for known, partner in self._tokens():
-            if hmac.compare_digest(known.encode(), token.encode("utf-8", "surrogatepass")):
-                found = partner
+        for key, settings in self._settings.items():
+            partner, kept = self.of(key), self._kept(key)
+            unused = None if kept.get("used", settings.token) == settings.token else settings.token
+            registering = Partner(settings.party, settings.kind, token)
+            for known, shown in (partner.token, partner), (kept.get("offer"), registering), (unused, registering):
+                if known and hmac.compare_digest(known.encode(), token.encode("utf-8", "surrogatepass")):
+                    found = shown
         return found
 
     def of(self, party: str) -> Partner:
         """The partner of a party. Raises KeyError where the configuration has none."""
-        return _partner(self._settings[party_key(party)], self._kept(party))
+        settings = self._settings[party_key(party)]
+        known: Members = {**asdict(settings), **self._kept(party)}
+        listed = known.get("endpoints", []) if known.get("details_of") == known["versions_url"] else []
+        return Partner(settings.party, settings.kind, known["token"], known["their_token"], known["versions_url"],
+                       {(module, role): url for module, role, url in listed}, known["their_token"] is not None)
 
     def all(self) -> list[Partner]:
         return [self.of(key) for key in self._settings]
@@ -74,18 +82,6 @@ class Partners:
         """Keeps where the modules of a partner stand, by its version details. None: they have to be asked again."""
         self._keep(party, details_of=versions_url, endpoints=[[*names, url] for names, url in endpoints.items()])
 
-    def _tokens(self) -> Iterator[tuple[str, Partner]]:
-        """Each token that a partner may present, with what it shows."""
-        for key, settings in self._settings.items():
-            kept = self._kept(key)
-            partner = _partner(settings, kept)
-            if partner.token is not None:
-                yield partner.token, partner
-            unused = settings.token if kept.get("used", settings.token) != settings.token else None
-            for token in (kept.get("offer"), unused):
-                if token is not None:
-                    yield token, Partner(settings.party, settings.kind, token)
-
     def _kept(self, party: str) -> Members:
         kept: Members = read_json(self._state.value(f"partner {party_key(party)}") or "{}")
         return kept
@@ -93,12 +89,3 @@ class Partners:
     def _keep(self, party: str, **members: object) -> None:
         with self._state.transaction():
             self._state.set_value(f"partner {party_key(party)}", write_json({**self._kept(party), **members}))
-
-
-def _partner(settings: PartnerSettings, kept: Members) -> Partner:
-    mine, theirs, versions = settings.token, settings.their_token, settings.versions_url
-    if "used" in kept:
-        mine, theirs, versions = kept["token"], kept["their_token"], kept["versions_url"]
-    known = kept.get("endpoints", []) if kept.get("details_of") == versions else []
-    return Partner(settings.party, settings.kind, mine, theirs, versions,
-                   {(module, role): url for module, role, url in known}, theirs is not None)

@@ -28,9 +28,7 @@ class Pulling:
     """Pulls from all partners of kind `ocpi`, every few minutes and where it is woken. The state keeps how far."""
 
     def __init__(self, client: Client, objects: Objects, state: State, is_operator: bool) -> None:
-        self._client = client
-        self._objects = objects
-        self._state = state
+        self._client, self._objects, self._state = client, objects, state
         self._kinds = ("put_token",) if is_operator else ("put_session", "post_cdr")
         self._woken = asyncio.Event()
 
@@ -60,14 +58,15 @@ class Pulling:
         name = f"pulled {module} of {party_key(partner.party)}"
         latest = int(self._state.value(name) or "0")
         query = {"date_from": moment_of(max(latest - OVERLAP, 0) / 1000), "limit": PAGE}
-        page: str | None = await self._client.endpoint(partner, module, "SENDER") + "?" + urlencode(query)
+        page = await self._client.endpoint(partner, module, "SENDER") + "?" + urlencode(query)
         headers = routing_headers(self._client.events.node, partner.party)
         for _ in range(MOST_PAGES):
-            data, page = await self._client.exchange.data(partner, page or "", headers)
-            for listed in data if isinstance(data, list) else []:
+            response = await self._client.exchange.ask(partner, "GET", page, headers=headers)
+            for listed in response.data if isinstance(response.data, list) else []:
                 latest = max(latest, await self._hand_on(partner, kind, listed))
-            if not data or page is None:
+            if not response.data or response.next_page is None:
                 break
+            page = response.next_page
         now = int(self._client.events.clock.seconds() * 1000)
         self._state.set_value(name, str(min(latest, now)))
 

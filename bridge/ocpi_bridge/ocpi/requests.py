@@ -22,11 +22,10 @@ class Requests:
         in which it is called.
         """
         with self._state.transaction():
-            if correlation is not None:
-                rows = self._state.query("SELECT number FROM request_number WHERE partner = ? AND correlation = ?",
-                                         party_key(partner), correlation)
-                if rows:
-                    return int(rows[0][0])
+            rows = self._state.query("SELECT number FROM request_number WHERE partner = ? AND correlation = ?",
+                                     party_key(partner), correlation)
+            if rows:
+                return int(rows[0][0])
             number = int(self._state.value("last_request") or "0") + 1
             self._state.set_value("last_request", str(number))
             if correlation is not None:
@@ -36,8 +35,7 @@ class Requests:
 
     def keep_url(self, partner: str, number: int, url: str) -> None:
         """Keeps the address that a partner of kind `node` gave for the result of its request of that number."""
-        with self._state.transaction():
-            self._state.query("INSERT OR REPLACE INTO response_url VALUES (?, ?, ?)", party_key(partner), number, url)
+        self._state.query("INSERT OR REPLACE INTO response_url VALUES (?, ?, ?)", party_key(partner), number, url)
 
     def url(self, partner: str, number: int | None) -> str | None:
         """The address that was kept."""

@@ -1,26 +1,21 @@
 """The OCPI server: who may ask, which path leads where, and the format and the headers of each response."""
 import asyncio
 import logging
-from collections.abc import AsyncIterator, Awaitable, Callable
-from contextlib import asynccontextmanager
+from contextlib import AsyncExitStack
 from urllib.parse import unquote
 
 from aiohttp import web
 
 from ..admin.metrics import Metrics
-from ..clock import Clock
-from ..configuration import Configuration
-from ..events import Events, Outcome
-from ..json_text import Members, NotJson, NumberTooLarge, read_json
+from ..events import Events
+from ..json_text import NotJson, NumberTooLarge, read_json
+from ..listening import Handler
+from ..node.feeder import NodeEnded, OutcomeLost
 from ..parties import codes
 from .credentials import Credentials
-from .delivery import Delivery
 from .envelope import CLIENT_ERROR, INVALID, SERVER_ERROR, Refusal, answer, is_printable, routing_headers, token_of
 from .interfaces import Interfaces
-from .locations import Locations
-from .objects import Objects
 from .partners import Partner, Partners
-from .requests import Requests
 
 logger = logging.getLogger(__name__)
 
@@ -33,75 +28,67 @@ LARGE_BODY, MOST_LARGE = 8_192, 8
 # How long a request waits for its answer, in seconds of the clock.
 LONGEST_WAIT = 8
 
-
-def ocpi_application(configuration: Configuration, events: Events, objects: Objects, requests: Requests,
-                     partners: Partners, credentials: Credentials, locations: Locations | None, metrics: Metrics,
-                     feed: Callable[[Members], Awaitable[Outcome]]) -> web.Application:
-    """The application of a node. `feed` carries out an event, also where its caller is cancelled meanwhile."""
-    party, url, clock = events.node, configuration.ocpi.url, events.clock
-    delivery = Delivery(url, events, requests, feed)
-    server = _Server(party, clock, partners, credentials, metrics)
-    application = web.Application(middlewares=[server.respond], client_max_size=LARGEST_BODY + 1)
-    application.router.add_routes(Interfaces(party, url, clock, objects, delivery, locations).routes())
-    application.router.add_routes([
-        web.route("GET", VERSIONS, server.versions), web.route("GET", DETAILS, server.details),
-        *(web.route(method, CREDENTIALS, server.credentials) for method in ("GET", "POST", "PUT", "DELETE"))])
-    return application
+NO_JSON = 400, INVALID, "the body is no JSON that is read here"
+NOT_WHOLE = 400, INVALID, "the body is not whole, or not coded as its headers say"
+# What a request may fail by, and what is answered: the HTTP status, OCPI's status code, and words.
+FAILURES: dict[type[Exception], tuple[int, int, str]] = {
+    NotJson: NO_JSON, UnicodeDecodeError: NO_JSON, ConnectionError: NOT_WHOLE, web.RequestPayloadError: NOT_WHOLE,
+    NumberTooLarge: (200, INVALID, "the body has a number that is too large"),
+    TimeoutError: (504, SERVER_ERROR, "the node did not answer in time: send the request again"),
+    OutcomeLost: (504, SERVER_ERROR, "the answer was lost: send the request again"),
+    NodeEnded: (503, SERVER_ERROR, "the node is stopping")}
+UNKNOWN_FAILURE = 500, SERVER_ERROR, "the bridge could not carry out the request"
 
 
-class _Server:
-    def __init__(self, party: str, clock: Clock, partners: Partners, credentials: Credentials,
+class Server:
+    """Answers whoever has a token. What a registered partner may ask for is handled by `interfaces`."""
+
+    def __init__(self, events: Events, partners: Partners, credentials: Credentials, interfaces: Interfaces,
                  metrics: Metrics) -> None:
-        self._party, self._clock, self._partners = party, clock, partners
-        self._credentials, self._metrics = credentials, metrics
+        self._party, self._clock, self._partners = events.node, events.clock, partners
+        self._credentials, self._interfaces, self._metrics = credentials, interfaces, metrics
         self._large = asyncio.Semaphore(MOST_LARGE)
 
+    def application(self) -> web.Application:
+        application = web.Application(middlewares=[self.respond], client_max_size=LARGEST_BODY + 1)
+        application.add_routes([
+            *self._interfaces.routes(), web.route("GET", VERSIONS, self.versions),
+            web.route("GET", DETAILS, self.details),
+            *(web.route(method, CREDENTIALS, self.credentials) for method in ("GET", "POST", "PUT", "DELETE"))])
+        return application
+
     @web.middleware
-    async def respond(self, request: web.Request,
-                      handler: Callable[[web.Request], Awaitable[web.StreamResponse]]) -> web.StreamResponse:
+    async def respond(self, request: web.Request, handler: Handler) -> web.StreamResponse:
         """Lets those ask who may, makes each refusal a response in OCPI's format, and completes the headers."""
         response: web.StreamResponse
         try:
             request["partner"] = self._partner(request)
-            async with self._room(request):
-                await request.read()
-                asked = handler(request)
-                within = request.path not in CONFIGURATION_PATHS
-                response = await (self._clock.within(LONGEST_WAIT, asked) if within else asked)
+            response = await self._carry_out(request, handler)
         except Refusal as refusal:
             response = self._error(refusal.http_status, refusal.status_code, refusal.message)
-        except (NotJson, UnicodeDecodeError):
-            response = self._error(400, INVALID, "the body is no JSON that is read here")
-        except NumberTooLarge:
-            response = self._error(200, INVALID, "the body has a number that is too large")
-        except (ConnectionError, web.RequestPayloadError):
-            response = self._error(400, INVALID, "the body is not whole, or not coded as its headers say")
-        except TimeoutError:
-            response = self._error(504, SERVER_ERROR, "the node did not answer in time: send the request again")
         except web.HTTPException as exception:
             response = self._error(exception.status, CLIENT_ERROR, exception.reason)
             response.headers.update({name: text for name, text in exception.headers.items() if name == "Allow"})
-        except Exception:
-            logger.exception("a request was not carried out")
-            response = self._error(500, SERVER_ERROR, "the bridge could not carry out the request")
+        except Exception as fault:
+            known = [told for kind, told in FAILURES.items() if isinstance(fault, kind)]
+            if not known:
+                logger.exception("a request was not carried out")
+            response = self._error(*(known[0] if known else UNKNOWN_FAILURE))
         self._complete(request, response)
         return response
 
-    @asynccontextmanager
-    async def _room(self, request: web.Request) -> AsyncIterator[None]:
-        """Inside a body is read and carried out. Raises TimeoutError where there is no room for a large one, and
-        web.HTTPException for one that is too large."""
+    async def _carry_out(self, request: web.Request, handler: Handler) -> web.StreamResponse:
+        """Reads a request and carries it out, where its body is not too large, and where it is large, in its turn."""
         length = request.content_length or 0
         if length > LARGEST_BODY:
             raise web.HTTPRequestEntityTooLarge(LARGEST_BODY, length)
-        if length < LARGE_BODY and (length or not request.can_read_body):
-            yield
-            return
-        await self._clock.within(LONGEST_WAIT, self._large.acquire())
-        try:
-            yield
-        finally:
-            self._large.release()
+        async with AsyncExitStack() as turn:
+            if length >= LARGE_BODY or request.can_read_body and not length:
+                await self._clock.within(LONGEST_WAIT, turn.enter_async_context(self._large))
+            await request.read()
+            asked = handler(request)
+            response = await (asked if request.path in CONFIGURATION_PATHS else self._clock.within(LONGEST_WAIT, asked))
+        return response
 
     def _error(self, http_status: int, status_code: int, message: str) -> web.Response:
         return answer(self._clock.moment(), None, status_code, message, http_status)
