@@ -1,7 +1,7 @@
 """The sessions, CDRs and tokens that passed through the bridge: for GET and lists, and for who asks what stands where.
 
-Beside them stand the EVSEs that commands claim. While a node runs nobody else can read its rows. So the bridge keeps the newest version of each object that its node
-sent or accepted.
+While a node runs nobody else can read its rows. So the bridge keeps the newest version of each object that its node
+sent or accepted. Beside these stand the EVSEs that commands claim.
 """
 from dataclasses import dataclass
 
