@@ -6,7 +6,7 @@ Each status is written to standard output. What was not answered is sent again o
 import argparse
 import asyncio
 import sys
-from collections import deque
+from contextlib import suppress
 from urllib.parse import quote
 
 import aiohttp
@@ -14,7 +14,6 @@ import aiohttp
 from .clock import Clock
 from .json_text import Members
 from .ocpp.connection import Connection
-from .ocpp.frames import Call
 
 # In seconds: between readings that it makes by itself, and before it connects again. In Wh: what each adds, and with
 # how much a car is full.
@@ -32,15 +31,14 @@ class ChargePoint:
         self.transaction: int | None = None
         self.register = self.full = 0
         self.clock = Clock()
-        self.calls: deque[tuple[str, Members]] = deque()
-        self.has_calls = asyncio.Event()
+        self.calls: asyncio.Queue[tuple[str, Members]] = asyncio.Queue()
+        self.unanswered: tuple[str, Members] | None = None
         self.call("BootNotification", chargePointVendor="Trial", chargePointModel="One")
         self.set_status("Available")
 
     def call(self, action: str, **payload: object) -> None:
         """Queues a call, which is sent until it is answered."""
-        self.calls.append((action, payload))
-        self.has_calls.set()
+        self.calls.put_nowait((action, payload))
 
     def set_status(self, status: str) -> None:
         self.status = status
@@ -56,7 +54,7 @@ class ChargePoint:
                 self.set_status("Preparing")
             case ["start", token] if not self.is_running:
                 self.call("Authorize", idTag=token)
-            case ["meter", watt_hours]:
+            case ["meter", watt_hours] if watt_hours.isdecimal():
                 self.register += int(watt_hours)
                 if self.transaction is not None:
                     self.call("MeterValues", connectorId=1, transactionId=self.transaction, meterValue=[
@@ -91,39 +89,49 @@ class ChargePoint:
                 self.do("stop", "DeAuthorized")
         self.do()
 
-    async def answer(self, call: Call) -> Members:
-        """Answers a call of the central system. What follows of it is done behind the answer."""
-        status, acts = "Rejected", []
-        match call.action:
+    async def answer(self, action: str, payload: Members) -> Members:
+        """Answers a call of the central system. The calls that follow of it are made behind the answer."""
+        status = "Accepted"
+        match action:
             case "RemoteStartTransaction" if self.status in ("Available", "Preparing") and not self.is_running:
-                self.token = call.payload["idTag"]
-                status, acts = "Accepted", [["plug"] if self.is_automatic else []]
-            case "RemoteStopTransaction" if call.payload["transactionId"] == self.transaction:
-                status, acts = "Accepted", [["stop", "Remote"], *([["unplug"]] if self.is_automatic else [])]
+                self.token = payload["idTag"]
+                self.do("plug" if self.is_automatic else "")
+            case "RemoteStopTransaction" if payload["transactionId"] == self.transaction:
+                self.do("stop", "Remote")
+                self.do("unplug" if self.is_automatic else "")
             case "UnlockConnector":
-                status, acts = "Unlocked", [["stop", "UnlockCommand"]]
+                self.do("stop", "UnlockCommand")
+                status = "Unlocked"
             case "ChangeAvailability":
                 status = "Scheduled" if self.is_running else "Accepted"
-            case "TriggerMessage" if call.payload["requestedMessage"] == "StatusNotification":
-                status = "Accepted"
-                asyncio.get_running_loop().call_soon(self.set_status, self.status)
-        for act in acts:
-            asyncio.get_running_loop().call_soon(self.do, *act)
+            case "TriggerMessage" if payload["requestedMessage"] == "StatusNotification":
+                self.set_status(self.status)
+            case _:
+                status = "Rejected"
         return {"status": status}
 
     async def make_calls(self, connection: Connection) -> None:
         """Makes its calls one at a time, until one is not answered. That is made again on the next connection."""
         while True:
-            await self.has_calls.wait()
-            action, payload = self.calls[0]
-            async with connection.asking(action, payload) as answer:
+            self.unanswered = self.unanswered or await self.calls.get()
+            async with connection.asking(*self.unanswered) as answer:
                 if answer is None:
-                    await connection.close()
-                    return
-                self.calls.popleft()
-                if not self.calls:
-                    self.has_calls.clear()
+                    return await connection.close()
+                (action, payload), self.unanswered = self.unanswered, None
                 self.take(action, payload, answer)
+
+    async def connect(self, url: str, name: str, password: str) -> None:
+        """Connects, and again whenever the connection ends."""
+        async with aiohttp.ClientSession(auth=aiohttp.BasicAuth(name, password)) as session:
+            while True:
+                with suppress(aiohttp.ClientError, OSError):
+                    address = f"{url.rstrip('/')}/{quote(name, '')}"
+                    async with session.ws_connect(address, protocols=("ocpp1.6",)) as socket:
+                        connection = Connection(socket, self.clock, self.answer)
+                        calls = asyncio.create_task(self.make_calls(connection))
+                        await asyncio.gather(connection.read(), connection.work())
+                        calls.cancel()
+                await asyncio.sleep(RECONNECT_AFTER)
 
 
 async def read_input(charge_point: ChargePoint) -> None:
@@ -142,22 +150,10 @@ async def meter_by_itself(charge_point: ChargePoint) -> None:
 
 
 async def run(url: str, name: str, password: str, is_automatic: bool) -> None:
-    """Connects, and again whenever the connection ends."""
+    """Runs a charge point for good."""
     charge_point = ChargePoint(is_automatic)
-    tasks = [asyncio.create_task(read_input(charge_point))]
-    if is_automatic:
-        tasks.append(asyncio.create_task(meter_by_itself(charge_point)))
-    async with aiohttp.ClientSession(auth=aiohttp.BasicAuth(name, password)) as session:
-        while True:
-            try:
-                async with session.ws_connect(f"{url.rstrip('/')}/{quote(name, '')}", protocols=("ocpp1.6",)) as socket:
-                    connection = Connection(socket, charge_point.clock, charge_point.answer)
-                    calls = asyncio.create_task(charge_point.make_calls(connection))
-                    await asyncio.gather(connection.read(), connection.work())
-                    calls.cancel()
-            except (aiohttp.ClientError, OSError):
-                pass
-            await asyncio.sleep(RECONNECT_AFTER)
+    by_itself = [meter_by_itself(charge_point)] if is_automatic else []
+    await asyncio.gather(charge_point.connect(url, name, password), read_input(charge_point), *by_itself)
 
 
 if __name__ == "__main__":
@@ -165,9 +161,6 @@ if __name__ == "__main__":
     parser.add_argument("url", metavar="URL", help="the central system's address, before the id")
     parser.add_argument("name", metavar="ID")
     parser.add_argument("password", metavar="PASSWORD")
-    parser.add_argument("--auto", action="store_true", help="plug, meter and unplug as remote calls ask")
-    words = parser.parse_args()
-    try:
-        asyncio.run(run(words.url, words.name, words.password, words.auto))
-    except KeyboardInterrupt:
-        pass
+    parser.add_argument("--auto", action="store_true", dest="is_automatic", help="plug, meter and unplug as asked")
+    with suppress(KeyboardInterrupt):
+        asyncio.run(run(**vars(parser.parse_args())))

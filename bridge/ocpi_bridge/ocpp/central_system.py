@@ -4,6 +4,7 @@ import base64
 import hmac
 import logging
 from collections.abc import Coroutine
+from functools import partial
 from typing import Any
 
 from aiohttp import web
@@ -86,7 +87,7 @@ class CentralSystem:
 
     async def _serve(self, charge_point: ChargePoint, socket: web.WebSocketResponse) -> None:
         """Serves a connection until it ends. It takes the place of one that the charge point has."""
-        connection = Connection(socket, self._clock, lambda call: self._reports.answer(charge_point, call))
+        connection = Connection(socket, self._clock, partial(self._reports.answer, charge_point))
         if charge_point.connection is not None:
             self._spawn(charge_point.connection.close())
         charge_point.connection, charge_point.connected_since = connection, self._clock.seconds()

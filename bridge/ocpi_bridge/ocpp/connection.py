@@ -2,7 +2,8 @@
 import asyncio
 import logging
 from collections.abc import AsyncIterator, Awaitable, Callable
-from contextlib import asynccontextmanager
+from contextlib import asynccontextmanager, suppress
+from functools import partial
 from uuid import uuid4
 
 from aiohttp import ClientWebSocketResponse, WSMsgType, web
@@ -10,13 +11,14 @@ from aiohttp import ClientWebSocketResponse, WSMsgType, web
 from ..clock import Clock
 from ..json_text import Members, write_json
 from ..node.feeder import NodeEnded
-from .frames import CALL, RESULT, Answer, Call, CallError, read_frame
+from .frames import CALL, RESULT, CallError, read_frame
 
 LOG = logging.getLogger("ocpp")
 ANSWER_WITHIN = 30.0
 # The characters of calls that may wait. A charge point that sends more does not wait for answers at all.
 MOST_WAITING = 4_000_000
-Handler = Callable[[Call], Awaitable[Members]]
+# Gives the payload that answers an action and its payload. Raises CallError.
+Handler = Callable[[str, Members], Awaitable[Members]]
 
 
 class Connection:
@@ -27,10 +29,8 @@ class Connection:
     """
 
     def __init__(self, socket: web.WebSocketResponse | ClientWebSocketResponse, clock: Clock, handler: Handler) -> None:
-        self._socket = socket
-        self._clock = clock
-        self._handler = handler
-        self._inbox: asyncio.Queue[tuple[str, Call] | asyncio.Event | None] = asyncio.Queue()
+        self._socket, self._clock, self._handler = socket, clock, handler
+        self._inbox: asyncio.Queue[Callable[[], Awaitable[object]] | None] = asyncio.Queue()
         self._times: dict[str, int] = {}
         self._waiting = 0
         self._one_at_a_time = asyncio.Lock()
@@ -46,8 +46,6 @@ class Connection:
             self._is_open = False
             if self._asked is not None and not self._asked[1].done():
                 self._asked[1].set_result(None)
-            while not self._inbox.empty():
-                self._inbox.get_nowait()
             self._inbox.put_nowait(None)
 
     async def _take(self, text: str) -> None:
@@ -56,10 +54,10 @@ class Connection:
         except CallError as error:
             await self._send(error.frame(error.message_id))
             return
-        if isinstance(frame, Answer):
+        if frame.action is None:
             if self._asked is not None and self._asked[0] == frame.message_id and not self._asked[1].done():
                 self._asked[1].set_result(frame.payload)
-                self._inbox.put_nowait(self._asked[2])
+                self._inbox.put_nowait(self._asked[2].wait)
         elif text in self._times:
             self._times[text] += 1
         elif self._waiting + len(text) > MOST_WAITING:
@@ -67,34 +65,35 @@ class Connection:
         else:
             self._times[text] = 1
             self._waiting += len(text)
-            self._inbox.put_nowait((text, frame))
+            self._inbox.put_nowait(partial(self._handle, text, frame.message_id, frame.action, frame.payload))
 
     async def work(self) -> None:
-        """Handles what was read, until the connection ends. What is begun is brought to its end."""
-        while (item := await self._inbox.get()) is not None:
-            if isinstance(item, asyncio.Event):
-                await item.wait()
-                continue
-            text, call = item
-            answer = await self._answer(call)
-            self._waiting -= len(text)
-            if answer is None:
-                await self.close()
-                return
-            for _ in range(self._times.pop(text)):
-                await self._send(answer)
+        """Handles what was read, until the connection ends. What is begun is brought to its end.
 
-    async def _answer(self, call: Call) -> str | None:
-        """The frame that answers a call. None where the bridge is stopping: the charge point then asks again."""
+        Raises NodeEnded where the bridge is stopping. The connection is closed then: the charge point calls again.
+        """
         try:
-            return write_json([RESULT, call.message_id, await self._handler(call)])
+            while (handle := await self._inbox.get()) is not None:
+                await handle()
+        finally:
+            await self.close()
+
+    async def _handle(self, text: str, message_id: str, action: str, payload: Members) -> None:
+        """Handles a call. It is answered as often as it came meanwhile."""
+        if not self._is_open:
+            return
+        try:
+            answer = write_json([RESULT, message_id, await self._handler(action, payload)])
         except CallError as error:
-            return error.frame(call.message_id)
+            answer = error.frame(message_id)
         except NodeEnded:
-            return None
+            raise
         except Exception:
-            LOG.exception("a call %s could not be handled", call.action[:50])
-            return CallError("InternalError", "it could not be handled").frame(call.message_id)
+            LOG.exception("a call %s could not be handled", action[:50])
+            answer = CallError("InternalError", "it could not be handled").frame(message_id)
+        self._waiting -= len(text)
+        for _ in range(self._times.pop(text)):
+            await self._send(answer)
 
     @asynccontextmanager
     async def asking(self, action: str, payload: Members) -> AsyncIterator[Members | None]:
@@ -102,33 +101,26 @@ class Connection:
 
         Calls that come behind the answer wait until this is left. So inside nothing else may be asked.
         """
-        handled = asyncio.Event()
-        try:
-            yield await self._ask(action, payload, handled)
-        finally:
-            handled.set()
-
-    async def _ask(self, action: str, payload: Members, handled: asyncio.Event) -> Members | None:
+        message_id, handled, reply = str(uuid4()), asyncio.Event(), None
         async with self._one_at_a_time:
+            answer: asyncio.Future[Members | None] = asyncio.get_running_loop().create_future()
             if not self._is_open:
-                return None
-            message_id, answer = str(uuid4()), asyncio.get_running_loop().create_future()
+                answer.set_result(None)
             self._asked = message_id, answer, handled
             await self._send(write_json([CALL, message_id, action, payload]))
-            try:
-                return await self._clock.within(ANSWER_WITHIN, answer)
-            except TimeoutError:
+            with suppress(TimeoutError):
+                reply = await self._clock.within(ANSWER_WITHIN, answer)
+            if reply is None:
                 LOG.warning("a charge point did not answer %s", action)
-                return None
+            try:
+                yield reply
             finally:
-                self._asked = None
+                handled.set()
 
     async def _send(self, text: str) -> None:
         """Sends a frame. Where the connection has ended it is lost."""
-        try:
+        with suppress(ConnectionError, RuntimeError):
             await self._socket.send_str(text)
-        except (ConnectionError, RuntimeError):
-            pass
 
     async def close(self) -> None:
         await self._socket.close()

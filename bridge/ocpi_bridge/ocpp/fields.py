@@ -1,6 +1,6 @@
 """Checks the calls that a charge point of OCPP 1.6 makes by its tables of fields, which stand in `fields.json`.
 
-There a number is the most characters of a text, a list has objects of its form, and a word names another form. A field
+There a number is the most characters of a text, a word names another form, and one with `[]` is a list of it. A field
 with `?` at its end may be left out. Members that are in no table are read past.
 """
 import json
@@ -14,7 +14,7 @@ from .frames import CallError, is_text
 
 TABLES: Members = json.loads(Path(__file__).with_name("fields.json").read_text())
 ID_TOKEN = re.compile(r"[ -~]{0,20}")
-LEAST = {"from 0": 0, "from 1": 1, "integer": -10**18}
+LEAST: dict[str | int, int] = {"from 0": 0, "from 1": 1, "integer": -10**18}
 
 
 def check_payload(action: str, payload: Members) -> None:
@@ -27,31 +27,26 @@ def check_payload(action: str, payload: Members) -> None:
 def _check_members(fields: Members, members: Members, path: str) -> None:
     for field, form in fields.items():
         name = field.removesuffix("?")
-        value = members.get(name)
-        if value in (None, []):
-            if name == field:
-                raise CallError("OccurenceConstraintViolation", f"{path}.{name}: missing")
-        elif not isinstance(form, list):
-            _check(form, value, f"{path}.{name}")
-        elif isinstance(value, list):
-            for place, element in enumerate(value):
-                _check(form[0], element, f"{path}.{name}[{place}]")
-        else:
-            raise CallError("PropertyConstraintViolation", f"{path}.{name}: no list")
+        if members.get(name) not in (None, []):
+            _check(form, members[name], f"{path}.{name}")
+        elif name == field:
+            raise CallError("OccurenceConstraintViolation", f"{path}.{name}: missing")
 
 
 def _check(form: str | int, value: Any, path: str) -> None:
-    if form in TABLES["objects"] and isinstance(value, dict):
+    if isinstance(value, list) and isinstance(form, str) and form.endswith("[]"):
+        for place, element in enumerate(value):
+            _check(form.removesuffix("[]"), element, f"{path}[{place}]")
+    elif isinstance(value, dict) and form in TABLES["objects"]:
         _check_members(TABLES["objects"][form], value, path)
     elif not _fits(form, value):
         wanted = f"text of at most {form} characters" if isinstance(form, int) else form
         raise CallError("PropertyConstraintViolation", f"{path}: no {wanted}")
 
 
-def _fits(form: Any, value: Any) -> bool:
+def _fits(form: str | int, value: Any) -> bool:
     if not is_text(value):
-        is_whole = isinstance(value, int) and not isinstance(value, bool)
-        return form in LEAST and is_whole and bool(value >= LEAST[form])
+        return form in LEAST and type(value) is int and value >= LEAST[form]
     if form == "dateTime":
         try:
             return seconds_of(value) >= 0

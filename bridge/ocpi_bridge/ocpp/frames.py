@@ -22,19 +22,11 @@ class CallError(Exception):
 
 
 @dataclass(frozen=True)
-class Call:
-    """What the other side asks."""
+class Frame:
+    """A call, or where it has no action the answer to one. The payload of a CALLERROR has its code as the `status`."""
 
     message_id: str
-    action: str
-    payload: Members
-
-
-@dataclass(frozen=True)
-class Answer:
-    """What the other side answered. The payload of a CALLERROR has its code as the `status`."""
-
-    message_id: str
+    action: str | None
     payload: Members
 
 
@@ -43,7 +35,7 @@ def is_text(value: Any) -> bool:
     return isinstance(value, str) and not isinstance(value, Number)
 
 
-def read_frame(text: str) -> Call | Answer:
+def read_frame(text: str) -> Frame:
     """Reads a frame. Raises CallError FormationViolation."""
     try:
         frame = read_json(text)
@@ -53,9 +45,9 @@ def read_frame(text: str) -> Call | Answer:
         raise CallError("FormationViolation", "no list of a message type and a message id")
     message_type, message_id, *rest = frame
     if message_type == CALL and len(rest) == 2 and is_text(rest[0]) and isinstance(rest[1], dict):
-        return Call(message_id, rest[0], rest[1])
+        return Frame(message_id, rest[0], rest[1])
     if message_type == RESULT and len(rest) == 1 and isinstance(rest[0], dict):
-        return Answer(message_id, rest[0])
+        return Frame(message_id, None, rest[0])
     if message_type == ERROR and rest and is_text(rest[0]):
-        return Answer(message_id, {"status": rest[0]})
+        return Frame(message_id, None, {"status": rest[0]})
     raise CallError("FormationViolation", "neither a call nor an answer of OCPP 1.6", message_id)

@@ -18,7 +18,6 @@ from ..json_text import Members
 from .charge_points import OUT_OF_SERVICE, ChargePoint, ChargePoints, Place
 from .commands import Commands
 from .fields import check_payload
-from .frames import Call
 from .meter_values import kilowatt_hours, register_of
 from .sessions import Sessions, repeated
 from .transactions import CHARGING, NEW, REFUSED, STOPPED, Transaction, Transactions
@@ -42,16 +41,16 @@ class Reports:
             "StatusNotification": self._status, "Authorize": self._authorize, "StartTransaction": self._start,
             "MeterValues": self._meter, "StopTransaction": self._end}
 
-    async def answer(self, charge_point: ChargePoint, call: Call) -> Members:
+    async def answer(self, charge_point: ChargePoint, action: str, payload: Members) -> Members:
         """What a call is answered. Raises CallError, NodeEnded, and EventRefused where the charge point may repeat."""
-        check_payload(call.action, call.payload)
-        if call.action in self._handlers:
+        check_payload(action, payload)
+        if action in self._handlers:
             async with charge_point.lock:
-                return await repeated(lambda: self._handlers[call.action](charge_point, call.payload))
-        if call.action == "DataTransfer":
+                return await repeated(lambda: self._handlers[action](charge_point, payload))
+        if action == "DataTransfer":
             return {"status": "UnknownVendorId"}
         now: Members = {"currentTime": self._clock.moment()}
-        return now if call.action == "Heartbeat" else {"status": "Accepted", "interval": HEARTBEAT_EACH, **now}
+        return now if action == "Heartbeat" else {"status": "Accepted", "interval": HEARTBEAT_EACH, **now}
 
     async def _status(self, charge_point: ChargePoint, payload: Members) -> Members:
         """A status of one connector, or at connector 0 of each: one in service then only ends one that is not."""
