@@ -35,7 +35,10 @@ class Charge:
 
 
 def drawn(chance: Random) -> list[Charge]:
-    """The charges, in the order in which they are asked for at each place."""
+    """The charges, in the order in which they are asked for at each place.
+
+    The one that is unlocked is the last at its place: an order to unlock that comes late ends whatever charges there.
+    """
     begins = ["reserved"] * RESERVED + ["swiped"] * len(SWIPED)
     begins += ["ordered"] * (CHARGES - len(begins))
     ends = ["Local"] * (RESERVED + len(SWIPED)) + ["Remote"] * STOPPED_BY_THE_PROVIDER + ["UnlockCommand"]
@@ -45,5 +48,6 @@ def drawn(chance: Random) -> list[Charge]:
     credited = chance.randrange(CHARGES)
     kinds = list(zip(begins, whitelists, ends))
     order = chance.sample(range(CHARGES), CHARGES)
-    return [Charge(number, PLACES[number % len(PLACES)], chance.choice(PROVIDERS), *kinds[kind], kind == credited)
-            for number, kind in enumerate(order)]
+    charges = [Charge(number, PLACES[number % len(PLACES)], chance.choice(PROVIDERS), *kinds[kind], kind == credited)
+               for number, kind in enumerate(order)]
+    return sorted(charges, key=lambda charge: charge.ends == "UnlockCommand")
