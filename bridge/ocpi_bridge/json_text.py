@@ -1,15 +1,15 @@
 """JSON whose numbers keep their text: no number becomes a float, and none is written with an exponent."""
 import json
-from decimal import ROUND_DOWN, Decimal
+from decimal import ROUND_DOWN, Context, Overflow
 from typing import Any
 
 Members = dict[str, Any]
 
-# The most digits before the point, and behind it, that a number with an exponent is written out to. (A node takes 15
-# and cuts behind the fourth decimal.)
-MOST_DIGITS = 18
-MOST_DECIMALS = 30
 MOST_DEPTH = 126
+# The most digits before the point that a number may have. (A node takes 15.)
+MOST_DIGITS = 18
+# Numbers with an exponent are written out to 30 decimals and 31 digits. (A node cuts behind the fourth decimal.)
+WRITTEN_OUT = Context(prec=31, Emin=0, Emax=MOST_DIGITS - 1, rounding=ROUND_DOWN, traps=[Overflow])
 
 
 class NotJson(ValueError):
@@ -31,21 +31,13 @@ def _read_integer(text: str) -> int | Number:
 
 
 def _read_number(text: str) -> Number:
-    """A number with a point or an exponent. An exponent is written out, and decimals far behind the point are cut."""
-    if "e" not in text and "E" not in text:
+    """A number with a point or an exponent. An exponent is written out."""
+    if "e" not in text.lower():
         return Number(text)
-    mantissa, _, exponent = text.lower().partition("e")
-    value = Decimal(mantissa)
-    if not value:
-        return Number("0")
-    if len(exponent) > 6 or value.adjusted() + int(exponent) >= MOST_DIGITS:
-        if exponent.startswith("-"):
-            return Number("0")
-        raise NumberTooLarge(text[:40])
-    value = Decimal(f"{mantissa}e{exponent}")
-    if value.as_tuple().exponent < -MOST_DECIMALS:  # type: ignore[operator]
-        value = value.quantize(Decimal(1).scaleb(-MOST_DECIMALS), rounding=ROUND_DOWN)
-    return Number(f"{value:f}")
+    try:
+        return Number(f"{WRITTEN_OUT.create_decimal(text):f}")
+    except Overflow:
+        raise NumberTooLarge(text[:40]) from None
 
 
 def _refuse_word(word: str) -> None:
@@ -62,24 +54,15 @@ def read_json(text: str | bytes) -> Any:
         raise NotJson(str(fault)) from None
 
 
-def write_json(value: Any) -> str:
+def write_json(value: Any, depth: int = 0) -> str:
     """Writes a value on one line, without spaces, members in the order in which they stand."""
-    return "".join(_pieces(value, 0))
-
-
-def _pieces(value: Any, depth: int) -> list[str]:
     if depth > MOST_DEPTH:
         raise NotJson("nested too deep")
     if isinstance(value, Number):
-        return [str(value)]
+        return str(value)
     if isinstance(value, dict):
-        pieces = ["{"]
-        for name, member in value.items():
-            pieces += ["," if len(pieces) > 1 else "", json.dumps(name), ":", *_pieces(member, depth + 1)]
-        return [*pieces, "}"]
+        members = [f"{json.dumps(name)}:{write_json(member, depth + 1)}" for name, member in value.items()]
+        return f"{{{','.join(members)}}}"
     if isinstance(value, (list, tuple)):
-        pieces = ["["]
-        for element in value:
-            pieces += ["," if len(pieces) > 1 else "", *_pieces(element, depth + 1)]
-        return [*pieces, "]"]
-    return [json.dumps(value)]
+        return f"[{','.join([write_json(element, depth + 1) for element in value])}]"
+    return json.dumps(value)

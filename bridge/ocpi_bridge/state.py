@@ -13,7 +13,6 @@ class State:
     def __init__(self, path: Path) -> None:
         os.close(os.open(path, os.O_CREAT | os.O_RDWR, 0o600))
         self._connection = sqlite3.connect(path, isolation_level=None, timeout=10)
-        self._depth = 0
         self.query("PRAGMA journal_mode=WAL")
         self.query("PRAGMA synchronous=FULL")
         self._connection.executescript(Path(__file__).with_name("schema.sql").read_text())
@@ -21,19 +20,12 @@ class State:
     @contextmanager
     def transaction(self) -> Iterator[None]:
         """All that is changed inside is committed together, or not at all. One inside another belongs to it."""
-        if self._depth == 0:
-            self.query("BEGIN IMMEDIATE")
-        self._depth += 1
-        try:
+        if self._connection.in_transaction:
             yield
-        except BaseException:
-            self._depth -= 1
-            if self._depth == 0:
-                self.query("ROLLBACK")
-            raise
-        self._depth -= 1
-        if self._depth == 0:
-            self.query("COMMIT")
+            return
+        self.query("BEGIN IMMEDIATE")
+        with self._connection:
+            yield
 
     def query(self, statement: str, *values: object) -> list[Any]:
         """Carries out a statement, and gives its rows."""
@@ -45,7 +37,9 @@ class State:
         return rows[0][0] if rows else None
 
     def set_value(self, name: str, value: str) -> None:
-        self.query("INSERT OR REPLACE INTO value_of VALUES (?, ?)", name, value)
+        """Keeps a value under a name. Nothing is written where it stands there already."""
+        self.query("INSERT INTO value_of VALUES (?, ?) ON CONFLICT DO UPDATE SET value = excluded.value"
+                   " WHERE value <> excluded.value", name, value)
 
     def close(self) -> None:
         self._connection.close()
