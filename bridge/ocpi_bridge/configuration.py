@@ -1,19 +1,30 @@
-"""The configuration of a bridge: a JSON file, whose every fault is refused by its path before anything starts."""
+"""The configuration of a bridge: a JSON file, whose every fault is refused by its path before anything starts.
+
+Its form is in configuration.json. Here is what its words mean, and what its parts and the setup must have in common.
+"""
 import os
-from collections.abc import Iterable
+import re
+from collections.abc import Callable, Iterable
 from dataclasses import dataclass
+from functools import partial
 from pathlib import Path
 from typing import Any
 
 from .json_text import Members, Number, write_json
 from .members import WrongConfiguration as WrongConfiguration
-from .members import each_of, file_in, list_of, matching, object_of, read_file, refuse, text_of
+from .members import read_by, read_file, refuse
 
+FORM = Path(__file__).with_name("configuration.json")
 PORT = ":([0-9]{1,4}|[1-5][0-9]{4}|6[0-4][0-9]{3}|65[0-4][0-9]{2}|655[0-2][0-9]|6553[0-5])"
-LISTEN = matching(".+" + PORT, "no HOST:PORT")
-LOOPBACK = matching(rf"(localhost|127(\.[0-9]{{1,3}}){{3}}|\[::1\]){PORT}", "no HOST:PORT of loopback")
-URL = matching("https?://[^/?# ]+[^?# ]*", "no address with http or https")
-KIND = matching("node|ocpi", "neither node nor ocpi")
+# The texts that match a pattern as a whole, and what is wrong with any other.
+PATTERNS = {
+    "listen": (".+" + PORT, "no HOST:PORT"),
+    "loopback": (rf"(localhost|127(\.[0-9]{{1,3}}){{3}}|\[::1\]){PORT}", "no HOST:PORT of loopback"),
+    "url": ("https?://[^/?# ]+[^?# ]*", "no address with http or https"),
+    "kind": ("node|ocpi", "neither node nor ocpi"),
+    # Printable ASCII that neither begins nor ends with a space.
+    **{name: (f"(?=.{{1,{most}}}$)[!-~]([ -~]*[!-~])?", f"no text of 1 to {most} printable characters")
+       for name, most in (("text", 255), ("token", 64), ("business", 100), ("path", 4096))}}
 
 
 @dataclass(frozen=True)
@@ -106,7 +117,9 @@ class Configuration:
 
 def read_configuration(path: Path) -> Configuration:
     """Reads the file, and the setup that it names. Raises WrongConfiguration with the path of what is wrong."""
-    file = _read_form(read_file(path, str(path)), path.absolute().parent)
+    words: dict[str, Callable[[Any, str], Any]] = {name: partial(_text, name) for name in PATTERNS}
+    words |= {"file": partial(_file, path.absolute().parent), "factor": _factor}
+    file = read_by(read_file(FORM, FORM.name), words, read_file(path, str(path)))
     node, ocpi = file["node"], file["ocpi"]
     setup = read_file(node["setup"], "node.setup")
     sites = _sites(setup)
@@ -126,22 +139,18 @@ def read_configuration(path: Path) -> Configuration:
         clock_factor=file["clock_factor"] or 1.0, site=site, setup=setup)
 
 
-def _read_form(value: Any, folder: Path) -> Members:
-    """The members of the file, each of its form. Paths are relative to the folder."""
-    text, token, file = text_of(255), text_of(64), file_in(folder)
-    connectors = each_of(object_of({"evse_uid": text, "connector_id": text}))
-    charge_points = list_of(object_of({"id": text, "connectors": connectors}, {"password": text}))
-    partners = list_of(object_of({"party": text, "kind": KIND, "token": token},
-                                 {"their_token": token, "versions_url": URL}))
-    members: Members = object_of(
-        {"node": object_of({"program": file, "party": text, "setup": file, "store": file}, {"transcript": file}),
-         "state": file, "ocpi": object_of({"listen": LISTEN, "url": URL, "business": text_of(100)}),
-         "admin": object_of({"listen": LOOPBACK}), "partners": partners},
-        {"ocpp": object_of({"listen": LISTEN, "charge_points": charge_points}), "clock_factor": _positive})(value, "")
-    return members
+def _text(name: str, value: Any, path: str) -> str:
+    pattern, fault = PATTERNS[name]
+    return value if isinstance(value, str) and re.fullmatch(pattern, value) else refuse(path, fault)
 
 
-def _positive(value: Any, path: str) -> float:
+def _file(folder: Path, value: Any, path: str) -> Path:
+    """A file, relative to a folder. The folder in which it stands must be there."""
+    file = Path(folder, _text("path", value, path))
+    return file if file.parent.is_dir() else refuse(path, f"no folder {file.parent}")
+
+
+def _factor(value: Any, path: str) -> float:
     number = float(value) if isinstance(value, (int, Number)) and not isinstance(value, bool) else 0.0
     return number if 0 < number < float("inf") else refuse(path, "no number above 0")
 

@@ -1,12 +1,13 @@
-"""Forms of what a configuration's JSON holds. Each reads a value, or refuses it by its path."""
-import re
+"""Reads JSON by a form, and refuses what does not fit by its path.
+
+A form is JSON as well: an object of the members that are wanted (those whose names end in `?` may be left out), an
+object with the name `*` for members of any names, a list for elements of one form, and a word for any other value.
+"""
 from collections.abc import Callable, Mapping
 from pathlib import Path
 from typing import Any, NoReturn
 
 from .json_text import NotJson, NumberTooLarge, read_json
-
-Form = Callable[[Any, str], Any]
 
 
 class WrongConfiguration(Exception):
@@ -27,51 +28,22 @@ def read_file(path: Path, name: str) -> Any:
         refuse(name, "no JSON")
 
 
-def object_of(required: Mapping[str, Form], optional: Mapping[str, Form] | None = None) -> Form:
-    """An object with members of these forms, and no others. An optional one that is not there is None."""
-    forms = {**required, **(optional or {})}
-
-    def read(value: Any, path: str) -> Any:
-        start = f"{path}." if path else ""
-        for name in (*each_of(lambda member, _: member)(value, path), *required):
-            if name not in forms or name not in value:
-                refuse(start + name, "missing" if name in forms else "unknown")
-        return {name: form(value[name], start + name) if name in value else None for name, form in forms.items()}
-    return read
-
-
-def each_of(form: Form) -> Form:
-    """An object whose members, of any names, have this form."""
-    def read(value: Any, path: str) -> Any:
-        if not isinstance(value, dict):
-            refuse(path or "configuration", "no object")
-        return {name: form(member, f"{path}.{name}") for name, member in value.items()}
-    return read
-
-
-def list_of(form: Form) -> Form:
-    def read(value: Any, path: str) -> Any:
+def read_by(form: Any, words: Mapping[str, Callable[[Any, str], Any]], value: Any, path: str = "") -> Any:
+    """The value, where each part for which the form has a word is as `words` read it. A member left out is None."""
+    if isinstance(form, str):
+        return words[form](value, path)
+    if isinstance(form, list):
         if not isinstance(value, list):
             refuse(path, "no list")
-        return [form(element, f"{path}[{place}]") for place, element in enumerate(value)]
-    return read
-
-
-def matching(pattern: str, fault: str) -> Form:
-    """A text that a pattern matches as a whole."""
-    def read(value: Any, path: str) -> Any:
-        return value if isinstance(value, str) and re.fullmatch(pattern, value) else refuse(path, fault)
-    return read
-
-
-def text_of(most: int) -> Form:
-    """A text of printable ASCII that neither begins nor ends with a space."""
-    return matching(f"(?=.{{1,{most}}}$)[!-~]([ -~]*[!-~])?", f"no text of 1 to {most} printable characters")
-
-
-def file_in(folder: Path) -> Form:
-    """A file, relative to a folder. The folder in which it stands must be there."""
-    def read(value: Any, path: str) -> Any:
-        file = Path(folder, text_of(4096)(value, path))
-        return file if file.parent.is_dir() else refuse(path, f"no folder {file.parent}")
-    return read
+        return [read_by(form[0], words, element, f"{path}[{place}]") for place, element in enumerate(value)]
+    if not isinstance(value, dict):
+        refuse(path or "configuration", "no object")
+    start = f"{path}." if path else ""
+    if "*" in form:
+        return {name: read_by(form["*"], words, member, start + name) for name, member in value.items()}
+    forms = {name.rstrip("?"): member for name, member in form.items()}
+    for name in (*value, *(name for name in form if not name.endswith("?"))):
+        if name not in forms or name not in value:
+            refuse(start + name, "missing" if name in forms else "unknown")
+    return {name: read_by(member, words, value[name], start + name) if name in value else None
+            for name, member in forms.items()}
