@@ -123,7 +123,7 @@ def show(came: Came) -> None:
 
 def lock() -> int:
     """Waits until no other run of the tests is under way on this machine. The lock ends with this process."""
-    opened = os.open(Path(tempfile.gettempdir()) / f"ocpi_bridge_tests_{os.getuid()}.lock", os.O_CREAT | os.O_RDWR, 0o600)
+    opened = os.open(f"/tmp/ocpi_bridge_tests_{os.getuid()}.lock", os.O_CREAT | os.O_RDWR, 0o600)
     fcntl.flock(opened, fcntl.LOCK_EX)
     return opened
 

@@ -27,9 +27,9 @@ class ManyAtOnce(OperatorCase):
         await self.bridge.start()
         self.assertEqual(set(uids), await held_tokens(self.provider, uids))
 
-    async def test_500_starts_of_one_evse_start_once(self) -> None:
+    async def test_100_starts_of_one_evse_start_once(self) -> None:
         charge_point = await self.begin_charge_point()
-        starts = [start_session(self.token, self.response_url("start")) for _ in range(500)]
+        starts = [start_session(self.token, self.response_url("start")) for _ in range(100)]
         await self.provider.endpoint("commands", "RECEIVER")
         replies = await gathered([self.provider.command("START_SESSION", start) for start in starts], 120)
         self.assertEqual({1000}, {reply.status_code for reply in replies})
