@@ -109,7 +109,7 @@ class Interfaces:
             count, listed = self._objects.page(module, "" if module == "tokens" else request["partner"].party, part)
         headers, following = {"X-Total-Count": str(count), "X-Limit": str(part.limit)}, part.offset + part.limit
         if following < count:
-            path = request.rel_url.update_query(offset=following, limit=part.limit)
+            path = request.rel_url.update_query(offset=following, limit=part.limit).raw_path_qs
             headers["Link"] = f'<{self._url}{path}>; rel="next"'
         return answer(self._clock.moment(), listed, headers=headers)
 
@@ -198,23 +198,13 @@ def _compare(request: web.Request, body: Members) -> None:
 
 
 def _part_of(query: Mapping[str, str]) -> Part:
-    """The part that a query asks for. Raises Refusal (2001)."""
-    limit = _whole(query, "limit", MOST_LISTED)
-    if limit == 0:
-        raise Refusal(200, INVALID, "limit: wanted is 1 or more")
-    return Part(_moment(query, "date_from", -FOREVER), _moment(query, "date_to", FOREVER), _whole(query, "offset", 0),
-                min(limit, MOST_LISTED))
-
-
-def _moment(query: Mapping[str, str], name: str, otherwise: int) -> int:
+    """The part of a list that a query asks for. Raises Refusal."""
     try:
-        return milliseconds_of(query[name]) if name in query else otherwise
+        dates = [milliseconds_of(query[name]) if name in query else otherwise
+                 for name, otherwise in (("date_from", -FOREVER), ("date_to", FOREVER))]
     except (ValueError, OverflowError):
-        raise Refusal(200, INVALID, f"{name}: wanted is a moment, as 2025-01-01T10:00:00Z") from None
-
-
-def _whole(query: Mapping[str, str], name: str, otherwise: int) -> int:
-    number = number_of(query.get(name, str(otherwise)))
-    if number is None:
-        raise Refusal(200, INVALID, f"{name}: wanted is a whole number of at most 18 digits")
-    return number
+        raise Refusal(200, INVALID, "date_from, date_to: wanted are moments, as 2025-01-01T10:00:00Z") from None
+    offset, limit = number_of(query.get("offset", "0")), number_of(query.get("limit", str(MOST_LISTED)))
+    if offset is None or not limit:
+        raise Refusal(200, INVALID, "offset, limit: wanted are whole numbers of at most 18 digits, and a limit above 0")
+    return Part(dates[0], dates[1], offset, min(limit, MOST_LISTED))
