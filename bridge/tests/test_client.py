@@ -223,9 +223,17 @@ class Queues(ClientCase):
     async def test_a_question_goes_first(self) -> None:
         """Its driver waits, and a node awaits its answer for ten seconds alone."""
         queue = Queue()
-        for request, kind in enumerate(("put_session", "post_cdr", "authorize"), 1):
+        for request, kind in enumerate(("put_token", "post_cdr", "authorize"), 1):
             queue.put_nowait(self.packet(kind, request, {}))
         self.assertEqual([3, 1, 2], [(await queue.get()).request for _ in range(3)])
+
+    async def test_a_newer_version_of_a_session_takes_the_place_of_the_older(self) -> None:
+        """A node pushes the newest version alone, under a number of its own."""
+        queue = Queue()
+        for request, session in ((1, "S1"), (2, "S2"), (3, "S1")):
+            queue.put_nowait(self.packet("put_session", request, {"id": session}))
+        self.assertEqual([3, 2], [(await queue.get()).request for _ in range(2)])
+        self.assertTrue(queue.empty())
 
     async def test_one_that_fails_again_and_again_is_asked_less_often(self) -> None:
         moments: list[float] = []

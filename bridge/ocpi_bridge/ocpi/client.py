@@ -34,14 +34,14 @@ class Queue(asyncio.Queue[Packet]):
     """The requests that wait for one partner, by their numbers. Where too many wait the oldest is lost.
 
     They go out in order, but that a question about a token goes first: its driver waits, and its answer is awaited for
-    ten seconds alone.
+    ten seconds alone. A newer version of a session takes the place of one that waits.
     """
 
     def _init(self, maxsize: int) -> None:
-        self._queue: dict[int, Packet] = {}
+        self._queue: dict[int | str, Packet] = {}
 
     def _put(self, item: Packet) -> None:
-        self._queue[item.request] = item
+        self._queue[item.body["id"] if item.kind == "put_session" else item.request] = item
         if len(self._queue) > MOST_WAITING:
             del self._queue[next(iter(self._queue))]
 
