@@ -47,8 +47,6 @@ CREATE TABLE IF NOT EXISTS ocpp_transaction (
     number INTEGER PRIMARY KEY AUTOINCREMENT, charge_point TEXT NOT NULL, connector INTEGER NOT NULL,
     started INTEGER NOT NULL, id_tag TEXT NOT NULL, meter_start INTEGER NOT NULL, session_id TEXT UNIQUE,
     state TEXT NOT NULL, UNIQUE (charge_point, connector, started));
-CREATE INDEX IF NOT EXISTS ocpp_transaction_charging ON ocpp_transaction (charge_point, connector)
-    WHERE state = 'charging';
 
 -- admin/outstanding.py
 CREATE TABLE IF NOT EXISTS push_that_waits (

@@ -93,6 +93,10 @@ class Objects:
         found = self._bodies(f"evse_uid = ? AND {LIVING} ORDER BY last_updated DESC LIMIT 1", evse_uid.upper())
         return found[0] if found else None
 
+    def pending_sessions(self) -> list[Members]:
+        """The sessions at EVSEs of the node in which nobody charges so far."""
+        return self._bodies(f"{LIVING} AND status = 'PENDING'")
+
     def _bodies(self, where: str, *values: object) -> list[Members]:
         return [read_json(body) for body, in self._state.query(f"SELECT body FROM object_of WHERE {where}", *values)]
 

@@ -3,7 +3,7 @@ import asyncio
 import base64
 import hmac
 import logging
-from collections.abc import Coroutine
+from collections.abc import Callable, Coroutine
 from functools import partial
 from typing import Any
 
@@ -21,7 +21,7 @@ from .commands import Commands
 from .connection import Connection
 from .orders import Orders
 from .reports import Reports
-from .sessions import Sessions, repeated
+from .sessions import Sessions
 from .transactions import Transactions
 
 LOG = logging.getLogger("ocpp")
@@ -40,8 +40,7 @@ class CentralSystem:
     """Serves the charge points of an operator's node."""
 
     def __init__(self, settings: OcppSettings, events: Events, state: State, feeder: Feeder, objects: Objects) -> None:
-        self._events = events
-        self._clock = events.clock
+        self._clock, self._objects = events.clock, objects
         self._charge_points = ChargePoints(settings, state)
         self._transactions = Transactions(state)
         self._commands = Commands(state, events.clock)
@@ -49,8 +48,7 @@ class CentralSystem:
         self._orders = Orders(self._charge_points, self._transactions, self._commands, self._sessions, self._spawn)
         self._reports = Reports(events.clock, self._charge_points, self._transactions, self._commands, self._sessions,
                                 self._orders.stop)
-        self._pending: dict[str, Members] = {}
-        self._tasks: set[asyncio.Task[None]] = set()
+        self._tasks: dict[object, asyncio.Task[None]] = {}
 
     def application(self) -> web.Application:
         """The web application at `/ocpp/{id}`. Its shutdown closes all connections."""
@@ -59,16 +57,17 @@ class CentralSystem:
         application.on_shutdown.append(self._close)
         return application
 
-    def _spawn(self, work: Coroutine[Any, Any, None]) -> None:
-        """Has something done in a task of its own."""
-        task = asyncio.create_task(_guarded(work))
-        self._tasks.add(task)
-        task.add_done_callback(self._tasks.discard)
+    def _spawn(self, work: Callable[..., Coroutine[Any, Any, None]], *arguments: object) -> None:
+        """Has something done in a task of its own, unless that is under way already."""
+        key = (work, *arguments)
+        if key not in self._tasks:
+            self._tasks[key] = asyncio.create_task(_guarded(work(*arguments)))
+            self._tasks[key].add_done_callback(lambda _: self._tasks.pop(key))
 
     async def _close(self, application: web.Application) -> None:
         points = self._charge_points.by_id.values()
         await asyncio.gather(*(point.connection.close() for point in points if point.connection is not None))
-        for task in self._tasks:
+        for task in self._tasks.values():
             task.cancel()
 
     async def _connect(self, request: web.Request) -> web.WebSocketResponse:
@@ -89,12 +88,12 @@ class CentralSystem:
         """Serves a connection until it ends. It takes the place of one that the charge point has."""
         connection = Connection(socket, self._clock, partial(self._reports.answer, charge_point))
         if charge_point.connection is not None:
-            self._spawn(charge_point.connection.close())
+            self._spawn(charge_point.connection.close)
         charge_point.connection, charge_point.connected_since = connection, self._clock.seconds()
         charge_point.reported = set()
         LOG.info("%s: connected", charge_point.settings.id)
-        self._spawn(connection.work())
-        self._spawn(self._ask_for_statuses(charge_point, connection))
+        self._spawn(connection.work)
+        self._spawn(self._ask_for_statuses, charge_point, connection)
         self._orders.begin()
         try:
             await connection.read()
@@ -122,11 +121,6 @@ class CentralSystem:
     def act(self, outcome: Outcome) -> None:
         """Begins what an outcome asks of charge points. Called behind that transaction."""
         self._sessions.act(outcome)
-        for packet in outcome.sent("put_session"):
-            if packet.body["status"] == "PENDING":
-                self._pending[packet.body["id"]] = packet.body
-            else:
-                self._pending.pop(packet.body["id"], None)
         if outcome.event["event"] == "tick":
             self._end_unused()
         if outcome.sent("command_response"):
@@ -135,26 +129,19 @@ class CentralSystem:
     def opened(self) -> None:
         """Takes up again what waited for the node. Called each time that the node has opened its store."""
         self._sessions.opened()
-        for place in self._charge_points.places.values():
-            session = self._sessions.living(place.settings.evse_uid)
-            if session is not None and session["status"] == "PENDING":
-                self._pending[session["id"]] = session
         self._orders.begin()
 
     def _end_unused(self) -> None:
         """Ends each PENDING session for which nobody plugged in."""
-        for session in list(self._pending.values()):
+        for session in self._objects.pending_sessions():
             place = self._charge_points.place(session["evse_uid"])
-            if place is None or place.charge_point.connection is None:
-                continue
-            until = seconds_of(session["last_updated"]) + PLUGGED_IN_WITHIN
-            if self._clock.seconds() > max(until, place.charge_point.connected_since + TOLD_WITHIN):
-                del self._pending[session["id"]]
-                self._spawn(self._end_session(place.charge_point, session["id"]))
+            if place is not None and place.charge_point.connection is not None:
+                until = seconds_of(session["last_updated"]) + PLUGGED_IN_WITHIN
+                if self._clock.seconds() > max(until, place.charge_point.connected_since + TOLD_WITHIN):
+                    self._spawn(self._end_session, place.charge_point, session["id"])
 
     async def _end_session(self, charge_point: ChargePoint, session_id: str) -> None:
-        async with charge_point.lock:
-            await repeated(lambda: self._sessions.withdraw(session_id))
+        await charge_point.alone(lambda: self._sessions.withdraw(session_id))
 
     def charge_points(self) -> list[Members]:
         """Each charge point: its `id`, whether it is `connected`, and its `connectors` with their `status`."""
@@ -179,10 +166,10 @@ class CentralSystem:
         Gives OCPP's status, or `Unreachable` where the charge point is away or does not answer.
         """
         place = self._charge_points.place(evse_uid)
-        if place is None or place.charge_point.connection is None:
+        if place is None:
             return "Unreachable"
         payload = {"connectorId": place.connector, "type": "Operative" if in_service else "Inoperative"}
-        async with place.charge_point.connection.asking("ChangeAvailability", payload) as answer:
+        async with place.charge_point.asking("ChangeAvailability", payload) as answer:
             return "Unreachable" if answer is None else str(answer.get("status"))
 
     def connected_count(self) -> int:

@@ -1,21 +1,35 @@
 """The charge points of a bridge: their connections, and what is kept of their connectors."""
 import asyncio
 import hashlib
-from collections.abc import Callable, Coroutine
+from collections.abc import Awaitable, Callable
+from contextlib import AbstractAsyncContextManager, nullcontext
 from dataclasses import dataclass, field
-from typing import Any
+from typing import TypeVar
 
 from ..configuration import ChargePointSettings, ConnectorSettings, OcppSettings
+from ..json_text import Members
+from ..node.feeder import OutcomeLost
 from ..state import State
 from .connection import Connection
 
 OUT_OF_SERVICE = {"Unavailable", "Faulted"}
 LONGEST_ID_TAG = 20
-# Has something done in a task of its own.
-Spawn = Callable[[Coroutine[Any, Any, None]], None]
+Result = TypeVar("Result")
 
 
-@dataclass
+async def repeated(action: Callable[[], Awaitable[Result]]) -> Result:
+    """Carries an action out, and again from its beginning where a stop of the node lost what an event of it gave.
+
+    The node then had a tick, which sent again each session that was lost. So what was done already is known by then.
+    """
+    while True:
+        try:
+            return await action()
+        except OutcomeLost:
+            continue
+
+
+@dataclass(eq=False)
 class ChargePoint:
     """A charge point. Whoever feeds the node what it reports, or looks at what stands at its EVSEs, has its lock."""
 
@@ -25,6 +39,15 @@ class ChargePoint:
     connected_since: float = 0.0
     reported: set[int] = field(default_factory=set)
     lock: asyncio.Lock = field(default_factory=asyncio.Lock)
+
+    async def alone(self, action: Callable[[], Awaitable[Result]]) -> Result:
+        """Carries an action out under its lock, and is `repeated`."""
+        async with self.lock:
+            return await repeated(action)
+
+    def asking(self, action: str, payload: Members) -> AbstractAsyncContextManager[Members | None]:
+        """Asks it, as `Connection.asking` does. Inside stands None where it has no connection, too."""
+        return nullcontext() if self.connection is None else self.connection.asking(action, payload)
 
 
 @dataclass(frozen=True)

@@ -5,85 +5,77 @@ when it has one again, if the command is still open then. Where it does not answ
 command at its time. Where a transaction starts nevertheless, as behind an answer that a stop of the bridge lost, that
 is the command's: it is let charge if the node still takes that the charge point accepted, and stopped if not.
 """
-from ..json_text import Members
-from .charge_points import ChargePoint, ChargePoints, Place, Spawn
+from collections.abc import Callable
+from functools import partial
+
+from .charge_points import ChargePoint, ChargePoints, Place, repeated
 from .commands import ASKED, REFUSED, Command, Commands
-from .sessions import Sessions, repeated
+from .sessions import Sessions
 from .transactions import Transaction, Transactions
 
 
 class Orders:
-    """Carries out commands, each in a task of its own."""
+    """Carries out commands. `spawn` has each done in a task of its own, that is not under way already."""
 
     def __init__(self, charge_points: ChargePoints, transactions: Transactions, commands: Commands, sessions: Sessions,
-                 spawn: Spawn) -> None:
-        self._charge_points = charge_points
-        self._transactions = transactions
-        self._commands = commands
-        self._sessions = sessions
-        self._spawn = spawn
-        self._under_way: set[tuple[str, int]] = set()
-        self._stopping: set[int] = set()
+                 spawn: Callable[..., None]) -> None:
+        self._charge_points, self._transactions = charge_points, transactions
+        self._commands, self._sessions, self._spawn = commands, sessions, spawn
 
     def begin(self) -> None:
         """Begins with each open command that no charge point was asked for yet."""
         for command in self._commands.unasked():
-            if (command.provider, command.number) not in self._under_way:
-                self._under_way.add((command.provider, command.number))
-                self._spawn(self._carry_out(command))
+            self._spawn(self._carry_out, command.provider, command.number)
 
-    async def _carry_out(self, command: Command) -> None:
-        try:
-            place = self._charge_points.place(command.evse_uid)
-            if command.kind == "stop_session":
-                await self._stop_session(command)
-            elif command.evse_uid is None:
-                await self._start_anywhere(command)
-            elif place is not None and command.kind == "unlock_connector":
-                if place.settings.connector_id.upper() == str(command.connector_id).upper():
-                    await self._ask(command, place.charge_point, "UnlockConnector", {"connectorId": place.connector})
-            elif place is not None and self._sessions.living(place.settings.evse_uid) is None:
-                await self._ask_to_start(command, place)
-        finally:
-            self._under_way.discard((command.provider, command.number))
+    async def _carry_out(self, provider: str, number: int) -> None:
+        command = self._commands.find(provider, number)
+        place = self._charge_points.place(command.evse_uid)
+        if command.kind == "stop_session":
+            await self._stop_session(command)
+        elif command.evse_uid is None:
+            await self._start_anywhere(command)
+        elif place is not None and command.kind == "unlock_connector":
+            if place.settings.connector_id.upper() == str(command.connector_id).upper():
+                await self._ask(command, place.charge_point, "UnlockConnector", connectorId=place.connector)
+        elif place is not None and self._sessions.at(place) is None:
+            await self._ask_to_start(command, place)
 
     async def _ask_to_start(self, command: Command, place: Place) -> None:
-        id_tag = self._charge_points.id_tag_of(str(command.token_uid))
-        await self._ask(command, place.charge_point, "RemoteStartTransaction",
-                        {"connectorId": place.connector, "idTag": id_tag})
+        await self._ask(command, place.charge_point, "RemoteStartTransaction", connectorId=place.connector,
+                        idTag=self._charge_points.id_tag_of(str(command.token_uid)))
 
     async def _start_anywhere(self, command: Command) -> None:
         """A start that names no EVSE: which one the node took is told by the session that it begins."""
         begun = await repeated(lambda: self._sessions.accept(self._commands.find(command.provider, command.number)))
         place = self._charge_points.place(begun.evse_uid)
         if place is not None and place.charge_point.connection is None:
-            async with place.charge_point.lock:
-                await repeated(lambda: self._sessions.withdraw(begun.session_id))
+            await place.charge_point.alone(partial(self._sessions.withdraw, begun.session_id))
         elif place is not None:
             await self._ask_to_start(begun, place)
 
     async def _stop_session(self, command: Command) -> None:
-        """A session without a transaction is ended by the bridge: no charge point has anything to stop."""
-        session = self._sessions.find(str(command.session_id))
-        place = self._charge_points.place(session["evse_uid"]) if session is not None else None
-        if session is None or place is None or place.charge_point.connection is None:
-            return
-        async with place.charge_point.lock:
-            transaction = self._transactions.of_session(session["id"])
-            if transaction is None:
-                self._commands.set_state(command, ASKED)
-                await repeated(lambda: self._sessions.accept(command))
-                await repeated(lambda: self._sessions.withdraw(command.session_id))
-                return
-        await self._ask(command, place.charge_point, "RemoteStopTransaction", {"transactionId": transaction.number})
+        session = self._sessions.find(command.session_id)
+        place = self._charge_points.place(session["evse_uid"] if session is not None else None)
+        if place is not None and place.charge_point.connection is not None:
+            transaction = await place.charge_point.alone(partial(self._transaction_to_stop, command))
+            if transaction is not None:
+                await self._ask(command, place.charge_point, "RemoteStopTransaction", transactionId=transaction.number)
 
-    async def _ask(self, command: Command, charge_point: ChargePoint, action: str, payload: Members) -> None:
+    async def _transaction_to_stop(self, command: Command) -> Transaction | None:
+        """That of a session. One without a transaction is ended by the bridge: no charge point has anything to stop."""
+        transaction = self._transactions.of_session(command.session_id)
+        if transaction is None:
+            self._commands.set_state(command, ASKED)
+            await self._sessions.accept(command)
+            await self._sessions.withdraw(command.session_id)
+        return transaction
+
+    async def _ask(self, command: Command, charge_point: ChargePoint, action: str, **payload: object) -> None:
         if charge_point.connection is not None:
             self._commands.set_state(command, ASKED)
-            async with charge_point.connection.asking(action, payload) as answer, charge_point.lock:
+            async with charge_point.asking(action, payload) as answer:
                 if answer is not None:
-                    status = answer.get("status")
-                    await repeated(lambda: self._tell(command, status))
+                    await charge_point.alone(partial(self._tell, command, answer.get("status")))
 
     async def _tell(self, command: Command, status: object) -> None:
         """Feeds what a charge point answered. (A start that names no EVSE was accepted before.)"""
@@ -100,13 +92,8 @@ class Orders:
 
     def stop(self, transaction: Transaction) -> None:
         """Has a transaction stopped that goes on without a session."""
-        if transaction.number not in self._stopping:
-            self._stopping.add(transaction.number)
-            self._spawn(self._stop_transaction(transaction))
+        self._spawn(self._stop_transaction, transaction.charge_point, transaction.number)
 
-    async def _stop_transaction(self, transaction: Transaction) -> None:
-        connection = self._charge_points.by_id[transaction.charge_point].connection
-        if connection is not None:
-            async with connection.asking("RemoteStopTransaction", {"transactionId": transaction.number}):
-                pass
-        self._stopping.discard(transaction.number)
+    async def _stop_transaction(self, charge_point: str, number: int) -> None:
+        async with self._charge_points.by_id[charge_point].asking("RemoteStopTransaction", {"transactionId": number}):
+            pass

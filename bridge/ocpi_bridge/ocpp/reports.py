@@ -12,15 +12,15 @@ the next report of the same to go on from there. A stop
 """
 from collections.abc import Awaitable, Callable
 from decimal import Decimal
+from functools import partial
 
 from ..clock import Clock
 from ..json_text import Members
 from .charge_points import OUT_OF_SERVICE, ChargePoint, ChargePoints, Place
 from .commands import Commands
 from .fields import check_payload
-from .meter_values import kilowatt_hours, register_of
-from .sessions import Sessions, repeated
-from .transactions import CHARGING, NEW, REFUSED, STOPPED, Transaction, Transactions
+from .sessions import Sessions
+from .transactions import CHARGING, NEW, REFUSED, STOPPED, Transaction, Transactions, register_of
 
 HEARTBEAT_EACH = 60
 Handler = Callable[[ChargePoint, Members], Awaitable[Members]]
@@ -31,12 +31,8 @@ class Reports:
 
     def __init__(self, clock: Clock, charge_points: ChargePoints, transactions: Transactions, commands: Commands,
                  sessions: Sessions, stop: Callable[[Transaction], None]) -> None:
-        self._clock = clock
-        self._charge_points = charge_points
-        self._transactions = transactions
-        self._commands = commands
-        self._sessions = sessions
-        self._stop = stop
+        self._clock, self._charge_points, self._transactions = clock, charge_points, transactions
+        self._commands, self._sessions, self._stop = commands, sessions, stop
         self._handlers: dict[str, Handler] = {
             "StatusNotification": self._status, "Authorize": self._authorize, "StartTransaction": self._start,
             "MeterValues": self._meter, "StopTransaction": self._end}
@@ -45,8 +41,7 @@ class Reports:
         """What a call is answered. Raises CallError, NodeEnded, and EventRefused where the charge point may repeat."""
         check_payload(action, payload)
         if action in self._handlers:
-            async with charge_point.lock:
-                return await repeated(lambda: self._handlers[action](charge_point, payload))
+            return await charge_point.alone(partial(self._handlers[action], charge_point, payload))
         if action == "DataTransfer":
             return {"status": "UnknownVendorId"}
         now: Members = {"currentTime": self._clock.moment()}
@@ -69,7 +64,8 @@ class Reports:
             await self._sessions.service(evse_uid, False)
         elif before in OUT_OF_SERVICE:
             await self._sessions.service(evse_uid, True)
-        if status == "Faulted" and not self._transactions.charging_at(place.charge_point.settings.id, place.connector):
+        session = self._sessions.at(place)
+        if status == "Faulted" and (session is None or self._transactions.of_session(session["id"]) is None):
             await self._sessions.report("fault", evse_uid=evse_uid)
 
     async def _authorize(self, charge_point: ChargePoint, payload: Members) -> Members:
@@ -86,7 +82,7 @@ class Reports:
 
     def _is_let_charge(self, place: Place, uid: str) -> bool:
         """Whether a session or an open start of a token stands at a connector."""
-        session = self._sessions.living(place.settings.evse_uid)
+        session = self._sessions.at(place)
         if session is not None:
             return bool(session["cdr_token"]["uid"].upper() == uid.upper())
         command = self._commands.start_for(place.settings.evse_uid, uid)
@@ -103,8 +99,7 @@ class Reports:
             else:
                 transaction = self._transactions.update(transaction, NEW, session["id"])
                 if session["status"] == "PENDING":
-                    await self._sessions.report("starts", self._sessions.moment(payload["timestamp"]),
-                                                evse_uid=session["evse_uid"])
+                    await self._report(transaction, "starts", payload["timestamp"])
                 transaction = self._transactions.update(transaction, CHARGING, session["id"])
             if place is not None:
                 self._commands.forget_asked(place.settings.evse_uid)
@@ -116,7 +111,7 @@ class Reports:
     async def _session_of(self, place: Place, transaction: Transaction) -> Members | None:
         """The session of a new transaction: one that it is known to be, or that waits for its token, or of a swipe."""
         evse_uid, uid = place.settings.evse_uid, self._charge_points.uid_of(transaction.id_tag)
-        session = self._sessions.living(evse_uid)
+        session = self._sessions.at(place)
         if transaction.session_id is not None:
             return session if session is not None and session["id"] == transaction.session_id else None
         if session is None:
@@ -125,44 +120,36 @@ class Reports:
                 await self._sessions.swipe(place, uid)
             else:
                 await self._sessions.accept(command)
-            session = self._sessions.living(evse_uid)
+            session = self._sessions.at(place)
         if session is None or session["status"] != "PENDING" or session["cdr_token"]["uid"].upper() != uid.upper():
             return None
         return session if self._transactions.of_session(session["id"]) is None else None
 
-    def _session_that_charges(self, transaction: Transaction) -> Members | None:
-        """The living session of a transaction. None where it has none, or where another stands at its EVSE."""
-        known = self._sessions.find(transaction.session_id) if transaction.session_id is not None else None
-        return known if known is not None and known["status"] in ("PENDING", "ACTIVE") else None
+    async def _report(self, transaction: Transaction, event: str, timestamp: str, **members: object) -> None:
+        """Feeds an event about the session of a transaction, where that is living."""
+        session = self._sessions.living(transaction.session_id)
+        if session is not None:
+            at = self._sessions.moment(timestamp)
+            await self._sessions.report(event, at, evse_uid=session["evse_uid"], **members)
 
     async def _meter(self, charge_point: ChargePoint, payload: Members) -> Members:
         """Readings of a transaction. One that goes on without a session is stopped."""
         transaction = self._transactions.find(charge_point.settings.id, payload.get("transactionId"))
         if transaction is None or transaction.state == STOPPED:
             return {}
-        if self._session_that_charges(transaction) is None:
+        if self._sessions.living(transaction.session_id) is None:
             self._stop(transaction)
-            return {}
         for meter_value in payload["meterValue"]:
-            register = register_of(meter_value)
-            if register is not None:
-                await self._report_energy(transaction, register, meter_value["timestamp"])
+            if (register := register_of(meter_value)) is not None:
+                await self._report(transaction, "meter", meter_value["timestamp"], kwh=transaction.energy(register))
         return {}
-
-    async def _report_energy(self, transaction: Transaction, register: Decimal, timestamp: str) -> None:
-        session, energy = self._session_that_charges(transaction), kilowatt_hours(register, transaction.meter_start)
-        if session is not None and energy is not None:
-            await self._sessions.report("meter", self._sessions.moment(timestamp), evse_uid=session["evse_uid"],
-                                        kwh=energy)
 
     async def _end(self, charge_point: ChargePoint, payload: Members) -> Members:
         """A transaction that ended: its last reading, and the end of its session."""
         transaction = self._transactions.find(charge_point.settings.id, payload["transactionId"])
-        session = self._session_that_charges(transaction) if transaction is not None else None
-        if transaction is not None and session is not None:
-            await self._report_energy(transaction, Decimal(payload["meterStop"]), payload["timestamp"])
-            await self._sessions.report("stops", self._sessions.moment(payload["timestamp"]),
-                                        evse_uid=session["evse_uid"])
         if transaction is not None:
+            energy = transaction.energy(Decimal(payload["meterStop"]))
+            await self._report(transaction, "meter", payload["timestamp"], kwh=energy)
+            await self._report(transaction, "stops", payload["timestamp"])
             self._transactions.update(transaction, STOPPED, transaction.session_id)
         return {} if payload.get("idTag") is None else {"idTagInfo": {"status": "Accepted"}}

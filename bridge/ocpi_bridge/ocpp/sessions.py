@@ -1,7 +1,5 @@
 """Feeds a node what charge points report and answer, each only where it is about the session that it is meant for."""
 import asyncio
-from collections.abc import Awaitable, Callable
-from typing import TypeVar
 
 from ..clock import moment_of, seconds_of
 from ..events import Events, Outcome
@@ -12,7 +10,6 @@ from ..parties import party_key
 from .charge_points import Place
 from .commands import Command, Commands
 
-Result = TypeVar("Result")
 # The seconds for which a node awaits what a provider says of a token.
 QUESTION_WITHIN = 10.0
 
@@ -21,26 +18,11 @@ class EventRefused(Exception):
     """The node refused an event: the charge point has to report again."""
 
 
-async def repeated(action: Callable[[], Awaitable[Result]]) -> Result:
-    """Carries an action out, and again from its beginning where a stop of the node lost what an event of it gave.
-
-    The node then had a tick, which sent again each session that was lost. So what was done already is known by then.
-    """
-    while True:
-        try:
-            return await action()
-        except OutcomeLost:
-            continue
-
-
 class Sessions:
     """The sessions at the EVSEs of a node, as far as charge points are concerned."""
 
     def __init__(self, events: Events, feeder: Feeder, objects: Objects, commands: Commands) -> None:
-        self._events = events
-        self._feeder = feeder
-        self._objects = objects
-        self._commands = commands
+        self._events, self._feeder, self._objects, self._commands = events, feeder, objects, commands
         self._questions: dict[tuple[str, int], tuple[float, asyncio.Future[None]]] = {}
         self._was_open = False
 
@@ -54,12 +36,18 @@ class Sessions:
             raise EventRefused(f"{event['event']}: {outcome.word}")
         return outcome
 
-    def living(self, evse_uid: str) -> Members | None:
-        """The session at an EVSE that is PENDING or ACTIVE."""
-        return self._objects.living_session(evse_uid)
+    def at(self, place: Place) -> Members | None:
+        """The session at a connector that is PENDING or ACTIVE."""
+        return self._objects.living_session(place.settings.evse_uid)
 
-    def find(self, session_id: str) -> Members | None:
-        return self._objects.find("sessions", self._events.node, session_id)
+    def find(self, session_id: str | None) -> Members | None:
+        """The session of an id, where it has one."""
+        return self._objects.find("sessions", self._events.node, session_id or "")
+
+    def living(self, session_id: str | None) -> Members | None:
+        """The session of an id, where it is PENDING or ACTIVE."""
+        session = self.find(session_id)
+        return session if session is not None and session["status"] in ("PENDING", "ACTIVE") else None
 
     def moment(self, timestamp: str) -> str:
         """The moment of a report: its own, or the clock's where that is earlier."""
@@ -76,7 +64,7 @@ class Sessions:
 
     async def withdraw(self, session_id: str | None) -> None:
         """Ends a session in which nobody charges so far."""
-        session = self.find(session_id) if session_id is not None else None
+        session = self.find(session_id)
         if session is not None and session["status"] == "PENDING":
             await self.report("stops", evse_uid=session["evse_uid"])
 
@@ -104,16 +92,12 @@ class Sessions:
             decided = asyncio.get_running_loop().create_future()
             key = party_key(question.receiver), question.request
             self._questions[key] = seconds_of(event["at"]) + QUESTION_WITHIN, decided
-        if event["event"] == "deliver" and event["packet"]["kind"] == "authorization":
-            self._decide([(party_key(event["packet"]["from"]), event["packet"]["request"])])
-        elif event["event"] == "tick":
-            now = seconds_of(event["at"])
-            self._decide([key for key, (until, _) in self._questions.items() if until <= now])
-
-    def _decide(self, keys: list[tuple[str, int]]) -> None:
-        for key in keys:
-            if key in self._questions:
-                self._questions.pop(key)[1].set_result(None)
+        packet = event.get("packet", {})
+        answered = (party_key(packet["from"]), packet["request"]) if packet.get("kind") == "authorization" else None
+        for key, (until, decided) in list(self._questions.items()):
+            if key == answered or event["event"] == "tick" and until <= seconds_of(event["at"]):
+                del self._questions[key]
+                decided.set_result(None)
 
     def opened(self) -> None:
         """Called each time that the node has opened its store."""

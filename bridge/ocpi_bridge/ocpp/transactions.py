@@ -1,12 +1,14 @@
-"""The transactions of charge points: which there are, and which session of the node each is."""
+"""The transactions of charge points: which there are, which session of the node each is, and what energy it took."""
 from dataclasses import dataclass, replace
+from decimal import ROUND_DOWN, Decimal, InvalidOperation
 
 from ..clock import milliseconds_of
-from ..json_text import Members
+from ..json_text import Members, Number
 from ..state import State
 
 # A transaction is new until it is known whether its driver may charge. Then it charges, or is refused, until it stops.
 NEW, CHARGING, REFUSED, STOPPED = "new", "charging", "refused", "stopped"
+REGISTER = "Energy.Active.Import.Register"
 
 
 @dataclass(frozen=True)
@@ -20,6 +22,11 @@ class Transaction:
     meter_start: int
     session_id: str | None
     state: str
+
+    def energy(self, register: Decimal) -> Number:
+        """What it took until its register, in Wh, was so high: in kWh with four decimals, as a node reads it."""
+        energy = (max(register - self.meter_start, Decimal(0)) / 1000).quantize(Decimal("0.0001"), rounding=ROUND_DOWN)
+        return Number(f"{energy:f}")
 
 
 class Transactions:
@@ -40,13 +47,8 @@ class Transactions:
         """The transaction of a charge point that has a number."""
         return self._one("number = ? AND charge_point = ?", number, charge_point)
 
-    def of_session(self, session_id: str) -> Transaction | None:
+    def of_session(self, session_id: str | None) -> Transaction | None:
         return self._one("session_id = ?", session_id)
-
-    def charging_at(self, charge_point: str, connector: int) -> Transaction | None:
-        """The transaction that charges at a connector."""
-        return self._one(f"charge_point = ? AND connector = ? AND state = '{CHARGING}' ORDER BY number DESC LIMIT 1",
-                         charge_point, connector)
 
     def _one(self, where: str, *values: object) -> Transaction | None:
         rows = self._state.query("SELECT number, charge_point, connector, id_tag, meter_start, session_id, state"
@@ -58,3 +60,17 @@ class Transactions:
         self._state.query("UPDATE ocpp_transaction SET state = ?, session_id = ? WHERE number = ?", word, session_id,
                           transaction.number)
         return replace(transaction, state=word, session_id=session_id)
+
+
+def register_of(meter_value: Members) -> Decimal | None:
+    """The register in Wh among the sampled values of one moment, and None where none is there."""
+    for sample in meter_value["sampledValue"]:
+        is_register = sample.get("measurand") in (None, REGISTER) and sample.get("phase") is None
+        if is_register and sample.get("format") in (None, "Raw") and sample.get("unit") in (None, "Wh", "kWh"):
+            try:
+                value = Decimal(sample["value"].strip())
+            except InvalidOperation:
+                continue
+            if value.is_finite() and abs(value) < 10**15:
+                return value * 1000 if sample.get("unit") == "kWh" else value
+    return None
