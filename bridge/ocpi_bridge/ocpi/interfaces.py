@@ -12,7 +12,7 @@ from aiohttp import web
 from ..clock import milliseconds_of
 from ..events import Events, Outcome, Packet
 from ..json_text import Members, read_json, write_json
-from ..parties import party_of, same_party
+from ..parties import party_key, party_of, same_party
 from .envelope import (INVALID, SERVER_ERROR, SUCCESS, UNKNOWN_LOCATION, UNKNOWN_TOKEN, Refusal, answer, is_printable,
                        refusal_of)
 from .locations import Locations
@@ -45,6 +45,7 @@ class Interfaces:
         self._url, self._events, self._clock, self._feed = url, events, events.clock, feed
         self._objects, self._requests, self._locations = objects, requests, locations
         self._patching = asyncio.Lock()
+        self._under_way: dict[tuple[str, int], asyncio.Future[Outcome]] = {}
 
     def routes(self) -> list[web.RouteDef]:
         """The routes of an operator or of a provider."""
@@ -135,7 +136,7 @@ class Interfaces:
         event = self._events.deliver(Packet(partner.party, self._events.node, serial, number, kind, body))
         if len(write_json(event)) > LONGEST_LINE:
             raise Refusal(413, INVALID, "the body is too long")
-        outcome = await self._feed(event)
+        outcome = await self._carry_out((party_key(partner.party), number), event)
         if outcome.word not in ("stepped", "idle"):
             raise refusal_of(outcome.done)
         sent = outcome.answer_to(partner.party, number)
@@ -148,6 +149,19 @@ class Interfaces:
         if partner.kind == "ocpi" and "location" in body and data is not None and data.get("allowed") == "ALLOWED":
             data = {**data, "location": body["location"]}
         return answer(sent.body["timestamp"], data, status_code, headers=headers)
+
+    async def _carry_out(self, key: tuple[str, int], event: Members) -> Outcome:
+        """Feeds the request of a party and a number. One that comes again meanwhile waits for the same outcome, so
+        that repeats do not add to what keeps a node busy."""
+        def end(ended: asyncio.Future[Outcome]) -> None:
+            del self._under_way[key]
+            if not ended.cancelled():
+                ended.exception()
+
+        if key not in self._under_way:
+            self._under_way[key] = asyncio.ensure_future(self._feed(event))
+            self._under_way[key].add_done_callback(end)
+        return await asyncio.shield(self._under_way[key])
 
     def _numbers(self, headers: Mapping[str, str], partner: Partner) -> tuple[int, int]:
         """The serial and the number of a request."""
