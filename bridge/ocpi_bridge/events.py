@@ -68,14 +68,12 @@ class Events:
         self.clock = clock
 
     def make(self, event: str, at: str | None = None, **members: object) -> Members:
-        """An event of a name and its own members."""
-        return {"event": event, "node": self.node, "at": at or self.clock.moment(), **members}
+        """An event of a name and its own members. (`service` alone has no moment.)"""
+        moment = {} if event == "service" else {"at": at or self.clock.moment()}
+        return {"event": event, "node": self.node, **moment, **members}
 
     def deliver(self, packet: Packet) -> Members:
         return self.make("deliver", packet=packet.members())
 
     def tick(self) -> Members:
         return self.make("tick")
-
-    def service(self, evse_uid: str, in_service: bool) -> Members:
-        return {"event": "service", "node": self.node, "evse_uid": evse_uid, "in_service": in_service}

@@ -26,12 +26,6 @@ CREATE TABLE IF NOT EXISTS claim (
 -- ocpi/locations.py
 CREATE TABLE IF NOT EXISTS place (name TEXT PRIMARY KEY, text TEXT NOT NULL, since TEXT NOT NULL);
 
--- ocpp/charge_points.py
-CREATE TABLE IF NOT EXISTS ocpp_connector (
-    charge_point TEXT, connector INTEGER, status TEXT NOT NULL, PRIMARY KEY (charge_point, connector)) WITHOUT ROWID;
-CREATE TABLE IF NOT EXISTS ocpp_service (evse_uid TEXT PRIMARY KEY, in_service INTEGER) WITHOUT ROWID;
-CREATE TABLE IF NOT EXISTS ocpp_id_tag (id_tag TEXT PRIMARY KEY, uid TEXT NOT NULL) WITHOUT ROWID;
-
 -- ocpp/commands.py
 CREATE TABLE IF NOT EXISTS ocpp_command (
     provider TEXT COLLATE NOCASE, number INTEGER, kind TEXT, evse_uid TEXT COLLATE NOCASE,

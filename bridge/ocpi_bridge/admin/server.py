@@ -113,7 +113,7 @@ class Admin:
         evse_uid, in_service = body.get("evse_uid"), body.get("in_service")
         if not isinstance(evse_uid, str) or not isinstance(in_service, bool):
             raise web.HTTPBadRequest(text="wanted: evse_uid, a text, and in_service, true or false")
-        told, status = await self._fed(self._events.service(evse_uid, in_service))
+        told, status = await self._fed(self._events.make("service", evse_uid=evse_uid, in_service=in_service))
         if self._central_system and status == 200:
             told["charge_point"] = await self._central_system.change_availability(evse_uid, in_service)
         return _answer(told, status)

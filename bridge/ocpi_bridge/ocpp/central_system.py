@@ -4,6 +4,7 @@ import base64
 import hmac
 import logging
 from collections.abc import Callable, Coroutine
+from dataclasses import asdict
 from functools import partial
 from typing import Any
 
@@ -16,13 +17,11 @@ from ..json_text import Members
 from ..node.feeder import Feeder, NodeEnded
 from ..ocpi.objects import Objects
 from ..state import State
-from .charge_points import ChargePoint, ChargePoints
-from .commands import Commands
+from .charge_points import ChargePoint
 from .connection import Connection
 from .orders import Orders
 from .reports import Reports
 from .sessions import Sessions
-from .transactions import Transactions
 
 LOG = logging.getLogger("ocpp")
 SUBPROTOCOL = "ocpp1.6"
@@ -32,7 +31,7 @@ PING_EACH, CLOSED_WITHIN = 30.0, 2.0
 # After how many seconds a session ends for which nobody plugs in. A charge point that was away may have to tell of a
 # transaction first: for that it has so many seconds from its connection on.
 PLUGGED_IN_WITHIN, TOLD_WITHIN = 120.0, 10.0
-# After how many seconds a charge point is asked for the status of a connector that it did not tell by itself.
+# After how many seconds of its connection a charge point is asked for the status of each of its connectors.
 STATUS_WITHIN = 30.0
 
 
@@ -41,13 +40,10 @@ class CentralSystem:
 
     def __init__(self, settings: OcppSettings, events: Events, state: State, feeder: Feeder, objects: Objects) -> None:
         self._clock, self._objects = events.clock, objects
-        self._charge_points = ChargePoints(settings, state)
-        self._transactions = Transactions(state)
-        self._commands = Commands(state, events.clock)
-        self._sessions = Sessions(events, feeder, objects, self._commands)
-        self._orders = Orders(self._charge_points, self._transactions, self._commands, self._sessions, self._spawn)
-        self._reports = Reports(events.clock, self._charge_points, self._transactions, self._commands, self._sessions,
-                                self._orders.stop)
+        self._sessions = Sessions(settings, events, state, feeder, objects)
+        self._charge_points, self._commands = self._sessions.charge_points, self._sessions.commands
+        self._orders = Orders(self._sessions, self._spawn)
+        self._reports = Reports(self._sessions, self._orders.stop)
         self._tasks: dict[object, asyncio.Task[None]] = {}
 
     def application(self) -> web.Application:
@@ -61,8 +57,15 @@ class CentralSystem:
         """Has something done in a task of its own, unless that is under way already."""
         key = (work, *arguments)
         if key not in self._tasks:
-            self._tasks[key] = asyncio.create_task(_guarded(work(*arguments)))
-            self._tasks[key].add_done_callback(lambda _: self._tasks.pop(key))
+            self._tasks[key] = asyncio.create_task(work(*arguments))
+            self._tasks[key].add_done_callback(partial(self._end_task, key))
+
+    def _end_task(self, key: object, task: asyncio.Task[None]) -> None:
+        """Tells why a task failed, but where the node ended: what that leaves is taken up at the next start."""
+        del self._tasks[key]
+        fault = None if task.cancelled() else task.exception()
+        if fault is not None and not isinstance(fault, NodeEnded):
+            LOG.error("a charge point could not be served", exc_info=fault)
 
     async def _close(self, application: web.Application) -> None:
         points = self._charge_points.by_id.values()
@@ -90,7 +93,6 @@ class CentralSystem:
         if charge_point.connection is not None:
             self._spawn(charge_point.connection.close)
         charge_point.connection, charge_point.connected_since = connection, self._clock.seconds()
-        charge_point.reported = set()
         LOG.info("%s: connected", charge_point.settings.id)
         self._spawn(connection.work)
         self._spawn(self._ask_for_statuses, charge_point, connection)
@@ -106,11 +108,10 @@ class CentralSystem:
         """Asks for what a charge point, or a bridge that was stopped, may have missed."""
         await self._clock.sleep(STATUS_WITHIN)
         for connector in charge_point.settings.connectors:
-            if charge_point.connection is connection and connector not in charge_point.reported:
-                message = {"requestedMessage": "StatusNotification", "connectorId": connector}
-                async with connection.asking("TriggerMessage", message) as answer:
-                    if answer is None:
-                        return
+            message = {"requestedMessage": "StatusNotification", "connectorId": connector}
+            async with connection.asking("TriggerMessage", message) as answer:
+                if answer is None:
+                    return
 
     def note(self, outcome: Outcome) -> None:
         """Keeps what an outcome opens and ends. Called inside of the transaction that forgets its line."""
@@ -151,10 +152,8 @@ class CentralSystem:
             for place in point.places.values()]} for point in self._charge_points.by_id.values()]
 
     def commands(self) -> list[Members]:
-        """The commands that are open: `provider`, `number`, `command`, `evse_uid`, `session_id`."""
-        return [{"provider": command.provider, "number": command.number, "command": command.kind,
-                 "evse_uid": command.evse_uid, "session_id": command.session_id}
-                for command in self._commands.opened()]
+        """The commands that are open, with their `provider`, `number`, `kind`, and what they are about."""
+        return [asdict(command) for command in self._commands.opened()]
 
     def evse_status(self, evse_uid: str) -> str | None:
         """`OUTOFORDER` where the charge point is away or Faulted, `INOPERATIVE` where out of service, else None."""
@@ -177,20 +176,10 @@ class CentralSystem:
         return sum(point.connection is not None for point in self._charge_points.by_id.values())
 
 
-async def _guarded(work: Coroutine[Any, Any, None]) -> None:
-    """Does what a task is for. What fails is told, and the node's end is what a stop of the bridge leaves."""
-    try:
-        await work
-    except NodeEnded:
-        pass
-    except Exception:
-        LOG.exception("a charge point could not be served")
-
-
 def _is_authentic(settings: ChargePointSettings, header: str) -> bool:
     """Whether a request shows the id and the password of a charge point, where it has one."""
     if settings.password is None:
         return True
-    wanted = base64.b64encode(f"{settings.id}:{settings.password}".encode()).decode()
+    wanted = base64.b64encode(f"{settings.id}:{settings.password}".encode())
     scheme, _, shown = header.partition(" ")
-    return scheme.lower() == "basic" and hmac.compare_digest(shown.strip().encode(), wanted.encode())
+    return scheme.lower() == "basic" and hmac.compare_digest(shown.strip().encode(), wanted)

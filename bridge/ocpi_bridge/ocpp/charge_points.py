@@ -37,7 +37,6 @@ class ChargePoint:
     places: "dict[int, Place]" = field(default_factory=dict)
     connection: Connection | None = None
     connected_since: float = 0.0
-    reported: set[int] = field(default_factory=set)
     lock: asyncio.Lock = field(default_factory=asyncio.Lock)
 
     async def alone(self, action: Callable[[], Awaitable[Result]]) -> Result:
@@ -76,35 +75,30 @@ class ChargePoints:
 
     def status(self, place: Place) -> str | None:
         """The last status that a connector reported."""
-        rows = self._state.query("SELECT status FROM ocpp_connector WHERE charge_point = ? AND connector = ?",
-                                 place.charge_point.settings.id, place.connector)
-        return str(rows[0][0]) if rows else None
+        return self._state.value(f"ocpp.status {place.settings.evse_uid.upper()}")
 
     def set_status(self, place: Place, status: str) -> None:
-        self._state.query("INSERT OR REPLACE INTO ocpp_connector VALUES (?, ?, ?)", place.charge_point.settings.id,
-                          place.connector, status)
+        self._state.set_value(f"ocpp.status {place.settings.evse_uid.upper()}", status)
 
     def note_service(self, evse_uid: str, in_service: bool) -> None:
         """Keeps what an event `service` said."""
-        self._state.query("INSERT OR REPLACE INTO ocpp_service VALUES (?, ?)", evse_uid.upper(), in_service)
+        self._state.set_value(f"ocpp.service {evse_uid.upper()}", "in" if in_service else "out")
 
     def evse_status(self, evse_uid: str) -> str | None:
         """`OUTOFORDER` where nothing can be charged, `INOPERATIVE` where the EVSE is out of service, else None."""
         place = self.place(evse_uid)
         if place is None or place.charge_point.connection is None or self.status(place) == "Faulted":
             return "OUTOFORDER"
-        is_out = self._state.query("SELECT 1 FROM ocpp_service WHERE evse_uid = ? AND NOT in_service", evse_uid.upper())
-        return "INOPERATIVE" if is_out else None
+        return "INOPERATIVE" if self._state.value(f"ocpp.service {evse_uid.upper()}") == "out" else None
 
     def id_tag_of(self, uid: str) -> str:
         """What a token is called at charge points: its uid, or a text of the bridge where that is too long for OCPP."""
         if len(uid) <= LONGEST_ID_TAG:
             return uid
         id_tag = hashlib.sha256(uid.upper().encode()).hexdigest()[:LONGEST_ID_TAG].upper()
-        self._state.query("INSERT OR IGNORE INTO ocpp_id_tag VALUES (?, ?)", id_tag, uid)
+        self._state.set_value(f"ocpp.uid {id_tag}", uid)
         return id_tag
 
     def uid_of(self, id_tag: str) -> str:
         """The uid of the token that a charge point calls so."""
-        rows = self._state.query("SELECT uid FROM ocpp_id_tag WHERE id_tag = ?", id_tag.upper())
-        return str(rows[0][0]) if rows else id_tag
+        return self._state.value(f"ocpp.uid {id_tag.upper()}") or id_tag

@@ -9,7 +9,6 @@ from ..state import State
 # Commands that a charge point carries out. The node ends each by itself after this time, in seconds.
 KINDS = ("start_session", "stop_session", "unlock_connector")
 OPEN_FOR = 30.0
-REPORTS = ("accepts", "refuses", "unlocked")
 OPEN, ASKED, REFUSED, PAST = "open", "asked", "refused", "past"
 
 
@@ -31,18 +30,15 @@ class Commands:
     """Keeps them for good, so that a charge point is asked once for each, however often a command comes."""
 
     def __init__(self, state: State, clock: Clock) -> None:
-        self._state = state
-        self._clock = clock
+        self._state, self._clock = state, clock
 
     def note(self, outcome: Outcome) -> None:
         """Keeps what an outcome opens, ends and begins. Called inside of the transaction that forgets its line."""
         event = outcome.event
-        number = event["number"] if event["event"] in REPORTS else None
         if event["event"] == "deliver":
             self._note_accepted(outcome, Packet.of(event["packet"]))
-            number = event["packet"]["request"]
         for packet in outcome.sent("command_result"):
-            self._end(packet, number)
+            self._end(packet, event["packet"]["request"] if event["event"] == "deliver" else event.get("number"))
         for packet in outcome.sent("put_session"):
             if packet.body["status"] == "PENDING" and packet.body["auth_method"] == "COMMAND":
                 self._note_session(packet)

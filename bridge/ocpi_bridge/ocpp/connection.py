@@ -110,7 +110,7 @@ class Connection:
             await self._send(write_json([CALL, message_id, action, payload]))
             with suppress(TimeoutError):
                 reply = await self._clock.within(ANSWER_WITHIN, answer)
-            if reply is None:
+            if reply is None and self._is_open:
                 LOG.warning("a charge point did not answer %s", action)
             try:
                 yield reply

@@ -4,7 +4,7 @@ There a number is the most characters of a text, a word names another form, and 
 with `?` at its end may be left out. Members that are in no table are read past.
 """
 import json
-import re
+from contextlib import suppress
 from pathlib import Path
 from typing import Any
 
@@ -13,7 +13,6 @@ from ..json_text import Members
 from .frames import CallError, is_text
 
 TABLES: Members = json.loads(Path(__file__).with_name("fields.json").read_text())
-ID_TOKEN = re.compile(r"[ -~]{0,20}")
 LEAST: dict[str | int, int] = {"from 0": 0, "from 1": 1, "integer": -10**18}
 
 
@@ -48,10 +47,8 @@ def _fits(form: str | int, value: Any) -> bool:
     if not is_text(value):
         return form in LEAST and type(value) is int and value >= LEAST[form]
     if form == "dateTime":
-        try:
+        with suppress(ValueError, OverflowError):
             return seconds_of(value) >= 0
-        except (ValueError, OverflowError):
-            return False
     if form == "IdToken":
-        return ID_TOKEN.fullmatch(value) is not None
+        return len(value) <= 20 and value.isascii() and value.isprintable()
     return len(value) <= form if isinstance(form, int) else value in TABLES["words"].get(form, ())

@@ -1,4 +1,5 @@
 """Frames of OCPP 1.6-J: calls, their results and their errors, a list of JSON each."""
+from contextlib import suppress
 from dataclasses import dataclass
 from typing import Any
 
@@ -37,12 +38,11 @@ def is_text(value: Any) -> bool:
 
 def read_frame(text: str) -> Frame:
     """Reads a frame. Raises CallError FormationViolation."""
-    try:
+    frame = None
+    with suppress(NotJson, NumberTooLarge):
         frame = read_json(text)
-    except (NotJson, NumberTooLarge):
-        raise CallError("FormationViolation", "no JSON") from None
     if not isinstance(frame, list) or len(frame) < 2 or not is_text(frame[1]) or len(frame[1]) > LONGEST_MESSAGE_ID:
-        raise CallError("FormationViolation", "no list of a message type and a message id")
+        raise CallError("FormationViolation", "no JSON list of a message type and a message id")
     message_type, message_id, *rest = frame
     if message_type == CALL and len(rest) == 2 and is_text(rest[0]) and isinstance(rest[1], dict):
         return Frame(message_id, rest[0], rest[1])

@@ -8,19 +8,18 @@ is the command's: it is let charge if the node still takes that the charge point
 from collections.abc import Callable
 from functools import partial
 
-from .charge_points import ChargePoint, ChargePoints, Place, repeated
-from .commands import ASKED, REFUSED, Command, Commands
+from .charge_points import ChargePoint, Place, repeated
+from .commands import ASKED, REFUSED, Command
 from .sessions import Sessions
-from .transactions import Transaction, Transactions
+from .transactions import Transaction
 
 
 class Orders:
     """Carries out commands. `spawn` has each done in a task of its own, that is not under way already."""
 
-    def __init__(self, charge_points: ChargePoints, transactions: Transactions, commands: Commands, sessions: Sessions,
-                 spawn: Callable[..., None]) -> None:
-        self._charge_points, self._transactions = charge_points, transactions
-        self._commands, self._sessions, self._spawn = commands, sessions, spawn
+    def __init__(self, sessions: Sessions, spawn: Callable[..., None]) -> None:
+        self._sessions, self._spawn = sessions, spawn
+        self._charge_points, self._commands = sessions.charge_points, sessions.commands
 
     def begin(self) -> None:
         """Begins with each open command that no charge point was asked for yet."""
@@ -54,7 +53,7 @@ class Orders:
             await self._ask_to_start(begun, place)
 
     async def _stop_session(self, command: Command) -> None:
-        session = self._sessions.find(command.session_id)
+        session = self._sessions.living(command.session_id)
         place = self._charge_points.place(session["evse_uid"] if session is not None else None)
         if place is not None and place.charge_point.connection is not None:
             transaction = await place.charge_point.alone(partial(self._transaction_to_stop, command))
@@ -63,7 +62,7 @@ class Orders:
 
     async def _transaction_to_stop(self, command: Command) -> Transaction | None:
         """That of a session. One without a transaction is ended by the bridge: no charge point has anything to stop."""
-        transaction = self._transactions.of_session(command.session_id)
+        transaction = self._sessions.transactions.of_session(command.session_id)
         if transaction is None:
             self._commands.set_state(command, ASKED)
             await self._sessions.accept(command)

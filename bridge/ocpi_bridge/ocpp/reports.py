@@ -14,13 +14,11 @@ from collections.abc import Awaitable, Callable
 from decimal import Decimal
 from functools import partial
 
-from ..clock import Clock
 from ..json_text import Members
-from .charge_points import OUT_OF_SERVICE, ChargePoint, ChargePoints, Place
-from .commands import Commands
+from .charge_points import OUT_OF_SERVICE, ChargePoint, Place
 from .fields import check_payload
 from .sessions import Sessions
-from .transactions import CHARGING, NEW, REFUSED, STOPPED, Transaction, Transactions, register_of
+from .transactions import CHARGING, NEW, REFUSED, STOPPED, Transaction, register_of
 
 HEARTBEAT_EACH = 60
 Handler = Callable[[ChargePoint, Members], Awaitable[Members]]
@@ -29,10 +27,9 @@ Handler = Callable[[ChargePoint, Members], Awaitable[Members]]
 class Reports:
     """Answers the calls of charge points. `stop` is called with each transaction that goes on without a session."""
 
-    def __init__(self, clock: Clock, charge_points: ChargePoints, transactions: Transactions, commands: Commands,
-                 sessions: Sessions, stop: Callable[[Transaction], None]) -> None:
-        self._clock, self._charge_points, self._transactions = clock, charge_points, transactions
-        self._commands, self._sessions, self._stop = commands, sessions, stop
+    def __init__(self, sessions: Sessions, stop: Callable[[Transaction], None]) -> None:
+        self._sessions, self._stop, self._charge_points = sessions, stop, sessions.charge_points
+        self._transactions, self._commands = sessions.transactions, sessions.commands
         self._handlers: dict[str, Handler] = {
             "StatusNotification": self._status, "Authorize": self._authorize, "StartTransaction": self._start,
             "MeterValues": self._meter, "StopTransaction": self._end}
@@ -44,29 +41,23 @@ class Reports:
             return await charge_point.alone(partial(self._handlers[action], charge_point, payload))
         if action == "DataTransfer":
             return {"status": "UnknownVendorId"}
-        now: Members = {"currentTime": self._clock.moment()}
+        now: Members = {"currentTime": self._sessions.clock.moment()}
         return now if action == "Heartbeat" else {"status": "Accepted", "interval": HEARTBEAT_EACH, **now}
 
     async def _status(self, charge_point: ChargePoint, payload: Members) -> Members:
-        """A status of one connector, or at connector 0 of each: one in service then only ends one that is not."""
+        """A status of one connector, or at connector 0 of each: one that is in service then only ends one that is not."""
         status, connector = payload["status"], payload["connectorId"]
-        charge_point.reported.add(connector)
         for place in charge_point.places.values():
-            before = self._charge_points.status(place)
-            if connector == place.connector or connector == 0 and {status, before} & OUT_OF_SERVICE:
-                await self._report_status(place, before, status)
+            changes_service = {status, self._charge_points.status(place)} & OUT_OF_SERVICE
+            if connector == place.connector or connector == 0 and changes_service:
+                if changes_service:
+                    await self._sessions.report("service", evse_uid=place.settings.evse_uid,
+                                                in_service=status not in OUT_OF_SERVICE)
+                session = self._sessions.at(place)
+                if status == "Faulted" and (session is None or self._transactions.of_session(session["id"]) is None):
+                    await self._sessions.report("fault", evse_uid=place.settings.evse_uid)
                 self._charge_points.set_status(place, status)
         return {}
-
-    async def _report_status(self, place: Place, before: str | None, status: str) -> None:
-        evse_uid = place.settings.evse_uid
-        if status in OUT_OF_SERVICE:
-            await self._sessions.service(evse_uid, False)
-        elif before in OUT_OF_SERVICE:
-            await self._sessions.service(evse_uid, True)
-        session = self._sessions.at(place)
-        if status == "Faulted" and (session is None or self._transactions.of_session(session["id"]) is None):
-            await self._sessions.report("fault", evse_uid=evse_uid)
 
     async def _authorize(self, charge_point: ChargePoint, payload: Members) -> Members:
         """A token that was shown at no named connector: a swipe where it is clear which one is meant."""
@@ -91,16 +82,14 @@ class Reports:
     async def _start(self, charge_point: ChargePoint, payload: Members) -> Members:
         """A transaction that begins. It is let charge where it is that of a session."""
         transaction = self._transactions.begin(charge_point.settings.id, payload)
+        place = charge_point.places.get(transaction.connector)
         if transaction.state == NEW:
-            place = charge_point.places.get(transaction.connector)
             session = await self._session_of(place, transaction) if place is not None else None
-            if session is None:
-                transaction = self._transactions.update(transaction, REFUSED, None)
-            else:
+            if session is not None and session["status"] == "PENDING":
                 transaction = self._transactions.update(transaction, NEW, session["id"])
-                if session["status"] == "PENDING":
-                    await self._report(transaction, "starts", payload["timestamp"])
-                transaction = self._transactions.update(transaction, CHARGING, session["id"])
+                await self._report(transaction, "starts", payload["timestamp"])
+            word, session_id = (REFUSED, None) if session is None else (CHARGING, session["id"])
+            transaction = self._transactions.update(transaction, word, session_id)
             if place is not None:
                 self._commands.forget_asked(place.settings.evse_uid)
         if transaction.state == REFUSED:
@@ -110,17 +99,16 @@ class Reports:
 
     async def _session_of(self, place: Place, transaction: Transaction) -> Members | None:
         """The session of a new transaction: one that it is known to be, or that waits for its token, or of a swipe."""
-        evse_uid, uid = place.settings.evse_uid, self._charge_points.uid_of(transaction.id_tag)
-        session = self._sessions.at(place)
+        uid = self._charge_points.uid_of(transaction.id_tag)
         if transaction.session_id is not None:
-            return session if session is not None and session["id"] == transaction.session_id else None
-        if session is None:
-            command = self._commands.start_for(evse_uid, uid)
+            return self._sessions.living(transaction.session_id)
+        if self._sessions.at(place) is None:
+            command = self._commands.start_for(place.settings.evse_uid, uid)
             if command is None:
                 await self._sessions.swipe(place, uid)
             else:
                 await self._sessions.accept(command)
-            session = self._sessions.at(place)
+        session = self._sessions.at(place)
         if session is None or session["status"] != "PENDING" or session["cdr_token"]["uid"].upper() != uid.upper():
             return None
         return session if self._transactions.of_session(session["id"]) is None else None

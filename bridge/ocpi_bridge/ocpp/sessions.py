@@ -2,13 +2,16 @@
 import asyncio
 
 from ..clock import moment_of, seconds_of
+from ..configuration import OcppSettings
 from ..events import Events, Outcome
 from ..json_text import Members
 from ..node.feeder import Feeder, OutcomeLost
 from ..ocpi.objects import Objects
 from ..parties import party_key
-from .charge_points import Place
+from ..state import State
+from .charge_points import ChargePoints, Place
 from .commands import Command, Commands
+from .transactions import Transactions
 
 # The seconds for which a node awaits what a provider says of a token.
 QUESTION_WITHIN = 10.0
@@ -19,52 +22,44 @@ class EventRefused(Exception):
 
 
 class Sessions:
-    """The sessions at the EVSEs of a node, as far as charge points are concerned."""
+    """The sessions at the EVSEs of a node, and what is kept of charge points and of their transactions and commands."""
 
-    def __init__(self, events: Events, feeder: Feeder, objects: Objects, commands: Commands) -> None:
-        self._events, self._feeder, self._objects, self._commands = events, feeder, objects, commands
+    def __init__(self, settings: OcppSettings, events: Events, state: State, feeder: Feeder, objects: Objects) -> None:
+        self.charge_points, self.transactions = ChargePoints(settings, state), Transactions(state)
+        self.commands, self.clock = Commands(state, events.clock), events.clock
+        self._events, self._feeder, self._objects = events, feeder, objects
         self._questions: dict[tuple[str, int], tuple[float, asyncio.Future[None]]] = {}
         self._was_open = False
 
     async def report(self, event: str, at: str | None = None, **members: object) -> Outcome:
         """Feeds an event of a name. Raises EventRefused, OutcomeLost and NodeEnded."""
-        return await self._feed(self._events.make(event, at, **members))
-
-    async def _feed(self, event: Members) -> Outcome:
-        outcome = await self._feeder.feed(event)
+        outcome = await self._feeder.feed(self._events.make(event, at, **members))
         if outcome.word not in ("stepped", "idle"):
-            raise EventRefused(f"{event['event']}: {outcome.word}")
+            raise EventRefused(f"{event}: {outcome.word}")
         return outcome
 
     def at(self, place: Place) -> Members | None:
         """The session at a connector that is PENDING or ACTIVE."""
         return self._objects.living_session(place.settings.evse_uid)
 
-    def find(self, session_id: str | None) -> Members | None:
-        """The session of an id, where it has one."""
-        return self._objects.find("sessions", self._events.node, session_id or "")
-
     def living(self, session_id: str | None) -> Members | None:
         """The session of an id, where it is PENDING or ACTIVE."""
-        session = self.find(session_id)
+        session = self._objects.find("sessions", self._events.node, session_id or "")
         return session if session is not None and session["status"] in ("PENDING", "ACTIVE") else None
 
     def moment(self, timestamp: str) -> str:
         """The moment of a report: its own, or the clock's where that is earlier."""
-        return moment_of(min(seconds_of(timestamp), self._events.clock.seconds()))
-
-    async def service(self, evse_uid: str, in_service: bool) -> None:
-        await self._feed(self._events.service(evse_uid, in_service))
+        return moment_of(min(seconds_of(timestamp), self.clock.seconds()))
 
     async def accept(self, command: Command) -> Command:
         """Feeds that a command is carried out, and gives it as it stands then: a start has a session, or had ended."""
         if command.session_id is None or command.kind == "stop_session":
             await self.report("accepts", provider=command.provider, number=command.number)
-        return self._commands.find(command.provider, command.number)
+        return self.commands.find(command.provider, command.number)
 
     async def withdraw(self, session_id: str | None) -> None:
         """Ends a session in which nobody charges so far."""
-        session = self.find(session_id)
+        session = self.living(session_id)
         if session is not None and session["status"] == "PENDING":
             await self.report("stops", evse_uid=session["evse_uid"])
 
