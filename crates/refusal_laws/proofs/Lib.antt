@@ -1,0 +1,9 @@
+pub mod Tallies
+pub mod Listings
+pub mod Located
+pub mod OperatorPackets
+pub mod OperatorReports
+pub mod OperatorTicks
+pub mod OperatorRefusals
+pub mod ProviderRefusals
+pub mod Refusing

@@ -1,0 +1,18 @@
+-- What a node refuses, it does not do. A refusal is no answer of OCPI's: nothing is changed, and nothing is sent.
+use Rattle.std.specs.Prelude.{◌≢◌, ⊤}
+use Rattle.node_steps.specs.declared.fault.NodeFault.{NodeFault}
+use Rattle.node_steps.specs.declared.fault.NodeFault.TheVariants.{Memory}
+use Rattle.ocpi_types.specs.Locations.{AreLocations}
+use Rattle.stored_laws.specs.Nodes.{IsSound}
+use Rattle.world_steps.specs.Steps.{NodeEvent, NodeRefuses, NodeStep, input_of}
+use Rattle.world_steps.specs.World.{NodeState, Operates, Provides}
+
+-- the locations of an operator's site are what the type `Locations` keeps: no two have one id (OCPI 2.2.1, Locations:
+-- Location object)
+abbrev pub HasLocations : NodeState → Type 0
+HasLocations (Operates s) = AreLocations s.site.locations
+HasLocations (Provides s) = ⊤
+
+-- where a node refuses an input for any reason but want of memory, no step takes that input
+abbrev pub RefusalsExcludeSteps : Type 0
+RefusalsExcludeSteps = (n m : NodeState) (x : NodeEvent) (fault : NodeFault) → IsSound n → HasLocations n → NodeRefuses n (input_of x) fault → fault ≢ Memory → NodeStep n x m → ⊥

@@ -1,0 +1,7 @@
+pub mod TokenRises
+pub mod UnlockPlaces
+pub mod Takings
+pub mod ReservedStarts
+pub mod SessionMoves
+pub mod EndedPushes
+pub mod AnsweredTokens

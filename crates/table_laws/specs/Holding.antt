@@ -1,0 +1,56 @@
+-- Which EVSE a start takes that a reservation of its provider is for (OCPI 2.2.1, Commands: StartSession, ReserveNow).
+use Rattle.std.specs.Prelude.{◌≡◌, ℕ, List, Some, None, Contains}
+use Rattle.std.specs.FinMap.{get}
+use Rattle.ocpi_text.specs.Text.{key}
+use Rattle.ocpi_types.specs.Locations.{AreLocations}
+use Rattle.ocpi_types.specs.declared.commands.Command.TheVariants as command
+use Rattle.ocpi_types.specs.declared.commands.StartSession.{StartSession}
+use Rattle.ocpi_types.specs.declared.packet.Body.TheVariants as body
+use Rattle.ocpi_types.specs.declared.packet.Packet.{Packet}
+use Rattle.ocpi_types.specs.declared.rows.Change.TheVariants.{Drop}
+use Rattle.ocpi_types.specs.declared.rows.Row.TheVariants as row
+use Rattle.ocpi_types.specs.declared.rows.RowKey.TheVariants as keys
+use Rattle.ocpi_types.specs.declared.site.Connector.{Connector}
+use Rattle.ocpi_types.specs.declared.site.Evse.{Evse}
+use Rattle.ocpi_types.specs.declared.site.Location.{Location}
+use Rattle.ocpi_types.specs.declared.stored.OpenCommand.{OpenCommand}
+use Rattle.ocpi_types.specs.declared.stored.Reservation.{Reservation}
+use Rattle.reservation_book.specs.Tokens.{IsToken}
+use Rattle.site_book.specs.Sites.{Fits}
+use Rattle.operator_rows.specs.State.{State}
+use Rattle.operator_steps.specs.Events.{Arrives, Event, Happens}
+use Rattle.operator_laws.specs.Sessions.{Puts}
+
+-- the provider of that key reserved that EVSE for the token of the start, at the location that the start names
+pub record IsReservedFor (s : State) (p id evse : List ℕ) (c : StartSession) : Type 0 where
+  pub reservation : Reservation
+  pub stands : get s.rows.booked.reservations (p, id) ≡ Some reservation
+  pub here : key reservation.evse_uid ≡ evse
+  pub location_is : key reservation.location_id ≡ key c.location_id
+  pub token_is : IsToken (key c.token.uid) c.token.token_type reservation.token
+
+-- an EVSE in service of the location that the start names, which the start may be about, is reserved so
+pub record HasReserved (s : State) (p : List ℕ) (c : StartSession) : Type 0 where
+  pub location : Location
+  pub listed : Contains s.site.locations location
+  pub location_is : key location.id ≡ key c.location_id
+  pub evse : Evse
+  pub connector : Connector
+  pub fits : Fits location.evses c.evse_uid c.connector_id evse connector
+  pub in_service : get s.rows.out_of_service (key evse.uid) ≡ None
+  pub id : List ℕ
+  pub reserved : IsReservedFor s p id (key evse.uid) c
+
+-- the start of that number takes an EVSE that is reserved for it, and the reservation ends
+pub record UsesReservation (s : State) (e : Event) (p : List ℕ) (c : StartSession) (o : OpenCommand) : Type 0 where
+  pub id : List ℕ
+  pub evse : List ℕ
+  pub takes : o.evse_uid ≡ Some evse
+  pub reserved : IsReservedFor s p id (key evse) c
+  pub ends : Contains e.changes (Drop (keys.Reservation p id))
+
+-- where its provider has a reservation for it, a start that is opened uses one, and takes no EVSE that is free
+abbrev pub ReservationsAreUsed : Type 0
+ReservationsAreUsed = (s t : State) (e : Event) → AreLocations s.site.locations → Happens s e t → (at : ℕ) (q : Packet) (c : StartSession) → e.input ≡ Arrives at q →
+    q.body ≡ body.Command (command.StartSession c) → HasReserved s (key q.from) c → (o : OpenCommand) → Puts e (row.Pending (key q.from) q.request o) →
+    UsesReservation s e (key q.from) c o
