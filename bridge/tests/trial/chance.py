@@ -11,4 +11,5 @@ def stream(seed: int, *names: object) -> Random:
 
 
 def happens(chance: Random, rate: float = RATE) -> bool:
+    """Draws whether something happens."""
     return chance.random() < rate

@@ -15,6 +15,7 @@ WH = Decimal("0.001")
 
 
 def party_of(members: Members) -> str:
+    """The party that an object names."""
     return f"{members['country_code']}/{members['party_id']}"
 
 
@@ -117,6 +118,7 @@ def is_billed_once(records: Mapping[str, Records], charge_points: Mapping[str, C
 
 
 def told(energies: "Counter[Decimal]") -> str:
+    """Energies, in words."""
     return ", ".join(f"{energy:f}" for energy in sorted(energies.elements())) or "none"
 
 

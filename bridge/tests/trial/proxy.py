@@ -28,6 +28,7 @@ class Budget:
     made: int = 0
 
     def take(self) -> bool:
+        """Whether one more request may be made."""
         self.made += 1
         return self.made <= self.left
 
@@ -44,6 +45,7 @@ class Fate:
 
     @staticmethod
     def drawn(chance: Random) -> "Fate":
+        """A fate, of which each part is drawn by itself."""
         copies = [chance.uniform(0.02, LONGEST_DELAY) if happens(chance) else 0.0]
         if happens(chance):
             copies.append(chance.uniform(0.0, LONGEST_DELAY_OF_A_REPEAT))
@@ -54,6 +56,8 @@ class Fate:
 
 @dataclass(frozen=True)
 class Request:
+    """What came, as it is passed on. The path is as it was sent, with its query."""
+
     method: str
     path: str
     headers: "CIMultiDict[str]"
@@ -76,6 +80,7 @@ class Proxy:
         return not self._copies
 
     async def open(self) -> None:
+        """Listens. `url` is its address from then on."""
         self._session = ClientSession(timeout=ClientTimeout(total=5), auto_decompress=False)
         application = web.Application(client_max_size=4 << 20)
         application.router.add_route("*", "/{path:.*}", self._handle)
@@ -86,6 +91,7 @@ class Proxy:
         self.url = f"http://127.0.0.1:{self._runner.addresses[0][1]}"
 
     async def close(self) -> None:
+        """Ends what is under way, too."""
         for copy in self._copies:
             copy.cancel()
         await self._session.close()

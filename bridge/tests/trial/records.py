@@ -26,6 +26,7 @@ class Records:
 
     @staticmethod
     def of(store: Path) -> "Records":
+        """Reads a store that no program has open."""
         rows: dict[str, dict[str, str]] = {}
         connection = sqlite3.connect(f"file:{store}?mode=ro", uri=True)
         try:
@@ -45,6 +46,7 @@ class Records:
 
 
 def records_of(bridges: Mapping[str, RunningBridge]) -> dict[str, Records]:
+    """The rows of each party's store."""
     return {party: Records.of(bridge.store) for party, bridge in bridges.items()}
 
 
