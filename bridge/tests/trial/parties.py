@@ -46,7 +46,7 @@ class Secrets:
 
     @staticmethod
     def drawn(chance: Random) -> "Secrets":
-        """Secrets that are long enough to be found in a log by chance never."""
+        """Secrets, so long that none stands in a log by chance."""
         tokens = {(one, other): f"{chance.getrandbits(160):040x}" for one in PARTIES for other in partners_of(one)}
         return Secrets(tokens, {place.charge_point: f"{chance.getrandbits(80):020x}" for place in PLACES})
 
