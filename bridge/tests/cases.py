@@ -115,12 +115,11 @@ class OperatorCase(BridgeCase):
         self.assertEqual(["result"], list(received.body))
         return str(received.body["result"])
 
-    async def version(self, status: str, party: OcpiParty | None = None) -> Members:
-        """The next Session of a status that is PUT to a provider."""
+    async def version(self, status: str, kwh: float | None = None) -> Members:
+        """The next Session of a status, and of an energy where one is given, that is PUT to the provider."""
         def fits(request: Received) -> bool:
-            return request.method == "PUT" and request.body["status"] == status
-        received = await (party or self.provider).came("sessions", fits)
-        return dict(received.body)
+            return request.method == "PUT" and request.body["status"] == status and kwh in (None, request.body["kwh"])
+        return dict((await self.provider.came("sessions", fits)).body)
 
 
 class ProviderCase(BridgeCase):

@@ -105,7 +105,7 @@ class PulledTokens(OperatorCase):
 class Credits(OperatorCase):
     """A bill that the operator takes back."""
 
-    async def test_a_credit_is_posted_once(self) -> None:
+    async def test_a_credit_is_made_once(self) -> None:
         await self.provider.put_token(self.token)
         charge_point = await self.begin_charge_point()
         begun = await charge_point.call("StartTransaction", {
@@ -116,7 +116,8 @@ class Credits(OperatorCase):
         done = [(await self.bridge.admin_post("/credits", {"session_id": bill["session_id"]}))["answer"]["done"]["done"]
                 for _ in range(2)]
         self.assertEqual(["stepped", "idle"], done)
-        credit = (await self.provider.came("cdrs")).body
+        credit = (await self.provider.came("cdrs", lambda request: "credit" in request.body)).body
         self.assertEqual((True, bill["id"], -1.0, 4.0), (
             credit["credit"], credit["credit_reference_id"], credit["total_cost"]["excl_vat"], credit["total_energy"]))
-        self.assertEqual([], [request for request in self.provider.requests if request.module == "cdrs"])
+        records = await self.bridge.admin_get("/cdrs")
+        self.assertEqual({bill["id"], credit["id"]}, {record["id"] for record in records})
