@@ -13,8 +13,6 @@ from typing import Any
 
 def main() -> None:
     """Answers lines. The serial of the last packet is kept in the store's file."""
-    if sys.argv[1] == "help":
-        return
     store = Path(sys.argv[sys.argv.index("--store") + 1])
     for number, line in enumerate(sys.stdin, 1):
         with store.with_suffix(".lines").open("a") as lines:

@@ -16,8 +16,6 @@ def main() -> None:
     """Hands lines on, one at a time, as a bridge feeds them."""
     words = sys.argv[1:]
     program = os.environ["OCPI_NODES"]
-    if words[0] == "help":
-        os.execv(program, [program, *words])
     plan = Path(words[words.index("--store") + 1] + ".stop")
     node = subprocess.Popen([program, *words], stdin=subprocess.PIPE, stdout=subprocess.PIPE)
     assert node.stdin is not None and node.stdout is not None

@@ -125,8 +125,7 @@ class StopTest(FeederCase):
             except (OutcomeLost, NodeEnded) as fault:
                 seen.add(type(fault).__name__)
         await within(running.feeder.feed(Events("BE/BEC", Clock()).tick()))
-        # With today's program the line `[]` is malformed, so that the status is 1.
-        self.assertEqual(1, await running.end())
+        self.assertEqual(0, await running.end())
         noted = [json.dumps(outcome.event) for outcome in running.noted if outcome.event["event"] != "tick"]
         self.assertEqual(len(set(noted)), len(noted), "an outcome was told twice")
         settled = subprocess.run([PROGRAM, "settle", running.settings.store], capture_output=True, text=True,
@@ -159,10 +158,26 @@ class ProgramTest(FeederCase):
         running.begin()
         self.assertEqual(2, await within(running.task))
 
+    async def test_a_line_that_was_refused_is_told_by_the_status_and_the_trial_of_several_events_is_not(self) -> None:
+        for event, status in ((Events("BE/BEC", Clock()).tick(), 0), ({"event": "none", "node": "BE/BEC"}, 1)):
+            running = Running(self.folder(), PROGRAM)
+            await within(running.feeder.feed(event))
+            self.assertEqual(status, await running.end())
+
+    async def test_an_idle_tick_writes_nothing(self) -> None:
+        running = Running(self.folder(), PROGRAM)
+        await within(running.opened.wait())
+        log = running.folder / "state.db-wal"
+        before = log.stat()
+        outcome = await within(running.feeder.feed(Events("BE/BEC", Clock()).tick()))
+        self.assertEqual(("idle", before.st_mtime_ns, before.st_size),
+                         (outcome.word, log.stat().st_mtime_ns, log.stat().st_size))
+        await running.end()
+
     async def test_a_node_that_fails_is_started_again_later_and_later(self) -> None:
         """At once, and then after 1, 2 and 4 s, of a clock that goes ten times as fast."""
         folder = self.folder()
-        running = Running(folder, f"#!/bin/sh\n[ $1 = help ] || date +%s.%N >> {folder}/starts\nexit 1\n", factor=10)
+        running = Running(folder, f"#!/bin/sh\ndate +%s.%N >> {folder}/starts\nexit 1\n", factor=10)
         starts: list[float] = []
         while len(starts) < 5:
             await asyncio.sleep(0.05)

@@ -1,7 +1,6 @@
 """The program `node` as a child process: a line in, lines out, and its end."""
 import asyncio
 import logging
-import subprocess
 from asyncio.subprocess import PIPE, Process
 from contextlib import suppress
 
@@ -23,13 +22,12 @@ class Child:
     """A running program. It is in a session of its own, so that a signal from the terminal reaches the bridge alone."""
 
     def __init__(self, process: Process, settings: NodeSettings) -> None:
-        assert process.stdin is not None and process.stdout is not None and process.stderr is not None
+        assert process.stdin and process.stdout and process.stderr
         self._process, self._input, self._output = process, process.stdin, process.stdout
         self._settings = settings
         self._transcript: Transcript | None = None
-        self._has_wrong_setup = False
+        self._has_wrong_setup = self.found_lock = False
         self._errors = asyncio.create_task(self._log_errors(process.stderr))
-        self.found_lock = False
 
     @classmethod
     async def start(cls, settings: NodeSettings, existing: bool) -> "Child":
@@ -44,7 +42,7 @@ class Child:
 
         The transcript is touched only once the store is open, since another bridge may write it until then.
         """
-        await self._feed(self._settings.setup_line.encode() + b"\n")
+        await self.write(self._settings.setup_line)
         line = await self._next_line()
         opened: Members = read_json(line)
         if opened["done"] != "opened":
@@ -62,7 +60,11 @@ class Child:
         ended = line.encode() + b"\n"
         if self._transcript is not None:
             self._transcript.echo(ended)
-        await self._feed(ended)
+        try:
+            self._input.write(ended)
+            await self._input.drain()
+        except ConnectionError:
+            raise ChildEnded() from None
 
     async def read(self) -> Members:
         """The next line that the program writes. Raises ChildEnded where there is none, or where it was cut."""
@@ -71,13 +73,6 @@ class Child:
             self._transcript.append(line)
         members: Members = read_json(line)
         return members
-
-    async def _feed(self, line: bytes) -> None:
-        try:
-            self._input.write(line)
-            await self._input.drain()
-        except ConnectionError:
-            raise ChildEnded() from None
 
     async def _next_line(self) -> bytes:
         line = await self._output.readline()
@@ -102,8 +97,3 @@ class Child:
             text = line.decode(errors="replace").rstrip()
             self.found_lock = self.found_lock or LOCKED in text
             LOG.warning("%s", text)
-
-
-def has_existing(settings: NodeSettings) -> bool:
-    """Whether the program has the option that makes no new store."""
-    return b"--existing" in subprocess.run([settings.program, "help", "node"], capture_output=True, check=False).stdout

@@ -1,8 +1,8 @@
 """Feeds a node, one line at a time, so that no stop of the node or of the bridge loses an event or has it done twice.
 
-Each line is kept in `state` until its `done` came, with the serial of the last packet that was seen by then. After a
-stop a kept line is fed again, but where a packet of it came out or the node's serial has risen: then it was carried
-out, and what it gave is lost, as links lose packets.
+Each line, but a tick, is kept in `state` until its `done` came, with the serial of the last packet that was seen by
+then. After a stop a kept line is fed again, but where a packet of it came out or the node's serial has risen: then it
+was carried out, and what it gave is lost, as links lose packets.
 """
 import asyncio
 import logging
@@ -10,6 +10,7 @@ import sqlite3
 import time
 from collections import deque
 from collections.abc import Awaitable, Callable, Iterable
+from contextlib import suppress
 from typing import TypeVar
 
 from ..admin.metrics import Metrics
@@ -17,7 +18,7 @@ from ..configuration import NodeSettings
 from ..events import Events, Outcome, Packet
 from ..json_text import Members, write_json
 from ..state import State
-from .child import Child, ChildEnded, has_existing
+from .child import Child, ChildEnded
 from .lines import Line, Waiting, kept_line, next_line
 
 LOG = logging.getLogger("node")
@@ -40,10 +41,7 @@ class Feeder:
     """The node of a bridge. `run` starts it, and again after each stop; `feed` has it carry out an event."""
 
     def __init__(self, settings: NodeSettings, events: Events, state: State, metrics: Metrics) -> None:
-        self._settings = settings
-        self._events = events
-        self._state = state
-        self._metrics = metrics
+        self._settings, self._events, self._state, self._metrics = settings, events, state, metrics
         self._before: list[Listener] = []
         self._after: list[Listener] = []
         self._opened: list[Callable[[], None]] = []
@@ -51,11 +49,12 @@ class Feeder:
         self._line = kept_line(state.value("node.line"))
         self._serial = int(state.value("node.serial") or "0")
         self._lost: list[Waiting] = []
-        self._takes_arrays = False
-        self._woken, self._stopping, self._closed, self._reopened = (asyncio.Event() for _ in range(4))
-        self._reopened.set()
-        self._closing = asyncio.Lock()
-        self._has_ended = False
+        self._woken, self._stopping = asyncio.Event(), asyncio.Event()
+        # Held while the node runs, and how many wait until it does not.
+        self._running, self._closing = asyncio.Lock(), 0
+        self._has_ended = self._takes_arrays = False
+        # How many lines were malformed or refused since the node was started.
+        self._refusals = 0
         self._ticked = float("-inf")
         self._delay = 0.0
         self.is_open = False
@@ -84,7 +83,7 @@ class Feeder:
         if self._has_ended or self._stopping.is_set():
             raise NodeEnded()
         outcome: asyncio.Future[Outcome] = asyncio.get_running_loop().create_future()
-        self._queue.append(Waiting.of(event, outcome))
+        self._queue.append(Waiting(event, outcome))
         self._woken.set()
         return await outcome
 
@@ -95,66 +94,63 @@ class Feeder:
 
     async def while_closed(self, action: Callable[[], Awaitable[Result]]) -> Result:
         """Ends the node, awaits an action, and starts the node again. Events wait meanwhile. Raises NodeEnded."""
-        async with self._closing:
-            self._reopened.clear()
-            self._woken.set()
-            try:
-                if not self._has_ended:
-                    await self._closed.wait()
+        self._closing += 1
+        self._woken.set()
+        try:
+            async with self._running:
                 if self._has_ended:
                     raise NodeEnded()
                 return await action()
-            finally:
-                self._closed.clear()
-                self._reopened.set()
+        finally:
+            self._closing -= 1
 
     async def run(self) -> int:
         """Runs the node until `stop`, or until it ends with a status that no new start mends. Gives its status."""
         ticks = asyncio.create_task(self._tick_each_second())
+        status = 0
         try:
-            return await self._run_again_and_again()
+            while not self._stopping.is_set() and status not in (2, 3):
+                async with self._running:
+                    status = await self._run_until_closed(status)
         finally:
             ticks.cancel()
             self._has_ended = True
-            self._closed.set()
             for waiting in (*(self._line.waiting if self._line else ()), *self._lost, *self._queue):
                 waiting.fail(NodeEnded())
+        # A program that takes one event in a line ends with 1 for the trial of several alone.
+        return 0 if status == 1 and not self._takes_arrays and self._refusals == 1 else status
 
     async def _tick_each_second(self) -> None:
         while True:
             await self._events.clock.sleep(1)
             if self.is_open and not any(waiting.event["event"] == "tick" for waiting in self._queue):
-                self._queue.append(Waiting.of(self._events.tick()))
+                self._queue.append(Waiting(self._events.tick()))
                 self._woken.set()
 
-    async def _run_again_and_again(self) -> int:
-        knows_existing = has_existing(self._settings)
+    async def _run_until_closed(self, status: int) -> int:
+        """Runs the node, and again after each end that a new start mends. Gives the last status.
+
+        Ends where the bridge is stopping, or where somebody waits for the node to be closed.
+        """
         locked_delays = iter(LOCKED_DELAYS)
-        while True:
-            existing = knows_existing and self._state.value("node.was_opened") is not None
-            child = await Child.start(self._settings, existing)
+        while not self._stopping.is_set():
+            child = await Child.start(self._settings, self._state.value("node.was_opened") is not None)
             status = await self._run_once(child)
-            if not self._reopened.is_set() and status in (0, 1):
-                self._closed.set()
-                await self._reopened.wait()
-            elif status == 3 and child.found_lock and (delay := next(locked_delays, None)):
+            if status == 3 and child.found_lock and (delay := next(locked_delays, None)):
                 await asyncio.sleep(delay)
-            elif status in (2, 3):
-                return status
+            elif status in (2, 3) or (self._closing and status in (0, 1)):
+                break
             elif not self._stopping.is_set():
                 locked_delays = iter(LOCKED_DELAYS)
                 await self._pause(status)
-            if self._stopping.is_set():
-                return status
+        return status
 
     async def _pause(self, status: int) -> None:
         """Waits before the node is started again, each time longer until it could be opened."""
         LOG.error("the node ended with status %d, and is started again in %d s", status, self._delay)
         self._metrics.count("ocpi_node_restarts_total")
-        try:
+        with suppress(TimeoutError):
             await self._events.clock.within(self._delay, self._stopping.wait())
-        except TimeoutError:
-            pass
         self._delay = min(max(1.0, 2 * self._delay), LONGEST_DELAY)
 
     async def _run_once(self, child: Child) -> int:
@@ -162,11 +158,9 @@ class Feeder:
         try:
             await self._open(child)
             while not self._has_to_end():
-                if self._line is not None:
-                    await self._carry_out(child, self._line)
-                elif self._queue:
-                    with self._state.transaction():
-                        self._keep(next_line(self._queue, self._takes_arrays))
+                line = self._line or next_line(self._queue, self._takes_arrays)
+                if line is not None:
+                    await self._carry_out(child, line)
                 else:
                     self._woken.clear()
                     await self._woken.wait()
@@ -178,14 +172,15 @@ class Feeder:
         return status
 
     def _has_to_end(self) -> bool:
-        return self._stopping.is_set() or not self._reopened.is_set()
+        return self._stopping.is_set() or self._closing > 0
 
     async def _open(self, child: Child) -> None:
+        self._refusals = 0
         self._judge_kept_line(await child.open())
         if self._line is not None:
             await self._carry_out(child, self._line)
         self._takes_arrays = (await self._carry_out(child, Line("[]", [])))["done"] == "all"
-        tick = Waiting.of(self._events.tick())
+        tick = Waiting(self._events.tick())
         await self._carry_out(child, Line(tick.text, [tick]))
         self._delay = 0.0
         self.is_open = True
@@ -197,7 +192,7 @@ class Feeder:
     def _judge_kept_line(self, serial: int) -> None:
         """Says of the line that a stop left whether it was carried out, by the serial with which the node opened."""
         line = self._line
-        if line is not None and (line.has_output or serial > self._serial):
+        if line is not None and (not line.is_fed_again or serial > self._serial):
             self._lost += line.waiting
             line = None
         if serial < self._serial:
@@ -209,7 +204,7 @@ class Feeder:
 
     def _keep(self, line: Line | None) -> None:
         self._line = line
-        self._state.set_value("node.line", "" if line is None else line.text)
+        self._state.set_value("node.line", line.text if line is not None and line.is_fed_again else "")
         self._state.set_value("node.serial", str(self._serial))
 
     async def _carry_out(self, child: Child, line: Line) -> Members:
@@ -223,11 +218,12 @@ class Feeder:
         packets: list[Packet] = []
         while True:
             output = await child.read()
-            line.has_output = True
+            line.is_fed_again = False
             if "kind" in output:
                 packets.append(Packet.of(output))
                 self._serial = packets[-1].serial
                 continue
+            self._refusals += output["done"] in ("malformed", "refused")
             if "event" in output or not line.is_array:
                 outcomes.append(Outcome(line.waiting[output.get("event", 0)].event, output, tuple(packets)))
                 packets = []

@@ -13,17 +13,15 @@ MOST_BYTES = 1_048_576
 
 @dataclass
 class Waiting:
-    """An event with its text. One that is `alone` is fed in a line of its own."""
+    """An event, with where its outcome is awaited. One that is `alone` is fed in a line of its own."""
 
     event: Members
-    text: str
     outcome: "Future[Outcome] | None" = None
     alone: bool = False
 
-    @staticmethod
-    def of(event: Members, outcome: "Future[Outcome] | None" = None) -> "Waiting":
-        """An event, and where its outcome is awaited. Raises NotJson where it is nested too deep."""
-        return Waiting(event, write_json(event), outcome)
+    def __post_init__(self) -> None:
+        """Raises NotJson where the event is nested too deep."""
+        self.text = write_json(self.event)
 
     def succeed(self, outcome: Outcome) -> None:
         if self.outcome is not None and not self.outcome.done():
@@ -36,11 +34,13 @@ class Waiting:
 
 @dataclass
 class Line:
-    """A line. `has_output` says that something came out for it: then its events were carried out."""
+    """A line. After a stop it `is_fed_again` unless something came out for it. Of ticks alone none is: others come."""
 
     text: str
     waiting: list[Waiting]
-    has_output: bool = False
+
+    def __post_init__(self) -> None:
+        self.is_fed_again = any(waiting.event["event"] != "tick" for waiting in self.waiting)
 
     @property
     def is_array(self) -> bool:
@@ -52,7 +52,7 @@ def kept_line(text: str | None) -> Line | None:
     if not text:
         return None
     kept = read_json(text)
-    return Line(text, [Waiting.of(event) for event in (kept if isinstance(kept, list) else [kept])])
+    return Line(text, [Waiting(event) for event in (kept if isinstance(kept, list) else [kept])])
 
 
 def next_line(queue: deque[Waiting], takes_arrays: bool) -> Line | None:
