@@ -7,7 +7,7 @@ from typing import Any
 from .admin.metrics import Metrics
 from .admin.server import Admin
 from .clock import Clock
-from .configuration import Configuration
+from .configuration import Configuration, OcppSettings
 from .events import Events, Outcome
 from .listening import Listener
 from .node.feeder import Feeder
@@ -25,6 +25,7 @@ from .ocpp.central_system import CentralSystem
 from .state import State
 
 LOG = logging.getLogger("bridge")
+NO_CHARGE_POINTS = OcppSettings("", {})
 
 
 class Bridge:
@@ -46,20 +47,20 @@ class Bridge:
         feeder.after_opening(self._pulling.wake)
         feeder.after_commit(self._send)
         self._listeners: list[Listener] = []
-        self._central_system: CentralSystem | None = None
-        if configuration.ocpp is not None:
-            self._central_system = central_system = CentralSystem(configuration.ocpp, events, state, feeder, objects)
+        ocpp = configuration.ocpp
+        central_system = CentralSystem(ocpp or NO_CHARGE_POINTS, events, state, feeder, objects)
+        if ocpp is not None:
             feeder.before_commit(central_system.note)
             feeder.after_commit(central_system.act)
             feeder.after_opening(central_system.opened)
-            self._listeners.append(Listener("ocpp", configuration.ocpp.listen, central_system.application()))
+            self._listeners.append(Listener("ocpp", ocpp.listen, central_system.application()))
         locations = None if configuration.site is None else Locations(
             state, clock, objects, configuration.node.party, configuration.site,
-            self._central_system.evse_status if self._central_system else lambda _: None)
+            central_system.evse_status if ocpp is not None else lambda _: None)
         interfaces = Interfaces(configuration.ocpi.url, events, objects, requests, locations, feeder.feed)
         server = Server(events, partners, Credentials(configuration, partners, exchange), interfaces, metrics)
         self._listeners.append(Listener("ocpi", configuration.ocpi.listen, server.application()))
-        admin = Admin(configuration, state, events, feeder, objects, partners, metrics, locations, self._central_system)
+        admin = Admin(configuration, state, events, feeder, objects, partners, metrics, locations, central_system)
         self._listeners.append(Listener("admin", configuration.admin, admin.application()))
 
     def _send(self, outcome: Outcome) -> None:
@@ -73,26 +74,9 @@ class Bridge:
         self._feeder.after_opening(opened.set)
         for number in (signal.SIGTERM, signal.SIGINT):
             asyncio.get_running_loop().add_signal_handler(number, stopping.set)
-        node = asyncio.create_task(self._feeder.run())
-        stop = asyncio.create_task(stopping.wait())
-        tasks: list[asyncio.Task[Any]] = [node, stop, asyncio.create_task(opened.wait())]
-        worst = 0
-        try:
-            await asyncio.wait(tasks, return_when=asyncio.FIRST_COMPLETED)
-            if opened.is_set():
-                for listener in self._listeners:
-                    await listener.open()
-                tasks = [node, stop, asyncio.create_task(self._client.run()), asyncio.create_task(self._pulling.run())]
-                await asyncio.wait(tasks, return_when=asyncio.FIRST_COMPLETED)
-        except OSError as fault:
-            LOG.error("%s", fault)
-            worst = 1
-        finally:
-            await self._end(tasks)
-        return max(worst, await node)
-
-    async def _end(self, tasks: "list[asyncio.Task[Any]]") -> None:
-        """Takes no more requests, ends the node, which is the first task, and then all connections."""
+        node, serving = asyncio.create_task(self._feeder.run()), asyncio.create_task(self._serve(opened))
+        tasks: list[asyncio.Task[Any]] = [node, serving, asyncio.create_task(stopping.wait())]
+        await asyncio.wait(tasks, return_when=asyncio.FIRST_COMPLETED)
         for listener in self._listeners:
             listener.stop()
         for task in tasks[1:]:
@@ -103,6 +87,19 @@ class Bridge:
         for listener in self._listeners:
             await listener.close()
         self._state.close()
+        fault = None if serving.cancelled() else serving.exception()
+        if fault is not None:
+            LOG.error("%s", fault, exc_info=None if isinstance(fault, OSError) else fault)
+        return max(await node, 0 if fault is None else 1)
+
+    async def _serve(self, opened: asyncio.Event) -> None:
+        """Listens once the node is open, and then sends and pulls. Raises OSError."""
+        await opened.wait()
+        for listener in self._listeners:
+            await listener.open()
+        async with asyncio.TaskGroup() as group:
+            group.create_task(self._client.run())
+            group.create_task(self._pulling.run())
 
 
 async def run(configuration: Configuration) -> int:

@@ -28,19 +28,6 @@ PATTERNS = {
 
 
 @dataclass(frozen=True)
-class Address:
-    """Where to listen. Port 0 lets the system pick one."""
-
-    host: str
-    port: int
-
-    @staticmethod
-    def of(text: str) -> "Address":
-        host, _, port = text.rpartition(":")
-        return Address(host.strip("[]"), int(port))
-
-
-@dataclass(frozen=True)
 class NodeSettings:
     """The program, the party that it is, and its files. `setup_line` is the setup on one line."""
 
@@ -55,7 +42,7 @@ class NodeSettings:
 class OcpiSettings:
     """`url` is what partners are told, without a slash at its end."""
 
-    listen: Address
+    listen: str
     url: str
     business: str
 
@@ -81,7 +68,7 @@ class ChargePointSettings:
 class OcppSettings:
     """The charge points by their ids."""
 
-    listen: Address
+    listen: str
     charge_points: dict[str, ChargePointSettings]
 
 
@@ -98,13 +85,13 @@ class PartnerSettings:
 
 @dataclass(frozen=True)
 class Configuration:
-    """All of it. `site` is the node's site in the setup, and None for a provider."""
+    """All of it. `site` is the node's site in the setup, and None for a provider. Where to listen is HOST:PORT."""
 
     node: NodeSettings
     state: Path
     ocpi: OcpiSettings
     ocpp: OcppSettings | None
-    admin: Address
+    admin: str
     partners: tuple[PartnerSettings, ...]
     clock_factor: float
     site: Members | None
@@ -133,8 +120,8 @@ def read_configuration(path: Path) -> Configuration:
         refuse("ocpp", "a provider has no charge points")
     return Configuration(
         node=NodeSettings(node["program"], party, write_json(setup), node["store"], node["transcript"]),
-        state=file["state"], ocpi=OcpiSettings(Address.of(ocpi["listen"]), ocpi["url"].rstrip("/"), ocpi["business"]),
-        ocpp=_ocpp(file["ocpp"], site) if file["ocpp"] and site else None, admin=Address.of(file["admin"]["listen"]),
+        state=file["state"], ocpi=OcpiSettings(ocpi["listen"], ocpi["url"].rstrip("/"), ocpi["business"]),
+        ocpp=_ocpp(file["ocpp"], site) if file["ocpp"] and site else None, admin=file["admin"]["listen"],
         partners=_partners(file["partners"], [name for name in sites if (sites[name] is None) == (site is not None)]),
         clock_factor=file["clock_factor"] or 1.0, site=site, setup=setup)
 
@@ -182,7 +169,7 @@ def _ocpp(ocpp: Members, site: Members) -> OcppSettings:
                 refuse(f"{path}.connectors.{number}", "no number of a connector, from 1")
             connectors[int(number)] = _connector(connector, f"{path}.connectors.{number}", evses)
         charge_points[entry["id"]] = ChargePointSettings(entry["id"], entry["password"], connectors)
-    return OcppSettings(Address.of(ocpp["listen"]), charge_points)
+    return OcppSettings(ocpp["listen"], charge_points)
 
 
 def _connector(connector: Members, path: str, evses: dict[str, list[str]]) -> ConnectorSettings:

@@ -54,10 +54,8 @@ class Outcome:
 
     def answer_to(self, sender: str, request: int) -> Packet | None:
         """The packet that answers a request of a party."""
-        for packet in self.packets:
-            if packet.is_answer and packet.request == request and same_party(packet.receiver, sender):
-                return packet
-        return None
+        return next((packet for packet in self.packets if packet.is_answer and packet.request == request
+                     and same_party(packet.receiver, sender)), None)
 
 
 class Events:

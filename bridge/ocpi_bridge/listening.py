@@ -5,8 +5,6 @@ from collections.abc import Awaitable, Callable
 
 from aiohttp import web
 
-from .configuration import Address
-
 LOG = logging.getLogger("bridge")
 # In seconds of real time. A connection on which nothing is asked is kept as long.
 ARRIVES_WITHIN = 30.0
@@ -15,12 +13,11 @@ Handler = Callable[[web.Request], Awaitable[web.StreamResponse]]
 
 
 class Listener:
-    """A web application at an address. Connections whose requests do not arrive in time are ended."""
+    """A web application at HOST:PORT. Connections whose requests do not arrive in time are ended."""
 
-    def __init__(self, name: str, address: Address, application: web.Application) -> None:
-        """`name` is what a log line calls it."""
-        self._name = name
-        self._address = address
+    def __init__(self, name: str, address: str, application: web.Application) -> None:
+        """`name` is what a log line calls it. The system picks a port for 0."""
+        self._name, self._address = name, address
         application.middlewares.insert(0, self._arrive)
         # No body is decompressed: a small one could become very large.
         self._runner = web.AppRunner(
@@ -31,10 +28,10 @@ class Listener:
     async def open(self) -> None:
         """Begins to listen. Raises OSError."""
         await self._runner.setup()
+        host, _, port = self._address.rpartition(":")
         self._server = await asyncio.get_running_loop().create_server(
-            self._connect, self._address.host, self._address.port, backlog=MOST_UNACCEPTED)
-        host, port = self._server.sockets[0].getsockname()[:2]
-        LOG.info("%s: listening on %s:%d", self._name, f"[{host}]" if ":" in host else host, port)
+            self._connect, host.strip("[]"), int(port), backlog=MOST_UNACCEPTED)
+        LOG.info("%s: listening on %s:%d", self._name, host, self._server.sockets[0].getsockname()[1])
 
     def stop(self) -> None:
         """Takes no more connections."""
@@ -59,8 +56,6 @@ class Listener:
         if connection in self._silent:
             self._silent.remove(connection)
             connection.force_close()
-            if connection.transport is not None:
-                connection.transport.abort()
 
     @web.middleware
     async def _arrive(self, request: web.Request, handler: Handler) -> web.StreamResponse:

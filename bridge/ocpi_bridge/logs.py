@@ -2,15 +2,15 @@
 import json
 import logging
 import sys
-import time
+
+from .clock import moment_of
 
 
 class JsonLines(logging.Formatter):
     """Writes a record as an object of `time`, `level`, `logger` and `message`."""
 
     def format(self, record: logging.LogRecord) -> str:
-        moment = time.strftime("%Y-%m-%dT%H:%M:%S", time.gmtime(record.created)) + f".{int(record.msecs):03}Z"
-        return json.dumps({"time": moment, "level": record.levelname, "logger": record.name,
+        return json.dumps({"time": moment_of(record.created), "level": record.levelname, "logger": record.name,
                            "message": super().format(record)})
 
 

@@ -1,5 +1,4 @@
 """What a bridge keeps in its own SQLite file, so that no stop of it loses what it promised to anybody."""
-import os
 import sqlite3
 from collections.abc import Iterator
 from contextlib import contextmanager
@@ -11,7 +10,7 @@ class State:
     """The file. Whoever keeps something in it has a table of its own (schema.sql), and changes it in a transaction."""
 
     def __init__(self, path: Path) -> None:
-        os.close(os.open(path, os.O_CREAT | os.O_RDWR, 0o600))
+        path.touch(0o600)
         self._connection = sqlite3.connect(path, isolation_level=None, timeout=10)
         self.query("PRAGMA journal_mode=WAL")
         self.query("PRAGMA synchronous=FULL")

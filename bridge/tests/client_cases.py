@@ -8,7 +8,7 @@ from aiohttp import web
 
 from ocpi_bridge.admin.metrics import Metrics
 from ocpi_bridge.clock import Clock
-from ocpi_bridge.configuration import Address, Configuration, NodeSettings, OcpiSettings, PartnerSettings
+from ocpi_bridge.configuration import Configuration, NodeSettings, OcpiSettings, PartnerSettings
 from ocpi_bridge.events import Events, Outcome, Packet
 from ocpi_bridge.ocpi.client import Client
 from ocpi_bridge.ocpi.exchange import Exchange
@@ -26,7 +26,7 @@ def configuration(folder: Path, is_operator: bool, partner: PartnerSettings) -> 
     """The configuration of NL/TNM or of BE/BEC, with one partner."""
     node = operator("BE/BEC", ["E1"]) if is_operator else provider("NL/TNM")
     settings = NodeSettings(folder / "program", node["party"], "", folder / "node.db", None)
-    loopback = Address("127.0.0.1", 0)
+    loopback = "127.0.0.1:0"
     return Configuration(settings, folder / "bridge.db", OcpiSettings(loopback, BRIDGE_URL, "Business"), None, loopback,
                          (partner,), 1.0, node.get("site"), {"nodes": [node]})
 

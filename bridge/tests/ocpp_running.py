@@ -11,7 +11,7 @@ from aiohttp import web
 
 from ocpi_bridge.admin.metrics import Metrics
 from ocpi_bridge.clock import Clock, moment_of
-from ocpi_bridge.configuration import Address, ChargePointSettings, ConnectorSettings, NodeSettings, OcppSettings
+from ocpi_bridge.configuration import ChargePointSettings, ConnectorSettings, NodeSettings, OcppSettings
 from ocpi_bridge.events import Events, Outcome, Packet
 from ocpi_bridge.json_text import Members
 from ocpi_bridge.node.feeder import Feeder, NodeEnded, OutcomeLost
@@ -55,7 +55,7 @@ class Operating:
         connectors = [ConnectorSettings(uid, "1") for uid in ("E1", "E2", "E3")]
         charge_points = {"CP1": ChargePointSettings("CP1", "secret", {1: connectors[0], 2: connectors[1]}),
                          "CP2": ChargePointSettings("CP2", None, {1: connectors[2]})}
-        self.central_system = CentralSystem(OcppSettings(Address("127.0.0.1", 0), charge_points), self.events,
+        self.central_system = CentralSystem(OcppSettings("127.0.0.1:0", charge_points), self.events,
                                             self.state, self.feeder, self.objects)
         for listener in (self.objects.note, self._keep, self.central_system.note):
             self.feeder.before_commit(listener)

@@ -13,7 +13,7 @@ from yarl import URL
 
 from ocpi_bridge.admin.metrics import Metrics
 from ocpi_bridge.clock import Clock
-from ocpi_bridge.configuration import Address, Configuration, NodeSettings, OcpiSettings, PartnerSettings
+from ocpi_bridge.configuration import Configuration, NodeSettings, OcpiSettings, PartnerSettings
 from ocpi_bridge.events import Events, Outcome
 from ocpi_bridge.json_text import write_json
 from ocpi_bridge.node.feeder import Feeder
@@ -69,8 +69,8 @@ class ServerCase(unittest.IsolatedAsyncioTestCase):
         versions = "https://other.example/versions"
         settings = NodeSettings(PROGRAM, self.party, write_json({"nodes": nodes}), folder / "node.db", None)
         self.configuration = Configuration(
-            settings, folder / "state.db", OcpiSettings(Address("127.0.0.1", 0), URL_OF_BRIDGE, "Ours"), None,
-            Address("127.0.0.1", 0),
+            settings, folder / "state.db", OcpiSettings("127.0.0.1:0", URL_OF_BRIDGE, "Ours"), None,
+            "127.0.0.1:0",
             (PartnerSettings(self.node_partner, "node", "node token", "theirs", versions),
              PartnerSettings(self.ocpi_partner, "ocpi", "ocpi token", "theirs too", versions),
              PartnerSettings(new, "ocpi", "new token", None, None)), 1.0, site, {"nodes": nodes})

@@ -65,7 +65,7 @@ class ConfigurationTest(unittest.TestCase):
         self.assertEqual("https://ocpi.example.com/bec", configuration.ocpi.url)
         self.assertEqual("E1", configuration.ocpp.charge_points["CP1"].connectors[1].evse_uid)
         self.assertIsNone(configuration.ocpp.charge_points["CP2"].password)
-        self.assertEqual(("::1", 0), (configuration.ocpp.listen.host, configuration.ocpp.listen.port))
+        self.assertEqual("[::1]:0", configuration.ocpp.listen)
         self.assertEqual(20, configuration.clock_factor)
         self.assertTrue(configuration.is_operator)
 

@@ -1,21 +1,14 @@
 """What a bridge counts and measures, in the text format that Prometheus reads."""
+import json
 from collections import defaultdict
 from collections.abc import Callable
+from pathlib import Path
 
 # The upper bounds of the histogram's buckets, in seconds.
 BOUNDS = (0.001, 0.0025, 0.005, 0.01, 0.025, 0.05, 0.1, 0.25, 0.5, 1.0, 2.5, 5.0, 10.0)
 
 # Each metric with its type and what it tells.
-METRICS = {
-    "ocpi_lines_total": ("counter", "Lines that were fed to the node, by what became of them."),
-    "ocpi_packets_total": ("counter", "Packets of the node, by kind and direction (in, out)."),
-    "ocpi_http_requests_total": ("counter", "OCPI requests, by partner, direction (in, out) and HTTP status."),
-    "ocpi_line_seconds": ("histogram", "Seconds from feeding a line to its done."),
-    "ocpi_node_restarts_total": ("counter", "How often the node was started again after it had ended by itself."),
-    "ocpi_charge_points_connected": ("gauge", "Charge points that are connected."),
-    "ocpi_open_commands": ("gauge", "Commands that wait for what their charge point or operator says."),
-    "ocpi_unacknowledged_pushes": ("gauge", "Pushes (sessions, records, tokens, results) that wait for an ack."),
-}
+METRICS: dict[str, tuple[str, str]] = json.loads(Path(__file__).with_name("metrics.json").read_text())
 Labels = tuple[tuple[str, str], ...]
 
 

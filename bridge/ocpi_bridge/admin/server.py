@@ -25,12 +25,10 @@ from ..state import State
 from .backup import back_up
 from .metrics import Metrics
 from .outstanding import Outstanding
-from .view import view
 
 Handler = Callable[[web.Request], Awaitable[web.StreamResponse]]
 
-PAGE = {"/": ("page.html", "text/html"), "/page.js": ("page.js", "text/javascript"),
-        "/page.css": ("page.css", "text/css")}
+PAGE = Path(__file__).parent / "page"
 HEADERS = {"Cache-Control": "no-store", "X-Content-Type-Options": "nosniff",
            "Content-Security-Policy": "default-src 'none'; script-src 'self'; style-src 'self'; connect-src 'self'; "
                                       "img-src data:; base-uri 'none'; form-action 'none'; frame-ancestors 'none'"}
@@ -44,33 +42,30 @@ FAILURES = {
 # Seconds within which a tick must have been answered, and the least seconds between two looks at what a page shows.
 HEALTHY_WITHIN = 5.0
 LOOK_EVERY = 0.5
+# How many of each list a page shows at most: the newest.
+MOST_SHOWN, MOST_TOKENS = 50, 500
 
 
 class Admin:
     """All these addresses. To be made before the feeder runs, since it follows what is outstanding from then on."""
 
     def __init__(self, configuration: Configuration, state: State, events: Events, feeder: Feeder, objects: Objects,
-                 partners: Partners, metrics: Metrics, locations: Locations | None = None,
-                 central_system: CentralSystem | None = None) -> None:
-        """`locations` are an operator's, and so is `central_system`, where it has charge points."""
-        self._configuration = configuration
-        self._events = events
-        self._feeder = feeder
-        self._metrics = metrics
-        self._central_system = central_system
-        self._end = asyncio.Event()
-        outstanding = Outstanding(state, objects, lambda: feeder.is_open)
+                 partners: Partners, metrics: Metrics, locations: Locations | None,
+                 central_system: CentralSystem) -> None:
+        """`locations` are an operator's."""
+        self._configuration, self._events, self._feeder, self._metrics = configuration, events, feeder, metrics
+        self._objects, self._locations, self._central_system = objects, locations, central_system
+        self._outstanding = outstanding = Outstanding(state, objects, lambda: feeder.is_open)
+        self._end, is_operator = asyncio.Event(), configuration.is_operator
         feeder.before_commit(outstanding.note)
         metrics.gauge("ocpi_unacknowledged_pushes", outstanding.pushes)
         metrics.gauge("ocpi_open_commands",
-                      lambda: len(central_system.commands()) if central_system else outstanding.open_commands())
-        metrics.gauge("ocpi_charge_points_connected", lambda: central_system.connected_count() if central_system else 0)
-        self._view = partial(view, configuration, objects, outstanding, locations)
+                      lambda: len(central_system.commands()) if is_operator else outstanding.open_commands())
+        metrics.gauge("ocpi_charge_points_connected", central_system.connected_count)
         self._lists: dict[str, Callable[[], list[Members]]] = {
-            "/sessions": partial(objects.newest, "sessions"), "/cdrs": partial(objects.newest, "cdrs"),
-            "/tokens": partial(objects.newest, "tokens"),
-            "/commands": lambda: central_system.commands() if central_system else outstanding.commands(),
-            "/charge_points": lambda: central_system.charge_points() if central_system else [],
+            **{f"/{module}": partial(objects.newest, module) for module in ("sessions", "cdrs", "tokens")},
+            "/commands": lambda: central_system.commands() if is_operator else outstanding.commands(),
+            "/charge_points": central_system.charge_points,
             "/partners": lambda: [{"party": partner.party, "kind": partner.kind, "registered": partner.is_registered,
                                    "versions_url": partner.versions_url} for partner in partners.all()]}
 
@@ -84,7 +79,7 @@ class Admin:
             web.post("/backup", self._backup), web.get("/metrics", self._metrics_text),
             web.get("/health", self._health), web.get("/events", self._stream),
             *(web.get(path, partial(self._list, path)) for path in self._lists),
-            *(web.get(path, _page) for path in PAGE)])
+            web.get("/", _page), web.get(r"/{file:page\.(js|css)}", _page)])
         return application
 
     async def _list(self, path: str, _: web.Request) -> web.Response:
@@ -114,7 +109,7 @@ class Admin:
         if not isinstance(evse_uid, str) or not isinstance(in_service, bool):
             raise web.HTTPBadRequest(text="wanted: evse_uid, a text, and in_service, true or false")
         told, status = await self._fed(self._events.make("service", evse_uid=evse_uid, in_service=in_service))
-        if self._central_system and status == 200:
+        if self._configuration.ocpp and status == 200:
             told["charge_point"] = await self._central_system.change_availability(evse_uid, in_service)
         return _answer(told, status)
 
@@ -144,13 +139,27 @@ class Admin:
         shown = ""
         while not self._end.is_set():
             began = time.monotonic()
-            text = write_json(self._view())
+            text = write_json(self._shown())
             pause = max(LOOK_EVERY, 9 * (time.monotonic() - began))
             await response.write(f"data: {text}\n\n".encode() if text != shown else b":\n\n")
             shown = text
             with suppress(TimeoutError):
                 await asyncio.wait_for(self._end.wait(), pause)
         return response
+
+    def _shown(self) -> Members:
+        """Party, role, sessions and bills; an operator's EVSEs, or a provider's operators, tokens, commands, debts."""
+        objects, configuration = self._objects, self._configuration
+        shown: Members = {"party": configuration.node.party, "is_operator": configuration.is_operator,
+                          **{module: objects.newest(module, MOST_SHOWN) for module in ("sessions", "cdrs")}}
+        if self._locations is not None:
+            return {**shown, "evses": [
+                {"uid": evse["uid"], "location": f"{location['address']}, {location['city']}",
+                 "status": evse["status"], "session": objects.living_session(evse["uid"])}
+                for location in self._locations.all() for evse in location["evses"]]}
+        return {**shown, "operators": [node for node in configuration.setup["nodes"] if node.get("site")],
+                "tokens": objects.newest("tokens", MOST_TOKENS), "commands": self._outstanding.commands(MOST_SHOWN),
+                "owed": self._outstanding.owed()}
 
     async def _end_streams(self, _: web.Application) -> None:
         self._end.set()
@@ -171,10 +180,8 @@ def _answer(value: object, status: int = 200) -> web.Response:
     return web.Response(text=write_json(value), status=status, content_type="application/json", headers=HEADERS)
 
 
-async def _page(request: web.Request) -> web.Response:
-    name, content_type = PAGE[request.path]
-    return web.Response(text=(Path(__file__).parent / "page" / name).read_text(), content_type=content_type,
-                        headers=HEADERS)
+async def _page(request: web.Request) -> web.FileResponse:
+    return web.FileResponse(PAGE / request.match_info.get("file", "page.html"), headers=HEADERS)
 
 
 @web.middleware
