@@ -38,21 +38,21 @@ class Bridge:
         metrics = Metrics()
         self._feeder = feeder = Feeder(configuration.node, events, state, metrics)
         objects = Objects(state)
-        feeder.before_commit(objects.note)
+        feeder.before_commit.append(objects.note)
         partners = Partners(configuration, state)
         requests = Requests(state)
         self._exchange = exchange = Exchange(clock, metrics)
         self._client = Client(configuration, state, partners, exchange, requests, events, feeder.feed)
         self._pulling = Pulling(self._client, objects, state, configuration.is_operator)
-        feeder.after_opening(self._pulling.wake)
-        feeder.after_commit(self._send)
+        feeder.after_opening.append(self._pulling.wake)
+        feeder.after_commit.append(self._send)
         self._listeners: list[Listener] = []
         ocpp = configuration.ocpp
         central_system = CentralSystem(ocpp or NO_CHARGE_POINTS, events, state, feeder, objects)
         if ocpp is not None:
-            feeder.before_commit(central_system.note)
-            feeder.after_commit(central_system.act)
-            feeder.after_opening(central_system.opened)
+            feeder.before_commit.append(central_system.note)
+            feeder.after_commit.append(central_system.act)
+            feeder.after_opening.append(central_system.opened)
             self._listeners.append(Listener("ocpp", ocpp.listen, central_system.application()))
         locations = None if configuration.site is None else Locations(
             state, clock, objects, configuration.node.party, configuration.site,
@@ -71,7 +71,7 @@ class Bridge:
     async def run(self) -> int:
         """Runs until it is told to stop, or its node ends for good. Gives the node's status, or 1 where it is worse."""
         opened, stopping = asyncio.Event(), asyncio.Event()
-        self._feeder.after_opening(opened.set)
+        self._feeder.after_opening.append(opened.set)
         for number in (signal.SIGTERM, signal.SIGINT):
             asyncio.get_running_loop().add_signal_handler(number, stopping.set)
         node, serving = asyncio.create_task(self._feeder.run()), asyncio.create_task(self._serve(opened))

@@ -1,7 +1,8 @@
 """The configuration of a bridge: a JSON file, whose every fault is refused by its path before anything starts.
 
-Its form is in configuration.json. Here is what its words mean, and what its parts and the setup must have in common.
+Its form is in configuration.json. Here is what its parts and the setup must have in common.
 """
+import json
 import os
 import re
 from collections.abc import Callable, Iterable
@@ -14,17 +15,9 @@ from .json_text import Members, Number, write_json
 from .members import WrongConfiguration as WrongConfiguration
 from .members import read_by, read_file, refuse
 
-FORM = Path(__file__).with_name("configuration.json")
-PORT = ":([0-9]{1,4}|[1-5][0-9]{4}|6[0-4][0-9]{3}|65[0-4][0-9]{2}|655[0-2][0-9]|6553[0-5])"
-# The texts that match a pattern as a whole, and what is wrong with any other.
-PATTERNS = {
-    "listen": (".+" + PORT, "no HOST:PORT"),
-    "loopback": (rf"(localhost|127(\.[0-9]{{1,3}}){{3}}|\[::1\]){PORT}", "no HOST:PORT of loopback"),
-    "url": ("https?://[^/?# ]+[^?# ]*", "no address with http or https"),
-    "kind": ("node|ocpi", "neither node nor ocpi"),
-    # Printable ASCII that neither begins nor ends with a space.
-    **{name: (f"(?=.{{1,{most}}}$)[!-~]([ -~]*[!-~])?", f"no text of 1 to {most} printable characters")
-       for name, most in (("text", 255), ("token", 64), ("business", 100), ("path", 4096))}}
+TABLES = json.loads(Path(__file__).with_name("configuration.json").read_text())
+# The form, and the texts that its words stand for: the pattern that one matches as a whole, and what is wrong with others.
+FORM, TEXTS = TABLES["form"], TABLES["texts"]
 
 
 @dataclass(frozen=True)
@@ -104,9 +97,9 @@ class Configuration:
 
 def read_configuration(path: Path) -> Configuration:
     """Reads the file, and the setup that it names. Raises WrongConfiguration with the path of what is wrong."""
-    words: dict[str, Callable[[Any, str], Any]] = {name: partial(_text, name) for name in PATTERNS}
+    words: dict[str, Callable[[Any, str], Any]] = {name: partial(_text, name) for name in TEXTS}
     words |= {"file": partial(_file, path.absolute().parent), "factor": _factor}
-    file = read_by(read_file(FORM, FORM.name), words, read_file(path, str(path)))
+    file = read_by(FORM, words, read_file(path, str(path)))
     node, ocpi = file["node"], file["ocpi"]
     setup = read_file(node["setup"], "node.setup")
     sites = _sites(setup)
@@ -127,7 +120,7 @@ def read_configuration(path: Path) -> Configuration:
 
 
 def _text(name: str, value: Any, path: str) -> str:
-    pattern, fault = PATTERNS[name]
+    pattern, fault = TEXTS[name]
     return value if isinstance(value, str) and re.fullmatch(pattern, value) else refuse(path, fault)
 
 

@@ -48,9 +48,7 @@ def read_json(text: str | bytes) -> Any:
     """Reads a JSON text. Of a repeated member the last counts. Refuses what is no JSON, and what is nested too deep."""
     try:
         return json.loads(text, parse_int=_read_integer, parse_float=_read_number, parse_constant=_refuse_word)
-    except NumberTooLarge:
-        raise
-    except (ValueError, RecursionError) as fault:
+    except (json.JSONDecodeError, UnicodeDecodeError, RecursionError) as fault:
         raise NotJson(str(fault)) from None
 
 

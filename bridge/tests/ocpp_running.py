@@ -58,11 +58,11 @@ class Operating:
         self.central_system = CentralSystem(OcppSettings("127.0.0.1:0", charge_points), self.events,
                                             self.state, self.feeder, self.objects)
         for listener in (self.objects.note, self._keep, self.central_system.note):
-            self.feeder.before_commit(listener)
-        self.feeder.after_commit(self.central_system.act)
+            self.feeder.before_commit.append(listener)
+        self.feeder.after_commit.append(self.central_system.act)
         opened = asyncio.Event()
         for action in (self.central_system.opened, opened.set):
-            self.feeder.after_opening(action)
+            self.feeder.after_opening.append(action)
         self.task = asyncio.create_task(self.feeder.run())
         await within(opened.wait())
         self.runner = web.AppRunner(self.central_system.application())

@@ -70,9 +70,9 @@ class Running:
         self.state = State(self.folder / "state.db")
         events = Events(self.settings.party, Clock(self.factor))
         self.feeder = Feeder(self.settings, events, self.state, self.metrics)
-        self.feeder.before_commit(self.noted.append)
+        self.feeder.before_commit.append(self.noted.append)
         self.opened = asyncio.Event()
-        self.feeder.after_opening(self.opened.set)
+        self.feeder.after_opening.append(self.opened.set)
         self.task = asyncio.create_task(self.feeder.run())
 
     async def kill(self) -> None:

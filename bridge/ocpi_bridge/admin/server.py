@@ -4,12 +4,15 @@ They are on loopback alone. As a browser of the same machine reaches that too, w
 is refused, and so is what comes under another name than this machine's own.
 """
 import asyncio
+import os
 import re
+import shutil
+import tempfile
 import time
 from collections.abc import Awaitable, Callable
-from contextlib import suppress
 from functools import partial
 from pathlib import Path
+from typing import NoReturn
 
 from aiohttp import web
 
@@ -22,12 +25,13 @@ from ..ocpi.objects import Objects
 from ..ocpi.partners import Partners
 from ..ocpp.central_system import CentralSystem
 from ..state import State
-from .backup import back_up
 from .metrics import Metrics
 from .outstanding import Outstanding
 
 Handler = Callable[[web.Request], Awaitable[web.StreamResponse]]
 
+# The addresses that feed an event, and whether it is an operator's.
+EVENTS = {"/orders": ("submit", False), "/tokens": ("token", False), "/credits": ("credit", True)}
 PAGE = Path(__file__).parent / "page"
 HEADERS = {"Cache-Control": "no-store", "X-Content-Type-Options": "nosniff",
            "Content-Security-Policy": "default-src 'none'; script-src 'self'; style-src 'self'; connect-src 'self'; "
@@ -56,8 +60,8 @@ class Admin:
         self._configuration, self._events, self._feeder, self._metrics = configuration, events, feeder, metrics
         self._objects, self._locations, self._central_system = objects, locations, central_system
         self._outstanding = outstanding = Outstanding(state, objects, lambda: feeder.is_open)
-        self._end, is_operator = asyncio.Event(), configuration.is_operator
-        feeder.before_commit(outstanding.note)
+        is_operator = configuration.is_operator
+        feeder.before_commit.append(outstanding.note)
         metrics.gauge("ocpi_unacknowledged_pushes", outstanding.pushes)
         metrics.gauge("ocpi_open_commands",
                       lambda: len(central_system.commands()) if is_operator else outstanding.open_commands())
@@ -71,24 +75,22 @@ class Admin:
 
     def application(self) -> web.Application:
         application = web.Application(middlewares=[_guard], client_max_size=1 << 20)
-        application.on_shutdown.append(self._end_streams)
         application.add_routes([
-            web.post("/orders", partial(self._feed, "submit", False)),
-            web.post("/tokens", partial(self._feed, "token", False)),
-            web.post("/credits", partial(self._feed, "credit", True)), web.post("/service", self._service),
+            *(web.post(path, self._feed) for path in EVENTS), web.post("/service", self._service),
             web.post("/backup", self._backup), web.get("/metrics", self._metrics_text),
             web.get("/health", self._health), web.get("/events", self._stream),
-            *(web.get(path, partial(self._list, path)) for path in self._lists),
+            *(web.get(path, self._list) for path in self._lists),
             web.get("/", _page), web.get(r"/{file:page\.(js|css)}", _page)])
         return application
 
-    async def _list(self, path: str, _: web.Request) -> web.Response:
+    async def _list(self, request: web.Request) -> web.Response:
         """Writes the list in a thread, since it may be long, and the node goes on meanwhile."""
-        text = await asyncio.to_thread(write_json, self._lists[path]())
+        text = await asyncio.to_thread(write_json, self._lists[request.path]())
         return web.Response(text=text, content_type="application/json", headers=HEADERS)
 
-    async def _feed(self, event: str, is_operators: bool, request: web.Request) -> web.Response:
-        """Feeds the body of a request as an event of a role, and answers what came of it."""
+    async def _feed(self, request: web.Request) -> web.Response:
+        """Feeds the body of a request as an event, and answers what came of it."""
+        event, is_operators = EVENTS[request.path]
         body = await self._body(request, is_operators)
         members = {"token": body} if event == "token" else body
         return _answer(*await self._fed({**members, **self._events.make(event)}))
@@ -114,13 +116,18 @@ class Admin:
         return _answer(told, status)
 
     async def _backup(self, request: web.Request) -> web.Response:
+        """Copies the node's store to a new file, while the node is ended."""
         to = (await self._body(request)).get("to")
         if not isinstance(to, str) or "\0" in to or not Path(to).is_absolute():
             raise web.HTTPBadRequest(text="to: wanted is the absolute path of a file that is not there yet")
+        store, copy, began = self._configuration.node.store, Path(to), time.monotonic()
+        if copy.exists():
+            raise web.HTTPConflict(text="to: there is such a file")
         try:
-            return _answer(await back_up(self._feeder, self._configuration.node.store, Path(to)))
+            size = await self._feeder.while_closed(lambda: asyncio.to_thread(_copy_whole, store, copy))
         except OSError as fault:
             raise web.HTTPConflict(text=f"to: no copy was made: {fault.strerror}") from None
+        return _answer({"bytes": size, "seconds": round(time.monotonic() - began, 3)})
 
     async def _metrics_text(self, _: web.Request) -> web.Response:
         return web.Response(text=self._metrics.text(), headers={"Content-Type": "text/plain; version=0.0.4"})
@@ -129,23 +136,21 @@ class Admin:
         is_healthy = self._feeder.is_open and self._feeder.tick_age() <= HEALTHY_WITHIN
         return _answer({"healthy": is_healthy}, 200 if is_healthy else 503)
 
-    async def _stream(self, request: web.Request) -> web.StreamResponse:
-        """Server-sent events: all that the page shows, at once and whenever it changed.
+    async def _stream(self, request: web.Request) -> NoReturn:
+        """Server-sent events: all that the page shows, at once and whenever it changed, until the connection ends.
 
         Where a look takes long, as at a large site, the next one comes later: a page takes a tenth of the time at most.
         """
         response = web.StreamResponse(headers={**HEADERS, "Content-Type": "text/event-stream"})
         await response.prepare(request)
         shown = ""
-        while not self._end.is_set():
+        while True:
             began = time.monotonic()
             text = write_json(self._shown())
             pause = max(LOOK_EVERY, 9 * (time.monotonic() - began))
             await response.write(f"data: {text}\n\n".encode() if text != shown else b":\n\n")
             shown = text
-            with suppress(TimeoutError):
-                await asyncio.wait_for(self._end.wait(), pause)
-        return response
+            await asyncio.sleep(pause)
 
     def _shown(self) -> Members:
         """Party, role, sessions and bills; an operator's EVSEs, or a provider's operators, tokens, commands, debts."""
@@ -161,9 +166,6 @@ class Admin:
                 "tokens": objects.newest("tokens", MOST_TOKENS), "commands": self._outstanding.commands(MOST_SHOWN),
                 "owed": self._outstanding.owed()}
 
-    async def _end_streams(self, _: web.Application) -> None:
-        self._end.set()
-
     async def _body(self, request: web.Request, is_operators: bool | None = None) -> Members:
         """The JSON object that a request carries, where the node has the role that the request wants."""
         if request.content_type != "application/json":
@@ -178,6 +180,19 @@ class Admin:
 
 def _answer(value: object, status: int = 200) -> web.Response:
     return web.Response(text=write_json(value), status=status, content_type="application/json", headers=HEADERS)
+
+
+def _copy_whole(source: Path, copy: Path) -> int:
+    """Copies a file to a new one of mode 0600, which has its name once all of it is on the disk. Tells its bytes."""
+    with tempfile.NamedTemporaryFile(dir=copy.parent) as written, source.open("rb") as read:
+        shutil.copyfileobj(read, written)
+        written.flush()
+        os.fsync(written.fileno())
+        os.link(written.name, copy)
+    folder = os.open(copy.parent, os.O_RDONLY)
+    os.fsync(folder)
+    os.close(folder)
+    return copy.stat().st_size
 
 
 async def _page(request: web.Request) -> web.FileResponse:

@@ -41,10 +41,12 @@ class Feeder:
     """The node of a bridge. `run` starts it, and again after each stop; `feed` has it carry out an event."""
 
     def __init__(self, settings: NodeSettings, events: Events, state: State, metrics: Metrics) -> None:
+        # Called with each outcome: inside of the transaction of `state` that forgets its line, and in order behind that.
+        self.before_commit: list[Listener] = []
+        self.after_commit: list[Listener] = []
+        # Called whenever the node was opened and had its first tick.
+        self.after_opening: list[Callable[[], None]] = []
         self._settings, self._events, self._state, self._metrics = settings, events, state, metrics
-        self._before: list[Listener] = []
-        self._after: list[Listener] = []
-        self._opened: list[Callable[[], None]] = []
         self._queue: deque[Waiting] = deque()
         self._line = kept_line(state.value("node.line"))
         self._serial = int(state.value("node.serial") or "0")
@@ -58,18 +60,6 @@ class Feeder:
         self._ticked = float("-inf")
         self._delay = 0.0
         self.is_open = False
-
-    def before_commit(self, listener: Listener) -> None:
-        """Has a listener called with each outcome, inside of the transaction of `state` that forgets its line."""
-        self._before.append(listener)
-
-    def after_commit(self, listener: Listener) -> None:
-        """Has a listener called with each outcome, in order, behind that transaction."""
-        self._after.append(listener)
-
-    def after_opening(self, listener: Callable[[], None]) -> None:
-        """Has a listener called whenever the node was opened and had its first tick."""
-        self._opened.append(listener)
 
     def tick_age(self) -> float:
         """Seconds of real time since a tick was answered."""
@@ -184,7 +174,7 @@ class Feeder:
         await self._carry_out(child, Line(tick.text, [tick]))
         self._delay = 0.0
         self.is_open = True
-        _tell(self._opened)
+        _tell(self.after_opening)
         for waiting in self._lost:
             waiting.fail(OutcomeLost())
         self._lost.clear()
@@ -242,12 +232,12 @@ class Feeder:
                 self._queue.appendleft(waiting)
         with self._state.transaction():
             for outcome in outcomes:
-                _tell(self._before, outcome)
+                _tell(self.before_commit, outcome)
             goes_on = self.is_open and not self._has_to_end()
             self._keep(next_line(self._queue, self._takes_arrays) if goes_on else None)
         for waiting, outcome in zip(line.waiting, outcomes):
             self._count(outcome)
-            _tell(self._after, outcome)
+            _tell(self.after_commit, outcome)
             waiting.succeed(outcome)
 
     def _count(self, outcome: Outcome) -> None:
