@@ -16,7 +16,7 @@ from .members import WrongConfiguration as WrongConfiguration
 from .members import read_by, read_file, refuse
 
 TABLES = json.loads(Path(__file__).with_name("configuration.json").read_text())
-# The form, and the texts that its words stand for: the pattern that one matches as a whole, and what is wrong with others.
+# The form, and the texts that its words stand for: the pattern that each matches as a whole, and what is wrong else.
 FORM, TEXTS = TABLES["form"], TABLES["texts"]
 
 

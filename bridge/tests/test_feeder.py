@@ -116,7 +116,7 @@ class StopTest(FeederCase):
             if stops == "bridge":
                 while plan.exists():
                     await asyncio.sleep(0.01)
-                await asyncio.wait([feeding], timeout=0.2)
+                await asyncio.wait([feeding], timeout=20 if point == "after" else 0.2)
                 await running.kill()
                 running.begin()
                 await within(running.opened.wait())

@@ -31,7 +31,8 @@ from .outstanding import Outstanding
 Handler = Callable[[web.Request], Awaitable[web.StreamResponse]]
 
 # The addresses that feed an event, and whether it is an operator's.
-EVENTS = {"/orders": ("submit", False), "/tokens": ("token", False), "/credits": ("credit", True)}
+EVENTS = {"/orders": ("submit", False), "/tokens": ("token", False), "/credits": ("credit", True),
+          "/service": ("service", True)}
 PAGE = Path(__file__).parent / "page"
 HEADERS = {"Cache-Control": "no-store", "X-Content-Type-Options": "nosniff",
            "Content-Security-Policy": "default-src 'none'; script-src 'self'; style-src 'self'; connect-src 'self'; "
@@ -76,10 +77,9 @@ class Admin:
     def application(self) -> web.Application:
         application = web.Application(middlewares=[_guard], client_max_size=1 << 20)
         application.add_routes([
-            *(web.post(path, self._feed) for path in EVENTS), web.post("/service", self._service),
+            *(web.post(path, self._feed) for path in EVENTS), *(web.get(path, self._list) for path in self._lists),
             web.post("/backup", self._backup), web.get("/metrics", self._metrics_text),
             web.get("/health", self._health), web.get("/events", self._stream),
-            *(web.get(path, self._list) for path in self._lists),
             web.get("/", _page), web.get(r"/{file:page\.(js|css)}", _page)])
         return application
 
@@ -89,31 +89,22 @@ class Admin:
         return web.Response(text=text, content_type="application/json", headers=HEADERS)
 
     async def _feed(self, request: web.Request) -> web.Response:
-        """Feeds the body of a request as an event, and answers what came of it."""
+        """Feeds the body of a request as an event, and answers what came of it.
+
+        Of `service` the node is told first, so that nothing new is let charge there while the charge point is asked.
+        """
         event, is_operators = EVENTS[request.path]
         body = await self._body(request, is_operators)
         members = {"token": body} if event == "token" else body
-        return _answer(*await self._fed({**members, **self._events.make(event)}))
-
-    async def _fed(self, event: Members) -> tuple[Members, int]:
-        """What the node made of an event, and the HTTP status: where it was not carried out, it is a refusal's."""
-        outcome = await self._feeder.feed(event)
+        outcome = await self._feeder.feed({**members, **self._events.make(event)})
         told: Members = {"done": outcome.done, "packets": [packet.members() for packet in outcome.packets]}
-        if outcome.word in ("stepped", "idle"):
-            return told, 200
-        words = " ".join(str(outcome.done[name]) for name in ("done", "name", "field") if name in outcome.done)
-        return {"error": f"the node does not do it: {words}", **told}, 400 if outcome.word == "malformed" else 409
-
-    async def _service(self, request: web.Request) -> web.Response:
-        """Tells the node first, so that nothing new is let charge there while the charge point is asked."""
-        body = await self._body(request, is_operators=True)
-        evse_uid, in_service = body.get("evse_uid"), body.get("in_service")
-        if not isinstance(evse_uid, str) or not isinstance(in_service, bool):
-            raise web.HTTPBadRequest(text="wanted: evse_uid, a text, and in_service, true or false")
-        told, status = await self._fed(self._events.make("service", evse_uid=evse_uid, in_service=in_service))
-        if self._configuration.ocpp and status == 200:
-            told["charge_point"] = await self._central_system.change_availability(evse_uid, in_service)
-        return _answer(told, status)
+        if outcome.word not in ("stepped", "idle"):
+            words = " ".join(str(outcome.done[name]) for name in ("done", "name", "field") if name in outcome.done)
+            return _answer({"error": f"the node does not do it: {words}", **told},
+                           400 if outcome.word == "malformed" else 409)
+        if event == "service" and self._configuration.ocpp is not None:
+            told["charge_point"] = await self._central_system.change_availability(body["evse_uid"], body["in_service"])
+        return _answer(told)
 
     async def _backup(self, request: web.Request) -> web.Response:
         """Copies the node's store to a new file, while the node is ended."""
@@ -133,7 +124,7 @@ class Admin:
         return web.Response(text=self._metrics.text(), headers={"Content-Type": "text/plain; version=0.0.4"})
 
     async def _health(self, _: web.Request) -> web.Response:
-        is_healthy = self._feeder.is_open and self._feeder.tick_age() <= HEALTHY_WITHIN
+        is_healthy = self._feeder.is_open and time.monotonic() <= self._feeder.ticked + HEALTHY_WITHIN
         return _answer({"healthy": is_healthy}, 200 if is_healthy else 503)
 
     async def _stream(self, request: web.Request) -> NoReturn:

@@ -41,7 +41,7 @@ class Feeder:
     """The node of a bridge. `run` starts it, and again after each stop; `feed` has it carry out an event."""
 
     def __init__(self, settings: NodeSettings, events: Events, state: State, metrics: Metrics) -> None:
-        # Called with each outcome: inside of the transaction of `state` that forgets its line, and in order behind that.
+        # Called with each outcome: inside of the transaction of `state` that forgets its line, and in order behind it.
         self.before_commit: list[Listener] = []
         self.after_commit: list[Listener] = []
         # Called whenever the node was opened and had its first tick.
@@ -57,13 +57,10 @@ class Feeder:
         self._has_ended = self._takes_arrays = False
         # How many lines were malformed or refused since the node was started.
         self._refusals = 0
-        self._ticked = float("-inf")
         self._delay = 0.0
         self.is_open = False
-
-    def tick_age(self) -> float:
-        """Seconds of real time since a tick was answered."""
-        return time.monotonic() - self._ticked
+        # When a tick was answered last, as time.monotonic tells it.
+        self.ticked = float("-inf")
 
     async def feed(self, event: Members) -> Outcome:
         """Has an event carried out, behind those that wait. A caller that is cancelled does not take it back.
@@ -247,7 +244,7 @@ class Feeder:
         for packet in outcome.packets:
             self._metrics.count("ocpi_packets_total", kind=packet.kind, direction="out")
         if outcome.event["event"] == "tick":
-            self._ticked = time.monotonic()
+            self.ticked = time.monotonic()
         if outcome.word not in ("stepped", "idle"):
             LOG.warning("%s: %s", outcome.event["event"], write_json(outcome.done))
 
