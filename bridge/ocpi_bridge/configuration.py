@@ -1,23 +1,26 @@
 """The configuration of a bridge: a JSON file, whose every fault is refused by its path before anything starts.
 
-Its form is in configuration.json. Here is what its parts and the setup must have in common.
+Its form is in configuration.json: an object of the members that are wanted (those whose names end in `?` may be left
+out), an object with the name `*` for members of any names, a list for elements of one form, and a word for any other
+value. Here is what the parts and the setup must have in common.
 """
 import json
 import os
 import re
-from collections.abc import Callable, Iterable
+from collections.abc import Iterable
 from dataclasses import dataclass
-from functools import partial
 from pathlib import Path
-from typing import Any
+from typing import Any, NoReturn
 
-from .json_text import Members, Number, write_json
-from .members import WrongConfiguration as WrongConfiguration
-from .members import read_by, read_file, refuse
+from .json_text import Members, NotJson, Number, NumberTooLarge, read_json, write_json
 
 TABLES = json.loads(Path(__file__).with_name("configuration.json").read_text())
 # The form, and the texts that its words stand for: the pattern that each matches as a whole, and what is wrong else.
 FORM, TEXTS = TABLES["form"], TABLES["texts"]
+
+
+class WrongConfiguration(Exception):
+    """What is wrong, behind the path of the member."""
 
 
 @dataclass(frozen=True)
@@ -97,11 +100,9 @@ class Configuration:
 
 def read_configuration(path: Path) -> Configuration:
     """Reads the file, and the setup that it names. Raises WrongConfiguration with the path of what is wrong."""
-    words: dict[str, Callable[[Any, str], Any]] = {name: partial(_text, name) for name in TEXTS}
-    words |= {"file": partial(_file, path.absolute().parent), "factor": _factor}
-    file = read_by(FORM, words, read_file(path, str(path)))
+    file = _read_by(FORM, _read_file(path, str(path)), "", path.absolute().parent)
     node, ocpi = file["node"], file["ocpi"]
-    setup = read_file(node["setup"], "node.setup")
+    setup = _read_file(node["setup"], "node.setup")
     sites = _sites(setup)
     party = spelled(node["party"], sites) or refuse("node.party", "not in the setup")
     site = sites[party]
@@ -119,20 +120,53 @@ def read_configuration(path: Path) -> Configuration:
         clock_factor=file["clock_factor"] or 1.0, site=site, setup=setup)
 
 
-def _text(name: str, value: Any, path: str) -> str:
-    pattern, fault = TEXTS[name]
-    return value if isinstance(value, str) and re.fullmatch(pattern, value) else refuse(path, fault)
+def refuse(path: str, fault: str) -> NoReturn:
+    raise WrongConfiguration(f"{path}: {fault}")
 
 
-def _file(folder: Path, value: Any, path: str) -> Path:
-    """A file, relative to a folder. The folder in which it stands must be there."""
-    file = Path(folder, _text("path", value, path))
+def _read_file(path: Path, name: str) -> Any:
+    """The JSON of a file, which a refusal calls by its name."""
+    try:
+        return read_json(path.read_bytes())
+    except OSError as fault:
+        refuse(name, fault.strerror)
+    except (NotJson, NumberTooLarge):
+        refuse(name, "no JSON")
+
+
+def _read_by(form: Any, value: Any, path: str, folder: Path) -> Any:
+    """The value as the form wants it. A member that was left out is None, and files are relative to the folder."""
+    if isinstance(form, str):
+        return _read_word(form, value, path, folder)
+    if isinstance(form, list):
+        if not isinstance(value, list):
+            refuse(path, "no list")
+        return [_read_by(form[0], element, f"{path}[{place}]", folder) for place, element in enumerate(value)]
+    if not isinstance(value, dict):
+        refuse(path or "configuration", "no object")
+    start = f"{path}." if path else ""
+    if "*" in form:
+        return {name: _read_by(form["*"], member, start + name, folder) for name, member in value.items()}
+    forms = {name.rstrip("?"): member for name, member in form.items()}
+    for name in (*value, *(name for name in form if not name.endswith("?"))):
+        if name not in forms or name not in value:
+            refuse(start + name, "missing" if name in forms else "unknown")
+    return {name: _read_by(member, value[name], start + name, folder) if name in value else None
+            for name, member in forms.items()}
+
+
+def _read_word(word: str, value: Any, path: str, folder: Path) -> Any:
+    """What a word of the form stands for: a number above 0, a text, or a file in a folder that is there."""
+    if word == "factor":
+        number = float(value) if isinstance(value, (int, Number)) and not isinstance(value, bool) else 0.0
+        return number if 0 < number < float("inf") else refuse(path, "no number above 0")
+    pattern, fault = TEXTS[word]
+    if not isinstance(value, str) or not re.fullmatch(pattern, value):
+        refuse(path, fault)
+    if word != "file":
+        return value
+    file = folder / value
     return file if file.parent.is_dir() else refuse(path, f"no folder {file.parent}")
-
-
-def _factor(value: Any, path: str) -> float:
-    number = float(value) if isinstance(value, (int, Number)) and not isinstance(value, bool) else 0.0
-    return number if 0 < number < float("inf") else refuse(path, "no number above 0")
 
 
 def spelled(name: str, names: Iterable[str]) -> str | None:
