@@ -1,7 +1,8 @@
 """The addresses for whoever runs the node: orders, tokens, credits, service, lists, backup, metrics, health, the page.
 
 They are on loopback alone. As a browser of the same machine reaches that too, what a page of another address asks for
-is refused, and so is what comes under another name than this machine's own.
+is refused, and so is what comes under another name than this machine's own. A bridge of this machine reaches it as well,
+where a partner lists it as its own address: so what is sent to partners, by their tokens, is refused.
 """
 import asyncio
 import os
@@ -197,6 +198,8 @@ async def _guard(request: web.Request, handler: Handler) -> web.StreamResponse:
     try:
         if not OWN_NAME.fullmatch(request.host) or request.headers.get("Origin", origin) != origin:
             raise web.HTTPForbidden(text="Host and Origin: wanted is the very address on which the bridge listens")
+        if request.headers.get("Authorization", "").startswith("Token"):
+            raise web.HTTPForbidden(text="Authorization: what a bridge sends to its partners is not for this address")
         return await handler(request)
     except web.HTTPException as refusal:
         return _answer({"error": refusal.text}, refusal.status)
