@@ -32,6 +32,7 @@ class ProviderServer(ServerCase):
         other = await self.ask("ocpi", "POST", "sender/tokens/AA01/authorize", place)
         self.assertEqual(other.body["data"]["location"], place)
         self.assertEqual((await self.ask("node", "POST", "sender/tokens/AA02/authorize", number=3)).told, (200, 2004))
+        self.assertEqual((await self.ask("ocpi", "POST", "sender/tokens/AA02/authorize")).told, (404, 2004))
         self.assertEqual((await self.ask("node", "POST", "sender/tokens/AA01/authorize?type=X", number=4)).told,
                          (200, 2001))
 

@@ -148,7 +148,10 @@ class Interfaces:
             headers["Location"] = f"{self._url}{RECEIVER}/cdrs{path_of(OBJECT_PATH, body)}"
         if partner.kind == "ocpi" and "location" in body and data is not None and data.get("allowed") == "ALLOWED":
             data = {**data, "location": body["location"]}
-        return answer(sent.body["timestamp"], data, status_code, headers=headers)
+        # OCPI wants 404 of a question about a token that is not known. To a node's bridge it is a response like others.
+        is_unknown = kind == "authorize" and status_code == UNKNOWN_TOKEN and partner.kind == "ocpi"
+        return answer(sent.body["timestamp"], data, status_code, http_status=404 if is_unknown else 200,
+                      headers=headers)
 
     async def _carry_out(self, key: tuple[str, int], event: Members) -> Outcome:
         """Feeds the request of a party and a number. One that comes again meanwhile waits for the same outcome, so
