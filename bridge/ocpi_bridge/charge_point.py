@@ -22,15 +22,13 @@ STEP, FULL = 1000, 12_000
 
 
 class ChargePoint:
-    """Whether a car is plugged in, which token may charge it, and the transaction that runs."""
+    """Its status (with Preparing a car is plugged in), which token may charge, and the transaction that runs."""
 
     def __init__(self, is_automatic: bool) -> None:
-        self.is_automatic = is_automatic
-        self.is_plugged_in = self.is_running = False
+        self.is_automatic, self.clock = is_automatic, Clock()
         self.token: str | None = None
         self.transaction: int | None = None
         self.register = self.full = 0
-        self.clock = Clock()
         self.calls: asyncio.Queue[tuple[str, Members]] = asyncio.Queue()
         self.unanswered: tuple[str, Members] | None = None
         self.call("BootNotification", chargePointVendor="Trial", chargePointModel="One")
@@ -50,9 +48,8 @@ class ChargePoint:
         """Does what a driver does. What makes no sense as things stand is passed over."""
         match words:
             case ["plug"] if self.status == "Available":
-                self.is_plugged_in = True
                 self.set_status("Preparing")
-            case ["start", token] if not self.is_running:
+            case ["start", token] if self.status != "Charging":
                 self.call("Authorize", idTag=token)
             case ["meter", watt_hours] if watt_hours.isdecimal():
                 self.register += int(watt_hours)
@@ -62,30 +59,30 @@ class ChargePoint:
             case ["stop", *reason] if self.transaction is not None:
                 self.call("StopTransaction", transactionId=self.transaction, meterStop=self.register,
                           timestamp=self.clock.moment(), reason=reason[0] if reason else "Local")
-                self.transaction, self.token, self.is_running = None, None, False
-                self.set_status("Finishing")
+                self.transaction = self.token = None
+                if self.status == "Charging":
+                    self.set_status("Finishing")
             case ["unplug"]:
                 self.do("stop", "EVDisconnected")
-                self.is_plugged_in, self.token = False, None
+                self.token = None
                 self.set_status("Available")
             case ["fault"]:
                 self.do("stop", "Other")
                 self.set_status("Faulted")
-        if self.is_plugged_in and self.token is not None and not self.is_running:
-            self.is_running, self.full = True, self.register + FULL
+        if self.status == "Preparing" and self.token is not None:
+            self.full = self.register + FULL
             self.call("StartTransaction", connectorId=1, idTag=self.token, meterStart=self.register,
                       timestamp=self.clock.moment())
+            self.set_status("Charging")
 
     def take(self, action: str, payload: Members, answer: Members) -> None:
-        """Takes in what a call of its own was answered."""
-        status = answer.get("idTagInfo", {}).get("status")
-        if action == "Authorize" and status == "Accepted":
+        """Takes in what a call of its own was answered. A transaction that may not be, or is over, is stopped."""
+        is_accepted = answer.get("idTagInfo", {}).get("status") == "Accepted"
+        if action == "Authorize" and is_accepted:
             self.token = payload["idTag"]
         elif action == "StartTransaction" and "transactionId" in answer:
             self.transaction = answer["transactionId"]
-            if status == "Accepted":
-                self.set_status("Charging")
-            else:
+            if not is_accepted or self.status != "Charging":
                 self.do("stop", "DeAuthorized")
         self.do()
 
@@ -93,7 +90,7 @@ class ChargePoint:
         """Answers a call of the central system. The calls that follow of it are made behind the answer."""
         status = "Accepted"
         match action:
-            case "RemoteStartTransaction" if self.status in ("Available", "Preparing") and not self.is_running:
+            case "RemoteStartTransaction" if self.status in ("Available", "Preparing"):
                 self.token = payload["idTag"]
                 self.do("plug" if self.is_automatic else "")
             case "RemoteStopTransaction" if payload["transactionId"] == self.transaction:
@@ -103,12 +100,24 @@ class ChargePoint:
                 self.do("stop", "UnlockCommand")
                 status = "Unlocked"
             case "ChangeAvailability":
-                status = "Scheduled" if self.is_running else "Accepted"
+                status = "Scheduled" if self.status == "Charging" else "Accepted"
             case "TriggerMessage" if payload["requestedMessage"] == "StatusNotification":
                 self.set_status(self.status)
             case _:
                 status = "Rejected"
         return {"status": status}
+
+    async def connect(self, address: str, authentication: aiohttp.BasicAuth) -> None:
+        """Connects, and again whenever the connection ends."""
+        async with aiohttp.ClientSession(auth=authentication) as session:
+            while True:
+                with suppress(aiohttp.ClientError, OSError):
+                    async with session.ws_connect(address, protocols=("ocpp1.6",)) as socket:
+                        connection = Connection(socket, self.clock, self.answer)
+                        calls = asyncio.create_task(self.make_calls(connection))
+                        await asyncio.gather(connection.read(), connection.work())
+                        calls.cancel()
+                await asyncio.sleep(RECONNECT_AFTER)
 
     async def make_calls(self, connection: Connection) -> None:
         """Makes its calls one at a time, until one is not answered. That is made again on the next connection."""
@@ -120,40 +129,25 @@ class ChargePoint:
                 (action, payload), self.unanswered = self.unanswered, None
                 self.take(action, payload, answer)
 
-    async def connect(self, url: str, name: str, password: str) -> None:
-        """Connects, and again whenever the connection ends."""
-        async with aiohttp.ClientSession(auth=aiohttp.BasicAuth(name, password)) as session:
-            while True:
-                with suppress(aiohttp.ClientError, OSError):
-                    address = f"{url.rstrip('/')}/{quote(name, '')}"
-                    async with session.ws_connect(address, protocols=("ocpp1.6",)) as socket:
-                        connection = Connection(socket, self.clock, self.answer)
-                        calls = asyncio.create_task(self.make_calls(connection))
-                        await asyncio.gather(connection.read(), connection.work())
-                        calls.cancel()
-                await asyncio.sleep(RECONNECT_AFTER)
+    async def read_input(self) -> None:
+        """Does what each line says, until there are no more."""
+        reader = asyncio.StreamReader()
+        await asyncio.get_running_loop().connect_read_pipe(lambda: asyncio.StreamReaderProtocol(reader), sys.stdin)
+        async for line in reader:
+            self.do(*line.decode().split())
 
-
-async def read_input(charge_point: ChargePoint) -> None:
-    """Does what each line says, until there are no more."""
-    reader = asyncio.StreamReader()
-    await asyncio.get_running_loop().connect_read_pipe(lambda: asyncio.StreamReaderProtocol(reader), sys.stdin)
-    async for line in reader:
-        charge_point.do(*line.decode().split())
-
-
-async def meter_by_itself(charge_point: ChargePoint) -> None:
-    while True:
-        await asyncio.sleep(METER_EACH)
-        if charge_point.transaction is not None and charge_point.register < charge_point.full:
-            charge_point.do("meter", str(STEP))
+    async def meter_by_itself(self) -> None:
+        while self.is_automatic:
+            await asyncio.sleep(METER_EACH)
+            if self.transaction is not None and self.register < self.full:
+                self.do("meter", str(STEP))
 
 
 async def run(url: str, name: str, password: str, is_automatic: bool) -> None:
     """Runs a charge point for good."""
-    charge_point = ChargePoint(is_automatic)
-    by_itself = [meter_by_itself(charge_point)] if is_automatic else []
-    await asyncio.gather(charge_point.connect(url, name, password), read_input(charge_point), *by_itself)
+    point = ChargePoint(is_automatic)
+    connecting = point.connect(f"{url.rstrip('/')}/{quote(name, '')}", aiohttp.BasicAuth(name, password))
+    await asyncio.gather(connecting, point.read_input(), point.meter_by_itself())
 
 
 if __name__ == "__main__":

@@ -92,7 +92,7 @@ class CentralSystem:
         connection = Connection(socket, self._clock, partial(self._reports.answer, charge_point))
         if charge_point.connection is not None:
             self._spawn(charge_point.connection.close)
-        charge_point.connection, charge_point.connected_since = connection, self._clock.seconds()
+        charge_point.connection = connection
         LOG.info("%s: connected", charge_point.settings.id)
         self._spawn(connection.work)
         self._spawn(self._ask_for_statuses, charge_point, connection)
@@ -138,7 +138,7 @@ class CentralSystem:
             place = self._charge_points.place(session["evse_uid"])
             if place is not None and place.charge_point.connection is not None:
                 until = seconds_of(session["last_updated"]) + PLUGGED_IN_WITHIN
-                if self._clock.seconds() > max(until, place.charge_point.connected_since + TOLD_WITHIN):
+                if self._clock.seconds() > max(until, place.charge_point.connection.since + TOLD_WITHIN):
                     self._spawn(self._end_session, place.charge_point, session["id"])
 
     async def _end_session(self, charge_point: ChargePoint, session_id: str) -> None:

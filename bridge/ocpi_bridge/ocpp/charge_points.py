@@ -36,7 +36,6 @@ class ChargePoint:
     settings: ChargePointSettings
     places: "dict[int, Place]" = field(default_factory=dict)
     connection: Connection | None = None
-    connected_since: float = 0.0
     lock: asyncio.Lock = field(default_factory=asyncio.Lock)
 
     async def alone(self, action: Callable[[], Awaitable[Result]]) -> Result:

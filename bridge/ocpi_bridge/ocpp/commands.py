@@ -46,9 +46,8 @@ class Commands:
     def _note_accepted(self, outcome: Outcome, command: Packet) -> None:
         """Keeps a command that is open. A repeat of an old one, of which a stop lost the first answer, is not."""
         answer = outcome.answer_to(command.sender, command.request)
-        if command.kind not in KINDS or answer is None or answer.body.get("data", {}).get("result") != "ACCEPTED":
-            return
-        if seconds_of(answer.body["timestamp"]) + OPEN_FOR > self._clock.seconds():
+        if (command.kind in KINDS and answer is not None and answer.body.get("data", {}).get("result") == "ACCEPTED"
+                and seconds_of(answer.body["timestamp"]) + OPEN_FOR > self._clock.seconds()):
             body = command.body
             self._state.query(
                 """INSERT OR IGNORE INTO ocpp_command (provider, number, kind, evse_uid, connector_id, token_uid,
@@ -58,12 +57,14 @@ class Commands:
                 body["response_url"])
 
     def _end(self, result: Packet, number: int | None) -> None:
-        """Ends the command of a result: that of a number, or behind a tick that of its `response_url`."""
-        if not self._state.query("SELECT 1 FROM ocpp_command WHERE ended_by = ?", result.request):
-            self._state.query(
-                """UPDATE ocpp_command SET ended_by = ? WHERE rowid = (SELECT rowid FROM ocpp_command
-                WHERE ended_by IS NULL AND provider = ? AND response_url = ? AND number = ifnull(?, number)
-                ORDER BY number LIMIT 1)""", result.request, result.receiver, result.body["response_url"], number)
+        """Ends the command of a result: that of a number, or behind a tick that of its `response_url`.
+
+        A result that is sent again ends no other command: its number is that of the one that it ended.
+        """
+        self._state.query(
+            """UPDATE OR IGNORE ocpp_command SET ended_by = ? WHERE rowid = (SELECT rowid FROM ocpp_command
+            WHERE ended_by IS NULL AND provider = ? AND response_url = ? AND number = ifnull(?, number)
+            ORDER BY number LIMIT 1)""", result.request, result.receiver, result.body["response_url"], number)
 
     def _note_session(self, session: Packet) -> None:
         """Keeps which session a start began, and where."""
@@ -92,9 +93,9 @@ class Commands:
 
         Not one that the charge point refused, nor one of which a transaction came.
         """
-        found = self._where(f"(state = '{ASKED}' OR state = '{OPEN}' AND ended_by IS NULL) AND kind = 'start_session' "
-                            "AND evse_uid = ? AND token_uid = ? ORDER BY number DESC", evse_uid, token_uid)
-        return found[0] if found else None
+        return next(iter(self._where(
+            f"(state = '{ASKED}' OR state = '{OPEN}' AND ended_by IS NULL) AND kind = 'start_session' "
+            "AND evse_uid = ? AND token_uid = ? ORDER BY number DESC", evse_uid, token_uid)), None)
 
     def forget_asked(self, evse_uid: str) -> None:
         """No later transaction at an EVSE is that of a start that has ended by now."""

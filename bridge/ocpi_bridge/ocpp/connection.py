@@ -3,7 +3,6 @@ import asyncio
 import logging
 from collections.abc import AsyncIterator, Awaitable, Callable
 from contextlib import asynccontextmanager, suppress
-from functools import partial
 from uuid import uuid4
 
 from aiohttp import ClientWebSocketResponse, WSMsgType, web
@@ -11,7 +10,7 @@ from aiohttp import ClientWebSocketResponse, WSMsgType, web
 from ..clock import Clock
 from ..json_text import Members, write_json
 from ..node.feeder import NodeEnded
-from .frames import CALL, RESULT, CallError, read_frame
+from .frames import CALL, RESULT, CallError, Frame, read_frame
 
 LOG = logging.getLogger("ocpp")
 ANSWER_WITHIN = 30.0
@@ -30,12 +29,13 @@ class Connection:
 
     def __init__(self, socket: web.WebSocketResponse | ClientWebSocketResponse, clock: Clock, handler: Handler) -> None:
         self._socket, self._clock, self._handler = socket, clock, handler
-        self._inbox: asyncio.Queue[Callable[[], Awaitable[object]] | None] = asyncio.Queue()
+        self._inbox: asyncio.Queue[tuple[str, Frame] | None] = asyncio.Queue()
         self._times: dict[str, int] = {}
         self._waiting = 0
-        self._one_at_a_time = asyncio.Lock()
-        self._asked: tuple[str, asyncio.Future[Members | None], asyncio.Event] | None = None
-        self._is_open = True
+        # Whoever asks has the first of these until it is answered, and who handles what came has the second.
+        self._asking, self._handling = asyncio.Lock(), asyncio.Lock()
+        self._asked: tuple[str, asyncio.Future[Members | None]] | None = None
+        self._is_open, self.since = True, clock.seconds()
 
     async def read(self) -> None:
         """Reads frames until the connection ends. Calls that nobody began to handle by then are forgotten."""
@@ -57,7 +57,6 @@ class Connection:
         if frame.action is None:
             if self._asked is not None and self._asked[0] == frame.message_id and not self._asked[1].done():
                 self._asked[1].set_result(frame.payload)
-                self._inbox.put_nowait(self._asked[2].wait)
         elif text in self._times:
             self._times[text] += 1
         elif self._waiting + len(text) > MOST_WAITING:
@@ -65,7 +64,7 @@ class Connection:
         else:
             self._times[text] = 1
             self._waiting += len(text)
-            self._inbox.put_nowait(partial(self._handle, text, frame.message_id, frame.action, frame.payload))
+            self._inbox.put_nowait((text, frame))
 
     async def work(self) -> None:
         """Handles what was read, until the connection ends. What is begun is brought to its end.
@@ -73,24 +72,27 @@ class Connection:
         Raises NodeEnded where the bridge is stopping. The connection is closed then: the charge point calls again.
         """
         try:
-            while (handle := await self._inbox.get()) is not None:
-                await handle()
+            while (item := await self._inbox.get()) is not None:
+                # Whoever was answered before this came is awake by then, and goes first.
+                await asyncio.sleep(0)
+                async with self._handling:
+                    await self._handle(*item)
         finally:
             await self.close()
 
-    async def _handle(self, text: str, message_id: str, action: str, payload: Members) -> None:
+    async def _handle(self, text: str, call: Frame) -> None:
         """Handles a call. It is answered as often as it came meanwhile."""
         if not self._is_open:
             return
         try:
-            answer = write_json([RESULT, message_id, await self._handler(action, payload)])
+            answer = write_json([RESULT, call.message_id, await self._handler(str(call.action), call.payload)])
         except CallError as error:
-            answer = error.frame(message_id)
+            answer = error.frame(call.message_id)
         except NodeEnded:
             raise
         except Exception:
-            LOG.exception("a call %s could not be handled", action[:50])
-            answer = CallError("InternalError", "it could not be handled").frame(message_id)
+            LOG.exception("a call %.50s could not be handled", call.action)
+            answer = CallError("InternalError", "it could not be handled").frame(call.message_id)
         self._waiting -= len(text)
         for _ in range(self._times.pop(text)):
             await self._send(answer)
@@ -101,21 +103,17 @@ class Connection:
 
         Calls that come behind the answer wait until this is left. So inside nothing else may be asked.
         """
-        message_id, handled, reply = str(uuid4()), asyncio.Event(), None
-        async with self._one_at_a_time:
-            answer: asyncio.Future[Members | None] = asyncio.get_running_loop().create_future()
-            if not self._is_open:
-                answer.set_result(None)
-            self._asked = message_id, answer, handled
-            await self._send(write_json([CALL, message_id, action, payload]))
-            with suppress(TimeoutError):
-                reply = await self._clock.within(ANSWER_WITHIN, answer)
-            if reply is None and self._is_open:
-                LOG.warning("a charge point did not answer %s", action)
-            try:
-                yield reply
-            finally:
-                handled.set()
+        reply = None
+        async with self._asking:
+            self._asked = message_id, answer = str(uuid4()), asyncio.get_running_loop().create_future()
+            if self._is_open:
+                await self._send(write_json([CALL, message_id, action, payload]))
+                with suppress(TimeoutError):
+                    reply = await self._clock.within(ANSWER_WITHIN, answer)
+                if reply is None:
+                    LOG.warning("a charge point did not answer %s", action)
+        async with self._handling:
+            yield reply
 
     async def _send(self, text: str) -> None:
         """Sends a frame. Where the connection has ended it is lost."""

@@ -14,8 +14,7 @@ class CallError(Exception):
 
     def __init__(self, code: str, description: str, message_id: str = "-1") -> None:
         super().__init__(description)
-        self.code = code
-        self.message_id = message_id
+        self.code, self.message_id = code, message_id
 
     def frame(self, message_id: str) -> str:
         """The CALLERROR that tells it."""

@@ -8,7 +8,7 @@ is the command's: it is let charge if the node still takes that the charge point
 from collections.abc import Callable
 from functools import partial
 
-from .charge_points import ChargePoint, Place, repeated
+from .charge_points import ChargePoint, repeated
 from .commands import ASKED, REFUSED, Command
 from .sessions import Sessions
 from .transactions import Transaction
@@ -27,30 +27,22 @@ class Orders:
             self._spawn(self._carry_out, command.provider, command.number)
 
     async def _carry_out(self, provider: str, number: int) -> None:
+        """Asks for a command. A start that names no EVSE is accepted before: only its session tells where it is."""
         command = self._commands.find(provider, number)
-        place = self._charge_points.place(command.evse_uid)
         if command.kind == "stop_session":
-            await self._stop_session(command)
-        elif command.evse_uid is None:
-            await self._start_anywhere(command)
-        elif place is not None and command.kind == "unlock_connector":
+            return await self._stop_session(command)
+        names_evse = command.evse_uid is not None
+        if not names_evse:
+            command = await repeated(partial(self._sessions.accept, command))
+        place = self._charge_points.place(command.evse_uid)
+        if place is not None and command.kind == "unlock_connector":
             if place.settings.connector_id.upper() == str(command.connector_id).upper():
                 await self._ask(command, place.charge_point, "UnlockConnector", connectorId=place.connector)
-        elif place is not None and self._sessions.at(place) is None:
-            await self._ask_to_start(command, place)
-
-    async def _ask_to_start(self, command: Command, place: Place) -> None:
-        await self._ask(command, place.charge_point, "RemoteStartTransaction", connectorId=place.connector,
-                        idTag=self._charge_points.id_tag_of(str(command.token_uid)))
-
-    async def _start_anywhere(self, command: Command) -> None:
-        """A start that names no EVSE: which one the node took is told by the session that it begins."""
-        begun = await repeated(lambda: self._sessions.accept(self._commands.find(command.provider, command.number)))
-        place = self._charge_points.place(begun.evse_uid)
-        if place is not None and place.charge_point.connection is None:
-            await place.charge_point.alone(partial(self._sessions.withdraw, begun.session_id))
-        elif place is not None:
-            await self._ask_to_start(begun, place)
+        elif place is not None and not names_evse and place.charge_point.connection is None:
+            await place.charge_point.alone(partial(self._sessions.withdraw, command.session_id))
+        elif place is not None and not (names_evse and self._sessions.at(place)):
+            await self._ask(command, place.charge_point, "RemoteStartTransaction", connectorId=place.connector,
+                            idTag=self._charge_points.id_tag_of(str(command.token_uid)))
 
     async def _stop_session(self, command: Command) -> None:
         session = self._sessions.living(command.session_id)
@@ -81,7 +73,7 @@ class Orders:
         if status == "Unlocked" and command.kind == "unlock_connector":
             await self._sessions.report("unlocked", provider=command.provider, number=command.number)
         elif status == "Accepted" and command.kind != "unlock_connector":
-            await self._sessions.accept(self._commands.find(command.provider, command.number))
+            await self._sessions.accept(command)
         else:
             self._commands.set_state(command, REFUSED)
             if command.has_ended:

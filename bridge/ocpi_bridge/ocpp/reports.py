@@ -21,7 +21,6 @@ from .sessions import Sessions
 from .transactions import CHARGING, NEW, REFUSED, STOPPED, Transaction, register_of
 
 HEARTBEAT_EACH = 60
-Handler = Callable[[ChargePoint, Members], Awaitable[Members]]
 
 
 class Reports:
@@ -30,7 +29,7 @@ class Reports:
     def __init__(self, sessions: Sessions, stop: Callable[[Transaction], None]) -> None:
         self._sessions, self._stop, self._charge_points = sessions, stop, sessions.charge_points
         self._transactions, self._commands = sessions.transactions, sessions.commands
-        self._handlers: dict[str, Handler] = {
+        self._handlers: dict[str, Callable[[ChargePoint, Members], Awaitable[Members]]] = {
             "StatusNotification": self._status, "Authorize": self._authorize, "StartTransaction": self._start,
             "MeterValues": self._meter, "StopTransaction": self._end}
 
@@ -45,7 +44,7 @@ class Reports:
         return now if action == "Heartbeat" else {"status": "Accepted", "interval": HEARTBEAT_EACH, **now}
 
     async def _status(self, charge_point: ChargePoint, payload: Members) -> Members:
-        """A status of one connector, or at connector 0 of each: one that is in service then only ends one that is not."""
+        """A status of one connector, or at connector 0 of each: there one in service only ends one that is not."""
         status, connector = payload["status"], payload["connectorId"]
         for place in charge_point.places.values():
             changes_service = {status, self._charge_points.status(place)} & OUT_OF_SERVICE
@@ -63,8 +62,7 @@ class Reports:
         """A token that was shown at no named connector: a swipe where it is clear which one is meant."""
         uid = self._charge_points.uid_of(payload["idTag"])
         places = list(charge_point.places.values())
-        shown_at = [place for place in places if self._charge_points.status(place) == "Preparing"]
-        shown_at = places if len(places) == 1 else shown_at
+        shown_at = [place for place in places if len(places) == 1 or self._charge_points.status(place) == "Preparing"]
         if any(self._is_let_charge(place, uid) for place in places) or len(shown_at) != 1:
             return {"idTagInfo": {"status": "Accepted"}}
         self._commands.forget_asked(shown_at[0].settings.evse_uid)
@@ -117,8 +115,7 @@ class Reports:
         """Feeds an event about the session of a transaction, where that is living."""
         session = self._sessions.living(transaction.session_id)
         if session is not None:
-            at = self._sessions.moment(timestamp)
-            await self._sessions.report(event, at, evse_uid=session["evse_uid"], **members)
+            await self._sessions.report(event, timestamp, evse_uid=session["evse_uid"], **members)
 
     async def _meter(self, charge_point: ChargePoint, payload: Members) -> Members:
         """Readings of a transaction. One that goes on without a session is stopped."""

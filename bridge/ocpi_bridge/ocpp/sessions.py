@@ -28,11 +28,16 @@ class Sessions:
         self.charge_points, self.transactions = ChargePoints(settings, state), Transactions(state)
         self.commands, self.clock = Commands(state, events.clock), events.clock
         self._events, self._feeder, self._objects = events, feeder, objects
-        self._questions: dict[tuple[str, int], tuple[float, asyncio.Future[None]]] = {}
+        # Until when each question awaits its answer, and whether a stop of the node ended that.
+        self._questions: dict[tuple[str, int], tuple[float, asyncio.Future[bool]]] = {}
         self._was_open = False
 
-    async def report(self, event: str, at: str | None = None, **members: object) -> Outcome:
-        """Feeds an event of a name. Raises EventRefused, OutcomeLost and NodeEnded."""
+    async def report(self, event: str, timestamp: str | None = None, **members: object) -> Outcome:
+        """Feeds an event of a name, at a timestamp or the clock's moment, whichever is earlier.
+
+        Raises EventRefused, OutcomeLost and NodeEnded.
+        """
+        at = None if timestamp is None else moment_of(min(seconds_of(timestamp), self.clock.seconds()))
         outcome = await self._feeder.feed(self._events.make(event, at, **members))
         if outcome.word not in ("stepped", "idle"):
             raise EventRefused(f"{event}: {outcome.word}")
@@ -47,12 +52,9 @@ class Sessions:
         session = self._objects.find("sessions", self._events.node, session_id or "")
         return session if session is not None and session["status"] in ("PENDING", "ACTIVE") else None
 
-    def moment(self, timestamp: str) -> str:
-        """The moment of a report: its own, or the clock's where that is earlier."""
-        return moment_of(min(seconds_of(timestamp), self.clock.seconds()))
-
     async def accept(self, command: Command) -> Command:
         """Feeds that a command is carried out, and gives it as it stands then: a start has a session, or had ended."""
+        command = self.commands.find(command.provider, command.number)
         if command.session_id is None or command.kind == "stop_session":
             await self.report("accepts", provider=command.provider, number=command.number)
         return self.commands.find(command.provider, command.number)
@@ -69,30 +71,27 @@ class Sessions:
         outcome = await self.report("swipe", evse_uid=evse_uid, connector_id=connector_id, token_uid=token_uid,
                                     token_type="RFID")
         for question in outcome.sent("authorize"):
-            if (waiting := self._questions.get((party_key(question.receiver), question.request))) is not None:
-                await waiting[1]
+            waiting = self._questions.get((party_key(question.receiver), question.request))
+            if waiting is not None and await waiting[1]:
+                raise OutcomeLost()
 
     def act(self, outcome: Outcome) -> None:
         """Takes in a question about a token, and what decides it: an answer, or a tick behind its time.
 
         A node that was started again awaits no answer to a question from before, as its first outcome tells.
         """
-        if self._was_open and not self._feeder.is_open:
-            for _, decided in self._questions.values():
-                decided.set_exception(OutcomeLost())
-            self._questions.clear()
-            self._was_open = False
-        event = outcome.event
-        for question in outcome.sent("authorize"):
-            decided = asyncio.get_running_loop().create_future()
-            key = party_key(question.receiver), question.request
-            self._questions[key] = seconds_of(event["at"]) + QUESTION_WITHIN, decided
-        packet = event.get("packet", {})
+        was_stopped = self._was_open and not self._feeder.is_open
+        self._was_open = self._was_open and not was_stopped
+        event, packet = outcome.event, outcome.event.get("packet", {})
         answered = (party_key(packet["from"]), packet["request"]) if packet.get("kind") == "authorization" else None
         for key, (until, decided) in list(self._questions.items()):
-            if key == answered or event["event"] == "tick" and until <= seconds_of(event["at"]):
+            if was_stopped or key == answered or event["event"] == "tick" and until <= seconds_of(event["at"]):
                 del self._questions[key]
-                decided.set_result(None)
+                decided.set_result(was_stopped)
+        for question in outcome.sent("authorize"):
+            key = party_key(question.receiver), question.request
+            until = seconds_of(event["at"]) + QUESTION_WITHIN
+            self._questions[key] = until, asyncio.get_running_loop().create_future()
 
     def opened(self) -> None:
         """Called each time that the node has opened its store."""

@@ -1,5 +1,6 @@
 """The transactions of charge points: which there are, which session of the node each is, and what energy it took."""
-from dataclasses import dataclass, replace
+from contextlib import suppress
+from dataclasses import dataclass
 from decimal import ROUND_DOWN, Decimal, InvalidOperation
 
 from ..clock import milliseconds_of
@@ -13,11 +14,12 @@ REGISTER = "Energy.Active.Import.Register"
 
 @dataclass(frozen=True)
 class Transaction:
-    """A transaction. `session_id` is that of its session, and None where it has none: then its answer is Invalid."""
+    """A transaction, as its row is. `session_id` is None where it has no session: then its answer is Invalid."""
 
     number: int
     charge_point: str
     connector: int
+    started: int
     id_tag: str
     meter_start: int
     session_id: str | None
@@ -37,11 +39,11 @@ class Transactions:
 
     def begin(self, charge_point: str, payload: Members) -> Transaction:
         """The transaction of a StartTransaction: a new one, or the one that it told of before."""
-        known = charge_point, payload["connectorId"], milliseconds_of(payload["timestamp"])
-        self._state.query(
-            f"""INSERT OR IGNORE INTO ocpp_transaction (charge_point, connector, started, id_tag, meter_start, state)
-            VALUES (?, ?, ?, ?, ?, '{NEW}')""", *known, payload["idTag"], payload["meterStart"])
-        return self._one("charge_point = ? AND connector = ? AND started = ?", *known)  # type: ignore[return-value]
+        return Transaction(*self._state.query(
+            """INSERT INTO ocpp_transaction (charge_point, connector, started, id_tag, meter_start, state)
+            VALUES (?, ?, ?, ?, ?, ?) ON CONFLICT DO UPDATE SET started = started RETURNING *""", charge_point,
+            payload["connectorId"], milliseconds_of(payload["timestamp"]), payload["idTag"], payload["meterStart"],
+            NEW)[0])
 
     def find(self, charge_point: str, number: int | None) -> Transaction | None:
         """The transaction of a charge point that has a number."""
@@ -51,15 +53,14 @@ class Transactions:
         return self._one("session_id = ?", session_id)
 
     def _one(self, where: str, *values: object) -> Transaction | None:
-        rows = self._state.query("SELECT number, charge_point, connector, id_tag, meter_start, session_id, state"
-                                 f" FROM ocpp_transaction WHERE {where}", *values)
+        rows = self._state.query(f"SELECT * FROM ocpp_transaction WHERE {where}", *values)
         return Transaction(*rows[0]) if rows else None
 
     def update(self, transaction: Transaction, word: str, session_id: str | None) -> Transaction:
         """Keeps the state of a transaction, and which session it is. Gives it as it is then."""
-        self._state.query("UPDATE ocpp_transaction SET state = ?, session_id = ? WHERE number = ?", word, session_id,
-                          transaction.number)
-        return replace(transaction, state=word, session_id=session_id)
+        return Transaction(*self._state.query(
+            "UPDATE ocpp_transaction SET state = ?, session_id = ? WHERE number = ? RETURNING *", word, session_id,
+            transaction.number)[0])
 
 
 def register_of(meter_value: Members) -> Decimal | None:
@@ -67,10 +68,8 @@ def register_of(meter_value: Members) -> Decimal | None:
     for sample in meter_value["sampledValue"]:
         is_register = sample.get("measurand") in (None, REGISTER) and sample.get("phase") is None
         if is_register and sample.get("format") in (None, "Raw") and sample.get("unit") in (None, "Wh", "kWh"):
-            try:
+            with suppress(InvalidOperation):
                 value = Decimal(sample["value"].strip())
-            except InvalidOperation:
-                continue
-            if value.is_finite() and abs(value) < 10**15:
-                return value * 1000 if sample.get("unit") == "kWh" else value
+                if value.is_finite() and abs(value) < 10**15:
+                    return value * 1000 if sample.get("unit") == "kWh" else value
     return None
