@@ -84,7 +84,6 @@ class CentralSystem:
         await socket.prepare(request)
         if socket.ws_protocol == SUBPROTOCOL:
             await self._serve(charge_point, socket)
-        await socket.close()
         return socket
 
     async def _serve(self, charge_point: ChargePoint, socket: web.WebSocketResponse) -> None:
@@ -165,10 +164,10 @@ class CentralSystem:
         Gives OCPP's status, or `Unreachable` where the charge point is away or does not answer.
         """
         place = self._charge_points.place(evse_uid)
-        if place is None:
+        if place is None or place.charge_point.connection is None:
             return "Unreachable"
         payload = {"connectorId": place.connector, "type": "Operative" if in_service else "Inoperative"}
-        async with place.charge_point.asking("ChangeAvailability", payload) as answer:
+        async with place.charge_point.connection.asking("ChangeAvailability", payload) as answer:
             return "Unreachable" if answer is None else str(answer.get("status"))
 
     def connected_count(self) -> int:

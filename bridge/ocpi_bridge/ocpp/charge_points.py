@@ -2,12 +2,10 @@
 import asyncio
 import hashlib
 from collections.abc import Awaitable, Callable
-from contextlib import AbstractAsyncContextManager, nullcontext
 from dataclasses import dataclass, field
 from typing import TypeVar
 
 from ..configuration import ChargePointSettings, ConnectorSettings, OcppSettings
-from ..json_text import Members
 from ..node.feeder import OutcomeLost
 from ..state import State
 from .connection import Connection
@@ -42,10 +40,6 @@ class ChargePoint:
         """Carries an action out under its lock, and is `repeated`."""
         async with self.lock:
             return await repeated(action)
-
-    def asking(self, action: str, payload: Members) -> AbstractAsyncContextManager[Members | None]:
-        """Asks it, as `Connection.asking` does. Inside stands None where it has no connection, too."""
-        return nullcontext() if self.connection is None else self.connection.asking(action, payload)
 
 
 @dataclass(frozen=True)

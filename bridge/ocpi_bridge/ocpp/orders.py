@@ -64,27 +64,28 @@ class Orders:
     async def _ask(self, command: Command, charge_point: ChargePoint, action: str, **payload: object) -> None:
         if charge_point.connection is not None:
             self._commands.set_state(command, ASKED)
-            async with charge_point.asking(action, payload) as answer:
+            async with charge_point.connection.asking(action, payload) as answer:
                 if answer is not None:
                     await charge_point.alone(partial(self._tell, command, answer.get("status")))
 
     async def _tell(self, command: Command, status: object) -> None:
-        """Feeds what a charge point answered. (A start that names no EVSE was accepted before.)"""
+        """Feeds what a charge point answered. A start that names no EVSE was accepted before, and has a session."""
         if status == "Unlocked" and command.kind == "unlock_connector":
             await self._sessions.report("unlocked", provider=command.provider, number=command.number)
         elif status == "Accepted" and command.kind != "unlock_connector":
             await self._sessions.accept(command)
         else:
             self._commands.set_state(command, REFUSED)
-            if command.has_ended:
+            await self._sessions.report("refuses", provider=command.provider, number=command.number)
+            if command.kind == "start_session":
                 await self._sessions.withdraw(command.session_id)
-            else:
-                await self._sessions.report("refuses", provider=command.provider, number=command.number)
 
     def stop(self, transaction: Transaction) -> None:
         """Has a transaction stopped that goes on without a session."""
         self._spawn(self._stop_transaction, transaction.charge_point, transaction.number)
 
     async def _stop_transaction(self, charge_point: str, number: int) -> None:
-        async with self._charge_points.by_id[charge_point].asking("RemoteStopTransaction", {"transactionId": number}):
-            pass
+        connection = self._charge_points.by_id[charge_point].connection
+        if connection is not None:
+            async with connection.asking("RemoteStopTransaction", {"transactionId": number}):
+                pass

@@ -16,7 +16,7 @@ from functools import partial
 
 from ..json_text import Members
 from .charge_points import OUT_OF_SERVICE, ChargePoint, Place
-from .fields import check_payload
+from .frames import check_payload
 from .sessions import Sessions
 from .transactions import CHARGING, NEW, REFUSED, STOPPED, Transaction, register_of
 
