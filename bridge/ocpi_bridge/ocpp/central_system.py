@@ -17,11 +17,10 @@ from ..json_text import Members
 from ..node.feeder import Feeder, NodeEnded
 from ..ocpi.objects import Objects
 from ..state import State
-from .charge_points import ChargePoint
 from .connection import Connection
 from .orders import Orders
 from .reports import Reports
-from .sessions import Sessions
+from .site import ChargePoint, Site
 
 LOG = logging.getLogger("ocpp")
 SUBPROTOCOL = "ocpp1.6"
@@ -40,10 +39,9 @@ class CentralSystem:
 
     def __init__(self, settings: OcppSettings, events: Events, state: State, feeder: Feeder, objects: Objects) -> None:
         self._clock, self._objects = events.clock, objects
-        self._sessions = Sessions(settings, events, state, feeder, objects)
-        self._charge_points, self._commands = self._sessions.charge_points, self._sessions.commands
-        self._orders = Orders(self._sessions, self._spawn)
-        self._reports = Reports(self._sessions, self._orders.stop)
+        self._site = Site(settings, events, state, feeder, objects)
+        self._orders = Orders(self._site, self._spawn)
+        self._reports = Reports(self._site, self._orders.stop)
         self._tasks: dict[object, asyncio.Task[None]] = {}
 
     def application(self) -> web.Application:
@@ -68,13 +66,13 @@ class CentralSystem:
             LOG.error("a charge point could not be served", exc_info=fault)
 
     async def _close(self, application: web.Application) -> None:
-        points = self._charge_points.by_id.values()
+        points = self._site.by_id.values()
         await asyncio.gather(*(point.connection.close() for point in points if point.connection is not None))
         for task in self._tasks.values():
             task.cancel()
 
     async def _connect(self, request: web.Request) -> web.WebSocketResponse:
-        charge_point = self._charge_points.by_id.get(request.match_info["id"])
+        charge_point = self._site.by_id.get(request.match_info["id"])
         if charge_point is None:
             raise web.HTTPNotFound()
         if not _is_authentic(charge_point.settings, request.headers.get("Authorization", "")):
@@ -114,13 +112,13 @@ class CentralSystem:
 
     def note(self, outcome: Outcome) -> None:
         """Keeps what an outcome opens and ends. Called inside of the transaction that forgets its line."""
-        self._commands.note(outcome)
+        self._site.commands.note(outcome)
         if outcome.event["event"] == "service" and outcome.word in ("stepped", "idle"):
-            self._charge_points.note_service(outcome.event["evse_uid"], outcome.event["in_service"])
+            self._site.note_service(outcome.event["evse_uid"], outcome.event["in_service"])
 
     def act(self, outcome: Outcome) -> None:
         """Begins what an outcome asks of charge points. Called behind that transaction."""
-        self._sessions.act(outcome)
+        self._site.act(outcome)
         if outcome.event["event"] == "tick":
             self._end_unused()
         if outcome.sent("command_response"):
@@ -128,42 +126,42 @@ class CentralSystem:
 
     def opened(self) -> None:
         """Takes up again what waited for the node. Called each time that the node has opened its store."""
-        self._sessions.opened()
+        self._site.opened()
         self._orders.begin()
 
     def _end_unused(self) -> None:
         """Ends each PENDING session for which nobody plugged in."""
         for session in self._objects.pending_sessions():
-            place = self._charge_points.place(session["evse_uid"])
+            place = self._site.place(session["evse_uid"])
             if place is not None and place.charge_point.connection is not None:
                 until = seconds_of(session["last_updated"]) + PLUGGED_IN_WITHIN
                 if self._clock.seconds() > max(until, place.charge_point.connection.since + TOLD_WITHIN):
                     self._spawn(self._end_session, place.charge_point, session["id"])
 
     async def _end_session(self, charge_point: ChargePoint, session_id: str) -> None:
-        await charge_point.alone(lambda: self._sessions.withdraw(session_id))
+        await charge_point.alone(lambda: self._site.withdraw(session_id))
 
     def charge_points(self) -> list[Members]:
         """Each charge point: its `id`, whether it is `connected`, and its `connectors` with their `status`."""
         return [{"id": point.settings.id, "connected": point.connection is not None, "connectors": [
             {"connector": place.connector, "evse_uid": place.settings.evse_uid,
-             "connector_id": place.settings.connector_id, "status": self._charge_points.status(place)}
-            for place in point.places.values()]} for point in self._charge_points.by_id.values()]
+             "connector_id": place.settings.connector_id, "status": self._site.status(place)}
+            for place in point.places.values()]} for point in self._site.by_id.values()]
 
     def commands(self) -> list[Members]:
         """The commands that are open, with their `provider`, `number`, `kind`, and what they are about."""
-        return [asdict(command) for command in self._commands.opened()]
+        return [asdict(command) for command in self._site.commands.opened()]
 
     def evse_status(self, evse_uid: str) -> str | None:
         """`OUTOFORDER` where the charge point is away or Faulted, `INOPERATIVE` where out of service, else None."""
-        return self._charge_points.evse_status(evse_uid)
+        return self._site.evse_status(evse_uid)
 
     async def change_availability(self, evse_uid: str, in_service: bool) -> str:
         """Asks a charge point to take an EVSE out of service or back. The caller feeds `service`.
 
         Gives OCPP's status, or `Unreachable` where the charge point is away or does not answer.
         """
-        place = self._charge_points.place(evse_uid)
+        place = self._site.place(evse_uid)
         if place is None or place.charge_point.connection is None:
             return "Unreachable"
         payload = {"connectorId": place.connector, "type": "Operative" if in_service else "Inoperative"}
@@ -172,7 +170,7 @@ class CentralSystem:
 
     def connected_count(self) -> int:
         """How many charge points have a connection."""
-        return sum(point.connection is not None for point in self._charge_points.by_id.values())
+        return sum(point.connection is not None for point in self._site.by_id.values())
 
 
 def _is_authentic(settings: ChargePointSettings, header: str) -> bool:

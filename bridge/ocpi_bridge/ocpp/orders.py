@@ -8,18 +8,16 @@ is the command's: it is let charge if the node still takes that the charge point
 from collections.abc import Callable
 from functools import partial
 
-from .charge_points import ChargePoint, repeated
 from .commands import ASKED, REFUSED, Command
-from .sessions import Sessions
+from .site import ChargePoint, Site, repeated
 from .transactions import Transaction
 
 
 class Orders:
     """Carries out commands. `spawn` has each done in a task of its own, that is not under way already."""
 
-    def __init__(self, sessions: Sessions, spawn: Callable[..., None]) -> None:
-        self._sessions, self._spawn = sessions, spawn
-        self._charge_points, self._commands = sessions.charge_points, sessions.commands
+    def __init__(self, site: Site, spawn: Callable[..., None]) -> None:
+        self._site, self._commands, self._spawn = site, site.commands, spawn
 
     def begin(self) -> None:
         """Begins with each open command that no charge point was asked for yet."""
@@ -33,20 +31,20 @@ class Orders:
             return await self._stop_session(command)
         names_evse = command.evse_uid is not None
         if not names_evse:
-            command = await repeated(partial(self._sessions.accept, command))
-        place = self._charge_points.place(command.evse_uid)
+            command = await repeated(partial(self._site.accept, command))
+        place = self._site.place(command.evse_uid)
         if place is not None and command.kind == "unlock_connector":
             if place.settings.connector_id.upper() == str(command.connector_id).upper():
                 await self._ask(command, place.charge_point, "UnlockConnector", connectorId=place.connector)
         elif place is not None and not names_evse and place.charge_point.connection is None:
-            await place.charge_point.alone(partial(self._sessions.withdraw, command.session_id))
-        elif place is not None and not (names_evse and self._sessions.at(place)):
+            await place.charge_point.alone(partial(self._site.withdraw, command.session_id))
+        elif place is not None and not (names_evse and self._site.at(place)):
             await self._ask(command, place.charge_point, "RemoteStartTransaction", connectorId=place.connector,
-                            idTag=self._charge_points.id_tag_of(str(command.token_uid)))
+                            idTag=self._site.id_tag_of(str(command.token_uid)))
 
     async def _stop_session(self, command: Command) -> None:
-        session = self._sessions.living(command.session_id)
-        place = self._charge_points.place(session["evse_uid"] if session is not None else None)
+        session = self._site.living(command.session_id)
+        place = self._site.place(session["evse_uid"] if session is not None else None)
         if place is not None and place.charge_point.connection is not None:
             transaction = await place.charge_point.alone(partial(self._transaction_to_stop, command))
             if transaction is not None:
@@ -54,11 +52,11 @@ class Orders:
 
     async def _transaction_to_stop(self, command: Command) -> Transaction | None:
         """That of a session. One without a transaction is ended by the bridge: no charge point has anything to stop."""
-        transaction = self._sessions.transactions.of_session(command.session_id)
+        transaction = self._site.transactions.of_session(command.session_id)
         if transaction is None:
             self._commands.set_state(command, ASKED)
-            await self._sessions.accept(command)
-            await self._sessions.withdraw(command.session_id)
+            await self._site.accept(command)
+            await self._site.withdraw(command.session_id)
         return transaction
 
     async def _ask(self, command: Command, charge_point: ChargePoint, action: str, **payload: object) -> None:
@@ -71,21 +69,21 @@ class Orders:
     async def _tell(self, command: Command, status: object) -> None:
         """Feeds what a charge point answered. A start that names no EVSE was accepted before, and has a session."""
         if status == "Unlocked" and command.kind == "unlock_connector":
-            await self._sessions.report("unlocked", provider=command.provider, number=command.number)
+            await self._site.report("unlocked", provider=command.provider, number=command.number)
         elif status == "Accepted" and command.kind != "unlock_connector":
-            await self._sessions.accept(command)
+            await self._site.accept(command)
         else:
             self._commands.set_state(command, REFUSED)
-            await self._sessions.report("refuses", provider=command.provider, number=command.number)
+            await self._site.report("refuses", provider=command.provider, number=command.number)
             if command.kind == "start_session":
-                await self._sessions.withdraw(command.session_id)
+                await self._site.withdraw(command.session_id)
 
     def stop(self, transaction: Transaction) -> None:
         """Has a transaction stopped that goes on without a session."""
         self._spawn(self._stop_transaction, transaction.charge_point, transaction.number)
 
     async def _stop_transaction(self, charge_point: str, number: int) -> None:
-        connection = self._charge_points.by_id[charge_point].connection
+        connection = self._site.by_id[charge_point].connection
         if connection is not None:
             async with connection.asking("RemoteStopTransaction", {"transactionId": number}):
                 pass

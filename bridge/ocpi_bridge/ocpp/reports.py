@@ -15,9 +15,8 @@ from decimal import Decimal
 from functools import partial
 
 from ..json_text import Members
-from .charge_points import OUT_OF_SERVICE, ChargePoint, Place
 from .frames import check_payload
-from .sessions import Sessions
+from .site import OUT_OF_SERVICE, ChargePoint, Place, Site
 from .transactions import CHARGING, NEW, REFUSED, STOPPED, Transaction, register_of
 
 HEARTBEAT_EACH = 60
@@ -26,9 +25,8 @@ HEARTBEAT_EACH = 60
 class Reports:
     """Answers the calls of charge points. `stop` is called with each transaction that goes on without a session."""
 
-    def __init__(self, sessions: Sessions, stop: Callable[[Transaction], None]) -> None:
-        self._sessions, self._stop, self._charge_points = sessions, stop, sessions.charge_points
-        self._transactions, self._commands = sessions.transactions, sessions.commands
+    def __init__(self, site: Site, stop: Callable[[Transaction], None]) -> None:
+        self._site, self._transactions, self._commands, self._stop = site, site.transactions, site.commands, stop
         self._handlers: dict[str, Callable[[ChargePoint, Members], Awaitable[Members]]] = {
             "StatusNotification": self._status, "Authorize": self._authorize, "StartTransaction": self._start,
             "MeterValues": self._meter, "StopTransaction": self._end}
@@ -40,38 +38,38 @@ class Reports:
             return await charge_point.alone(partial(self._handlers[action], charge_point, payload))
         if action == "DataTransfer":
             return {"status": "UnknownVendorId"}
-        now: Members = {"currentTime": self._sessions.clock.moment()}
+        now: Members = {"currentTime": self._site.clock.moment()}
         return now if action == "Heartbeat" else {"status": "Accepted", "interval": HEARTBEAT_EACH, **now}
 
     async def _status(self, charge_point: ChargePoint, payload: Members) -> Members:
         """A status of one connector, or at connector 0 of each: there one in service only ends one that is not."""
         status, connector = payload["status"], payload["connectorId"]
         for place in charge_point.places.values():
-            changes_service = {status, self._charge_points.status(place)} & OUT_OF_SERVICE
+            changes_service = {status, self._site.status(place)} & OUT_OF_SERVICE
             if connector == place.connector or connector == 0 and changes_service:
                 if changes_service:
-                    await self._sessions.report("service", evse_uid=place.settings.evse_uid,
-                                                in_service=status not in OUT_OF_SERVICE)
-                session = self._sessions.at(place)
+                    is_in_service = status not in OUT_OF_SERVICE
+                    await self._site.report("service", evse_uid=place.settings.evse_uid, in_service=is_in_service)
+                session = self._site.at(place)
                 if status == "Faulted" and (session is None or self._transactions.of_session(session["id"]) is None):
-                    await self._sessions.report("fault", evse_uid=place.settings.evse_uid)
-                self._charge_points.set_status(place, status)
+                    await self._site.report("fault", evse_uid=place.settings.evse_uid)
+                self._site.set_status(place, status)
         return {}
 
     async def _authorize(self, charge_point: ChargePoint, payload: Members) -> Members:
         """A token that was shown at no named connector: a swipe where it is clear which one is meant."""
-        uid = self._charge_points.uid_of(payload["idTag"])
+        uid = self._site.uid_of(payload["idTag"])
         places = list(charge_point.places.values())
-        shown_at = [place for place in places if len(places) == 1 or self._charge_points.status(place) == "Preparing"]
+        shown_at = [place for place in places if len(places) == 1 or self._site.status(place) == "Preparing"]
         if any(self._is_let_charge(place, uid) for place in places) or len(shown_at) != 1:
             return {"idTagInfo": {"status": "Accepted"}}
         self._commands.forget_asked(shown_at[0].settings.evse_uid)
-        await self._sessions.swipe(shown_at[0], uid)
+        await self._site.swipe(shown_at[0], uid)
         return {"idTagInfo": {"status": "Accepted" if self._is_let_charge(shown_at[0], uid) else "Invalid"}}
 
     def _is_let_charge(self, place: Place, uid: str) -> bool:
         """Whether a session or an open start of a token stands at a connector."""
-        session = self._sessions.at(place)
+        session = self._site.at(place)
         if session is not None:
             return bool(session["cdr_token"]["uid"].upper() == uid.upper())
         command = self._commands.start_for(place.settings.evse_uid, uid)
@@ -97,32 +95,32 @@ class Reports:
 
     async def _session_of(self, place: Place, transaction: Transaction) -> Members | None:
         """The session of a new transaction: one that it is known to be, or that waits for its token, or of a swipe."""
-        uid = self._charge_points.uid_of(transaction.id_tag)
+        uid = self._site.uid_of(transaction.id_tag)
         if transaction.session_id is not None:
-            return self._sessions.living(transaction.session_id)
-        if self._sessions.at(place) is None:
+            return self._site.living(transaction.session_id)
+        if self._site.at(place) is None:
             command = self._commands.start_for(place.settings.evse_uid, uid)
             if command is None:
-                await self._sessions.swipe(place, uid)
+                await self._site.swipe(place, uid)
             else:
-                await self._sessions.accept(command)
-        session = self._sessions.at(place)
+                await self._site.accept(command)
+        session = self._site.at(place)
         if session is None or session["status"] != "PENDING" or session["cdr_token"]["uid"].upper() != uid.upper():
             return None
         return session if self._transactions.of_session(session["id"]) is None else None
 
     async def _report(self, transaction: Transaction, event: str, timestamp: str, **members: object) -> None:
         """Feeds an event about the session of a transaction, where that is living."""
-        session = self._sessions.living(transaction.session_id)
+        session = self._site.living(transaction.session_id)
         if session is not None:
-            await self._sessions.report(event, timestamp, evse_uid=session["evse_uid"], **members)
+            await self._site.report(event, timestamp, evse_uid=session["evse_uid"], **members)
 
     async def _meter(self, charge_point: ChargePoint, payload: Members) -> Members:
         """Readings of a transaction. One that goes on without a session is stopped."""
         transaction = self._transactions.find(charge_point.settings.id, payload.get("transactionId"))
         if transaction is None or transaction.state == STOPPED:
             return {}
-        if self._sessions.living(transaction.session_id) is None:
+        if self._site.living(transaction.session_id) is None:
             self._stop(transaction)
         for meter_value in payload["meterValue"]:
             if (register := register_of(meter_value)) is not None:

@@ -1,36 +1,117 @@
-"""Feeds a node what charge points report and answer, each only where it is about the session that it is meant for."""
+"""The site of a node: its EVSEs with their charge points, what is kept of these, and how the node is told of them."""
 import asyncio
+import hashlib
+from collections.abc import Awaitable, Callable
+from dataclasses import dataclass, field
+from typing import TypeVar
 
 from ..clock import moment_of, seconds_of
-from ..configuration import OcppSettings
+from ..configuration import ChargePointSettings, ConnectorSettings, OcppSettings
 from ..events import Events, Outcome
 from ..json_text import Members
 from ..node.feeder import Feeder, OutcomeLost
 from ..ocpi.objects import Objects
 from ..parties import party_key
 from ..state import State
-from .charge_points import ChargePoints, Place
 from .commands import Command, Commands
+from .connection import Connection
 from .transactions import Transactions
 
+OUT_OF_SERVICE = {"Unavailable", "Faulted"}
+LONGEST_ID_TAG = 20
 # The seconds for which a node awaits what a provider says of a token.
 QUESTION_WITHIN = 10.0
+Result = TypeVar("Result")
 
 
 class EventRefused(Exception):
     """The node refused an event: the charge point has to report again."""
 
 
-class Sessions:
-    """The sessions at the EVSEs of a node, and what is kept of charge points and of their transactions and commands."""
+async def repeated(action: Callable[[], Awaitable[Result]]) -> Result:
+    """Carries an action out, and again from its beginning where a stop of the node lost what an event of it gave.
+
+    The node then had a tick, which sent again each session that was lost. So what was done already is known by then.
+    """
+    while True:
+        try:
+            return await action()
+        except OutcomeLost:
+            continue
+
+
+@dataclass(eq=False)
+class ChargePoint:
+    """A charge point. Whoever feeds the node what it reports, or looks at what stands at its EVSEs, has its lock."""
+
+    settings: ChargePointSettings
+    places: "dict[int, Place]" = field(default_factory=dict)
+    connection: Connection | None = None
+    lock: asyncio.Lock = field(default_factory=asyncio.Lock)
+
+    async def alone(self, action: Callable[[], Awaitable[Result]]) -> Result:
+        """Carries an action out under its lock, and is `repeated`."""
+        async with self.lock:
+            return await repeated(action)
+
+
+@dataclass(frozen=True)
+class Place:
+    """Where an EVSE is: a connector of a charge point."""
+
+    charge_point: ChargePoint
+    connector: int
+    settings: ConnectorSettings
+
+
+class Site:
+    """All charge points by their ids, all EVSEs by their uids, and the sessions there. Feeds the node."""
 
     def __init__(self, settings: OcppSettings, events: Events, state: State, feeder: Feeder, objects: Objects) -> None:
-        self.charge_points, self.transactions = ChargePoints(settings, state), Transactions(state)
-        self.commands, self.clock = Commands(state, events.clock), events.clock
-        self._events, self._feeder, self._objects = events, feeder, objects
+        self.transactions, self.commands, self.clock = Transactions(state), Commands(state, events.clock), events.clock
+        self.by_id = {name: ChargePoint(point) for name, point in settings.charge_points.items()}
+        self._places: dict[str, Place] = {}
+        for point in self.by_id.values():
+            for number, connector in point.settings.connectors.items():
+                point.places[number] = self._places[connector.evse_uid.upper()] = Place(point, number, connector)
+        self._state, self._events, self._feeder, self._objects = state, events, feeder, objects
         # Until when each question awaits its answer, and whether a stop of the node ended that.
         self._questions: dict[tuple[str, int], tuple[float, asyncio.Future[bool]]] = {}
         self._was_open = False
+
+    def place(self, evse_uid: str | None) -> Place | None:
+        """Where an EVSE is. None where no charge point has it."""
+        return self._places.get((evse_uid or "").upper())
+
+    def status(self, place: Place) -> str | None:
+        """The last status that a connector reported."""
+        return self._state.value(f"ocpp.status {place.settings.evse_uid.upper()}")
+
+    def set_status(self, place: Place, status: str) -> None:
+        self._state.set_value(f"ocpp.status {place.settings.evse_uid.upper()}", status)
+
+    def note_service(self, evse_uid: str, in_service: bool) -> None:
+        """Keeps what an event `service` said."""
+        self._state.set_value(f"ocpp.service {evse_uid.upper()}", "in" if in_service else "out")
+
+    def evse_status(self, evse_uid: str) -> str | None:
+        """`OUTOFORDER` where nothing can be charged, `INOPERATIVE` where the EVSE is out of service, else None."""
+        place = self.place(evse_uid)
+        if place is None or place.charge_point.connection is None or self.status(place) == "Faulted":
+            return "OUTOFORDER"
+        return "INOPERATIVE" if self._state.value(f"ocpp.service {evse_uid.upper()}") == "out" else None
+
+    def id_tag_of(self, uid: str) -> str:
+        """What a token is called at charge points: its uid, or a text of the bridge where that is too long for OCPP."""
+        if len(uid) <= LONGEST_ID_TAG:
+            return uid
+        id_tag = hashlib.sha256(uid.upper().encode()).hexdigest()[:LONGEST_ID_TAG].upper()
+        self._state.set_value(f"ocpp.uid {id_tag}", uid)
+        return id_tag
+
+    def uid_of(self, id_tag: str) -> str:
+        """The uid of the token that a charge point calls so."""
+        return self._state.value(f"ocpp.uid {id_tag.upper()}") or id_tag
 
     async def report(self, event: str, timestamp: str | None = None, **members: object) -> Outcome:
         """Feeds an event of a name, at a timestamp or the clock's moment, whichever is earlier.
