@@ -33,7 +33,10 @@ class Bridge:
 
     def __init__(self, configuration: Configuration) -> None:
         self._state = state = State(configuration.state)
-        clock = kept_clock(state, configuration.clock_factor)
+        # The origin is kept, so that no new start sets the clock back.
+        origin = state.value("clock.origin")
+        clock = Clock(configuration.clock_factor, None if origin is None else float(origin))
+        state.set_value("clock.origin", repr(clock.origin))
         events = Events(configuration.node.party, clock)
         metrics = Metrics()
         self._feeder = feeder = Feeder(configuration.node, events, state, metrics)
@@ -46,22 +49,21 @@ class Bridge:
         self._pulling = Pulling(self._client, objects, state, configuration.is_operator)
         feeder.after_opening.append(self._pulling.wake)
         feeder.after_commit.append(self._send)
-        self._listeners: list[Listener] = []
         ocpp = configuration.ocpp
         central_system = CentralSystem(ocpp or NO_CHARGE_POINTS, events, state, feeder, objects)
-        if ocpp is not None:
-            feeder.before_commit.append(central_system.note)
-            feeder.after_commit.append(central_system.act)
-            feeder.after_opening.append(central_system.opened)
-            self._listeners.append(Listener("ocpp", ocpp.listen, central_system.application()))
         locations = None if configuration.site is None else Locations(
             state, clock, objects, configuration.node.party, configuration.site,
             central_system.evse_status if ocpp is not None else lambda _: None)
         interfaces = Interfaces(configuration.ocpi.url, events, objects, requests, locations, feeder.feed)
         server = Server(events, partners, Credentials(configuration, partners, exchange), interfaces, metrics)
-        self._listeners.append(Listener("ocpi", configuration.ocpi.listen, server.application()))
         admin = Admin(configuration, state, events, feeder, objects, partners, metrics, locations, central_system)
-        self._listeners.append(Listener("admin", configuration.admin, admin.application()))
+        self._listeners = [Listener("ocpi", configuration.ocpi.listen, server.application()),
+                           Listener("admin", configuration.admin, admin.application())]
+        if ocpp is not None:
+            feeder.before_commit.append(central_system.note)
+            feeder.after_commit.append(central_system.act)
+            feeder.after_opening.append(central_system.opened)
+            self._listeners.append(Listener("ocpp", ocpp.listen, central_system.application()))
 
     def _send(self, outcome: Outcome) -> None:
         for packet in outcome.packets:
@@ -105,11 +107,3 @@ class Bridge:
 async def run(configuration: Configuration) -> int:
     """Runs a bridge. Gives the status with which to end."""
     return await Bridge(configuration).run()
-
-
-def kept_clock(state: State, factor: float) -> Clock:
-    """The clock, whose origin is kept, so that no new start sets it back."""
-    origin = state.value("clock.origin")
-    clock = Clock(factor, None if origin is None else float(origin))
-    state.set_value("clock.origin", repr(clock.origin))
-    return clock

@@ -14,9 +14,8 @@ from typing import Any, NoReturn
 
 from .json_text import Members, NotJson, Number, NumberTooLarge, read_json, write_json
 
+# The `form`, and the `texts` that its words stand for: the pattern that each matches, and what is wrong with others.
 TABLES = json.loads(Path(__file__).with_name("configuration.json").read_text())
-# The form, and the texts that its words stand for: the pattern that each matches as a whole, and what is wrong else.
-FORM, TEXTS = TABLES["form"], TABLES["texts"]
 
 
 class WrongConfiguration(Exception):
@@ -100,7 +99,7 @@ class Configuration:
 
 def read_configuration(path: Path) -> Configuration:
     """Reads the file, and the setup that it names. Raises WrongConfiguration with the path of what is wrong."""
-    file = _read_by(FORM, _read_file(path, str(path)), "", path.absolute().parent)
+    file = _read_by(TABLES["form"], _read_file(path, str(path)), "", path.absolute().parent)
     node, ocpi = file["node"], file["ocpi"]
     setup = _read_file(node["setup"], "node.setup")
     sites = _sites(setup)
@@ -160,7 +159,7 @@ def _read_word(word: str, value: Any, path: str, folder: Path) -> Any:
     if word == "factor":
         number = float(value) if isinstance(value, (int, Number)) and not isinstance(value, bool) else 0.0
         return number if 0 < number < float("inf") else refuse(path, "no number above 0")
-    pattern, fault = TEXTS[word]
+    pattern, fault = TABLES["texts"][word]
     if not isinstance(value, str) or not re.fullmatch(pattern, value):
         refuse(path, fault)
     if word != "file":

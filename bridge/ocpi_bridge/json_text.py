@@ -25,9 +25,7 @@ class Number(str):
 
 
 def _read_integer(text: str) -> int | Number:
-    if len(text) <= MOST_DIGITS and text != "-0":
-        return int(text)
-    return Number(text)
+    return int(text) if len(text) <= MOST_DIGITS and text != "-0" else Number(text)
 
 
 def _read_number(text: str) -> Number:

@@ -113,9 +113,9 @@ class Admin:
         if not isinstance(to, str) or "\0" in to or not Path(to).is_absolute():
             raise web.HTTPBadRequest(text="to: wanted is the absolute path of a file that is not there yet")
         store, copy, began = self._configuration.node.store, Path(to), time.monotonic()
-        if copy.exists():
-            raise web.HTTPConflict(text="to: there is such a file")
         try:
+            if copy.exists():
+                raise web.HTTPConflict(text="to: there is such a file")
             size = await self._feeder.while_closed(lambda: asyncio.to_thread(_copy_whole, store, copy))
         except OSError as fault:
             raise web.HTTPConflict(text=f"to: no copy was made: {fault.strerror}") from None
