@@ -129,8 +129,8 @@ class ProviderTest(AdminTest):
         for origin in ("http://attacker.example", "null", url.replace("http", "https")):
             self.assertEqual(await self.status_of("POST", "/tokens", json=TOKEN, headers={"Origin": origin}), 403)
         # As a partner's bridge sends it, to whom this address was told as its partner's.
-        sent = {"Authorization": "Token c2VjcmV0"}
-        self.assertEqual(await self.status_of("POST", "/tokens", json=TOKEN, headers=sent), 403)
+        of_bridge = {"Authorization": "Token c2VjcmV0"}
+        self.assertEqual(await self.status_of("POST", "/tokens", json=TOKEN, headers=of_bridge), 403)
         self.assertEqual(await self.status_of("POST", "/tokens", data=json.dumps(TOKEN)), 415)
         json_type = {"Content-Type": "application/json"}
         for body in ("", "{", "[]", "[" * 5000, "\xff"):

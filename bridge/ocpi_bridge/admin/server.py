@@ -1,8 +1,8 @@
 """The addresses for whoever runs the node: orders, tokens, credits, service, lists, backup, metrics, health, the page.
 
 They are on loopback alone. As a browser of the same machine reaches that too, what a page of another address asks for
-is refused, and so is what comes under another name than this machine's own. A bridge of this machine reaches it as well,
-where a partner lists it as its own address: so what is sent to partners, by their tokens, is refused.
+is refused, and so is what comes under another name than this machine's own. A bridge of this machine reaches it as
+well, where a partner lists it as its own address: so what is sent to partners, by their tokens, is refused.
 """
 import asyncio
 import os
