@@ -148,9 +148,8 @@ class Site:
 
     async def swipe(self, place: Place, token_uid: str) -> None:
         """Feeds that a token was shown, and waits until it is decided. A session that began of it then stands there."""
-        evse_uid, connector_id = place.settings.evse_uid, place.settings.connector_id
-        outcome = await self.report("swipe", evse_uid=evse_uid, connector_id=connector_id, token_uid=token_uid,
-                                    token_type="RFID")
+        outcome = await self.report("swipe", evse_uid=place.settings.evse_uid, token_uid=token_uid, token_type="RFID",
+                                    connector_id=place.settings.connector_id)
         for question in outcome.sent("authorize"):
             waiting = self._questions.get((party_key(question.receiver), question.request))
             if waiting is not None and await waiting[1]:
@@ -171,8 +170,8 @@ class Site:
                 decided.set_result(was_stopped)
         for question in outcome.sent("authorize"):
             key = party_key(question.receiver), question.request
-            until = seconds_of(event["at"]) + QUESTION_WITHIN
-            self._questions[key] = until, asyncio.get_running_loop().create_future()
+            decided = asyncio.get_running_loop().create_future()
+            self._questions[key] = seconds_of(event["at"]) + QUESTION_WITHIN, decided
 
     def opened(self) -> None:
         """Called each time that the node has opened its store."""
