@@ -32,8 +32,7 @@ class State:
 
     def value(self, name: str) -> str | None:
         """A single value that was kept under a name."""
-        rows = self.query("SELECT value FROM value_of WHERE name = ?", name)
-        return rows[0][0] if rows else None
+        return next((value for value, in self.query("SELECT value FROM value_of WHERE name = ?", name)), None)
 
     def set_value(self, name: str, value: str) -> None:
         """Keeps a value under a name. Nothing is written where it stands there already."""

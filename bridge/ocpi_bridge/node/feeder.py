@@ -115,9 +115,9 @@ class Feeder:
                 self._woken.set()
 
     async def _run_until_closed(self, status: int) -> int:
-        """Runs the node, and again after each end that a new start mends. Gives the last status.
+        """Runs the node, and again after each end that a new start mends, each time later until it could be opened.
 
-        Ends where the bridge is stopping, or where somebody waits for the node to be closed.
+        Ends where the bridge is stopping, or where somebody waits for the node to be closed. Gives the last status.
         """
         locked_delays = iter(LOCKED_DELAYS)
         while not self._stopping.is_set():
@@ -128,17 +128,13 @@ class Feeder:
             elif status in (2, 3) or (self._closing and status in (0, 1)):
                 break
             elif not self._stopping.is_set():
+                LOG.error("the node ended with status %d, and is started again in %d s", status, self._delay)
+                self._metrics.count("ocpi_node_restarts_total")
+                with suppress(TimeoutError):
+                    await self._events.clock.within(self._delay, self._stopping.wait())
                 locked_delays = iter(LOCKED_DELAYS)
-                await self._pause(status)
+                self._delay = min(max(1.0, 2 * self._delay), LONGEST_DELAY)
         return status
-
-    async def _pause(self, status: int) -> None:
-        """Waits before the node is started again, each time longer until it could be opened."""
-        LOG.error("the node ended with status %d, and is started again in %d s", status, self._delay)
-        self._metrics.count("ocpi_node_restarts_total")
-        with suppress(TimeoutError):
-            await self._events.clock.within(self._delay, self._stopping.wait())
-        self._delay = min(max(1.0, 2 * self._delay), LONGEST_DELAY)
 
     async def _run_once(self, child: Child) -> int:
         """Opens the node, and feeds it until it ends or has to. Gives its status."""

@@ -66,6 +66,5 @@ def next_line(queue: deque[Waiting], takes_arrays: bool) -> Line | None:
         if size > MOST_BYTES:
             break
         taken.append(queue.popleft())
-    if len(taken) == 1:
-        return Line(taken[0].text, taken)
-    return Line(f"[{','.join(waiting.text for waiting in taken)}]", taken)
+    text = ",".join(waiting.text for waiting in taken)
+    return Line(f"[{text}]" if len(taken) > 1 else text, taken)
