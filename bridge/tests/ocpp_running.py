@@ -22,7 +22,7 @@ from ocpi_bridge.state import State
 from .running import PROGRAM, operator, provider
 
 Result = TypeVar("Result")
-SETUP = json.dumps({"nodes": [operator("BE/BEC", ["E1", "E2", "E3"]), provider("NL/TNM")]})
+SETUP = json.dumps({"nodes": [operator("BE/BEC", ["E1", "E2", "E3", "E4"]), provider("NL/TNM")]})
 TOKEN: Members = {
     "country_code": "NL", "party_id": "TNM", "uid": "AA01", "type": "RFID", "contract_id": "NL-TNM-000001",
     "issuer": "TNM", "valid": True, "whitelist": "ALWAYS", "last_updated": "2025-01-01T09:00:00Z"}
@@ -36,7 +36,7 @@ async def within(awaited: Awaitable[Result]) -> Result:
 
 
 class Operating:
-    """BE/BEC with the EVSEs E1 and E2 at charge point CP1, and E3 at CP2, over files that a new start finds again."""
+    """BE/BEC with the EVSEs E1 and E2 at charge point CP1, E3 at CP2, and E4 at none, over files that a new start finds."""
 
     def __init__(self, folder: Path, program: Path = PROGRAM, factor: float = 1.0) -> None:
         self.settings = NodeSettings(program, "BE/BEC", SETUP, folder / "node.db", None)

@@ -83,6 +83,13 @@ class CommandTest(OcppCase):
         await self.eventually(["INVALID"], lambda: [status for _, status, _ in self.operating.sessions()])
         self.assertEqual([("2", "ACCEPTED")], self.operating.results())
 
+    async def test_a_start_that_takes_an_evse_without_a_charge_point_ends(self) -> None:
+        for evse_uid in ("E1", "E2", "E3"):
+            await within(self.operating.feeder.feed(
+                self.operating.events.make("service", evse_uid=evse_uid, in_service=False)))
+        await self.operating.start(2, evse_uid=None, connector_id=None)
+        await self.eventually([("E4", "INVALID", "0.0000")], self.operating.sessions)
+
     async def test_a_stop_before_a_car_is_plugged_in(self) -> None:
         await self.operating.start(2)
         await self.eventually([("2", "ACCEPTED")], self.operating.results)

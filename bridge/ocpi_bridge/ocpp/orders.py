@@ -25,7 +25,8 @@ class Orders:
             self._spawn(self._carry_out, command.provider, command.number)
 
     async def _carry_out(self, provider: str, number: int) -> None:
-        """Asks for a command. A start that names no EVSE is accepted before: only its session tells where it is."""
+        """Asks for a command. A start that names no EVSE is accepted before: only its session tells where it is.
+        Where nobody can be asked there, that session ends."""
         command = self._commands.find(provider, number)
         if command.kind == "stop_session":
             return await self._stop_session(command)
@@ -36,8 +37,9 @@ class Orders:
         if place is not None and command.kind == "unlock_connector":
             if place.settings.connector_id.upper() == str(command.connector_id).upper():
                 await self._ask(command, place.charge_point, "UnlockConnector", connectorId=place.connector)
-        elif place is not None and not names_evse and place.charge_point.connection is None:
-            await place.charge_point.alone(partial(self._site.withdraw, command.session_id))
+        elif not names_evse and (place is None or place.charge_point.connection is None):
+            alone = repeated if place is None else place.charge_point.alone
+            await alone(partial(self._site.withdraw, command.session_id))
         elif place is not None and not (names_evse and self._site.at(place)):
             await self._ask(command, place.charge_point, "RemoteStartTransaction", connectorId=place.connector,
                             idTag=self._site.id_tag_of(str(command.token_uid)))
