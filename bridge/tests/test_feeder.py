@@ -158,6 +158,20 @@ class ProgramTest(FeederCase):
         running.begin()
         self.assertEqual(2, await within(running.task))
 
+    async def test_an_older_copy_of_the_store_ends_with_3(self) -> None:
+        """Its node would give numbers once more that partners have seen."""
+        running = Running(self.folder(), PROGRAM)
+        await within(running.opened.wait())
+        await running.end()
+        copy = running.settings.store.read_bytes()
+        running.begin()
+        sent = await within(running.feeder.feed(charge_of_a_car()[0]))
+        self.assertEqual([1], [packet.serial for packet in sent.packets])
+        await running.end()
+        running.settings.store.write_bytes(copy)
+        running.begin()
+        self.assertEqual(3, await within(running.task))
+
     async def test_a_line_that_was_refused_is_told_by_the_status_and_the_trial_of_several_events_is_not(self) -> None:
         for event, status in ((Events("BE/BEC", Clock()).tick(), 0), ({"event": "none", "node": "BE/BEC"}, 1)):
             running = Running(self.folder(), PROGRAM)

@@ -26,7 +26,7 @@ class Child:
         self._process, self._input, self._output = process, process.stdin, process.stdout
         self._settings = settings
         self._transcript: Transcript | None = None
-        self._has_wrong_setup = self.found_lock = False
+        self._refusal, self.found_lock = 0, False
         self._errors = asyncio.create_task(self._log_errors(process.stderr))
 
     @classmethod
@@ -37,17 +37,21 @@ class Child:
             settings.program, *words, stdin=PIPE, stdout=PIPE, stderr=PIPE, limit=MOST_BYTES, start_new_session=True)
         return cls(process, settings)
 
-    async def open(self) -> int:
+    async def open(self, last_seen: int) -> int:
         """Feeds the setup, and gives the serial of the last packet that the node sent. Raises ChildEnded.
 
-        The transcript is touched only once the store is open, since another bridge may write it until then.
+        Below the last serial that was seen the store is an older copy: the node would give numbers once more that
+        partners have seen. The transcript is touched only behind that, since another bridge may write it until then.
         """
         await self.write(self._settings.setup_line)
         line = await self._next_line()
         opened: Members = read_json(line)
         if opened["done"] != "opened":
-            LOG.error("the node refuses its setup: %s", line.decode().rstrip())
-            self._has_wrong_setup = True
+            self._refusal, fault = 2, "the node refuses its setup"
+        elif opened["serial"] < last_seen:
+            self._refusal, fault = 3, f"the store is a copy from before serial {last_seen} was seen"
+        if self._refusal:
+            LOG.error("%s: %s", fault, line.decode().rstrip())
             raise ChildEnded()
         if self._settings.transcript is not None:
             self._transcript = Transcript(self._settings.transcript)
@@ -71,8 +75,7 @@ class Child:
         line = await self._next_line()
         if self._transcript is not None:
             self._transcript.append(line)
-        members: Members = read_json(line)
-        return members
+        return dict(read_json(line))
 
     async def _next_line(self) -> bytes:
         line = await self._output.readline()
@@ -81,7 +84,8 @@ class Child:
         return line
 
     async def end(self) -> int:
-        """Ends the program's input, and waits. Gives its status: 128 more of a signal, 2 of a wrong setup."""
+        """Ends the program's input, and waits. Gives its status: 128 more of a signal, 2 of a wrong setup, 3 of an
+        older store."""
         self._input.close()
         await self._output.read()
         await self._errors
@@ -90,7 +94,7 @@ class Child:
         status = await self._process.wait()
         if self._transcript is not None:
             self._transcript.close()
-        return 2 if self._has_wrong_setup else status if status >= 0 else 128 - status
+        return self._refusal or (status if status >= 0 else 128 - status)
 
     async def _log_errors(self, errors: asyncio.StreamReader) -> None:
         async for line in errors:

@@ -159,7 +159,7 @@ class Feeder:
 
     async def _open(self, child: Child) -> None:
         self._refusals = 0
-        self._judge_kept_line(await child.open())
+        self._judge_kept_line(await child.open(self._serial))
         if self._line is not None:
             await self._carry_out(child, self._line)
         self._takes_arrays = (await self._carry_out(child, Line("[]", [])))["done"] == "all"
@@ -178,8 +178,6 @@ class Feeder:
         if line is not None and (not line.is_fed_again or serial > self._serial):
             self._lost += line.waiting
             line = None
-        if serial < self._serial:
-            LOG.error("the store is an older one: its last serial is %d, and %d was seen", serial, self._serial)
         self._serial = serial
         with self._state.transaction():
             self._state.set_value("node.was_opened", "yes")
