@@ -15,12 +15,12 @@ from ..configuration import ChargePointSettings, OcppSettings
 from ..events import Events, Outcome
 from ..json_text import Members
 from ..node.feeder import Feeder, NodeEnded
-from ..ocpi.objects import Objects
+from ..ocpi.objects import FOREVER, Objects
 from ..state import State
 from .connection import Connection
 from .orders import Orders
 from .reports import Reports
-from .site import ChargePoint, Site
+from .site import ChargePoint, Site, repeated
 
 LOG = logging.getLogger("ocpp")
 SUBPROTOCOL = "ocpp1.6"
@@ -80,13 +80,13 @@ class CentralSystem:
         socket = web.WebSocketResponse(protocols=(SUBPROTOCOL,), timeout=CLOSED_WITHIN, heartbeat=PING_EACH,
                                        max_msg_size=LARGEST_FRAME)
         await socket.prepare(request)
-        if socket.ws_protocol == SUBPROTOCOL:
-            await self._serve(charge_point, socket)
+        if socket.ws_protocol == SUBPROTOCOL and request.transport is not None:
+            await self._serve(charge_point, socket, request.transport.abort)
         return socket
 
-    async def _serve(self, charge_point: ChargePoint, socket: web.WebSocketResponse) -> None:
+    async def _serve(self, charge_point: ChargePoint, socket: web.WebSocketResponse, abort: Callable[[], None]) -> None:
         """Serves a connection until it ends. It takes the place of one that the charge point has."""
-        connection = Connection(socket, self._clock, partial(self._reports.answer, charge_point))
+        connection = Connection(socket, self._clock, partial(self._reports.answer, charge_point), abort)
         if charge_point.connection is not None:
             self._spawn(charge_point.connection.close)
         charge_point.connection = connection
@@ -130,16 +130,20 @@ class CentralSystem:
         self._orders.begin()
 
     def _end_unused(self) -> None:
-        """Ends each PENDING session for which nobody plugged in."""
+        """Ends each PENDING session for which nobody plugged in, as nobody can where no charge point has its EVSE."""
         for session in self._objects.pending_sessions():
             place = self._site.place(session["evse_uid"])
-            if place is not None and place.charge_point.connection is not None:
-                until = seconds_of(session["last_updated"]) + PLUGGED_IN_WITHIN
-                if self._clock.seconds() > max(until, place.charge_point.connection.since + TOLD_WITHIN):
-                    self._spawn(self._end_session, place.charge_point, session["id"])
+            charge_point = None if place is None else place.charge_point
+            until = seconds_of(session["last_updated"]) + PLUGGED_IN_WITHIN
+            if charge_point is not None:
+                connection = charge_point.connection
+                until = FOREVER if connection is None else max(until, connection.since + TOLD_WITHIN)
+            if self._clock.seconds() > until:
+                self._spawn(self._end_session, charge_point, session["id"])
 
-    async def _end_session(self, charge_point: ChargePoint, session_id: str) -> None:
-        await charge_point.alone(lambda: self._site.withdraw(session_id))
+    async def _end_session(self, charge_point: ChargePoint | None, session_id: str) -> None:
+        withdraw = partial(self._site.withdraw, session_id)
+        await (repeated(withdraw) if charge_point is None else charge_point.alone(withdraw))
 
     def charge_points(self) -> list[Members]:
         """Each charge point: its `id`, whether it is `connected`, and its `connectors` with their `status`."""
@@ -179,4 +183,4 @@ def _is_authentic(settings: ChargePointSettings, header: str) -> bool:
         return True
     wanted = base64.b64encode(f"{settings.id}:{settings.password}".encode())
     scheme, _, shown = header.partition(" ")
-    return scheme.lower() == "basic" and hmac.compare_digest(shown.strip().encode(), wanted)
+    return scheme.lower() == "basic" and hmac.compare_digest(shown.strip().encode(errors="replace"), wanted)

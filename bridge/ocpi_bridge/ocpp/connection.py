@@ -14,6 +14,8 @@ from .frames import CALL, RESULT, CallError, Frame, read_frame
 
 LOG = logging.getLogger("ocpp")
 ANSWER_WITHIN = 30.0
+# Seconds of real time for the other side to take that a connection ends.
+CLOSED_WITHIN = 4.0
 # The characters of calls that may wait. A charge point that sends more does not wait for answers at all.
 MOST_WAITING = 4_000_000
 # Gives the payload that answers an action and its payload. Raises CallError.
@@ -27,8 +29,10 @@ class Connection:
     remote start and tell of the transaction in the next frame.
     """
 
-    def __init__(self, socket: web.WebSocketResponse | ClientWebSocketResponse, clock: Clock, handler: Handler) -> None:
-        self._socket, self._clock, self._handler = socket, clock, handler
+    def __init__(self, socket: web.WebSocketResponse | ClientWebSocketResponse, clock: Clock, handler: Handler,
+                 abort: Callable[[], None] = lambda: None) -> None:
+        """`abort` ends the connection where the other side does not read any more."""
+        self._socket, self._clock, self._handler, self._abort = socket, clock, handler, abort
         self._inbox: asyncio.Queue[tuple[str, Frame] | None] = asyncio.Queue()
         self._times: dict[str, int] = {}
         self._waiting = 0
@@ -121,4 +125,6 @@ class Connection:
             await self._socket.send_str(text)
 
     async def close(self) -> None:
-        await self._socket.close()
+        with suppress(TimeoutError):
+            await asyncio.wait_for(self._socket.close(), CLOSED_WITHIN)
+        self._abort()
