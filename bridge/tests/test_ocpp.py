@@ -239,13 +239,6 @@ class TimeTest(OcppCase):
         self.assertEqual("Accepted", (await self.station.call("Authorize", idTag="AA01"))["idTagInfo"]["status"])
         await self.eventually([("E1", "INVALID", "0.0000")], self.operating.sessions)
 
-    async def test_a_session_ends_at_an_evse_that_no_charge_point_has(self) -> None:
-        for evse_uid in ("E1", "E2", "E3"):
-            await self.operating.feeder.feed(
-                self.operating.events.make("service", evse_uid=evse_uid, in_service=False))
-        await self.operating.start(2, evse_uid=None, connector_id=None)
-        await self.eventually([("E4", "INVALID", "0.0000")], self.operating.sessions)
-
     async def test_a_provider_that_does_not_answer(self) -> None:
         """Behind ten seconds and a tick a token that may be used offline begins a session, and no other."""
         for uid, whitelist, status in (("AA02", "NEVER", "Invalid"), ("AA03", "ALLOWED_OFFLINE", "Accepted")):

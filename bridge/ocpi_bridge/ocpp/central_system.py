@@ -15,12 +15,12 @@ from ..configuration import ChargePointSettings, OcppSettings
 from ..events import Events, Outcome
 from ..json_text import Members
 from ..node.feeder import Feeder, NodeEnded
-from ..ocpi.objects import FOREVER, Objects
+from ..ocpi.objects import Objects
 from ..state import State
 from .connection import Connection
 from .orders import Orders
 from .reports import Reports
-from .site import ChargePoint, Site, repeated
+from .site import ChargePoint, Site
 
 LOG = logging.getLogger("ocpp")
 SUBPROTOCOL = "ocpp1.6"
@@ -130,20 +130,16 @@ class CentralSystem:
         self._orders.begin()
 
     def _end_unused(self) -> None:
-        """Ends each PENDING session for which nobody plugged in, as nobody can where no charge point has its EVSE."""
+        """Ends each PENDING session for which nobody plugged in."""
         for session in self._objects.pending_sessions():
             place = self._site.place(session["evse_uid"])
-            charge_point = None if place is None else place.charge_point
-            until = seconds_of(session["last_updated"]) + PLUGGED_IN_WITHIN
-            if charge_point is not None:
-                connection = charge_point.connection
-                until = FOREVER if connection is None else max(until, connection.since + TOLD_WITHIN)
-            if self._clock.seconds() > until:
-                self._spawn(self._end_session, charge_point, session["id"])
+            if place is not None and place.charge_point.connection is not None:
+                until = seconds_of(session["last_updated"]) + PLUGGED_IN_WITHIN
+                if self._clock.seconds() > max(until, place.charge_point.connection.since + TOLD_WITHIN):
+                    self._spawn(self._end_session, place.charge_point, session["id"])
 
-    async def _end_session(self, charge_point: ChargePoint | None, session_id: str) -> None:
-        withdraw = partial(self._site.withdraw, session_id)
-        await (repeated(withdraw) if charge_point is None else charge_point.alone(withdraw))
+    async def _end_session(self, charge_point: ChargePoint, session_id: str) -> None:
+        await charge_point.alone(lambda: self._site.withdraw(session_id))
 
     def charge_points(self) -> list[Members]:
         """Each charge point: its `id`, whether it is `connected`, and its `connectors` with their `status`."""
