@@ -7,7 +7,7 @@ from aiohttp import web
 
 from .cases import ProviderCase
 from .ocpi_objects import cdr, session, token
-from .ocpi_party import Received, answered, now
+from .ocpi_party import Received, answered, gathered, now
 from .running import Members, eventually
 
 START = {"token_uid": "AA01", "token_type": "RFID", "location_id": "LOC1", "evse_uid": "E1", "connector_id": "1"}
@@ -88,6 +88,16 @@ class Sessions(ProviderCase):
         await self.operator.put_session(completed)
         await self.operator.put_session({**later, "last_updated": "2025-01-01T11:00:00Z"})
         self.assertEqual((4, "2025-01-01T10:30:00Z"), await self.held(url))
+
+    async def test_a_patch_right_behind_a_put_is_of_what_that_put(self) -> None:
+        active = session(self.operator.party, self.token, last_updated="2025-01-01T10:10:00Z")
+        url = await self.operator.session_url(active)
+        await self.operator.put_session(active)
+        put = {**active, "kwh": 9.5, "last_updated": "2025-01-01T10:20:00Z"}
+        change = {"total_cost": {"excl_vat": 2.5}, "last_updated": "2025-01-01T10:20:01Z"}
+        for reply in await gathered([self.operator.ask("PUT", url, put), self.operator.ask("PATCH", url, change)], 60):
+            self.assert_status(reply, 200, 1000)
+        self.assertEqual((9.5, "2025-01-01T10:20:01Z"), await self.held(url))
 
     async def held(self, url: str) -> tuple[float, str]:
         """The energy and the last change of the session that is held there."""

@@ -90,12 +90,16 @@ class Interfaces:
         return await self._deliver(request, OBJECT_KINDS[_module(request)], body)
 
     async def patch(self, request: web.Request) -> web.Response:
-        """Puts the members of the body into the object that is held, and hands on the whole: one after another."""
+        """Puts the members of the body into the object that is held, and hands on the whole: one after another, and
+        each behind what its partner asked for before."""
         changes = await _members(request)
         _compare(request, changes)
         if changes.get("last_updated") is None:
             raise Refusal(200, INVALID, "last_updated: missing")
         async with self._patching:
+            party = party_key(request["partner"].party)
+            if before := [fed for key, fed in self._under_way.items() if key[0] == party]:
+                await asyncio.wait(before)
             return await self._deliver(request, OBJECT_KINDS[_module(request)], {**self._held(request), **changes})
 
     async def get(self, request: web.Request) -> web.Response:
