@@ -255,10 +255,10 @@ class Queues(ClientCase):
         await self.until(lambda: len(self.delivered) == 3)
 
     async def test_what_is_not_taken_stops_nothing(self) -> None:
-        self.faults = [NotJson("nested too deep"), OutcomeLost(), RuntimeError("a fault")]
+        self.faults = [NotJson("nested too deep"), RuntimeError("a fault"), OutcomeLost()]
         self.party.answers["commands"] = with_serial(ACCEPTED)
         await self.begin_to_send()
         for request in range(1, 5):
             self.client.send(self.packet("unlock_connector", request, unlock(request)))
         with self.assertLogs("ocpi_bridge.ocpi.client"):
-            await self.until(lambda: [answer.request for answer in self.delivered] == [4])
+            await self.until(lambda: [answer.request for answer in self.delivered] == [3, 4])

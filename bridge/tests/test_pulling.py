@@ -5,6 +5,7 @@ from urllib.parse import unquote
 from aiohttp import web
 
 from ocpi_bridge.events import Outcome, Packet
+from ocpi_bridge.node.feeder import OutcomeLost
 from ocpi_bridge.ocpi.exchange import NoResponse
 from ocpi_bridge.ocpi.objects import Objects
 from ocpi_bridge.ocpi.pulling import Pulling
@@ -81,6 +82,12 @@ class Sessions(ClientCase):
         self.party.answers.clear()
         self.assertEqual(["S2"], await self.pull())
         self.assertEqual({"1970-01-01T00:00:00.000Z", ""}, set(self.asked_from()))
+
+    async def test_what_the_node_took_is_held_also_where_a_stop_lost_its_outcome(self) -> None:
+        self.faults = [OutcomeLost()]
+        self.has(0)
+        self.assertEqual(["S0"], await self.pull())
+        self.assertIsNotNone(self.objects.find("sessions", "BE/BEC", "S0"))
 
     async def test_what_is_anothers_or_has_no_version_is_passed_over(self) -> None:
         self.has(0, party="FR/XXX")

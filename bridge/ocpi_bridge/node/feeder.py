@@ -37,6 +37,18 @@ class NodeEnded(Exception):
     """The bridge is stopping, and the event may be carried out at its next start, or never."""
 
 
+async def repeated(action: Callable[[], Awaitable[Result]]) -> Result:
+    """Carries an action out, and again from its beginning where a stop of the node lost what an event of it gave.
+
+    The node then had a tick, which sent again each session that was lost. So what was done already is known by then.
+    """
+    while True:
+        try:
+            return await action()
+        except OutcomeLost:
+            continue
+
+
 class Feeder:
     """The node of a bridge. `run` starts it, and again after each stop; `feed` has it carry out an event."""
 

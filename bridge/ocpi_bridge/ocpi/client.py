@@ -14,7 +14,7 @@ from ..clock import Clock, milliseconds_of, moment_of
 from ..configuration import Configuration
 from ..events import Events, Outcome, Packet
 from ..json_text import Members, NotJson, read_json, write_json
-from ..node.feeder import NodeEnded, OutcomeLost
+from ..node.feeder import NodeEnded, repeated
 from ..parties import party_key
 from ..state import State
 from .envelope import INVALID, SUCCESS, routing_headers
@@ -78,13 +78,12 @@ class Client:
         return endpoints[module, role]
 
     async def deliver(self, packet: Packet) -> None:
-        """Hands a packet to the node. Raises NodeEnded where the bridge ends before."""
+        """Hands a packet to the node, and once more where a stop of that lost what came of it: so what a partner does
+        not send again is kept in the state too. Raises NodeEnded where the bridge ends before."""
         try:
-            await self._feed(self.events.deliver(packet))
+            await repeated(lambda: self._feed(self.events.deliver(packet)))
         except NotJson:
             log.warning("%s of %s: nested too deep", packet.kind, packet.sender)
-        except OutcomeLost:
-            pass
 
     async def _work(self, queue: Queue) -> None:
         failures = 0

@@ -8,8 +8,9 @@ is the command's: it is let charge if the node still takes that the charge point
 from collections.abc import Callable
 from functools import partial
 
+from ..node.feeder import repeated
 from .commands import ASKED, REFUSED, Command
-from .site import ChargePoint, Site, repeated
+from .site import ChargePoint, Site
 from .transactions import Transaction
 
 

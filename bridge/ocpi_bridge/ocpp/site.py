@@ -9,7 +9,7 @@ from ..clock import moment_of, seconds_of
 from ..configuration import ChargePointSettings, ConnectorSettings, OcppSettings
 from ..events import Events, Outcome
 from ..json_text import Members
-from ..node.feeder import Feeder, OutcomeLost
+from ..node.feeder import Feeder, OutcomeLost, repeated
 from ..ocpi.objects import Objects
 from ..parties import party_key
 from ..state import State
@@ -26,18 +26,6 @@ Result = TypeVar("Result")
 
 class EventRefused(Exception):
     """The node refused an event: the charge point has to report again."""
-
-
-async def repeated(action: Callable[[], Awaitable[Result]]) -> Result:
-    """Carries an action out, and again from its beginning where a stop of the node lost what an event of it gave.
-
-    The node then had a tick, which sent again each session that was lost. So what was done already is known by then.
-    """
-    while True:
-        try:
-            return await action()
-        except OutcomeLost:
-            continue
 
 
 @dataclass(eq=False)
