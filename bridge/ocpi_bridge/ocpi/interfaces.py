@@ -31,6 +31,8 @@ OBJECT = "{country_code:[^/]*}/{party_id:[^/]*}/{identifier:[^/]*}"
 LONGEST_LINE = 1 << 20
 LONGEST_URL = 255
 MOST_LISTED = 1000
+# The most requests that wait for the node, be it that their senders wait no more.
+MOST_UNDER_WAY = 2000
 
 Handler = Callable[[web.Request], Awaitable[web.Response]]
 
@@ -159,13 +161,15 @@ class Interfaces:
 
     async def _carry_out(self, key: tuple[str, int], event: Members) -> Outcome:
         """Feeds the request of a party and a number. One that comes again meanwhile waits for the same outcome, so
-        that repeats do not add to what keeps a node busy."""
+        that repeats do not add to what keeps a node busy. Raises Refusal where too many wait."""
         def end(ended: asyncio.Future[Outcome]) -> None:
             del self._under_way[key]
             if not ended.cancelled():
                 ended.exception()
 
         if key not in self._under_way:
+            if len(self._under_way) >= MOST_UNDER_WAY:
+                raise Refusal(503, SERVER_ERROR, "the node is busy: send the request again")
             self._under_way[key] = asyncio.ensure_future(self._feed(event))
             self._under_way[key].add_done_callback(end)
         return await asyncio.shield(self._under_way[key])
