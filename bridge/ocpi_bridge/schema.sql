@@ -40,7 +40,7 @@ CREATE INDEX IF NOT EXISTS ocpp_command_reference ON ocpp_command (provider, ref
 CREATE TABLE IF NOT EXISTS ocpp_transaction (
     number INTEGER PRIMARY KEY AUTOINCREMENT, charge_point TEXT NOT NULL, connector INTEGER NOT NULL,
     started INTEGER NOT NULL, id_tag TEXT NOT NULL, meter_start INTEGER NOT NULL, session_id TEXT UNIQUE,
-    state TEXT NOT NULL, UNIQUE (charge_point, connector, started));
+    state TEXT NOT NULL, UNIQUE (charge_point, connector, started, id_tag, meter_start));
 
 -- admin/outstanding.py
 CREATE TABLE IF NOT EXISTS push_that_waits (

@@ -179,6 +179,12 @@ class ReportTest(OcppCase):
         await self.station.end(second, 2500, 6)
         self.assertEqual(["0.5000", "1.0000"], sorted(self.operating.bills()))
 
+    async def test_a_transaction_of_a_clock_that_began_anew_is_another(self) -> None:
+        for meter in (1000, 2000):
+            begun = await self.station.begin(0, meter=meter)
+            await self.station.end(begun["transactionId"], meter + 1000, 1)
+        self.assertEqual(["1.0000", "1.0000"], self.operating.bills())
+
     async def test_statuses(self) -> None:
         """Faulted and Unavailable are out of service, another status behind them is in service, 0 is each connector."""
         cases: list[tuple[str, int, list[tuple[str, bool]], list[str]]] = [

@@ -3,7 +3,7 @@
 A charge point reports again what was not answered. So each point at which bridge, node or connection may stop leaves
 the next report of the same to go on from there. A stop
 
-- before a StartTransaction is kept, or behind that: it comes again, and is known by its connector and `timestamp`;
+- before a StartTransaction is kept, or behind that: it comes again, and is known by what it says;
 - behind `accepts` or `swipe`: the session that began is at the EVSE, is PENDING and is of that token;
 - once it is kept which session the transaction is: while that is PENDING, `starts` is fed, and else it was;
 - behind `starts`, before the answer: the transaction charges, and is answered alike;

@@ -32,7 +32,7 @@ class Transaction:
 
 
 class Transactions:
-    """Keeps them. Each is known by connector and moment of its StartTransaction, and from then on by a number."""
+    """Keeps them. Each is known by what its StartTransaction says, and from then on by a number."""
 
     def __init__(self, state: State) -> None:
         self._state = state
