@@ -3,7 +3,6 @@
 `plug`, `start TOKEN`, `meter WH` (the register rises by so much), `stop`, `unplug` (which also ends a fault), `fault`.
 Each status is written to standard output. What was not answered is sent again on the next connection.
 """
-import argparse
 import asyncio
 import sys
 from contextlib import suppress
@@ -151,10 +150,5 @@ async def run(url: str, name: str, password: str, is_automatic: bool) -> None:
 
 
 if __name__ == "__main__":
-    parser = argparse.ArgumentParser("charge_point", description="A charge point of OCPP 1.6 for trials.")
-    parser.add_argument("url", metavar="URL", help="the central system's address, before the id")
-    parser.add_argument("name", metavar="ID")
-    parser.add_argument("password", metavar="PASSWORD")
-    parser.add_argument("--auto", action="store_true", dest="is_automatic", help="plug, meter and unplug as asked")
     with suppress(KeyboardInterrupt):
-        asyncio.run(run(**vars(parser.parse_args())))
+        asyncio.run(run(sys.argv[1], sys.argv[2], sys.argv[3], "--auto" in sys.argv[4:]))

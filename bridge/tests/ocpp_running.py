@@ -36,7 +36,7 @@ async def within(awaited: Awaitable[Result]) -> Result:
 
 
 class Operating:
-    """BE/BEC with the EVSEs E1 and E2 at charge point CP1, E3 at CP2, and E4 at none, over files that a new start finds."""
+    """BE/BEC with the EVSEs E1 and E2 at charge point CP1, E3 at CP2, and E4 at none. A new start finds its files."""
 
     def __init__(self, folder: Path, program: Path = PROGRAM, factor: float = 1.0) -> None:
         self.settings = NodeSettings(program, "BE/BEC", SETUP, folder / "node.db", None)

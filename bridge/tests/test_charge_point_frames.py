@@ -110,6 +110,19 @@ class Messages(FramesCase):
         self.assertEqual(["ACTIVE", "COMPLETED"], sorted(each["status"] for each in sessions))
         self.assertEqual(1, len(bills))
 
+    async def test_a_transaction_that_the_owner_ends(self) -> None:
+        """Its charge point may have been replaced. What that still tells is billed no more."""
+        identifier = (await self.twice("StartTransaction", START))["transactionId"]
+        await self.twice("MeterValues", {"connectorId": 1, "transactionId": identifier, "meterValue": [
+            meter_value(sampled("2000"))]})
+        told = await self.bridge.admin_post("/faults", {"evse_uid": "E1"})
+        self.assertEqual((200, "stepped"), (told["status"], told["answer"]["done"]["done"]))
+        ended = {"transactionId": identifier, "meterStop": 9000, "timestamp": "2025-01-01T10:30:00Z"}
+        await self.twice("StopTransaction", ended)
+        sessions, bills = await self.counted()
+        self.assertEqual([("COMPLETED", 1)], [(each["status"], each["kwh"]) for each in sessions])
+        self.assertEqual([1], [each["total_energy"] for each in bills])
+
     async def test_data_transfer(self) -> None:
         payload = {"vendorId": "vendor.example", "messageId": "m", "data": "text"}
         self.assertEqual({"status": "UnknownVendorId"}, await self.twice("DataTransfer", payload))

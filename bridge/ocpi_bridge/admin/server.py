@@ -33,7 +33,7 @@ Handler = Callable[[web.Request], Awaitable[web.StreamResponse]]
 
 # The addresses that feed an event, and whether it is an operator's.
 EVENTS = {"/orders": ("submit", False), "/tokens": ("token", False), "/credits": ("credit", True),
-          "/service": ("service", True)}
+          "/service": ("service", True), "/faults": ("fault", True)}
 PAGE = Path(__file__).parent / "page"
 HEADERS = {"Cache-Control": "no-store", "X-Content-Type-Options": "nosniff",
            "Content-Security-Policy": "default-src 'none'; script-src 'self'; style-src 'self'; connect-src 'self'; "
@@ -48,8 +48,8 @@ FAILURES = {
 # Seconds within which a tick must have been answered, and the least seconds between two looks at what a page shows.
 HEALTHY_WITHIN = 5.0
 LOOK_EVERY = 0.5
-# How many of each list a page shows at most: the newest.
-MOST_SHOWN, MOST_TOKENS = 50, 500
+# How many of each list a page shows at most, and how many an address gives: the newest.
+MOST_SHOWN, MOST_TOKENS, MOST_LISTED = 50, 500, 10_000
 
 
 class Admin:
@@ -69,7 +69,7 @@ class Admin:
                       lambda: len(central_system.commands()) if is_operator else outstanding.open_commands())
         metrics.gauge("ocpi_charge_points_connected", central_system.connected_count)
         self._lists: dict[str, Callable[[], list[Members]]] = {
-            **{f"/{module}": partial(objects.newest, module) for module in ("sessions", "cdrs", "tokens")},
+            **{f"/{module}": partial(objects.newest, module, MOST_LISTED) for module in ("sessions", "cdrs", "tokens")},
             "/commands": lambda: central_system.commands() if is_operator else outstanding.commands(),
             "/charge_points": central_system.charge_points,
             "/partners": lambda: [{"party": partner.party, "kind": partner.kind, "registered": partner.is_registered,

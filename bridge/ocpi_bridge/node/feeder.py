@@ -60,8 +60,7 @@ class Feeder:
         self.after_opening: list[Callable[[], None]] = []
         self._settings, self._events, self._state, self._metrics = settings, events, state, metrics
         self._queue: deque[Waiting] = deque()
-        self._line = kept_line(state.value("node.line"))
-        self._serial = int(state.value("node.serial") or "0")
+        self._line, self._serial = kept_line(state.value("node.line")), int(state.value("node.serial") or "0")
         self._lost: list[Waiting] = []
         self._woken, self._stopping = asyncio.Event(), asyncio.Event()
         # Held while the node runs, and how many wait until it does not.

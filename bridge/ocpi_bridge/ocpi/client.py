@@ -122,7 +122,7 @@ class Client:
                 self._state.query("DELETE FROM value_of WHERE name = ?", name)
             log.warning("%s to %s: lost, %s", packet.kind, partner.party, fault)
             return isinstance(fault, NoAddress)
-        if response.status == 404:
+        if response.status == 404 and packet.kind != "authorize":
             self.partners.set_endpoints(partner.party, partner.versions_url, {})
         answer = answer_of(packet, partner.kind, response, self.events.clock)
         if answer is None or answer.body["status_code"] != SUCCESS:

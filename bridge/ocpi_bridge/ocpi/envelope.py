@@ -24,9 +24,7 @@ class Refusal(Exception):
 
     def __init__(self, http_status: int, status_code: int, message: str) -> None:
         super().__init__(message)
-        self.http_status = http_status
-        self.status_code = status_code
-        self.message = message
+        self.http_status, self.status_code, self.message = http_status, status_code, message
 
 
 def refusal_of(done: Members) -> Refusal:
