@@ -30,6 +30,7 @@ pub use json_text::{
     quoted_numbers_are_json_numbers, quoting_goes_by_pieces, the_last_of_a_repeated_name_counts,
     unquote_numbers, unquoting_undoes_quoting,
 };
+pub use node_events::node_event_of_line;
 pub use reading::{
     other_rows_are_alike, read_event, read_node_event, read_packet, read_row, read_row_1,
     read_setup, read_site, row_texts_of_1_are_read,
