@@ -1,5 +1,5 @@
 -- What is known of a run that the node may have stopped, from what is known of the run over its lines.
-use Rattle.std.proofs.Common.{◌≡◌, ◌≢◌, ◌∙◌, ℕ, false, true, Bool, List, Option, Some, None, IfErr, IfOk, Result, Ok, Err, refl, sym, ap, subst}
+use Rattle.std.proofs.Common.{◌≡◌, ◌≢◌, ◌⊎◌, ◌∙◌, inl, inr, ℕ, false, true, Bool, List, Option, Some, None, IfErr, IfOk, Result, Ok, Err, refl, sym, ap, subst}
 use Rattle.std.specs.Prelude.{IsOk}
 use Rattle.std.specs.Str.Lines.{lines}
 use Rattle.line_runs.specs.Numbered.{AreNumbered, IsNumberedRun, NumberedBegins, NumberedOutputs, NumberedStops, empty_line, none_numbered, numbered_end, numbered_stop, refused_line, taken_line}
@@ -12,7 +12,9 @@ use Rattle.line_runs.specs.declared.run.Turn.TheVariants.{Taken, Refused, Ended}
 use Rattle.node_keepers.specs.Opening.{Source}
 use Rattle.node_cell.specs.Keepers.{Keeper}
 use Rattle.node_runs.specs.NodeOutputs.{IsKept, NodeBegins, NodeOutputs, NodeStops, asked_for}
-use Rattle.node_runs.specs.NodeTurns.{EventTurn, NodeEndGives, NodeLineGives, NodeTurn, Running, SetupTurn, Stage, keep_in, opening}
+use Rattle.node_runs.specs.NodeAnswers.{Ends, GoesOn, LineTurn, NodeEndGives, NodeLineGives, NodeTurn}
+use Rattle.node_runs.specs.NodeAnswers as answers
+use Rattle.node_runs.specs.NodeTurns.{EventTurn, Running, SetupTurn, Stage, keep_in, opening}
 use Rattle.node_runs.specs.NodeTurns as turns
 use Rattle.node_runs.specs.Stops.{IfRun, IfStop}
 use Rattle.node_runs.specs.declared.fault.NodeRunFault.{NodeRunFault}
@@ -44,18 +46,28 @@ module _ {K : Type 0} (keeper : Keeper K) (source : Source K) where
   event_goes_on now next stop later number line turn out (turns.WasUnstored x is refused taken written left same) on = same
   event_goes_on now next stop later number line turn out (turns.IsElsewhere x read other taken written left same) on = same
   event_goes_on now next stop later number line turn out (turns.IsOfOtherRole x is passes taken written party same) on = same
-  event_goes_on now next stop later number line turn out (turns.IsMalformed fault fails refused written left same) on = same
+  event_goes_on now next stop later number line turn out (turns.IsMalformed fault fails other refused written left same) on = same
   event_goes_on now next stop later number line turn out (turns.IsRefused x is fault refuses refused written party same) on = same
   event_goes_on now next stop later number line turn out (turns.IsStarved x is refused written left same) on = same
   event_goes_on now next stop later number line turn out (turns.IsLost x is fault fails ended written party same) on = absurd (on ended)
+
+  line_goes_on : (now next : Running K) (stop later : Option NodeStop) (number : ℕ) (line : List ℕ) (turn : Turn) (out : List ℕ) →
+      LineTurn keeper now stop number line turn out next later → (turn ≡ Ended → ⊥) → later ≡ stop
+  line_goes_on now next stop later number line turn out (answers.OneEvent is) on = event_goes_on now next stop later number line turn out is on
+  line_goes_on now next stop later number line turn out (answers.SeveralEvents is same) on = same
+
+  behind_goes_on : (now : Running K) (s : Stage K) (number : ℕ) (line : List ℕ) (turn : Turn) (out : List ℕ) (next : Stage K) →
+      GoesOn keeper now s number line turn out next ⊎ Ends keeper now s number line turn out next → (turn ≡ Ended → ⊥) → next.stop ≡ s.stop
+  behind_goes_on now s number line turn out next (inl gives) on =
+      ap (λ (t : Stage K). t.stop) gives.left ∙ line_goes_on now gives.next s.stop gives.stopped number line turn out gives.is on
+  behind_goes_on now s number line turn out next (inr ends) on = absurd (on ends.ended)
 
   goes_on : (now : Option (Running K)) (s : Stage K) (number : ℕ) (line : List ℕ) (turn : Turn) (out : List ℕ) (next : Stage K) →
       NodeTurn keeper source now s number line turn out next → (turn ≡ Ended → ⊥) → next.stop ≡ s.stop
   goes_on None s number line turn out next (turns.Opened setup read member is rows node begins taken written left) on = ap (λ (t : Stage K). t.stop) left
   goes_on None s number line turn out next (turns.Unbegun setup read asked spare stop unbegun ended written left) on = absurd (on ended)
   goes_on None s number line turn out next (turns.NoSetup fault fails ended written left) on = absurd (on ended)
-  goes_on (Some now) s number line turn out next gives on =
-      ap (λ (t : Stage K). t.stop) gives.left ∙ event_goes_on now gives.next s.stop gives.stopped number line turn out gives.is on
+  goes_on (Some now) s number line turn out next gives on = behind_goes_on now s number line turn out next gives on
 
   all_go_on : {echo : Bool} {first now : Stage K} {all : List (List ℕ)} {ran : Ran} {out : List ℕ} → AreNumbered (NodeLineGives keeper source) echo first all ran out now → now.stop ≡ first.stop
   all_go_on none_numbered = refl

@@ -1,7 +1,9 @@
 -- What the lines of a run make of its node.
-use Rattle.std.proofs.Common.{◌≡◌, ◌++◌, ◌∙◌, ℕ, Bool, List, [], ◌∷◌, Option, Some, None, refl, sym, ap, subst, inl, inr}
+use Rattle.std.proofs.Common.{◌≡◌, ◌⊎◌, ◌++◌, ◌∙◌, ℕ, Bool, List, [], ◌∷◌, Option, Some, None, refl, sym, ap, subst, inl, inr}
 use Rattle.node_laws.specs.Runs.{Run}
+use Rattle.json_text.specs.Fault.{Read}
 use Rattle.ocpi_types.specs.Setups.{party_of}
+use Rattle.ocpi_types.specs.declared.node_events.NodeEvent.{NodeEvent as Event}
 use Rattle.ocpi_types.specs.declared.rows.Row.{Row}
 use Rattle.ocpi_types.specs.declared.setup.Node.{Node}
 use Rattle.ocpi_types.specs.declared.setup.Node.TheVariants as node
@@ -23,7 +25,11 @@ use Rattle.node_core.specs.Members.{IsMadeOfRows}
 use Rattle.node_rows.specs.Holds.{HoldsRows}
 use Rattle.node_rows.specs.Laws.{NodesKeepOpenings}
 use Rattle.stored_laws.specs.Nodes.{IsOfOpening, restarted}
-use Rattle.node_runs.specs.NodeTurns.{EventTurn, GoesOn, IsMember, NodeLineGives, NodeTurn, Running, Stage, Starts, opening}
+use Rattle.node_runs.specs.ListTurns.{AreDone, PlacedTurn}
+use Rattle.node_runs.specs.ListTurns as lists
+use Rattle.node_runs.specs.NodeAnswers.{Ends, GoesOn, LineTurn, NodeLineGives, NodeTurn}
+use Rattle.node_runs.specs.NodeAnswers as answers
+use Rattle.node_runs.specs.NodeTurns.{EventTurn, IsMember, Running, Stage, Starts, opening}
 use Rattle.node_runs.specs.NodeTurns as turns
 use Rattle.node_runs.specs.NodeHistories.{As_left, HasHistory, One_more, RunsAreHistories, StopsGoOn, TwoRunsAreOne, WasRun, restart_of}
 use Rattle.node_runs.specs.declared.fault.NodeStop.{NodeStop}
@@ -34,7 +40,25 @@ joined : (s u t : NodeState) (xs ys : List NodeEvent) → Run NodeStep s xs u �
 joined s u t [] ys is more = subst (λ (n : NodeState). Run NodeStep n ys t) is more
 joined s u t (x ∷ xs) ys did more = (did.0, did.1, joined did.0 u t xs ys did.2 more)
 
--- the node goes on, by one step or none
+-- what the events of a line made of a node, one after another, is a chain of steps
+placed_run : {party : List ℕ} {now next : NodeState} {number place : ℕ} {read : Read Event} {turn : Turn} {out : List ℕ} {did : List NodeEvent}
+    → PlacedTurn party now number place read turn out did next → Run NodeStep now did next
+placed_run {next = next} (lists.WasDone x is deed brings step changed tells taken written one) = subst (λ did. Run NodeStep _ did next) (sym one) (next, step, refl)
+placed_run {next = next} (lists.WasUnstored x is refused taken written none same) = subst (λ did. Run NodeStep _ did next) (sym none) same
+placed_run {next = next} (lists.IsElsewhere x is other taken written none same) = subst (λ did. Run NodeStep _ did next) (sym none) same
+placed_run {next = next} (lists.IsOfOtherRole x is stored nothing taken written none same) = subst (λ did. Run NodeStep _ did next) (sym none) same
+placed_run {next = next} (lists.IsMalformed fault is other refused written none same) = subst (λ did. Run NodeStep _ did next) (sym none) same
+placed_run {next = next} (lists.IsRefused x is input brings fault refuses other refused written none same) = subst (λ did. Run NodeStep _ did next) (sym none) same
+
+pub all_run : {party : List ℕ} {first after : NodeState} {number : ℕ} {events : List (Read Event)} {turn : Turn} {out : List ℕ} {did : List NodeEvent}
+    → AreDone party first number events turn out did after → Run NodeStep first did after
+all_run lists.none_done = refl
+all_run {first = first} (lists.one_taken {did = did} {also = also} {now = now} {next = next} before is) =
+    joined first now next did also (all_run before) (placed_run is)
+all_run {first = first} (lists.one_refused {did = did} {also = also} {now = now} {next = next} before is) =
+    joined first now next did also (all_run before) (placed_run is)
+
+-- the node goes on, by some steps or none
 module _ {K : Type 0} (keeper : Keeper K) (source : Source K) (wanted : Option (List ℕ)) where
   stayed : (now next : Running K) → next.party ≡ now.party → next.node.state ≡ now.node.state → HasHistory keeper source wanted now → HasHistory keeper source wanted next
   stayed now next party same h =
@@ -48,18 +72,21 @@ module _ {K : Type 0} (keeper : Keeper K) (source : Source K) (wanted : Option (
         found = h.found;
       }
 
-  stepped : (now next : Running K) (x : NodeEvent) → next.party ≡ now.party → NodeStep now.node.state x next.node.state → HasHistory keeper source wanted now → HasHistory keeper source wanted next
-  stepped now next x party step h =
+  went_on : (now next : Running K) (xs : List NodeEvent) → next.party ≡ now.party → Run NodeStep now.node.state xs next.node.state → HasHistory keeper source wanted now → HasHistory keeper source wanted next
+  went_on now next xs party steps h =
       let was = h.was in
-      let did = joined was.start.state now.node.state next.node.state h.events (x ∷ []) was.did (next.node.state, step, refl) in
+      let did = joined was.start.state now.node.state next.node.state h.events xs was.did steps in
       record {
         setup = h.setup;
         member = h.member;
         asked = h.asked;
-        events = h.events ++ x ∷ [];
+        events = h.events ++ xs;
         was = record { rows = was.rows; start = was.start; starts = was.starts; did = did; party = party ∙ was.party };
         found = h.found;
       }
+
+  stepped : (now next : Running K) (x : NodeEvent) → next.party ≡ now.party → NodeStep now.node.state x next.node.state → HasHistory keeper source wanted now → HasHistory keeper source wanted next
+  stepped now next x party step h = went_on now next (x ∷ []) party (next.node.state, step, refl) h
 
   one_event : (now next : Running K) (stop later : Option NodeStop) (number : ℕ) (line : List ℕ) (turn : Turn) (out : List ℕ) →
       EventTurn keeper now stop number line turn out next later → HasHistory keeper source wanted now → HasHistory keeper source wanted next
@@ -69,11 +96,17 @@ module _ {K : Type 0} (keeper : Keeper K) (source : Source K) (wanted : Option (
   one_event now next stop later number line turn out (turns.IsElsewhere x read other taken written left same) h = subst (HasHistory keeper source wanted) (sym left) h
   one_event now next stop later number line turn out (turns.IsOfOtherRole x is passes taken written party same) h =
       stayed now next party (ap (λ (n : Stored K). n.state) passes.same) h
-  one_event now next stop later number line turn out (turns.IsMalformed fault fails refused written left same) h = subst (HasHistory keeper source wanted) (sym left) h
+  one_event now next stop later number line turn out (turns.IsMalformed fault fails other refused written left same) h = subst (HasHistory keeper source wanted) (sym left) h
   one_event now next stop later number line turn out (turns.IsRefused x is fault refuses refused written party same) h =
       stayed now next party (ap (λ (n : Stored K). n.state) refuses.same) h
   one_event now next stop later number line turn out (turns.IsStarved x is refused written left same) h = subst (HasHistory keeper source wanted) (sym left) h
   one_event now next stop later number line turn out (turns.IsLost x is fault fails ended written party same) h = stayed now next party fails.1.state h
+
+  one_line_behind : (now next : Running K) (stop later : Option NodeStop) (number : ℕ) (line : List ℕ) (turn : Turn) (out : List ℕ) →
+      LineTurn keeper now stop number line turn out next later → HasHistory keeper source wanted now → HasHistory keeper source wanted next
+  one_line_behind now next stop later number line turn out (answers.OneEvent is) h = one_event now next stop later number line turn out is h
+  one_line_behind now next stop later number line turn out (answers.SeveralEvents is same) h =
+      went_on now next is.did is.party (all_run is.carries.done) h
 
   -- what is known of the node that runs, where one does
   abbrev Known : Option (List ℕ) → Option (Running K) → Type 0
@@ -84,6 +117,12 @@ module _ {K : Type 0} (keeper : Keeper K) (source : Source K) (wanted : Option (
     wanted_so : s.wanted ≡ wanted
     known : Known wanted s.running
 
+  behind_setup : (now : Running K) (s : Stage K) (number : ℕ) (line : List ℕ) (turn : Turn) (out : List ℕ) (t : Stage K) →
+      GoesOn keeper now s number line turn out t ⊎ Ends keeper now s number line turn out t → IsKnown s → HasHistory keeper source wanted now → IsKnown t
+  behind_setup now s number line turn out t (inl gives) whole known =
+      subst IsKnown (sym gives.left) (record { wanted_so = whole.wanted_so; known = one_line_behind now gives.next s.stop gives.stopped number line turn out gives.is known })
+  behind_setup now s number line turn out t (inr ends) whole known = subst IsKnown (sym ends.left) (record { wanted_so = whole.wanted_so; known = tt })
+
   one_line : (now : Option (Running K)) (s : Stage K) (number : ℕ) (line : List ℕ) (turn : Turn) (out : List ℕ) (t : Stage K) →
       NodeTurn keeper source now s number line turn out t → IsKnown s → Known wanted now → IsKnown t
   one_line None s number line turn out t (turns.Opened setup read member is rows start begins taken written left) whole known =
@@ -93,8 +132,7 @@ module _ {K : Type 0} (keeper : Keeper K) (source : Source K) (wanted : Option (
   one_line None s number line turn out t (turns.Unbegun setup read places spare stop unbegun ended written left) whole known =
       subst IsKnown (sym left) (record { wanted_so = whole.wanted_so; known = tt })
   one_line None s number line turn out t (turns.NoSetup fault fails ended written left) whole known = subst IsKnown (sym left) whole
-  one_line (Some now) s number line turn out t gives whole known =
-      subst IsKnown (sym gives.left) (record { wanted_so = whole.wanted_so; known = one_event now gives.next s.stop gives.stopped number line turn out gives.is known })
+  one_line (Some now) s number line turn out t gives whole known = behind_setup now s number line turn out t gives whole known
 
   all_known : {echo : Bool} {opened : List ℕ} {all : List (List ℕ)} {ran : Ran} {out : List ℕ} {s : Stage K} →
       AreNumbered (NodeLineGives keeper source) echo (opening wanted opened) all ran out s → IsKnown s

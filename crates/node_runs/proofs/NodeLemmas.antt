@@ -1,7 +1,6 @@
 -- What a line of `node` gives, from what its parts give.
 use Rattle.std.proofs.Common.{◌≡◌, ◌≢◌, ◌++◌, ◌∙◌, ℕ, List, [], ◌∷◌, Bool, true, false, Option, Some, None, Ok, refl, sym, ap, subst, inl, inr}
 use Rattle.std.proofs.lemmas.List.{append-nil}
-use Rattle.ocpi_json.specs.NodeEventForms.{node_event_in}
 use Rattle.ocpi_text.specs.Text.{key}
 use Rattle.ocpi_types.specs.declared.node_events.NodeEvent.{NodeEvent}
 use Rattle.ocpi_types.specs.declared.packet.Packet.{Packet}
@@ -28,19 +27,19 @@ module _ {K : Type 0} (keeper : Keeper K) (now : Running K) (node : Stored K) (s
   abbrev Gives : List ℕ → Type 0
   Gives out = EventTurn keeper now stop number line Taken out (record { party = now.party; node = node }) stop
 
-  does : (packets : List Packet) (changed : Bool) → Does keeper now.node x.kind packets changed node → Gives (packet_lines packets ++ step_line number packets changed)
+  does : (packets : List Packet) (changed : Bool) → Does keeper now.node x.kind packets changed node → Gives (packet_lines packets ++ step_line number None packets changed)
   does [] false d = WasIdle x is d refl refl refl refl
   does [] true d = DidStep x is [] true d (inl refl) refl refl refl refl
   does (p ∷ ps) changed d = DidStep x is (p ∷ ps) changed d (inr (λ e. absurd (cc e))) refl refl refl refl
 
   -- what comes of an event that was not refused
-  pub applied : (a : Applied) → Applies keeper now.node x.kind a node → Gives (applied_lines number a)
+  pub applied : (a : Applied) → Applies keeper now.node x.kind a node → Gives (applied_lines number None a)
   applied Skipped passes = IsOfOtherRole x is passes refl refl refl refl
   applied (Stepped packets changed) (inl d) = does packets.items changed d
   applied (Stepped packets changed) (inr none) =
       let same : (record { party = now.party; node = node }) ≡ now = ap (λ (n : Stored K). record { party = now.party; node = n }) none.3 in
-      let out : packet_lines packets.items ++ step_line number packets.items changed ≡ packet_lines [] ++ step_line number [] false =
-      ap (λ (ps : List Packet). packet_lines ps ++ step_line number ps changed) none.1 ∙ ap (λ (b : Bool). packet_lines [] ++ step_line number [] b) none.2 in
+      let out : packet_lines packets.items ++ step_line number None packets.items changed ≡ packet_lines [] ++ step_line number None [] false =
+      ap (λ (ps : List Packet). packet_lines ps ++ step_line number None ps changed) none.1 ∙ ap (λ (b : Bool). packet_lines [] ++ step_line number None [] b) none.2 in
       WasUnstored x is none.0 refl out same refl
 
   -- what comes of one that was

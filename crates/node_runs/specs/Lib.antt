@@ -2,6 +2,9 @@ pub mod Names
 pub mod DoneLines
 pub mod Stops
 pub mod NodeTurns
+pub mod ListTurns
+pub mod NodeAnswers
+pub mod Afters
 pub mod NodeCut
 pub mod NodeOutputs
 pub mod NodeHistories

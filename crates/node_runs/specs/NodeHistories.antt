@@ -15,7 +15,8 @@ use Rattle.node_cell.specs.Keepers.{Keeper}
 use Rattle.node_cell.specs.Stored.{IsStored, Stored}
 use Rattle.node_rows.specs.Holds.{StoresAlike}
 use Rattle.stored_laws.specs.Nodes.{restarted}
-use Rattle.node_runs.specs.NodeTurns.{IsMember, NodeLineGives, Running, Stage, Starts, opening}
+use Rattle.node_runs.specs.NodeAnswers.{NodeLineGives}
+use Rattle.node_runs.specs.NodeTurns.{IsMember, Running, Stage, Starts, opening}
 
 -- The node of that member of the setup was made of what a keeper kept, and then did these one after another, and nothing
 -- else.

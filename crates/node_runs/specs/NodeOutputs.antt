@@ -8,7 +8,8 @@ use Rattle.line_runs.specs.declared.outcome.RunFault.{RunFault}
 use Rattle.node_keepers.specs.Opening.{Source}
 use Rattle.node_cell.specs.Keepers.{Keeper}
 use Rattle.node_cell.specs.Stored.{IsStored}
-use Rattle.node_runs.specs.NodeTurns.{NodeEndGives, NodeLineGives, Running, Stage, keep_in, opening}
+use Rattle.node_runs.specs.NodeAnswers.{NodeEndGives, NodeLineGives}
+use Rattle.node_runs.specs.NodeTurns.{Running, Stage, keep_in, opening}
 use Rattle.node_runs.specs.declared.fault.NodeStop.{NodeStop}
 
 abbrev pub found : Result (List ℕ) TextFault → Option (List ℕ)

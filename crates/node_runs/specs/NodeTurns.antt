@@ -1,5 +1,5 @@
--- What the program `node` writes for each line that it reads, and what it makes of the node: a setup, which names the
--- node among others, and then events.
+-- What the program `node` writes for a setup, which names the node among others, and for a line that is one event, and
+-- what each makes of the node.
 use Rattle.std.specs.Prelude.{◌≡◌, ◌≢◌, ◌⊎◌, ℕ, List, [], ◌∷◌, ◌++◌, Bool, true, false, Option, None, Some, Ok, Contains, length}
 use Rattle.ocpi_text.specs.Text.{key}
 use Rattle.ocpi_types.specs.Setups.{party_of}
@@ -8,14 +8,14 @@ use Rattle.ocpi_types.specs.declared.node_events.NodeEventKind.TheVariants as ev
 use Rattle.ocpi_types.specs.declared.packet.Packet.{Packet}
 use Rattle.ocpi_types.specs.declared.setup.Node.{Node}
 use Rattle.json_text.specs.declared.fault.JsonFault.{JsonFault}
-use Rattle.json_text.specs.declared.fault.JsonFault.TheVariants.{Syntax}
+use Rattle.json_text.specs.declared.fault.JsonFault.TheVariants.{Memory as LineMemory}
 use Rattle.json_text.specs.Fault.{Fails as FailsToRead}
-use Rattle.ocpi_json.specs.NodeEventForms.{node_event_in}
+use Rattle.node_lines.specs.ListLines.{IsListLine}
+use Rattle.node_lines.specs.NodeLines.{node_line_in}
+use Rattle.node_lines.specs.declared.node_line.NodeLine.TheVariants.{One}
 use Rattle.ocpi_json.specs.SetupForms.{setup_in}
 use Rattle.node_steps.specs.declared.fault.NodeFault.{NodeFault}
 use Rattle.node_steps.specs.declared.fault.NodeFault.TheVariants.{Memory}
-use Rattle.line_runs.specs.declared.outcome.Ran.{Ran}
-use Rattle.line_runs.specs.declared.outcome.Ran.TheVariants.{Whole, WithRefusals}
 use Rattle.line_runs.specs.declared.run.Turn.{Turn}
 use Rattle.line_runs.specs.declared.run.Turn.TheVariants.{Taken, Refused, Ended}
 use Rattle.node_store.specs.declared.fault.StoreFault.{StoreFault}
@@ -117,27 +117,27 @@ pub data SetupTurn {K : Type 0} (keeper : Keeper K) (source : Source K) (s : Sta
       → turn ≡ Ended → out ≡ [] → next ≡ record { wanted = s.wanted; opened = s.opened ++ asked; running = None; spare = spare; stop = Some stop }
       → SetupTurn keeper source s number line turn out next
   NoSetup : (fault : JsonFault) → FailsToRead fault (setup_in line)
-      → turn ≡ Ended → out ≡ malformed_line number fault → next ≡ s
+      → turn ≡ Ended → out ≡ malformed_line number None fault → next ≡ s
       → SetupTurn keeper source s number line turn out next
 
--- ---- each other line
+-- ---- each event
 
 -- the line behind the packets that a node sent for an event, by whether rows were changed
-abbrev pub step_line : ℕ → List Packet → Bool → List ℕ
-step_line number [] false = idle_line number
-step_line number [] true = stepped_line number 0
-step_line number (p ∷ ps) changed = stepped_line number (length (p ∷ ps))
+abbrev pub step_line : ℕ → Option ℕ → List Packet → Bool → List ℕ
+step_line number place [] false = idle_line number place
+step_line number place [] true = stepped_line number place 0
+step_line number place (p ∷ ps) changed = stepped_line number place (length (p ∷ ps))
 
 -- what is written of an event that was not refused
-abbrev pub applied_lines : ℕ → Applied → List ℕ
-applied_lines number Skipped = skipped_line number
-applied_lines number (Stepped packets changed) = packet_lines packets.items ++ step_line number packets.items changed
+abbrev pub applied_lines : ℕ → Option ℕ → Applied → List ℕ
+applied_lines number place Skipped = skipped_line number place
+applied_lines number place (Stepped packets changed) = packet_lines packets.items ++ step_line number place packets.items changed
 
--- what is written of one that was, how the line was answered, and what then stopped the run
+-- what is written of one that was and is a line of its own, how that was answered, and what then stopped the run
 abbrev pub fault_lines : ℕ → ApplyFault → List ℕ
 fault_lines number (apply.Store fault) = []
-fault_lines number (apply.Core fault) = refused_line number fault
-fault_lines number apply.Memory = refused_line number Memory
+fault_lines number (apply.Core fault) = refused_line number None fault
+fault_lines number apply.Memory = refused_line number None Memory
 
 abbrev pub fault_turn : ApplyFault → Turn
 fault_turn (apply.Store fault) = Ended
@@ -149,76 +149,51 @@ stop_after stop (apply.Store fault) = Some (Store fault)
 stop_after stop (apply.Core fault) = stop
 stop_after stop apply.Memory = stop
 
--- the event of a line is one of this node
+-- the line is one event, and that is one of this node
 pub record IsOfNode (party line : List ℕ) (x : NodeEvent) : Type 0 where
-  pub read : node_event_in line ≡ Ok x
+  pub read : node_line_in line ≡ Ok (One x)
   pub same : key x.node ≡ key party
 
--- Each other line is an event at the node. What a step changes is committed before anything of it is written; where
--- the keeper does not take that, for want of memory too, nothing is written, the node is as before, and it is the last
--- line.
+-- A line that is one event, or is refused as a text. What a step changes is committed before anything of it is
+-- written; where the keeper does not take that, for want of memory too, nothing is written, the node is as before, and it
+-- is the last line.
 pub data EventTurn {K : Type 0} (keeper : Keeper K) (now : Running K) (stop : Option NodeStop) (number : ℕ) (line : List ℕ)
     (turn : Turn) (out : List ℕ) (next : Running K) (stopped : Option NodeStop) : Type 0 where
   -- the node did it, and rows were changed or packets sent
   DidStep : (x : NodeEvent) → IsOfNode now.party line x → (packets : List Packet) (changed : Bool)
       → Does keeper now.node x.kind packets changed next.node → (changed ≡ true) ⊎ (packets ≢ [])
-      → turn ≡ Taken → out ≡ packet_lines packets ++ stepped_line number (length packets) → next.party ≡ now.party → stopped ≡ stop
+      → turn ≡ Taken → out ≡ packet_lines packets ++ stepped_line number None (length packets) → next.party ≡ now.party → stopped ≡ stop
       → EventTurn keeper now stop number line turn out next stopped
   -- the node did it, and no row was changed and no packet sent
   WasIdle : (x : NodeEvent) → IsOfNode now.party line x
       → Does keeper now.node x.kind [] false next.node
-      → turn ≡ Taken → out ≡ idle_line number → next.party ≡ now.party → stopped ≡ stop
+      → turn ≡ Taken → out ≡ idle_line number None → next.party ≡ now.party → stopped ≡ stop
       → EventTurn keeper now stop number line turn out next stopped
   -- the storing of the event was refused, where it was carried out
   WasUnstored : (x : NodeEvent) → IsOfNode now.party line x → x.kind ≡ event.Refused
-      → turn ≡ Taken → out ≡ idle_line number → next ≡ now → stopped ≡ stop
+      → turn ≡ Taken → out ≡ idle_line number None → next ≡ now → stopped ≡ stop
       → EventTurn keeper now stop number line turn out next stopped
   -- it is another node's
-  IsElsewhere : (x : NodeEvent) → node_event_in line ≡ Ok x → key x.node ≢ key now.party
-      → turn ≡ Taken → out ≡ skipped_line number → next ≡ now → stopped ≡ stop
+  IsElsewhere : (x : NodeEvent) → node_line_in line ≡ Ok (One x) → key x.node ≢ key now.party
+      → turn ≡ Taken → out ≡ skipped_line number None → next ≡ now → stopped ≡ stop
       → EventTurn keeper now stop number line turn out next stopped
   -- it is one of the other role
   IsOfOtherRole : (x : NodeEvent) → IsOfNode now.party line x → Passes now.node x.kind next.node
-      → turn ≡ Taken → out ≡ skipped_line number → next.party ≡ now.party → stopped ≡ stop
+      → turn ≡ Taken → out ≡ skipped_line number None → next.party ≡ now.party → stopped ≡ stop
       → EventTurn keeper now stop number line turn out next stopped
-  -- the line is no event
-  IsMalformed : (fault : JsonFault) → FailsToRead fault (node_event_in line)
-      → turn ≡ Refused → out ≡ malformed_line number fault → next ≡ now → stopped ≡ stop
+  -- the line is no event, and no array of events; want of memory ends the run where an array was begun
+  IsMalformed : (fault : JsonFault) → FailsToRead fault (node_line_in line) → (fault ≡ LineMemory → IsListLine line → ⊥)
+      → turn ≡ Refused → out ≡ malformed_line number None fault → next ≡ now → stopped ≡ stop
       → EventTurn keeper now stop number line turn out next stopped
   -- the node refuses it
   IsRefused : (x : NodeEvent) → IsOfNode now.party line x → (fault : NodeFault) → Refuses now.node x.kind fault next.node
-      → turn ≡ Refused → out ≡ refused_line number fault → next.party ≡ now.party → stopped ≡ stop
+      → turn ≡ Refused → out ≡ refused_line number None fault → next.party ≡ now.party → stopped ≡ stop
       → EventTurn keeper now stop number line turn out next stopped
   -- memory ran out for it in the node, before its keeper was asked
   IsStarved : (x : NodeEvent) → IsOfNode now.party line x
-      → turn ≡ Refused → out ≡ refused_line number Memory → next ≡ now → stopped ≡ stop
+      → turn ≡ Refused → out ≡ refused_line number None Memory → next ≡ now → stopped ≡ stop
       → EventTurn keeper now stop number line turn out next stopped
   -- the keeper did not take its changes, whatever the fault of its commit
   IsLost : (x : NodeEvent) → IsOfNode now.party line x → (fault : StoreFault) → Fails keeper now.node x.kind (apply.Store fault) next.node
       → turn ≡ Ended → out ≡ [] → next.party ≡ now.party → stopped ≡ Some (Store fault)
       → EventTurn keeper now stop number line turn out next stopped
-
--- a line behind the first: what is left of the stage is as before
-pub record GoesOn {K : Type 0} (keeper : Keeper K) (now : Running K) (s : Stage K) (number : ℕ) (line : List ℕ) (turn : Turn) (out : List ℕ) (t : Stage K) : Type 0 where
-  pub next : Running K
-  pub stopped : Option NodeStop
-  pub is : EventTurn keeper now s.stop number line turn out next stopped
-  pub left : t ≡ record { wanted = s.wanted; opened = s.opened; running = Some next; spare = s.spare; stop = stopped }
-
--- one line, with no node before the first
-abbrev pub NodeTurn : {K : Type 0} → Keeper K → Source K → Option (Running K) → Stage K → ℕ → List ℕ → Turn → List ℕ → Stage K → Type 0
-NodeTurn keeper source None s number line turn out next = SetupTurn keeper source s number line turn out next
-NodeTurn keeper source (Some now) s number line turn out next = GoesOn keeper now s number line turn out next
-
-abbrev pub NodeLineGives : {K : Type 0} → Keeper K → Source K → Stage K → ℕ → List ℕ → Turn → List ℕ → Stage K → Type 0
-NodeLineGives keeper source s number line turn out next = NodeTurn keeper source s.running s number line turn out next
-
--- ---- the end
-
--- An input with no line is refused as one with a line that is no JSON. Otherwise nothing is written at the end.
-abbrev pub NodeEnd : {K : Type 0} → Option (Running K) → Ran → List ℕ → Type 0
-NodeEnd None ran out = (ran ≡ WithRefusals) × (out ≡ malformed_line 0 Syntax)
-NodeEnd (Some now) ran out = (ran ≡ Whole) × (out ≡ [])
-
-abbrev pub NodeEndGives : {K : Type 0} → Stage K → Ran → List ℕ → Type 0
-NodeEndGives s ran out = NodeEnd s.running ran out

@@ -57,6 +57,16 @@ impl<K: Keep> Running<K> {
         let Running { party: _, node } = self;
         node.into_keep()
     }
+
+    /// Its party, and the node over its keeper.
+    pub fn into_parts(self) -> (Party, StoredNode<K>)
+        ensures party { result.0 ≡ self.party }
+        ensures node { result.1 ≡ self.node }
+        ensures stored { IsStored (keeper_of K.content K.is_honest K.refusals K.may_leave) self.node }
+    {
+        let Running { party, node } = self;
+        (party, node)
+    }
 }
 
 /// A node that was opened.

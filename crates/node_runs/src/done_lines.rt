@@ -1,7 +1,8 @@
-//! The line that says what became of a line of the input: an object whose first member is `done`.
+//! The line that says what became of a line of the input, or of one event of it: an object whose first member is
+//! `done`.
 
 ghost use Rattle.std.specs.Prelude.{◌≡◌, ◌++◌, IfOk, None, OnOk, Some, string_bytes};
-ghost use Rattle.node_runs.specs.DoneLines.{fault_line, idle_line, malformed_line, opened_line, refused_line, skipped_line, stepped_line, text_json};
+ghost use Rattle.node_runs.specs.DoneLines.{all_line, fault_line, idle_line, malformed_line, opened_line, refused_line, skipped_line, stepped_line, text_json};
 
 use crate::names::{
     event_fault_name, event_fault_number, line_fault_field, line_fault_name, line_fault_number,
@@ -12,6 +13,24 @@ use ocpi_json::JsonFault;
 use ocpi_text::{Party, Whole};
 use ocpi_types::Field;
 use std::alloc::{AllocError, Global};
+use std::fmt;
+
+/// The member that tells the place of an event in its line, from 0. Where the line is one event, it is left out.
+#[derive(Clone, Copy)]
+struct PlaceMember(Option<usize>);
+
+impl fmt::Display for PlaceMember {
+    ghost use Rattle.node_runs.specs.DoneLines.{place_member};
+
+    ghost output = { λ p. Some (place_member p.0) };
+
+    fn fmt<W: fmt::Write>(&self, f: &mut fmt::Formatter<W>) -> fmt::Result {
+        match self.0 {
+            None => Ok(()),
+            Some(place) => write!(f, ",\"event\":{place}"),
+        }
+    }
+}
 
 /// A text as JSON has it, in quotes.
 fn quote(alloc: Global, text: &str) -> Result<String, AllocError>
@@ -43,77 +62,124 @@ pub fn write_opened(
 }
 
 /// Rows were changed, or packets sent: so many.
-pub fn write_stepped(line: u64, packets: usize, output: &mut String) -> Result<(), AllocError>
-    ensures { OnOk result (string_bytes output.new ≡ string_bytes output.old ++ stepped_line line packets) }
+pub fn write_stepped(
+    line: u64,
+    place: Option<usize>,
+    packets: usize,
+    output: &mut String,
+) -> Result<(), AllocError>
+    ensures { OnOk result (string_bytes output.new ≡ string_bytes output.old ++ stepped_line line place packets) }
 {
     writeln!(
         output,
-        "{{\"done\":\"stepped\",\"line\":{line},\"packets\":{packets}}}"
+        "{{\"done\":\"stepped\"{},\"line\":{line},\"packets\":{packets}}}",
+        PlaceMember(place)
     )
 }
 
 /// The event was this node's, changed no row and sent nothing.
-pub fn write_idle(line: u64, output: &mut String) -> Result<(), AllocError>
-    ensures { OnOk result (string_bytes output.new ≡ string_bytes output.old ++ idle_line line) }
+pub fn write_idle(line: u64, place: Option<usize>, output: &mut String) -> Result<(), AllocError>
+    ensures { OnOk result (string_bytes output.new ≡ string_bytes output.old ++ idle_line line place) }
 {
-    writeln!(output, "{{\"done\":\"idle\",\"line\":{line}}}")
+    writeln!(
+        output,
+        "{{\"done\":\"idle\"{},\"line\":{line}}}",
+        PlaceMember(place)
+    )
 }
 
 /// The event is another node's, or one of the other role.
-pub fn write_skipped(line: u64, output: &mut String) -> Result<(), AllocError>
-    ensures { OnOk result (string_bytes output.new ≡ string_bytes output.old ++ skipped_line line) }
+pub fn write_skipped(
+    line: u64,
+    place: Option<usize>,
+    output: &mut String,
+) -> Result<(), AllocError>
+    ensures { OnOk result (string_bytes output.new ≡ string_bytes output.old ++ skipped_line line place) }
 {
-    writeln!(output, "{{\"done\":\"skipped\",\"line\":{line}}}")
+    writeln!(
+        output,
+        "{{\"done\":\"skipped\"{},\"line\":{line}}}",
+        PlaceMember(place)
+    )
 }
 
-/// A line was refused as a line, because of a member.
+/// A line, or an event of one, was refused as a text, because of a member.
 fn write_malformed_member(
     line: u64,
+    place: Option<usize>,
     fault: JsonFault,
     field: Field,
     output: &mut String,
 ) -> Result<(), AllocError>
-    ensures { OnOk result (string_bytes output.new ≡ string_bytes output.old ++ fault_line line fault (Some field)) }
+    ensures { OnOk result (string_bytes output.new ≡ string_bytes output.old ++ fault_line line place fault (Some field)) }
 {
     writeln!(
         output,
-        "{{\"done\":\"malformed\",\"field\":\"{}\",\"line\":{line},\"name\":\"{}\",\"number\":{}}}",
+        "{{\"done\":\"malformed\"{},\"field\":\"{}\",\"line\":{line},\"name\":\"{}\",\"number\":{}}}",
+        PlaceMember(place),
         field.name(),
         line_fault_name(fault),
         line_fault_number(fault)
     )
 }
 
-/// A line was refused as a line, because of no member.
-fn write_malformed_line(line: u64, fault: JsonFault, output: &mut String) -> Result<(), AllocError>
-    ensures { OnOk result (string_bytes output.new ≡ string_bytes output.old ++ fault_line line fault None) }
+/// A line, or an event of one, was refused as a text, because of no member.
+fn write_malformed_line(
+    line: u64,
+    place: Option<usize>,
+    fault: JsonFault,
+    output: &mut String,
+) -> Result<(), AllocError>
+    ensures { OnOk result (string_bytes output.new ≡ string_bytes output.old ++ fault_line line place fault None) }
 {
     writeln!(
         output,
-        "{{\"done\":\"malformed\",\"line\":{line},\"name\":\"{}\",\"number\":{}}}",
+        "{{\"done\":\"malformed\"{},\"line\":{line},\"name\":\"{}\",\"number\":{}}}",
+        PlaceMember(place),
         line_fault_name(fault),
         line_fault_number(fault)
     )
 }
 
-/// The line was refused as a line.
-pub fn write_malformed(line: u64, fault: JsonFault, output: &mut String) -> Result<(), AllocError>
-    ensures { OnOk result (string_bytes output.new ≡ string_bytes output.old ++ malformed_line line fault) }
+/// The line, or the event at that place of it, was refused as a text.
+pub fn write_malformed(
+    line: u64,
+    place: Option<usize>,
+    fault: JsonFault,
+    output: &mut String,
+) -> Result<(), AllocError>
+    ensures { OnOk result (string_bytes output.new ≡ string_bytes output.old ++ malformed_line line place fault) }
 {
     match line_fault_field(fault) {
-        Some(field) => write_malformed_member(line, fault, field, output),
-        None => write_malformed_line(line, fault, output),
+        Some(field) => write_malformed_member(line, place, fault, field, output),
+        None => write_malformed_line(line, place, fault, output),
     }
 }
 
 /// The node refused the event.
-pub fn write_refused(line: u64, fault: NodeFault, output: &mut String) -> Result<(), AllocError>
-    ensures { OnOk result (string_bytes output.new ≡ string_bytes output.old ++ refused_line line fault) }
+pub fn write_refused(
+    line: u64,
+    place: Option<usize>,
+    fault: NodeFault,
+    output: &mut String,
+) -> Result<(), AllocError>
+    ensures { OnOk result (string_bytes output.new ≡ string_bytes output.old ++ refused_line line place fault) }
 {
     writeln!(
         output,
-        "{{\"done\":\"refused\",\"line\":{line},\"name\":\"{}\",\"number\":{}}}",
+        "{{\"done\":\"refused\"{},\"line\":{line},\"name\":\"{}\",\"number\":{}}}",
+        PlaceMember(place),
         event_fault_name(fault),
         event_fault_number(fault)
+    )
+}
+
+/// A line of that many events was carried out.
+pub fn write_all(line: u64, events: usize, output: &mut String) -> Result<(), AllocError>
+    ensures { OnOk result (string_bytes output.new ≡ string_bytes output.old ++ all_line line events) }
+{
+    writeln!(
+        output,
+        "{{\"done\":\"all\",\"events\":{events},\"line\":{line}}}"
     )
 }

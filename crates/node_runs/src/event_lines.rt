@@ -1,9 +1,10 @@
-//! What comes of the lines behind the setup, each of which is an event.
+//! What comes of a line behind the setup that is one event.
 
 ghost use Rattle.std.specs.Prelude.{◌≡◌, ◌++◌, IfErr, IfOk, List, Ok, OnOk, string_bytes, ℕ};
 ghost use Rattle.line_runs.specs.declared.run.Turn.{Turn as TurnOf};
 ghost use Rattle.node_cell.specs.Keepers.{keeper_of};
-ghost use Rattle.ocpi_json.specs.NodeEventForms.{node_event_in};
+ghost use Rattle.node_lines.specs.NodeLines.{node_line_in};
+ghost use Rattle.node_lines.specs.declared.node_line.NodeLine.TheVariants.{One};
 ghost use Rattle.program_lines.specs.Writing.{packet_lines};
 ghost use Rattle.line_runs.specs.declared.run.Turn.TheVariants.{Refused, Taken};
 ghost use Rattle.ocpi_text.specs.Text.{key};
@@ -11,44 +12,19 @@ ghost use Rattle.node_runs.specs.DoneLines.{refused_line};
 ghost use Rattle.node_runs.specs.NodeTurns.{EventTurn, applied_lines, fault_lines, fault_turn, step_line, stop_after};
 
 use crate::beginning::Running;
-use crate::done_lines::{write_idle, write_malformed, write_refused, write_skipped, write_stepped};
+use crate::done_lines::{write_idle, write_refused, write_skipped, write_stepped};
 use crate::fault::NodeStop;
 use line_runs::Turn;
 use node_cell::{Applied, ApplyFault};
 use node_steps::NodeFault;
 use node_store::Keep;
-use ocpi_json::{Scratch, read_node_event};
 use ocpi_types::{NodeEvent, Packet};
 use program_lines::write_packets;
 use std::alloc::{AllocError, Global};
 
-/// Reads a line's event and lets it happen.
-pub fn answer_event<K: Keep>(
-    alloc: Global,
-    scratch: &mut Scratch,
-    running: &mut Running<K>,
-    stop: &mut Option<NodeStop>,
-    number: u64,
-    line: &[u8],
-    output: &mut String,
-) -> Result<Turn, AllocError>
-    ensures ok { IfOk result (λ turn. (out : List ℕ) × (string_bytes output.new ≡ string_bytes output.old ++ out)
-        × EventTurn (keeper_of K.content K.is_honest K.refusals K.may_leave) running.old stop.old number line.now turn out running.new stop.new) }
-    ensures err { IfErr result (λ _. (turn : TurnOf) × (out : List ℕ)
-        × EventTurn (keeper_of K.content K.is_honest K.refusals K.may_leave) running.old stop.old number line.now turn out running.new stop.new) }
-{
-    match read_node_event(alloc, scratch, line) {
-        Ok(event) => answer_read(alloc, running, stop, &event, number, output),
-        Err(fault) => {
-            write_malformed(number, fault, output)?;
-            Ok(Turn::Refused)
-        }
-    }
-}
-
 /// Lets an event that was read happen at the node, where it is that node's, which commits its changes first, and then
 /// writes what comes of it. Where they are not committed, for want of memory too, nothing is written, and the run ends.
-fn answer_read<K: Keep>(
+pub fn answer_event<K: Keep>(
     alloc: Global,
     running: &mut Running<K>,
     stop: &mut Option<NodeStop>,
@@ -57,14 +33,14 @@ fn answer_read<K: Keep>(
     output: &mut String,
 ) -> Result<Turn, AllocError>
     ensures ok { IfOk result (λ turn. (out : List ℕ) × (string_bytes output.new ≡ string_bytes output.old ++ out)
-        × ((line : List ℕ) → node_event_in line ≡ Ok event.now
+        × ((line : List ℕ) → node_line_in line ≡ Ok (One event.now)
         → EventTurn (keeper_of K.content K.is_honest K.refusals K.may_leave) running.old stop.old number line turn out running.new stop.new)) }
     ensures err { IfErr result (λ _. (turn : TurnOf) × (out : List ℕ)
-        × ((line : List ℕ) → node_event_in line ≡ Ok event.now
+        × ((line : List ℕ) → node_line_in line ≡ Ok (One event.now)
         → EventTurn (keeper_of K.content K.is_honest K.refusals K.may_leave) running.old stop.old number line turn out running.new stop.new)) }
 {
     if !event.node.is_same(&running.party) {
-        write_skipped(number, output)?;
+        write_skipped(number, None, output)?;
         return Ok(Turn::Taken);
     }
     answer_own(alloc, running, stop, event, number, output)
@@ -81,10 +57,10 @@ fn answer_own<K: Keep>(
 ) -> Result<Turn, AllocError>
     requires { key event.now.node ≡ key running.old.party }
     ensures ok { IfOk result (λ turn. (out : List ℕ) × (string_bytes output.new ≡ string_bytes output.old ++ out)
-        × ((line : List ℕ) → node_event_in line ≡ Ok event.now
+        × ((line : List ℕ) → node_line_in line ≡ Ok (One event.now)
         → EventTurn (keeper_of K.content K.is_honest K.refusals K.may_leave) running.old stop.old number line turn out running.new stop.new)) }
     ensures err { IfErr result (λ _. (turn : TurnOf) × (out : List ℕ)
-        × ((line : List ℕ) → node_event_in line ≡ Ok event.now
+        × ((line : List ℕ) → node_line_in line ≡ Ok (One event.now)
         → EventTurn (keeper_of K.content K.is_honest K.refusals K.may_leave) running.old stop.old number line turn out running.new stop.new)) }
 {
     let applied = match running.node.apply(&event.kind) {
@@ -117,9 +93,9 @@ fn tell_fault(
 
 /// Writes why the node refused an event.
 fn tell_refusal(fault: NodeFault, number: u64, output: &mut String) -> Result<Turn, AllocError>
-    ensures { IfOk result (λ turn. (turn ≡ Refused) × (string_bytes output.new ≡ string_bytes output.old ++ refused_line number fault)) }
+    ensures { IfOk result (λ turn. (turn ≡ Refused) × (string_bytes output.new ≡ string_bytes output.old ++ refused_line number None fault)) }
 {
-    write_refused(number, fault, output)?;
+    write_refused(number, None, fault, output)?;
     Ok(Turn::Refused)
 }
 
@@ -130,9 +106,9 @@ fn tell_applied(
     number: u64,
     output: &mut String,
 ) -> Result<Turn, AllocError>
-    ensures { IfOk result (λ turn. (turn ≡ Taken) × (string_bytes output.new ≡ string_bytes output.old ++ applied_lines number applied)) }
+    ensures { IfOk result (λ turn. (turn ≡ Taken) × (string_bytes output.new ≡ string_bytes output.old ++ applied_lines number None applied)) }
 {
-    write_applied(alloc, applied, number, output)?;
+    write_applied(alloc, applied, number, None, output)?;
     Ok(Turn::Taken)
 }
 
@@ -142,31 +118,33 @@ fn write_step(
     packets: &[Packet],
     changed: bool,
     number: u64,
+    place: Option<usize>,
     output: &mut String,
 ) -> Result<(), AllocError>
-    ensures { OnOk result (string_bytes output.new ≡ string_bytes output.old ++ (packet_lines packets.now ++ step_line number packets.now changed)) }
+    ensures { OnOk result (string_bytes output.new ≡ string_bytes output.old ++ (packet_lines packets.now ++ step_line number place packets.now changed)) }
 {
     write_packets(alloc, packets, output)?;
     if changed || !packets.is_empty() {
-        write_stepped(number, packets.len(), output)
+        write_stepped(number, place, packets.len(), output)
     } else {
-        write_idle(number, output)
+        write_idle(number, place, output)
     }
 }
 
 /// Writes the packets of an event that was not refused, and what became of it.
-fn write_applied(
+pub fn write_applied(
     alloc: Global,
     applied: Applied,
     number: u64,
+    place: Option<usize>,
     output: &mut String,
 ) -> Result<(), AllocError>
-    ensures { OnOk result (string_bytes output.new ≡ string_bytes output.old ++ applied_lines number applied) }
+    ensures { OnOk result (string_bytes output.new ≡ string_bytes output.old ++ applied_lines number place applied) }
 {
     match applied {
-        Applied::Skipped => write_skipped(number, output),
+        Applied::Skipped => write_skipped(number, place, output),
         Applied::Stepped { packets, changed } => {
-            write_step(alloc, packets.as_slice(), changed, number, output)
+            write_step(alloc, packets.as_slice(), changed, number, place, output)
         }
     }
 }

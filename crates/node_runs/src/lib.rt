@@ -10,10 +10,12 @@
 #![tactic(auto)]
 
 mod beginning;
+mod behind_setup;
 mod done_lines;
 mod event_lines;
 mod fault;
 pub mod laws;
+mod list_lines;
 mod names;
 mod node_run;
 

@@ -10,13 +10,16 @@ ghost use Rattle.node_cell.specs.Keepers.{keeper_of};
 ghost use Rattle.node_keepers.specs.Opening.{source_of};
 ghost use Rattle.node_runs.specs.DoneLines.{opened_line};
 ghost use Rattle.node_runs.specs.NodeOutputs.{IsKept, NodeBegins, NodeOutputs, NodeStops, asked_for};
-ghost use Rattle.node_runs.specs.NodeTurns.{NodeEndGives, NodeLineGives, SetupTurn, keep_in, opening};
+ghost use Rattle.node_runs.specs.Afters.{GoesOnWith};
+ghost use Rattle.node_runs.specs.NodeAnswers.{NodeEndGives, NodeLineGives};
+ghost use Rattle.node_runs.specs.NodeTurns.{SetupTurn, keep_in, opening};
 ghost use Rattle.node_runs.specs.Stops.{IfRun, IfStop};
 ghost use Rattle.stored_laws.specs.Nodes.{last_serial};
 
 use crate::beginning::{Begun, Running, Unbegun, begin};
 use crate::done_lines::{write_malformed, write_opened};
-use crate::event_lines::answer_event;
+use crate::behind_setup::answer_behind_setup;
+use crate::list_lines::After;
 use crate::fault::{NodeRunFault, NodeStop};
 use line_runs::{AnswerNumbered, LineReader, Ran, RunFault, Turn, run_numbered};
 use node_keepers::Keeps;
@@ -109,10 +112,10 @@ impl<K: Keep + Drop, S: Keeps<Kept = K>> AnswerNumbered for Program<K, S> {
         line: &[u8],
         output: &mut String,
     ) -> Result<Turn, AllocError> {
-        match &mut self.running {
-            None => {}
+        match self.running.take() {
+            None => self.answer_setup(number, line, output),
             Some(running) => {
-                return answer_event(
+                let after = answer_behind_setup(
                     self.alloc,
                     &mut self.scratch,
                     running,
@@ -121,15 +124,15 @@ impl<K: Keep + Drop, S: Keeps<Kept = K>> AnswerNumbered for Program<K, S> {
                     line,
                     output,
                 );
+                self.take_after(after)
             }
         }
-        self.answer_setup(number, line, output)
     }
 
     fn answer_end(&self, output: &mut String) -> Result<Ran, AllocError> {
         match &self.running {
             None => {
-                write_malformed(0, JsonFault::Syntax, output)?;
+                write_malformed(0, None, JsonFault::Syntax, output)?;
                 Ok(Ran::WithRefusals)
             }
             Some(_) => Ok(Ran::Whole),
@@ -156,7 +159,7 @@ impl<K: Keep + Drop, S: Keeps<Kept = K>> Program<K, S> {
         let setup = match read_setup(self.alloc, &mut self.scratch, line) {
             Ok(setup) => setup,
             Err(fault) => {
-                write_malformed(number, fault, output)?;
+                write_malformed(number, None, fault, output)?;
                 return Ok(Turn::Ended);
             }
         };
@@ -166,6 +169,24 @@ impl<K: Keep + Drop, S: Keeps<Kept = K>> Program<K, S> {
                 let Unbegun { keep, stop } = unbegun;
                 self.spare = keep;
                 self.stop = Some(stop);
+                Ok(Turn::Ended)
+            }
+        }
+    }
+
+    /// Goes on with what a line behind the setup left. Where the node has ended, its keeper is what is left.
+    fn take_after(&mut self, after: After<K>) -> Result<Turn, AllocError>
+        requires { self.old.running ≡ None }
+        ensures { GoesOnWith self.old after result self.new }
+    {
+        match after {
+            After::Runs { running, turn } => {
+                self.running = Some(running);
+                turn
+            }
+            After::Lost { keep, fault } => {
+                self.spare = Some(keep);
+                self.stop = Some(NodeStop::Store(fault));
                 Ok(Turn::Ended)
             }
         }

@@ -7,5 +7,5 @@ use Rattle.node_runs.proofs.done_lines.write_malformed_line.Goals as goal
 pub returns : goal.returns
 returns c =
     let wrote = λ (out : List ℕ). OnOk c.writeln.result (string_bytes c.writeln.new.self ≡ string_bytes c.args.output.now ++ out) in
-    subst (λ (name : List ℕ). wrote (line_of_fault c.args.line name (line_fault_number c.args.fault))) c.line_fault_name.ensures
-    (subst (λ (n : ℕ). wrote (line_of_fault c.args.line c.line_fault_name.result.now n)) c.line_fault_number.ensures c.writeln.ensures.bytes)
+    subst (λ (name : List ℕ). wrote (line_of_fault c.args.line c.args.place name (line_fault_number c.args.fault))) c.line_fault_name.ensures
+    (subst (λ (n : ℕ). wrote (line_of_fault c.args.line c.args.place c.line_fault_name.result.now n)) c.line_fault_number.ensures c.writeln.ensures.bytes)

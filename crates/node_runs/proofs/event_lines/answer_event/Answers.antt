@@ -1,26 +1,28 @@
-use Rattle.std.proofs.Common.{refl}
-use Rattle.std.proofs.lemmas.Result.{IfOk-weaker}
-use Rattle.line_runs.specs.declared.run.Turn.TheVariants.{Refused}
-use Rattle.program_lines.proofs.FaultLemmas.{if_err_then, of_each}
-use Rattle.node_runs.specs.DoneLines.{malformed_line}
-use Rattle.node_runs.specs.NodeTurns.{IsMalformed}
+use Rattle.std.proofs.Common.{◌≡◌, ℕ, List, None, refl, subst, rules}
+use Rattle.std.specs.Prelude.{IsTrue}
+use Rattle.line_runs.specs.declared.run.Turn.TheVariants.{Taken}
+use Rattle.node_cell.specs.Keepers.{keeper_of}
+use Rattle.node_runs.specs.DoneLines.{skipped_line}
+use Rattle.node_runs.specs.NodeTurns.{EventTurn, IsElsewhere, Running}
+use Rattle.program_lines.proofs.FaultLemmas.{of_each}
 use Rattle.node_runs.proofs.event_lines.answer_event.Goals as goal
 
-pub returns-in_ok-write_malformed-in-Err-clause-ok : goal.returns-in_ok-write_malformed-in-Err-clause-ok
-returns-in_ok-write_malformed-in-Err-clause-ok g c =
-    let fault = c.in-Err.fault in
-    (malformed_line c.args.number fault, c.in_ok-write_malformed-in-Err.ensures, IsMalformed fault c.in-Err.ensures.exact refl refl refl refl)
+-- the line was not written
+pub returns-in_err-write_skipped-clause-err : goal.returns-in_err-write_skipped-clause-err
+returns-in_err-write_skipped-clause-err g c =
+    let keeper = keeper_of g.K.Keep.content g.K.Keep.is_honest g.K.Keep.refusals g.K.Keep.may_leave in
+    of_each c.from_residual.result (
+      Taken,
+      skipped_line c.args.number None,
+      λ line read. subst (λ (now : Running g.row.K.Denot). EventTurn keeper now c.args.stop.now c.args.number line Taken (skipped_line c.args.number None) now c.args.stop.now) c.running.view_is
+          (IsElsewhere c.args.event.now read (λ e. absurd (cc (c.is_same.ensures.1 e, c.if-not-is_same.true))) refl refl refl refl),
+    )
 
--- the refusal was not spelled
-pub returns-in_err-write_malformed-in-Err-clause-err : goal.returns-in_err-write_malformed-in-Err-clause-err
-returns-in_err-write_malformed-in-Err-clause-err g c =
-    let fault = c.in-Err.fault in
-    of_each c.from_residual.result (Refused, malformed_line c.args.number fault, IsMalformed fault c.in-Err.ensures.exact refl refl refl refl)
-
-pub returns-in-Ok-clause-ok : goal.returns-in-Ok-clause-ok
-returns-in-Ok-clause-ok g c =
-    IfOk-weaker c.answer_read.result _ _ (λ turn r. (r.0, r.1, r.2 c.args.line.now c.in-Ok.ensures.exact)) c.answer_read.ensures.ok
-
-pub returns-in-Ok-clause-err : goal.returns-in-Ok-clause-err
-returns-in-Ok-clause-err g c =
-    if_err_then _ _ c.answer_read.result (λ _ r. (r.0, r.1, r.2 c.args.line.now c.in-Ok.ensures.exact)) c.answer_read.ensures.err
+pub returns-then-not-is_same-clause-ok : goal.returns-then-not-is_same-clause-ok
+returns-then-not-is_same-clause-ok g c =
+    let keeper = keeper_of g.K.Keep.content g.K.Keep.is_honest g.K.Keep.refusals g.K.Keep.may_leave in (
+      skipped_line c.args.number None,
+      c.in_ok-write_skipped.ensures,
+      λ line read. subst (λ (now : Running g.row.K.Denot). EventTurn keeper now c.args.stop.now c.args.number line Taken (skipped_line c.args.number None) now c.args.stop.now) c.running.view_is
+          (IsElsewhere c.args.event.now read (λ e. absurd (cc (c.is_same.ensures.1 e, c.if-not-is_same.true))) refl refl refl refl),
+    )

@@ -1,4 +1,4 @@
-use Rattle.std.proofs.Common.{◌≡◌, ◌∙◌, ℕ, List, sym, ap, subst}
+use Rattle.std.proofs.Common.{◌≡◌, ◌∙◌, ℕ, List, None, sym, ap, subst}
 use Rattle.std.proofs.lemmas.Result.{IfOk-weaker}
 use Rattle.ocpi_text.specs.Text.{key}
 use Rattle.line_runs.specs.declared.run.Turn.{Turn}
@@ -14,7 +14,7 @@ returns-clause-ok g c =
     let keeper = keeper_of g.K.Keep.content g.K.Keep.is_honest g.K.Keep.refusals g.K.Keep.may_leave in
     let now : Running g.row.K.Denot = record { party = c.running.inside.party; node = c.running.inside.node } in
     let next : Running g.row.K.Denot = record { party = c.running.inside.party; node = c.apply.new.self } in
-    let out = applied_lines c.args.number c.in-Ok.applied in
+    let out = applied_lines c.args.number None c.in-Ok.applied in
     let same = c.requires ∙ ap (λ (w : Running g.row.K.Denot). key w.party) (sym c.running.view_is) in
     IfOk-weaker c.tell_applied.result _ _ (λ turn r. (
       out,
@@ -30,7 +30,7 @@ returns-clause-err g c =
     let keeper = keeper_of g.K.Keep.content g.K.Keep.is_honest g.K.Keep.refusals g.K.Keep.may_leave in
     let now : Running g.row.K.Denot = record { party = c.running.inside.party; node = c.running.inside.node } in
     let next : Running g.row.K.Denot = record { party = c.running.inside.party; node = c.apply.new.self } in
-    let out = applied_lines c.args.number c.in-Ok.applied in
+    let out = applied_lines c.args.number None c.in-Ok.applied in
     let same = c.requires ∙ ap (λ (w : Running g.row.K.Denot). key w.party) (sym c.running.view_is) in
     of_each c.tell_applied.result (
       Taken,

@@ -15,11 +15,11 @@ use Rattle.node_runs.proofs.node_run.Program.answer_setup.Goals as goal
 -- the refusal was not written
 pub returns-in_err-write_malformed-in-Err-clause-err : goal.returns-in_err-write_malformed-in-Err-clause-err
 returns-in_err-write_malformed-in-Err-clause-err g c =
-    of_each c.from_residual.result (Ended, malformed_line c.args.number c.in-Err.fault, NoSetup c.in-Err.fault c.in-Err.ensures.exact refl refl c.self.view_is)
+    of_each c.from_residual.result (Ended, malformed_line c.args.number None c.in-Err.fault, NoSetup c.in-Err.fault c.in-Err.ensures.exact refl refl c.self.view_is)
 
 pub returns-in-Err-clause-ok : goal.returns-in-Err-clause-ok
 returns-in-Err-clause-ok g c =
-    (malformed_line c.args.number c.in-Err.fault, c.in_ok-write_malformed-in-Err.ensures, NoSetup c.in-Err.fault c.in-Err.ensures.exact refl refl c.self.view_is)
+    (malformed_line c.args.number None c.in-Err.fault, c.in_ok-write_malformed-in-Err.ensures, NoSetup c.in-Err.fault c.in-Err.ensures.exact refl refl c.self.view_is)
 
 pub returns-in-Ok-begin-clause-ok : goal.returns-in-Ok-begin-clause-ok
 returns-in-Ok-begin-clause-ok g c =

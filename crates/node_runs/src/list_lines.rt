@@ -1,0 +1,186 @@
+//! What comes of a line of several events, which are carried out one after another and committed together.
+
+ghost use Rattle.std.specs.Prelude.{◌≡◌, ◌<◌, ◌+◌, ◌≤◌, ◌++◌, List, IfOk, Ok, Option, Some, length, slice_get, string_bytes, string_capacity, string_len, ℕ};
+ghost use Rattle.json_text.specs.Fault.{Read};
+ghost use Rattle.node_cell.specs.Keepers.{keeper_of};
+ghost use Rattle.node_lines.specs.NodeLines.{node_line_in};
+ghost use Rattle.node_lines.specs.declared.node_line.NodeLine.TheVariants.{Several};
+ghost use Rattle.ocpi_types.specs.declared.node_events.NodeEvent.{NodeEvent as NodeEventOf};
+ghost use Rattle.node_runs.specs.Afters.{DoesAll, DoesPlaced, IsAfter, IsCommitted};
+ghost use Rattle.node_runs.specs.declared.fault.NodeStop.{NodeStop as NodeStopOf};
+
+use crate::beginning::Running;
+use crate::done_lines::{write_all, write_malformed, write_refused, write_skipped};
+use crate::event_lines::write_applied;
+use line_runs::Turn;
+use node_cell::{StepFault, Transaction, Uncommitted};
+use node_lines::Elements;
+use node_store::{Keep, StoreFault};
+use ocpi_json::JsonFault;
+use ocpi_text::Party;
+use ocpi_types::NodeEvent;
+use std::alloc::{AllocError, Global};
+
+/// What a line behind the setup left of the node.
+#[derive(Drop)]
+pub enum After<K: Keep> {
+    /// The node runs on. `turn` says how the line was answered, and is an error where memory ran out for the answer.
+    Runs {
+        running: Running<K>,
+        turn: Result<Turn, AllocError>,
+    },
+    /// The node has ended at a line of several events, of which nothing was committed and nothing is written.
+    Lost { keep: K, fault: StoreFault },
+}
+
+/// Carries out the events of a line one after another, commits them together, and then writes what came of each.
+///
+/// Where memory runs out, or the commit is refused, the node ends: nothing of the line is written.
+pub fn answer_list<K: Keep>(
+    alloc: Global,
+    running: Running<K>,
+    elements: &Elements<'_>,
+    number: u64,
+    output: &mut String,
+) -> After<K>
+    ensures { (line : List ℕ) → node_line_in line ≡ Ok (Several elements.now) → (stop : Option NodeStopOf)
+        → IsAfter (keeper_of K.content K.is_honest K.refusals K.may_leave) running stop number line (string_bytes output.old) (string_bytes output.new) result stop }
+{
+    let (party, node) = running.into_parts();
+    let mut transaction = node.begin();
+    let mut lines = String::new(alloc);
+    match answer_all(alloc, &party, &mut transaction, elements, number, &mut lines) {
+        Ok(turn) => commit_all(party, transaction, turn, lines.as_str(), output),
+        Err(_) => After::Lost {
+            keep: transaction.abandon(),
+            fault: StoreFault::Memory,
+        },
+    }
+}
+
+/// Commits what the events of a line changed, once there is room for what came of them, and then adds that to `output`.
+fn commit_all<K: Keep>(
+    party: Party,
+    transaction: Transaction<K>,
+    turn: Turn,
+    lines: &str,
+    output: &mut String,
+) -> After<K>
+    ensures { IsCommitted (keeper_of K.content K.is_honest K.refusals K.may_leave) party transaction turn lines.now (string_bytes output.old) (string_bytes output.new) result }
+{
+    match output.reserve(lines.len()) {
+        Ok(()) => {}
+        Err(_) => {
+            return After::Lost {
+                keep: transaction.abandon(),
+                fault: StoreFault::Memory,
+            };
+        }
+    }
+    match transaction.commit() {
+        Ok(node) => {
+            add_within(lines, output);
+            After::Runs {
+                running: Running { party, node },
+                turn: Ok(turn),
+            }
+        }
+        Err(uncommitted) => {
+            let Uncommitted { keep, fault } = uncommitted;
+            After::Lost { keep, fault }
+        }
+    }
+}
+
+/// Adds a text for which there is room.
+fn add_within(text: &str, output: &mut String)
+    requires { string_len output.old + length text.now ≤ string_capacity output.old }
+    ensures { string_bytes output.new ≡ string_bytes output.old ++ text.now }
+{
+    match output.push_str(text) {
+        Ok(()) => {}
+        Err(_) => unreachable!(),
+    }
+}
+
+/// Carries out the events of a line one after another in memory, and writes what comes of each, and then that all are
+/// done. An error is want of memory.
+fn answer_all<K: Keep>(
+    alloc: Global,
+    party: &Party,
+    transaction: &mut Transaction<K>,
+    elements: &Elements<'_>,
+    number: u64,
+    lines: &mut String,
+) -> Result<Turn, AllocError>
+    ensures ok { IfOk result (λ turn. DoesAll party.now transaction.old number elements.now turn (string_bytes lines.old) (string_bytes lines.new) transaction.new) }
+    ensures keep { transaction.new.keep ≡ transaction.old.keep }
+{
+    let mut turn = Turn::Taken;
+    for place in 0..elements.len() {
+        match answer_element(alloc, party, transaction, elements, place, number, lines) {
+            Ok(true) => {}
+            Ok(false) => turn = Turn::Refused,
+            Err(_) => return Err(AllocError),
+        }
+    }
+    write_all(number, elements.len(), lines)?;
+    Ok(turn)
+}
+
+/// Reads the event at that place of a line and lets it happen in memory. Answers whether it was taken: one that is
+/// malformed or refused is not. An error is want of memory.
+fn answer_element<K: Keep>(
+    alloc: Global,
+    party: &Party,
+    transaction: &mut Transaction<K>,
+    elements: &Elements<'_>,
+    place: usize,
+    number: u64,
+    lines: &mut String,
+) -> Result<bool, AllocError>
+    requires { place < length elements.now }
+    ensures ok { IfOk result (λ taken. (read : Read NodeEventOf) → slice_get elements.now place ≡ Some read
+        → DoesPlaced party.now transaction.old number place read taken (string_bytes lines.old) (string_bytes lines.new) transaction.new) }
+    ensures keep { transaction.new.keep ≡ transaction.old.keep }
+{
+    match elements.read(alloc, place) {
+        Ok(event) => answer_placed(alloc, party, transaction, &event, place, number, lines),
+        Err(JsonFault::Memory) => Err(AllocError),
+        Err(fault) => {
+            write_malformed(number, Some(place), fault, lines)?;
+            Ok(false)
+        }
+    }
+}
+
+/// Lets an event that was read happen in memory, where it is the node's, and writes what comes of it.
+fn answer_placed<K: Keep>(
+    alloc: Global,
+    party: &Party,
+    transaction: &mut Transaction<K>,
+    event: &NodeEvent,
+    place: usize,
+    number: u64,
+    lines: &mut String,
+) -> Result<bool, AllocError>
+    ensures ok { IfOk result (λ taken. (read : Read NodeEventOf) → read ≡ Ok event.now
+        → DoesPlaced party.now transaction.old number place read taken (string_bytes lines.old) (string_bytes lines.new) transaction.new) }
+    ensures keep { transaction.new.keep ≡ transaction.old.keep }
+{
+    if !event.node.is_same(party) {
+        write_skipped(number, Some(place), lines)?;
+        return Ok(true);
+    }
+    match transaction.apply(&event.kind) {
+        Ok(applied) => {
+            write_applied(alloc, applied, number, Some(place), lines)?;
+            Ok(true)
+        }
+        Err(StepFault::Core(fault)) => {
+            write_refused(number, Some(place), fault, lines)?;
+            Ok(false)
+        }
+        Err(StepFault::Memory) => Err(AllocError),
+    }
+}
