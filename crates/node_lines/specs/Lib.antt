@@ -1,0 +1,4 @@
+pub mod ElementReading
+pub mod Laws
+pub mod ListLines
+pub mod NodeLines
