@@ -20,18 +20,21 @@ use Rattle.line_runs.specs.declared.run.Turn.{Turn}
 use Rattle.line_runs.specs.declared.run.Turn.TheVariants.{Refused, Taken}
 use Rattle.node_keepers.specs.Opening.{Source}
 use Rattle.node_cell.specs.Keepers.{Keeper}
-use Rattle.node_cell.specs.Stored.{IsKeptFor, IsStored, Stored}
+use Rattle.node_cell.specs.Stored.{HoldsOneMore, IsKeptFor, IsStored, Stored}
 use Rattle.node_core.specs.Members.{IsMadeOfRows}
 use Rattle.node_rows.specs.Holds.{HoldsRows}
 use Rattle.node_rows.specs.Laws.{NodesKeepOpenings}
-use Rattle.stored_laws.specs.Nodes.{IsOfOpening, restarted}
-use Rattle.node_runs.specs.ListTurns.{AreDone, PlacedTurn}
+use Rattle.node_store.specs.declared.fault.StoreFault.{StoreFault}
+use Rattle.stored_laws.specs.Nodes.{CanStartAgain, IsOfOpening, restarted}
+use Rattle.node_runs.specs.ListTurns.{AreDone, LosesLine, PlacedTurn}
 use Rattle.node_runs.specs.ListTurns as lists
 use Rattle.node_runs.specs.NodeAnswers.{Ends, GoesOn, LineTurn, NodeLineGives, NodeTurn}
 use Rattle.node_runs.specs.NodeAnswers as answers
 use Rattle.node_runs.specs.NodeTurns.{EventTurn, IsMember, Running, Stage, Starts, opening}
 use Rattle.node_runs.specs.NodeTurns as turns
-use Rattle.node_runs.specs.NodeHistories.{As_left, HasHistory, One_more, RunsAreHistories, StopsGoOn, TwoRunsAreOne, WasRun, restart_of}
+use Rattle.node_cell.specs.Transactions.{LeavesAllOrNothing}
+use Rattle.node_cell.specs.Transactions as transactions
+use Rattle.node_runs.specs.NodeHistories.{As_left, Before_line, Behind_line, GoesOnAtLine, GoesOnFrom, HasHistory, LostLinesGoOn, LostLinesKeepRows, One_more, RunsAreHistories, StopsGoOn, TwoRunsAreOne, WasRun, restart_of}
 use Rattle.node_runs.specs.declared.fault.NodeStop.{NodeStop}
 
 -- ---- runs
@@ -187,18 +190,77 @@ module _ (keep : NodesKeepOpenings) where
       unrestarted (Operates first) (Provides s) is = absurd is
       unrestarted (Provides first) (Operates s) is = absurd is
 
+  -- of two runs of one node of a setup
+  module _ {K : Type 0} (keeper : Keeper K) (setup : List Node) (member : Node) (xs ys : List NodeEvent) (stopped now : Running K)
+      (first : WasRun keeper setup member xs stopped) (second : WasRun keeper setup member ys now) (later : keeper.is_honest second.start.keep) where
+    of_setup : IsOfOpening (opening_of setup member) stopped.node.state
+    of_setup =
+        let made = made_of_opening setup member first.starts.reopens.list first.start.state first.starts.reopens.made in
+        run_of_opening (opening_of setup member) first.start.state stopped.node.state xs made first.did
+
+    -- the second begins over the rows of a node of the opening
+    begins_at : (v : NodeState) → CanStartAgain v → IsOfOpening (opening_of setup member) v → HoldsRows (keeper.content second.starts.fresh) v → second.start.state ≡ restarted v
+    begins_at v starts is holds = second.starts.again later v (record { starts = starts; of_member = is; holds = holds })
+
+    -- over the rows of the first
+    begins_alike : CanStartAgain stopped.node.state → HoldsRows (keeper.content second.starts.fresh) stopped.node.state → second.start.state ≡ restarted stopped.node.state
+    begins_alike starts holds = begins_at stopped.node.state starts of_setup holds
+
+    -- over what one event more had made of them
+    begins_later : HoldsOneMore (keeper.content second.starts.fresh) stopped.node.state → GoesOnFrom stopped.node.state second.start.state
+    begins_later more =
+        let of_u = alike_of_opening (opening_of setup member) more.u stopped.node.state more.alike of_setup in
+        let of_v = keep.by_steps (opening_of setup member) more.u more.v more.event of_u more.step in
+        One_more more.u more.v more.event more.alike more.step (begins_at more.v more.starts of_v more.holds)
+
+    goes_on_from : IsStored keeper stopped.node → keeper.is_honest stopped.node.keep → keeper.may_leave stopped.node.keep (keeper.content second.starts.fresh)
+        → GoesOnFrom stopped.node.state second.start.state
+    goes_on_from stored honest left =
+        elim (stored.stops honest (keeper.content second.starts.fresh) left) [
+          | inl same ↦ As_left (begins_alike stored.starts (subst (λ c. HoldsRows c stopped.node.state) (sym same) (stored.holds honest)))
+          | inr more ↦ begins_later more
+        ]
+
+    -- the first ended at a line of several events
+    module _ (all : LeavesAllOrNothing keeper) (s t : Stage K) (number : ℕ) (line : List ℕ) (turn : Turn) (out : List ℕ)
+        (stored : IsStored keeper stopped.node) (fault : StoreFault) (k : K) (honest : keeper.is_honest k) where
+      goes_on_at : LosesLine keeper stopped number line fault k → keeper.may_leave k (keeper.content second.starts.fresh)
+          → GoesOnAtLine stopped.party stopped.node.state number line second.start.state
+      goes_on_at (lists.WasUnread is want same) left =
+          Before_line (goes_on_from stored (subst keeper.is_honest same honest) (subst (λ x. keeper.may_leave x (keeper.content second.starts.fresh)) same left))
+      goes_on_at (lists.WasStarved events read want same) left =
+          Before_line (goes_on_from stored (subst keeper.is_honest same honest) (subst (λ x. keeper.may_leave x (keeper.content second.starts.fresh)) same left))
+      goes_on_at (lists.WasDeclined events read turn out did after carries some is declines) left =
+          let steps = all_run carries.done in
+          let kept = all stopped.node did after _ k stored steps declines in
+          let of_after = run_of_opening (opening_of setup member) stopped.node.state after did of_setup steps in
+          elim (kept.stops honest (keeper.content second.starts.fresh) left) [
+            | transactions.Nothing same ↦
+                Before_line (As_left (begins_alike kept.starts (subst (λ c. HoldsRows c stopped.node.state) (sym same) (kept.holds honest))))
+            | transactions.Earlier more ↦ Before_line (begins_later more)
+            | transactions.All holds starts ↦ Behind_line events read turn out did after carries (begins_at after starts of_after holds)
+          ]
+
+      keeps_rows : LosesLine keeper stopped number line fault k → keeper.content second.starts.fresh ≡ keeper.content k
+          → second.start.state ≡ restarted stopped.node.state
+      keeps_rows (lists.WasUnread is want same) over =
+          let held = subst (λ c. HoldsRows c stopped.node.state) (sym (over ∙ ap keeper.content same)) (stored.holds (subst keeper.is_honest same honest)) in
+          begins_alike stored.starts held
+      keeps_rows (lists.WasStarved events read want same) over =
+          let held = subst (λ c. HoldsRows c stopped.node.state) (sym (over ∙ ap keeper.content same)) (stored.holds (subst keeper.is_honest same honest)) in
+          begins_alike stored.starts held
+      keeps_rows (lists.WasDeclined events read turn out did after carries some is declines) over =
+          let held = subst (λ c. HoldsRows c stopped.node.state) (sym (over ∙ declines.same honest)) (stored.holds (declines.earlier honest)) in
+          begins_alike stored.starts held
+
   pub stops_go_on : {K : Type 0} (keeper : Keeper K) → StopsGoOn keeper
   stops_go_on keeper setup member xs ys stopped now first second stored honest later left =
-      let state = stopped.node.state in
-      let made = made_of_opening setup member first.starts.reopens.list first.start.state first.starts.reopens.made in
-      let of_opening = run_of_opening (opening_of setup member) first.start.state state xs made first.did in
-      elim (stored.stops honest (keeper.content second.starts.fresh) left) [
-        | inl same ↦
-            let held = subst (λ c. HoldsRows c state) (sym same) (stored.holds honest) in
-            As_left (second.starts.again later state (record { starts = stored.starts; of_member = of_opening; holds = held }))
-        | inr more ↦
-            let of_u = alike_of_opening (opening_of setup member) more.u state more.alike of_opening in
-            let of_v = keep.by_steps (opening_of setup member) more.u more.v more.event of_u more.step in
-            One_more more.u more.v more.event more.alike more.step
-            (second.starts.again later more.v (record { starts = more.starts; of_member = of_v; holds = more.holds }))
-      ]
+      goes_on_from keeper setup member xs ys stopped now first second later stored honest left
+
+  pub lost_lines_go_on : {K : Type 0} (keeper : Keeper K) → LeavesAllOrNothing keeper → LostLinesGoOn keeper
+  lost_lines_go_on keeper all setup member xs ys stopped now first second s t number line turn out ends honest later left =
+      goes_on_at keeper setup member xs ys stopped now first second later all s t number line turn out ends.stored ends.fault ends.keep honest ends.loses left
+
+  pub lost_lines_keep_rows : {K : Type 0} (keeper : Keeper K) → LeavesAllOrNothing keeper → LostLinesKeepRows keeper
+  lost_lines_keep_rows keeper all setup member xs ys stopped now first second s t number line turn out ends honest later over =
+      keeps_rows keeper setup member xs ys stopped now first second later all s t number line turn out ends.stored ends.fault ends.keep honest ends.loses over

@@ -1,3 +1,5 @@
 mod NodeLemmas
+mod ListLemmas
+mod AfterLemmas
 mod EndLemmas
 mod HistoryLemmas

@@ -41,7 +41,37 @@ list-kept line is = subst BeginsList (sym (kept-twice line)) is
 of-node-cut : (party line : List ℕ) (x : NodeEvent) → IsOfNode party (take KEPT_BYTES line) x → IsOfNode party line x
 of-node-cut party line x is = record { read = sym (line-cut line) ∙ is.read; same = is.same }
 
-setup-list-turn-cut : {K : Type 0} (keeper : Keeper K) (now next : Running K) (number : ℕ) (line : List ℕ) (turn : Turn) (out : List ℕ)
+setup-turn-cut : {K : Type 0} (keeper : Keeper K) (source : Source K) (s t : Stage K) (number : ℕ) (line : List ℕ) (turn : Turn) (out : List ℕ)
+    → SetupTurn keeper source s number (take KEPT_BYTES line) turn out t → SetupTurn keeper source s number line turn out t
+setup-turn-cut k m s t number line turn out (turns.Opened setup read member is rows node begins taken written next) =
+    turns.Opened setup (sym (setup-cut line) ∙ read) member is rows node begins taken written next
+setup-turn-cut k m s t number line turn out (turns.Unbegun setup read asked spare stop unbegun ended written next) =
+    turns.Unbegun setup (sym (setup-cut line) ∙ read) asked spare stop unbegun ended written next
+setup-turn-cut k m s t number line turn out (turns.NoSetup fault fails ended written next) =
+    turns.NoSetup fault (subst (Fails fault) (setup-cut line) fails) ended written next
+
+event-turn-cut : {K : Type 0} (keeper : Keeper K) (now next : Running K) (stop stopped : Option NodeStop) (number : ℕ) (line : List ℕ) (turn : Turn) (out : List ℕ)
+    → EventTurn keeper now stop number (take KEPT_BYTES line) turn out next stopped → EventTurn keeper now stop number line turn out next stopped
+event-turn-cut k now next stop stopped number line turn out (turns.DidStep x is packets changed does some taken written party same) =
+    turns.DidStep x (of-node-cut now.party line x is) packets changed does some taken written party same
+event-turn-cut k now next stop stopped number line turn out (turns.WasIdle x is does taken written party same) =
+    turns.WasIdle x (of-node-cut now.party line x is) does taken written party same
+event-turn-cut k now next stop stopped number line turn out (turns.WasUnstored x is refused taken written left same) =
+    turns.WasUnstored x (of-node-cut now.party line x is) refused taken written left same
+event-turn-cut k now next stop stopped number line turn out (turns.IsElsewhere x read other taken written left same) =
+    turns.IsElsewhere x (sym (line-cut line) ∙ read) other taken written left same
+event-turn-cut k now next stop stopped number line turn out (turns.IsOfOtherRole x is passes taken written party same) =
+    turns.IsOfOtherRole x (of-node-cut now.party line x is) passes taken written party same
+event-turn-cut k now next stop stopped number line turn out (turns.IsMalformed fault fails other refused written left same) =
+    turns.IsMalformed fault (subst (Fails fault) (line-cut line) fails) (λ want is. other want (list-kept line is)) refused written left same
+event-turn-cut k now next stop stopped number line turn out (turns.IsRefused x is fault refuses refused written party same) =
+    turns.IsRefused x (of-node-cut now.party line x is) fault refuses refused written party same
+event-turn-cut k now next stop stopped number line turn out (turns.IsStarved x is refused written left same) =
+    turns.IsStarved x (of-node-cut now.party line x is) refused written left same
+event-turn-cut k now next stop stopped number line turn out (turns.IsLost x is fault fails ended written party same) =
+    turns.IsLost x (of-node-cut now.party line x is) fault fails ended written party same
+
+list-turn-cut : {K : Type 0} (keeper : Keeper K) (now next : Running K) (number : ℕ) (line : List ℕ) (turn : Turn) (out : List ℕ)
     → ListTurn keeper now number (take KEPT_BYTES line) turn out next → ListTurn keeper now number line turn out next
 list-turn-cut keeper now next number line turn out is = record {
   events = is.events;

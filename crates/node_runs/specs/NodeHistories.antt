@@ -1,6 +1,11 @@
 -- What a run made of its node, told by the steps that the node did: each run is a chain of them, and two runs over one
 -- store are one chain with a restart between.
-use Rattle.std.specs.Prelude.{◌≡◌, ℕ, Bool, List, [], ◌∷◌, ◌++◌, Option, Some}
+use Rattle.std.specs.Prelude.{◌≡◌, ℕ, Bool, List, [], ◌∷◌, ◌++◌, Option, Some, Ok}
+use Rattle.json_text.specs.Fault.{Read}
+use Rattle.node_lines.specs.NodeLines.{node_line_in}
+use Rattle.node_lines.specs.declared.node_line.NodeLine.TheVariants.{Several}
+use Rattle.ocpi_types.specs.declared.node_events.NodeEvent.{NodeEvent as Event}
+use Rattle.line_runs.specs.declared.run.Turn.{Turn}
 use Rattle.node_laws.specs.Runs.{Run}
 use Rattle.ocpi_types.specs.Setups.{party_of}
 use Rattle.ocpi_types.specs.declared.setup.Node.{Node}
@@ -15,7 +20,8 @@ use Rattle.node_cell.specs.Keepers.{Keeper}
 use Rattle.node_cell.specs.Stored.{IsStored, Stored}
 use Rattle.node_rows.specs.Holds.{StoresAlike}
 use Rattle.stored_laws.specs.Nodes.{restarted}
-use Rattle.node_runs.specs.NodeAnswers.{NodeLineGives}
+use Rattle.node_runs.specs.ListTurns.{CarriesOut}
+use Rattle.node_runs.specs.NodeAnswers.{Ends, NodeLineGives}
 use Rattle.node_runs.specs.NodeTurns.{IsMember, Running, Stage, Starts, opening}
 
 -- The node of that member of the setup was made of what a keeper kept, and then did these one after another, and nothing
@@ -71,3 +77,33 @@ StopsGoOn {K} keeper =
     → IsStored keeper stopped.node → keeper.is_honest stopped.node.keep → keeper.is_honest second.start.keep
     → keeper.may_leave stopped.node.keep (keeper.content second.starts.fresh)
     → GoesOnFrom stopped.node.state second.start.state
+
+-- ---- lines of several events
+
+-- The node starts again where the other stood before the line, or where one event that was refused earlier had brought
+-- it; or behind all events of the line. A part of them is never had alone.
+pub data GoesOnAtLine (party : List ℕ) (left : NodeState) (number : ℕ) (line : List ℕ) (start : NodeState) : Type 0 where
+  Before_line : GoesOnFrom left start → GoesOnAtLine party left number line start
+  Behind_line : (events : List (Read Event)) → node_line_in line ≡ Ok (Several events)
+      → (turn : Turn) (out : List ℕ) (did : List NodeEvent) (after : NodeState) → CarriesOut party left number events turn out did after
+      → start ≡ restarted after → GoesOnAtLine party left number line start
+
+-- Of two runs of one node of a setup, the first of which ended at a line of several events of which nothing was kept, and
+-- the second of which was made of what a stop left of the keeper: the node of the second goes on as before that line, or
+-- as behind the whole of it.
+abbrev pub LostLinesGoOn : {K : Type 0} → Keeper K → Type 0
+LostLinesGoOn {K} keeper =
+    (setup : List Node) (member : Node) (xs ys : List NodeEvent) (stopped now : Running K) (first : WasRun keeper setup member xs stopped) (second : WasRun keeper setup member ys now)
+    (s t : Stage K) (number : ℕ) (line : List ℕ) (turn : Turn) (out : List ℕ) (ends : Ends keeper stopped s number line turn out t)
+    → keeper.is_honest ends.keep → keeper.is_honest second.start.keep
+    → keeper.may_leave ends.keep (keeper.content second.starts.fresh)
+    → GoesOnAtLine stopped.party stopped.node.state number line second.start.state
+
+-- And where the second was made of what the keeper of the first kept at its end, the node goes on as before that line.
+abbrev pub LostLinesKeepRows : {K : Type 0} → Keeper K → Type 0
+LostLinesKeepRows {K} keeper =
+    (setup : List Node) (member : Node) (xs ys : List NodeEvent) (stopped now : Running K) (first : WasRun keeper setup member xs stopped) (second : WasRun keeper setup member ys now)
+    (s t : Stage K) (number : ℕ) (line : List ℕ) (turn : Turn) (out : List ℕ) (ends : Ends keeper stopped s number line turn out t)
+    → keeper.is_honest ends.keep → keeper.is_honest second.start.keep
+    → keeper.content second.starts.fresh ≡ keeper.content ends.keep
+    → second.start.state ≡ restarted stopped.node.state

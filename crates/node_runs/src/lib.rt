@@ -1,5 +1,6 @@
 //! The program `node`: one node of a setup over the keeper of its rows. Each line of the input is an event, and after
-//! what the node sends for it comes a line that says what became of it.
+//! what the node sends for it comes a line that says what became of it. A line may be an array of events too, which are
+//! committed together.
 //!
 //! ```
 //! let mut input = LineReader::new(reader);

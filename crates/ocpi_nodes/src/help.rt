@@ -82,12 +82,13 @@ pub const NODE: &str =
   The first is the setup, as of `play`. PARTY is one of its parties, in any case.
   Each other line is an event, as of `play`, but a delivery has the packet itself:
   {"at":"2025-01-01T10:00:00Z","event":"deliver","node":"BE/BEC","packet":{..}}
+  Or it is an array of at most 256 such events, which are carried out in turn and committed at once.
   A line has at most 1048576 bytes, and ends with a line feed, or a carriage return and a line feed;
   the last may lack its end. Empty lines are passed over. At most 1000000000 lines are read.
 
 Output, on standard output:
-  Each packet that the node sends, a line of JSON each, and after those of a line one that says what
-  became of it. Its first member is `done`:
+  Each packet that the node sends, a line of JSON each, and after those of an event one that says
+  what became of it. Its first member is `done`:
     opened     the setup was read: the number of rows that were loaded, and the serial of the last
                packet that the node sent
     stepped    rows were changed or packets sent
@@ -95,23 +96,26 @@ Output, on standard output:
     skipped    the event is another node's, or of the other role
     malformed  the line was refused as a line; a malformed or absent setup ends the run
     refused    the node refused the event
-  `line` is the number of the line, from 1, empty ones counted. All that a line gives is written
-  before the next line is carried out. With --echo each line is written before what it gives.
+    all        each event of an array is done: `events` is their number
+  `line` is the number of the line, from 1, empty ones counted. For an event of an array `event` is
+  its place in it, from 0, and `all` stands behind the last. All that a line gives is written before
+  the next line is carried out. With --echo each line is written before what it gives.
 
 Store: with --store FILE the node's rows are kept in that file, which is made where it is missing,
-  for its owner alone (mode 0600). Where it has rows, the node goes on from them. The rows that an
-  event changes are there before its packets are written. Until the end of the run FILE-wal is part
+  for its owner alone (mode 0600). Where it has rows, the node goes on from them. The rows that a
+  line changes are there before its packets are written. Until the end of the run FILE-wal is part
   of it. docs/STORE.md has the tables, and what to ask them.
   With --existing too no file is made: where none stands, the store refuses. Give it at each start
   but a node's first, since a node that begins anew gives numbers again that partners have seen.
 
 Exit status:
-  0  no line was refused
-  1  a line was refused, or reading or writing failed, which standard error says
+  0  no line, or event of one, was refused
+  1  one was refused, or reading or writing failed, which standard error says
   2  the command line is wrong, or the setup has no such party
-  3  the store refused, or no such node has just its rows: standard error has `store: N Name`, and
-     then which file or row, why, and what to do. That ends the run, and nothing of that line is
-     written but its echo; where it could not be closed at the end, all is written
+  3  the store refused, memory ran out for an array of events, or no such node has just the rows:
+     standard error has `store: N Name`, and then which file or row, why, and what to do. That ends
+     the run, and nothing of that line is written but its echo; where the store could not be closed
+     at the end, all is written
 
 Example, in the folder of the repository:
   ./ocpi_nodes node BE/BEC --store be.db < examples/operators_day.jsonl"#;

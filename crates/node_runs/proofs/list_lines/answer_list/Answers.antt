@@ -1,0 +1,2 @@
+use Rattle.node_runs.proofs.AfterLemmas as afters
+use Rattle.node_runs.proofs.ListLemmas as lists
