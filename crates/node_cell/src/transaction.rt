@@ -197,9 +197,9 @@ impl<K: Keep> Transaction<K> {
             alloc: _,
             node,
             keep,
-            changes,
+            changes: unkept,
         } = self;
-        drop(changes);
+        drop(unkept);
         drop(node);
         keep
     }
