@@ -1,5 +1,5 @@
 -- Whether a text begins as a JSON array does, byte by byte.
-use Rattle.std.proofs.Common.{◌≡◌, ◌<◌, ◌≤◌, ◌↔◌, ◌==◌, ℕ, suc, IsTrue, false, List, [], ◌∷◌, ◌++◌, All, length, take, drop, get_or, refl, sym, ap, subst, rules, arith}
+use Rattle.std.proofs.Common.{◌≡◌, ◌<◌, ◌≤◌, ◌↔◌, ◌==◌, ◌+◌, ℕ, suc, IsTrue, false, List, [], ◌∷◌, ◌++◌, All, length, take, drop, get_or, refl, sym, ap, subst, ◌∙◌, rules, arith}
 use Rattle.std.proofs.Math.Seq.{drop-cons}
 use Rattle.std.proofs.lemmas.List.{drop_all}
 use Rattle.std.proofs.lemmas.List.Elements.{All-cons, All-head, All-nil, All-tail}
@@ -40,21 +40,20 @@ IsSoFar text i = BeginsList (drop i text) ↔ BeginsList text
 pub so_far : (text : List ℕ) → IsSoFar text 0
 so_far text = (λ b. b, λ b. b)
 
-pub one_more : (text : List ℕ) (i : ℕ) → i < length text → IsSpace (get_or text i 0) → IsSoFar text i → IsSoFar text (suc i)
+pub one_more : (text : List ℕ) (i : ℕ) → i < length text → IsSpace (get_or text i 0) → IsSoFar text i → IsSoFar text (i + 1)
 one_more text i lt p h =
     let c = get_or text i 0 in
-    let at : drop i text ≡ c ∷ drop (suc i) text = drop-cons text i 0 lt in
-    (
-      λ b. h.0 (subst BeginsList (sym at) (begins_on c (drop (suc i) text) p b)),
-      λ b. begins_back c (drop (suc i) text) p (subst BeginsList at (h.1 b)),
+    let on : suc i ≡ i + 1 = omega arith in
+    let at : drop i text ≡ c ∷ drop (i + 1) text = drop-cons text i 0 lt ∙ ap (λ (n : ℕ). c ∷ drop n text) on in (
+      λ b. h.0 (subst BeginsList (sym at) (begins_on c (drop (i + 1) text) p b)),
+      λ b. begins_back c (drop (i + 1) text) p (subst BeginsList at (h.1 b)),
     )
 
 pub found : (text : List ℕ) (i : ℕ) → i < length text → (IsSpace (get_or text i 0) → ⊥) → IsSoFar text i → (get_or text i 0 ≡ 91) ↔ BeginsList text
 found text i lt p h =
     let c = get_or text i 0 in
     let rest = drop (suc i) text in
-    let at : drop i text ≡ c ∷ rest = drop-cons text i 0 lt in
-    (
+    let at : drop i text ≡ c ∷ rest = drop-cons text i 0 lt in (
       λ e. h.0 (subst BeginsList (sym at) (subst (λ (x : ℕ). BeginsList (x ∷ rest)) (sym e) (begins_here rest))),
       λ b. let g = subst BeginsList at (h.1 b) in here_by c rest g.spaces g.rest g.all g.is p,
     )
