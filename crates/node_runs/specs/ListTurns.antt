@@ -40,7 +40,7 @@ pub data PlacedTurn (party : List ℕ) (now : NodeState) (number place : ℕ) (r
     (turn : Turn) (out : List ℕ) (did : List Deed) (next : NodeState) : Type 0 where
   -- the node did it; `changed` is whether rows changed
   WasDone : (x : NodeEvent) → IsOwn party read x → (deed : Deed) → Brings now x.kind (input_of deed) → NodeStep now deed next
-      → (changed : Bool) → IsTrue changed ↔ (changes_of deed ≢ [])
+      → (changed : Bool) → (IsTrue changed ↔ (changes_of deed ≢ []))
       → turn ≡ Taken → out ≡ packet_lines (packets_of deed) ++ step_line number (Some place) (packets_of deed) changed → did ≡ deed ∷ []
       → PlacedTurn party now number place read turn out did next
   -- the storing of the event was refused, where it was carried out
