@@ -30,7 +30,7 @@ import tempfile
 
 from fail_allocations_in_weave import FAILED, build
 
-STORE, LINE = b"store: 4 Memory\n", re.compile(rb'"line":\d+,?')
+STORE, LINE = b"store: 4 Memory\n", re.compile(rb',"line":\d+')
 # How many runs are begun before it is seen whether one of them makes so many allocations.
 AT_ONCE = 200
 # What may come of a run.

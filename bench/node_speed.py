@@ -16,7 +16,7 @@ packet that its sender wrote in `play`. It tells
 - over a store of so many charge detail records of a provider, and no other rows: the time from the start to the first
   `done`, and the processor time of a run without events; beside each that of `settle`;
 - of so many `put_token` deliveries at an operator, given at once by 1, by 10 and by 100 a line, in memory and with a
-  store: processor time and wall time of a delivery, and with a store how often the run syncs, where `strace` is there.
+  store: processor time and wall time of a delivery, and with a store how often all of them sync, where `strace` is.
   Beside these, what stock SQLite takes that puts the same rows in the same transactions. These stores lie on a disk.
 
 Each figure is a median, and behind each pair stands the ratio of the two. Stores lie in memory where there is such a
@@ -375,9 +375,11 @@ class Groups:
         os.remove(path)
         return taken
 
-    def syncs(self, size):
-        store = self.disk.new(".db")
-        return syncs_of([*self.words, "--store", store], self.sources[size])
+    def syncs(self):
+        """How often the setup alone syncs, which opens a new store and closes it, and for each size the deliveries."""
+        sources = [self.setup, *(self.sources[size] for size in SIZES)]
+        first, *counts = (syncs_of([*self.words, "--store", self.disk.new(".db")], source) for source in sources)
+        return {} if first is None else {0: first, **{size: count - first for size, count in zip(SIZES, counts)}}
 
     def tell(self, name, taken, syncs=None):
         """Tells the medians of what was taken for each size."""
@@ -385,7 +387,7 @@ class Groups:
         for size in SIZES:
             processor, wall = (statistics.median(column) for column in zip(*(turn[size] for turn in taken)))
             first = first or (processor, wall)
-            synced = "" if syncs is None or syncs[size] is None else f", {syncs[size]} syncs"
+            synced = f", {syncs[size]} syncs and {syncs[0]} of opening and closing" if syncs else ""
             print(f"{name}, by {size} a line: {processor / self.given.deliveries * 1e6:.1f} us of the processor a delivery, "
                   f"{wall / self.given.deliveries * 1e6:.1f} us in all{synced}; by one 1, so {processor / first[0]:.2f} and "
                   f"{wall / first[1]:.2f}", flush=True)
@@ -397,7 +399,7 @@ def compare_groups(given, room, read):
         groups = Groups(given, read, room, Room(folder))
         for name, take, syncs in (
                 ("in memory", lambda size: groups.of_deliveries(size, False), None),
-                ("with a store", lambda size: groups.of_deliveries(size, True), {size: groups.syncs(size) for size in SIZES}),
+                ("with a store", lambda size: groups.of_deliveries(size, True), groups.syncs()),
                 ("stock SQLite", groups.of_sqlite, None)):
             groups.tell(name, [{size: take(size) for size in SIZES} for _ in range(given.runs)], syncs)
 
