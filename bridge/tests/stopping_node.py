@@ -1,9 +1,9 @@
 """Stands between a bridge and the real program, and stops both at a point that a file beside the store names.
 
-The file `STORE.stop` has a point and what stops, at the next event that is no tick. The points: `before` the program
-has the line, `silent` once it has answered and nobody has seen that, `torn` within the first line that it gives, `begun`
-where only that is seen, `cut` within its `done`, and `after` all of it. What stops is the `node`, or the `bridge`: then nothing more is
-answered, until the input ends.
+The file `STORE.stop` has a point and what stops, at the next line with an event that is no tick. The points: `before`
+the program has the line, `silent` once it has answered and nobody has seen that, `torn` within the first line that it
+gives, `begun` where only that is seen, `cut` within its `done`, and `after` all of it. What stops is the `node`, or the
+`bridge`: then nothing more is answered, until the input ends.
 """
 import json
 import os
