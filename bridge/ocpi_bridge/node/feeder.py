@@ -1,10 +1,10 @@
-"""Feeds a node, a line at a time with all that waits, so that no stop of the node or of the bridge loses an event or has
-it done twice.
+"""Feeds a node, a line at a time with all that waits, so that no stop of the node or of the bridge loses an event or
+has it done twice.
 
 Each line, but a tick, is kept in `state` until its `done` came, with the serial of the last packet that was seen by
 then. After a stop a kept line is fed again, but where a packet of it came out or the node's serial has risen: then it
-was carried out, and what it gave is lost, as links lose packets. A line of several events was carried out as a whole, or
-not at all: whatever came out of it, even cut, tells that it was.
+was carried out, and what it gave is lost, as links lose packets. A line of several events was carried out as a whole,
+or not at all: whatever came out of it, even cut, tells that it was.
 """
 import asyncio
 import logging
