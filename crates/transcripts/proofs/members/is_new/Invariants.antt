@@ -3,7 +3,7 @@ use Rattle.std.specs.Prelude.{Contains}
 use Rattle.ocpi_text.specs.Text.{key}
 use Rattle.ocpi_types.specs.Setups.{party_of}
 use Rattle.transcripts.specs.Told.{Told}
-use Rattle.transcripts.proofs.reading.is_new.Given as goal
+use Rattle.transcripts.proofs.members.is_new.Given as goal
 
 -- no transcript before this one is of the party
 abbrev pub invariant-loop-transcript : goal.invariant-loop-transcript
