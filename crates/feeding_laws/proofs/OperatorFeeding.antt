@@ -123,10 +123,10 @@ module _ (s : State) (c : Change) where
 
 -- ---- an EVSE goes out of service, or comes back
 
-withdrawn : (m : OutOfService) (evse : List ℕ) → works (insert m evse tt) evse ≡ false
+pub withdrawn : (m : OutOfService) (evse : List ℕ) → works (insert m evse tt) evse ≡ false
 withdrawn m evse = ap (λ (o : Option (Unit {0})). not (is_some o)) (get-insert_same text_total text_exact m evse tt)
 
-restored : (m : OutOfService) (evse : List ℕ) → works (remove m evse) evse ≡ true
+pub restored : (m : OutOfService) (evse : List ℕ) → works (remove m evse) evse ≡ true
 restored m evse = ap (λ (o : Option (Unit {0})). not (is_some o)) (get-remove_same text_total text_exact m evse)
 
 -- an EVSE that already is what it is to be is left as it is

@@ -1,6 +1,7 @@
 //! The laws of events that are fed again.
 
 ghost use Rattle.feeding_laws.specs.Feeding.{FeedingAgainDoesTheSame, FeedingAgainRefusesTheSame, SerialTellsOfSending};
+ghost use Rattle.feeding_laws.specs.Lines.{LinesMayBeFedAgain, SerialTellsOfLines};
 
 /// Where a step sends nothing, the same event does from the restart of the node after it what it does from the restart
 /// of the node before it: the packets are the same, and so is the node that is left. A `token` at a provider without
@@ -17,4 +18,22 @@ pub fn feeding_again_refuses_the_same()
 /// Whether a step sent anything is told by the serial of the last packet: it rises then, and only then.
 pub fn serial_tells_of_sending()
     ensures { SerialTellsOfSending }
+{}
+
+/// Where no event of a line sends anything, the whole line does from the restart of the node behind it what it does from
+/// the restart of the node before it. Each event is answered alike, with the same packets, and the node that is left is
+/// the same. It holds for lines in order: acknowledgements, responses to commands and `service` first, then at most one
+/// `tick` of an operator, then all others. A `token` at a provider without operators is the one exception.
+///
+/// In another order it is not true. Of a swipe at an EVSE that is out of service, and its service behind it, neither sends
+/// anything; once both are carried out the same swipe begins a session. Of a `tick` before an acknowledgement the first
+/// sends, from the restart before the line, the push that the second ends.
+pub fn lines_may_be_fed_again()
+    ensures { LinesMayBeFedAgain }
+{}
+
+/// In whatever order its events stand, the serial of the last packet rises by just the packets of a line. So it tells
+/// whether any event of the line sent one.
+pub fn serial_tells_of_lines()
+    ensures { SerialTellsOfLines }
 {}
