@@ -8,6 +8,7 @@ pub mod Feeding
 pub mod AnswerBodies
 pub mod OperatorSilent
 pub mod OperatorSettling
+pub mod OperatorPassive
 pub mod OperatorLines
 pub mod ProviderSettling
 pub mod ProviderLines

@@ -1,8 +1,6 @@
 -- A line of several events that reaches a node once more after a stop.
-use Rattle.std.proofs.Common.{◌≡◌, ◌⊎◌, ◌+◌, ◌≤◌, ℕ, List, [], ◌∷◌, ◌++◌, map, length, inl, inr, refl, sym, ap, subst, ◌∙◌, arith, length-append}
-use Rattle.std.specs.Prelude.{◌↔◌, Contains, ⊤}
-use Rattle.std.proofs.lemmas.List.Elements.{Contains-append_left, Contains-append_right}
-use Rattle.tables.proofs.Elements.{in_front, in_map, in_none, not_none}
+use Rattle.std.proofs.Common.{◌≡◌, ◌+◌, List, [], ◌∷◌, map, length, refl, sym, ap, subst, ◌∙◌, arith, length-append}
+use Rattle.tables.proofs.Elements.{in_map, not_none}
 use Rattle.ocpi_types.specs.declared.packet.Packet.{Packet}
 use Rattle.node_laws.specs.Runs.{Run}
 use Rattle.node_laws.proofs.Runs.{run_of_part}
@@ -10,7 +8,6 @@ use Rattle.operator_rows.specs.Sound.{IsConsistent}
 use Rattle.operator_rows.specs.State as operator_state
 use Rattle.operator_rows.specs.Steps as operator_rows
 use Rattle.operator_steps.specs.Events as operator
-use Rattle.operator_steps.proofs.Orderly.{in_later}
 use Rattle.provider_rows.specs.State as provider_state
 use Rattle.provider_rows.specs.Steps as provider_rows
 use Rattle.provider_steps.specs.Events as provider
@@ -19,7 +16,7 @@ use Rattle.stored_laws.proofs.Starting.{nodes_can_start_again}
 use Rattle.world_steps.specs.Network.{Input, OfOperator, OfProvider}
 use Rattle.world_steps.specs.Steps.{AtOperator, AtProvider, NodeEvent, NodeStep, input_of, packets_of}
 use Rattle.world_steps.specs.World.{NodeState, Operates, Provides}
-use Rattle.feeding_laws.specs.Lines.{Answer, Answers, IsInOrder, LinesMayBeFedAgain, MayExpire, Refused, Sent, SerialTellsOfLines, Settles, Takes, TakesLine, TakesSilently, Turn, sent_by, sent_in}
+use Rattle.feeding_laws.specs.Lines.{Answer, Answers, IsInOrder, LinesMayBeFedAgain, Refused, Sent, SerialTellsOfLines, Takes, TakesLine, TakesSilently, Turn, sent_by, sent_in}
 use Rattle.feeding_laws.proofs.Feeding.{for_none, no_packets, same_operator_input, same_provider_input, serial_rises}
 use Rattle.feeding_laws.proofs.OperatorLines as operator_lines
 use Rattle.feeding_laws.proofs.OperatorLines.{operator_line_again}
@@ -29,31 +26,6 @@ use Rattle.feeding_laws.proofs.ProviderLines as provider_lines
 use Rattle.feeding_laws.proofs.ProviderLines.{provider_line_again}
 use Rattle.feeding_laws.proofs.ProviderSettling as providers
 use Rattle.feeding_laws.proofs.ProviderSettling.{ProviderAnswers, ProviderTakes, ProviderTurn}
-
--- ---- the order of a line, event by event
-
-abbrev AreOthers : List Input → Type 0
-AreOthers line = (i : Input) → Contains line i → (¬ Settles i) × (¬ MayExpire i)
-
-abbrev AreOrdered : List Input → Type 0
-AreOrdered [] = ⊤
-AreOrdered (i ∷ line) = (Settles i × AreOrdered line) ⊎ ((MayExpire i × AreOthers line) ⊎ AreOthers (i ∷ line))
-
-ordered_others : (line : List Input) → AreOthers line → AreOrdered line
-ordered_others [] others = tt
-ordered_others (i ∷ line) others = inr (inr others)
-
-ordered_moments : (moments others : List Input) → ((i : Input) → Contains moments i → MayExpire i) → length moments ≤ 1 → AreOthers others → AreOrdered (moments ++ others)
-ordered_moments [] others expire few rest = ordered_others others rest
-ordered_moments (i ∷ []) others expire few rest = inr (inl (expire i (in_front i []), rest))
-ordered_moments (i ∷ (j ∷ more)) others expire few rest = absurd (omega (arith, few))
-
-ordered_all : (settling more : List Input) → ((i : Input) → Contains settling i → Settles i) → AreOrdered more → AreOrdered (settling ++ more)
-ordered_all [] more settle ordered = ordered
-ordered_all (i ∷ settling) more settle ordered = inl (settle i (in_front i settling), ordered_all settling more (λ j h. settle j (in_later i settling j h)) ordered)
-
-ordered_line : (line : List Input) → IsInOrder line → AreOrdered line
-ordered_line line h = subst AreOrdered (sym h.line_is) (ordered_all h.settling (h.moments ++ h.others) h.settle (ordered_moments h.moments h.others h.expire h.few h.rest))
 
 abbrev inputs : List Turn → List Input
 inputs line = map (λ (x : Turn). x.input) line
@@ -122,13 +94,12 @@ module _ (R : NodeState → Turn → NodeState → Type 0) (takes : (n m : NodeS
         run = (one.after, next s one.after one.turn same one.takes, more.run);
       }
 
-operator_order : (xs : List OperatorTurn) → AreOrdered (inputs (map of_operator xs)) → operator_lines.AreInOrder xs
-operator_order [] ordered = tt
-operator_order (x ∷ xs) ordered = elim ordered [
-  | inl (settles, later) ↦ inl (settles, operator_order xs later)
-  | inr (inl (expires, others)) ↦ inr (inl (expires, λ y i. others (OfOperator y.input) (in_map (λ (z : Turn). z.input) (map of_operator xs) (of_operator y) (in_map of_operator xs y i))))
-  | inr (inr others) ↦ inr (inr (λ y i. others (OfOperator y.input) (in_map (λ (z : Turn). z.input) (map of_operator (x ∷ xs)) (of_operator y) (in_map of_operator (x ∷ xs) y i))))
-]
+operator_order : (xs : List OperatorTurn) → IsInOrder (inputs (map of_operator xs)) → operator_lines.AreInOrder xs
+operator_order [] order = tt
+operator_order (x ∷ xs) order = (
+  λ anew y i. order.0 anew (OfOperator y.input) (in_map (λ (z : Turn). z.input) (map of_operator xs) (of_operator y) (in_map of_operator xs y i)),
+  operator_order xs order.1,
+)
 
 operator_same : (xs ys : List OperatorTurn) → inputs (map of_operator ys) ≡ inputs (map of_operator xs) → operator_lines.AreSameEvents xs ys
 operator_same [] [] is = tt
@@ -194,13 +165,12 @@ module _ (R : NodeState → Turn → NodeState → Type 0) (takes : (n m : NodeS
         run = (one.after, next s one.after one.turn same one.takes, more.run);
       }
 
-provider_order : (xs : List ProviderTurn) → AreOrdered (inputs (map of_provider xs)) → provider_lines.AreInOrder xs
-provider_order [] ordered = tt
-provider_order (x ∷ xs) ordered = elim ordered [
-  | inl (settles, later) ↦ inl (settles, provider_order xs later)
-  | inr (inl (expires, others)) ↦ absurd expires
-  | inr (inr others) ↦ inr (λ y i. (others (OfProvider y.input) (in_map (λ (z : Turn). z.input) (map of_provider (x ∷ xs)) (of_provider y) (in_map of_provider (x ∷ xs) y i))).0)
-]
+provider_order : (xs : List ProviderTurn) → IsInOrder (inputs (map of_provider xs)) → provider_lines.AreInOrder xs
+provider_order [] order = tt
+provider_order (x ∷ xs) order = (
+  λ anew y i. order.0 anew (OfProvider y.input) (in_map (λ (z : Turn). z.input) (map of_provider xs) (of_provider y) (in_map of_provider xs y i)),
+  provider_order xs order.1,
+)
 
 provider_same : (xs ys : List ProviderTurn) → inputs (map of_provider ys) ≡ inputs (map of_provider xs) → provider_lines.AreSameEvents xs ys
 provider_same [] [] is = tt
@@ -216,7 +186,7 @@ operator_again s m k line again fine run order same more =
     let first = operator_line TakesSilently (λ n m x h. h.takes) operators.Silently (λ s t x h takes. record { takes = takes; silent = h.silent }) s line m run in
     let behind = subst (λ (z : NodeState). TakesLine (restarted z) again k) first.node_is more in
     let second = operator_line Takes (λ n m x h. h) OperatorTakes (λ s t x h takes. takes) (operator_rows.restarted first.after) again k behind in
-    let in_order = operator_order first.turns (ordered_line (inputs (map of_operator first.turns)) (subst (λ (l : List Turn). IsInOrder (inputs l)) first.line_is order)) in
+    let in_order = operator_order first.turns (subst (λ (l : List Turn). IsInOrder (inputs l)) first.line_is order) in
     let events = operator_same first.turns second.turns (ap inputs (sym second.line_is) ∙ same ∙ ap inputs first.line_is) in
     let before = operator_line_again s first.after second.after first.turns second.turns fine first.run in_order events second.run in
     let up = run_of_part OperatorTakes Takes Operates of_operator (λ s t x h. operator_takes s t x.input x.answer h) (operator_rows.restarted s) second.after second.turns before in
@@ -231,7 +201,7 @@ provider_again s m k line again run order same more =
     let first = provider_line TakesSilently (λ n m x h. h.takes) providers.Silently next s line m run in
     let behind = subst (λ (z : NodeState). TakesLine (restarted z) again k) first.node_is more in
     let second = provider_line Takes (λ n m x h. h) ProviderTakes (λ s t x h takes. takes) (provider_rows.restarted first.after) again k behind in
-    let in_order = provider_order first.turns (ordered_line (inputs (map of_provider first.turns)) (subst (λ (l : List Turn). IsInOrder (inputs l)) first.line_is order)) in
+    let in_order = provider_order first.turns (subst (λ (l : List Turn). IsInOrder (inputs l)) first.line_is order) in
     let events = provider_same first.turns second.turns (ap inputs (sym second.line_is) ∙ same ∙ ap inputs first.line_is) in
     let before = provider_line_again s first.after second.after first.turns second.turns first.run in_order events second.run in
     let up = run_of_part ProviderTakes Takes Provides of_provider (λ s t x h. provider_takes s t x.input x.answer h) (provider_rows.restarted s) second.after second.turns before in

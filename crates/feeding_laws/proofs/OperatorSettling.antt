@@ -1,6 +1,5 @@
 -- What settles an operator's rows: once it is carried out, the operator does no more by it.
-use Rattle.std.proofs.Common.{◌≡◌, ◌⊎◌, ℕ, Bool, true, false, not, List, [], ◌∷◌, inl, inr, refl, sym, ap, subst, ◌∙◌}
-use Rattle.std.specs.Prelude.{None, Some, Option, is_some}
+use Rattle.std.proofs.Common.{◌≡◌, ◌⊎◌, ◌+◌, ◌≤◌, ℕ, Bool, List, [], ◌∷◌, length, inl, inr, refl, sym, ap, subst, ◌∙◌, arith}
 use Rattle.std.specs.Cmp.{nat_cmp_total}
 use Rattle.std.specs.FinMap.{get, insert, nat_cmp-IsAntisymmetric, remove}
 use Rattle.tables.specs.Keys.{text_exact, text_total}
@@ -8,7 +7,7 @@ use Rattle.tables.proofs.Elements.{in_none}
 use Rattle.tables.proofs.Maps.{get-insert_other, get-remove_other, get-remove_same}
 use Rattle.tables.proofs.Options.{not_both}
 use Rattle.ocpi_text.specs.Text.{key}
-use Rattle.ocpi_types.specs.declared.packet.Body.{Body}
+use Rattle.ocpi_text.specs.Whole.{max_whole}
 use Rattle.ocpi_types.specs.declared.packet.Body.TheVariants as body
 use Rattle.ocpi_types.specs.declared.packet.Packet.{Packet}
 use Rattle.ocpi_types.specs.declared.replies.Ack.{Ack}
@@ -18,7 +17,7 @@ use Rattle.ocpi_types.specs.declared.rows.Row.TheVariants as row
 use Rattle.ocpi_types.specs.declared.rows.RowKey.TheVariants as keys
 use Rattle.site_book.specs.Sites.{IsEvse, OutOfService, works}
 use Rattle.node_steps.specs.Acts as act
-use Rattle.node_steps.specs.Acts.{Act, acknowledged}
+use Rattle.node_steps.specs.Acts.{Act, acknowledged, all_messages, all_requests}
 use Rattle.node_steps.specs.Drafts.{IsInRange, Step, counted}
 use Rattle.node_steps.specs.Peers.{IsPeer}
 use Rattle.node_steps.specs.declared.fault.NodeFault.{NodeFault}
@@ -27,17 +26,19 @@ use Rattle.node_steps.proofs.Gathering.{step_of_change, step_of_none}
 use Rattle.operator_rows.specs.State.{State}
 use Rattle.operator_rows.specs.Steps.{after_full, restarted}
 use Rattle.operator_rows.specs.Stored.{changed}
-use Rattle.operator_steps.specs.Events.{Arrives, Asks, Event, Input, Serves, event_out}
+use Rattle.operator_steps.specs.Events.{Arrives, Asks, Input, Restarts, Serves}
 use Rattle.operator_steps.specs.Moves.{AreInRange, Out, Work, acted, counters_of, idle, quiet}
 use Rattle.operator_steps.specs.Service as service
 use Rattle.operator_steps.specs.Service.{ServiceLine}
 use Rattle.operator_steps.specs.Steps as packets
-use Rattle.operator_steps.specs.Steps.{Acknowledges, Comes, IsForMe, PacketLine}
-use Rattle.world_steps.specs.Steps.{Done, OperatorDoes}
+use Rattle.operator_steps.specs.Steps.{Acknowledges, Comes, IsForMe, IsTaken, PacketLine}
+use Rattle.world_steps.specs.Steps.{Done, OperatorDoes, OperatorRefuses, Restarted}
+use Rattle.feeding_laws.specs.Lines.{IsOfEvent}
 use Rattle.feeding_laws.proofs.AnswerBodies.{Answering}
 use Rattle.feeding_laws.proofs.OperatorEvents.{Steps}
-use Rattle.feeding_laws.proofs.OperatorFeeding.{after_one, left, one, restored, unchanged, withdrawn}
+use Rattle.feeding_laws.proofs.OperatorFeeding.{after_one, left, restored, unchanged, withdrawn}
 use Rattle.feeding_laws.proofs.OperatorSilent.{Fewer}
+use Rattle.feeding_laws.proofs.Sending.{silent}
 
 -- ---- an operator that has nothing to do
 
@@ -64,6 +65,74 @@ still_in_range s c counts range = record {
   numbers = λ k n j. absurd (in_none _ j);
 }
 
+-- ---- what a step is
+
+-- what the input asked for, by which this was sent and left
+pub record Asked (s : State) (i : Input) (packets : List Packet) (t : State) : Type 0 where
+  pub work : Work
+  pub line : Asks s i work
+  pub in_range : AreInRange s work.acts
+  pub state : t ≡ (acted s work).state
+  pub sent : packets ≡ (acted s work).packets
+
+-- what a step by the input was, where it is no restart
+pub asked_step : (s t : State) (i : Input) (packets : List Packet) → (i ≡ Restarts → ⊥) → Steps s i packets t → Asked s i packets t
+asked_step s t i packets asked steps = told steps.does
+  where
+    told : OperatorDoes s steps.event t → Asked s i packets t
+    told (Done by) = record {
+      work = by.work;
+      line = subst (λ (x : Input). Asks s x by.work) steps.input by.line;
+      in_range = by.in_range;
+      state = ap (λ (o : Out). o.state) by.out_is;
+      sent = sym steps.sends ∙ ap (λ (o : Out). o.packets) by.out_is;
+    }
+    told (Restarted now is) = absurd (asked (sym steps.input ∙ now))
+
+-- no packet, no message
+pub no_message : (s t : State) (i : Input) (packets : List Packet) (step : Asked s i packets t) → packets ≡ [] → all_messages step.work.acts ≡ []
+no_message s t i packets step none = silent s.party s.rows.serial (all_messages step.work.acts) (sym step.sent ∙ none)
+
+-- what is asked for is nothing, so it does nothing
+pub idle_by : (a b : State) (i : Input) (packets : List Packet) → (i ≡ Restarts → ⊥) → ((work : Work) → Asks a i work → work ≡ quiet []) → Steps a i packets b → (packets ≡ []) × (b ≡ a)
+idle_by a b i packets asked idle steps =
+    let step = asked_step a b i packets asked steps in
+    let out = ap (acted a) (idle step.work step.line) ∙ idle_is a in
+    (step.sent ∙ ap (λ (o : Out). o.packets) out, step.state ∙ ap (λ (o : Out). o.state) out)
+
+below : (a b most : ℕ) → a + b ≤ most → a + 0 ≤ most
+below a b most h = omega (arith, h)
+
+-- no acts take no numbers
+pub none_in_range : (s : State) (acts : List Act) → AreInRange s acts → AreInRange (restarted s) []
+none_in_range s acts range = record {
+  counters = record {
+    serial = below s.rows.serial (length (all_messages acts)) max_whole range.counters.serial;
+    request = below s.rows.request (all_requests acts) max_whole range.counters.request;
+  };
+  numbers = λ k n j. absurd (in_none _ j);
+}
+
+pub arrives_asked : (at : ℕ) (q : Packet) → Arrives at q ≡ Restarts → ⊥
+arrives_asked at q is = cc
+
+-- a packet that is refused, for what it is, is not for the operator
+pub not_for_me : (s : State) (at : ℕ) (q : Packet) (fault : NodeFault) → OperatorRefuses s (Arrives at q) fault → IsOfEvent fault → (fault ≡ NotForMe) × (¬ IsForMe s q)
+not_for_me s at q NotForMe h of_event = (refl, h)
+not_for_me s at q UnknownOperator h of_event = absurd h
+not_for_me s at q UnknownToken h of_event = absurd h
+not_for_me s at q StampEnd h of_event = absurd h
+not_for_me s at q NumbersUsedUp h of_event = absurd of_event
+not_for_me s at q Memory h of_event = absurd of_event
+
+pub refused_restarted : (s : State) (at : ℕ) (q : Packet) (fault : NodeFault) → OperatorRefuses s (Arrives at q) fault → IsOfEvent fault → OperatorRefuses (restarted s) (Arrives at q) fault
+refused_restarted s at q NotForMe h of_event = λ mine. h (record { to = mine.to; from = mine.from; kind = mine.kind })
+refused_restarted s at q UnknownOperator h of_event = absurd h
+refused_restarted s at q UnknownToken h of_event = absurd h
+refused_restarted s at q StampEnd h of_event = absurd h
+refused_restarted s at q NumbersUsedUp h of_event = absurd of_event
+refused_restarted s at q Memory h of_event = absurd of_event
+
 -- ---- packets that are answers
 
 -- an answer that comes ends a push, or is idle
@@ -81,15 +150,18 @@ ack_line s at q to work answer (packets.Idle a ack other is) = Is_idle a ack oth
 ack_line s at q to work answer (packets.Answered a authorization answered) = absurd (subst Answering authorization answer)
 ack_line s at q to work answer (packets.Unasked a authorization none_awaited is) = absurd (subst Answering authorization answer)
 
-taken_line : (s : State) (at : ℕ) (q : Packet) (work : Work) → Answering q.body → Comes s at q work → IsForMe s q
-taken_line s at q work answer comes = by (ack_line s at q comes.provider work answer comes.line)
-  where
-    by : AckLine s q work → IsForMe s q
-    by (Ends a ack ends is) = record { to = comes.to; from = (comes.provider, comes.from); kind = inr (inl (a, ack)) }
-    by (Is_idle a ack other is) = record { to = comes.to; from = (comes.provider, comes.from); kind = inr (inl (a, ack)) }
+taken : (s : State) (at : ℕ) (q : Packet) (to : List ℕ) (work : Work) → PacketLine s at q to work → IsTaken q.body
+taken s at q to work (packets.Again request r kept is) = inl request
+taken s at q to work (packets.Decided c d decided is) = inl (inl (c, decided.carries))
+taken s at q to work (packets.Sent t acts token new line is) = inl (inr (t, token))
+taken s at q to work (packets.Acknowledged a ack ends is) = inr (inl (a, ack))
+taken s at q to work (packets.Idle a ack other is) = inr (inl (a, ack))
+taken s at q to work (packets.Answered a authorization answered) = inr (inr (a, authorization))
+taken s at q to work (packets.Unasked a authorization none_awaited is) = inr (inr (a, authorization))
 
-pub is_for_me : (s : State) (at : ℕ) (q : Packet) (work : Work) → Answering q.body → Comes s at q work → IsForMe s q
-is_for_me s at q work answer comes = taken_line s at q work answer comes
+-- a packet that comes is for the operator
+pub is_for_me : (s : State) (at : ℕ) (q : Packet) (work : Work) → Comes s at q work → IsForMe s q
+is_for_me s at q work comes = record { to = comes.to; from = (comes.provider, comes.from); kind = taken s at q comes.provider work comes.line }
 
 -- what an operator is told by stays, and so does whether a packet is for it
 pub for_me_too : (s z : State) (q : Packet) → z.party ≡ s.party → z.providers ≡ s.providers → IsForMe s q → IsForMe z q

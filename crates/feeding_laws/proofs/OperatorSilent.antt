@@ -1,10 +1,9 @@
 -- What an event of an operator that sends nothing leaves of it, as it starts again.
-use Rattle.std.proofs.Common.{◌≡◌, ◌⊎◌, ℕ, Bool, true, false, not, List, [], ◌∷◌, inl, inr, refl, sym, ap, subst, ◌∙◌}
-use Rattle.std.specs.Prelude.{Contains, None, Some, Option, is_some}
+use Rattle.std.proofs.Common.{◌≡◌, ◌⊎◌, ℕ, Bool, List, [], ◌∷◌, inl, inr, refl, sym, ap, subst, ◌∙◌}
+use Rattle.std.specs.Prelude.{Contains, Some}
 use Rattle.std.specs.Cmp.{nat_cmp_total}
-use Rattle.std.specs.FinMap.{get, insert, nat_cmp-IsAntisymmetric, remove}
+use Rattle.std.specs.FinMap.{empty, get, nat_cmp-IsAntisymmetric}
 use Rattle.tables.specs.Keys.{text_exact, text_total}
-use Rattle.tables.proofs.Elements.{in_front, in_none}
 use Rattle.tables.proofs.Maps.{get-insert_other, get-remove_other, of_remove, told}
 use Rattle.ocpi_types.specs.declared.packet.Body.TheVariants as body
 use Rattle.ocpi_types.specs.declared.packet.Packet.{Packet}
@@ -13,12 +12,13 @@ use Rattle.ocpi_types.specs.declared.rows.Change.{Change}
 use Rattle.ocpi_types.specs.declared.rows.Change.TheVariants.{Drop, Put}
 use Rattle.ocpi_types.specs.declared.rows.Row.TheVariants as row
 use Rattle.ocpi_types.specs.declared.rows.RowKey.TheVariants as keys
+use Rattle.outbox.specs.Pushes.{Pushes}
 use Rattle.outbox.specs.declared.push_book.Outgoing.{Outgoing}
+use Rattle.reservation_book.specs.Rows as booked
 use Rattle.reservation_book.specs.declared.standing.Standing.{Standing}
 use Rattle.site_book.specs.Sites.{IsEvse, OutOfService}
 use Rattle.node_laws.specs.Runs.{Run}
 use Rattle.node_steps.specs.Acts.{Act, all_changes, all_messages}
-use Rattle.node_steps.specs.declared.fault.NodeFault.{NodeFault}
 use Rattle.operator_rows.specs.Sound.{IsConsistent}
 use Rattle.operator_rows.specs.State.{Rows, State}
 use Rattle.operator_rows.specs.Steps.{restarted}
@@ -35,7 +35,7 @@ use Rattle.operator_laws.proofs.events.Facts.{stages_see}
 use Rattle.operator_laws.proofs.events.Standing.{consistent_stays}
 use Rattle.world_steps.specs.Network.{OfOperator}
 use Rattle.world_steps.specs.Steps.{Done, OperatorDoes, OperatorRefuses, Restarted}
-use Rattle.feeding_laws.specs.Lines.{Answer, IsOfEvent, MayExpire, Refused, Sent, Settles, sent_by}
+use Rattle.feeding_laws.specs.Lines.{Answer, IsOfEvent, MayChangeRows, Refused, Sent, sent_by}
 use Rattle.feeding_laws.proofs.OperatorEvents as one_event
 use Rattle.feeding_laws.proofs.OperatorEvents.{Steps}
 use Rattle.feeding_laws.proofs.OperatorFeeding.{Ends_push, Nothing, PacketIsSilent, after_one, credit_silent, left, packet_silent, report_silent, unchanged}
@@ -116,47 +116,60 @@ consistent_by s t i (Refused fault) fine refused = subst IsConsistent (sym refus
 pub consistent_after : (s t : State) (x : OperatorTurn) → IsConsistent s → OperatorTakes s x t → IsConsistent t
 consistent_after s t x fine takes = consistent_by s t x.input x.answer fine takes
 
--- ---- who the operator is stays, and no push is added
+-- ---- all stays but pushes, service and reservations, and no push is added
+
+-- the operator as it starts again, with these
+abbrev pub aside : State → Pushes → OutOfService → booked.Rows → State
+aside s pushes service reservations =
+    record s { rows = record s.rows { pushes = pushes; out_of_service = service; booked = reservations }; resend = empty; waits = empty }
 
 pub record Fewer (s t : State) : Type 0 where
-  pub party : t.party ≡ s.party
-  pub providers : t.providers ≡ s.providers
-  pub site : t.site ≡ s.site
+  pub alike : restarted t ≡ aside s t.rows.pushes t.rows.out_of_service t.rows.booked
   pub pushes : (n : ℕ) (x : Outgoing) → get t.rows.pushes n ≡ Some x → get s.rows.pushes n ≡ Some x
 
+pub same_party : (s t : State) → Fewer s t → t.party ≡ s.party
+same_party s t h = ap (λ (z : State). z.party) h.alike
+
+pub same_providers : (s t : State) → Fewer s t → t.providers ≡ s.providers
+same_providers s t h = ap (λ (z : State). z.providers) h.alike
+
+pub same_site : (s t : State) → Fewer s t → t.site ≡ s.site
+same_site s t h = ap (λ (z : State). z.site) h.alike
+
 pub fewer_same : (s : State) → Fewer s s
-fewer_same s = record { party = refl; providers = refl; site = refl; pushes = λ n x h. h }
+fewer_same s = record { alike = refl; pushes = λ n x h. h }
 
 pub fewer_both : (s u t : State) → Fewer s u → Fewer u t → Fewer s t
 fewer_both s u t g h = record {
-  party = h.party ∙ g.party;
-  providers = h.providers ∙ g.providers;
-  site = h.site ∙ g.site;
+  alike = h.alike ∙ ap (λ (z : State). aside z t.rows.pushes t.rows.out_of_service t.rows.booked) g.alike;
   pushes = λ n x has. g.pushes n x (h.pushes n x has);
 }
 
 fewer_of : (s t z : State) → restarted t ≡ z → Fewer s z → Fewer s t
-fewer_of s t z is h =
-    let r = subst (λ (y : State). Fewer s y) (sym is) h in
-    record { party = r.party; providers = r.providers; site = r.site; pushes = r.pushes }
+fewer_of s t z is h = let r = subst (λ (y : State). Fewer s y) (sym is) h in record { alike = r.alike; pushes = r.pushes }
 
 fewer_service : (s : State) (evse : List ℕ) (c : Change) → IsServiceOf evse c → Fewer s (after_one s c)
-fewer_service s evse c (inl is) = subst (λ (d : Change). Fewer s (after_one s d)) (sym is) (record { party = refl; providers = refl; site = refl; pushes = λ n x h. h })
-fewer_service s evse c (inr is) = subst (λ (d : Change). Fewer s (after_one s d)) (sym is) (record { party = refl; providers = refl; site = refl; pushes = λ n x h. h })
+fewer_service s evse c (inl is) = subst (λ (d : Change). Fewer s (after_one s d)) (sym is) (record { alike = refl; pushes = λ n x h. h })
+fewer_service s evse c (inr is) = subst (λ (d : Change). Fewer s (after_one s d)) (sym is) (record { alike = refl; pushes = λ n x h. h })
+
+-- by expiries only reservations change
+expired_aside : (expired : List Standing) (r : Rows) → changed_all (all_changes (expired_acts expired)) r ≡ record r {
+  pushes = (changed_all (all_changes (expired_acts expired)) r).pushes;
+  out_of_service = (changed_all (all_changes (expired_acts expired)) r).out_of_service;
+  booked = (changed_all (all_changes (expired_acts expired)) r).booked;
+}
+expired_aside [] r = refl
+expired_aside (y ∷ ys) r = expired_aside ys (changed_all (all_changes (freed y.provider y.id ∷ [])) r)
 
 fewer_left : (s t : State) (i : Input) → Leaves s i t → Fewer s t
-fewer_left s t i (Same is) = fewer_of s t (restarted s) is (record { party = refl; providers = refl; site = refl; pushes = λ n x h. h })
+fewer_left s t i (Same is) = fewer_of s t (restarted s) is (record { alike = refl; pushes = λ n x h. h })
 fewer_left s t i (Ended at q a arrives ack is) = fewer_of s t (after_one s (Drop (keys.Push q.request))) is (record {
-  party = refl;
-  providers = refl;
-  site = refl;
+  alike = refl;
   pushes = λ n x h. (of_remove nat_cmp_total nat_cmp-IsAntisymmetric s.rows.pushes q.request n x h).1;
 })
 fewer_left s t i (Served evse v c serves here of_evse is) = fewer_of s t (after_one s c) is (fewer_service s evse c of_evse)
 fewer_left s t i (Expired at expired ticks is) = fewer_of s t (emptied s (left_rows s expired)) is (record {
-  party = refl;
-  providers = refl;
-  site = refl;
+  alike = ap (emptied s) (expired_aside expired s.rows);
   pushes = λ n x h. ap (λ m. get m n) (sym (expired_pushes expired s.rows)) ∙ h;
 })
 
@@ -195,16 +208,16 @@ service_left s t i e (Expired at expired ticks is) = inl (ap (λ (z : State). ge
 pub service_after : (s t : State) (x : OperatorTurn) (e : List ℕ) → IsConsistent s → Silently s x t → (get t.rows.out_of_service e ≡ get s.rows.out_of_service e) ⊎ IsServiceAt s x.input e
 service_after s t x e fine h = service_left s t x.input e (leaves s t x fine h)
 
--- ---- what settles nothing, and is no moment, leaves the operator as it was
+-- ---- what changes no row leaves the operator as it was
 
-still_left : (s t : State) (i : Input) → Leaves s i t → ¬ Settles (OfOperator i) → ¬ MayExpire (OfOperator i) → restarted t ≡ restarted s
-still_left s t i (Same is) settles expires = is
-still_left s t i (Ended at q a arrives ack is) settles expires = absurd (settles (subst (λ (j : Input). Settles (OfOperator j)) (sym arrives) (inl (a, ack))))
-still_left s t i (Served evse v c serves here of_evse is) settles expires = absurd (settles (subst (λ (j : Input). Settles (OfOperator j)) (sym serves) tt))
-still_left s t i (Expired at expired ticks is) settles expires = absurd (expires (subst (λ (j : Input). MayExpire (OfOperator j)) (sym ticks) tt))
+still_left : (s t : State) (i : Input) → Leaves s i t → ¬ MayChangeRows (OfOperator i) → restarted t ≡ restarted s
+still_left s t i (Same is) stays = is
+still_left s t i (Ended at q a arrives ack is) stays = absurd (stays (subst (λ (j : Input). MayChangeRows (OfOperator j)) (sym arrives) (inl (a, ack))))
+still_left s t i (Served evse v c serves here of_evse is) stays = absurd (stays (subst (λ (j : Input). MayChangeRows (OfOperator j)) (sym serves) tt))
+still_left s t i (Expired at expired ticks is) stays = absurd (stays (subst (λ (j : Input). MayChangeRows (OfOperator j)) (sym ticks) tt))
 
-abbrev pub AreOthers : List OperatorTurn → Type 0
-AreOthers xs = (x : OperatorTurn) → Contains xs x → (¬ Settles (OfOperator x.input)) × (¬ MayExpire (OfOperator x.input))
+abbrev pub ChangeNothing : List OperatorTurn → Type 0
+ChangeNothing xs = (x : OperatorTurn) → Contains xs x → ¬ MayChangeRows (OfOperator x.input)
 
-pub still_after : (s t : State) (x : OperatorTurn) → IsConsistent s → Silently s x t → ¬ Settles (OfOperator x.input) → ¬ MayExpire (OfOperator x.input) → restarted t ≡ restarted s
-still_after s t x fine h settles expires = still_left s t x.input (leaves s t x fine h) settles expires
+pub still_after : (s t : State) (x : OperatorTurn) → IsConsistent s → Silently s x t → ¬ MayChangeRows (OfOperator x.input) → restarted t ≡ restarted s
+still_after s t x fine h stays = still_left s t x.input (leaves s t x fine h) stays

@@ -1,9 +1,9 @@
 -- What an event of a provider that sends nothing leaves of it, as it starts again.
-use Rattle.std.proofs.Common.{◌≡◌, ◌⊎◌, ℕ, List, [], ◌∷◌, inl, inr, refl, sym, ap, subst, ◌∙◌}
-use Rattle.std.specs.Prelude.{Contains, None, Some, Option}
+use Rattle.std.proofs.Common.{◌≡◌, ℕ, List, [], ◌∷◌, inl, inr, refl, sym, ap, subst, ◌∙◌}
+use Rattle.std.specs.Prelude.{None, Some}
 use Rattle.std.specs.Cmp.{nat_cmp_total}
-use Rattle.std.specs.FinMap.{get, insert, nat_cmp-IsAntisymmetric, remove}
-use Rattle.tables.proofs.Elements.{in_front, in_none}
+use Rattle.std.specs.FinMap.{empty, get, nat_cmp-IsAntisymmetric}
+use Rattle.tables.proofs.Elements.{in_none}
 use Rattle.tables.proofs.Maps.{get-remove_same, of_insert, of_remove}
 use Rattle.tables.proofs.Options.{not_both}
 use Rattle.ocpi_text.specs.Text.{key}
@@ -17,12 +17,15 @@ use Rattle.ocpi_types.specs.declared.rows.Change.TheVariants.{Drop, Put}
 use Rattle.ocpi_types.specs.declared.rows.Row.TheVariants as row
 use Rattle.ocpi_types.specs.declared.rows.RowKey.TheVariants as keys
 use Rattle.ocpi_types.specs.declared.stored.SentCommand.{SentCommand}
+use Rattle.outbox.specs.Commands.{Commands}
+use Rattle.outbox.specs.Pushes.{Pushes}
 use Rattle.outbox.specs.declared.push_book.Outgoing.{Outgoing}
-use Rattle.node_laws.specs.Runs.{Run}
 use Rattle.node_steps.specs.Acts as act
 use Rattle.node_steps.specs.Acts.{Act, acknowledged, all_messages}
 use Rattle.node_steps.specs.Drafts.{IsInRange, Step, counted}
 use Rattle.node_steps.specs.Peers.{IsPeer}
+use Rattle.node_steps.specs.declared.fault.NodeFault.{NodeFault}
+use Rattle.node_steps.specs.declared.fault.NodeFault.TheVariants.{NotForMe, UnknownOperator, UnknownToken, StampEnd, NumbersUsedUp, Memory}
 use Rattle.node_steps.proofs.Gathering.{step_of_none}
 use Rattle.provider_rows.specs.State.{State}
 use Rattle.provider_rows.specs.Steps.{after, restarted}
@@ -33,12 +36,12 @@ use Rattle.provider_steps.specs.Packets as packets
 use Rattle.provider_steps.specs.Packets.{Acknowledges, Comes, IsAwaited, IsForMe, IsRequest, IsTaken, PacketLine}
 use Rattle.world_steps.specs.Network.{OfProvider}
 use Rattle.world_steps.specs.Steps.{Done, ProviderDoes, ProviderRefuses, Restarted}
-use Rattle.feeding_laws.specs.Lines.{Answer, IsAnswer, IsOfEvent, Refused, Sent, Settles, sent_by}
+use Rattle.feeding_laws.specs.Lines.{Answer, IsAnswer, IsOfEvent, MayChangeRows, Refused, Sent, sent_by}
 use Rattle.feeding_laws.proofs.AnswerBodies.{Answering}
 use Rattle.feeding_laws.proofs.ProviderEvents as one_event
 use Rattle.feeding_laws.proofs.ProviderEvents.{Steps}
 use Rattle.feeding_laws.proofs.ProviderFeeding.{IsForNone, after_one, answered_late, answers_request, left, no_order, no_token, tick_unchanged, unchanged}
-use Rattle.feeding_laws.proofs.Sending.{Send, not_silent, send_first}
+use Rattle.feeding_laws.proofs.Sending.{Send, not_silent, send_first, silent}
 
 -- ---- what becomes of an event
 
@@ -76,6 +79,54 @@ nothing_steps b i h = record {
   sends = refl;
   does = Done (record { acts = []; line = h.asks; in_range = h.range; out_is = sym (idle_is b) });
 }
+
+-- ---- what a step is
+
+-- what the input asked for, by which this was sent and left
+pub record Asked (s : State) (i : Input) (packets : List Packet) (t : State) : Type 0 where
+  pub acts : List Act
+  pub line : Asks s i acts
+  pub in_range : AreInRange s acts
+  pub state : t ≡ (acted s acts).state
+  pub sent : packets ≡ (acted s acts).packets
+
+-- what a step by the input was, where it is no restart
+pub asked_step : (s t : State) (i : Input) (packets : List Packet) → (i ≡ Restarts → ⊥) → Steps s i packets t → Asked s i packets t
+asked_step s t i packets asked steps = told steps.does
+  where
+    told : ProviderDoes s steps.event t → Asked s i packets t
+    told (Done by) = record {
+      acts = by.acts;
+      line = subst (λ (x : Input). Asks s x by.acts) steps.input by.line;
+      in_range = by.in_range;
+      state = ap (λ (o : Out). o.state) by.out_is;
+      sent = sym steps.sends ∙ ap (λ (o : Out). o.packets) by.out_is;
+    }
+    told (Restarted now is) = absurd (asked (sym steps.input ∙ now))
+
+-- no packet, no message
+pub no_message : (s t : State) (i : Input) (packets : List Packet) (step : Asked s i packets t) → packets ≡ [] → all_messages step.acts ≡ []
+no_message s t i packets step none = silent s.party s.rows.serial (all_messages step.acts) (sym step.sent ∙ none)
+
+pub arrives_asked : (at : ℕ) (q : Packet) → Arrives at q ≡ Restarts → ⊥
+arrives_asked at q is = cc
+
+-- a packet that is refused, for what it is, is not for the provider
+pub not_for_me : (s : State) (at : ℕ) (q : Packet) (fault : NodeFault) → ProviderRefuses s (Arrives at q) fault → IsOfEvent fault → (fault ≡ NotForMe) × (¬ IsForMe s q)
+not_for_me s at q NotForMe h of_event = (refl, h)
+not_for_me s at q UnknownOperator h of_event = absurd h
+not_for_me s at q UnknownToken h of_event = absurd h
+not_for_me s at q StampEnd h of_event = absurd h
+not_for_me s at q NumbersUsedUp h of_event = absurd of_event
+not_for_me s at q Memory h of_event = absurd of_event
+
+pub refused_restarted : (s : State) (at : ℕ) (q : Packet) (fault : NodeFault) → ProviderRefuses s (Arrives at q) fault → IsOfEvent fault → ProviderRefuses (restarted s) (Arrives at q) fault
+refused_restarted s at q NotForMe h of_event = λ mine. h (record { to = mine.to; from = mine.from; kind = mine.kind })
+refused_restarted s at q UnknownOperator h of_event = absurd h
+refused_restarted s at q UnknownToken h of_event = absurd h
+refused_restarted s at q StampEnd h of_event = absurd h
+refused_restarted s at q NumbersUsedUp h of_event = absurd of_event
+refused_restarted s at q Memory h of_event = absurd of_event
 
 -- ---- packets that are answers
 
@@ -116,12 +167,17 @@ answer_line s at q to acts answer (packets.LateResponse r response late is) = Is
 answer_line s at q to acts answer (packets.Acknowledged a ack ends is) = Ends a ack ends is
 answer_line s at q to acts answer (packets.Idle a ack other is) = Is_idle (inl (a, ack)) (settled_ack s q a ack other) is
 
-taken : (b : Body) → IsAnswer b → IsTaken b
-taken b (inl (a, ack)) = inr (inr (a, ack))
-taken b (inr (r, response)) = inr (inl (r, response))
+taken : (s : State) (at : ℕ) (q : Packet) (to : List ℕ) (acts : List Act) → PacketLine s at q to acts → IsTaken q.body
+taken s at q to acts (packets.Again request r same is) = inl request
+taken s at q to acts (packets.Answered new reply own answers is) = inl (answers_request s at q reply own answers)
+taken s at q to acts (packets.Responded r response c awaited is) = inr (inl (r, response))
+taken s at q to acts (packets.LateResponse r response late is) = inr (inl (r, response))
+taken s at q to acts (packets.Acknowledged a ack ends is) = inr (inr (a, ack))
+taken s at q to acts (packets.Idle a ack other is) = inr (inr (a, ack))
 
-pub is_for_me : (s : State) (at : ℕ) (q : Packet) (acts : List Act) → IsAnswer q.body → Comes s at q acts → IsForMe s q
-is_for_me s at q acts answer comes = record { to = comes.to; from = (comes.operator, comes.from); kind = taken q.body answer }
+-- a packet that comes is for the provider
+pub is_for_me : (s : State) (at : ℕ) (q : Packet) (acts : List Act) → Comes s at q acts → IsForMe s q
+is_for_me s at q acts comes = record { to = comes.to; from = (comes.operator, comes.from); kind = taken s at q comes.operator acts comes.line }
 
 -- what a provider is told by stays, and so does whether a packet is for it
 pub for_me_too : (s z : State) (q : Packet) → z.party ≡ s.party → z.operators ≡ s.operators → IsForMe s q → IsForMe z q
@@ -140,21 +196,29 @@ idle_answer b at q acts answer settled comes = by (answer_line b at q comes.oper
     by (Is_kept r response c awaited is) = absurd (settled.commands r response c awaited)
     by (Is_idle is_answer same is) = is
 
--- ---- who the provider is stays, no push is added, and no command becomes one without an answer
+-- ---- all stays but pushes and commands; no push is added, and no command becomes one without an answer
+
+-- the provider as it starts again, with these
+abbrev pub aside : State → Pushes → Commands → State
+aside s pushes commands = record s { rows = record s.rows { outbox = record s.rows.outbox { pushes = pushes; commands = commands } }; resend = empty }
 
 pub record Fewer (s t : State) : Type 0 where
-  pub party : t.party ≡ s.party
-  pub operators : t.operators ≡ s.operators
+  pub alike : restarted t ≡ aside s t.rows.outbox.pushes t.rows.outbox.commands
   pub pushes : (n : ℕ) (x : Outgoing) → get t.rows.outbox.pushes n ≡ Some x → get s.rows.outbox.pushes n ≡ Some x
   pub commands : (n : ℕ) (c : SentCommand) → get t.rows.outbox.commands n ≡ Some c → c.answer ≡ None → get s.rows.outbox.commands n ≡ Some c
 
+pub same_party : (s t : State) → Fewer s t → t.party ≡ s.party
+same_party s t h = ap (λ (z : State). z.party) h.alike
+
+pub same_operators : (s t : State) → Fewer s t → t.operators ≡ s.operators
+same_operators s t h = ap (λ (z : State). z.operators) h.alike
+
 pub fewer_same : (s : State) → Fewer s s
-fewer_same s = record { party = refl; operators = refl; pushes = λ n x h. h; commands = λ n c h open_still. h }
+fewer_same s = record { alike = refl; pushes = λ n x h. h; commands = λ n c h none. h }
 
 pub fewer_both : (s u t : State) → Fewer s u → Fewer u t → Fewer s t
 fewer_both s u t g h = record {
-  party = h.party ∙ g.party;
-  operators = h.operators ∙ g.operators;
+  alike = h.alike ∙ ap (λ (z : State). aside z t.rows.outbox.pushes t.rows.outbox.commands) g.alike;
   pushes = λ n x has. g.pushes n x (h.pushes n x has);
   commands = λ n c has none. g.commands n c (h.commands n c has none) none;
 }
@@ -178,7 +242,7 @@ came_to s t z at q is fewer settled nothing =
     let f = subst (λ (y : State). Fewer s y) (sym is) fewer in
     let h = subst (λ (y : State). IsSettled y q) (sym is) settled in
     record {
-      fewer = record { party = f.party; operators = f.operators; pushes = f.pushes; commands = f.commands };
+      fewer = record { alike = f.alike; pushes = f.pushes; commands = f.commands };
       settled = record {
         pushes = h.pushes;
         commands = λ r response c awaited. h.commands r response c (record { stands = awaited.stands; to_sender = awaited.to_sender; unanswered = awaited.unanswered });
@@ -214,8 +278,7 @@ answer_came s at q acts answer comes range = by (answer_line s at q comes.operat
         let gone = get-remove_same nat_cmp_total nat_cmp-IsAntisymmetric s.rows.outbox.pushes q.request in
         let settled = settled_ack (after_one s c) q a ack (λ h. not_both h.1.0 (get (after_one s c).rows.outbox.pushes q.request) gone h.1.1) in
         came_to s (acted s acts).state (after_one s c) at q (ap (λ (l : List Act). restarted (acted s l).state) is ∙ left s c) (record {
-          party = refl;
-          operators = refl;
+          alike = refl;
           pushes = λ n x h. (of_remove nat_cmp_total nat_cmp-IsAntisymmetric s.rows.outbox.pushes q.request n x h).1;
           commands = λ n x h none. h;
         }) settled (record {
@@ -226,8 +289,7 @@ answer_came s at q acts answer comes range = by (answer_line s at q comes.operat
         let c = Put (row.Command q.request (with_answer r x)) in
         let settled = settled_response (after_one s c) q r response (answered_late at q s r x) in
         came_to s (acted s acts).state (after_one s c) at q (ap (λ (l : List Act). restarted (acted s l).state) is ∙ left s c) (record {
-          party = refl;
-          operators = refl;
+          alike = refl;
           pushes = λ n y h. h;
           commands = λ n y h none. elim (of_insert nat_cmp_total nat_cmp-IsAntisymmetric s.rows.outbox.commands q.request (with_answer r x) n y h) [
             | inl same ↦ not_both r (Some r) (ap (λ (z : SentCommand). z.answer) same.1 ∙ none) refl
@@ -243,7 +305,7 @@ answer_came s at q acts answer comes range = by (answer_line s at q comes.operat
           pushes = settled.pushes;
           commands = λ r response c awaited. settled.commands r response c (record { stands = awaited.stands; to_sender = awaited.to_sender; unanswered = awaited.unanswered });
         } in
-        came_to s (acted s acts).state (restarted s) at q (unchanged s acts is) (record { party = refl; operators = refl; pushes = λ n x h. h; commands = λ n x h none. h }) too (record {
+        came_to s (acted s acts).state (restarted s) at q (unchanged s acts is) (record { alike = refl; pushes = λ n x h. h; commands = λ n x h none. h }) too (record {
           asks = comes_settled s (restarted s) at q acts refl refl is_answer too comes;
           range = record { counters = range_is.counters; references = range_is.references };
         })
@@ -257,22 +319,22 @@ packet_still s at q to acts (packets.LateResponse r response late is) none other
 packet_still s at q to acts (packets.Acknowledged a ack ends is) none other = absurd (other (inl (a, ack)))
 packet_still s at q to acts (packets.Idle a ack idles is) none other = absurd (other (inl (a, ack)))
 
-asked_still : (s : State) (i : Input) (acts : List Act) → Asks s i acts → all_messages acts ≡ [] → ¬ IsForNone s i → ¬ Settles (OfProvider i) → restarted (acted s acts).state ≡ restarted s
+asked_still : (s : State) (i : Input) (acts : List Act) → Asks s i acts → all_messages acts ≡ [] → ¬ IsForNone s i → ¬ MayChangeRows (OfProvider i) → restarted (acted s acts).state ≡ restarted s
 asked_still s (Arrives at q) acts comes none stays other = packet_still s at q comes.operator acts comes.line none other
 asked_still s (Submits at to order) acts line none stays other = no_order s at to order acts line none
 asked_still s (Gives at t) acts line none stays other = no_token s at t acts line none stays
 asked_still s (Ticks at) acts line none stays other = tick_unchanged s at acts line none
 asked_still s Restarts acts line none stays other = absurd line
 
-does_still : (s t : State) (e : Event) → ProviderDoes s e t → e.packets ≡ [] → ¬ IsForNone s e.input → ¬ Settles (OfProvider e.input) → restarted t ≡ restarted s
+does_still : (s t : State) (e : Event) → ProviderDoes s e t → e.packets ≡ [] → ¬ IsForNone s e.input → ¬ MayChangeRows (OfProvider e.input) → restarted t ≡ restarted s
 does_still s t e (Done by) none stays other =
     ap restarted (one_event.left s t e by none stays) ∙ asked_still s e.input by.acts by.line (one_event.no_word s t e by none stays) stays other
 does_still s t e (Restarted now is) none stays other = ap (λ (o : Out). restarted o.state) is
 
-still_by : (s t : State) (i : Input) (answer : Answer) → ProviderAnswers s i answer t → sent_by answer ≡ [] → ¬ IsForNone s i → ¬ Settles (OfProvider i) → restarted t ≡ restarted s
+still_by : (s t : State) (i : Input) (answer : Answer) → ProviderAnswers s i answer t → sent_by answer ≡ [] → ¬ IsForNone s i → ¬ MayChangeRows (OfProvider i) → restarted t ≡ restarted s
 still_by s t i (Sent packets) steps none stays other =
-    does_still s t steps.event steps.does (steps.sends ∙ none) (λ h. stays (subst (IsForNone s) steps.input h)) (λ h. other (subst (λ (j : Input). Settles (OfProvider j)) steps.input h))
+    does_still s t steps.event steps.does (steps.sends ∙ none) (λ h. stays (subst (IsForNone s) steps.input h)) (λ h. other (subst (λ (j : Input). MayChangeRows (OfProvider j)) steps.input h))
 still_by s t i (Refused fault) refused none stays other = ap restarted refused.2
 
-pub still_after : (s t : State) (x : ProviderTurn) → Silently s x t → ¬ Settles (OfProvider x.input) → restarted t ≡ restarted s
+pub still_after : (s t : State) (x : ProviderTurn) → Silently s x t → ¬ MayChangeRows (OfProvider x.input) → restarted t ≡ restarted s
 still_after s t x h other = still_by s t x.input x.answer h.takes h.silent h.stays other

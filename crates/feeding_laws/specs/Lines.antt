@@ -1,10 +1,12 @@
 -- What a line of several events does that reaches a node once more after a stop, and what tells that it sent nothing. The
 -- events of a line are committed together: a stop leaves the node as it starts again before the line, or behind all of it.
-use Rattle.std.specs.Prelude.{◌≡◌, ◌≤◌, ◌⊎◌, ◌↔◌, ◌+◌, List, [], ◌++◌, map, length, Contains, ⊤}
+use Rattle.std.specs.Prelude.{◌≡◌, ◌⊎◌, ◌↔◌, ◌+◌, List, [], ◌∷◌, map, length, Contains, ⊤}
 use Rattle.std.specs.List.{flat_map}
 use Rattle.node_laws.specs.Runs.{Run}
 use Rattle.node_steps.specs.declared.fault.NodeFault.{NodeFault}
 use Rattle.node_steps.specs.declared.fault.NodeFault.TheVariants.{NotForMe, UnknownOperator, UnknownToken, StampEnd, NumbersUsedUp, Memory}
+use Rattle.ocpi_types.specs.declared.events.ChargerEvent.{ChargerEvent}
+use Rattle.ocpi_types.specs.declared.events.ChargerEvent.TheVariants as event
 use Rattle.ocpi_types.specs.declared.packet.Body.{Body}
 use Rattle.ocpi_types.specs.declared.packet.Body.TheVariants as body
 use Rattle.ocpi_types.specs.declared.packet.Packet.{Packet}
@@ -30,13 +32,13 @@ pub record Turn : Type 0 where
   pub input : Input
   pub answer : Answer
 
--- the event is at fault, whatever numbers and memory the node has left. Want of memory is no answer to an event of a line:
+-- the event is at fault, whatever numbers, moments and memory are left. Want of memory is no answer to an event of a line:
 -- it ends the line, of which nothing is kept then
 abbrev pub IsOfEvent : NodeFault → Type 0
 IsOfEvent NotForMe = ⊤
 IsOfEvent UnknownOperator = ⊤
 IsOfEvent UnknownToken = ⊤
-IsOfEvent StampEnd = ⊤
+IsOfEvent StampEnd = ⊥
 IsOfEvent NumbersUsedUp = ⊥
 IsOfEvent Memory = ⊥
 
@@ -66,40 +68,51 @@ sent_in line = flat_map (λ (x : Turn). sent_by x.answer) line
 abbrev pub IsAnswer : Body → Type 0
 IsAnswer b = ((a : Ack) × (b ≡ body.Ack a)) ⊎ ((r : CommandResponse) × (b ≡ body.CommandResponse r))
 
--- what only settles what stands: an acknowledgement, a response to a command, and the service of an EVSE
-abbrev pub Settles : Input → Type 0
-Settles (OfOperator (operator.Arrives at q)) = IsAnswer q.body
-Settles (OfOperator (operator.Serves evse in_service)) = ⊤
-Settles (OfOperator (operator.Reports at report)) = ⊥
-Settles (OfOperator (operator.Credits at session)) = ⊥
-Settles (OfOperator (operator.Ticks at)) = ⊥
-Settles (OfOperator operator.Restarts) = ⊥
-Settles (OfProvider (provider.Arrives at q)) = IsAnswer q.body
-Settles (OfProvider (provider.Submits at to order)) = ⊥
-Settles (OfProvider (provider.Gives at t)) = ⊥
-Settles (OfProvider (provider.Ticks at)) = ⊥
-Settles (OfProvider provider.Restarts) = ⊥
+-- what may change rows though nothing is sent: an acknowledgement, a response to a command, the service of an EVSE, and a
+-- moment of an operator, by which reservations expire
+abbrev pub MayChangeRows : Input → Type 0
+MayChangeRows (OfOperator (operator.Arrives at q)) = IsAnswer q.body
+MayChangeRows (OfOperator (operator.Serves evse in_service)) = ⊤
+MayChangeRows (OfOperator (operator.Reports at report)) = ⊥
+MayChangeRows (OfOperator (operator.Credits at session)) = ⊥
+MayChangeRows (OfOperator (operator.Ticks at)) = ⊤
+MayChangeRows (OfOperator operator.Restarts) = ⊥
+MayChangeRows (OfProvider (provider.Arrives at q)) = IsAnswer q.body
+MayChangeRows (OfProvider (provider.Submits at to order)) = ⊥
+MayChangeRows (OfProvider (provider.Gives at t)) = ⊥
+MayChangeRows (OfProvider (provider.Ticks at)) = ⊥
+MayChangeRows (OfProvider provider.Restarts) = ⊥
 
--- a moment of an operator, by which its reservations expire
-abbrev pub MayExpire : Input → Type 0
-MayExpire (OfOperator (operator.Arrives at q)) = ⊥
-MayExpire (OfOperator (operator.Serves evse in_service)) = ⊥
-MayExpire (OfOperator (operator.Reports at report)) = ⊥
-MayExpire (OfOperator (operator.Credits at session)) = ⊥
-MayExpire (OfOperator (operator.Ticks at)) = ⊤
-MayExpire (OfOperator operator.Restarts) = ⊥
-MayExpire (OfProvider x) = ⊥
+-- a driver shows a token
+abbrev pub IsSwipe : ChargerEvent → Type 0
+IsSwipe (event.Swipe evse_uid connector_id token_uid token_type) = ⊤
+IsSwipe (event.Accepts provider number) = ⊥
+IsSwipe (event.Refuses provider number) = ⊥
+IsSwipe (event.Unlocked provider number) = ⊥
+IsSwipe (event.Starts evse_uid) = ⊥
+IsSwipe (event.Meter evse_uid kwh) = ⊥
+IsSwipe (event.Stops evse_uid) = ⊥
+IsSwipe (event.Fault evse_uid) = ⊥
 
--- first stands what settles, then at most one moment of an operator, and then all others
-pub record IsInOrder (line : List Input) : Type 0 where
-  pub settling : List Input
-  pub moments : List Input
-  pub others : List Input
-  pub line_is : line ≡ settling ++ (moments ++ others)
-  pub settle : (i : Input) → Contains settling i → Settles i
-  pub expire : (i : Input) → Contains moments i → MayExpire i
-  pub few : length moments ≤ 1
-  pub rest : (i : Input) → Contains others i → (¬ Settles i) × (¬ MayExpire i)
+-- what may send more behind a restart than without one: a moment sends all that waits, and a token that is shown is asked
+-- about again
+abbrev pub ActsAnew : Input → Type 0
+ActsAnew (OfOperator (operator.Arrives at q)) = ⊥
+ActsAnew (OfOperator (operator.Serves evse in_service)) = ⊥
+ActsAnew (OfOperator (operator.Reports at report)) = IsSwipe report
+ActsAnew (OfOperator (operator.Credits at session)) = ⊥
+ActsAnew (OfOperator (operator.Ticks at)) = ⊤
+ActsAnew (OfOperator operator.Restarts) = ⊥
+ActsAnew (OfProvider (provider.Arrives at q)) = ⊥
+ActsAnew (OfProvider (provider.Submits at to order)) = ⊥
+ActsAnew (OfProvider (provider.Gives at t)) = ⊥
+ActsAnew (OfProvider (provider.Ticks at)) = ⊤
+ActsAnew (OfProvider provider.Restarts) = ⊥
+
+-- behind an event that acts anew stands none that may change rows where nothing is sent
+abbrev pub IsInOrder : List Input → Type 0
+IsInOrder [] = ⊤
+IsInOrder (i ∷ rest) = (ActsAnew i → (j : Input) → Contains rest j → ¬ MayChangeRows j) × IsInOrder rest
 
 -- ---- the laws
 

@@ -22,12 +22,12 @@ pub fn serial_tells_of_sending()
 
 /// Where no event of a line sends anything, the whole line does from the restart of the node behind it what it does from
 /// the restart of the node before it. Each event is answered alike, with the same packets, and the node that is left is
-/// the same. It holds for lines in order: acknowledgements, responses to commands and `service` first, then at most one
-/// `tick` of an operator, then all others. A `token` at a provider without operators is the one exception.
+/// the same. It holds for lines in order: behind a `tick` or a swipe stands no acknowledgement, no response to a command,
+/// no `service`, and no `tick` of an operator. A `token` at a provider without operators is the one exception.
 ///
-/// In another order it is not true. Of a swipe at an EVSE that is out of service, and its service behind it, neither sends
-/// anything; once both are carried out the same swipe begins a session. Of a `tick` before an acknowledgement the first
-/// sends, from the restart before the line, the push that the second ends.
+/// In another order it is not true. Take a swipe at an EVSE that is out of service, and behind it the `service` by which
+/// it comes back: neither sends anything. Once both are carried out, the same swipe begins a session. Or take a `tick`
+/// before an acknowledgement: from the restart before the line it sends the push that the acknowledgement ends.
 pub fn lines_may_be_fed_again()
     ensures { LinesMayBeFedAgain }
 {}
