@@ -16,7 +16,7 @@ use Rattle.stored_laws.proofs.Starting.{nodes_can_start_again}
 use Rattle.world_steps.specs.Network.{Input, OfOperator, OfProvider}
 use Rattle.world_steps.specs.Steps.{AtOperator, AtProvider, NodeEvent, NodeStep, input_of, packets_of}
 use Rattle.world_steps.specs.World.{NodeState, Operates, Provides}
-use Rattle.feeding_laws.specs.Lines.{Answer, Answers, IsInOrder, LinesMayBeFedAgain, Refused, Sent, SerialTellsOfLines, Takes, TakesLine, TakesSilently, Turn, sent_by, sent_in}
+use Rattle.feeding_laws.specs.Lines.{Answer, Answers, IsAble, IsInOrder, LinesMayBeFedAgain, Refused, Sent, SerialTellsOfLines, Takes, TakesAble, TakesSilently, Turn, sent_by, sent_in}
 use Rattle.feeding_laws.proofs.Feeding.{for_none, no_packets, same_operator_input, same_provider_input, serial_rises}
 use Rattle.feeding_laws.proofs.OperatorLines as operator_lines
 use Rattle.feeding_laws.proofs.OperatorLines.{operator_line_again}
@@ -48,11 +48,11 @@ record OperatorTurnOf (s : operator_state.State) (x : Turn) (m : NodeState) : Ty
   pub node_is : m ≡ Operates after
   pub takes : OperatorTakes s turn after
 
-operator_turn : (s : operator_state.State) (i : Input) (answer : Answer) (m : NodeState) → Answers (Operates s) i answer m → OperatorTurnOf s (record { input = i; answer = answer }) m
-operator_turn s (OfOperator i) (Refused fault) m refused =
-    record { turn = record { input = i; answer = Refused fault }; after = s; turn_is = refl; node_is = refused.2; takes = (refused.0, refused.1, refl) }
-operator_turn s (OfProvider i) (Refused fault) m refused = absurd refused.0
-operator_turn s i (Sent packets) m leads = by m leads.event leads.input leads.sends leads.step
+operator_turn : (s : operator_state.State) (i : Input) (answer : Answer) (m : NodeState) → IsAble answer → Answers (Operates s) i answer m → OperatorTurnOf s (record { input = i; answer = answer }) m
+operator_turn s (OfOperator i) (Refused fault) m able refused =
+    record { turn = record { input = i; answer = Refused fault }; after = s; turn_is = refl; node_is = refused.1; takes = (refused.0, able, refl) }
+operator_turn s (OfProvider i) (Refused fault) m able refused = absurd refused.0
+operator_turn s i (Sent packets) m able leads = by m leads.event leads.input leads.sends leads.step
   where
     by : (m : NodeState) (y : NodeEvent) → input_of y ≡ i → packets_of y ≡ packets → NodeStep (Operates s) y m → OperatorTurnOf s (record { input = i; answer = Sent packets }) m
     by (Operates t) (AtOperator e) is sends step = record {
@@ -66,12 +66,12 @@ operator_turn s i (Sent packets) m leads = by m leads.event leads.input leads.se
     by (Operates t) (AtProvider e) is sends step = absurd step
     by (Provides t) (AtProvider e) is sends step = absurd step
 
-operator_takes : (s t : operator_state.State) (i : operator.Input) (answer : Answer) → OperatorAnswers s i answer t → Answers (Operates s) (OfOperator i) answer (Operates t)
-operator_takes s t i (Sent packets) steps = record { event = AtOperator steps.event; input = ap OfOperator steps.input; sends = steps.sends; step = steps.does }
-operator_takes s t i (Refused fault) refused = (refused.0, refused.1, ap Operates refused.2)
+operator_takes : (s t : operator_state.State) (i : operator.Input) (answer : Answer) → OperatorAnswers s i answer t → TakesAble (Operates s) (record { input = OfOperator i; answer = answer }) (Operates t)
+operator_takes s t i (Sent packets) steps = record { takes = record { event = AtOperator steps.event; input = ap OfOperator steps.input; sends = steps.sends; step = steps.does }; able = tt }
+operator_takes s t i (Refused fault) refused = record { takes = (refused.0, ap Operates refused.2); able = refused.1 }
 
 -- a line at an operator, told of the operator
-module _ (R : NodeState → Turn → NodeState → Type 0) (takes : (n m : NodeState) (x : Turn) → R n x m → Takes n x m) (Next : operator_state.State → OperatorTurn → operator_state.State → Type 0)
+module _ (R : NodeState → Turn → NodeState → Type 0) (takes : (n m : NodeState) (x : Turn) → R n x m → TakesAble n x m) (Next : operator_state.State → OperatorTurn → operator_state.State → Type 0)
     (next : (s t : operator_state.State) (x : OperatorTurn) → R (Operates s) (of_operator x) (Operates t) → OperatorTakes s x t → Next s x t) where
   record OperatorLine (s : operator_state.State) (line : List Turn) (m : NodeState) : Type 0 where
     pub turns : List OperatorTurn
@@ -83,7 +83,8 @@ module _ (R : NodeState → Turn → NodeState → Type 0) (takes : (n m : NodeS
   operator_line : (s : operator_state.State) (line : List Turn) (m : NodeState) → Run R (Operates s) line m → OperatorLine s line m
   operator_line s [] m run = record { turns = []; after = s; line_is = refl; node_is = run; run = refl }
   operator_line s (x ∷ xs) m (n, first, rest) =
-      let one = operator_turn s x.input x.answer n (takes (Operates s) n x first) in
+      let h = takes (Operates s) n x first in
+      let one = operator_turn s x.input x.answer n h.able h.takes in
       let more = operator_line one.after xs m (subst (λ (z : NodeState). Run R z xs m) one.node_is rest) in
       let same = subst (λ (z : NodeState). R (Operates s) (of_operator one.turn) z) one.node_is (subst (λ (y : Turn). R (Operates s) y n) one.turn_is first) in
       record {
@@ -119,11 +120,11 @@ record ProviderTurnOf (s : provider_state.State) (x : Turn) (m : NodeState) : Ty
   pub node_is : m ≡ Provides after
   pub takes : ProviderTakes s turn after
 
-provider_turn : (s : provider_state.State) (i : Input) (answer : Answer) (m : NodeState) → Answers (Provides s) i answer m → ProviderTurnOf s (record { input = i; answer = answer }) m
-provider_turn s (OfProvider i) (Refused fault) m refused =
-    record { turn = record { input = i; answer = Refused fault }; after = s; turn_is = refl; node_is = refused.2; takes = (refused.0, refused.1, refl) }
-provider_turn s (OfOperator i) (Refused fault) m refused = absurd refused.0
-provider_turn s i (Sent packets) m leads = by m leads.event leads.input leads.sends leads.step
+provider_turn : (s : provider_state.State) (i : Input) (answer : Answer) (m : NodeState) → IsAble answer → Answers (Provides s) i answer m → ProviderTurnOf s (record { input = i; answer = answer }) m
+provider_turn s (OfProvider i) (Refused fault) m able refused =
+    record { turn = record { input = i; answer = Refused fault }; after = s; turn_is = refl; node_is = refused.1; takes = (refused.0, able, refl) }
+provider_turn s (OfOperator i) (Refused fault) m able refused = absurd refused.0
+provider_turn s i (Sent packets) m able leads = by m leads.event leads.input leads.sends leads.step
   where
     by : (m : NodeState) (y : NodeEvent) → input_of y ≡ i → packets_of y ≡ packets → NodeStep (Provides s) y m → ProviderTurnOf s (record { input = i; answer = Sent packets }) m
     by (Provides t) (AtProvider e) is sends step = record {
@@ -137,12 +138,12 @@ provider_turn s i (Sent packets) m leads = by m leads.event leads.input leads.se
     by (Operates t) (AtOperator e) is sends step = absurd step
     by (Provides t) (AtOperator e) is sends step = absurd step
 
-provider_takes : (s t : provider_state.State) (i : provider.Input) (answer : Answer) → ProviderAnswers s i answer t → Answers (Provides s) (OfProvider i) answer (Provides t)
-provider_takes s t i (Sent packets) steps = record { event = AtProvider steps.event; input = ap OfProvider steps.input; sends = steps.sends; step = steps.does }
-provider_takes s t i (Refused fault) refused = (refused.0, refused.1, ap Provides refused.2)
+provider_takes : (s t : provider_state.State) (i : provider.Input) (answer : Answer) → ProviderAnswers s i answer t → TakesAble (Provides s) (record { input = OfProvider i; answer = answer }) (Provides t)
+provider_takes s t i (Sent packets) steps = record { takes = record { event = AtProvider steps.event; input = ap OfProvider steps.input; sends = steps.sends; step = steps.does }; able = tt }
+provider_takes s t i (Refused fault) refused = record { takes = (refused.0, ap Provides refused.2); able = refused.1 }
 
 -- a line at a provider, told of the provider
-module _ (R : NodeState → Turn → NodeState → Type 0) (takes : (n m : NodeState) (x : Turn) → R n x m → Takes n x m) (Next : provider_state.State → ProviderTurn → provider_state.State → Type 0)
+module _ (R : NodeState → Turn → NodeState → Type 0) (takes : (n m : NodeState) (x : Turn) → R n x m → TakesAble n x m) (Next : provider_state.State → ProviderTurn → provider_state.State → Type 0)
     (next : (s t : provider_state.State) (x : ProviderTurn) → R (Provides s) (of_provider x) (Provides t) → ProviderTakes s x t → Next s x t) where
   record ProviderLine (s : provider_state.State) (line : List Turn) (m : NodeState) : Type 0 where
     pub turns : List ProviderTurn
@@ -154,7 +155,8 @@ module _ (R : NodeState → Turn → NodeState → Type 0) (takes : (n m : NodeS
   provider_line : (s : provider_state.State) (line : List Turn) (m : NodeState) → Run R (Provides s) line m → ProviderLine s line m
   provider_line s [] m run = record { turns = []; after = s; line_is = refl; node_is = run; run = refl }
   provider_line s (x ∷ xs) m (n, first, rest) =
-      let one = provider_turn s x.input x.answer n (takes (Provides s) n x first) in
+      let h = takes (Provides s) n x first in
+      let one = provider_turn s x.input x.answer n h.able h.takes in
       let more = provider_line one.after xs m (subst (λ (z : NodeState). Run R z xs m) one.node_is rest) in
       let same = subst (λ (z : NodeState). R (Provides s) (of_provider one.turn) z) one.node_is (subst (λ (y : Turn). R (Provides s) y n) one.turn_is first) in
       record {
@@ -181,32 +183,32 @@ provider_same (x ∷ xs) (y ∷ ys) is = (same_provider_input y.input x.input (f
 -- ---- a node
 
 operator_again : (s : operator_state.State) (m k : NodeState) (line again : List Turn) → IsConsistent s → Run TakesSilently (Operates s) line m → IsInOrder (inputs line) → inputs again ≡ inputs line →
-    TakesLine (restarted m) again k → TakesLine (restarted (Operates s)) again k
+    Run TakesAble (restarted m) again k → Run TakesAble (restarted (Operates s)) again k
 operator_again s m k line again fine run order same more =
     let first = operator_line TakesSilently (λ n m x h. h.takes) operators.Silently (λ s t x h takes. record { takes = takes; silent = h.silent }) s line m run in
-    let behind = subst (λ (z : NodeState). TakesLine (restarted z) again k) first.node_is more in
-    let second = operator_line Takes (λ n m x h. h) OperatorTakes (λ s t x h takes. takes) (operator_rows.restarted first.after) again k behind in
+    let behind = subst (λ (z : NodeState). Run TakesAble (restarted z) again k) first.node_is more in
+    let second = operator_line TakesAble (λ n m x h. h) OperatorTakes (λ s t x h takes. takes) (operator_rows.restarted first.after) again k behind in
     let in_order = operator_order first.turns (subst (λ (l : List Turn). IsInOrder (inputs l)) first.line_is order) in
     let events = operator_same first.turns second.turns (ap inputs (sym second.line_is) ∙ same ∙ ap inputs first.line_is) in
     let before = operator_line_again s first.after second.after first.turns second.turns fine first.run in_order events second.run in
-    let up = run_of_part OperatorTakes Takes Operates of_operator (λ s t x h. operator_takes s t x.input x.answer h) (operator_rows.restarted s) second.after second.turns before in
-    subst (λ (l : List Turn). TakesLine (restarted (Operates s)) l k) (sym second.line_is)
-    (subst (λ (z : NodeState). TakesLine (restarted (Operates s)) (map of_operator second.turns) z) (sym second.node_is) up)
+    let up = run_of_part OperatorTakes TakesAble Operates of_operator (λ s t x h. operator_takes s t x.input x.answer h) (operator_rows.restarted s) second.after second.turns before in
+    subst (λ (l : List Turn). Run TakesAble (restarted (Operates s)) l k) (sym second.line_is)
+    (subst (λ (z : NodeState). Run TakesAble (restarted (Operates s)) (map of_operator second.turns) z) (sym second.node_is) up)
 
 provider_again : (s : provider_state.State) (m k : NodeState) (line again : List Turn) → Run TakesSilently (Provides s) line m → IsInOrder (inputs line) → inputs again ≡ inputs line →
-    TakesLine (restarted m) again k → TakesLine (restarted (Provides s)) again k
+    Run TakesAble (restarted m) again k → Run TakesAble (restarted (Provides s)) again k
 provider_again s m k line again run order same more =
     let next : (s t : provider_state.State) (x : ProviderTurn) → TakesSilently (Provides s) (of_provider x) (Provides t) → ProviderTakes s x t → providers.Silently s x t =
     λ s t x h takes. record { takes = takes; silent = h.silent; stays = λ g. h.stays (for_none s x.input g) } in
     let first = provider_line TakesSilently (λ n m x h. h.takes) providers.Silently next s line m run in
-    let behind = subst (λ (z : NodeState). TakesLine (restarted z) again k) first.node_is more in
-    let second = provider_line Takes (λ n m x h. h) ProviderTakes (λ s t x h takes. takes) (provider_rows.restarted first.after) again k behind in
+    let behind = subst (λ (z : NodeState). Run TakesAble (restarted z) again k) first.node_is more in
+    let second = provider_line TakesAble (λ n m x h. h) ProviderTakes (λ s t x h takes. takes) (provider_rows.restarted first.after) again k behind in
     let in_order = provider_order first.turns (subst (λ (l : List Turn). IsInOrder (inputs l)) first.line_is order) in
     let events = provider_same first.turns second.turns (ap inputs (sym second.line_is) ∙ same ∙ ap inputs first.line_is) in
     let before = provider_line_again s first.after second.after first.turns second.turns first.run in_order events second.run in
-    let up = run_of_part ProviderTakes Takes Provides of_provider (λ s t x h. provider_takes s t x.input x.answer h) (provider_rows.restarted s) second.after second.turns before in
-    subst (λ (l : List Turn). TakesLine (restarted (Provides s)) l k) (sym second.line_is)
-    (subst (λ (z : NodeState). TakesLine (restarted (Provides s)) (map of_provider second.turns) z) (sym second.node_is) up)
+    let up = run_of_part ProviderTakes TakesAble Provides of_provider (λ s t x h. provider_takes s t x.input x.answer h) (provider_rows.restarted s) second.after second.turns before in
+    subst (λ (l : List Turn). Run TakesAble (restarted (Provides s)) l k) (sym second.line_is)
+    (subst (λ (z : NodeState). Run TakesAble (restarted (Provides s)) (map of_provider second.turns) z) (sym second.node_is) up)
 
 pub lines_may_be_fed_again : LinesMayBeFedAgain
 lines_may_be_fed_again (Operates s) m k line again sound run order same more = operator_again s m k line again sound run order same more
@@ -217,9 +219,9 @@ lines_may_be_fed_again (Provides s) m k line again sound run order same more = p
 answer_serial : (n m : NodeState) (i : Input) (answer : Answer) → CanStartAgain n → Answers n i answer m → (last_serial m ≡ last_serial n + length (sent_by answer)) × CanStartAgain m
 answer_serial n m i (Sent packets) can leads =
     (subst (λ (ps : List Packet). last_serial m ≡ last_serial n + length ps) leads.sends (serial_rises n m leads.event can.sound leads.step), nodes_can_start_again n m leads.event can leads.step)
-answer_serial n m i (Refused fault) can refused = (let same = ap last_serial refused.2 in omega (arith, same), subst CanStartAgain (sym refused.2) can)
+answer_serial n m i (Refused fault) can refused = (let same = ap last_serial refused.1 in omega (arith, same), subst CanStartAgain (sym refused.1) can)
 
-line_serial : (n m : NodeState) (line : List Turn) → CanStartAgain n → TakesLine n line m → last_serial m ≡ last_serial n + length (sent_in line)
+line_serial : (n m : NodeState) (line : List Turn) → CanStartAgain n → Run Takes n line m → last_serial m ≡ last_serial n + length (sent_in line)
 line_serial n m [] can run = let same = ap last_serial run in omega (arith, same)
 line_serial n m (x ∷ xs) can (k, first, rest) =
     let one = answer_serial n k x.input x.answer can first in

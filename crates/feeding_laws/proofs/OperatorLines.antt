@@ -150,8 +150,8 @@ service_stays s t x fine h none = same_map text_total text_exact t.rows.out_of_s
   | inr (here, (v, serves)) ↦ absurd (none e v serves)
 ])
 
--- the first time it leads from a restart to a restart; again it is answered alike, and leaves what the line had left but
--- for the service of EVSEs
+-- the first time the event leads from a restart to a restart; again it is answered alike, and leaves what the line had
+-- left but for the service of EVSEs
 pub record TakenAgain (s t : State) (x : OperatorTurn) (answer : Answer) (xs : List OperatorTurn) (z b : State) : Type 0 where
   pub same : answer ≡ x.answer
   pub first : OperatorTakes (restarted s) x (restarted t)

@@ -224,8 +224,8 @@ answer_came s at q work answer comes range = by (ack_line s at q comes.provider 
 
 -- ---- service
 
--- what an EVSE's service is once it is set: an EVSE of the site is in service or not as it is told, and of others nothing
--- is kept
+-- what an EVSE's service is once it is set: an EVSE of the site is in service or not as it is told, and of others
+-- nothing is kept
 pub record IsSet (b : State) (evse : List ℕ) (v : Bool) (m : OutOfService) : Type 0 where
   pub others : (e : List ℕ) → (e ≡ evse → ⊥) → get m e ≡ get b.rows.out_of_service e
   pub this : (IsEvse b.site.locations evse × (works m evse ≡ v)) ⊎ ((¬ IsEvse b.site.locations evse) × (m ≡ b.rows.out_of_service))
