@@ -127,9 +127,9 @@ pub record TakesSilently (n : NodeState) (x : Turn) (m : NodeState) : Type 0 whe
   pub silent : sent_by x.answer ≡ []
   pub stays : ¬ IsTokenForNone n x.input
 
--- where none of the events of a line in order sends anything, the same line does from the restart of the node behind it
--- what it does from the restart of the node before it: each event is answered alike, with the same packets, and the node
--- that is left is the same
+-- where none of the events of a line in order sends anything, the line does from the restart of the node behind it what
+-- it does from that of the node before it. Each event is answered alike, with the same packets, and the node that is
+-- left is the same
 abbrev pub LinesMayBeFedAgain : Type 0
 LinesMayBeFedAgain =
     (n m k : NodeState) (line again : List Turn) → IsSound n → Run TakesSilently n line m → IsInOrder (map (λ (x : Turn). x.input) line) →

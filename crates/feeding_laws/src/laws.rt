@@ -20,13 +20,14 @@ pub fn serial_tells_of_sending()
     ensures { SerialTellsOfSending }
 {}
 
-/// Where no event of a line sends anything, the whole line does from the restart of the node behind it what it does from
-/// the restart of the node before it. Each event is answered alike, with the same packets, and the node that is left is
-/// the same. It holds for lines in order: behind a `tick` or a swipe stands no acknowledgement, no response to a command,
-/// no `service`, and no `tick` of an operator. No event of it may be refused because numbers, later moments or memory are
+/// Where no event of a line sends anything, the line does from the restart of the node behind it what it does from that
+/// of the node before it. Each event is answered alike, with the same packets, and the node that is left is the same.
+///
+/// It holds for lines in order: behind a `tick` or a swipe stands no acknowledgement, no response to a command, no
+/// `service`, and no `tick` of an operator. No event of it may be refused because numbers, later moments or memory are
 /// lacking. A `token` at a provider without operators is the one exception.
 ///
-/// In another order it is not true. Take a swipe at an EVSE that is out of service, and behind it the `service` by which
+/// In another order it may fail. Take a swipe at an EVSE that is out of service, and behind it the `service` by which
 /// it comes back: neither sends anything. Once both are carried out, the same swipe begins a session. Or take a `tick`
 /// before an acknowledgement: from the restart before the line it sends the push that the acknowledgement ends.
 pub fn lines_may_be_fed_again()
