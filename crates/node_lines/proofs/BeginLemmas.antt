@@ -1,5 +1,5 @@
 -- A text whose first token begins an array begins as a JSON array does.
-use Rattle.std.proofs.Common.{◌≡◌, ◌≤◌, ◌==◌, ℕ, length, arith, Bool, true, false, cond, List, [], ◌∷◌, ◌++◌, Option, None, Some, Ok, option_and_then, option_map, inl, inr, refl, sym, ap, subst, ◌∙◌}
+use Rattle.std.proofs.Common.{◌≡◌, ◌≤◌, ◌==◌, ℕ, length, arith, Bool, true, false, cond, List, [], ◌∷◌, Option, None, Some, Ok, option_map, inl, inr, refl, sym, ap, subst, ◌∙◌}
 use Rattle.std.specs.Prelude.{◌||◌, ◌&&◌, drop, nat_eq}
 use Rattle.std.specs.List.{starts_with}
 use Rattle.std.specs.Str.{IsUtf8}
@@ -7,17 +7,17 @@ use Rattle.std.proofs.lemmas.List.{append-nil}
 use Rattle.json.specs.Token.{Token}
 use Rattle.json.specs.Json as json
 use Rattle.json.specs.Json.{value, if_last}
-use Rattle.json.specs.Lex.{Class, Lexeme, Mode, Place, token, comma, colon, quote, backslash, operator, space, other, between, fresh, begins_colon, class, lex, lex_byte, operator_lexeme, place_token, punctuate, string_token, tokens}
+use Rattle.json.specs.Lex.{Lexeme, Mode, token, comma, colon, quote, backslash, operator, space, other, between, fresh, begins_colon, class, lex, place_token, punctuate, string_token, tokens}
 use Rattle.json.specs.Text.{content, plain}
 use Rattle.json.specs.Tree.{json_tokens, depth, items_depth}
 use Rattle.json.specs.Word.{after_number, ends_word, head, is_operator, is_space, literal, number_before, word}
 use Rattle.json.proofs.Nesting.{value-depth}
 use Rattle.json.proofs.Unique.Spelling.{value-json_tokens_back}
-use Rattle.serde_json.specs.Data.{Data, array, object, string, Items, Members, no_members}
+use Rattle.serde_json.specs.Data.{array, object, string, Items, Members, no_members}
 use Rattle.serde_json.specs.Read.{max_depth}
 use Rattle.json_text.specs.Line.{tree_at}
 use Rattle.json_text.specs.Tag.{is_tagged}
-use Rattle.json_text.specs.Tagged.{tagged, tagged_items, tagged_members, tagged_tree}
+use Rattle.json_text.specs.Tagged.{tagged, tagged_items, tagged_members}
 use Rattle.json_text.proofs.Steps.{test_is}
 use Rattle.json_text.proofs.FaultyTrees.{tree_at_once}
 use Rattle.json_text.proofs.LineTrees.{named_complete, tree_sound}

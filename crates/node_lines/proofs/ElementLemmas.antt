@@ -1,24 +1,23 @@
 -- The text of each element of an array is read as the element is.
-use Rattle.std.proofs.Common.{◌≡◌, ◌≢◌, ◌==◌, ◌+◌, ◌<◌, ◌≤◌, ◌⊎◌, inl, inr, ℕ, suc, max, Bool, true, false, cond, List, [], ◌∷◌, ◌++◌, length, map, take, drop, get_or, Option, None, Some, option_map, Ok, refl, sym, ap, ap₂, subst, ◌∙◌, append_assoc, length-append, rules, arith, All}
+use Rattle.std.proofs.Common.{◌≡◌, ◌≢◌, ◌==◌, ◌+◌, ◌<◌, ◌≤◌, inl, inr, ℕ, suc, Bool, true, false, cond, List, [], ◌∷◌, ◌++◌, length, map, take, drop, get_or, Option, None, Some, option_map, Ok, refl, sym, ap, ap₂, subst, ◌∙◌, append_assoc, length-append, arith, All}
 use Rattle.std.specs.Borrow.{Bor}
 use Rattle.std.specs.Str.{IsUtf8}
 use Rattle.std.proofs.Math.Seq.{drop-append_seam}
 use Rattle.std.proofs.lemmas.Bool.Decides.{nat_tests}
-use Rattle.std.proofs.lemmas.List.{append-nil, get_or-append-add, take-append-drop, take-append-le, take_all}
+use Rattle.std.proofs.lemmas.List.{append-nil, get_or-append-add, take-append-le, take_all}
 use Rattle.std.proofs.lemmas.List.Elements.{All-head, All-tail}
-use Rattle.std.proofs.lemmas.Str.{IsCharBoundary-before_ascii, IsCharBoundary-after_ascii, IsUtf8-drop, IsUtf8-nil, IsUtf8-take}
+use Rattle.std.proofs.lemmas.Str.{IsCharBoundary-before_ascii, IsCharBoundary-after_ascii, IsUtf8-drop, IsUtf8-take}
 use Rattle.json.specs.Token.{Token, begin_array, end_array}
 use Rattle.json.specs.Json as json
 use Rattle.json.specs.Json.{value}
-use Rattle.json.specs.Lex.{Class, Lexeme, Mode, Place, token, comma, between, space, operator, fresh, after_value, after_comma, class, lex, may_begin, punctuate, tokens}
+use Rattle.json.specs.Lex.{Class, Lexeme, Place, token, comma, between, space, operator, fresh, after_value, after_comma, class, lex, may_begin, punctuate, tokens}
 use Rattle.json.specs.Tree.{json_tokens, items_tokens, depth, items_depth}
 use Rattle.json.specs.Word.{is_operator, is_space}
 use Rattle.json.proofs.Printed.Trees.{value-json_tokens}
-use Rattle.serde_json.specs.Data.{Data, Items, no_items, item, array}
+use Rattle.serde_json.specs.Data.{Data, Items, no_items, item}
 use Rattle.serde_json.specs.Read.{converted}
 use Rattle.json_text.specs.Fault.{Read, ◌>>=◌}
-use Rattle.json_text.specs.Line.{text_of, tree_at}
-use Rattle.json_text.specs.Quote.{quote}
+use Rattle.json_text.specs.Line.{tree_at}
 use Rattle.json_text.specs.Tagged.{tagged, tagged_items, tree_in}
 use Rattle.json_text.proofs.TaggedLines.{read_at_once, then_some}
 use Rattle.json_text.proofs.TaggedTexts.{lex_as}
@@ -29,7 +28,7 @@ use Rattle.node_lines.specs.declared.node_line.NodeLine.TheVariants.{Several}
 use Rattle.node_lines.specs.declared.array_texts.Spot.TheVariants.{Outside}
 use Rattle.node_lines.specs.ElementReading.{each_read}
 use Rattle.node_lines.specs.ElementTexts.{AreElements, AreElementsOf, More, Last, before_spaces, behind_element, behind_spaces, element_len, element_text, some_text, unless_space}
-use Rattle.node_lines.specs.ListLines.{BeginsList, IsSpace}
+use Rattle.node_lines.specs.ListLines.{IsSpace}
 use Rattle.node_lines.specs.NodeLines.{node_line_in}
 use Rattle.node_lines.proofs.BeginLemmas.{array_begins, array_text}
 use Rattle.node_lines.proofs.CutLemmas.{some_is}

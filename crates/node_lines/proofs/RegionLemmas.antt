@@ -1,33 +1,24 @@
 -- A text of JSON, cut before the first comma or closing bracket outside its arrays and objects: each half has its own
 -- lexemes.
-use Rattle.std.proofs.Common.{◌≡◌, ◌≢◌, ◌==◌, ◌+◌, ◌-◌, ◌<◌, ◌≤◌, ℕ, zero, suc, Bool, true, false, cond, List, [], ◌∷◌, ◌++◌, length, drop, take, Option, None, Some, option_and_then, refl, sym, ap, ap₂, subst, ◌∙◌, append_assoc, length-append, arith}
-use Rattle.std.specs.Prelude.{◌&&◌, ◌||◌, nat_eq}
-use Rattle.std.specs.List.{list_all, starts_with}
-use Rattle.std.proofs.lemmas.Bool.{and_parts}
+use Rattle.std.proofs.Common.{◌≡◌, ◌≢◌, ◌==◌, ◌+◌, ◌-◌, ◌<◌, ◌≤◌, ℕ, zero, suc, Bool, true, false, cond, List, [], ◌∷◌, ◌++◌, length, Option, None, Some, option_and_then, refl, sym, ap, ap₂, subst, ◌∙◌, append_assoc, length-append, arith}
+use Rattle.std.specs.Prelude.{◌&&◌, ◌||◌}
 use Rattle.std.proofs.lemmas.Bool.Decides.{nat_tests}
-use Rattle.json.specs.Token.{Token, begin_object, end_object, begin_array, end_array, key, string, number, boolean, null, bad}
+use Rattle.json.specs.Token.{begin_object, end_object, begin_array, end_array, string, bad}
 use Rattle.json.specs.Text.{content, plain}
-use Rattle.json.specs.Word.{after_number, ends_word, head, is_operator, is_space, literal, number_before, word}
-use Rattle.json.specs.Lex.{Class, Lexeme, Mode, token, comma, colon, quote, backslash, operator, space, other, between, in_string, class, lex, lex_byte, operator_lexeme, string_token}
-use Rattle.json.specs.Print.{IsNumber}
-use Rattle.json.proofs.Printed.Numbers.{in_word-ended, lex-number, number_alone}
-use Rattle.json_text.specs.Numbers.{IsJsonNumber}
+use Rattle.json.specs.Word.{ends_word, is_operator, is_space, word}
+use Rattle.json.specs.Lex.{Lexeme, Mode, token, comma, colon, quote, backslash, operator, space, other, between, class, lex, operator_lexeme, string_token}
 use Rattle.json_text.specs.Pieces as pieces
 use Rattle.json_text.specs.Pieces.{AreCharacters, Character, characters_text, escaped}
-use Rattle.json_text.specs.Quote.{is_digit, is_number_char}
 use Rattle.json_text.proofs.FaultyTexts.{IsGood}
-use Rattle.json_text.proofs.JsonNumbers.{no_empty_number, number_from_json}
 use Rattle.json_text.proofs.Steps.{is_not_test, test_is}
 use Rattle.json_text.proofs.TaggedLines.{then_some}
-use Rattle.json_text.proofs.TaggedNumbers.{number_first}
-use Rattle.json_text.proofs.TaggedStrings.{IsString, string_first, string_passed}
-use Rattle.json_text.proofs.TaggedTexts.{lex_as, same_front}
-use Rattle.node_lines.specs.declared.array_texts.Spot.{Spot}
-use Rattle.node_lines.specs.declared.array_texts.Spot.TheVariants.{Outside, Inside, Escaped}
+use Rattle.json_text.proofs.TaggedStrings.{string_first, string_passed}
+use Rattle.json_text.proofs.TaggedTexts.{lex_as}
+use Rattle.node_lines.specs.declared.array_texts.Spot.TheVariants.{Outside, Inside}
 use Rattle.node_lines.specs.ElementTexts.{before_spaces, closes, depth_behind, element_len, ends, opens, spot_behind, unless_space}
 use Rattle.node_lines.proofs.BeginLemmas.{class_is}
 use Rattle.node_lines.proofs.LevelLemmas.{AreGood, level, levels}
-use Rattle.node_lines.proofs.WordLemmas.{IsPassed, len_passed, space_passed, IsPlain, ArePlain, len_plain, kept_first, kept_word, kept_over, space_lexes, ends_front, ends_tight, Piece, StopsAt, Stops, stops_good, Word, word_piece}
+use Rattle.node_lines.proofs.WordLemmas.{len_passed, space_passed, len_plain, kept_first, kept_word, kept_over, space_lexes, ends_front, ends_tight, StopsAt, Stops, stops_good, Word, word_piece}
 
 -- ---- operators
 

@@ -1,31 +1,23 @@
 -- What the search for the end of an element passes over: JSON spaces, words and numbers.
-use Rattle.std.proofs.Common.{◌≡◌, ◌≢◌, ◌==◌, ◌+◌, ◌-◌, ◌<◌, ◌≤◌, ℕ, zero, suc, Bool, true, false, cond, List, [], ◌∷◌, ◌++◌, length, drop, take, Option, None, Some, option_and_then, refl, sym, ap, ap₂, subst, ◌∙◌, append_assoc, length-append, arith}
+use Rattle.std.proofs.Common.{◌≡◌, ◌==◌, ◌+◌, ◌-◌, ◌≤◌, ℕ, suc, Bool, true, false, cond, List, [], ◌∷◌, ◌++◌, length, drop, Option, None, Some, refl, sym, ap, ap₂, ◌∙◌, arith}
 use Rattle.std.specs.Prelude.{◌&&◌, ◌||◌, nat_eq}
 use Rattle.std.specs.List.{list_all, starts_with}
 use Rattle.std.proofs.lemmas.Bool.{and_parts}
 use Rattle.std.proofs.lemmas.Bool.Decides.{nat_tests}
 use Rattle.json.specs.Token.{Token, begin_object, end_object, begin_array, end_array, key, string, number, boolean, null, bad}
-use Rattle.json.specs.Text.{content, plain}
-use Rattle.json.specs.Word.{after_number, ends_word, head, is_operator, is_space, literal, number_before, word}
-use Rattle.json.specs.Lex.{Class, Lexeme, Mode, token, comma, colon, quote, backslash, operator, space, other, between, in_string, class, lex, lex_byte, operator_lexeme, string_token}
+use Rattle.json.specs.Word.{after_number, ends_word, head, is_space, literal, number_before, word}
+use Rattle.json.specs.Lex.{Lexeme, token, comma, colon, space, between, class, lex}
 use Rattle.json.specs.Print.{IsNumber}
 use Rattle.json.proofs.Printed.Numbers.{in_word-ended, lex-number, number_alone}
 use Rattle.json_text.specs.Numbers.{IsJsonNumber}
-use Rattle.json_text.specs.Pieces as pieces
-use Rattle.json_text.specs.Pieces.{AreCharacters, Character, characters_text, escaped}
 use Rattle.json_text.specs.Quote.{is_digit, is_number_char}
 use Rattle.json_text.proofs.FaultyTexts.{IsGood}
 use Rattle.json_text.proofs.JsonNumbers.{no_empty_number, number_from_json}
-use Rattle.json_text.proofs.Steps.{is_not_test, test_is}
-use Rattle.json_text.proofs.TaggedLines.{then_some}
 use Rattle.json_text.proofs.TaggedNumbers.{number_first}
-use Rattle.json_text.proofs.TaggedStrings.{IsString, string_first, string_passed}
 use Rattle.json_text.proofs.TaggedTexts.{lex_as, same_front}
-use Rattle.node_lines.specs.declared.array_texts.Spot.{Spot}
-use Rattle.node_lines.specs.declared.array_texts.Spot.TheVariants.{Outside, Inside, Escaped}
-use Rattle.node_lines.specs.ElementTexts.{before_spaces, closes, depth_behind, element_len, ends, opens, spot_behind, unless_space}
-use Rattle.node_lines.proofs.BeginLemmas.{class_is}
-use Rattle.node_lines.proofs.LevelLemmas.{AreGood, level, levels}
+use Rattle.node_lines.specs.declared.array_texts.Spot.TheVariants.{Outside, Inside}
+use Rattle.node_lines.specs.ElementTexts.{before_spaces, closes, element_len, opens, unless_space}
+use Rattle.node_lines.proofs.LevelLemmas.{level}
 
 -- ---- bytes
 

@@ -1,5 +1,5 @@
 -- The texts of the elements of a line that is a JSON array, as they stand in it, without the JSON spaces around them.
-use Rattle.std.specs.Prelude.{◌≡◌, ◌≢◌, ℕ, suc, ◌+◌, ◌-◌, ◌==◌, ◌&&◌, ◌||◌, Bool, true, false, List, [], ◌∷◌, drop, take, length, if◌then◌else◌}
+use Rattle.std.specs.Prelude.{◌≡◌, ◌≢◌, ℕ, suc, ◌+◌, ◌-◌, ◌==◌, ◌&&◌, ◌||◌, Bool, true, false, List, [], ◌∷◌, drop, take, if◌then◌else◌}
 use Rattle.json.specs.Word.{is_space}
 use Rattle.node_lines.specs.declared.array_texts.Spot.{Spot}
 use Rattle.node_lines.specs.declared.array_texts.Spot.TheVariants.{Outside, Inside, Escaped}
