@@ -57,9 +57,6 @@ over text i depth spot e k =
 abbrev pub AreSoFar : List ℕ → List (List ℕ) → List ℕ → Type 0
 AreSoFar all texts rest = (others : List (List ℕ)) → AreElements rest others → AreElements all (texts ++ others)
 
-pub none_yet : (all : List ℕ) → AreSoFar all [] all
-none_yet all = λ others h. h
-
 pub one_more : (all : List ℕ) (texts : List (List ℕ)) (rest text more : List ℕ) → AreSoFar all texts rest → text ≡ element_text rest → behind_element rest ≡ 44 ∷ more
     → AreSoFar all (texts ++ text ∷ []) more
 one_more all texts rest text more h is behind = λ others g.

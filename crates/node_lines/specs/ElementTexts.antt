@@ -12,7 +12,7 @@ opens c = (c == 91) || (c == 123)
 abbrev pub closes : ℕ → Bool
 closes c = (c == 93) || (c == 125)
 
--- whether strings are open behind a byte: a quote ends a string unless a backslash stands before it
+-- where the byte behind this one stands: a quote ends a string unless a backslash stands before it
 abbrev pub spot_behind : Spot → ℕ → Spot
 spot_behind Outside c = if c == 34 then Inside else Outside
 spot_behind Inside c = if c == 34 then Outside else if c == 92 then Escaped else Inside
