@@ -1,20 +1,23 @@
 -- A text whose first token begins an array begins as a JSON array does.
-use Rattle.std.proofs.Common.{◌≡◌, ◌==◌, ℕ, Bool, true, false, cond, List, [], ◌∷◌, ◌++◌, Option, None, Some, Ok, option_and_then, option_map, inl, inr, refl, sym, ap, subst, ◌∙◌}
+use Rattle.std.proofs.Common.{◌≡◌, ◌≤◌, ◌==◌, ℕ, length, arith, Bool, true, false, cond, List, [], ◌∷◌, Option, None, Some, Ok, option_map, inl, inr, refl, sym, ap, subst, ◌∙◌}
 use Rattle.std.specs.Prelude.{◌||◌, ◌&&◌, drop, nat_eq}
 use Rattle.std.specs.List.{starts_with}
+use Rattle.std.specs.Str.{IsUtf8}
+use Rattle.std.proofs.lemmas.List.{append-nil}
 use Rattle.json.specs.Token.{Token}
 use Rattle.json.specs.Json as json
 use Rattle.json.specs.Json.{value, if_last}
-use Rattle.json.specs.Lex.{Class, Lexeme, Mode, Place, token, comma, colon, quote, backslash, operator, space, other, between, fresh, begins_colon, class, lex, lex_byte, operator_lexeme, place_token, punctuate, string_token, tokens}
+use Rattle.json.specs.Lex.{Lexeme, Mode, token, comma, colon, quote, backslash, operator, space, other, between, fresh, begins_colon, class, lex, place_token, punctuate, string_token, tokens}
 use Rattle.json.specs.Text.{content, plain}
-use Rattle.json.specs.Tree.{json_tokens}
+use Rattle.json.specs.Tree.{json_tokens, depth, items_depth}
 use Rattle.json.specs.Word.{after_number, ends_word, head, is_operator, is_space, literal, number_before, word}
+use Rattle.json.proofs.Nesting.{value-depth}
 use Rattle.json.proofs.Unique.Spelling.{value-json_tokens_back}
-use Rattle.serde_json.specs.Data.{Data, array, object, string, Items, Members, no_members}
+use Rattle.serde_json.specs.Data.{array, object, string, Items, Members, no_members}
 use Rattle.serde_json.specs.Read.{max_depth}
 use Rattle.json_text.specs.Line.{tree_at}
 use Rattle.json_text.specs.Tag.{is_tagged}
-use Rattle.json_text.specs.Tagged.{tagged, tagged_items, tagged_members, tagged_tree}
+use Rattle.json_text.specs.Tagged.{tagged, tagged_items, tagged_members}
 use Rattle.json_text.proofs.Steps.{test_is}
 use Rattle.json_text.proofs.FaultyTrees.{tree_at_once}
 use Rattle.json_text.proofs.LineTrees.{named_complete, tree_sound}
@@ -77,7 +80,9 @@ no_literal : (b : Bool) (k : Token) (ls : List Lexeme) → first k ls ≡ false 
 no_literal b k ls h = either b k Token.bad ls h (no_bad ls)
 
 no_word_by : (t : List ℕ) (a b d : Bool) (ls : List Lexeme)
-    → first (cond a (literal (116 ∷ 114 ∷ 117 ∷ 101 ∷ []) (Token.boolean true) t) (cond b (literal (102 ∷ 97 ∷ 108 ∷ 115 ∷ 101 ∷ []) (Token.boolean false) t) (cond d (literal (110 ∷ 117 ∷ 108 ∷ 108 ∷ []) Token.null t) (number_before t (after_number t))))) ls ≡ false
+    → first (cond a (literal (116 ∷ 114 ∷ 117 ∷ 101 ∷ []) (Token.boolean true) t)
+    (cond b (literal (102 ∷ 97 ∷ 108 ∷ 115 ∷ 101 ∷ []) (Token.boolean false) t)
+    (cond d (literal (110 ∷ 117 ∷ 108 ∷ 108 ∷ []) Token.null t) (number_before t (after_number t))))) ls ≡ false
 no_word_by t true b d ls = no_literal (starts_with nat_eq t (116 ∷ 114 ∷ 117 ∷ 101 ∷ []) && ends_word (drop 4 t)) (Token.boolean true) ls (no_truth true ls)
 no_word_by t false true d ls = no_literal (starts_with nat_eq t (102 ∷ 97 ∷ 108 ∷ 115 ∷ 101 ∷ []) && ends_word (drop 5 t)) (Token.boolean false) ls (no_truth false ls)
 no_word_by t false false true ls = no_literal (starts_with nat_eq t (110 ∷ 117 ∷ 108 ∷ 108 ∷ []) && ends_word (drop 4 t)) Token.null ls (no_null ls)
@@ -89,7 +94,8 @@ no_word t ls =
     no_word_by t (head t == 116) (head t == 102) (head t == 110) ls
 
 by_operator : (c : ℕ) (a b d e f : Bool) (ls : List Lexeme) → (c == 91) ≡ d
-    → begins (punctuate fresh (cond a (token Token.begin_object) (cond b (token Token.end_object) (cond d (token Token.begin_array) (cond e (token Token.end_array) (cond f comma colon)))) ∷ ls)) ≡ true
+    → begins (punctuate fresh (cond a (token Token.begin_object) (cond b (token Token.end_object)
+    (cond d (token Token.begin_array) (cond e (token Token.end_array) (cond f comma colon)))) ∷ ls)) ≡ true
     → c ≡ 91
 unfolding punctuate
 by_operator c true b d e f ls t h = absurd cc
@@ -108,10 +114,11 @@ space_by c false false true e ea eb ed ee h = inr (inr (inl (test_is c 10 ed)))
 space_by c false false false true ea eb ed ee h = inr (inr (inr (test_is c 13 ee)))
 space_by c false false false false ea eb ed ee h = absurd cc
 
-space_is : (c : ℕ) → is_space c ≡ true → IsSpace c
+pub space_is : (c : ℕ) → is_space c ≡ true → IsSpace c
 space_is c h = space_by c (c == 32) (c == 9) (c == 10) (c == 13) refl refl refl refl h
 
-class_is : (c : ℕ) (a b o s : Bool) → (c == 34) ≡ a → (c == 92) ≡ b → is_operator c ≡ o → is_space c ≡ s → class c ≡ cond a quote (cond b backslash (cond o operator (cond s space other)))
+pub class_is : (c : ℕ) (a b o s : Bool) → (c == 34) ≡ a → (c == 92) ≡ b → is_operator c ≡ o → is_space c ≡ s
+    → class c ≡ cond a quote (cond b backslash (cond o operator (cond s space other)))
 class_is c a b o s ea eb eo es = rw (ea, eb, eo, es) refl
 
 abbrev Begins : List Lexeme → Type 0
@@ -149,25 +156,42 @@ no_array_by : (b : Bool) (s : List ℕ) (ds : Items) → cond b None (Some (stri
 no_array_by true s ds e = cc
 no_array_by false s ds e = cc
 
-array_tokens : (j : json.Json) (ds : Items) → tagged j ≡ Some (array ds) → begins (json_tokens j ++ []) ≡ true
-array_tokens json.null ds e = absurd cc
-array_tokens (json.boolean b) ds e = absurd cc
-array_tokens (json.number s) ds e = absurd cc
-array_tokens (json.string s) ds e = absurd (no_array_by (is_tagged s) s ds e)
-array_tokens (json.array js) ds e = refl
-array_tokens (json.object ms) ds e = absurd (no_array (tagged_members ms no_members) ds e)
-
 last_by : (k j : json.Json) (rest : List Token) → if_last k rest ≡ Some j → (k ≡ j) × (rest ≡ [])
 last_by k j [] e = (cc, refl)
 last_by k j (t ∷ ts) e = absurd cc
 
-pub array_begins : (line : List ℕ) (ds : Items) → tree_at line ≡ Ok (array ds) → BeginsList line
-array_begins line ds e =
+-- the value that a line of an array is
+pub record IsArrayText (line : List ℕ) (ds : Items) : Type 0 where
+  pub items : json.Items
+  pub tree : tagged_items items ≡ Some ds
+  pub tokens : tokens line ≡ json_tokens (json.array items)
+  pub shallow : items_depth items ≤ 126
+  pub short : length line ≤ 1048576
+  pub utf8 : IsUtf8 line
+
+items_of : (o : Option Items) (ds : Items) → option_map array o ≡ Some (array ds) → o ≡ Some ds
+items_of None ds e = absurd cc
+items_of (Some es) ds e = cc
+
+array_by : (line : List ℕ) (j : json.Json) (ds : Items) → length line ≤ 1048576 → IsUtf8 line → tagged j ≡ Some (array ds) → tokens line ≡ json_tokens j
+    → depth j ≤ 127 → IsArrayText line ds
+array_by line json.null ds l u e t le = absurd cc
+array_by line (json.boolean b) ds l u e t le = absurd cc
+array_by line (json.number s) ds l u e t le = absurd cc
+array_by line (json.string s) ds l u e t le = absurd (no_array_by (is_tagged s) s ds e)
+array_by line (json.array js) ds l u e t le = record { items = js; tree = items_of (tagged_items js) ds e; tokens = t; shallow = omega (arith, le); short = l; utf8 = u }
+array_by line (json.object ms) ds l u e t le = absurd (no_array (tagged_members ms no_members) ds e)
+
+pub array_text : (line : List ℕ) (ds : Items) → tree_at line ≡ Ok (array ds) → IsArrayText line ds
+array_text line ds e =
     let h = tree_sound line (array ds) e in
     let once = tree_at_once line h.quoted (array ds) h.numbers (named_complete h.quoted (array ds) h.names h.json) in
     let j = then_some tagged _ (array ds) once in
     let p = then_some (λ (p : json.Json × List Token). if_last p.0 p.1) (value max_depth (tokens line)) j.0 j.1 in
     let last = last_by p.0.0 j.0 p.0.1 p.2 in
     let read : value max_depth (tokens line) ≡ Some (j.0, []) = p.1 ∙ ap (λ (x : json.Json). Some (x, p.0.1)) last.0 ∙ ap (λ (ts : List Token). Some (j.0, ts)) last.1 in
-    let same : tokens line ≡ json_tokens j.0 ++ [] = value-json_tokens_back max_depth (tokens line) [] j.0 read in
-    begins_text line (ap begins same ∙ array_tokens j.0 ds j.2)
+    let same : tokens line ≡ json_tokens j.0 = value-json_tokens_back max_depth (tokens line) [] j.0 read ∙ append-nil (json_tokens j.0) in
+    array_by line j.0 ds h.short h.utf8 j.2 same (value-depth max_depth (tokens line) [] j.0 read)
+
+pub array_begins : (line : List ℕ) (ds : Items) → tree_at line ≡ Ok (array ds) → BeginsList line
+array_begins line ds e = begins_text line (ap begins (array_text line ds e).tokens)

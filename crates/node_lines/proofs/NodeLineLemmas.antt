@@ -1,5 +1,5 @@
 -- What a line holds, by its tree.
-use Rattle.std.proofs.Common.{◌≡◌, ◌↔◌, ℕ, ◌≤◌, Bool, true, false, cond, List, [], ◌∷◌, length, map, take, Ok, Err, refl, sym, subst, ap, rules, arith}
+use Rattle.std.proofs.Common.{◌≡◌, ◌↔◌, ℕ, ◌≤◌, Bool, true, false, cond, List, [], ◌∷◌, length, map, take, Ok, Err, refl, sym, subst, ap, arith}
 use Rattle.std.specs.Prelude.{nat_le}
 use Rattle.std.proofs.lemmas.Bool.Decides.{nat_tests}
 use Rattle.std.proofs.lemmas.List.{take-take, take_all}
@@ -15,11 +15,10 @@ use Rattle.json_text.proofs.LineTrees.{tree_sound}
 use Rattle.ocpi_json.specs.NodeEventForms.{node_event_in, node_event_of_line}
 use Rattle.ocpi_types.specs.declared.node_events.NodeEvent.{NodeEvent}
 use Rattle.program_lines.specs.Cut.{tree-cut}
-use Rattle.node_lines.specs.declared.node_line.NodeLine.{NodeLine}
 use Rattle.node_lines.specs.declared.node_line.NodeLine.TheVariants.{One, Several}
 use Rattle.node_lines.specs.ElementReading.{each_read, read_tree}
 use Rattle.node_lines.specs.ListLines.{BeginsList, IsListLine}
-use Rattle.node_lines.specs.NodeLines.{node_line_in, node_line_of, one_of, several_of}
+use Rattle.node_lines.specs.NodeLines.{node_line_in, node_line_of, one_of}
 use Rattle.node_lines.proofs.BeginLemmas.{array_begins}
 
 -- each tree is read, in order

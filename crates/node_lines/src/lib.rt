@@ -12,11 +12,13 @@
 //! ```
 #![tactic(auto)]
 
+mod array_texts;
 mod elements;
 mod laws;
 mod list_lines;
 mod node_line;
 
+pub use array_texts::element_texts;
 pub use elements::Elements;
 pub use laws::{
     events_are_read_as_lines_of_their_own, lines_of_several_begin_with_a_bracket,

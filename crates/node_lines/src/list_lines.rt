@@ -1,14 +1,16 @@
 //! Whether a line begins as a JSON array does.
 
-ghost use Rattle.std.specs.Prelude.{◌↔◌, IsTrue, take};
+ghost use Rattle.std.specs.Prelude.{◌≡◌, ◌↔◌, IsTrue, take};
+ghost use Rattle.json.specs.Word.{is_space};
 ghost use Rattle.line_runs.specs.declared.lines.TheConstants.{KEPT_BYTES};
 ghost use Rattle.node_lines.specs.ListLines.{BeginsList, IsListLine, IsSpace};
 
 use line_runs::KEPT_BYTES;
 
 /// Whether a byte is JSON space.
-fn is_space(byte: u8) -> bool
-    ensures { IsTrue result ↔ IsSpace byte }
+pub(crate) fn is_space(byte: u8) -> bool
+    ensures test { result ≡ is_space byte }
+    ensures space { IsTrue result ↔ IsSpace byte }
 {
     byte == b' ' || byte == b'\t' || byte == b'\n' || byte == b'\r'
 }

@@ -64,8 +64,8 @@ fn node_line_in<'a>(
     node_line_of(alloc, tree)
 }
 
-/// What a line behind the setup holds, without its line feed. `scratch` is memory for reading, whatever it holds: one is
-/// kept and lent to each line.
+/// What a line behind the setup holds, without its line feed. `scratch` is memory for reading, whatever it holds: one
+/// is kept and lent to each line.
 ///
 /// A line that is a JSON array holds its elements, at most 256, also where one of them is refused when it is read. Any
 /// other line holds the event that [`read_node_event`](ocpi_json::read_node_event) reads.

@@ -1,9 +1,10 @@
-//! The line that says what became of an echoed line: an object with a member `done`.
+//! The line that says what became of an echoed line, or of one of its events: an object with a member `done`.
 
 ghost use Rattle.std.specs.Prelude.{◌≡◌, ◌↔◌, IsTrue};
 ghost use Rattle.json_text.specs.Trees.{view};
 ghost use Rattle.transcript_lines.specs.Dones.{
   Tells,
+  all_at,
   done_at,
   done_by,
   done_in,
@@ -16,13 +17,15 @@ ghost use Rattle.transcript_lines.specs.Dones.{
 };
 
 use crate::faults::{event_fault, line_fault};
-use crate::members::{optional_text_under, party_under, text_under, whole_under};
+use crate::members::{
+    optional_text_under, optional_whole_under, party_under, text_under, whole_under,
+};
 use json_text::{JsonFault, Scratch, Tree, line_tree};
 use node_steps::NodeFault;
 use ocpi_text::{Party, Whole};
 use std::alloc::Global;
 
-/// What became of an echoed line.
+/// What became of an echoed line, or of one of its events.
 #[derive(Clone, Copy)]
 pub enum Done {
     /// The node was opened: its party, how many rows were loaded, and the serial of the last packet that it sent.
@@ -43,6 +46,18 @@ pub enum Done {
     Malformed(Option<JsonFault>),
     /// The node refused the event. None where no fault has the name and the number that are told.
     Refused(Option<NodeFault>),
+    /// All events of the line are told of: so many.
+    All {
+        events: Whole,
+    },
+}
+
+/// What a line with a member `done` tells.
+#[derive(Clone, Copy)]
+pub struct DoneLine {
+    pub done: Done,
+    /// The place of the event that it tells of, in the line, from 0. None where it tells of the line.
+    pub event: Option<Whole>,
 }
 
 /// Why a line that has a member `done` is not taken.
@@ -99,7 +114,16 @@ fn refused_of(object: &Tree<'_>) -> Option<Done>
     Some(Done::Refused(event_fault(name, number.value())))
 }
 
-/// What became of a line by that word.
+/// That all events of a line are told of.
+#[tactic(auto, unfolding(crate::specs::Dones::all_at))]
+fn all_of(object: &Tree<'_>) -> Option<Done>
+    ensures { result ≡ all_at (view object.now) }
+{
+    let events = whole_under(object, "events")?;
+    Some(Done::All { events })
+}
+
+/// What became of a line, or of an event, by that word.
 #[tactic(auto, unfolding(crate::specs::Dones::done_by))]
 fn done_by(word: &str, object: &Tree<'_>) -> Option<Done>
     ensures { result ≡ done_by word.now (view object.now) }
@@ -111,23 +135,26 @@ fn done_by(word: &str, object: &Tree<'_>) -> Option<Done>
         "skipped" => Some(Done::Skipped),
         "malformed" => malformed_of(object),
         "refused" => refused_of(object),
+        "all" => all_of(object),
         _ => None,
     }
 }
 
-/// What an object tells, where it tells something that may become of a line.
+/// What an object tells, where it tells something that may become of a line, or of an event.
 #[tactic(auto, unfolding(crate::specs::Dones::done_at))]
-fn done_at(object: &Tree<'_>) -> Option<Done>
+fn done_at(object: &Tree<'_>) -> Option<DoneLine>
     ensures { result ≡ done_at (view object.now) }
 {
     let word = text_under(object, "done")?;
     let _line = whole_under(object, "line")?;
-    done_by(word, object)
+    let event = optional_whole_under(object, "event")?;
+    let done = done_by(word, object)?;
+    Some(DoneLine { done, event })
 }
 
 /// What the tree of a line tells.
 #[tactic(auto, unfolding(crate::specs::Dones::done_of))]
-fn done_of(tree: &Tree<'_>) -> Result<Option<Done>, DoneFault>
+fn done_of(tree: &Tree<'_>) -> Result<Option<DoneLine>, DoneFault>
     ensures { result ≡ done_of (view tree.now) }
 {
     if tree.get("done").is_none() {
@@ -139,20 +166,22 @@ fn done_of(tree: &Tree<'_>) -> Result<Option<Done>, DoneFault>
     }
 }
 
-/// What a line, without its line feed, says that became of an echoed line. None where it is no line of JSON, or no
-/// object with a member `done`. `scratch` is memory for reading, whatever it holds: one is kept and lent to each line.
+/// What a line, without its line feed, says that became of an echoed line, or of one of its events. None where it is no
+/// line of JSON, or no object with a member `done`. `scratch` is memory for reading, whatever it holds: one is kept and
+/// lent to each line.
 ///
-/// Such an object has one of six words under `done`, a whole number under `line`, and the members of its word, each of
+/// Such an object has one of seven words under `done`, a whole number under `line`, and the members of its word, each of
 /// the right kind: of `opened` a party and the whole numbers `rows` and `serial`, of `stepped` the whole number
-/// `packets`, of `malformed` and `refused` the text `name` and the whole number `number`. A `malformed` one may have the
-/// text `field`. Further members are read past. Refused (`NoDone`) where it has not these, and (`Memory`) for want of
+/// `packets`, of `malformed` and `refused` the text `name` and the whole number `number`, of `all` the whole number
+/// `events`. A `malformed` one may have the text `field`, and each the whole number `event`, the place of the event that
+/// it tells of. Further members are read past. Refused (`NoDone`) where it has not these, and (`Memory`) for want of
 /// memory.
 #[tactic(auto, unfolding(crate::specs::Dones::done_in))]
 pub fn read_done(
     alloc: Global,
     scratch: &mut Scratch,
     line: &[u8],
-) -> Result<Option<Done>, DoneFault>
+) -> Result<Option<DoneLine>, DoneFault>
     ensures { Tells result (done_in line.now) }
 {
     match line_tree(alloc, scratch, line) {

@@ -1,10 +1,10 @@
-//! The lines of transcripts: the line that says what became of an echoed line (`done`), and the event lines of a woven
-//! run that were in no transcript.
+//! The lines of transcripts: the line that says what became of an echoed line or of one of its events (`done`), and the
+//! event lines of a woven run that were in no transcript.
 //!
 //! ```
 //! match read_done(alloc, &mut scratch, line)? {
-//!     Some(Done::Stepped { packets }) => ..,
-//!     Some(Done::Refused(Some(fault))) => ..,
+//!     Some(DoneLine { done: Done::Stepped { packets }, event: None }) => ..,
+//!     Some(DoneLine { done: Done::Refused(Some(fault)), event: Some(place) }) => ..,
 //!     ..
 //! }
 //! let line = delivery_line(alloc, at, &from, &node, serial)?;
@@ -19,5 +19,5 @@ mod fields;
 pub mod laws;
 mod members;
 
-pub use done::{Done, DoneFault, is_run_without_lines, read_done};
+pub use done::{Done, DoneFault, DoneLine, is_run_without_lines, read_done};
 pub use event_lines::{delivery_line, restart_line};

@@ -3,14 +3,18 @@
 ghost use Rattle.std.specs.Prelude.{◌≡◌, drop, option_map, IsTrue};
 ghost use Rattle.json_text.specs.Tag.{is_tagged};
 ghost use Rattle.json_text.specs.Trees.{view};
+ghost use Rattle.ocpi_text.specs.Whole.{whole_at};
 ghost use Rattle.transcript_lines.specs.Dones.{
+  accepted,
   number_under,
   number_value,
   optional_text_under,
+  optional_whole_under,
   party_under,
   text_under,
   text_value,
   whole_under,
+  whole_value,
 };
 
 use json_text::Tree;
@@ -89,6 +93,16 @@ fn number_under<'a>(object: &Tree<'a>, name: &str) -> Option<&'a str>
     }
 }
 
+/// The whole number that a token spells.
+fn whole_of(token: &str) -> Option<Whole>
+    ensures { result ≡ accepted (whole_at token.now) }
+{
+    match Whole::read(token) {
+        Ok(number) => Some(number),
+        Err(_) => None,
+    }
+}
+
 /// The whole number of a member.
 pub fn whole_under(object: &Tree<'_>, name: &str) -> Option<Whole>
     ensures { result ≡ whole_under name.now (view object.now) }
@@ -96,9 +110,29 @@ pub fn whole_under(object: &Tree<'_>, name: &str) -> Option<Whole>
     let Some(token) = number_under(object, name) else {
         return None;
     };
-    match Whole::read(token) {
-        Ok(number) => Some(number),
-        Err(_) => None,
+    whole_of(token)
+}
+
+/// The whole number of a value.
+fn whole_value(value: &Tree<'_>) -> Option<Whole>
+    ensures { result ≡ whole_value (view value.now) }
+{
+    let Some(token) = number_value(value) else {
+        return None;
+    };
+    whole_of(token)
+}
+
+/// The whole number of a member that may be absent or null. None where it is something else.
+pub fn optional_whole_under(object: &Tree<'_>, name: &str) -> Option<Option<Whole>>
+    ensures { result ≡ optional_whole_under name.now (view object.now) }
+{
+    match object.get(name) {
+        None | Some(Tree::Null) => Some(None),
+        Some(value) => match whole_value(value) {
+            Some(number) => Some(Some(number)),
+            None => None,
+        },
     }
 }
 

@@ -1,9 +1,9 @@
 //! The first line of a run, and lines where no run is open.
 
-ghost use Rattle.std.specs.Prelude.{◌≡◌, [], IfOk, IfSome, IsTrue, Ok, OnOk};
+ghost use Rattle.std.specs.Prelude.{◌≡◌, IfOk, IfSome, IsTrue, Ok, OnOk};
 ghost use Rattle.ocpi_json.specs.SetupForms.{setup_in};
 ghost use Rattle.transcript_lines.specs.declared.done.Done.TheVariants as done;
-ghost use Rattle.transcript_parts.specs.LineReads.{GivesNone};
+ghost use Rattle.transcript_parts.specs.LineReads.{GaveNothing, GivesNone};
 ghost use Rattle.transcript_parts.specs.declared.line_read.Ending.TheVariants.{Answered};
 
 use crate::echoed::EchoedLine;
@@ -101,13 +101,13 @@ pub fn pass_line(
     part: &LineRead<'_>,
 ) -> Result<(), TranscriptFault>
     ensures none { OnOk result (GivesNone part.now.ending) }
-    ensures nothing { OnOk result (part.now.packets ≡ []) }
+    ensures nothing { OnOk result (GaveNothing part.now) }
 {
     let fits = match ends_run(alloc, scratch, part) {
         Ok(fits) => fits,
         Err(fault) => return Err(fault),
     };
-    if fits && part.packets().is_empty() {
+    if fits && part.gave_nothing() {
         Ok(())
     } else {
         Err(TranscriptFault::NotARun(part.line().number))

@@ -1,5 +1,5 @@
-//! The parts of a transcript, which is what a node wrote that ran by itself: echoed lines, the packets that each gave, and
-//! what became of it, run by run.
+//! The parts of a transcript, which is what a node wrote that ran by itself: echoed lines, the packets that each or its
+//! events gave, and what became of them, run by run.
 //!
 //! ```
 //! let mut lines = Lines::new(text);
@@ -21,6 +21,6 @@ pub use beginning::{Beginning, find_beginning};
 pub use echoed::EchoedLine;
 pub use fault::TranscriptFault;
 pub use first_lines::{Opened, is_refused_setup, opened_by, opened_setup, pass_line};
-pub use line_read::{Ending, LineRead};
+pub use line_read::{Ending, EventAnswer, LineRead};
 pub use lines::Lines;
 pub use parts::{Part, next_part};

@@ -5,9 +5,10 @@ use Rattle.std.specs.Prelude.{Contains, OnOk}
 use Rattle.ocpi_types.specs.Setups.{party_of}
 use Rattle.ocpi_types.specs.declared.packet.Packet.{Packet}
 use Rattle.ocpi_types.specs.declared.setup.Node.{Node}
-use Rattle.transcripts.specs.Following.{AllCome, AllGoOn, Came, ComesOf, ComesToNode, First, Follows, Gives, GoesOn, Happens, IsNew, IsOneOf, IsRead, IsWayOf, Last, Later, LeftOpen, LeftOut, More, NoEvent, NoLines, NoSetup, Opens, Outside, Passed, PassesLine, ReadTo, Reading, Reopens, ShowsEvent, Standing, Start, Starved, Stays, TakesLine, TakesPart, Unanswered, in_run, is_open_behind, opening_told}
-use Rattle.transcript_parts.specs.Lines.{Line}
-use Rattle.transcript_parts.specs.LineReads.{LineRead}
+use Rattle.transcripts.specs.Following.{AllCome, AllGoOn, Came, ComeInTurn, ComesOf, ComesToNode, First, Follows, Gives, GoesOn, Happens, IsNew, IsOneOf, IsRead, IsWayOf, Last, Later, LeftOpen, LeftOut, More, NoEvent, NoLines, NoSetup, NoneYet, OneMore, Opens, Outside, Passed, PassesLine, ReadTo, Reading, Reopens, ShowsEvent, Standing, Start, Starved, Stays, TakesLine, TakesPart, in_run, is_open_behind, opening_told}
+use Rattle.transcripts.specs.LineEvents.{HasShape, Holds, LineEvent, LineEvents}
+use Rattle.transcript_parts.specs.Lines.{Line, line_of}
+use Rattle.transcript_parts.specs.LineReads.{GaveNothing, LineRead}
 use Rattle.transcript_parts.specs.Parts.{IsPart}
 use Rattle.transcripts.specs.Told.{Told}
 use Rattle.ocpi_json.specs.SetupForms.{setup_in}
@@ -17,12 +18,11 @@ use Rattle.transcript_parts.specs.declared.line_read.Ending.{Ending}
 use Rattle.transcript_parts.specs.declared.line_read.Ending.TheVariants.{Answered}
 use Rattle.transcript_parts.specs.declared.parts.Part.{Part}
 use Rattle.transcript_parts.specs.declared.parts.Part.TheVariants as part
-use Rattle.transcript_parts.specs.declared.echoed.EchoedLine.{EchoedLine}
 
-abbrev pub standing : Option Told → Bool → Option Unanswered → Standing
+abbrev pub standing : Option Told → Bool → Option LineEvents → Standing
 standing told within left = record { told = told; within = within; unanswered = left }
 
-same_standing : (told : Option Told) (v w : Bool) (left right : Option Unanswered) → v ≡ w → left ≡ right → standing told v left ≡ standing told w right
+same_standing : (told : Option Told) (v w : Bool) (left right : Option LineEvents) → v ≡ w → left ≡ right → standing told v left ≡ standing told w right
 same_standing told v w left right a b = ap (λ x. standing told x left) a ∙ ap (standing told w) b
 
 -- ---- a transcript is of the setup, and of a node that no earlier one has
@@ -30,19 +30,24 @@ same_standing told v w left right a b = ap (λ x. standing told x left) a ∙ ap
 abbrev pub Kept : List Node → List Told → Told → Type 0
 Kept setup earlier t = (t.replay.setup ≡ setup) × IsNew earlier (party_of t.replay.member)
 
-happens_keeps : (setup : List Node) (earlier : List Told) (old : Told) (l : EchoedLine) (end : Ending) (packets : List Packet) (new : Told)
-    → Happens old l end packets new → Kept setup earlier old → Kept setup earlier new
-happens_keeps setup earlier old l end packets new h k = (h.enters.setup ∙ k.0, subst (λ m. IsNew earlier (party_of m)) (sym h.enters.member) k.1)
+happens_keeps : (setup : List Node) (earlier : List Told) (old : Told) (e : LineEvent) (end : Ending) (packets : List Packet) (changed : Bool) (new : Told)
+    → Happens old e end packets changed new → Kept setup earlier old → Kept setup earlier new
+happens_keeps setup earlier old e end packets changed new h k = (h.enters.setup ∙ k.0, subst (λ m. IsNew earlier (party_of m)) (sym h.enters.member) k.1)
 
-gives_keeps : (setup : List Node) (earlier : List Told) (old : Told) (l : EchoedLine) (end : Ending) (packets : List Packet) (new : Told)
-    → Gives old l end packets new → Kept setup earlier old → Kept setup earlier new
-gives_keeps setup earlier old l end packets new (inl h) k = happens_keeps setup earlier old l end packets new h k
-gives_keeps setup earlier old l end packets new (inr stays) k = subst (Kept setup earlier) (sym stays.same) k
+gives_keeps : (setup : List Node) (earlier : List Told) (old : Told) (e : LineEvent) (end : Ending) (packets : List Packet) (changed : Bool) (new : Told)
+    → Gives old e end packets changed new → Kept setup earlier old → Kept setup earlier new
+gives_keeps setup earlier old e end packets changed new (inl h) k = happens_keeps setup earlier old e end packets changed new h k
+gives_keeps setup earlier old e end packets changed new (inr stays) k = subst (Kept setup earlier) (sym stays.same) k
 
-goes_on_keeps : (setup : List Node) (earlier : List Told) (old : Told) (left : Option Unanswered) (new : Told) → GoesOn old left new → Kept setup earlier old → Kept setup earlier new
+come_keeps : (setup : List Node) (earlier : List Told) (p : LineRead) (old : Told) (es : List LineEvent) (changed : Bool) (new : Told) → ComeInTurn p old es changed new → Kept setup earlier old
+    → Kept setup earlier new
+come_keeps setup earlier p old es changed new NoneYet k = k
+come_keeps setup earlier p old es changed new (OneMore e before gives so) k = gives_keeps setup earlier _ e _ _ _ new gives (come_keeps setup earlier p old _ _ _ before k)
+
+goes_on_keeps : (setup : List Node) (earlier : List Told) (old : Told) (left : Option LineEvents) (new : Told) → GoesOn old left new → Kept setup earlier old → Kept setup earlier new
 goes_on_keeps setup earlier old None new e k = subst (Kept setup earlier) (sym e) k
 goes_on_keeps setup earlier old (Some u) new (inl e) k = subst (Kept setup earlier) (sym e) k
-goes_on_keeps setup earlier old (Some u) new (inr done) k = subst (Kept setup earlier) (sym done.starts) (happens_keeps setup earlier old _ _ _ done.between done.happens k)
+goes_on_keeps setup earlier old (Some u) new (inr done) k = subst (Kept setup earlier) (sym done.starts) (come_keeps setup earlier _ old u.events _ done.between done.come k)
 
 abbrev pub KeptBy : List Node → List Told → Option Told → Type 0
 KeptBy setup earlier None = Unit {0}
@@ -55,7 +60,7 @@ passed_same : (s : Standing) (p : LineRead) (t : Standing) → PassesLine s p t 
 passed_same s p t (Outside within unread is) = ap (λ z. z.told) is
 passed_same s p t (NoEvent told at within ends refused is) = ap (λ z. z.told) is
 passed_same s p t (NoSetup told at opened within ends opens is) = ap (λ z. z.told) is
-passed_same s p t (Starved at within ends is) = ap (λ z. z.told) is
+passed_same s p t (Starved at within ends other is) = ap (λ z. z.told) is
 passed_same s p t (LeftOpen u within leaves is) = ap (λ z. z.told) is
 passed_same s p t (LeftOut within ends none is) = ap (λ z. z.told) is
 passed_same s p t (Last within ends is) = ap (λ z. z.told) is
@@ -66,7 +71,7 @@ follows_keeps setup earlier s p t (First o) k = kept_as setup earlier (Some (ope
 follows_keeps setup earlier s p t (Later r) k =
     kept_as setup earlier (Some r.new) t.told (ap (λ z. z.told) r.stands) (goes_on_keeps setup earlier r.old s.unanswered r.new r.goes_on (subst (KeptBy setup earlier) r.stood k))
 follows_keeps setup earlier s p t (Came x) k =
-    kept_as setup earlier (Some x.new) t.told (ap (λ z. z.told) x.stands) (gives_keeps setup earlier x.old x.line _ _ x.new x.gives (subst (KeptBy setup earlier) x.stood k))
+    kept_as setup earlier (Some x.new) t.told (ap (λ z. z.told) x.stands) (come_keeps setup earlier _ x.old x.line.events x.changed x.new x.come (subst (KeptBy setup earlier) x.stood k))
 follows_keeps setup earlier s p t (Passed nothing x) k = kept_as setup earlier s.told t.told (passed_same s _ t x) k
 
 read_keeps : (setup : List Node) (earlier : List Told) (all lines : List Line) (s : Standing) → ReadTo setup earlier all lines s → KeptBy setup earlier s.told
@@ -79,13 +84,13 @@ transcript_keeps setup earlier all lines s t r e = subst (KeptBy setup earlier) 
 
 -- ---- one part more
 
-abbrev pub reading : List Node → List Told → Bool → Option Unanswered → Reading
+abbrev pub reading : List Node → List Told → Bool → Option LineEvents → Reading
 reading setup ways within left = record { setup = setup; ways = ways; within = within; unanswered = left }
 
 pub nothing_read : (setup : List Node) (earlier : List Told) (all : List Line) → IsRead setup earlier all all (reading setup [] false None)
 nothing_read setup earlier all = record { setup_is = refl; each = λ s is. start s.told s.within s.unanswered is.way is.within is.unanswered }
   where
-    start : (told : Option Told) (within : Bool) (left : Option Unanswered) → IsWayOf [] told → within ≡ false → left ≡ None → ReadTo setup earlier all all (standing told within left)
+    start : (told : Option Told) (within : Bool) (left : Option LineEvents) → IsWayOf [] told → within ≡ false → left ≡ None → ReadTo setup earlier all all (standing told within left)
     start None within left is v e = subst (ReadTo setup earlier all all) (sym (same_standing None within false left None v e)) Start
     start (Some t) within left is v e = absurd (omega (arith, is.1))
 
@@ -103,7 +108,7 @@ pub in_run_is : (r : Reading) → r.within ≡ true → in_run r ≡ r
 in_run_is r e = ap (λ w. reading r.setup r.ways w r.unanswered) (sym e)
 
 -- it is passed over
-pub passes : (old new : Reading) (p : LineRead) → new.setup ≡ old.setup → new.ways ≡ old.ways → p.packets ≡ []
+pub passes : (old new : Reading) (p : LineRead) → new.setup ≡ old.setup → new.ways ≡ old.ways → GaveNothing p
     → ((told : Option Told) → PassesLine (standing told old.within old.unanswered) p (standing told new.within new.unanswered)) → TakesLine old p new
 passes old new p setup ways nothing each earlier = record {
   setup = setup;
@@ -116,7 +121,7 @@ passes old new p setup ways nothing each earlier = record {
 }
 
 -- and nothing else is known behind it
-pub passes_line : (old new : Reading) (p : LineRead) → new ≡ old → p.packets ≡ []
+pub passes_line : (old new : Reading) (p : LineRead) → new ≡ old → GaveNothing p
     → ((told : Option Told) → PassesLine (standing told old.within old.unanswered) p (standing told old.within old.unanswered)) → TakesLine old p new
 passes_line old new p e nothing each = subst (TakesLine old p) (sym e) (passes old old p refl refl nothing each)
 
@@ -129,10 +134,6 @@ pub on_both : {A B X Y Z : Type 0} (r : Result A B) → OnOk r X → OnOk r Y �
 on_both (Ok a) x y f = f x y
 on_both (Err b) x y f = tt
 
-pub nothing : (qs : List Packet) → length qs ≡ 0 → qs ≡ []
-nothing [] e = refl
-nothing (q ∷ qs) e = absurd (omega (arith, e))
-
 pub no_lines : (earlier : List Told) (old new : Reading) → new ≡ reading old.setup old.ways false old.unanswered → TakesPart earlier old part.RunWithoutLines new
 no_lines earlier old new e = record { setup = ap (λ r. r.setup) e; each = λ t one. by t (subst (λ r. IsOneOf r t) e one) }
   where
@@ -144,23 +145,27 @@ no_lines earlier old new e = record { setup = ap (λ r. r.setup) e; each = λ t 
     )
 
 -- it came to the node
-pub happened : (old new : Reading) (p : LineRead) → new.setup ≡ old.setup → new.within ≡ is_open_behind p.ending → new.unanswered ≡ old.unanswered → AllCome old.ways p new.ways
-    → new.ways ≢ [] → ShowsEvent p.ending p.packets → TakesLine (in_run old) p new
-happened old new p setup within left all some shows earlier = record { setup = setup; each = λ t one. by t.told t.within t.unanswered one.way (one.within ∙ within) (one.unanswered ∙ left) }
+pub happened : (old new : Reading) (p : LineRead) (line : LineEvents) → line_of line.line ≡ p.line → Holds line → HasShape line p → new.setup ≡ old.setup → new.within ≡ is_open_behind p.ending
+    → new.unanswered ≡ old.unanswered → AllCome old.ways line.events p new.ways → new.ways ≢ [] → ShowsEvent p p.ending → TakesLine (in_run old) p new
+happened old new p line is_line holds shape setup within left all some shows earlier =
+    record { setup = setup; each = λ t one. by t.told t.within t.unanswered one.way (one.within ∙ within) (one.unanswered ∙ left) }
   where
     Before : Standing → Type 0
     Before t = (s : Standing) × IsOneOf (in_run old) s × Follows old.setup earlier s (part.Line p) t
 
-    of : (t : Told) (v : Bool) (u : Option Unanswered) → v ≡ is_open_behind p.ending → u ≡ old.unanswered → ComesOf old.ways p t → Before (standing (Some t) v u)
+    of : (t : Told) (v : Bool) (u : Option LineEvents) → v ≡ is_open_behind p.ending → u ≡ old.unanswered → ComesOf old.ways line.events p t → Before (standing (Some t) v u)
     of t v u a b c = (
       standing (Some c.old) true old.unanswered,
       record { way = c.among; within = refl; unanswered = refl },
       Came (record {
         old = c.old;
         new = t;
-        line = c.line;
-        is_line = c.is_line;
-        gives = c.gives;
+        line = line;
+        is_line = is_line;
+        holds = holds;
+        shape = shape;
+        changed = c.changed;
+        come = c.come;
         shows = shows;
         within = refl;
         stood = refl;
@@ -168,13 +173,13 @@ happened old new p setup within left all some shows earlier = record { setup = s
       }),
     )
 
-    by : (told : Option Told) (v : Bool) (u : Option Unanswered) → IsWayOf new.ways told → v ≡ is_open_behind p.ending → u ≡ old.unanswered → Before (standing told v u)
+    by : (told : Option Told) (v : Bool) (u : Option LineEvents) → IsWayOf new.ways told → v ≡ is_open_behind p.ending → u ≡ old.unanswered → Before (standing told v u)
     by None v u is a b = absurd (some is)
     by (Some t) v u is a b = of t v u a b (all t is)
 
 -- a run is opened, the first of the file
 pub opened_first : (earlier : List Told) (old new : Reading) (p : LineRead) (member : Node) (at : ℕ) → Contains old.setup member → IsNew earlier (party_of member)
-    → setup_in p.line.bytes ≡ Ok old.setup → p.packets ≡ [] → p.ending ≡ Answered (done.Opened (party_of member) 0 0) at → old.ways ≡ []
+    → setup_in p.line.bytes ≡ Ok old.setup → GaveNothing p → p.ending ≡ Answered (done.Opened (party_of member) 0 0) at → old.ways ≡ []
     → new ≡ reading old.setup (opening_told old.setup member ∷ []) true None → TakesPart earlier old (part.Line p) new
 opened_first earlier old new p member at among fresh reads no_packets answered empty is = record { setup = ap (λ r. r.setup) is; each = λ t one. of t (subst (λ r. IsOneOf r t) is one) }
   where
@@ -184,7 +189,7 @@ opened_first earlier old new p member at among fresh reads no_packets answered e
     first : Told
     first = opening_told old.setup member
 
-    by : (told : Option Told) (v : Bool) (u : Option Unanswered) → IsWayOf (first ∷ []) told → v ≡ true → u ≡ None → Before (standing told v u)
+    by : (told : Option Told) (v : Bool) (u : Option LineEvents) → IsWayOf (first ∷ []) told → v ≡ true → u ≡ None → Before (standing told v u)
     by None v u one a b = absurd (omega (arith, ap length one))
     by (Some t) v u one a b = (
       standing None old.within old.unanswered,
@@ -210,7 +215,7 @@ opened_first earlier old new p member at among fresh reads no_packets answered e
     of t one = by t.told t.within t.unanswered one.way one.within one.unanswered
 
 -- a later one
-pub opened_later : (old new : Reading) (p : LineRead) (opened : Opened) → setup_in p.line.bytes ≡ Ok old.setup → p.packets ≡ []
+pub opened_later : (old new : Reading) (p : LineRead) (opened : Opened) → setup_in p.line.bytes ≡ Ok old.setup → GaveNothing p
     → p.ending ≡ Answered (done.Opened opened.party opened.rows opened.serial) opened.number → new.setup ≡ old.setup → new.within ≡ true → new.unanswered ≡ None
     → AllGoOn old.ways old.unanswered opened new.ways → new.ways ≢ [] → TakesLine old p new
 opened_later old new p opened reads no_packets answered setup within left all some earlier =
@@ -219,7 +224,7 @@ opened_later old new p opened reads no_packets answered setup within left all so
     Before : Standing → Type 0
     Before t = (s : Standing) × IsOneOf old s × Follows old.setup earlier s (part.Line p) t
 
-    by : (told : Option Told) (v : Bool) (u : Option Unanswered) → IsWayOf new.ways told → v ≡ true → u ≡ None → Before (standing told v u)
+    by : (told : Option Told) (v : Bool) (u : Option LineEvents) → IsWayOf new.ways told → v ≡ true → u ≡ None → Before (standing told v u)
     by None v u one a b = absurd (some one)
     by (Some t) v u one a b = let (s, among, goes, stands) = all t one in (
       standing (Some s) old.within old.unanswered,

@@ -1,3 +1,4 @@
 pub mod FollowingLemmas
 pub mod WayLemmas
 pub mod Refusing
+pub mod HoldingLemmas

@@ -1,11 +1,11 @@
--- Why a line is refused as an event.
+-- Why a line is refused as a whole.
 use Rattle.std.proofs.Common.{◌≡◌, ◌≢◌, ℕ, Bool, List, Option, Some, Result, Ok, Err, IfOk, OnOk, IsTrue, refl}
 use Rattle.json_text.specs.Fault.{Fails, Read}
 use Rattle.json_text.specs.declared.fault.JsonFault.{JsonFault}
 use Rattle.json_text.specs.declared.fault.JsonFault.TheVariants.{Syntax, BadNumberToken, TaggedText, Missing, WrongForm, UnknownWord, UnknownKind, Memory}
 use Rattle.json_text.specs.contracts.fault.JsonFault as json_fault_declared
 use Rattle.json_text.specs.contracts.fault.JsonFaultPartialEq.TheImpl as json_fault_eq
-use Rattle.ocpi_json.specs.NodeEventForms.{node_event_in}
+use Rattle.node_lines.specs.NodeLines.{node_line_in}
 use Rattle.ocpi_types.specs.contracts.field.Field as field_declared
 use Rattle.ocpi_types.specs.contracts.field.FieldPartialEq.TheImpl as field_eq
 use Rattle.packet_equality.proofs.Same.{Same, at_last, by_tag, by_variants, no_part, no_variant, or_else}
@@ -41,7 +41,7 @@ was_due read (WrongForm f) other fails = fails
 was_due read (UnknownWord f) other fails = fails
 was_due read UnknownKind other fails = fails
 
-pub refused_event : (r : Result Bool TranscriptFault) (line : List ℕ) (told : Option JsonFault) (why : JsonFault) → Fails why (node_event_in line)
+pub refused_event : (r : Result Bool TranscriptFault) (line : List ℕ) (told : Option JsonFault) (why : JsonFault) → Fails why (node_line_in line)
     → IfOk r (λ same. IsTrue same → told ≡ Some why) → OnOk r (why ≢ Memory) → IfOk r (λ refused. IsTrue refused → IsRefusedEvent line told)
-refused_event (Ok same) line told why fails is other = λ yes. (why, was_due (node_event_in line) why other fails, is yes)
+refused_event (Ok same) line told why fails is other = λ yes. (why, was_due (node_line_in line) why other fails, is yes)
 refused_event (Err e) line told why fails is other = tt

@@ -13,13 +13,15 @@ use Rattle.ocpi_types.specs.declared.setup.Node.{Node}
 use Rattle.ocpi_json.specs.NodeEventForms.{node_event_in}
 use Rattle.histories.specs.declared.entry.Entry.{Entry}
 use Rattle.node_steps.specs.declared.fault.NodeFault.{NodeFault}
-use Rattle.node_replay.specs.Replayed.{Enters, Foretells, Leads, Passes, Refuses, Replay, restart_entry, started_again}
+use Rattle.node_replay.specs.Replayed.{Enters, Leads, Passes, Refuses, Replay, restart_entry, started_again}
+use Rattle.json_text.specs.Fault.{Read}
+use Rattle.json_text.specs.declared.fault.JsonFault.{JsonFault}
+use Rattle.transcript_parts.specs.LineReads.{LineRead}
 use Rattle.transcript_parts.specs.declared.line_read.Ending.{Ending}
-use Rattle.transcript_parts.specs.declared.line_read.Ending.TheVariants.{NextRun}
 use Rattle.transcript_parts.specs.declared.echoed.EchoedLine.{EchoedLine}
-use Rattle.world_steps.specs.World.{NodeState}
 use Rattle.transcripts.specs.Told.{AreSources, HasSources, IsEventLine, IsSource, Told}
-use Rattle.transcripts.specs.Following.{Adds, FitsEntry, FitsNothing, Gives, GoesOn, Happens, IsOwn, Refused, Skipped, Stays, TellsRefused, TellsSkipped, Unanswered, restarted}
+use Rattle.transcripts.specs.Following.{Adds, CarriedOut, ComeInTurn, FitsEntry, FitsNothing, Gives, GoesOn, Happens, IsOwn, Malformed, OneMore, Refused, Skipped, Stays, TellsMalformed, TellsRefused, TellsSkipped, restarted, unanswered_line}
+use Rattle.transcripts.specs.LineEvents.{LineEvent, LineEvents, ending_at, packets_at}
 use Rattle.transcripts.specs.declared.source.Source.{Source}
 use Rattle.transcripts.specs.declared.source.Source.TheVariants.{Echoed, Restarted}
 
@@ -77,17 +79,23 @@ happened_sources old new event l kind changed reads own same enters sources has 
     has_more old new (record { event = kind; packets = enters.packets }) (Echoed l) enters.member enters.entries sources has
     (record { event = event; reads = reads; own = own; same = sym same })
 
-pub happens : (old new : Told) (event : NodeEvent) (l : EchoedLine) (end : Ending) (packets sent : List Packet) (kind : NodeEventKind) (changed : Bool) → node_event_in l.bytes.now ≡ Ok event
+abbrev pub one_event : EchoedLine → NodeEvent → LineEvent
+one_event l x = record { text = l; event = Ok x }
+
+pub is_event : (e : LineEvent) (l : EchoedLine) (x : NodeEvent) → l ≡ e.text → e.event ≡ Ok x → one_event l x ≡ e
+is_event e l x text event = ap (λ t. one_event t x) text ∙ ap (λ (r : Read NodeEvent). record { text = e.text; event = r }) (sym event)
+
+-- it was carried out
+pub happens : (old new : Told) (event : NodeEvent) (l : EchoedLine) (end : Ending) (packets sent : List Packet) (kind : NodeEventKind) (changed : Bool)
     → key event.node ≡ key (party_of old.replay.member) → kind ≡ event.kind → Enters old.replay kind changed new.replay
     → ((es : List Entry) → (e : Entry) → new.replay.entries ≡ es ++ e ∷ [] → sent ≡ e.packets) → new.sources ≡ old.sources ++ Echoed l ∷ [] → FitsEntry end packets changed sent
-    → Gives old l end packets new
-happens old new event l end packets sent kind changed reads own same enters last sources fits =
+    → Gives old (one_event l event) end packets changed new
+happens old new event l end packets sent kind changed own same enters last sources fits =
     let all = last old.replay.entries (record { event = kind; packets = enters.packets }) enters.entries in
     inl (record {
       event = event;
-      reads = reads;
+      reads = refl;
       own = own;
-      changed = changed;
       enters = record {
         packets = enters.packets;
         leads = subst (λ k. Leads old.replay.state k enters.packets changed new.replay.state) same enters.leads;
@@ -100,16 +108,30 @@ happens old new event l end packets sent kind changed reads own same enters last
     })
 
 -- it was skipped
-pub skipped : (old new : Told) (event : NodeEvent) (l : EchoedLine) (end : Ending) (packets : List Packet) → node_event_in l.bytes.now ≡ Ok event → TellsSkipped end
-    → (IsOwn old event → Passes old.replay.state event.kind) → packets ≡ [] → new ≡ old → Gives old l end packets new
-skipped old new event l end packets reads tells passes nothing same =
-    inr (record { event = event; reads = reads; fits = Skipped tells passes; nothing = nothing; same = same })
+pub skipped : (old new : Told) (event : NodeEvent) (l : EchoedLine) (end : Ending) (packets : List Packet) (changed : Bool) → (IsOwn old event → Passes old.replay.state event.kind) → new ≡ old
+    → TellsSkipped end → packets ≡ [] → changed ≡ false → Gives old (one_event l event) end packets changed new
+skipped old new event l end packets changed passes same tells nothing unchanged =
+    inr (record { fits = Skipped event refl tells passes; nothing = nothing; unchanged = unchanged; same = same })
 
 -- it was refused
-pub refused : (old new : Told) (event : NodeEvent) (l : EchoedLine) (end : Ending) (packets : List Packet) (why : NodeFault) → node_event_in l.bytes.now ≡ Ok event → TellsRefused why end
-    → IsOwn old event → Refuses old.replay.state event.kind why → packets ≡ [] → new ≡ old → Gives old l end packets new
-refused old new event l end packets why reads tells own refuses nothing same =
-    inr (record { event = event; reads = reads; fits = Refused why tells own refuses; nothing = nothing; same = same })
+pub refused : (old new : Told) (event : NodeEvent) (l : EchoedLine) (end : Ending) (packets : List Packet) (changed : Bool) (why : NodeFault) → IsOwn old event → Refuses old.replay.state event.kind why
+    → new ≡ old → TellsRefused why end → packets ≡ [] → changed ≡ false → Gives old (one_event l event) end packets changed new
+refused old new event l end packets changed why own refuses same tells nothing unchanged =
+    inr (record { fits = Refused event refl why tells own refuses; nothing = nothing; unchanged = unchanged; same = same })
+
+-- it is none
+pub malformed : (old new : Told) (e : LineEvent) (end : Ending) (packets : List Packet) (changed : Bool) (why : JsonFault) → e.event ≡ Err why → new ≡ old → TellsMalformed why end → packets ≡ []
+    → changed ≡ false → Gives old e end packets changed new
+malformed old new e end packets changed why is same tells nothing unchanged =
+    inr (record { fits = Malformed why is tells; nothing = nothing; unchanged = unchanged; same = same })
+
+-- ---- one event more of a line
+
+pub come_more : (p : LineRead) (old now next : Told) (es longer : List LineEvent) (e : LineEvent) (place : ℕ) (before changes after : Bool) → ComeInTurn p old es before now → longer ≡ es ++ e ∷ []
+    → length es ≡ place → Gives now e (ending_at p place) (packets_at p place) changes next → (IsTrue after ↔ (IsTrue before ⊎ IsTrue changes)) → ComeInTurn p old longer after next
+come_more p old now next es longer e place before changes after come is long gives so =
+    subst (λ xs. ComeInTurn p old xs after next) (sym is)
+    (OneMore e come (subst (λ n. Gives now e (ending_at p n) (packets_at p n) changes next) (sym long) gives) so)
 
 -- ---- several ways
 
@@ -170,17 +192,11 @@ added_to P Q before after each adds so s among = of (adds s among)
 
 -- ---- how a way goes on
 
--- an event that a stop left open was carried out, and then the node started again
-pub carried_out : (way between t : Told) (u : Unanswered) → Foretells way.replay.state u.event.kind true → Gives way u.line NextRun [] between → t ≡ restarted between → GoesOn way (Some u) t
-carried_out way between t u changes (inl h) is = inr (record { between = between; happens = h; changes = changes; starts = is })
-carried_out way between t u changes (inr stays) is = inl (is ∙ ap restarted stays.same)
-
--- what is foretold to change a row
-pub foretold : {B : Type 0} (s : NodeState) (k : NodeEventKind) (r : Result Bool B) → IfOk r (Foretells s k) → IfOk r (λ changes. IsTrue changes → Foretells s k true)
-foretold s k (Ok changes) is = λ yes. subst (Foretells s k) yes is
-foretold s k (Err e) is = tt
+-- a line that a stop left open was carried out, and then the node started again
+pub carried_out : (way between t : Told) (h : LineEvents) → ComeInTurn (unanswered_line h.line) way h.events true between → t ≡ restarted between → GoesOn way (Some h) t
+carried_out way between t h come is = inr (record { between = between; come = come; starts = is })
 
 -- it started again, without more
-pub without_more : (way t : Told) (left : Option Unanswered) → t ≡ restarted way → GoesOn way left t
+pub without_more : (way t : Told) (left : Option LineEvents) → t ≡ restarted way → GoesOn way left t
 without_more way t None is = is
 without_more way t (Some u) is = inl is

@@ -8,16 +8,18 @@ use Rattle.ocpi_types.specs.declared.node_events.NodeEvent.{NodeEvent}
 use Rattle.ocpi_types.specs.declared.packet.Packet.{Packet}
 use Rattle.ocpi_types.specs.declared.rows.Row.{Row}
 use Rattle.ocpi_types.specs.declared.setup.Node.{Node}
-use Rattle.ocpi_json.specs.NodeEventForms.{node_event_in}
+use Rattle.node_lines.specs.ListLines.{IsListLine}
+use Rattle.node_lines.specs.NodeLines.{node_line_in}
 use Rattle.ocpi_json.specs.SetupForms.{setup_in}
-use Rattle.node_replay.specs.Replayed.{Enters, Foretells, Passes, Refuses, started_again}
+use Rattle.node_replay.specs.Replayed.{Enters, Passes, Refuses, started_again}
 use Rattle.node_steps.specs.declared.fault.NodeFault.{NodeFault}
 use Rattle.node_steps.specs.declared.fault.NodeFault.TheVariants as node_fault
 use Rattle.stored_laws.specs.Nodes.{AreNodeRows, last_serial}
 use Rattle.transcript_lines.specs.declared.done.Done.TheVariants as done
 use Rattle.transcript_parts.specs.Lines.{Line, line_of, lines_in}
-use Rattle.transcript_parts.specs.LineReads.{LineRead}
+use Rattle.transcript_parts.specs.LineReads.{GaveNothing, LineRead}
 use Rattle.transcript_parts.specs.Parts.{IsPart}
+use Rattle.transcripts.specs.LineEvents.{HasShape, Holds, LineEvent, LineEvents, ending_at, packets_at}
 use Rattle.transcripts.specs.Told.{Told}
 use Rattle.transcript_parts.specs.declared.fault.TranscriptFault.{TranscriptFault}
 use Rattle.transcript_parts.specs.declared.fault.TranscriptFault.TheVariants as transcript_fault
@@ -40,6 +42,7 @@ FitsEntry (Answered done.Skipped at) packets changed sent = ⊥
 FitsEntry (Answered (done.Opened party rows serial) at) packets changed sent = ⊥
 FitsEntry (Answered (done.Malformed fault) at) packets changed sent = ⊥
 FitsEntry (Answered (done.Refused fault) at) packets changed sent = ⊥
+FitsEntry (Answered (done.All n) at) packets changed sent = ⊥
 FitsEntry NextRun packets changed sent = (rest : List Packet) × (sent ≡ packets ++ rest)
 FitsEntry FileEnd packets changed sent = (rest : List Packet) × (sent ≡ packets ++ rest)
 
@@ -47,17 +50,16 @@ FitsEntry FileEnd packets changed sent = (rest : List Packet) × (sent ≡ packe
 abbrev pub IsOwn : Told → NodeEvent → Type 0
 IsOwn t x = key x.node ≡ key (party_of t.replay.member)
 
--- the line is an event of the node, which was carried out, and gave what is told of it
-pub record Happens (old : Told) (l : EchoedLine) (end : Ending) (packets : List Packet) (new : Told) : Type 0 where
+-- it is an event of the node, which was carried out, and gave what is told of it
+pub record Happens (old : Told) (e : LineEvent) (end : Ending) (packets : List Packet) (changed : Bool) (new : Told) : Type 0 where
   pub event : NodeEvent
-  pub reads : node_event_in l.bytes.now ≡ Ok event
+  pub reads : e.event ≡ Ok event
   pub own : IsOwn old event
-  pub changed : Bool
   pub enters : Enters old.replay event.kind changed new.replay
   pub fits : FitsEntry end packets changed enters.packets
-  pub sources : new.sources ≡ old.sources ++ Echoed l ∷ []
+  pub sources : new.sources ≡ old.sources ++ Echoed e.text ∷ []
 
--- what the end says of an event is that it was skipped
+-- what the end says of an event is that it was skipped, or a stop came before it said anything
 abbrev pub TellsSkipped : Ending → Type 0
 TellsSkipped (Answered done.Skipped at) = Unit {0}
 TellsSkipped (Answered done.Idle at) = ⊥
@@ -65,10 +67,11 @@ TellsSkipped (Answered (done.Stepped n) at) = ⊥
 TellsSkipped (Answered (done.Opened party rows serial) at) = ⊥
 TellsSkipped (Answered (done.Malformed fault) at) = ⊥
 TellsSkipped (Answered (done.Refused fault) at) = ⊥
-TellsSkipped NextRun = ⊥
-TellsSkipped FileEnd = ⊥
+TellsSkipped (Answered (done.All n) at) = ⊥
+TellsSkipped NextRun = Unit {0}
+TellsSkipped FileEnd = Unit {0}
 
--- it is that the node refused it for that reason
+-- it is that the node refused it for that reason, or a stop came before
 abbrev pub TellsRefused : NodeFault → Ending → Type 0
 TellsRefused why (Answered (done.Refused told) at) = told ≡ Some why
 TellsRefused why (Answered done.Skipped at) = ⊥
@@ -76,26 +79,47 @@ TellsRefused why (Answered done.Idle at) = ⊥
 TellsRefused why (Answered (done.Stepped n) at) = ⊥
 TellsRefused why (Answered (done.Opened party rows serial) at) = ⊥
 TellsRefused why (Answered (done.Malformed fault) at) = ⊥
-TellsRefused why NextRun = ⊥
-TellsRefused why FileEnd = ⊥
+TellsRefused why (Answered (done.All n) at) = ⊥
+TellsRefused why NextRun = Unit {0}
+TellsRefused why FileEnd = Unit {0}
 
--- what the end says of an event by which the node did nothing: it is another node's or of the other role, or the node
--- refused it so
-pub data FitsNothing (t : Told) (x : NodeEvent) (end : Ending) : Type 0 where
-  Skipped : TellsSkipped end → (IsOwn t x → Passes t.replay.state x.kind) → FitsNothing t x end
-  Refused : (why : NodeFault) → TellsRefused why end → IsOwn t x → Refuses t.replay.state x.kind why → FitsNothing t x end
+-- it is that it was refused as an event, for that reason, or a stop came before
+abbrev pub TellsMalformed : JsonFault → Ending → Type 0
+TellsMalformed why (Answered (done.Malformed told) at) = told ≡ Some why
+TellsMalformed why (Answered (done.Refused fault) at) = ⊥
+TellsMalformed why (Answered done.Skipped at) = ⊥
+TellsMalformed why (Answered done.Idle at) = ⊥
+TellsMalformed why (Answered (done.Stepped n) at) = ⊥
+TellsMalformed why (Answered (done.Opened party rows serial) at) = ⊥
+TellsMalformed why (Answered (done.All n) at) = ⊥
+TellsMalformed why NextRun = Unit {0}
+TellsMalformed why FileEnd = Unit {0}
 
--- the line is an event by which the node did nothing, as is told of it
-pub record Stays (old : Told) (l : EchoedLine) (end : Ending) (packets : List Packet) (new : Told) : Type 0 where
-  pub event : NodeEvent
-  pub reads : node_event_in l.bytes.now ≡ Ok event
-  pub fits : FitsNothing old event end
+-- what the end says of an event by which the node did nothing: it is another node's or of the other role, the node refused
+-- it so, or it is none
+pub data FitsNothing (t : Told) (e : LineEvent) (end : Ending) : Type 0 where
+  Skipped : (x : NodeEvent) → e.event ≡ Ok x → TellsSkipped end → (IsOwn t x → Passes t.replay.state x.kind) → FitsNothing t e end
+  Refused : (x : NodeEvent) → e.event ≡ Ok x → (why : NodeFault) → TellsRefused why end → IsOwn t x → Refuses t.replay.state x.kind why → FitsNothing t e end
+  Malformed : (why : JsonFault) → e.event ≡ Err why → TellsMalformed why end → FitsNothing t e end
+
+-- the node did nothing by it, as is told
+pub record Stays (old : Told) (e : LineEvent) (end : Ending) (packets : List Packet) (changed : Bool) (new : Told) : Type 0 where
+  pub fits : FitsNothing old e end
   pub nothing : packets ≡ []
+  pub unchanged : changed ≡ false
   pub same : new ≡ old
 
--- what became of the node by a line of which that is told: an entry more, or nothing
-abbrev pub Gives : Told → EchoedLine → Ending → List Packet → Told → Type 0
-Gives old l end packets new = Happens old l end packets new ⊎ Stays old l end packets new
+-- what became of the node by an event of which that is told: an entry more, or nothing; and whether a row changed
+abbrev pub Gives : Told → LineEvent → Ending → List Packet → Bool → Told → Type 0
+Gives old e end packets changed new = Happens old e end packets changed new ⊎ Stays old e end packets changed new
+
+-- ---- the events of a line
+
+-- the events come to the node one after another, and each gives what is told of it; and whether a row changed by any
+pub data ComeInTurn (p : LineRead) (old : Told) : List LineEvent → Bool → Told → Type 0 where
+  NoneYet : ComeInTurn p old [] false old
+  OneMore : {es : List LineEvent} {before now after : Bool} {t u : Told} (e : LineEvent) → ComeInTurn p old es before t
+      → Gives t e (ending_at p (length es)) (packets_at p (length es)) now u → (IsTrue after ↔ (IsTrue before ⊎ IsTrue now)) → ComeInTurn p old (es ++ e ∷ []) after u
 
 -- ---- a run behind another
 
@@ -106,39 +130,33 @@ pub record StandsAt (o : Opened) (t : Told) : Type 0 where
   pub serial : o.serial ≡ last_serial t.replay.state
   pub rows : (rs : List Row) × AreNodeRows rs t.replay.state × (o.rows ≡ length rs)
 
--- an event that a stop left without its answer, and nothing else of it
-pub record Unanswered : Type 0 where
-  pub line : EchoedLine
-  pub event : NodeEvent
-
--- the line is that event
-abbrev pub IsLeft : Unanswered → Type 0
-IsLeft u = node_event_in u.line.bytes.now ≡ Ok u.event
+-- a line of which nothing was written: a stop left it
+abbrev pub unanswered_line : EchoedLine → LineRead
+unanswered_line l = record { line = line_of l; answers = []; packets = []; ending = NextRun }
 
 -- the node starts again
 abbrev pub restarted : Told → Told
 restarted t = record { replay = started_again t.replay; sources = t.sources ++ Restarted ∷ [] }
 
--- the event changes a row of the node, and was carried out before it started again
-pub record CarriedOut (old : Told) (u : Unanswered) (new : Told) : Type 0 where
+-- the events of a line that a stop left change a row of the node, and were carried out before it started again, all of them
+pub record CarriedOut (old : Told) (h : LineEvents) (new : Told) : Type 0 where
   pub between : Told
-  pub happens : Happens old u.line NextRun [] between
-  pub changes : Foretells old.replay.state u.event.kind true
+  pub come : ComeInTurn (unanswered_line h.line) old h.events true between
   pub starts : new ≡ restarted between
 
--- the node goes on as its next run begins: an event that a stop left open was carried out before, or was not
-abbrev pub GoesOn : Told → Option Unanswered → Told → Type 0
+-- the node goes on as its next run begins: a line that a stop left open was carried out before, or was not
+abbrev pub GoesOn : Told → Option LineEvents → Told → Type 0
 GoesOn old None new = new ≡ restarted old
-GoesOn old (Some u) new = (new ≡ restarted old) ⊎ CarriedOut old u new
+GoesOn old (Some h) new = (new ≡ restarted old) ⊎ CarriedOut old h new
 
 -- ---- part by part
 
--- what is known of the node behind some parts: what happened, once a run was opened; whether a run is open; and the event
+-- what is known of the node behind some parts: what happened, once a run was opened; whether a run is open; and the line
 -- that the last stop left open
 pub record Standing : Type 0 where
   pub told : Option Told
   pub within : Bool
-  pub unanswered : Option Unanswered
+  pub unanswered : Option LineEvents
 
 -- no run is open any more
 abbrev pub ended : Standing → Standing
@@ -168,7 +186,7 @@ pub record Opens (setup : List Node) (earlier : List Told) (s : Standing) (p : L
   pub among : Contains setup member
   pub is_new : IsNew earlier (party_of member)
   pub reads : setup_in p.line.bytes ≡ Ok setup
-  pub nothing : p.packets ≡ []
+  pub nothing : GaveNothing p
   pub at : ℕ
   pub answered : p.ending ≡ Answered (done.Opened (party_of member) 0 0) at
   pub first : s.told ≡ None
@@ -179,7 +197,7 @@ pub record Reopens (setup : List Node) (s : Standing) (p : LineRead) (t : Standi
   pub old : Told
   pub new : Told
   pub reads : setup_in p.line.bytes ≡ Ok setup
-  pub nothing : p.packets ≡ []
+  pub nothing : GaveNothing p
   pub opened : Opened
   pub answered : p.ending ≡ Answered (done.Opened opened.party opened.rows opened.serial) opened.number
   pub stands_at : StandsAt opened new
@@ -187,29 +205,32 @@ pub record Reopens (setup : List Node) (s : Standing) (p : LineRead) (t : Standi
   pub goes_on : GoesOn old s.unanswered new
   pub stands : t ≡ begun new
 
--- where a line has no answer, packets show that it came to the node
-abbrev pub ShowsEvent : Ending → List Packet → Type 0
-ShowsEvent (Answered d at) packets = Unit {0}
-ShowsEvent NextRun packets = packets ≢ []
-ShowsEvent FileEnd packets = packets ≢ []
+-- where a line has no answer, packets or the answer of an event show that it came to the node
+abbrev pub ShowsEvent : LineRead → Ending → Type 0
+ShowsEvent p (Answered d at) = Unit {0}
+ShowsEvent p NextRun = GaveNothing p → ⊥
+ShowsEvent p FileEnd = GaveNothing p → ⊥
 
--- a line within a run comes to the node
+-- a line within a run comes to the node: its events, one after another
 pub record ComesToNode (s : Standing) (p : LineRead) (t : Standing) : Type 0 where
   pub old : Told
   pub new : Told
-  pub line : EchoedLine
-  pub is_line : line_of line ≡ p.line
-  pub gives : Gives old line p.ending p.packets new
-  pub shows : ShowsEvent p.ending p.packets
+  pub line : LineEvents
+  pub is_line : line_of line.line ≡ p.line
+  pub holds : Holds line
+  pub shape : HasShape line p
+  pub changed : Bool
+  pub come : ComeInTurn p old line.events changed new
+  pub shows : ShowsEvent p p.ending
   pub within : s.within ≡ true
   pub stood : s.told ≡ Some old
   pub stands : t ≡ record { told = Some new; within = is_open_behind p.ending; unanswered = s.unanswered }
 
 -- a stop left the line open
-pub record LeavesOpen (p : LineRead) (u : Unanswered) : Type 0 where
+pub record LeavesOpen (p : LineRead) (h : LineEvents) : Type 0 where
   pub stopped : p.ending ≡ NextRun
-  pub is_line : line_of u.line ≡ p.line
-  pub reads : node_event_in p.line.bytes ≡ Ok u.event
+  pub is_line : line_of h.line ≡ p.line
+  pub holds : Holds h
 
 -- what the end says of a line where no run is open: it was refused as the first one of a run, or a stop left it
 abbrev pub TellsNoRun : Ending → Type 0
@@ -219,27 +240,29 @@ TellsNoRun (Answered done.Skipped at) = ⊥
 TellsNoRun (Answered done.Idle at) = ⊥
 TellsNoRun (Answered (done.Stepped n) at) = ⊥
 TellsNoRun (Answered (done.Opened party rows serial) at) = ⊥
+TellsNoRun (Answered (done.All n) at) = ⊥
 TellsNoRun NextRun = Unit {0}
 TellsNoRun FileEnd = Unit {0}
 
--- the line is refused as an event, for the reason that is told
+-- the line is refused as a whole, for the reason that is told
 abbrev pub IsRefusedEvent : List ℕ → Option JsonFault → Type 0
-IsRefusedEvent line told = (why : JsonFault) × (node_event_in line ≡ Err why) × (told ≡ Some why)
+IsRefusedEvent line told = (why : JsonFault) × (node_line_in line ≡ Err why) × (told ≡ Some why)
 
--- it is refused as an event, for whatever reason
+-- it is refused as a whole, for whatever reason
 abbrev pub IsNoEvent : List ℕ → Type 0
-IsNoEvent line = (why : JsonFault) × (node_event_in line ≡ Err why)
+IsNoEvent line = (why : JsonFault) × (node_line_in line ≡ Err why)
 
 -- how a line is passed over that did not come to the node, and what is known behind it: no run was open; it was refused
--- as an event; it is told as malformed, as the first line of a run may be, of which nothing is said here but that the run
--- then ended, unless memory ran out; memory ran out for any other line; or a stop left it
+-- as a line; it is told as malformed, as the first line of a run may be, of which nothing is said here but that the run
+-- then ended, unless memory ran out, and the line is no array; memory ran out for any other line that is none; or a stop
+-- left it
 pub data PassesLine (s : Standing) (p : LineRead) (t : Standing) : Type 0 where
   Outside : s.within ≡ false → TellsNoRun p.ending → t ≡ s → PassesLine s p t
   NoEvent : (told : Option JsonFault) (at : ℕ) → s.within ≡ true → p.ending ≡ Answered (done.Malformed told) at → IsRefusedEvent p.line.bytes told → t ≡ s → PassesLine s p t
   NoSetup : (told : Option JsonFault) (at : ℕ) (within : Bool) → s.within ≡ true → p.ending ≡ Answered (done.Malformed told) at
-      → (IsTrue within ↔ (told ≡ Some json_fault.Memory)) → t ≡ record { told = s.told; within = within; unanswered = s.unanswered } → PassesLine s p t
-  Starved : (at : ℕ) → s.within ≡ true → p.ending ≡ Answered (done.Refused (Some node_fault.Memory)) at → t ≡ s → PassesLine s p t
-  LeftOpen : (u : Unanswered) → s.within ≡ true → LeavesOpen p u → t ≡ record { told = s.told; within = false; unanswered = Some u } → PassesLine s p t
+      → (IsTrue within ↔ ((told ≡ Some json_fault.Memory) × (IsListLine p.line.bytes → ⊥))) → t ≡ record { told = s.told; within = within; unanswered = s.unanswered } → PassesLine s p t
+  Starved : (at : ℕ) → s.within ≡ true → p.ending ≡ Answered (done.Refused (Some node_fault.Memory)) at → (IsListLine p.line.bytes → ⊥) → t ≡ s → PassesLine s p t
+  LeftOpen : (h : LineEvents) → s.within ≡ true → LeavesOpen p h → t ≡ record { told = s.told; within = false; unanswered = Some h } → PassesLine s p t
   LeftOut : s.within ≡ true → p.ending ≡ NextRun → IsNoEvent p.line.bytes → t ≡ ended s → PassesLine s p t
   Last : s.within ≡ true → p.ending ≡ FileEnd → t ≡ s → PassesLine s p t
 
@@ -249,7 +272,7 @@ pub data Follows (setup : List Node) (earlier : List Told) (s : Standing) : Part
   First : {p : LineRead} {t : Standing} → Opens setup earlier s p t → Follows setup earlier s (part.Line p) t
   Later : {p : LineRead} {t : Standing} → Reopens setup s p t → Follows setup earlier s (part.Line p) t
   Came : {p : LineRead} {t : Standing} → ComesToNode s p t → Follows setup earlier s (part.Line p) t
-  Passed : {p : LineRead} {t : Standing} → p.packets ≡ [] → PassesLine s p t → Follows setup earlier s (part.Line p) t
+  Passed : {p : LineRead} {t : Standing} → GaveNothing p → PassesLine s p t → Follows setup earlier s (part.Line p) t
 
 -- what is known behind the parts that were read
 pub data ReadTo (setup : List Node) (earlier : List Told) (all : List Line) : List Line → Standing → Type 0 where
@@ -270,12 +293,12 @@ TellsNotARun (transcript_fault.Wrong n) = ⊥
 TellsNotARun (transcript_fault.TooManyWays n) = ⊥
 TellsNotARun transcript_fault.Memory = ⊥
 
--- the ways in which what was read may have happened, whether a run is open, and the event that the last stop left open
+-- the ways in which what was read may have happened, whether a run is open, and the line that the last stop left open
 pub record Reading : Type 0 where
   pub setup : List Node
   pub ways : List Told
   pub within : Bool
-  pub unanswered : Option Unanswered
+  pub unanswered : Option LineEvents
 
 -- one of them, or none, where no run was opened
 abbrev pub IsWayOf : List Told → Option Told → Type 0
@@ -301,19 +324,18 @@ TakesLine old p new = (earlier : List Told) → TakesPart earlier old (part.Line
 abbrev pub in_run : Reading → Reading
 in_run r = record { setup = r.setup; ways = r.ways; within = true; unanswered = r.unanswered }
 
--- each way is an earlier one that took the line so
-pub record ComesOf (ways : List Told) (p : LineRead) (new : Told) : Type 0 where
+-- each way is an earlier one to which the events of the line came
+pub record ComesOf (ways : List Told) (es : List LineEvent) (p : LineRead) (new : Told) : Type 0 where
   pub old : Told
   pub among : Contains ways old
-  pub line : EchoedLine
-  pub is_line : line_of line ≡ p.line
-  pub gives : Gives old line p.ending p.packets new
+  pub changed : Bool
+  pub come : ComeInTurn p old es changed new
 
-abbrev pub AllCome : List Told → LineRead → List Told → Type 0
-AllCome ways p new = (t : Told) → Contains new t → ComesOf ways p t
+abbrev pub AllCome : List Told → List LineEvent → LineRead → List Told → Type 0
+AllCome ways es p new = (t : Told) → Contains new t → ComesOf ways es p t
 
 -- each way is an earlier one that went on, with what the run that was opened says of it
-abbrev pub AllGoOn : List Told → Option Unanswered → Opened → List Told → Type 0
+abbrev pub AllGoOn : List Told → Option LineEvents → Opened → List Told → Type 0
 AllGoOn ways left o new = (t : Told) → Contains new t → (s : Told) × Contains ways s × GoesOn s left t × StandsAt o t
 
 -- what was added is so

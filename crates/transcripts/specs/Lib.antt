@@ -1,2 +1,3 @@
+pub mod LineEvents
 pub mod Told
 pub mod Following

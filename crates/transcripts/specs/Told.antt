@@ -9,14 +9,14 @@ use Rattle.node_replay.specs.Replayed.{IsReplay, Replay, restart_entry}
 use Rattle.transcripts.specs.declared.source.Source.{Source}
 use Rattle.transcripts.specs.declared.source.Source.TheVariants.{Echoed, Restarted}
 
--- the line is that event, of the node of that party
+-- the text is that event, of the node of that party
 pub record IsEventLine (party : List ℕ) (e : Entry) (line : List ℕ) : Type 0 where
   pub event : NodeEvent
   pub reads : node_event_in line ≡ Ok event
   pub own : key event.node ≡ key party
   pub same : event.kind ≡ e.event
 
--- where the entry comes from: a line, or a run that began where one had ended
+-- where the entry comes from: the text of an event, or a run that began where one had ended
 abbrev pub IsSource : List ℕ → Entry → Source → Type 0
 IsSource party e (Echoed line) = IsEventLine party e line.bytes.now
 IsSource party e Restarted = e ≡ restart_entry

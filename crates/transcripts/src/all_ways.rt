@@ -1,25 +1,13 @@
 //! All ways in which what a transcript tells may have happened, those first that are preferred.
 
-ghost use Rattle.std.specs.Prelude.{◌≡◌, IsPermutation, Ok, OnOk, Some, true};
-ghost use Rattle.node_replay.specs.Replayed.{Foretells};
-ghost use Rattle.ocpi_json.specs.NodeEventForms.{node_event_in};
+ghost use Rattle.std.specs.Prelude.{◌≡◌, IsPermutation, OnOk, Some};
 ghost use Rattle.transcripts.specs.Following.{Adds, AllCome, AllGoOn, GoesOn, StandsAt, restarted};
 
-use crate::way::{Unanswered, Way};
-use ocpi_types::NodeEvent;
+use crate::line_events::{LineEvent, LineEvents};
+use crate::turns::come_in_turn;
+use crate::way::Way;
 use std::alloc::{AllocError, Global};
-use transcript_parts::{Ending, LineRead, Opened};
-
-/// How many ways there are at most behind an event that a stop left open. An error is want of memory.
-pub(crate) fn count_behind(ways: &[Way<'_>], event: &NodeEvent) -> Result<usize, AllocError> {
-    let mut changed: usize = 0;
-    for way in ways {
-        if way.would_change(event)? {
-            changed = changed.saturating_add(1);
-        }
-    }
-    Ok(ways.len().saturating_add(changed))
-}
+use transcript_parts::{LineRead, Opened};
 
 /// Turns the order round.
 fn turn_round<'a>(ways: &mut Vec<Way<'a>>)
@@ -28,24 +16,24 @@ fn turn_round<'a>(ways: &mut Vec<Way<'a>>)
     ways.as_mut_slice().reverse();
 }
 
-/// An event of a line comes to the node. The ways stay in which it gave what is told of it. An error is want of memory.
+/// The events of a line come to the node. The ways stay in which they gave what is told of them. An error is want of
+/// memory.
 pub(crate) fn happen_in_ways<'a>(
     alloc: Global,
     ways: &mut Vec<Way<'a>>,
-    event: &NodeEvent,
+    events: &[LineEvent<'a>],
     part: &LineRead<'a>,
 ) -> Result<(), AllocError>
-    requires { node_event_in part.now.line.bytes ≡ Ok event.now }
-    ensures { OnOk result (AllCome ways.old.items part.now ways.new.items) }
+    ensures { OnOk result (AllCome ways.old.items events.now part.now ways.new.items) }
 {
     let mut left = std::mem::replace(ways, Vec::new(alloc));
     while let Some(mut way) = left.pop() {
-        match way.happen(event, part.line(), part.ending(), part.packets()) {
-            Ok(true) => match ways.push(way) {
+        match come_in_turn(&mut way, events, part) {
+            Ok(Some(_)) => match ways.push(way) {
                 Ok(()) => {}
                 Err(_) => return Err(AllocError),
             },
-            Ok(false) => {}
+            Ok(None) => {}
             Err(_) => return Err(AllocError),
         }
     }
@@ -85,45 +73,57 @@ fn push_restarted<'a>(
     }
 }
 
-/// Adds a way at which the event that a stop left open was carried out, and which then started again. An error is want
-/// of memory.
+/// Adds a way at which the line that a stop left open was carried out, where that changed a row, and which then started
+/// again. An error is want of memory.
 fn push_carried_out<'a>(
+    alloc: Global,
     mut way: Way<'a>,
-    left: &Unanswered<'a>,
+    left: &LineEvents<'a>,
     opened: &Opened,
     ways: &mut Vec<Way<'a>>,
 ) -> Result<(), AllocError>
-    requires { Foretells way.replay.state left.now.event.kind true }
     ensures { OnOk result (Adds (λ t. GoesOn way.entry (Some left.now) t × StandsAt opened.now t) ways.old.items ways.new.items) }
 {
-    match way.happen(&left.event, left.line, &Ending::NextRun, &[]) {
-        Ok(true) => push_restarted(way, opened, ways),
-        Ok(false) => Ok(()),
+    let part = LineRead::unanswered(alloc, left.line());
+    match come_in_turn(&mut way, left.events(), &part) {
+        Ok(Some(true)) => push_restarted(way, opened, ways),
+        Ok(_) => Ok(()),
         Err(_) => Err(AllocError),
     }
 }
 
-/// Adds the ways in which one goes on where a stop left an event open: with it, where that changes something, and then
+/// Whether a line surely changes no row: one event that would change none. An error is want of memory.
+fn changes_none(way: &Way<'_>, left: &LineEvents<'_>) -> Result<bool, AllocError> {
+    match left.only_event() {
+        Some(event) => match way.would_change(event) {
+            Ok(changes) => Ok(!changes),
+            Err(_) => Err(AllocError),
+        },
+        None => Ok(false),
+    }
+}
+
+/// Adds the ways in which one goes on where a stop left a line open: with it, where that changes something, and then
 /// without it. An error is want of memory.
 fn push_both<'a>(
     alloc: Global,
     way: Way<'a>,
-    left: &Unanswered<'a>,
+    left: &LineEvents<'a>,
     opened: &Opened,
     ways: &mut Vec<Way<'a>>,
 ) -> Result<(), AllocError>
     ensures { OnOk result (Adds (λ t. GoesOn way.entry (Some left.now) t × StandsAt opened.now t) ways.old.items ways.new.items) }
 {
-    match way.would_change(&left.event) {
-        Ok(true) => {}
-        Ok(false) => return push_restarted(way, opened, ways),
+    match changes_none(&way, left) {
+        Ok(true) => return push_restarted(way, opened, ways),
+        Ok(false) => {}
         Err(_) => return Err(AllocError),
     }
     let without = match way.restarted_copy(alloc) {
         Ok(without) => without,
         Err(_) => return Err(AllocError),
     };
-    match push_carried_out(way, left, opened, ways) {
+    match push_carried_out(alloc, way, left, opened, ways) {
         Ok(()) => push_standing(without, opened, ways),
         Err(_) => Err(AllocError),
     }
@@ -133,7 +133,7 @@ fn push_both<'a>(
 fn push_going_on<'a>(
     alloc: Global,
     way: Way<'a>,
-    unanswered: &Option<Unanswered<'a>>,
+    unanswered: &Option<LineEvents<'a>>,
     opened: &Opened,
     ways: &mut Vec<Way<'a>>,
 ) -> Result<(), AllocError>
@@ -145,12 +145,12 @@ fn push_going_on<'a>(
     }
 }
 
-/// A run is opened behind another. The ways stay whose node it may be; an event that a stop left open was carried out
+/// A run is opened behind another. The ways stay whose node it may be; a line that a stop left open was carried out
 /// before, or was not. An error is want of memory.
 pub(crate) fn go_on<'a>(
     alloc: Global,
     ways: &mut Vec<Way<'a>>,
-    unanswered: &Option<Unanswered<'a>>,
+    unanswered: &Option<LineEvents<'a>>,
     opened: &Opened,
 ) -> Result<(), AllocError>
     ensures { OnOk result (AllGoOn ways.old.items unanswered.now opened.now ways.new.items) }

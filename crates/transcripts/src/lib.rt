@@ -9,10 +9,16 @@
 #![tactic(auto)]
 
 mod all_ways;
+mod counting;
+mod element_texts;
+mod line_events;
 mod malformed;
+mod members;
 mod reading;
 mod source;
+mod tellings;
 mod transcript;
+mod turns;
 mod way;
 
 pub use source::Source;

@@ -2,9 +2,7 @@
 
 ghost use Rattle.std.specs.Prelude.{◌≡◌, Contains, IfOk, IfSome, IsTrue, None, Ok, OnOk, Some, [], false, true, ℕ};
 ghost use Rattle.ocpi_json.specs.SetupForms.{setup_in};
-ghost use Rattle.ocpi_types.specs.Setups.{party_of};
 ghost use Rattle.transcripts.specs.Following.{
-  IsNew,
   ShowsEvent,
   TakesLine,
   TakesPart,
@@ -12,21 +10,27 @@ ghost use Rattle.transcripts.specs.Following.{
   in_run,
   is_open_behind,
 };
+ghost use Rattle.transcript_parts.specs.LineReads.{GaveNothing};
 ghost use Rattle.transcript_parts.specs.declared.line_read.Ending.TheVariants.{Answered, FileEnd, NextRun};
 ghost use Rattle.transcript_parts.specs.declared.parts.Part.TheVariants.{Line as OfLine};
 ghost use Rattle.transcript_lines.specs.declared.done.Done.TheVariants as done;
 ghost use Rattle.node_steps.specs.declared.fault.NodeFault.TheVariants as node_fault;
 
-use crate::all_ways::{count_behind, go_on, happen_in_ways};
-use crate::malformed::{event_of, is_refused_event};
+use crate::all_ways::{go_on, happen_in_ways};
+use crate::counting::are_too_many;
+use crate::line_events::{LineEvents, events_of};
+use crate::malformed::{is_refused_event, may_be_event};
+use crate::members::{is_new, member_spelled};
+use crate::tellings::has_shape;
 use crate::transcript::Transcript;
-use crate::way::{Unanswered, Way};
+use crate::way::Way;
 use json_text::JsonFault;
 use node_core::nodes_of;
+use node_lines::is_list_line;
 use node_steps::NodeFault;
 use ocpi_json::Scratch;
 use ocpi_text::Party;
-use ocpi_types::{Node, Setup};
+use ocpi_types::Setup;
 use setup_equality::are_equal;
 use std::alloc::Global;
 use std::marker::Model;
@@ -36,9 +40,6 @@ use transcript_parts::{
     pass_line,
 };
 
-/// The most ways that are followed.
-const MOST_WAYS: usize = 64;
-
 /// What the parts so far tell: the ways in which it may have happened, those first that are preferred.
 pub(crate) struct Reading<'a> {
     alloc: Global,
@@ -47,7 +48,7 @@ pub(crate) struct Reading<'a> {
     /// Whether a run is open.
     within: bool,
     /// What the last stop left open, until the next run is opened.
-    unanswered: Option<Unanswered<'a>>,
+    unanswered: Option<LineEvents<'a>>,
 }
 
 /// What a derive would do, in a function of its own: so it is proved once.
@@ -75,30 +76,6 @@ impl<'a> Model for Reading<'a> {
     ghost coded = { Prim.hlevel (codes, map.code) };
 
     ghost view = { λ r. record { setup = r.setup.now; ways = r.ways.items; within = r.within; unanswered = r.unanswered } };
-}
-
-/// The node of a setup whose party is spelled so.
-fn member_spelled<'a>(nodes: &'a [Node], party: &Party) -> Option<&'a Node>
-    ensures { IfSome result (λ member. Contains nodes.now member.now × (party_of member.now ≡ party.now)) }
-{
-    for node in nodes {
-        if node.party().as_str() == party.as_str() {
-            return Some(node);
-        }
-    }
-    None
-}
-
-/// Whether none of the transcripts is of that party.
-fn is_new(transcripts: &[Transcript<'_>], party: &Party) -> bool
-    ensures { IsTrue result → IsNew transcripts.now party.now }
-{
-    for transcript in transcripts {
-        if transcript.party().is_same(party) {
-            return false;
-        }
-    }
-    true
 }
 
 /// Whether it is told of a line that it was refused as the first one of a run, or a stop left it.
@@ -250,7 +227,7 @@ impl<'a> Reading<'a> {
         requires told { (at : ℕ) × (part.now.ending ≡ Answered (done.Malformed told) at) }
         ensures { OnOk result (TakesLine self.old part.now self.new) }
     {
-        if !part.packets().is_empty() {
+        if !part.gave_nothing() {
             return Err(TranscriptFault::NotARun(part.line().number));
         }
         match is_refused_event(self.alloc, scratch, part.line(), told) {
@@ -263,11 +240,11 @@ impl<'a> Reading<'a> {
             Ok(false) => return Err(TranscriptFault::NotARun(part.line().number)),
             Err(fault) => return Err(fault),
         }
-        self.within = told == Some(JsonFault::Memory);
+        self.within = may_be_event(told, part.line());
         Ok(())
     }
 
-    /// Takes a line for which memory ran out: it may be any but a setup.
+    /// Takes a line for which memory ran out: it may be any but a setup or an array.
     #[tactic(auto, using(crate::proofs::FollowingLemmas::passes))]
     fn take_unread(
         &mut self,
@@ -278,7 +255,7 @@ impl<'a> Reading<'a> {
         requires told { (at : ℕ) × (part.now.ending ≡ Answered (done.Refused (Some node_fault.Memory)) at) }
         ensures { OnOk result (TakesLine self.old part.now self.new) }
     {
-        if !part.packets().is_empty() {
+        if !part.gave_nothing() || is_list_line(part.line().bytes) {
             return Err(TranscriptFault::NotARun(part.line().number));
         }
         let told = Some(JsonFault::Memory);
@@ -300,7 +277,7 @@ impl<'a> Reading<'a> {
         ensures { OnOk result (TakesLine self.old part.now self.new) }
     {
         self.within = false;
-        if part.packets().is_empty() {
+        if part.gave_nothing() {
             self.leave_open(scratch, part)
         } else {
             self.happen(scratch, part)
@@ -318,24 +295,28 @@ impl<'a> Reading<'a> {
         requires end { part.now.ending ≡ FileEnd }
         ensures { OnOk result (TakesLine self.old part.now self.new) }
     {
-        if part.packets().is_empty() {
+        if part.gave_nothing() {
             return Ok(());
         }
         self.happen(scratch, part)
     }
 
-    /// Takes an event that came to the node: the ways are left in which it did not give what the line has.
+    /// Takes a line that came to the node: the ways are left in which its events gave what is told of them.
     #[tactic(auto, using(crate::proofs::FollowingLemmas::happened))]
     fn happen(&mut self, scratch: &mut Scratch, part: &LineRead<'a>) -> Result<(), TranscriptFault>
         requires within { self.old.within ≡ is_open_behind part.now.ending }
-        requires shows { ShowsEvent part.now.ending part.now.packets }
+        requires shows { ShowsEvent part.now part.now.ending }
         ensures { OnOk result (TakesLine (in_run self.old) part.now self.new) }
     {
-        let event = match event_of(self.alloc, scratch, part) {
-            Ok(event) => event,
+        let events = match events_of(self.alloc, scratch, part) {
+            Ok(events) => events,
             Err(fault) => return Err(fault),
         };
-        match happen_in_ways(self.alloc, &mut self.ways, &event, part) {
+        events.are_held();
+        if !has_shape(&events, part) {
+            return Err(TranscriptFault::NotARun(part.line().number));
+        }
+        match happen_in_ways(self.alloc, &mut self.ways, events.events(), part) {
             Ok(()) => {}
             Err(_) => return Err(TranscriptFault::Memory),
         }
@@ -354,24 +335,21 @@ impl<'a> Reading<'a> {
     ) -> Result<(), TranscriptFault>
         requires within { self.old.within ≡ false }
         requires stopped { part.now.ending ≡ NextRun }
-        requires nothing { part.now.packets ≡ [] }
+        requires nothing { GaveNothing part.now }
         ensures { OnOk result (TakesLine (in_run self.old) part.now self.new) }
     {
-        let event = match event_of(self.alloc, scratch, part) {
-            Ok(event) => event,
+        let events = match events_of(self.alloc, scratch, part) {
+            Ok(events) => events,
             Err(TranscriptFault::NotARun(_)) => return Ok(()),
             Err(fault) => return Err(fault),
         };
-        match count_behind(self.ways.as_slice(), &event) {
-            Ok(count) => {
-                if count > MOST_WAYS {
-                    return Err(TranscriptFault::TooManyWays(part.line().number));
-                }
-            }
+        events.are_held();
+        match are_too_many(self.alloc, self.setup, self.ways.as_slice(), &events) {
+            Ok(false) => {}
+            Ok(true) => return Err(TranscriptFault::TooManyWays(part.line().number)),
             Err(_) => return Err(TranscriptFault::Memory),
         }
-        let line = part.line();
-        self.unanswered = Some(Unanswered { line, event });
+        self.unanswered = Some(events);
         Ok(())
     }
 
@@ -432,7 +410,7 @@ impl<'a> Reading<'a> {
         if !is_new(earlier, &opened.party) {
             return Err(TranscriptFault::Wrong(opened.number));
         }
-        if opened.rows.value() != 0 || opened.serial.value() != 0 || !part.packets().is_empty() {
+        if opened.rows.value() != 0 || opened.serial.value() != 0 || !part.gave_nothing() {
             return Err(TranscriptFault::NotARun(part.line().number));
         }
         let way = match Way::open(self.alloc, nodes, member) {
@@ -464,7 +442,7 @@ impl<'a> Reading<'a> {
         }
         self.within = true;
         self.unanswered = None;
-        if self.ways.is_empty() || !part.packets().is_empty() {
+        if self.ways.is_empty() || !part.gave_nothing() {
             return Err(TranscriptFault::NotARun(part.line().number));
         }
         Ok(())

@@ -5,7 +5,8 @@ use transcript_parts::EchoedLine;
 /// Where an entry of a history comes from.
 #[derive(Clone, Copy)]
 pub enum Source<'a> {
-    /// An echoed line, which is the event.
+    /// The text of the event: an echoed line, or an element of one that is an array, as it stands there. Its number is
+    /// that of the line.
     Echoed(EchoedLine<'a>),
     /// A run that began where one had ended: the node started again.
     Restarted,

@@ -1,18 +1,20 @@
 //! One way in which what a transcript tells may have happened.
 
-ghost use Rattle.std.specs.Prelude.{◌≡◌, ◌≤◌, ◌+◌, ◌++◌, ◌∷◌, Contains, IfOk, IsTrue, List, Ok, OnOk, [], length, true, vec_capacity};
+ghost use Rattle.std.specs.Prelude.{◌≡◌, ◌≤◌, ◌+◌, ◌++◌, ◌∷◌, Contains, IfOk, IfSome, IsTrue, List, Ok, OnOk, [], false, length, vec_capacity};
 ghost use Rattle.histories.specs.declared.entry.Entry.{Entry as EntryOf};
-ghost use Rattle.node_replay.specs.Replayed.{Foretells};
 ghost use Rattle.ocpi_json.specs.NodeEventForms.{node_event_in};
 ghost use Rattle.ocpi_types.specs.Setups.{party_of};
 ghost use Rattle.ocpi_types.specs.declared.packet.Packet.{Packet as PacketOf};
-ghost use Rattle.transcripts.specs.Following.{FitsEntry, Gives, StandsAt, TellsRefused, TellsSkipped, opening_told, restarted};
+ghost use Rattle.transcripts.specs.Following.{FitsEntry, Gives, StandsAt, TellsMalformed, TellsRefused, TellsSkipped, opening_told, restarted};
 ghost use Rattle.transcripts.specs.Told.{IsTold};
 ghost use Rattle.transcript_parts.specs.declared.line_read.Ending.TheVariants.{Answered};
 ghost use Rattle.world_laws.specs.Laws.{IsSetup};
 
+use crate::line_events::LineEvent;
+use crate::malformed::is_same_fault;
 use crate::source::Source;
 use histories::Entry;
+use json_text::JsonFault;
 use node_replay::{NodeReplay, ReplayFault, Replayed};
 use node_steps::NodeFault;
 use ocpi_text::Party;
@@ -22,30 +24,6 @@ use std::alloc::{AllocError, Global};
 use std::marker::Model;
 use transcript_lines::Done;
 use transcript_parts::{EchoedLine, Ending, Opened};
-
-/// An event that a stop left without its answer.
-pub(crate) struct Unanswered<'a> {
-    pub(crate) line: EchoedLine<'a>,
-    pub(crate) event: NodeEvent,
-}
-
-/// What a derive would do, in a function of its own: so it is proved once, and not in each function that drops one.
-impl<'a> Drop for Unanswered<'a> {
-    fn drop(self) {
-        let Unanswered { line: _, event } = self;
-        drop(event);
-    }
-}
-
-impl<'a> Model for Unanswered<'a> {
-    ghost use Rattle.transcripts.specs.Following.{IsLeft, Unanswered};
-
-    ghost Value = { Unanswered };
-
-    ghost view = { λ u. record { line = u.line; event = u.event } };
-
-    ghost invariant = { λ u. IsLeft (record { line = u.line; event = u.event }) };
-}
 
 /// The node as its lines made it, and where each of its entries comes from.
 pub(crate) struct Way<'a> {
@@ -113,17 +91,17 @@ fn fits_entry(ending: &Ending, packets: &[Packet], changed: bool, sent: &[Packet
     }
 }
 
-/// Whether it is told that the event was another node's, or of the other role.
+/// Whether it is told that the event was another node's, or of the other role, or nothing is told.
 fn is_skipped(ending: &Ending) -> bool
     ensures { IsTrue result → TellsSkipped ending.now }
 {
     match ending {
         Ending::Answered { done, .. } => matches!(done, Done::Skipped),
-        Ending::NextRun | Ending::FileEnd => false,
+        Ending::NextRun | Ending::FileEnd => true,
     }
 }
 
-/// Whether it is told that the node refused the event so.
+/// Whether it is told that the node refused the event so, or nothing is told.
 fn is_refused(ending: &Ending, fault: NodeFault) -> bool
     ensures { IsTrue result → TellsRefused fault ending.now }
 {
@@ -132,8 +110,39 @@ fn is_refused(ending: &Ending, fault: NodeFault) -> bool
             Done::Refused(Some(told)) => *told == fault,
             _ => false,
         },
-        Ending::NextRun | Ending::FileEnd => false,
+        Ending::NextRun | Ending::FileEnd => true,
     }
+}
+
+/// Whether it is told that what stands there was refused so as an event, or nothing is told.
+fn is_malformed(ending: &Ending, fault: JsonFault) -> bool
+    ensures { IsTrue result → TellsMalformed fault ending.now }
+{
+    match ending {
+        Ending::Answered { done, .. } => match done {
+            Done::Malformed(told) => is_same_fault(*told, fault),
+            _ => false,
+        },
+        Ending::NextRun | Ending::FileEnd => true,
+    }
+}
+
+/// That an event changed nothing, where it is told so and no packet stands there.
+fn nothing_where(tells: bool, packets: &[Packet]) -> Option<bool>
+    ensures { IfSome result (λ changed. IsTrue tells × (packets.now ≡ []) × (changed ≡ false)) }
+{
+    if tells && packets.is_empty() {
+        Some(false)
+    } else {
+        None
+    }
+}
+
+/// Whether an event changed a row, where what is told of it fits.
+fn changed_where(fits: bool, changed: bool) -> Option<bool>
+    ensures { IfSome result (λ c. IsTrue fits × (c ≡ changed)) }
+{
+    if fits { Some(changed) } else { None }
 }
 
 impl<'a> Way<'a> {
@@ -184,9 +193,7 @@ impl<'a> Way<'a> {
     }
 
     /// Whether an event changes a row of the node, if it is carried out. An error is want of memory.
-    pub(crate) fn would_change(&self, event: &NodeEvent) -> Result<bool, AllocError>
-        ensures { IfOk result (λ changes. IsTrue changes → Foretells self.now.replay.state event.now.kind true) }
-    {
+    pub(crate) fn would_change(&self, event: &NodeEvent) -> Result<bool, AllocError> {
         if event.node.is_same(self.party()) {
             self.replay.would_change(&event.kind)
         } else {
@@ -194,34 +201,47 @@ impl<'a> Way<'a> {
         }
     }
 
-    /// An event of a line comes to the node. Whether it gave what is told of it. An error is want of memory.
-    pub(crate) fn happen(
+    /// An event of a line comes to the node. Whether it changed a row; none where it did not give what is told of it. An
+    /// error is want of memory.
+    pub(crate) fn take(
         &mut self,
-        event: &NodeEvent,
-        line: EchoedLine<'a>,
+        event: &LineEvent<'a>,
         ending: &Ending,
         packets: &[Packet],
-    ) -> Result<bool, AllocError>
-        requires { node_event_in line.bytes.now ≡ Ok event.now }
-        ensures { IfOk result (λ fits. IsTrue fits → Gives self.old line.entry ending.now packets.now self.new) }
+    ) -> Result<Option<bool>, AllocError>
+        ensures { IfOk result (λ fits. IfSome fits (λ changed. Gives self.old event.now ending.now packets.now changed self.new)) }
+    {
+        match event.event() {
+            Ok(own) => self.happen(own, event.text(), ending, packets),
+            Err(fault) => Ok(nothing_where(is_malformed(ending, *fault), packets)),
+        }
+    }
+
+    /// The event of a text comes to the node, as [`Way::take`] has it.
+    fn happen(
+        &mut self,
+        event: &NodeEvent,
+        text: EchoedLine<'a>,
+        ending: &Ending,
+        packets: &[Packet],
+    ) -> Result<Option<bool>, AllocError>
+        requires { node_event_in text.bytes.now ≡ Ok event.now }
+        ensures { IfOk result (λ fits. IfSome fits (λ changed. Gives self.old (record { text = text.entry; event = Ok event.now }) ending.now packets.now changed self.new)) }
     {
         if !event.node.is_same(self.party()) {
-            return Ok(is_skipped(ending) && packets.is_empty());
+            return Ok(nothing_where(is_skipped(ending), packets));
         }
         self.sources.reserve(1)?;
         let kind = event.kind.copy()?;
         match self.replay.apply(kind) {
             Ok(Replayed::Stepped { changed }) => {
-                push_source(&mut self.sources, Source::Echoed(line));
-                Ok(fits_entry(
-                    ending,
-                    packets,
-                    changed,
-                    last_packets(self.replay.entries()),
-                ))
+                push_source(&mut self.sources, Source::Echoed(text));
+                let sent = last_packets(self.replay.entries());
+                let fits = fits_entry(ending, packets, changed, sent);
+                Ok(changed_where(fits, changed))
             }
-            Ok(Replayed::Skipped) => Ok(is_skipped(ending) && packets.is_empty()),
-            Err(ReplayFault::Core(fault)) => Ok(is_refused(ending, fault) && packets.is_empty()),
+            Ok(Replayed::Skipped) => Ok(nothing_where(is_skipped(ending), packets)),
+            Err(ReplayFault::Core(fault)) => Ok(nothing_where(is_refused(ending, fault), packets)),
             Err(ReplayFault::Memory) => Err(AllocError),
         }
     }

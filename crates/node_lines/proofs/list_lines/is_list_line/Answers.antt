@@ -1,4 +1,4 @@
-use Rattle.std.proofs.Common.{◌↔◌, ℕ, IsTrue, List, length, sym, subst, arith}
+use Rattle.std.proofs.Common.{◌↔◌, ℕ, IsTrue, List, sym, subst, arith}
 use Rattle.std.proofs.lemmas.List.{length-take-le, take_all}
 use Rattle.node_lines.specs.ListLines.{BeginsList}
 use Rattle.node_lines.proofs.list_lines.is_list_line.Goals as goal

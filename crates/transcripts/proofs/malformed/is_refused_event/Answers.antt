@@ -6,7 +6,7 @@ use Rattle.transcripts.proofs.malformed.is_refused_event.Goals.{in-Ok, in-Err}
 use Rattle.transcripts.proofs.malformed.is_refused_event.Goals as goal
 
 pub returns : goal.returns
-returns c = elim c.match-read_node_event.branch [
+returns c = elim c.match-read_node_line.branch [
   | in-Ok w ↦ subst (λ r. IfOk r (λ refused. IsTrue refused → IsRefusedEvent c.args.line.bytes.now c.args.told)) (sym w.result-is) (λ no. absurd (cc no))
   | in-Err w ↦ subst (λ r. IfOk r (λ refused. IsTrue refused → IsRefusedEvent c.args.line.bytes.now c.args.told)) (sym w.result-is)
       (refused_event w.is_told.result c.args.line.bytes.now c.args.told w.in-Err.fault w.in-Err.ensures.exact w.is_told.ensures.same w.is_told.ensures.other)

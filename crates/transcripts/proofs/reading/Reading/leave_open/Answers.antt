@@ -1,5 +1,5 @@
-use Rattle.std.proofs.Common.{◌≡◌, ◌<◌, [], ◌∷◌, ◌++◌, true, false, None, Some, inl, inr, length, refl, sym, ap, subst, ◌∙◌, rules, arith}
-use Rattle.transcripts.specs.Following.{LeftOpen, LeftOut, TellsNotARun, Unanswered, in_run}
+use Rattle.std.proofs.Common.{◌≡◌, Some, refl, sym, ap, subst, ◌∙◌}
+use Rattle.transcripts.specs.Following.{LeftOpen, LeftOut, TellsNotARun, in_run}
 use Rattle.transcripts.proofs.FollowingLemmas.{passes, standing}
 use Rattle.transcripts.proofs.reading.Reading.leave_open.Goals as goal
 
@@ -9,7 +9,7 @@ returns-in-Err-NotARun c = passes (in_run c.args.self.now) c.args.self.now c.arg
 
 pub returns : goal.returns
 returns c =
-    let left : Unanswered = record { line = c.line-line.result; event = c.in-Ok.event } in
+    let left = c.in-Ok.events in
     passes (in_run c.args.self.now) _ c.args.part.now (ap (λ r. r.setup) c.self.view_is) (ap (λ r. r.ways) c.self.view_is) c.requires.nothing
-    (λ told. LeftOpen left refl (record { stopped = c.requires.stopped; is_line = c.line-line.ensures; reads = c.in-Ok.ensures.event })
+    (λ told. LeftOpen left refl (record { stopped = c.requires.stopped; is_line = c.in-Ok.ensures.line; holds = c.are_held.ensures })
     (ap (λ w. standing told w (Some left)) (ap (λ r. r.within) c.self.view_is ∙ c.requires.within)))

@@ -4,7 +4,7 @@ use Rattle.ocpi_types.specs.Setups.{party_of}
 use Rattle.transcript_lines.specs.declared.done.Done.TheVariants as done
 use Rattle.transcript_parts.specs.declared.line_read.Ending.TheVariants.{Answered}
 use Rattle.transcripts.specs.Following.{IsNew, opening_told}
-use Rattle.transcripts.proofs.FollowingLemmas.{nothing, opened_first, reading}
+use Rattle.transcripts.proofs.FollowingLemmas.{opened_first, reading}
 use Rattle.transcripts.proofs.reading.Reading.open_first.Goals as goal
 
 pub returns : goal.returns
@@ -17,7 +17,7 @@ returns c =
     (subst (λ ns. Contains ns c.in-Some.member.now) same c.in-Some.ensures.0)
     (subst (IsNew c.args.earlier.now) (sym is_of) (c.is_new.ensures (search rules)))
     c.requires.setup
-    (sym c.packets.ensures ∙ nothing c.packets.result.now (search (rules, arith)))
+    (c.gave_nothing.ensures.0 (search rules))
     (c.requires.opened ∙ ap (λ q. Answered (done.Opened q c.args.opened.rows c.args.opened.serial) c.args.opened.number) (sym is_of)
     ∙ ap (λ n. Answered (done.Opened (party_of c.in-Some.member.now) n c.args.opened.serial) c.args.opened.number) rows
     ∙ ap (λ n. Answered (done.Opened (party_of c.in-Some.member.now) 0 n) c.args.opened.number) serial)
