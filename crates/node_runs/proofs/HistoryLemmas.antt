@@ -44,16 +44,22 @@ joined s u t [] ys is more = subst (λ (n : NodeState). Run NodeStep n ys t) is 
 joined s u t (x ∷ xs) ys did more = (did.0, did.1, joined did.0 u t xs ys did.2 more)
 
 -- what the events of a line made of a node, one after another, is a chain of steps
-placed_run : {party : List ℕ} {now next : NodeState} {number place : ℕ} {read : Read Event} {turn : Turn} {out : List ℕ} {did : List NodeEvent}
+placed_run : {party : List ℕ} {now : NodeState} {number place : ℕ} {read : Read Event} {turn : Turn} {out : List ℕ} {did : List NodeEvent} {next : NodeState}
     → PlacedTurn party now number place read turn out did next → Run NodeStep now did next
-placed_run {next = next} (lists.WasDone x is deed brings step changed tells taken written one) = subst (λ did. Run NodeStep _ did next) (sym one) (next, step, refl)
-placed_run {next = next} (lists.WasUnstored x is refused taken written none same) = subst (λ did. Run NodeStep _ did next) (sym none) same
-placed_run {next = next} (lists.IsElsewhere x is other taken written none same) = subst (λ did. Run NodeStep _ did next) (sym none) same
-placed_run {next = next} (lists.IsOfOtherRole x is stored nothing taken written none same) = subst (λ did. Run NodeStep _ did next) (sym none) same
-placed_run {next = next} (lists.IsMalformed fault is other refused written none same) = subst (λ did. Run NodeStep _ did next) (sym none) same
-placed_run {next = next} (lists.IsRefused x is input brings fault refuses other refused written none same) = subst (λ did. Run NodeStep _ did next) (sym none) same
+placed_run {now = now} {next = next} (lists.WasDone x is deed brings step changed tells taken written one) =
+    subst (λ (did : List NodeEvent). Run NodeStep now did next) (sym one) (next, step, refl)
+placed_run {now = now} {next = next} (lists.WasUnstored x is refused taken written none same) =
+    subst (λ (did : List NodeEvent). Run NodeStep now did next) (sym none) same
+placed_run {now = now} {next = next} (lists.IsElsewhere x is other taken written none same) =
+    subst (λ (did : List NodeEvent). Run NodeStep now did next) (sym none) same
+placed_run {now = now} {next = next} (lists.IsOfOtherRole x is stored nothing taken written none same) =
+    subst (λ (did : List NodeEvent). Run NodeStep now did next) (sym none) same
+placed_run {now = now} {next = next} (lists.IsMalformed fault is other refused written none same) =
+    subst (λ (did : List NodeEvent). Run NodeStep now did next) (sym none) same
+placed_run {now = now} {next = next} (lists.IsRefused x is input brings fault refuses other refused written none same) =
+    subst (λ (did : List NodeEvent). Run NodeStep now did next) (sym none) same
 
-pub all_run : {party : List ℕ} {first after : NodeState} {number : ℕ} {events : List (Read Event)} {turn : Turn} {out : List ℕ} {did : List NodeEvent}
+pub all_run : {party : List ℕ} {first : NodeState} {number : ℕ} {events : List (Read Event)} {turn : Turn} {out : List ℕ} {did : List NodeEvent} {after : NodeState}
     → AreDone party first number events turn out did after → Run NodeStep first did after
 all_run lists.none_done = refl
 all_run {first = first} (lists.one_taken {did = did} {also = also} {now = now} {next = next} before is) =

@@ -6,18 +6,21 @@ use Rattle.ocpi_text.specs.Text.{key}
 use Rattle.ocpi_types.specs.declared.node_events.NodeEvent.{NodeEvent}
 use Rattle.ocpi_types.specs.declared.packet.Packet.{Packet}
 use Rattle.ocpi_types.specs.declared.rows.Change.{Change}
-use Rattle.json_text.specs.Fault.{Read}
+use Rattle.json_text.specs.Fault.{Fails, Read}
 use Rattle.json_text.specs.declared.fault.JsonFault.{JsonFault}
 use Rattle.json_text.specs.declared.fault.JsonFault.TheVariants.{Memory as LineMemory}
+use Rattle.json_text.specs.declared.fault.JsonFault.TheVariants as line
 use Rattle.line_runs.specs.declared.run.Turn.{Turn}
 use Rattle.line_runs.specs.declared.run.Turn.TheVariants.{Taken, Refused}
 use Rattle.node_steps.specs.declared.fault.NodeFault.{NodeFault}
 use Rattle.world_steps.specs.Steps.{NodeEvent as Deed, changes_of, packets_of}
-use Rattle.node_cell.specs.Transactions.{AppliesInMemory, Pending, RefusesInMemory, changes_of_each}
+use Rattle.node_cell.specs.Transactions.{AppliesInMemory, FailsInMemory, Pending, RefusesInMemory, changes_of_each}
+use Rattle.node_cell.specs.declared.fault.StepFault.{StepFault}
+use Rattle.node_cell.specs.declared.fault.StepFault.TheVariants as step
 use Rattle.node_cell.specs.declared.stored_node.Applied.{Applied}
 use Rattle.node_cell.specs.declared.stored_node.Applied.TheVariants.{Skipped, Stepped}
 use Rattle.program_lines.specs.Writing.{packet_lines}
-use Rattle.node_runs.specs.Afters.{DoesAll, DoesPlaced, turn_of}
+use Rattle.node_runs.specs.Afters.{DoesAll, DoesPlaced, TellsRefusal, turn_behind, turn_of}
 use Rattle.node_runs.specs.DoneLines.{all_line, idle_line, malformed_line, refused_line, skipped_line}
 use Rattle.node_runs.specs.ListTurns.{AreDone, IsOwn, PlacedTurn, none_done, one_refused, one_taken}
 use Rattle.node_runs.specs.ListTurns as lists
@@ -51,11 +54,17 @@ module _ {K : Type 0} (party : List ℕ) (old new : Pending K) (number place : �
 
   module _ (x : NodeEvent) (own : IsOwn party read x) where
     -- the node refuses it
-    pub refused : (fault : NodeFault) → RefusesInMemory old x.kind fault new → after ≡ before ++ refused_line number (Some place) fault
+    refused : (fault : NodeFault) → RefusesInMemory old x.kind fault new → after ≡ before ++ refused_line number (Some place) fault
         → DoesPlaced party old number place read false before after new
     refused fault r wrote =
         idly false (refused_line number (Some place) fault) r.same wrote
         (lists.IsRefused x own r.input r.brings fault r.refuses r.other refl refl refl (ap (λ (p : Pending K). p.state) r.same))
+
+    -- for this reason
+    pub step_refused : (f : StepFault) → FailsInMemory old x.kind f new → TellsRefusal number place f before after
+        → DoesPlaced party old number place read false before after new
+    step_refused (step.Core fault) r told = refused fault r told
+    step_refused step.Memory r told = absurd told
 
     -- it does it, or passes it over
     pub applied : (a : Applied) → AppliesInMemory old x.kind a new → after ≡ before ++ applied_lines number (Some place) a
@@ -121,14 +130,32 @@ module _ {K : Type 0} (party : List ℕ) (first old new : Pending K) (number : �
   }
 
   -- one more was taken
-  pub taken_too : (turn : Turn) → DoneSoFar party first number events place turn before between old
+  taken_too : (turn : Turn) → DoneSoFar party first number events place turn before between old
       → DoesPlaced party old number place (get_or events place d) true between after new → DoneSoFar party first number events (place + 1) turn before after new
   taken_too turn so one = more turn turn true so one (one_taken so.done (at_place Taken one.out one.did one.is))
 
   -- one more was malformed or refused
-  pub refused_too : (turn : Turn) → DoneSoFar party first number events place turn before between old
+  refused_too : (turn : Turn) → DoneSoFar party first number events place turn before between old
       → DoesPlaced party old number place (get_or events place d) false between after new → DoneSoFar party first number events (place + 1) Refused before after new
   refused_too turn so one = more turn Refused false so one (one_refused so.done (at_place Refused one.out one.did one.is))
+
+  -- one more was answered
+  pub one_more : (turn : Turn) (taken : Bool) → DoneSoFar party first number events place turn before between old
+      → DoesPlaced party old number place (get_or events place d) taken between after new
+      → DoneSoFar party first number events (place + 1) (turn_behind turn taken) before after new
+  one_more turn true so one = taken_too turn so one
+  one_more turn false so one = refused_too turn so one
+
+-- a refusal that is not want of memory was due
+pub refusal_due : {X : Type 0} (fault : JsonFault) (read : Read X) → fault ≢ LineMemory → Fails fault read → read ≡ Err fault
+refusal_due line.Memory read other fails = absurd (other refl)
+refusal_due line.Syntax read other fails = fails
+refusal_due line.BadNumberToken read other fails = fails
+refusal_due line.TaggedText read other fails = fails
+refusal_due (line.Missing field) read other fails = fails
+refusal_due (line.WrongForm field) read other fails = fails
+refusal_due (line.UnknownWord field) read other fails = fails
+refusal_due line.UnknownKind read other fails = fails
 
 -- and all
 pub all_done : {K : Type 0} (party : List ℕ) (first p : Pending K) (number : ℕ) (events : List (Read NodeEvent)) (place : ℕ) (turn : Turn) (before between after : List ℕ)

@@ -9,9 +9,12 @@ use Rattle.world_steps.specs.Steps.{NodeEvent as Deed}
 use Rattle.node_cell.specs.Keepers.{Commits, Declines, Keeper}
 use Rattle.node_cell.specs.Stored.{IsStored}
 use Rattle.node_cell.specs.Transactions.{Pending, changes_of_each}
+use Rattle.node_cell.specs.declared.fault.StepFault.{StepFault}
+use Rattle.node_cell.specs.declared.fault.StepFault.TheVariants as step
 use Rattle.node_store.specs.Faults.{IsCommitFault, counted_fault}
 use Rattle.node_store.specs.declared.fault.StoreFault.{StoreFault}
 use Rattle.node_store.specs.declared.fault.StoreFault.TheVariants.{Memory}
+use Rattle.node_runs.specs.DoneLines.{refused_line}
 use Rattle.node_runs.specs.ListTurns.{CarriesOut, LosesLine, PlacedTurn}
 use Rattle.node_runs.specs.NodeAnswers.{LineTurn}
 use Rattle.node_runs.specs.NodeTurns.{EventTurn, Running, Stage}
@@ -51,6 +54,16 @@ GoesOnWith s (Lost keep fault) result t =
 abbrev pub turn_of : Bool → Turn
 turn_of true = Taken
 turn_of false = Refused
+
+-- how the line is answered whose events before were answered so, and one more was taken or not
+abbrev pub turn_behind : Turn → Bool → Turn
+turn_behind turn true = turn
+turn_behind turn false = Refused
+
+-- why the node refused the event at one place stands behind what was written before; want of memory is not told
+abbrev pub TellsRefusal : ℕ → ℕ → StepFault → List ℕ → List ℕ → Type 0
+TellsRefusal number place (step.Core fault) before after = after ≡ before ++ refused_line number (Some place) fault
+TellsRefusal number place step.Memory before after = ⊥
 
 -- the event at one place was carried out in memory, and what became of it stands behind what was written before
 pub record DoesPlaced {K : Type 0} (party : List ℕ) (old : Pending K) (number place : ℕ) (read : Read NodeEvent) (taken : Bool)

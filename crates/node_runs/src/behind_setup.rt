@@ -7,7 +7,7 @@ ghost use Rattle.line_runs.specs.declared.run.Turn.TheVariants.{Refused};
 ghost use Rattle.node_cell.specs.Keepers.{keeper_of};
 ghost use Rattle.node_lines.specs.ListLines.{IsListLine};
 ghost use Rattle.node_lines.specs.NodeLines.{node_line_in};
-ghost use Rattle.node_lines.specs.declared.node_line.NodeLine.TheVariants.{One};
+ghost use Rattle.node_lines.specs.declared.node_line.NodeLine.TheVariants.{One, Several};
 ghost use Rattle.node_runs.specs.Afters.{IsAfter};
 ghost use Rattle.node_runs.specs.DoneLines.{malformed_line};
 ghost use Rattle.node_runs.specs.declared.fault.NodeStop.{NodeStop as NodeStopOf};
@@ -18,7 +18,7 @@ use crate::event_lines::answer_event;
 use crate::fault::NodeStop;
 use crate::list_lines::{After, answer_list};
 use line_runs::Turn;
-use node_lines::{NodeLine, is_list_line, read_node_line};
+use node_lines::{Elements, NodeLine, is_list_line, read_node_line};
 use node_store::{Keep, StoreFault};
 use ocpi_json::{JsonFault, Scratch};
 use ocpi_types::NodeEvent;
@@ -37,9 +37,26 @@ pub fn answer_behind_setup<K: Keep>(
     ensures { IsAfter (keeper_of K.content K.is_honest K.refusals K.may_leave) running stop.old number line.now (string_bytes output.old) (string_bytes output.new) result stop.new }
 {
     match read_node_line(alloc, scratch, line) {
-        Ok(NodeLine::One(event)) => answer_one(alloc, running, stop, &event, number, output),
-        Ok(NodeLine::Several(elements)) => answer_list(alloc, running, &elements, number, output),
+        Ok(held) => answer_held(alloc, running, stop, held, number, output),
         Err(fault) => refuse_line(running, fault, number, line, output),
+    }
+}
+
+/// Lets happen what a line holds.
+fn answer_held<K: Keep>(
+    alloc: Global,
+    running: Running<K>,
+    stop: &mut Option<NodeStop>,
+    held: NodeLine<'_>,
+    number: u64,
+    output: &mut String,
+) -> After<K>
+    ensures { (line : List ℕ) → node_line_in line ≡ Ok held.entry
+        → IsAfter (keeper_of K.content K.is_honest K.refusals K.may_leave) running stop.old number line (string_bytes output.old) (string_bytes output.new) result stop.new }
+{
+    match held {
+        NodeLine::One(event) => answer_one(alloc, running, stop, event, number, output),
+        NodeLine::Several(elements) => answer_several(alloc, running, elements, number, output),
     }
 }
 
@@ -48,15 +65,32 @@ fn answer_one<K: Keep>(
     alloc: Global,
     mut running: Running<K>,
     stop: &mut Option<NodeStop>,
-    event: &NodeEvent,
+    event: NodeEvent,
     number: u64,
     output: &mut String,
 ) -> After<K>
-    ensures { (line : List ℕ) → node_line_in line ≡ Ok (One event.now)
+    ensures { (line : List ℕ) → node_line_in line ≡ Ok (One event)
         → IsAfter (keeper_of K.content K.is_honest K.refusals K.may_leave) running stop.old number line (string_bytes output.old) (string_bytes output.new) result stop.new }
 {
-    let turn = answer_event(alloc, &mut running, stop, event, number, output);
+    let turn = answer_event(alloc, &mut running, stop, &event, number, output);
+    drop(event);
     After::Runs { running, turn }
+}
+
+/// Lets the events of a line happen.
+fn answer_several<K: Keep>(
+    alloc: Global,
+    running: Running<K>,
+    elements: Elements<'_>,
+    number: u64,
+    output: &mut String,
+) -> After<K>
+    ensures { (line : List ℕ) → node_line_in line ≡ Ok (Several elements.entry) → (stop : Option NodeStopOf)
+        → IsAfter (keeper_of K.content K.is_honest K.refusals K.may_leave) running stop number line (string_bytes output.old) (string_bytes output.new) result stop }
+{
+    let after = answer_list(alloc, running, &elements, number, output);
+    drop(elements);
+    after
 }
 
 /// Writes why a line was refused as a text. Where memory ran out for one of several events, the node ends.

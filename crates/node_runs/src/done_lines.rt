@@ -89,11 +89,7 @@ pub fn write_idle(line: u64, place: Option<usize>, output: &mut String) -> Resul
 }
 
 /// The event is another node's, or one of the other role.
-pub fn write_skipped(
-    line: u64,
-    place: Option<usize>,
-    output: &mut String,
-) -> Result<(), AllocError>
+pub fn write_skipped(line: u64, place: Option<usize>, output: &mut String) -> Result<(), AllocError>
     ensures { OnOk result (string_bytes output.new ≡ string_bytes output.old ++ skipped_line line place) }
 {
     writeln!(

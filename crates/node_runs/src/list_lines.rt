@@ -1,12 +1,13 @@
 //! What comes of a line of several events, which are carried out one after another and committed together.
 
-ghost use Rattle.std.specs.Prelude.{◌≡◌, ◌<◌, ◌+◌, ◌≤◌, ◌++◌, List, IfOk, Ok, Option, Some, length, slice_get, string_bytes, string_capacity, string_len, ℕ};
+ghost use Rattle.std.specs.Prelude.{◌≡◌, ◌≢◌, ◌<◌, ◌+◌, ◌≤◌, ◌++◌, List, IfOk, Ok, Option, Some, false, length, slice_get, string_bytes, string_capacity, string_len, ℕ};
 ghost use Rattle.json_text.specs.Fault.{Read};
 ghost use Rattle.node_cell.specs.Keepers.{keeper_of};
 ghost use Rattle.node_lines.specs.NodeLines.{node_line_in};
 ghost use Rattle.node_lines.specs.declared.node_line.NodeLine.TheVariants.{Several};
 ghost use Rattle.ocpi_types.specs.declared.node_events.NodeEvent.{NodeEvent as NodeEventOf};
-ghost use Rattle.node_runs.specs.Afters.{DoesAll, DoesPlaced, IsAfter, IsCommitted};
+ghost use Rattle.node_runs.specs.Afters.{DoesAll, DoesPlaced, IsAfter, IsCommitted, TellsRefusal, turn_behind};
+ghost use Rattle.node_runs.specs.DoneLines.{malformed_line};
 ghost use Rattle.node_runs.specs.declared.fault.NodeStop.{NodeStop as NodeStopOf};
 
 use crate::beginning::Running;
@@ -30,7 +31,10 @@ pub enum After<K: Keep> {
         turn: Result<Turn, AllocError>,
     },
     /// The node has ended at a line of several events, of which nothing was committed and nothing is written.
-    Lost { keep: K, fault: StoreFault },
+    Lost {
+        keep: K,
+        fault: StoreFault,
+    },
 }
 
 /// Carries out the events of a line one after another, commits them together, and then writes what came of each.
@@ -49,7 +53,14 @@ pub fn answer_list<K: Keep>(
     let (party, node) = running.into_parts();
     let mut transaction = node.begin();
     let mut lines = String::new(alloc);
-    match answer_all(alloc, &party, &mut transaction, elements, number, &mut lines) {
+    match answer_all(
+        alloc,
+        &party,
+        &mut transaction,
+        elements,
+        number,
+        &mut lines,
+    ) {
         Ok(turn) => commit_all(party, transaction, turn, lines.as_str(), output),
         Err(_) => After::Lost {
             keep: transaction.abandon(),
@@ -119,13 +130,22 @@ fn answer_all<K: Keep>(
     let mut turn = Turn::Taken;
     for place in 0..elements.len() {
         match answer_element(alloc, party, transaction, elements, place, number, lines) {
-            Ok(true) => {}
-            Ok(false) => turn = Turn::Refused,
+            Ok(taken) => {
+                let later = turn_behind(turn, taken);
+                turn = later;
+            }
             Err(_) => return Err(AllocError),
         }
     }
     write_all(number, elements.len(), lines)?;
     Ok(turn)
+}
+
+/// How a line is answered whose events were answered so, and the next one was taken or not.
+fn turn_behind(turn: Turn, taken: bool) -> Turn
+    ensures { result ≡ turn_behind turn taken }
+{
+    if taken { turn } else { Turn::Refused }
 }
 
 /// Reads the event at that place of a line and lets it happen in memory. Answers whether it was taken: one that is
@@ -146,8 +166,23 @@ fn answer_element<K: Keep>(
 {
     match elements.read(alloc, place) {
         Ok(event) => answer_placed(alloc, party, transaction, &event, place, number, lines),
-        Err(JsonFault::Memory) => Err(AllocError),
-        Err(fault) => {
+        Err(fault) => tell_malformed_at(fault, place, number, lines),
+    }
+}
+
+/// Writes why the event at that place is none. An error is want of memory, also for reading it.
+fn tell_malformed_at(
+    fault: JsonFault,
+    place: usize,
+    number: u64,
+    lines: &mut String,
+) -> Result<bool, AllocError>
+    ensures { IfOk result (λ taken. (taken ≡ false) × (fault ≢ JsonFault.Memory)
+        × (string_bytes lines.new ≡ string_bytes lines.old ++ malformed_line number (Some place) fault)) }
+{
+    match fault {
+        JsonFault::Memory => Err(AllocError),
+        _ => {
             write_malformed(number, Some(place), fault, lines)?;
             Ok(false)
         }
@@ -177,10 +212,24 @@ fn answer_placed<K: Keep>(
             write_applied(alloc, applied, number, Some(place), lines)?;
             Ok(true)
         }
-        Err(StepFault::Core(fault)) => {
+        Err(fault) => tell_refused_at(fault, place, number, lines),
+    }
+}
+
+/// Writes why the node refused the event at that place. An error is want of memory, also in the node.
+fn tell_refused_at(
+    fault: StepFault,
+    place: usize,
+    number: u64,
+    lines: &mut String,
+) -> Result<bool, AllocError>
+    ensures { IfOk result (λ taken. (taken ≡ false) × TellsRefusal number place fault (string_bytes lines.old) (string_bytes lines.new)) }
+{
+    match fault {
+        StepFault::Core(fault) => {
             write_refused(number, Some(place), fault, lines)?;
             Ok(false)
         }
-        Err(StepFault::Memory) => Err(AllocError),
+        StepFault::Memory => Err(AllocError),
     }
 }

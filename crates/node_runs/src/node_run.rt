@@ -17,10 +17,10 @@ ghost use Rattle.node_runs.specs.Stops.{IfRun, IfStop};
 ghost use Rattle.stored_laws.specs.Nodes.{last_serial};
 
 use crate::beginning::{Begun, Running, Unbegun, begin};
-use crate::done_lines::{write_malformed, write_opened};
 use crate::behind_setup::answer_behind_setup;
-use crate::list_lines::After;
+use crate::done_lines::{write_malformed, write_opened};
 use crate::fault::{NodeRunFault, NodeStop};
+use crate::list_lines::After;
 use line_runs::{AnswerNumbered, LineReader, Ran, RunFault, Turn, run_numbered};
 use node_keepers::Keeps;
 use node_store::Keep;
