@@ -1,5 +1,5 @@
 -- What a line behind the setup left, from what its parts give, and how the program goes on with it.
-use Rattle.std.proofs.Common.{◌≡◌, ◌≢◌, ◌⊎◌, ◌++◌, ◌∙◌, ℕ, List, [], Option, Some, None, Result, Ok, Err, IfOk, IfErr, refl, sym, ap, subst, inl, inr}
+use Rattle.std.proofs.Common.{◌≡◌, ◌≢◌, ◌⊎◌, ◌++◌, ◌∙◌, ℕ, List, [], Option, Some, None, Result, Ok, IfOk, IfErr, refl, sym, ap, subst, inl, inr}
 use Rattle.std.specs.declared.alloc.AllocError.{AllocError}
 use Rattle.std.proofs.lemmas.List.{append-nil}
 use Rattle.std.proofs.lemmas.Result.{IfOk-weaker}
@@ -10,7 +10,6 @@ use Rattle.world_steps.specs.World.{NodeState}
 use Rattle.node_lines.specs.NodeLines.{node_line_in}
 use Rattle.node_lines.specs.declared.node_line.NodeLine.TheVariants.{Several}
 use Rattle.line_runs.specs.declared.run.Turn.{Turn}
-use Rattle.line_runs.specs.declared.run.Turn.TheVariants.{Ended}
 use Rattle.node_keepers.specs.Opening.{Source}
 use Rattle.node_cell.specs.Keepers.{Commits, Declines, Keeper}
 use Rattle.node_cell.specs.Stored.{IsStored}
@@ -24,7 +23,7 @@ use Rattle.node_store.specs.declared.fault.StoreFault.{StoreFault}
 use Rattle.node_store.specs.declared.fault.StoreFault.TheVariants.{Memory}
 use Rattle.ocpi_types.specs.declared.node_events.NodeEventKind.{NodeEventKind}
 use Rattle.program_lines.proofs.FaultLemmas.{if_err_then}
-use Rattle.node_runs.specs.Afters.{CommitsAll, CommitsNone, DoesAll, GoesOnWith, IsAfter, IsCommitted}
+use Rattle.node_runs.specs.Afters.{CommitsAll, DoesAll, GoesOnWith, IsAfter, IsCommitted}
 use Rattle.node_runs.specs.ListTurns.{CarriesOut}
 use Rattle.node_runs.specs.ListTurns as lists
 use Rattle.node_runs.specs.NodeAnswers.{LineTurn, NodeTurn, OneEvent, SeveralEvents}

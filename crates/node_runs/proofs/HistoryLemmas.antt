@@ -8,9 +8,7 @@ use Rattle.ocpi_types.specs.declared.rows.Row.{Row}
 use Rattle.ocpi_types.specs.declared.setup.Node.{Node}
 use Rattle.ocpi_types.specs.declared.setup.Node.TheVariants as node
 use Rattle.operator_rows.specs.Steps as operator_steps
-use Rattle.operator_steps.specs.Events as operator
 use Rattle.provider_rows.specs.Steps as provider_steps
-use Rattle.provider_steps.specs.Events as provider
 use Rattle.world_steps.specs.Steps.{AtOperator, AtProvider, NodeEvent, NodeStep}
 use Rattle.world_steps.specs.Steps as steps
 use Rattle.world_steps.specs.World.{NodeState, Operates, Provides, opening_of}
@@ -20,7 +18,7 @@ use Rattle.line_runs.specs.declared.run.Turn.{Turn}
 use Rattle.line_runs.specs.declared.run.Turn.TheVariants.{Refused, Taken}
 use Rattle.node_keepers.specs.Opening.{Source}
 use Rattle.node_cell.specs.Keepers.{Keeper}
-use Rattle.node_cell.specs.Stored.{HoldsOneMore, IsKeptFor, IsStored, Stored}
+use Rattle.node_cell.specs.Stored.{HoldsOneMore, IsStored, Stored}
 use Rattle.node_core.specs.Members.{IsMadeOfRows}
 use Rattle.node_rows.specs.Holds.{HoldsRows}
 use Rattle.node_rows.specs.Laws.{NodesKeepOpenings}

@@ -1,5 +1,5 @@
 -- What a line of several events gives, from what each of them gives.
-use Rattle.std.proofs.Common.{◌≡◌, ◌≢◌, ◌⊎◌, ◌++◌, ◌∙◌, ◌+◌, ◌<◌, ℕ, Bool, true, false, List, [], ◌∷◌, Option, Some, None, Result, Ok, Err, refl, sym, ap, subst, inl, inr, arith, length, take, get_or, take_all}
+use Rattle.std.proofs.Common.{◌≡◌, ◌≢◌, ◌++◌, ◌∙◌, ◌+◌, ◌<◌, ℕ, Bool, true, false, List, [], ◌∷◌, Some, Ok, Err, refl, sym, ap, subst, inl, inr, arith, length, take, get_or, take_all}
 use Rattle.std.proofs.lemmas.Grind.{flat_map-append}
 use Rattle.std.proofs.lemmas.List.{append-nil, append_assoc, length-take-le, take_more}
 use Rattle.ocpi_text.specs.Text.{key}
@@ -13,7 +13,7 @@ use Rattle.json_text.specs.declared.fault.JsonFault.TheVariants as line
 use Rattle.line_runs.specs.declared.run.Turn.{Turn}
 use Rattle.line_runs.specs.declared.run.Turn.TheVariants.{Taken, Refused}
 use Rattle.node_steps.specs.declared.fault.NodeFault.{NodeFault}
-use Rattle.world_steps.specs.Steps.{NodeEvent as Deed, changes_of, packets_of}
+use Rattle.world_steps.specs.Steps.{NodeEvent as Deed, changes_of}
 use Rattle.node_cell.specs.Transactions.{AppliesInMemory, FailsInMemory, Pending, RefusesInMemory, changes_of_each}
 use Rattle.node_cell.specs.declared.fault.StepFault.{StepFault}
 use Rattle.node_cell.specs.declared.fault.StepFault.TheVariants as step

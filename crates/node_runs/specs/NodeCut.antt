@@ -1,5 +1,5 @@
 -- A line of `node` that is too long is refused whatever comes after its first bytes.
-use Rattle.std.specs.Prelude.{ℕ, ◌≡◌, ◌≤◌, ◌⊎◌, List, Option, None, Some, Ok, take}
+use Rattle.std.specs.Prelude.{ℕ, ◌≡◌, ◌⊎◌, List, Option, None, Some, take}
 use Rattle.std.proofs.Common.{sym, ap, subst, ◌∙◌, arith, inl, inr, take-take}
 use Rattle.json_text.specs.Fault.{◌>>=◌, Fails}
 use Rattle.node_lines.specs.ListLines.{BeginsList, IsListLine}

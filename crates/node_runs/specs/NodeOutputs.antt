@@ -29,7 +29,8 @@ IsKept keeper (Some now) = IsStored keeper now.node
 -- Where a reader tells its bytes, and a writer what it holds: what was written is an output of the input. `opened` are
 -- the places whose keepers were to be opened before. `stop` is why
 -- the node did not begin or did not go on, where that ended the run. `kept` is the keeper as the lines that were
--- answered left it, where one was opened; where a node runs, it has just the rows of that.
+-- answered left it, where one was opened; where a node runs, it has just the rows of that. Where the node ended at a line
+-- of several events, that line says what became of the keeper (`Ends`).
 pub record NodeOutputs {K : Type 0} (keeper : Keeper K) (source : Source K) (opened : List ℕ) (word : List ℕ) (echo : Bool)
     (text : Option (List ℕ)) (ran : Ran) (stop : Option NodeStop) (old new : Option (List ℕ)) (kept : Option K) : Type 0 where
   pub last : Stage K

@@ -30,8 +30,8 @@ pub fn stops_go_on<K: Keep>()
 }
 
 /// A run that ended at a line of several events kept nothing of it: a run over the same store goes on as before that
-/// line. One over what a stop left goes on so too, or as after one event that was refused earlier, or as behind the whole
-/// line; never as behind a part of it.
+/// line. One over what a stop left goes on so too, or as after one event that was refused earlier, or as behind the
+/// whole line; never as behind a part of it.
 pub fn lost_lines_go_on<K: Keep>()
     ensures stops { LostLinesGoOn (keeper_of K.content K.is_honest K.refusals K.may_leave) }
     ensures same { LostLinesKeepRows (keeper_of K.content K.is_honest K.refusals K.may_leave) }

@@ -238,11 +238,11 @@ fn ended(ran: Result<Ran, RunFault>, stop: Option<NodeStop>) -> Result<Ran, Node
 }
 
 /// Runs one node of a setup for as long as lines come. The first line that holds something is the setup, in which
-/// `party` names the node, compared without case. Each other is an event, or an array of at most 256 events. Each packet
-/// that the node sends for an event is a line, and after these comes one that says what became of it, by the number of
-/// the line. An event of another node, or of the other role, is skipped. A line that is refused changes nothing, and the
-/// next follows; a refused or absent setup ends the run. With `echo` each line that holds something is written as it
-/// came, before what it gives.
+/// `party` names the node, compared without case. Each other is an event, or an array of at most 256 events. Each
+/// packet that the node sends for an event is a line, and after these comes one that says what became of it, by the
+/// number of the line. An event of another node, or of the other role, is skipped. A line that is refused changes
+/// nothing, and the next follows; a refused or absent setup ends the run. With `echo` each line that holds something is
+/// written as it came, before what it gives.
 ///
 /// The events of an array are carried out one after another, as if each were a line, and committed together. What
 /// became of each tells its place too, from 0, and behind them a line says that all are done. One that is malformed,
@@ -253,16 +253,16 @@ fn ended(ran: Result<Ran, RunFault>, stop: Option<NodeStop>) -> Result<Ran, Node
 /// is refused or has no such party, none is. It is made of what was found for that place, and the node of the rows that
 /// it keeps. The rows that a line changes are committed before its packets are written (no clause says when). Where
 /// none of this can be had, or a commit is refused, also for want of memory, the run ends, of that line nothing is
-/// written but its echo, and `Stop` tells why, unless the last flush fails too. What the node itself refuses of one
-/// event for want of memory, before the commit, is a refusal as any other, and the run goes on. `kept` gets the keeper
-/// as the run left it, where one was opened. However the run ends, it keeps what the lines that were carried out made
-/// of it, each line whole or not at all. Where a write failed, that is all those before and the one whose output was
-/// not written whole.
+/// written but its echo, and `Stop` tells why, unless the last flush fails too. Where a line is one event, what the
+/// node itself refuses for want of memory, before the commit, is a refusal as any other, and the run goes on. `kept`
+/// gets the keeper as the run left it, where one was opened. However the run ends, it keeps what the lines that were
+/// carried out made of it, each line whole or not at all. Where a write failed, that is all those before and the one
+/// whose output was not written whole.
 ///
-/// Where the run was not stopped, what is written is the output of the input. Where it was stopped, what is written is a
-/// beginning of that: by a failed read or too many reads, what exactly the lines that were read whole give; by the node,
-/// what the lines before give. At most 1,000,000,000 lines are read. What a line gives is flushed before the next is
-/// read, and an echo before its line is carried out.
+/// Where the run was not stopped, what is written is the output of the input. Where it was stopped, what is written is
+/// a beginning of that: by a failed read or too many reads, what exactly the lines that were read whole give; by the
+/// node, what the lines before give. At most 1,000,000,000 lines are read. What a line gives is flushed before the next
+/// is read, and an echo before its line is carried out.
 pub fn run_node<R: BufRead, W: Write, S: Keeps + Drop>(
     alloc: Global,
     input: &mut LineReader<R>,

@@ -1,5 +1,4 @@
-use Rattle.std.proofs.Common.{◌≡◌, ℕ, List, None, refl, subst, rules}
-use Rattle.std.specs.Prelude.{IsTrue}
+use Rattle.std.proofs.Common.{None, refl, subst}
 use Rattle.line_runs.specs.declared.run.Turn.TheVariants.{Taken}
 use Rattle.node_cell.specs.Keepers.{keeper_of}
 use Rattle.node_runs.specs.DoneLines.{skipped_line}

@@ -1,4 +1,4 @@
-use Rattle.std.proofs.Common.{◌≡◌, ◌∙◌, ℕ, List, None, sym, ap, subst}
+use Rattle.std.proofs.Common.{◌∙◌, None, sym, ap, subst}
 use Rattle.std.proofs.lemmas.Result.{IfOk-weaker}
 use Rattle.ocpi_text.specs.Text.{key}
 use Rattle.line_runs.specs.declared.run.Turn.{Turn}

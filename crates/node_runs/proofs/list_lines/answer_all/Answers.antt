@@ -1,4 +1,4 @@
-use Rattle.std.proofs.Common.{◌≡◌, ◌<◌, ◌+◌, ◌∙◌, Err, refl, sym, subst, arith, length, string_bytes}
+use Rattle.std.proofs.Common.{◌<◌, ◌+◌, ◌∙◌, Err, refl, sym, subst, arith, length, string_bytes}
 use Rattle.std.proofs.lemmas.Option.{slice_get-get_or}
 use Rattle.json_text.specs.Fault.{Read}
 use Rattle.json_text.specs.declared.fault.JsonFault.TheVariants.{Syntax}
