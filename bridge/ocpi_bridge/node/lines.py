@@ -25,10 +25,6 @@ class Waiting:
         """Raises NotJson where the event is nested too deep."""
         self.text = write_json(self.event)
 
-    @property
-    def ends_line(self) -> bool:
-        return self.alone or self.event["event"] in LAST_OF_A_LINE
-
     def succeed(self, outcome: Outcome) -> None:
         if self.outcome is not None and not self.outcome.done():
             self.outcome.set_result(outcome)
@@ -70,9 +66,9 @@ def next_line(queue: deque[Waiting]) -> Line | None:
         return None
     taken = [queue.popleft()]
     size = len(taken[0].text) + 2
-    while queue and len(taken) < MOST_EVENTS and not taken[-1].ends_line and not queue[0].alone:
+    while queue and len(taken) < MOST_EVENTS and not taken[-1].alone and not queue[0].alone:
         size += len(queue[0].text) + 1
-        if size > MOST_BYTES:
+        if size > MOST_BYTES or taken[-1].event["event"] in LAST_OF_A_LINE:
             break
         taken.append(queue.popleft())
     text = ",".join(waiting.text for waiting in taken)
