@@ -9,6 +9,8 @@ from ..json_text import Members, read_json, write_json
 # What a node takes in one line.
 MOST_EVENTS = 256
 MOST_BYTES = 1_048_576
+# What may do more when it is fed again than it did. Where nothing stands behind it in its line, the line does not.
+LAST_OF_A_LINE = ("swipe", "tick")
 
 
 @dataclass
@@ -56,14 +58,17 @@ def kept_line(text: str | None) -> Line | None:
 
 
 def next_line(queue: deque[Waiting]) -> Line | None:
-    """Takes the next line off those that wait: one event alone, or in an array what waits, as far as a line goes."""
+    """Takes the next line off those that wait: one event alone, or in an array what waits, as far as a line goes.
+
+    A line ends with its first swipe or tick.
+    """
     if not queue:
         return None
     taken = [queue.popleft()]
     size = len(taken[0].text) + 2
     while queue and len(taken) < MOST_EVENTS and not taken[-1].alone and not queue[0].alone:
         size += len(queue[0].text) + 1
-        if size > MOST_BYTES:
+        if size > MOST_BYTES or taken[-1].event["event"] in LAST_OF_A_LINE:
             break
         taken.append(queue.popleft())
     text = ",".join(waiting.text for waiting in taken)
