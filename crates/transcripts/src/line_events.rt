@@ -1,13 +1,10 @@
 //! The events that an echoed line holds, each with its text.
 
-ghost use Rattle.std.specs.Prelude.{◌≡◌, ◌≢◌, ◌<◌, Contains, Err, IfErr, IfOk, Ok, Some, length, map, slice_get, true, ℕ};
-ghost use Rattle.json_text.specs.Fault.{Read};
-ghost use Rattle.json_text.specs.declared.fault.JsonFault.TheVariants as json_fault;
-ghost use Rattle.ocpi_types.specs.declared.node_events.NodeEvent.{NodeEvent as NodeEventOf};
+ghost use Rattle.std.specs.Prelude.{◌≡◌, ◌<◌, IfErr, IfOk, Ok, Some, length, slice_get};
 ghost use Rattle.node_lines.specs.declared.node_line.NodeLine.TheVariants.{One as OneOf, Several as SeveralOf};
 ghost use Rattle.node_lines.specs.NodeLines.{node_line_in};
 ghost use Rattle.transcript_parts.specs.Lines.{line_of};
-ghost use Rattle.transcripts.specs.LineEvents.{Holds, HoldsSeveral, IsEventAt, event_at};
+ghost use Rattle.transcripts.specs.LineEvents.{AreEventsOf, Holds, IsEventAt};
 ghost use Rattle.transcripts.specs.Following.{IsNoEvent, TellsNotARun};
 
 use crate::element_texts::element_texts;
