@@ -11,9 +11,11 @@ INPUT go in one by one. With `--store` each run has a new store. Of each run one
   behind it: so that refusal left the node and its keeper as they were;
 - the keeper of the node's rows had no memory: status 3, `store: 4 Memory`, nothing is written for that line, and all before
   it is as with ample memory. A store then has the rows of before that line, or of behind it, as the next run opens it;
+- the same in a line of several events, wherever in it there was no memory. A store then has the rows of before that line;
 - the run ends with status 1 or 2 for want of memory elsewhere, and what it wrote is a beginning of that.
 
-Some lines must have been refused, and some runs ended by the keeper behind the setup. The last line says what was tried.
+Of the lines of one event some must have been refused, and some runs ended by the keeper behind the setup; so must lines of
+several events, where INPUT has them. The last line says what was tried.
 """
 
 import argparse
@@ -28,9 +30,12 @@ import tempfile
 
 from fail_allocations_in_weave import FAILED, build
 
-STORE, LINE = b"store: 4 Memory\n", re.compile(rb'"line":\d+,?')
+STORE, LINE = b"store: 4 Memory\n", re.compile(rb',"line":\d+')
 # How many runs are begun before it is seen whether one of them makes so many allocations.
 AT_ONCE = 200
+# What may come of a run.
+REFUSED, KEEPER = "a line was refused and given once more", "the keeper ended the run"
+SEVERAL = "a line of several events ended the run"
 
 
 class Run:
@@ -53,7 +58,7 @@ class Run:
             lines.append(self.program.stdout.readline())
             if not lines[-1].endswith(b"\n"):
                 return b"".join(lines), False
-            if lines[-1].startswith(b'{"done":'):
+            if lines[-1].startswith(b'{"done":') and "event" not in json.loads(lines[-1]):
                 return LINE.sub(b"", b"".join(lines)), True
 
     def end(self):
@@ -66,6 +71,11 @@ def is_refused(gives):
     """Whether a line was refused for want of memory."""
     told = json.loads(gives.splitlines()[-1])
     return told.get("name") == "Memory" and told["done"] in ("refused", "malformed")
+
+
+def has_several(line):
+    """Whether a line has several events."""
+    return line.lstrip(b" \t\r").startswith(b"[")
 
 
 class Node:
@@ -118,7 +128,7 @@ class Node:
         refused, count = 0, 0
         for line, wanted in zip(self.lines, self.parts):
             gives, is_whole = run.answer(line)
-            if is_whole and is_refused(gives) and count > 0:
+            if is_whole and is_refused(gives) and count > 0 and not has_several(line):
                 if gives.count(b"\n") > 1:
                     return f"WRONG: {gives[:300]!r} in line {count + 1}"
                 refused += 1
@@ -131,10 +141,16 @@ class Node:
         status, rest, said = run.end()
         fails = said.count(FAILED.strip())
         if (status, rest, said.replace(FAILED, b"", 1)) == (1 if refused else self.status, b"", b"") and refused <= fails:
-            return "none" if not fails else "a line was refused and given once more" if refused else "whole"
+            return "none" if not fails else REFUSED if refused else "whole"
         if status == 3 and STORE in said and fails == 1 and not refused:
             return "the keeper could not be closed"
         return f"WRONG: status {status} behind the last line, {refused} refused, {rest[:200]!r}, {said[:300]!r}"
+
+    def ended_by(self, count):
+        """What ended a run in that line for want of memory of the store."""
+        if count == 0:
+            return "no node was made"
+        return SEVERAL if has_several(self.lines[count]) else KEEPER
 
     def ended(self, number, run, count, gives, wanted):
         """What came of a run that ended within a line."""
@@ -145,12 +161,21 @@ class Node:
         if status == 3 and STORE in said and not gives:
             if self.given.store and os.path.exists(self.store(number)):
                 left = self.opened_by(self.store(number))
-                if left not in (self.rows_behind(count), self.rows_behind(count + 1)):
+                ends = (count,) if has_several(self.lines[count]) else (count, count + 1)
+                if left not in map(self.rows_behind, ends):
                     return f"WRONG: {left!r} behind a stop in line {count + 1}"
-            return "the keeper ended the run" if count else "no node was made"
+            return self.ended_by(count)
         if status in (1, 2) and (count == 0 or wanted.startswith(gives) or LINE.sub(b"", wanted).startswith(LINE.sub(b"", gives))):
             return "the run ended for want of memory elsewhere"
         return f"WRONG: status {status} in line {count + 1}, {gives[:200]!r}, {said[:300]!r}"
+
+
+def is_complete(kinds, node):
+    """Whether each kind of end was met that the lines can have."""
+    behind = node.lines[1:]
+    wanted = [REFUSED, KEEPER] if any(not has_several(line) for line in behind) else []
+    wanted += [SEVERAL] if any(map(has_several, behind)) else []
+    return all(kinds[kind] for kind in wanted)
 
 
 def main():
@@ -175,7 +200,7 @@ def main():
             number += AT_ONCE
     del kinds["none"]
     print(f"each of {sum(kinds.values())} allocations failed once: " + ", ".join(f"{kind} {count}" for kind, count in sorted(kinds.items())))
-    return 0 if not wrong and kinds["a line was refused and given once more"] and kinds["the keeper ended the run"] else 1
+    return 0 if not wrong and is_complete(kinds, node) else 1
 
 
 if __name__ == "__main__":

@@ -1,21 +1,23 @@
 #!/usr/bin/env python3
 """Kills `node --store` at moments drawn by chance, starts it again over its store, and feeds it on to the last line.
 
-    bench/kill_node.py PROGRAM [--runs 50] [--stops 20] [--events 2000] [--seed 1] [--folder FOLDER]
+    bench/kill_node.py PROGRAM [--runs 50] [--stops 20] [--events 2000] [--most 1] [--seed 1] [--folder FOLDER]
 
-PROGRAM is `ocpi_nodes`. For each run the events of an operator and a provider are drawn beside `play`. Those of one of
-them become the lines of `node`, in which a delivery has the packet that its sender wrote in `play`. Runs take turns:
-operator and provider; each line given once the one before has its `done`, and all lines read from a file. The program
-is killed (SIGKILL) as often as --stops says in each run, mostly while it carries out a line, at times while it opens
-its store, or when its input has ended and it closes it. After each stop it is fed on by the rule of docs/NODE.md. Then
+PROGRAM is `ocpi_nodes`. For each run the events of two operators and two providers are drawn beside `play`. Those of
+one of them become the lines of `node`, in which a delivery has the packet that its sender wrote in `play`. With --most
+above 1 most lines have several events, at most so many; among them stand some that are malformed, and some that are
+refused. Runs take turns: operator and provider; each line given once the one before has its `done`, and all lines read
+from a file. The program is killed (SIGKILL) as often as --stops says in each run, mostly while it carries out a line,
+at times while it opens its store, or when its input has ended and it closes it. After each stop it is fed on by the
+rule of docs/NODE.md. Then
 
 - stock SQLite reads a copy of the store, `PRAGMA integrity_check` is ok, and the rows are those before or after the
   line at which it was stopped, of runs over other stores that end there by themselves;
 - `rows` and `serial` of the next `opened` are those of the store;
 - the packets, and each `done` but for its `line`, are those of one run over a new store that nobody stops, with an
-  event `restart` for each stop: behind the line that it fell in where that was carried out, before it where it was fed
-  again. The last packets of a line that was carried out when it was stopped may be wanting, and the `done` of a line
-  that was fed again may be `idle`;
+  event `restart` for each stop: behind the line that it fell in where that was carried out, else before it. A line that
+  was fed again though it had changed rows stands there twice, with the restart between. The last packets of a line that
+  was carried out when it was stopped may be wanting;
 - the rows at the end are those of that run.
 
 A try of a minute: `--runs 4 --stops 5 --events 200`. Standard error has a line for each run. The last three lines of
@@ -35,7 +37,8 @@ import sys
 import tempfile
 import time
 
-from stop_in_store import EVSES, OPERATOR, PROVIDER, Drawing, Run, line_of, setup_line, token
+from drawn_lines import draw_lines, in_groups, wide_setup
+from stop_in_store import OPERATOR, PROVIDER, line_of
 
 # Where the stores lie that nobody kills.
 QUICK = "/dev/shm" if os.path.isdir("/dev/shm") else None
@@ -46,89 +49,9 @@ OPENING, CLOSING = "while the store was opened", "when the input had ended"
 PLACES = (BEFORE, INSIDE, AFTER, BETWEEN, UNCHANGED, OPENING, CLOSING)
 
 
-class WideDrawing(Drawing):
-    """Draws events of all kinds, and keeps the packets that were sent."""
-
-    def __init__(self, draw):
-        super().__init__(draw)
-        self.packets, self.commands, self.sessions = {}, [1], ["none"]
-
-    def saw(self, lines):
-        super().saw(lines)
-        for line in lines:
-            if line.startswith(b"{"):
-                packet = json.loads(line)
-                self.packets[packet["from"], packet["serial"]] = line.rstrip(b"\n")
-                if "response_url" in packet["body"] and packet["from"] == PROVIDER:
-                    self.commands.append(packet["request"])
-                if packet["kind"] == "put_session":
-                    self.sessions.append(packet["body"]["id"])
-
-    def order(self, evse):
-        """An order of another kind than a start at an EVSE."""
-        kinds = ["stop_session", "reserve_now", "cancel_reservation", "unlock_connector"]
-        kind = self.draw.choices(kinds, [1, 2, 1, 1])[0]
-        place = {"location_id": "LOC1", "evse_uid": evse}
-        reservation = {"reservation_id": f"R{self.draw.randint(1, 6)}"}
-        if kind == "stop_session":
-            return {"order": kind, "session_id": self.draw.choice(self.sessions[-6:])}
-        if kind == "cancel_reservation":
-            return {"order": kind, **reservation}
-        if kind == "unlock_connector":
-            return {"order": kind, **place, "connector_id": "1"}
-        expiry = self.draw.choice(["2025-01-01T10:05:00Z", "2025-01-01T11:00:00Z", "2025-01-02T10:00:00Z"])
-        return {"order": kind, "token_uid": "AA01", "token_type": "RFID", "expiry_date": expiry, **reservation, **place}
-
-    def first_event(self):
-        return {"event": "token", "node": PROVIDER, "at": self.moment(), "token": token(1)}
-
-    def event(self):
-        if self.draw.random() < 0.7:
-            return super().event()
-        at, evse = self.moment(), self.draw.choice(EVSES)
-        kind = self.draw.choices(["accepts", "refuses", "unlocked", "fault", "service", "swipe", "token", "submit"],
-                                 [30, 5, 5, 3, 6, 12, 4, 20])[0]
-        if kind in ("accepts", "refuses", "unlocked"):
-            number = self.draw.choice(self.commands[-4:])
-            return {"event": kind, "node": OPERATOR, "at": at, "provider": PROVIDER, "number": number}
-        if kind == "fault":
-            return {"event": kind, "node": OPERATOR, "at": at, "evse_uid": evse}
-        if kind == "service":
-            return {"event": kind, "node": OPERATOR, "evse_uid": evse, "in_service": self.draw.random() < 0.8}
-        if kind == "swipe":
-            return {"event": kind, "node": OPERATOR, "at": at, "evse_uid": evse, "connector_id": "1",
-                    "token_uid": f"AA0{self.draw.randint(2, 4)}", "token_type": "RFID"}
-        if kind == "token":
-            whitelist = self.draw.choice(["ALLOWED_OFFLINE", "NEVER", "ALLOWED"])
-            changed = {**token(self.draw.randint(2, 4)), "whitelist": whitelist, "valid": self.draw.random() < 0.9}
-            return {"event": kind, "node": PROVIDER, "at": at, "token": changed}
-        return {"event": kind, "node": PROVIDER, "at": at, "operator": OPERATOR, **self.order(evse)}
-
-    def line(self, event):
-        """The event as a line of `node`."""
-        if event["event"] != "deliver":
-            return line_of(**event)
-        envelope = {name: event[name] for name in ("event", "node", "at")}
-        packet = self.packets[event["from"], event["serial"]]
-        return line_of(**envelope, packet=None).replace(b"null", packet)
-
-
-def draw_lines(program, party, number, draw):
-    """So many events of a party as lines, each with whether it sent packets in `play`; and some of the other's."""
-    run, drawing, lines = Run(program), WideDrawing(draw), []
-    run.give(setup_line())
-    run.answer()
-    own = 0
-    while own < number:
-        event = drawing.event() if lines else drawing.first_event()
-        run.give(line_of(**event))
-        said = run.answer()
-        drawing.saw(said)
-        if event["node"] == party or not lines or draw.random() < 0.02:
-            lines.append((drawing.line(event), event["node"] == party and bool(said)))
-        own += event["node"] == party
-    run.end()
-    return lines
+def is_event_done(line):
+    """Whether that `done` is of one of several events, behind which more of its line comes."""
+    return "event" in json.loads(line)
 
 
 def rows_of(store):
@@ -175,6 +98,8 @@ class Stop:
         self.rows, self.wrong = rows_of(store)
         self.open_frames = has_open_frames(store)
         self.carried_out = False
+        # Whether the line had changed rows and is fed again.
+        self.is_doubled = False
         # Of a stop in no line.
         self.place = place if feeding.is_open else OPENING
 
@@ -185,7 +110,8 @@ class Feeding:
     def __init__(self, lines):
         self.lines = lines
         self.done, self.given, self.packets, self.cut, self.serial = 0, False, [], False, 0
-        self.answers = []  # of each of the `done` lines its packets, and its `done` where that came
+        # Of each of the `done` lines its packets, with each `done` of an event, and its own `done` where that came.
+        self.answers = []
         self.stops, self.open_stops, self.wrong = [], [], []
         self.is_open = False
 
@@ -193,25 +119,34 @@ class Feeding:
         """Takes what the program wrote; a last line without its end was cut."""
         for line in lines:
             if not line.endswith(b"\n"):
-                self.cut = line.startswith(b'{"b')
+                self.cut = line.startswith(b'{"b') or self.is_of_several()
             elif not line.startswith(b'{"done"'):
                 self.packets.append(line)
                 self.serial = json.loads(line)["serial"]
             else:
                 self.take_done(json.loads(line))
 
+    def is_of_several(self):
+        """Whether the next line has several events: what comes out of it first is of one of these."""
+        return self.done < len(self.lines) and self.lines[self.done].startswith(b"[")
+
     def take_done(self, said):
         del said["line"]
         if said["done"] == "opened":
             self.take_opened(said)
             return
+        if "event" in said:
+            self.packets.append(said)
+            return
         self.answers.append((self.packets, said))
         self.done, self.given, self.packets = self.done + 1, False, []
 
     def take_opened(self, said):
-        """The rule: a line without its `done` was carried out where a packet came out, or a serial was given since."""
+        """The rule: a line without its `done` was carried out where a packet or the `done` of an event came out, or a
+        serial was given since."""
         self.is_open = True
-        carried_out = self.given and (bool(self.packets) or said["serial"] > self.serial)
+        cut = self.cut and self.is_of_several()
+        carried_out = self.given and (bool(self.packets) or cut or said["serial"] > self.serial)
         for stop in self.open_stops:
             stop.carried_out = carried_out
             if said["rows"] != len(stop.rows) or said["serial"] != serial_of(stop.rows):
@@ -240,9 +175,9 @@ class Node:
         self.program.stdin.flush()
 
     def answer(self):
-        """The lines up to the next `done`."""
+        """The lines up to the next `done` of a line."""
         lines = []
-        while not lines or not lines[-1].startswith(b'{"done"'):
+        while not lines or not lines[-1].startswith(b'{"done"') or is_event_done(lines[-1]):
             lines.append(self.program.stdout.readline())
             if not lines[-1].endswith(b"\n"):
                 sys.exit(f"kill_node: the program ended by itself with status {self.program.wait()}, after {lines}")
@@ -285,6 +220,8 @@ class Killer:
     def __init__(self, given, draw, party, store, by_file):
         self.given, self.draw, self.party, self.store, self.by_file = given, draw, party, store, by_file
         lines = draw_lines(given.program, party, given.events, draw)
+        if given.most > 1:
+            lines = in_groups(lines, party, given.most, draw)
         self.feeding = Feeding([line for line, _ in lines])
         self.targets = self.draw_targets([sends for _, sends in lines])
         self.seconds = 0.002
@@ -331,7 +268,7 @@ class Killer:
         """Starts it without a line behind the setup, and kills it a little later."""
         node = Node(self.given, self.party, self.store)
         self.feeding.is_open = False
-        node.give(setup_line())
+        node.give(wide_setup())
         time.sleep(self.draw.random() * 0.02)
         self.stop(node)
 
@@ -339,7 +276,7 @@ class Killer:
         """Gives line by line, and kills the program while it carries out the target, or when its input ends before."""
         feeding, node = self.feeding, Node(self.given, self.party, self.store)
         feeding.is_open = False
-        node.give(setup_line())
+        node.give(wide_setup())
         feeding.take(node.answer())
         while feeding.done < len(feeding.lines):
             if closing and feeding.done >= target:
@@ -362,11 +299,11 @@ class Killer:
         """
         feeding = self.feeding
         feeding.is_open = False
-        with file_with([setup_line()]) as source:
+        with file_with([wide_setup()]) as source:
             feeding.take(Node(self.given, self.party, self.store, source).end())
         begun, first = time.perf_counter(), feeding.done
         last = max(target, first) if closing else len(feeding.lines)
-        with file_with([setup_line(), *feeding.lines[first:last]]) as source:
+        with file_with([wide_setup(), *feeding.lines[first:last]]) as source:
             node = Node(self.given, self.party, self.store, source)
             feeding.take(node.answer())
             feeding.given = first < last
@@ -388,7 +325,7 @@ class Killer:
 
 def run_to_end(given, party, store, lines):
     """What a run of these lines writes that nobody stops."""
-    with file_with([setup_line(), *lines]) as source:
+    with file_with([wide_setup(), *lines]) as source:
         return Node(given, party, store, source).end()
 
 
@@ -432,24 +369,28 @@ def look_at_stops(given, party, feeding, room):
             run_to_end(given, party, store, feeding.lines[first:end])
             rows.append(rows_of(store)[0])
             stores.append(store)
+        stop.is_doubled = not stop.carried_out and stop.rows == rows[1] != rows[0]
         if stop.rows in rows:
             places.append(stop.place or place_of(stop, *rows))
         else:
             wrong.append(f"line {stop.at}: the rows are neither those before the line nor those after it")
-        base = copy_of(stores[stop.carried_out], "base.db")
+        base = copy_of(stores[stop.carried_out or stop.is_doubled], "base.db")
         first, last_rows = stop.at + stop.carried_out, stop.rows
     return places, wrong
 
 
 def with_restarts(party, feeding):
-    """The lines with a restart for each stop, and of each line its place among them."""
+    """The lines with a restart for each stop, those that were carried out twice too; of each its place among them."""
     restart, lines, places = line_of(event="restart", node=party), [], []
-    stops = collections.Counter(stop.at + stop.carried_out for stop in feeding.stops)
+    stops = collections.defaultdict(list)
+    for stop in feeding.stops:
+        stops[stop.at + stop.carried_out].append(stop)
     for at, line in enumerate(feeding.lines):
-        lines += [restart] * stops[at]
+        for stop in stops[at]:
+            lines += [line, restart] if stop.is_doubled else [restart]
         places.append(len(lines))
         lines.append(line)
-    return lines + [restart] * stops[len(feeding.lines)], places
+    return lines + [restart] * len(stops[len(feeding.lines)]), places
 
 
 def look_at_answers(given, party, feeding, room):
@@ -464,9 +405,9 @@ def look_at_answers(given, party, feeding, room):
     for at, (place, (packets, said)) in enumerate(zip(places, feeding.answers)):
         wanted, wanted_said = whole.answers[place]
         if said is None:
-            lost += len(wanted) - len(packets)
+            lost += sum(isinstance(it, bytes) for it in wanted[len(packets):])
             wanted, wanted_said = wanted[:len(packets)], None
-        if packets != wanted or (said != wanted_said and at not in again):
+        if packets != wanted or said != wanted_said:
             wrong.append(f"line {at}: it was answered {packets} {said} in place of {wanted} {wanted_said}")
     if len(feeding.answers) != len(feeding.lines):
         wrong.append(f"{len(feeding.answers)} lines were carried out, of {len(feeding.lines)}")
@@ -479,6 +420,7 @@ def main():
     options.add_argument("--runs", type=int, default=50)
     options.add_argument("--stops", type=int, default=20, help="how often each run is stopped")
     options.add_argument("--events", type=int, default=2000)
+    options.add_argument("--most", type=int, default=1, help="how many events a line has at most")
     options.add_argument("--seed", type=int, default=1)
     options.add_argument("--folder", help="where the stores lie that are killed (its disk is the one that is tried)")
     given = options.parse_args()
@@ -503,7 +445,7 @@ def main():
         fell.update(places)
         stops, lost, again = stops + len(killer.feeding.stops), lost + lost_here, again + again_here
         passed += 0 if wrong else len(killer.feeding.stops)
-    print(f"{passed} of {stops} stops, in {given.runs} runs of {given.events} events, were as wanted")
+    print(f"{passed} of {stops} stops, in {given.runs} runs of {given.events} events, at most {given.most} a line, were as wanted")
     print("They fell " + ", ".join(f"{fell[it]} {it}" for it in PLACES))
     print(f"{again} lines were fed again, and {lost} packets were never written")
     return 0 if passed == stops == given.runs * given.stops else 1

@@ -2,6 +2,7 @@
 """Measures `node` beside `play` and `settle`, in turn.
 
     bench/node_speed.py PROGRAM INPUT [--party PARTY] [--runs 5] [--stored 10000] [--starts 15] [--records 100000]
+        [--deliveries 5000] [--disk FOLDER] [--only lines|stores|starts|records|several]
 
 PROGRAM is `ocpi_nodes`, and INPUT one of `play` in which a charge ends, as `examples/charge.jsonl`. It is cut into an
 input of `node` for each node of its setup, or for PARTY alone: the events of that node, in which a delivery has the
@@ -13,10 +14,14 @@ packet that its sender wrote in `play`. It tells
 - the time from the start of `node` to its first `done`, in memory and with a new store, for a setup of one operator
   alone; beside the second, the whole run of `play --store` for that setup;
 - over a store of so many charge detail records of a provider, and no other rows: the time from the start to the first
-  `done`, and the processor time of a run without events; beside each that of `settle`.
+  `done`, and the processor time of a run without events; beside each that of `settle`;
+- of so many `put_token` deliveries at an operator, given at once by 1, by 10 and by 100 a line, in memory and with a
+  store: processor time and wall time of a delivery, and with a store how often all of them sync, where `strace` is.
+  Beside these, what stock SQLite takes that puts the same rows in the same transactions. These stores lie on a disk.
 
 Each figure is a median, and behind each pair stands the ratio of the two. Stores lie in memory where there is such a
-folder (or in FOLDER, by --folder). The machine should have nothing else to do.
+folder (or in FOLDER, by --folder), but for the last ones (by --disk). --only measures one of the five. The machine
+should have nothing else to do.
 """
 
 import argparse
@@ -105,15 +110,21 @@ class Room:
         return path
 
 
-def processor_time(words, source):
-    """The seconds of the processor that a run takes, its own and the system's for it."""
+def times(words, source):
+    """The seconds of a run: of the processor, its own and the system's for it, and from its start to its end."""
+    begun = time.perf_counter()
     child = os.posix_spawn(words[0], words, os.environ, file_actions=[
         (os.POSIX_SPAWN_OPEN, 0, source, os.O_RDONLY, 0),
         (os.POSIX_SPAWN_OPEN, 1, os.devnull, os.O_WRONLY, 0)])
     _, status, used = os.wait4(child, 0)
     if os.waitstatus_to_exitcode(status) not in (0, 1):
         sys.exit(f"node_speed: {' '.join(words)} ended with status {os.waitstatus_to_exitcode(status)}")
-    return used.ru_utime + used.ru_stime
+    return used.ru_utime + used.ru_stime, time.perf_counter() - begun
+
+
+def processor_time(words, source):
+    """The seconds of the processor that a run takes, its own and the system's for it."""
+    return times(words, source)[0]
 
 
 def wall_time(words, line):
@@ -267,6 +278,132 @@ def compare_records(given, room, read):
           f"{opens_works / ends_works:.2f}", flush=True)
 
 
+# How many deliveries stand in a line.
+SIZES = (1, 10, 100)
+
+
+def put_tokens(read, number):
+    """So many deliveries of a new token each to the first operator, as lines; each is like one that `play` sent."""
+    operator = read.first_operator()
+    packet = next((json.loads(line) for line in read.packets.values() if b'"kind":"put_token"' in line), None)
+    if packet is None:
+        sys.exit("node_speed: no token is sent in that input")
+    lines = []
+    for count in range(1, number + 1):
+        packet.update(request=count, serial=count, to=operator)
+        packet["body"].update(uid=f"T{count:06}", contract_id=f"C{count:06}")
+        lines.append(read.delivery(operator, packet["body"]["last_updated"], dump(packet).rstrip(b"\n")))
+    return lines
+
+
+def in_groups(lines, size):
+    """The same events with so many in a line; alone they stand in no array."""
+    if size == 1:
+        return lines
+    groups = (lines[at:at + size] for at in range(0, len(lines), size))
+    return [b"[" + b",".join(line.rstrip(b"\n") for line in group) + b"]\n" for group in groups]
+
+
+def syncs_of(words, source):
+    """How often a run syncs a file; nothing where there is no strace."""
+    if not shutil.which("strace"):
+        return None
+    with open(source, "rb") as given:
+        said = subprocess.run(["strace", "-f", "-c", "-e", "trace=fsync,fdatasync", *words], stdin=given,
+                              stdout=subprocess.DEVNULL, stderr=subprocess.PIPE, check=False).stderr.decode()
+    return sum(int(line.split()[3]) for line in said.splitlines() if line.endswith(("fsync", "fdatasync")))
+
+
+def rows_by_delivery(store):
+    """How a store's table was made, and the rows that each delivery of `put_tokens` put into it."""
+    with contextlib.closing(sqlite3.connect(store)) as file:
+        (schema,), = file.execute("SELECT sql FROM sqlite_schema WHERE name = 'row_text'").fetchall()
+        kept = {kind: sorted(file.execute("SELECT kind, name, body FROM row_text WHERE kind = ?", (kind,)),
+                             key=lambda row: (len(row[1]), row[1])) for kind in ("reply", "token", "count")}
+    def counted(number):
+        return "count", "serial", f'{{"last":{number}}}'
+    return schema, [[reply, token, counted(at)] for at, (reply, token) in enumerate(zip(kept["reply"], kept["token"]), 1)]
+
+
+def sqlite_times(schema, deliveries, size, path):
+    """The seconds in which stock SQLite puts those rows, with so many deliveries in a transaction: of the processor, and
+    of the wall."""
+    with contextlib.closing(sqlite3.connect(path, isolation_level=None)) as file:
+        file.execute("PRAGMA journal_mode = WAL")
+        file.execute("PRAGMA synchronous = FULL")
+        file.execute(schema)
+        begun, used = time.perf_counter(), time.process_time()
+        for at in range(0, len(deliveries), size):
+            file.execute("BEGIN IMMEDIATE")
+            for rows in deliveries[at:at + size]:
+                file.executemany("INSERT OR REPLACE INTO row_text VALUES (?, ?, ?)", rows)
+            file.execute("COMMIT")
+        return time.process_time() - used, time.perf_counter() - begun
+
+
+class Groups:
+    """Runs of `node` over the same deliveries, by so many a line, and of stock SQLite with their rows."""
+
+    def __init__(self, given, read, memory, disk):
+        self.given, self.memory, self.disk = given, memory, disk
+        self.words = [given.program, "node", read.first_operator()]
+        lines = put_tokens(read, given.deliveries)
+        self.setup = memory.file_of([read.setup])
+        self.sources = {size: memory.file_of([read.setup, *in_groups(lines, size)]) for size in SIZES}
+        store = memory.new(".db")
+        times([*self.words, "--store", store], self.sources[SIZES[-1]])
+        self.schema, self.rows = rows_by_delivery(store)
+        if len(self.rows) != given.deliveries:
+            sys.exit(f"node_speed: of {given.deliveries} deliveries {len(self.rows)} were stored")
+
+    def run(self, source, is_stored):
+        """The processor time and the wall time of a run."""
+        store = self.disk.new(".db")
+        taken = times(self.words + (["--store", store] if is_stored else []), source)
+        if is_stored:
+            os.remove(store)
+        return taken
+
+    def of_deliveries(self, size, is_stored):
+        """The same of the deliveries alone, as the difference of two runs."""
+        return [whole - setup for whole, setup in zip(self.run(self.sources[size], is_stored),
+                                                      self.run(self.setup, is_stored))]
+
+    def of_sqlite(self, size):
+        path = self.disk.new(".db")
+        taken = sqlite_times(self.schema, self.rows, size, path)
+        os.remove(path)
+        return taken
+
+    def syncs(self):
+        """How often the setup alone syncs, which opens a new store and closes it, and for each size the deliveries."""
+        sources = [self.setup, *(self.sources[size] for size in SIZES)]
+        first, *counts = (syncs_of([*self.words, "--store", self.disk.new(".db")], source) for source in sources)
+        return {} if first is None else {0: first, **{size: count - first for size, count in zip(SIZES, counts)}}
+
+    def tell(self, name, taken, syncs=None):
+        """Tells the medians of what was taken for each size."""
+        first = None
+        for size in SIZES:
+            processor, wall = (statistics.median(column) for column in zip(*(turn[size] for turn in taken)))
+            first = first or (processor, wall)
+            synced = f", {syncs[size]} syncs and {syncs[0]} of opening and closing" if syncs else ""
+            print(f"{name}, by {size} a line: {processor / self.given.deliveries * 1e6:.1f} us of the processor a delivery, "
+                  f"{wall / self.given.deliveries * 1e6:.1f} us in all{synced}; by one 1, so {processor / first[0]:.2f} and "
+                  f"{wall / first[1]:.2f}", flush=True)
+
+
+def compare_groups(given, room, read):
+    """Deliveries by one, by 10 and by 100 a line."""
+    with tempfile.TemporaryDirectory(dir=given.disk) as folder:
+        groups = Groups(given, read, room, Room(folder))
+        for name, take, syncs in (
+                ("in memory", lambda size: groups.of_deliveries(size, False), None),
+                ("with a store", lambda size: groups.of_deliveries(size, True), groups.syncs()),
+                ("stock SQLite", groups.of_sqlite, None)):
+            groups.tell(name, [{size: take(size) for size in SIZES} for _ in range(given.runs)], syncs)
+
+
 def main():
     options = argparse.ArgumentParser(description=__doc__.split("\n", maxsplit=1)[0])
     options.add_argument("program")
@@ -276,15 +413,22 @@ def main():
     options.add_argument("--stored", type=int, default=10_000)
     options.add_argument("--starts", type=int, default=15)
     options.add_argument("--records", type=int, default=100_000)
+    options.add_argument("--deliveries", type=int, default=5000)
     options.add_argument("--folder", default="/dev/shm" if os.path.isdir("/dev/shm") else None)
+    options.add_argument("--disk", help="where the stores of those deliveries lie (its disk is the one that is measured)")
+    parts = {"lines": lambda: compare_lines(given, room, read, len(read.events), False),
+             "stores": lambda: compare_lines(given, room, read, given.stored, True),
+             "starts": lambda: compare_starts(given, room, read),
+             "records": lambda: compare_records(given, room, read),
+             "several": lambda: compare_groups(given, room, read)}
+    options.add_argument("--only", choices=parts)
     given = options.parse_args()
     given.program = os.path.abspath(given.program)
     with tempfile.TemporaryDirectory(dir=given.folder) as folder:
         room, read = Room(folder), Input(given.program, given.input)
-        compare_lines(given, room, read, len(read.events), False)
-        compare_lines(given, room, read, given.stored, True)
-        compare_starts(given, room, read)
-        compare_records(given, room, read)
+        for name, measure in parts.items():
+            if given.only in (None, name):
+                measure()
     return 0
 
 

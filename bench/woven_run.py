@@ -15,6 +15,7 @@ from decimal import Decimal
 NO_LINES = b'{"done":"malformed","line":0,"name":"Syntax","number":1}'
 CARRIED_OUT = ("stepped", "idle")
 ANSWERED = ("skipped", "malformed", "refused")
+SPACES = " \t\n\r"
 
 
 class Unmodelled(Exception):
@@ -32,6 +33,20 @@ def object_of(line):
     except ValueError:
         return None
     return value if isinstance(value, dict) else None
+
+
+def elements_of(line):
+    """Of a line of several events the text of each, without the spaces around it; none where it is no such line."""
+    text, texts = line.decode().strip(SPACES), []
+    if not text.startswith("["):
+        return None
+    at = 1
+    while (text[at:].lstrip(SPACES))[:1] != "]":
+        at = len(text) - len(text[at:].lstrip(SPACES + ","))
+        _, end = json.JSONDecoder().raw_decode(text, at)
+        texts.append(text[at:end].encode())
+        at = end
+    return texts
 
 
 def key_of(party):
@@ -70,7 +85,7 @@ class Transcript:
         self.at += 1
         if line == NO_LINES:
             return
-        packets = []
+        packets, answers = [], []
         while self.at < len(self.lines):
             _, behind = self.lines[self.at]
             found = object_of(behind)
@@ -79,13 +94,20 @@ class Transcript:
             if "nodes" in found or behind == NO_LINES:
                 break
             self.at += 1
+            if "done" in found and found.get("event") is not None:
+                answers.append((packets, found["done"]))
+                packets = []
+                continue
+            if found.get("done") == "all":
+                self.take_events(number, line, answers)
+                return
             if "done" in found:
                 self.take_done(number, line, packets, found)
                 return
             if "kind" not in found:
                 raise Unmodelled(f"{self.name}:{self.lines[self.at - 1][0]}: no packet")
             packets.append(found)
-        self.take_stopped(number, line, packets)
+        self.take_stopped(number, line, packets, answers)
 
     def take_done(self, number, line, packets, done):
         """A line that has its `done`."""
@@ -100,9 +122,22 @@ class Transcript:
         elif done["done"] not in ANSWERED:
             raise Unmodelled(f"{self.name}:{number}: {done}")
 
-    def take_stopped(self, number, line, packets):
-        """A line that a stop left without its `done`."""
-        if packets:
+    def take_events(self, number, line, answers):
+        """A line of several events, each with its packets and its `done`."""
+        texts = elements_of(line)
+        if texts is None or len(texts) != len(answers):
+            raise Unmodelled(f"{self.name}:{number}: it has not as many events as are answered")
+        for text, (packets, done) in zip(texts, answers):
+            if done in CARRIED_OUT:
+                self.entries.append(Entry(number, text, object_of(text), packets))
+
+    def take_stopped(self, number, line, packets, answers):
+        """A line that a stop left without its `done`. Of several events the ones behind it may have been refused."""
+        if elements_of(line) is not None and (packets or answers):
+            answers += [(packets, "stepped")] if packets else []
+            self.take_events(number, line, answers)
+            self.may_lack = True
+        elif packets:
             self.entries.append(Entry(number, line, object_of(line), packets))
             self.may_lack = True
         elif self.at < len(self.lines) and "nodes" not in (object_of(line) or {}):

@@ -27,7 +27,6 @@ from .running import PROGRAM, operator, provider
 T = TypeVar("T")
 TESTS = Path(__file__).parent
 STOPPING = f"#!/bin/sh\nOCPI_NODES='{PROGRAM}' exec '{sys.executable}' '{TESTS}/stopping_node.py' \"$@\"\n"
-ARRAYS = f"#!/bin/sh\nexec '{sys.executable}' '{TESTS}/array_node.py' \"$@\"\n"
 SETUP = json.dumps({"nodes": [operator("BE/BEC", ["E1"]), provider("NL/TNM")]})
 TOKEN = {"country_code": "NL", "party_id": "TNM", "uid": "AA01", "type": "RFID", "contract_id": "NL-TNM-000001",
          "issuer": "TNM", "valid": True, "whitelist": "ALWAYS", "last_updated": "2025-01-01T09:00:00Z"}
@@ -175,7 +174,7 @@ class ProgramTest(FeederCase):
         running.begin()
         self.assertEqual(3, await within(running.task))
 
-    async def test_a_line_that_was_refused_is_told_by_the_status_and_the_trial_of_several_events_is_not(self) -> None:
+    async def test_a_line_that_was_refused_is_told_by_the_status(self) -> None:
         for event, status in ((Events("BE/BEC", Clock()).tick(), 0), ({"event": "none", "node": "BE/BEC"}, 1)):
             running = Running(self.folder(), PROGRAM)
             await within(running.feeder.feed(event))
@@ -235,42 +234,64 @@ class ProgramTest(FeederCase):
         await running.end()
 
 
-class ArrayTest(FeederCase):
-    """Several events in one line, which today's program does not take: a stand-in does."""
+class SeveralTest(FeederCase):
+    """Several events in one line: those that wait at once."""
 
-    def event(self, name: str, **members: object) -> Members:
-        return {"event": name, "node": "NL/TNM", **members}
+    def tokens(self, *uids: str) -> list[Members]:
+        """Deliveries of tokens."""
+        packets: list[Members] = [
+            {"from": "NL/TNM", "to": "BE/BEC", "serial": number, "request": number, "kind": "put_token",
+             "body": {**TOKEN, "uid": uid}} for number, uid in enumerate(uids, 1)]
+        return [{"event": "deliver", "node": "BE/BEC", "at": moment_of(time.time()), "packet": it} for it in packets]
 
-    def fed(self, running: Running) -> list[list[str]]:
-        """The events of each line that the program got, without the setup and ticks."""
-        lines = [json.loads(line) for line in (running.folder / "node.lines").read_text().splitlines()]
-        events = [[event["event"] for event in (line if isinstance(line, list) else [line])
-                   if event.get("event", "tick") != "tick"] for line in lines]
+    def services(self) -> list[Members]:
+        """Two events that send nothing."""
+        return [{"event": "service", "node": "BE/BEC", "evse_uid": "E1", "in_service": it} for it in (False, True)]
+
+    def fed(self, running: Running) -> list[list[Members]]:
+        """The events of each line that the program got, without ticks."""
+        lines = [json.loads(line) for line in (running.folder / "node.transcript").read_text().splitlines()]
+        events = [[event for event in (line if isinstance(line, list) else [line])
+                   if event.get("event", "tick") != "tick" and "done" not in event] for line in lines]
         return [line for line in events if line]
 
-    async def carry_out(self, events: list[Members]) -> tuple[Running, list[str]]:
-        """Feeds events at once. Gives what became of each."""
-        running = Running(self.folder(), ARRAYS, "NL/TNM")
+    async def carry_out(self, events: list[Members], stop: str = "") -> tuple[Running, list[str]]:
+        """Feeds events at once, and may stop the node at a point of their line. Gives what became of each."""
+        running = Running(self.folder(), STOPPING)
         await within(running.opened.wait())
+        if stop:
+            (running.folder / "node.db.stop").write_text(f"{stop} node")
         ended = await within(asyncio.gather(*map(running.feeder.feed, events), return_exceptions=True))
         await running.end()
         return running, [outcome.word if isinstance(outcome, Outcome) else type(outcome).__name__ for outcome in ended]
 
     async def test_what_waits_goes_in_lines_of_at_most_256_events_in_their_order(self) -> None:
-        running, words = await self.carry_out([self.event(str(number)) for number in range(300)])
+        events = self.tokens(*(f"T{number}" for number in range(300)))
+        running, words = await self.carry_out(events)
         self.assertEqual(["stepped"] * 300, words)
         fed = self.fed(running)
-        self.assertEqual([str(number) for number in range(300)], [name for line in fed for name in line])
+        self.assertEqual(events, [event for line in fed for event in line])
         self.assertEqual(256, max(map(len, fed)))
-        told = [outcome.event["event"] for outcome in running.noted if outcome.event["event"] != "tick"]
-        self.assertEqual([str(number) for number in range(300)], told)
+        self.assertEqual(events, [outcome.event for outcome in running.noted if outcome.event["event"] != "tick"])
+        packets = [packet.request for outcome in running.noted for packet in outcome.packets]
+        self.assertEqual(list(range(1, 301)), packets)
 
     async def test_an_event_that_spoils_its_line_is_found_and_no_other_suffers(self) -> None:
-        running, words = await self.carry_out([self.event(name) for name in ("a", "b", "wrong", "c")])
+        _, words = await self.carry_out(self.tokens("T1", "T2", "\x01", "T4"))
         self.assertEqual(["stepped", "stepped", "malformed", "stepped"], words)
 
+    async def test_a_malformed_and_a_refused_event_do_nothing_to_the_others(self) -> None:
+        events = self.tokens("T1", "T2", "T3", "T4")
+        del events[1]["at"]
+        events[2]["packet"]["from"] = "AT/XXX"
+        running, words = await self.carry_out(events)
+        self.assertEqual(["stepped", "malformed", "refused", "stepped"], words)
+        self.assertEqual([events], self.fed(running))
+
     async def test_a_line_is_fed_again_as_a_whole_or_not_at_all(self) -> None:
-        for at, expected in (("before", "stepped"), ("behind", "OutcomeLost")):
-            running, words = await self.carry_out([self.event("a"), self.event("stop", at=at), self.event("b")])
-            self.assertEqual([expected] * 3, words)
-            self.assertEqual([["a", "stop", "b"]] * (2 if at == "before" else 1), self.fed(running))
+        points = {"before": True, "silent": False, "torn": False, "begun": False, "cut": False}
+        for events, again in ((self.tokens("T1", "T2", "T3"), points), (self.services(), {**points, "silent": True})):
+            for point, is_fed_again in again.items():
+                running, words = await self.carry_out(events, point)
+                self.assertEqual(["stepped" if is_fed_again else "OutcomeLost"] * len(events), words, point)
+                self.assertEqual([events] * (2 if is_fed_again else 1), self.fed(running), point)

@@ -2,7 +2,8 @@
 
 The events are those of the charge of `stored_charge` at each of its two nodes, with the packets and rows that are told there, and
 behind them one request that comes again: they go through; they go on over what is kept behind each event; and each of their commits
-is refused in turn, and finds no memory in turn. Beside them stand events that change nothing.
+is refused in turn, and finds no memory in turn. All that is so of the same events in lines of several, each with one commit. Beside
+them stand events that change nothing.
 """
 import re
 
@@ -113,6 +114,27 @@ def refused_again_and_again(party):
     line("stored", *events_of(party)[-1][2])
 
 
+def in_lines(party, size):
+    """The events of the charge with so many in a line, and of each line what it gives and the rows behind it. Each begins with an
+    event that is malformed."""
+    events, odd = events_of(party), text({"event": "tick", "node": party})
+    groups = [events[at:at + size] for at in range(0, len(events), size)]
+    return [("[%s]" % ",".join([odd, *(given for given, _, _ in group)]),
+             ["refused 4 Missing(at)", *(it for _, gives, _ in group for it in gives)], group[-1][2]) for group in groups]
+
+
+def charge_in_lines(party, size):
+    """It goes through, and each commit is refused in turn: then nothing of its line is kept. The line again gives what it gives."""
+    groups = in_lines(party, size)
+    opened(party)
+    for given, gives, rows in groups:
+        line(given, *gives)
+        line("stored", *rows)
+    for word, gives_then in (("refuse", REFUSED), ("starve", STARVED)):
+        for number in range(1, len(groups) + 1):
+            charge_with_a_refusal(party, number, groups, word, gives_then)
+
+
 def told_but_none():
     """What changes nothing, and is not asked of the keeper, though its next commit would be refused."""
     at = moment("10:32:00")
@@ -166,6 +188,15 @@ def no_nodes():
     line("stored")
 
 
+def lines_without_memory(party):
+    """The charge in lines of several events."""
+    groups = in_lines(party, 8)
+    opened(party)
+    for given, gives, _ in groups:
+        line(given, *gives)
+    line("stored", *groups[-1][2])
+
+
 def without_memory(party):
     """The charge, and then the node of what is kept, at which the last request comes again."""
     events = events_of(party)
@@ -180,6 +211,8 @@ def without_memory(party):
 WITHOUT_MEMORY = [
     ("a charge at an operator over its keeper, which is then opened again", lambda: without_memory("BE/BEC")),
     ("a charge at a provider over its keeper, which is then opened again", lambda: without_memory("NL/TNM")),
+    ("a charge at an operator in lines of several events", lambda: lines_without_memory("BE/BEC")),
+    ("a charge at a provider in lines of several events", lambda: lines_without_memory("NL/TNM")),
 ]
 
 
@@ -207,5 +240,7 @@ def cases():
         charge_with_reopenings(party)
         each_commit_refused(party)
         refused_again_and_again(party)
+        for size in (4, 9):
+            charge_in_lines(party, size)
     told_but_none()
     return LINES, WANTED

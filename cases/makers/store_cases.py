@@ -121,6 +121,22 @@ def charge(party):
         line(given, *gives, *rows, *stops("changed" in gives))
 
 
+def charge_in_lines(party, size):
+    """The events of the charge, so many in a line: each line is one transaction. Among them stand events that are malformed or
+    refused, which end nothing."""
+    new_store(SETUP)
+    events = events_of(party)
+    odd = text({"event": "tick", "node": party})
+    packet = {"body": {"status_code": 1000, "timestamp": moment("10:00:00")}, "from": STRANGER, "kind": "ack", "request": 1,
+              "serial": 1, "to": party}
+    strange = delivery(party, moment("10:00:00"), text(packet))
+    for at in range(0, len(events), size):
+        group = events[at:at + size]
+        given = [odd, *(it for it, _, _ in group[:1]), strange, *(it for it, _, _ in group[1:])]
+        gives = ["refused 4 Missing(at)", *group[0][1], "refused 1 NotForMe", *(it for _, told, _ in group[1:] for it in told)]
+        line("[%s]" % ",".join(given), *gives, *group[-1][2], *stops("changed" in gives))
+
+
 # ---- stores of which no node is made
 
 
@@ -513,6 +529,8 @@ def no_lines():
     line("reopen FR/FRC", "no such node")
     line("reopen", "no such line")
     line("open FR/FRC", "no such node")
+    line("[]", "no such node")
+    line("[7", "refused 1 Syntax")
     line('{"event":"restart","node":"FR/FRC"}', "no such node")
     line("put result\tNL/TNM/1\t{}", "refused 4 Missing(result)")
 
@@ -525,6 +543,8 @@ def cases():
     commits()
     for party in ("BE/BEC", "NL/TNM"):
         charge(party)
+        for size in (2, 7, 100):
+            charge_in_lines(party, size)
     bad_operators()
     bad_providers()
     each_reason_is_told()

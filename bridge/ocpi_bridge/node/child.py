@@ -27,6 +27,8 @@ class Child:
         self._settings = settings
         self._transcript: Transcript | None = None
         self._refusal, self.found_lock = 0, False
+        # Whether the output ended within a line.
+        self.was_cut = False
         self._errors = asyncio.create_task(self._log_errors(process.stderr))
 
     @classmethod
@@ -80,6 +82,7 @@ class Child:
     async def _next_line(self) -> bytes:
         line = await self._output.readline()
         if not line.endswith(b"\n"):
+            self.was_cut = bool(line)
             raise ChildEnded()
         return line
 

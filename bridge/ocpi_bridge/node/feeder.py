@@ -1,8 +1,10 @@
-"""Feeds a node, one line at a time, so that no stop of the node or of the bridge loses an event or has it done twice.
+"""Feeds a node, a line at a time with all that waits, so that no stop of the node or of the bridge loses an event or
+has it done twice.
 
 Each line, but a tick, is kept in `state` until its `done` came, with the serial of the last packet that was seen by
 then. After a stop a kept line is fed again, but where a packet of it came out or the node's serial has risen: then it
-was carried out, and what it gave is lost, as links lose packets.
+was carried out, and what it gave is lost, as links lose packets. A line of several events was carried out as a whole,
+or not at all: whatever came out of it, even cut, tells that it was.
 """
 import asyncio
 import logging
@@ -65,9 +67,7 @@ class Feeder:
         self._woken, self._stopping = asyncio.Event(), asyncio.Event()
         # Held while the node runs, and how many wait until it does not.
         self._running, self._closing = asyncio.Lock(), 0
-        self._has_ended = self._takes_arrays = False
-        # How many lines were malformed or refused since the node was started.
-        self._refusals = 0
+        self._has_ended = False
         self._delay = 0.0
         self.is_open = False
         # When a tick was answered last, as time.monotonic tells it.
@@ -115,8 +115,7 @@ class Feeder:
             self._has_ended = True
             for waiting in (*(self._line.waiting if self._line else ()), *self._lost, *self._queue):
                 waiting.fail(NodeEnded())
-        # A program that takes one event in a line ends with 1 for the trial of several alone.
-        return 0 if status == 1 and not self._takes_arrays and self._refusals == 1 else status
+        return status
 
     async def _tick_each_second(self) -> None:
         while True:
@@ -152,14 +151,15 @@ class Feeder:
         try:
             await self._open(child)
             while not self._has_to_end():
-                line = self._line or next_line(self._queue, self._takes_arrays)
+                line = self._line or next_line(self._queue)
                 if line is not None:
                     await self._carry_out(child, line)
                 else:
                     self._woken.clear()
                     await self._woken.wait()
         except ChildEnded:
-            pass
+            if self._line is not None and self._line.is_array and child.was_cut:
+                self._line.is_fed_again = False
         finally:
             self.is_open = False
             status = await child.end()
@@ -169,11 +169,9 @@ class Feeder:
         return self._stopping.is_set() or self._closing > 0
 
     async def _open(self, child: Child) -> None:
-        self._refusals = 0
         self._judge_kept_line(await child.open(self._serial))
         if self._line is not None:
             await self._carry_out(child, self._line)
-        self._takes_arrays = (await self._carry_out(child, Line("[]", [])))["done"] == "all"
         tick = Waiting(self._events.tick())
         await self._carry_out(child, Line(tick.text, [tick]))
         self._delay = 0.0
@@ -199,8 +197,8 @@ class Feeder:
         self._state.set_value("node.line", line.text if line is not None and line.is_fed_again else "")
         self._state.set_value("node.serial", str(self._serial))
 
-    async def _carry_out(self, child: Child, line: Line) -> Members:
-        """Feeds a line and reads all that it gives. Returns its `done`. Raises ChildEnded."""
+    async def _carry_out(self, child: Child, line: Line) -> None:
+        """Feeds a line and reads all that it gives. Raises ChildEnded."""
         if line is not self._line:
             with self._state.transaction():
                 self._keep(line)
@@ -215,7 +213,6 @@ class Feeder:
                 packets.append(Packet.of(output))
                 self._serial = packets[-1].serial
                 continue
-            self._refusals += output["done"] in ("malformed", "refused")
             if "event" in output or not line.is_array:
                 outcomes.append(Outcome(line.waiting[output.get("event", 0)].event, output, tuple(packets)))
                 packets = []
@@ -223,7 +220,6 @@ class Feeder:
                 break
         self._metrics.observe("ocpi_line_seconds", time.monotonic() - started)
         self._settle(line, outcomes)
-        return output
 
     def _settle(self, line: Line, outcomes: list[Outcome]) -> None:
         """Forgets a line, keeps what it changed and the next one, and then tells who waits."""
@@ -236,7 +232,7 @@ class Feeder:
             for outcome in outcomes:
                 _tell(self.before_commit, outcome)
             goes_on = self.is_open and not self._has_to_end()
-            self._keep(next_line(self._queue, self._takes_arrays) if goes_on else None)
+            self._keep(next_line(self._queue) if goes_on else None)
         for waiting, outcome in zip(line.waiting, outcomes):
             self._count(outcome)
             _tell(self.after_commit, outcome)

@@ -55,13 +55,13 @@ def kept_line(text: str | None) -> Line | None:
     return Line(text, [Waiting(event) for event in (kept if isinstance(kept, list) else [kept])])
 
 
-def next_line(queue: deque[Waiting], takes_arrays: bool) -> Line | None:
-    """Takes the next line off those that wait: in an array what waits, as far as a line goes, else one event."""
+def next_line(queue: deque[Waiting]) -> Line | None:
+    """Takes the next line off those that wait: one event alone, or in an array what waits, as far as a line goes."""
     if not queue:
         return None
     taken = [queue.popleft()]
     size = len(taken[0].text) + 2
-    while takes_arrays and queue and len(taken) < MOST_EVENTS and not taken[-1].alone and not queue[0].alone:
+    while queue and len(taken) < MOST_EVENTS and not taken[-1].alone and not queue[0].alone:
         size += len(queue[0].text) + 1
         if size > MOST_BYTES:
             break

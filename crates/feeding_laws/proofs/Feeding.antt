@@ -11,7 +11,7 @@ use Rattle.provider_rows.specs.State as provider_state
 use Rattle.provider_rows.specs.Steps as provider_rows
 use Rattle.provider_steps.specs.Events as provider
 use Rattle.provider_laws.proofs.nodes.NodeSteps as provider_nodes
-use Rattle.stored_laws.specs.Nodes.{restarted}
+use Rattle.stored_laws.specs.Nodes.{IsSound, last_serial, restarted}
 use Rattle.world_steps.specs.Network.{OfOperator, OfProvider}
 use Rattle.world_steps.specs.Steps as steps
 use Rattle.world_steps.specs.Steps.{AtOperator, AtProvider, NodeEvent, NodeRefuses, NodeStep, OperatorDoes, ProviderDoes, input_of, packets_of}
@@ -35,14 +35,14 @@ provider_again s t u e packets step silent stays f is sends does =
     let again = providers.fed_again s t u e f step silent stays is does in
     record { event = AtProvider again.event; input = ap OfProvider again.input; sends = again.sends ∙ sends; step = again.does }
 
-same_operator_input : (x y : operator.Input) → OfOperator x ≡ OfOperator y → x ≡ y
+pub same_operator_input : (x y : operator.Input) → OfOperator x ≡ OfOperator y → x ≡ y
 same_operator_input x y is = cc
 
-same_provider_input : (x y : provider.Input) → OfProvider x ≡ OfProvider y → x ≡ y
+pub same_provider_input : (x y : provider.Input) → OfProvider x ≡ OfProvider y → x ≡ y
 same_provider_input x y is = cc
 
 -- the exception, told of a node
-for_none : (s : provider_state.State) (i : provider.Input) → IsForNone s i → IsTokenForNone (Provides s) (OfProvider i)
+pub for_none : (s : provider_state.State) (i : provider.Input) → IsForNone s i → IsTokenForNone (Provides s) (OfProvider i)
 for_none s (provider.Arrives at q) h = h
 for_none s (provider.Submits at to order) h = h
 for_none s (provider.Gives at t) h = h
@@ -83,7 +83,7 @@ feeding_again_refuses_the_same (Provides s) (Provides t) (AtProvider e) fault h 
 
 -- ---- serials
 
-no_packets : (ps : List Packet) (last now : ℕ) → now ≡ last + length ps → (ps ≡ []) ↔ (now ≡ last)
+pub no_packets : (ps : List Packet) (last now : ℕ) → now ≡ last + length ps → (ps ≡ []) ↔ (now ≡ last)
 no_packets [] last now is = (λ none. omega (arith, is), λ same. refl)
 no_packets (p ∷ ps) last now is = (λ none. not_none p ps (p ∷ ps) refl none, λ same. absurd (omega (arith, is, same)))
 
@@ -95,14 +95,16 @@ happens_provider : (s t : provider_state.State) (e : provider.Event) → Provide
 happens_provider s t e (steps.Done by) = provider.Done by
 happens_provider s t e (steps.Restarted now is) = provider.Restarted now is
 
+-- the serial of the last packet rises by those that are sent
+pub serial_rises : (n m : NodeState) (x : NodeEvent) → IsSound n → NodeStep n x m → last_serial m ≡ last_serial n + length (packets_of x)
+serial_rises (Operates s) (Operates t) (AtOperator e) sound step = (operator_nodes.steps_are_node_steps s t e sound (happens_operator s t e step)).counts.serial
+serial_rises (Operates s) (Operates t) (AtProvider e) sound step = absurd step
+serial_rises (Operates s) (Provides t) (AtOperator e) sound step = absurd step
+serial_rises (Operates s) (Provides t) (AtProvider e) sound step = absurd step
+serial_rises (Provides s) (Operates t) (AtOperator e) sound step = absurd step
+serial_rises (Provides s) (Operates t) (AtProvider e) sound step = absurd step
+serial_rises (Provides s) (Provides t) (AtOperator e) sound step = absurd step
+serial_rises (Provides s) (Provides t) (AtProvider e) sound step = (provider_nodes.steps_are_node_steps s t e sound.0 (happens_provider s t e step)).counts.serial
+
 pub serial_tells_of_sending : SerialTellsOfSending
-serial_tells_of_sending (Operates s) (Operates t) (AtOperator e) sound step =
-    no_packets e.packets s.rows.serial t.rows.serial (operator_nodes.steps_are_node_steps s t e sound (happens_operator s t e step)).counts.serial
-serial_tells_of_sending (Operates s) (Operates t) (AtProvider e) sound step = absurd step
-serial_tells_of_sending (Operates s) (Provides t) (AtOperator e) sound step = absurd step
-serial_tells_of_sending (Operates s) (Provides t) (AtProvider e) sound step = absurd step
-serial_tells_of_sending (Provides s) (Operates t) (AtOperator e) sound step = absurd step
-serial_tells_of_sending (Provides s) (Operates t) (AtProvider e) sound step = absurd step
-serial_tells_of_sending (Provides s) (Provides t) (AtOperator e) sound step = absurd step
-serial_tells_of_sending (Provides s) (Provides t) (AtProvider e) sound step =
-    no_packets e.packets s.rows.serial t.rows.serial (provider_nodes.steps_are_node_steps s t e sound.0 (happens_provider s t e step)).counts.serial
+serial_tells_of_sending n m x sound step = no_packets (packets_of x) (last_serial n) (last_serial m) (serial_rises n m x sound step)

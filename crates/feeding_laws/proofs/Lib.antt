@@ -5,3 +5,11 @@ pub mod OperatorEvents
 pub mod ProviderFeeding
 pub mod ProviderEvents
 pub mod Feeding
+pub mod AnswerBodies
+pub mod OperatorSilent
+pub mod OperatorSettling
+pub mod OperatorPassive
+pub mod OperatorLines
+pub mod ProviderSettling
+pub mod ProviderLines
+pub mod Lines

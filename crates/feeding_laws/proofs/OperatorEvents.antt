@@ -63,10 +63,10 @@ module _ (a b : State) (i : Input) (safe : IsSafe a b i) where
 
 -- what a step of acts that send nothing leaves, and what the same input does then
 module _ (s t : State) (e : Event) (fine : IsConsistent s) (by : StepBy (Asks s e.input) s (event_out e t)) (none : e.packets ≡ []) where
-  left : t ≡ (acted s by.work).state
+  pub left : t ≡ (acted s by.work).state
   left = ap (λ (o : Out). o.state) by.out_is
 
-  no_word : all_messages by.work.acts ≡ []
+  pub no_word : all_messages by.work.acts ≡ []
   no_word = silent s.party s.rows.serial (all_messages by.work.acts) (sym (ap (λ (o : Out). o.packets) by.out_is) ∙ none)
 
   safe_left : IsSafe (restarted s) (restarted (acted s by.work).state) e.input

@@ -23,6 +23,7 @@ use Rattle.ocpi_types.specs.declared.commands.Command.{Command}
 use Rattle.ocpi_types.specs.declared.token.Token.{Token}
 use Rattle.outbox.specs.Outbox.{request_of, without}
 use Rattle.outbox.specs.Resend.{Resend}
+use Rattle.session_tables.specs.Moves.{MovesNone}
 use Rattle.session_tables.specs.declared.beginning.Beginning.{Beginning}
 use Rattle.site_book.specs.Sites.{OutOfService, works}
 use Rattle.node_steps.specs.Acts as act
@@ -35,7 +36,7 @@ use Rattle.operator_rows.specs.Stored.{change_key, changed}
 use Rattle.operator_steps.specs.Acts.{spent, used}
 use Rattle.operator_steps.specs.Asking.{AnswerActs}
 use Rattle.operator_steps.specs.Charger as charger
-use Rattle.operator_steps.specs.Charger.{ChargerLine}
+use Rattle.operator_steps.specs.Charger.{ChargerLine, EndsNone, ShowsNone, StartsNone}
 use Rattle.operator_steps.specs.Credits as credits
 use Rattle.operator_steps.specs.Credits.{CreditLine}
 use Rattle.operator_steps.specs.Ends.{ends_acts}
@@ -123,10 +124,10 @@ module _ (s : State) (c : Change) where
 
 -- ---- an EVSE goes out of service, or comes back
 
-withdrawn : (m : OutOfService) (evse : List ℕ) → works (insert m evse tt) evse ≡ false
+pub withdrawn : (m : OutOfService) (evse : List ℕ) → works (insert m evse tt) evse ≡ false
 withdrawn m evse = ap (λ (o : Option (Unit {0})). not (is_some o)) (get-insert_same text_total text_exact m evse tt)
 
-restored : (m : OutOfService) (evse : List ℕ) → works (remove m evse) evse ≡ true
+pub restored : (m : OutOfService) (evse : List ℕ) → works (remove m evse) evse ≡ true
 restored m evse = ap (λ (o : Option (Unit {0})). not (is_some o)) (get-remove_same text_total text_exact m evse)
 
 -- an EVSE that already is what it is to be is left as it is
@@ -162,21 +163,32 @@ module _ (s : State) (at : ℕ) where
   pub begun_sends : (last n : ℕ) (b : Beginning) (acts : List Act) → IsBegun s at last n b acts → Send acts
   begun_sends last n b acts h = subst Send (sym h.acts_are) (send_right (used (key b.token.party) b.reservation_id) h.first (version_sends last _ h.first h.versioned))
 
+  -- the report does nothing: it ends no command, begins and moves no session, and shows no token that does
+  pub record IsIdle (report : ChargerEvent) (work : Work) : Type 0 where
+    pub ends : EndsNone s report
+    pub starts : StartsNone s report
+    pub moves : MovesNone s.site s.rows at report
+    pub shows : ShowsNone s report
+    pub work_is : work ≡ quiet []
+
   -- but for what is idle, each report sends something
-  pub report_silent : (report : ChargerEvent) (work : Work) → ChargerLine s at report work → all_messages work.acts ≡ [] → work.acts ≡ []
-  report_silent report work (charger.Ended e ends is) none =
+  pub report_idle : (report : ChargerEvent) (work : Work) → ChargerLine s at report work → all_messages work.acts ≡ [] → IsIdle report work
+  report_idle report work (charger.Ended e ends is) none =
       let sent = ends_send at s.rows.commands.pending s.rows.request (e ∷ []) in
       let zero = ap length (subst (λ (w : Work). all_messages w.acts ≡ []) is none) in
       absurd (omega (arith, sent, zero))
-  report_silent report work (charger.Started e b begun starts begins is) none =
+  report_idle report work (charger.Started e b begun starts begins is) none =
       not_silent work.acts (subst (λ (w : Work). Send w.acts) (sym is) (send_right (numbered_sessions (s.rows.charged.last_session + 1) ∷ ends_acts at s.rows.commands.pending s.rows.request (e ∷ [])) begun
       (begun_sends (s.rows.request + 1) (s.rows.charged.last_session + 1) b begun begins))) none
-  report_silent report work (charger.Moved acts moved is) none =
+  report_idle report work (charger.Moved acts moved is) none =
       not_silent work.acts (subst (λ (w : Work). Send w.acts) (sym is) (subst Send (sym moved.acts_are) (send_left moved.version_acts moved.bill_acts (version_sends s.rows.request moved.after moved.version_acts moved.versioned)))) none
-  report_silent report work (charger.Begun b begun shows begins is) none =
+  report_idle report work (charger.Begun b begun shows begins is) none =
       not_silent work.acts (subst (λ (w : Work). Send w.acts) (sym is) (send_right (numbered_sessions (s.rows.charged.last_session + 1) ∷ []) begun (begun_sends s.rows.request (s.rows.charged.last_session + 1) b begun begins))) none
-  report_silent report work (charger.Asked t location place shows asked) none = not_silent work.acts (subst (λ (w : Work). Send w.acts) (sym asked.work_is) (send_first _ _ _ _ refl)) none
-  report_silent report work (charger.Idle ends starts moves shows is) none = ap (λ (w : Work). w.acts) is
+  report_idle report work (charger.Asked t location place shows asked) none = not_silent work.acts (subst (λ (w : Work). Send w.acts) (sym asked.work_is) (send_first _ _ _ _ refl)) none
+  report_idle report work (charger.Idle ends starts moves shows is) none = record { ends = ends; starts = starts; moves = moves; shows = shows; work_is = is }
+
+  pub report_silent : (report : ChargerEvent) (work : Work) → ChargerLine s at report work → all_messages work.acts ≡ [] → work.acts ≡ []
+  report_silent report work line none = ap (λ (w : Work). w.acts) (report_idle report work line none).work_is
 
   -- and a credit does where there is a bill to take back
   credit_acts_silent : (session : List ℕ) (acts : List Act) → CreditLine s at session acts → all_messages acts ≡ [] → acts ≡ []
@@ -199,7 +211,7 @@ pub data PacketIsSilent (s : State) (q : Packet) (work : Work) : Type 0 where
   Ends_push : (a : Ack) → q.body ≡ body.Ack a → Acknowledges s q a → work ≡ quiet (acknowledged q.request ∷ []) → PacketIsSilent s q work
 
 module _ (s : State) (at : ℕ) (q : Packet) where
-  token_sends : (to sender : List ℕ) (n : ℕ) (t : Token) (acts : List Act) → TokenLine s at to sender n t acts → Send acts
+  pub token_sends : (to sender : List ℕ) (n : ℕ) (t : Token) (acts : List Act) → TokenLine s at to sender n t acts → Send acts
   token_sends to sender n t acts (packets.Foreign foreign is) = subst Send (sym is) (send_first _ _ _ _ refl)
   token_sends to sender n t acts (packets.Kept own older is) = subst Send (sym is) (send_first _ _ _ _ refl)
   token_sends to sender n t acts (packets.Stored own newer is) = subst Send (sym is) (send_first _ _ _ _ refl)

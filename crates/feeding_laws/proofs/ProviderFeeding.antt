@@ -79,7 +79,7 @@ module _ (s : State) (c : Change) where
   abbrev pub one : List Act
   one = act.changed c ∷ []
 
-  left : restarted (acted s one).state ≡ after_one
+  pub left : restarted (acted s one).state ≡ after_one
   left = ap (λ (x : Step). restarted (after x s)) (step_of_change s.party (counters_of s) c)
 
   idle_state : (b : State) → (acted b []).state ≡ b
@@ -113,7 +113,7 @@ module _ (s : State) (c : Change) where
 -- ---- packets
 
 -- what is answered is a request
-answers_request : (s : State) (at : ℕ) (q : Packet) (reply : Reply) (own : List Act) → Answers s at q reply own → IsRequest q.body
+pub answers_request : (s : State) (at : ℕ) (q : Packet) (reply : Reply) (own : List Act) → Answers s at q reply own → IsRequest q.body
 answers_request s at q reply own (packets.ResultTaken r is n c fits awaits x y) = packets.OfResult r is
 answers_request s at q reply own (packets.ResultKnown r is n c fits k same x y) = packets.OfResult r is
 answers_request s at q reply own (packets.ResultOfNone r is none x y) = packets.OfResult r is
@@ -161,7 +161,7 @@ module _ (at : ℕ) (q : Packet) where
   responded_once b r response late to acts (packets.Idle a ack other is) = is
 
   module _ (s : State) where
-    answered_late : (r : CommandResponse) (c x : SentCommand) → IsAwaited (after_one s (Put (row.Command q.request (with_answer r c)))) q x → ⊥
+    pub answered_late : (r : CommandResponse) (c x : SentCommand) → IsAwaited (after_one s (Put (row.Command q.request (with_answer r c)))) q x → ⊥
     answered_late r c x h =
         let is = same_Some (with_answer r c) x (sym (get-insert_same nat_cmp_total nat_cmp-IsAntisymmetric s.rows.outbox.commands q.request (with_answer r c)) ∙ h.stands) in
         not_both r (Some r) (ap (λ (z : SentCommand). z.answer) is ∙ h.unanswered) refl

@@ -1,2 +1,4 @@
 pub mod Staying
 pub mod Carrying
+pub mod Together
+pub mod InMemory

@@ -16,7 +16,7 @@ use Rattle.stored_laws.proofs.Starting.{openings_can_start_again}
 use Rattle.world_laws.specs.Laws.{IsSetup}
 use Rattle.world_steps.specs.Steps.{NodeEvent, NodeStep, changes_of}
 use Rattle.world_steps.specs.World.{NodeState, Operates, Provides, opening_of}
-use Rattle.node_cell.specs.Keepers.{Commits, Declines, IsSettled, Keeper, Nothing, Taken}
+use Rattle.node_cell.specs.Keepers.{Commits, Declines, IsSettled, Keeper, Nothing, Taken, Takes}
 use Rattle.node_cell.specs.Stored.{HoldsOneMore, IsStored, Stored}
 
 module _ {K : Type 0} (keeper : Keeper K) (held : ChangesAreHeld) (start : NodesCanStartAgain) (alike : RestartsAreHeld) (classes : AreClasses) where
@@ -32,28 +32,35 @@ module _ {K : Type 0} (keeper : Keeper K) (held : ChangesAreHeld) (start : Nodes
     starts = h.starts;
   }
 
-  -- the changes of a step were committed
-  pub took : (old new : Stored K) (x : NodeEvent) → IsStored keeper old → NodeStep old.state x new.state → Commits keeper (changes_of x) old.keep new.keep → IsStored keeper new
-  took old new x h step (Nothing none same) =
-      let by = alike.by_steps old.state new.state x step none in
-      record {
-        starts = start old.state new.state x h.starts step;
-        holds = λ honest.
-            subst (λ (k : K). HoldsRows (keeper.content k) new.state) (sym same)
-            (alike.alike (keeper.content old.keep) old.state new.state by (h.holds (subst keeper.is_honest same honest)));
-        stops = λ honest c may.
-            elim (h.stops (subst keeper.is_honest same honest) c (subst (λ (k : K). keeper.may_leave k c) same may)) [
-              | inl is ↦ inl (is ∙ ap keeper.content (sym same))
-              | inr more ↦ inr (one_more_of old.state new.state c by more)
-            ];
-      }
-  took old new x h step (Taken some takes) = record {
-    starts = start old.state new.state x h.starts step;
+  -- the keeper was not asked, and the node stores what it stored
+  pub unasked : (old new : Stored K) → IsStored keeper old → CanStartAgain new.state → StoresAlike old.state new.state → new.keep ≡ old.keep → IsStored keeper new
+  unasked old new h starts by same = record {
+    starts = starts;
     holds = λ honest.
-        subst (λ (c : Content). HoldsRows c new.state) (sym (takes.makes honest))
-        (held (keeper.content old.keep) old.state new.state x h.starts.sound (h.holds (takes.earlier honest)) step takes.again);
+        subst (λ (k : K). HoldsRows (keeper.content k) new.state) (sym same)
+        (alike.alike (keeper.content old.keep) old.state new.state by (h.holds (subst keeper.is_honest same honest)));
+    stops = λ honest c may.
+        elim (h.stops (subst keeper.is_honest same honest) c (subst (λ (k : K). keeper.may_leave k c) same may)) [
+          | inl is ↦ inl (is ∙ ap keeper.content (sym same))
+          | inr more ↦ inr (one_more_of old.state new.state c by more)
+        ];
+  }
+
+  -- it took changes, which make what it kept the rows of the node now
+  pub taken : (old new : Stored K) (changes : List Change) → CanStartAgain new.state → (keeper.is_honest new.keep → HoldsRows (changed_all (keeper.content old.keep) changes) new.state) →
+      Takes keeper changes old.keep new.keep → IsStored keeper new
+  taken old new changes starts holds takes = record {
+    starts = starts;
+    holds = λ honest. subst (λ (c : Content). HoldsRows c new.state) (sym (takes.makes honest)) (holds honest);
     stops = λ honest c may. inl (takes.settled honest c may);
   }
+
+  -- the changes of a step were committed
+  pub took : (old new : Stored K) (x : NodeEvent) → IsStored keeper old → NodeStep old.state x new.state → Commits keeper (changes_of x) old.keep new.keep → IsStored keeper new
+  took old new x h step (Nothing none same) = unasked old new h (start old.state new.state x h.starts step) (alike.by_steps old.state new.state x step none) same
+  took old new x h step (Taken some takes) =
+      taken old new (changes_of x) (start old.state new.state x h.starts step)
+      (λ honest. held (keeper.content old.keep) old.state new.state x h.starts.sound (h.holds (takes.earlier honest)) step takes.again) takes
 
   -- and were not: the node is as it was
   pub declined : (old : Stored K) (after : NodeState) (k : K) (x : NodeEvent) (rise : ℕ → ℕ) → IsStored keeper old → NodeStep old.state x after → Declines keeper (changes_of x) rise old.keep k →

@@ -1,2 +1,3 @@
 pub mod Keepers
 pub mod Stored
+pub mod Transactions

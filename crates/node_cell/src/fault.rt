@@ -15,6 +15,15 @@ pub enum ApplyFault {
     Memory,
 }
 
+/// Why an event of a transaction changed nothing.
+#[derive(Clone, Copy)]
+pub enum StepFault {
+    /// The node refuses the event.
+    Core(NodeFault),
+    /// Memory ran out in the node, or for the event's changes.
+    Memory,
+}
+
 /// Why a node was not made of what is kept.
 #[derive(Clone, Copy)]
 pub enum ReopenFault {

@@ -2,7 +2,7 @@
 
 ghost use Rattle.std.specs.Prelude.{◌≡◌, ◌↔◌, ◌≢◌, List, ℕ, Contains, IfErr, IfNone, IfOk, IfSome, IsTrue, OnErr, OnOk, []};
 ghost use Rattle.std.specs.FinMap.{empty};
-ghost use Rattle.node_cell.specs.Keepers.{Commits, IsSettled, KeepsOn, keeper_of};
+ghost use Rattle.node_cell.specs.Keepers.{Commits, Declines, IsSettled, KeepsOn, keeper_of};
 ghost use Rattle.node_cell.specs.Stored.{
   Applies,
   Fails,
@@ -21,16 +21,18 @@ ghost use Rattle.node_core.specs.States.{state_of};
 ghost use Rattle.node_core.specs.Works.{IsPlanned, IsWork, MayDo, changes_by, node_after};
 ghost use Rattle.node_core.specs.declared.input.NodeInput.{NodeInput as NodeInputOf};
 ghost use Rattle.node_rows.specs.Holds.{HoldsRows};
+ghost use Rattle.node_store.specs.Faults.{IsCommitFault, counted_fault};
 ghost use Rattle.ocpi_types.specs.declared.node_events.NodeEventKind.TheVariants as event;
 ghost use Rattle.stored_laws.specs.Nodes.{restarted};
 ghost use Rattle.world_laws.specs.Laws.{IsSetup};
 ghost use Rattle.world_steps.specs.World.{NodeState, opening_of};
 
 use crate::fault::{ApplyFault, ReopenFault};
+use crate::transaction::Transaction;
 use node_core::{Node, NodeInput, NodeWork, Planned};
 use node_rows::laws::{alike_are_classes, changes_are_held, restarts_are_held};
 use node_store::{Keep, StoreFault};
-use ocpi_types::{Node as SetupNode, NodeEventKind, Packet};
+use ocpi_types::{Change, Node as SetupNode, NodeEventKind, Packet};
 use std::alloc::{AllocError, Global};
 use std::marker::Model;
 use stored_laws::laws::nodes_can_start_again;
@@ -41,9 +43,9 @@ use stored_rows::RowsFault;
 /// At any time its keeper has just the node's rows. A stop leaves these, or, where a commit was refused since the last
 /// one with changes, what one event more would have made of them. It keeps no history, so that it may run for years.
 pub struct StoredNode<K: Keep> {
-    alloc: Global,
-    node: Node,
-    keep: K,
+    pub(crate) alloc: Global,
+    pub(crate) node: Node,
+    pub(crate) keep: K,
 }
 
 /// What a derive would do, in a function of its own: so it is proved once, and not in each function that drops one.
@@ -84,7 +86,7 @@ pub enum Applied {
     Stepped {
         /// What is to be sent, in order.
         packets: Vec<Packet>,
-        /// Whether rows changed. They were committed before.
+        /// Whether rows changed. They were committed before; those of a transaction are at its end.
         changed: bool,
     },
 }
@@ -139,18 +141,19 @@ pub fn input_of(kind: &NodeEventKind) -> Option<NodeInput<'_>>
     }
 }
 
-/// Commits changes, where there are any. A refusal changes nothing.
-fn commit<K: Keep>(keep: &mut K, work: &NodeWork) -> Result<bool, ApplyFault>
-    ensures ok { IfOk result (λ changed. (IsTrue changed ↔ (changes_by work.now ≢ []))
-        × Commits (keeper_of K.content K.is_honest K.refusals K.may_leave) (changes_by work.now) keep.old keep.new) }
-    ensures err { IfErr result (λ f. IsNotCarriedOut (keeper_of K.content K.is_honest K.refusals K.may_leave) work.now keep.old f keep.new) }
+/// Commits changes, where there are any, and says whether there are. A refusal changes nothing.
+pub(crate) fn commit<K: Keep>(keep: &mut K, changes: &[Change]) -> Result<bool, StoreFault>
+    ensures ok { IfOk result (λ changed. (IsTrue changed ↔ (changes.now ≢ []))
+        × Commits (keeper_of K.content K.is_honest K.refusals K.may_leave) changes.now keep.old keep.new) }
+    ensures err { IfErr result (λ f. IsCommitFault f × (changes.now ≢ [])
+        × Declines (keeper_of K.content K.is_honest K.refusals K.may_leave) changes.now (counted_fault f) keep.old keep.new) }
 {
-    if work.changes().is_empty() {
+    if changes.is_empty() {
         return Ok(false);
     }
-    match keep.commit(work.changes()) {
+    match keep.commit(changes) {
         Ok(()) => Ok(true),
-        Err(fault) => Err(ApplyFault::Store(fault)),
+        Err(fault) => Err(fault),
     }
 }
 
@@ -166,12 +169,12 @@ fn carry_out<K: Keep>(node: &mut Node, keep: &mut K, work: NodeWork) -> Result<A
         Ok(()) => {}
         Err(_) => return Err(ApplyFault::Memory),
     }
-    match commit(keep, &work) {
+    match commit(keep, work.changes()) {
         Ok(changed) => {
             let packets = node.apply(work);
             Ok(Applied::Stepped { packets, changed })
         }
-        Err(fault) => Err(fault),
+        Err(fault) => Err(ApplyFault::Store(fault)),
     }
 }
 
@@ -316,6 +319,19 @@ impl<K: Keep> StoredNode<K> {
         ensures { IsStored (keeper_of K.content K.is_honest K.refusals K.may_leave) self.now }
     {
         let _keep = &self.keep;
+    }
+
+    /// The node in a transaction, before its first event. The keeper is not asked, and no memory is taken.
+    pub fn begin(self) -> Transaction<K>
+        ensures { result ≡ record { state = self.state; keep = self.keep; changes = [] } }
+    {
+        let StoredNode { alloc, node, keep } = self;
+        Transaction {
+            alloc,
+            node,
+            keep,
+            changes: Vec::new(alloc),
+        }
     }
 
     /// The node, as the last event left it.

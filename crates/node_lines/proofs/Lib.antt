@@ -1,0 +1,10 @@
+pub mod BeginLemmas
+pub mod CutLemmas
+pub mod ElementLemmas
+pub mod GrammarLemmas
+pub mod LevelLemmas
+pub mod ListLemmas
+pub mod NodeLineLemmas
+pub mod RegionLemmas
+pub mod TrimLemmas
+pub mod WordLemmas

@@ -1,0 +1,5 @@
+pub mod ElementReading
+pub mod ElementTexts
+pub mod Laws
+pub mod ListLines
+pub mod NodeLines
