@@ -32,13 +32,18 @@ text_more before all l es longer t whole number is are =
     }
 
 -- the line is an array of what its texts are read as
-pub holds_several : (l : EchoedLine) (texts : List (List ℕ)) (es : List LineEvent) (xs : List (Read NodeEvent)) → node_line_in l.bytes.now ≡ Ok (Several xs) → AreElementsOf l.bytes.now texts
-    → map node_event_in texts ≡ xs → AreReadFrom texts l es → HoldsSeveral l es
-holds_several l texts es xs array cut reads are = record {
-  array = array ∙ ap (λ ys. Ok (Several ys)) (sym (are.events_are ∙ reads));
-  texts = subst (AreElementsOf l.bytes.now) (sym are.texts_are) cut;
-  numbers = are.numbers;
-}
+module _ {T : Type 0} (bytes : T → List ℕ) (texts : List T) where
+  read_alike : (ts : List T) → map node_event_in (map bytes ts) ≡ map (λ t. node_event_in (bytes t)) ts
+  read_alike [] = refl
+  read_alike (t ∷ ts) = ap (λ rs. node_event_in (bytes t) ∷ rs) (read_alike ts)
+
+  pub holds_several : (l : EchoedLine) (es : List LineEvent) (xs : List (Read NodeEvent)) → node_line_in l.bytes.now ≡ Ok (Several xs) → AreElementsOf l.bytes.now (map bytes texts)
+      → map (λ t. node_event_in (bytes t)) texts ≡ xs → AreReadFrom (map bytes texts) l es → HoldsSeveral l es
+  holds_several l es xs array cut reads are = record {
+    array = array ∙ ap (λ ys. Ok (Several ys)) (sym (are.events_are ∙ read_alike texts ∙ reads));
+    texts = subst (AreElementsOf l.bytes.now) (sym are.texts_are) cut;
+    numbers = are.numbers;
+  }
 
 -- ---- the places of answers
 

@@ -1,4 +1,4 @@
-use Rattle.std.proofs.Common.{◌≡◌, ◌<◌, length, ap, subst, ◌∙◌, rules, arith}
+use Rattle.std.proofs.Common.{◌≡◌, ◌<◌, List, length, ap, subst, ◌∙◌, rules, arith}
 use Rattle.transcripts.specs.Following.{AllCome}
 use Rattle.transcripts.specs.LineEvents.{LineEvent}
 use Rattle.transcripts.proofs.FollowingLemmas.{happened}
