@@ -5,7 +5,7 @@ use Rattle.std.specs.Prelude.{Contains, OnOk}
 use Rattle.ocpi_types.specs.Setups.{party_of}
 use Rattle.ocpi_types.specs.declared.packet.Packet.{Packet}
 use Rattle.ocpi_types.specs.declared.setup.Node.{Node}
-use Rattle.transcripts.specs.Following.{AllCome, AllGoOn, Came, ComeInTurn, ComesOf, ComesToNode, First, Follows, Gives, GoesOn, Happens, IsNew, IsOneOf, IsRead, IsWayOf, Last, Later, LeftOpen, LeftOut, More, NoEvent, NoLines, NoSetup, NoneYet, OneMore, Opens, Outside, Passed, PassesLine, ReadTo, Reading, Reopens, ShowsEvent, Standing, Start, Starved, Stays, TakesLine, TakesPart, in_run, is_open_behind, opening_told}
+use Rattle.transcripts.specs.Following.{AllCome, AllGoOn, Came, ComeInTurn, ComesOf, First, Follows, Gives, GoesOn, Happens, IsNew, IsOneOf, IsRead, IsWayOf, Last, Later, LeftOpen, LeftOut, More, NoEvent, NoLines, NoSetup, NoneYet, OneMore, Outside, Passed, PassesLine, ReadTo, Reading, ShowsEvent, Standing, Start, Starved, TakesLine, TakesPart, in_run, is_open_behind, opening_told}
 use Rattle.transcripts.specs.LineEvents.{HasShape, Holds, LineEvent, LineEvents}
 use Rattle.transcript_parts.specs.Lines.{Line, line_of}
 use Rattle.transcript_parts.specs.LineReads.{GaveNothing, LineRead}

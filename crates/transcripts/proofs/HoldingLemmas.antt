@@ -1,32 +1,49 @@
 -- The events of a line, read one after another, and the places of their answers.
-use Rattle.std.proofs.Common.{◌≡◌, ◌<◌, ◌≤◌, ◌+◌, ◌⊎◌, ◌∙◌, ℕ, List, [], ◌∷◌, ◌++◌, inl, inr, length, map, take, sym, ap, subst, arith, refl}
+use Rattle.std.proofs.Common.{◌≡◌, ◌+◌, ◌⊎◌, ◌∙◌, ℕ, List, [], ◌∷◌, ◌++◌, inl, inr, length, map, take, sym, ap, subst, arith, refl}
 use Rattle.std.proofs.Math.Seq.{take-length}
 use Rattle.std.proofs.lemmas.List.{length-take-le, map-append}
 use Rattle.std.proofs.lemmas.Option.{slice_get_within}
-use Rattle.std.specs.Prelude.{Contains, Some, slice_get}
-use Rattle.histories.proofs.Lists.{got_pushed, some_same, take_one}
+use Rattle.std.specs.Prelude.{Ok, Some, slice_get}
+use Rattle.histories.proofs.Lists.{got_pushed, take_one}
 use Rattle.json_text.specs.Fault.{Read}
 use Rattle.ocpi_types.specs.declared.node_events.NodeEvent.{NodeEvent}
 use Rattle.transcript_parts.specs.declared.echoed.EchoedLine.{EchoedLine}
 use Rattle.transcript_parts.specs.declared.line_read.EventAnswer.{EventAnswer}
-use Rattle.transcripts.specs.LineEvents.{AreEventsOf, LineEvent, event_at}
+use Rattle.node_lines.specs.ElementTexts.{AreElementsOf}
+use Rattle.node_lines.specs.NodeLines.{node_line_in}
+use Rattle.node_lines.specs.declared.node_line.NodeLine.TheVariants.{Several}
+use Rattle.ocpi_json.specs.NodeEventForms.{node_event_in}
+use Rattle.transcripts.specs.LineEvents.{AreReadFrom, HoldsSeveral, LineEvent, event_at, text_at}
 use Rattle.transcripts.proofs.WayLemmas.{in_none, one_more}
 
-module _ (xs : List (Read NodeEvent)) (l : EchoedLine) where
-  pub no_events : (es : List LineEvent) → es ≡ [] → AreEventsOf (take 0 xs) l es
-  no_events es none = subst (AreEventsOf [] l) (sym none) (record { events = refl; texts = in_none (λ (e : LineEvent). e.text.number ≡ l.number) [] refl })
+pub no_texts : (l : EchoedLine) (es : List LineEvent) → es ≡ [] → AreReadFrom [] l es
+no_texts l es none = subst (AreReadFrom [] l) (sym none) (record { texts_are = refl; events_are = refl; numbers = in_none (λ (e : LineEvent). e.text.number ≡ l.number) [] refl })
 
-  -- one more
-  pub event_more : (place : ℕ) (es longer : List LineEvent) (e : LineEvent) → AreEventsOf (take place xs) l es → longer ≡ es ++ e ∷ [] → slice_get xs place ≡ Some e.event
-      → e.text.number ≡ l.number → AreEventsOf (take (place + 1) xs) l longer
-  event_more place es longer e are is at number = record {
-    events = ap (map event_at) is ∙ map-append event_at es (e ∷ []) ∙ ap (λ ys. ys ++ e.event ∷ []) are.events ∙ sym (take_one xs place e.event at);
-    texts = one_more (λ (x : LineEvent). x.text.number ≡ l.number) es longer e is are.texts number;
+-- one more
+pub text_more : (before all : List (List ℕ)) (l : EchoedLine) (es longer : List LineEvent) (t : EchoedLine) → all ≡ before ++ t.bytes.now ∷ [] → t.number ≡ l.number
+    → longer ≡ es ++ record { text = t; event = node_event_in t.bytes.now } ∷ [] → AreReadFrom before l es → AreReadFrom all l longer
+text_more before all l es longer t whole number is are =
+    let e : LineEvent = record { text = t; event = node_event_in t.bytes.now } in
+    record {
+      texts_are = ap (map text_at) is ∙ map-append text_at es (e ∷ []) ∙ ap (λ ys. ys ++ t.bytes.now ∷ []) are.texts_are ∙ sym whole;
+      events_are = ap (map event_at) is ∙ map-append event_at es (e ∷ []) ∙ ap (λ ys. ys ++ node_event_in t.bytes.now ∷ []) are.events_are
+          ∙ sym (ap (map node_event_in) whole ∙ map-append node_event_in before (t.bytes.now ∷ []));
+      numbers = one_more (λ (x : LineEvent). x.text.number ≡ l.number) es longer e is are.numbers number;
+    }
+
+-- the line is an array of what its texts are read as
+module _ {T : Type 0} (bytes : T → List ℕ) (texts : List T) where
+  read_alike : (ts : List T) → map node_event_in (map bytes ts) ≡ map (λ t. node_event_in (bytes t)) ts
+  read_alike [] = refl
+  read_alike (t ∷ ts) = ap (λ rs. node_event_in (bytes t) ∷ rs) (read_alike ts)
+
+  pub holds_several : (l : EchoedLine) (es : List LineEvent) (xs : List (Read NodeEvent)) → node_line_in l.bytes.now ≡ Ok (Several xs) → AreElementsOf l.bytes.now (map bytes texts)
+      → map (λ t. node_event_in (bytes t)) texts ≡ xs → AreReadFrom (map bytes texts) l es → HoldsSeveral l es
+  holds_several l es xs array cut reads are = record {
+    array = array ∙ ap (λ ys. Ok (Several ys)) (sym (are.events_are ∙ read_alike texts ∙ reads));
+    texts = subst (AreElementsOf l.bytes.now) (sym are.texts_are) cut;
+    numbers = are.numbers;
   }
-
-  -- all of them
-  pub all_events : (place : ℕ) (es : List LineEvent) → place ≡ length xs → AreEventsOf (take place xs) l es → AreEventsOf xs l es
-  all_events place es whole are = subst (λ ys. AreEventsOf ys l es) (ap (λ n. take n xs) whole ∙ take-length xs) are
 
 -- ---- the places of answers
 

@@ -1,5 +1,5 @@
 -- A way stays one as an entry and its source are added, and what a line made of it.
-use Rattle.std.proofs.Common.{◌≡◌, ◌≢◌, ◌⊎◌, inl, inr, ◌↔◌, ◌≤◌, ℕ, zero, suc, Bool, true, false, List, [], ◌∷◌, ◌++◌, length, take, drop, Option, None, Some, Result, Ok, Err, IfOk, OnOk, OnErr, IsTrue, refl, sym, ap, subst, ◌∙◌, arith, length-append}
+use Rattle.std.proofs.Common.{◌≡◌, ◌⊎◌, inl, inr, ◌↔◌, ℕ, zero, suc, Bool, true, false, List, [], ◌∷◌, ◌++◌, length, Option, None, Some, Result, Ok, Err, OnOk, IsTrue, refl, sym, ap, subst, ◌∙◌, arith, length-append}
 use Rattle.std.proofs.lemmas.List.Elements.{Contains-push_cases, Contains-push, Contains-append_left}
 use Rattle.std.proofs.lemmas.List.Sorted.{Contains-permutation, IsPermutation-sym}
 use Rattle.std.proofs.lemmas.Option.{none-some, same_Some}
@@ -9,18 +9,17 @@ use Rattle.ocpi_types.specs.Setups.{party_of}
 use Rattle.ocpi_types.specs.declared.node_events.NodeEvent.{NodeEvent}
 use Rattle.ocpi_types.specs.declared.node_events.NodeEventKind.{NodeEventKind}
 use Rattle.ocpi_types.specs.declared.packet.Packet.{Packet}
-use Rattle.ocpi_types.specs.declared.setup.Node.{Node}
 use Rattle.ocpi_json.specs.NodeEventForms.{node_event_in}
 use Rattle.histories.specs.declared.entry.Entry.{Entry}
 use Rattle.node_steps.specs.declared.fault.NodeFault.{NodeFault}
-use Rattle.node_replay.specs.Replayed.{Enters, Leads, Passes, Refuses, Replay, restart_entry, started_again}
+use Rattle.node_replay.specs.Replayed.{Enters, Leads, Passes, Refuses, Replay, restart_entry}
 use Rattle.json_text.specs.Fault.{Read}
 use Rattle.json_text.specs.declared.fault.JsonFault.{JsonFault}
 use Rattle.transcript_parts.specs.LineReads.{LineRead}
 use Rattle.transcript_parts.specs.declared.line_read.Ending.{Ending}
 use Rattle.transcript_parts.specs.declared.echoed.EchoedLine.{EchoedLine}
-use Rattle.transcripts.specs.Told.{AreSources, HasSources, IsEventLine, IsSource, Told}
-use Rattle.transcripts.specs.Following.{Adds, CarriedOut, ComeInTurn, FitsEntry, FitsNothing, Gives, GoesOn, Happens, IsOwn, Malformed, OneMore, Refused, Skipped, Stays, TellsMalformed, TellsRefused, TellsSkipped, restarted, unanswered_line}
+use Rattle.transcripts.specs.Told.{AreSources, HasSources, IsSource, Told}
+use Rattle.transcripts.specs.Following.{Adds, ComeInTurn, FitsEntry, Gives, GoesOn, IsOwn, Malformed, OneMore, Refused, Skipped, TellsMalformed, TellsRefused, TellsSkipped, restarted, unanswered_line}
 use Rattle.transcripts.specs.LineEvents.{LineEvent, LineEvents, ending_at, packets_at}
 use Rattle.transcripts.specs.declared.source.Source.{Source}
 use Rattle.transcripts.specs.declared.source.Source.TheVariants.{Echoed, Restarted}

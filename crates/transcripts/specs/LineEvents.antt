@@ -1,6 +1,7 @@
 -- What an echoed line holds for the node, and what is told of each of its events.
 use Rattle.std.specs.Prelude.{◌≡◌, ◌≤◌, ◌==◌, ℕ, Bool, true, false, List, [], ◌∷◌, Option, None, Some, Ok, Contains, length, map, slice_get, if◌then◌else◌}
 use Rattle.json_text.specs.Fault.{Read}
+use Rattle.node_lines.specs.ElementTexts.{AreElementsOf}
 use Rattle.node_lines.specs.NodeLines.{node_line_in}
 use Rattle.node_lines.specs.declared.node_line.NodeLine.TheVariants.{One, Several}
 use Rattle.ocpi_json.specs.NodeEventForms.{node_event_in}
@@ -23,9 +24,12 @@ pub record LineEvent : Type 0 where
 abbrev pub event_at : LineEvent → Read NodeEvent
 event_at e = e.event
 
--- the text is that event
-abbrev pub IsEventAt : LineEvent → Type 0
-IsEventAt e = (x : NodeEvent) → e.event ≡ Ok x → node_event_in e.text.bytes.now ≡ Ok x
+abbrev pub text_at : LineEvent → List ℕ
+text_at e = e.text.bytes.now
+
+-- the text is read as that event, or refused so
+abbrev pub IsReadAs : LineEvent → Type 0
+IsReadAs e = node_event_in e.text.bytes.now ≡ e.event
 
 -- an echoed line, whether it is an array, and its events
 pub record LineEvents : Type 0 where
@@ -37,14 +41,17 @@ pub record LineEvents : Type 0 where
 abbrev pub HoldsOne : EchoedLine → List LineEvent → Type 0
 HoldsOne l es = (x : NodeEvent) × (node_line_in l.bytes.now ≡ Ok (One x)) × (es ≡ record { text = l; event = Ok x } ∷ [])
 
--- these are the elements of an array, in order, whose texts have the number of the line
-pub record AreEventsOf (xs : List (Read NodeEvent)) (l : EchoedLine) (es : List LineEvent) : Type 0 where
-  pub events : map event_at es ≡ xs
-  pub texts : (e : LineEvent) → Contains es e → e.text.number ≡ l.number
+-- the texts are read as these events, and have the number of the line
+pub record AreReadFrom (texts : List (List ℕ)) (l : EchoedLine) (es : List LineEvent) : Type 0 where
+  pub texts_are : map text_at es ≡ texts
+  pub events_are : map event_at es ≡ map node_event_in texts
+  pub numbers : (e : LineEvent) → Contains es e → e.text.number ≡ l.number
 
--- the line is an array of these
-abbrev pub HoldsSeveral : EchoedLine → List LineEvent → Type 0
-HoldsSeveral l es = (xs : List (Read NodeEvent)) × (node_line_in l.bytes.now ≡ Ok (Several xs)) × AreEventsOf xs l es
+-- the line is an array of these, each with its text as it stands there
+pub record HoldsSeveral (l : EchoedLine) (es : List LineEvent) : Type 0 where
+  pub array : node_line_in l.bytes.now ≡ Ok (Several (map event_at es))
+  pub texts : AreElementsOf l.bytes.now (map text_at es)
+  pub numbers : (e : LineEvent) → Contains es e → e.text.number ≡ l.number
 
 abbrev pub HoldsBy : Bool → EchoedLine → List LineEvent → Type 0
 HoldsBy true l es = HoldsSeveral l es

@@ -10,7 +10,6 @@
 
 mod all_ways;
 mod counting;
-mod element_texts;
 mod line_events;
 mod malformed;
 mod members;

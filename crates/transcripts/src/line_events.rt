@@ -1,23 +1,21 @@
 //! The events that an echoed line holds, each with its text.
 
-ghost use Rattle.std.specs.Prelude.{◌≡◌, ◌≢◌, ◌<◌, Contains, Err, IfErr, IfOk, Ok, Some, length, map, slice_get, true, ℕ};
+ghost use Rattle.std.specs.Prelude.{◌≡◌, IfErr, IfOk, List, Ok, map};
 ghost use Rattle.json_text.specs.Fault.{Read};
-ghost use Rattle.json_text.specs.declared.fault.JsonFault.TheVariants as json_fault;
-ghost use Rattle.ocpi_types.specs.declared.node_events.NodeEvent.{NodeEvent as NodeEventOf};
 ghost use Rattle.node_lines.specs.declared.node_line.NodeLine.TheVariants.{One as OneOf, Several as SeveralOf};
 ghost use Rattle.node_lines.specs.NodeLines.{node_line_in};
+ghost use Rattle.ocpi_json.specs.NodeEventForms.{node_event_in};
+ghost use Rattle.ocpi_types.specs.declared.node_events.NodeEvent.{NodeEvent as NodeEventOf};
 ghost use Rattle.transcript_parts.specs.Lines.{line_of};
-ghost use Rattle.transcripts.specs.LineEvents.{Holds, HoldsSeveral, IsEventAt, event_at};
+ghost use Rattle.transcripts.specs.LineEvents.{AreReadFrom, Holds, IsReadAs};
 ghost use Rattle.transcripts.specs.Following.{IsNoEvent, TellsNotARun};
 
-use crate::element_texts::element_texts;
 use crate::malformed::not_a_run;
 use json_text::JsonFault;
-use node_lines::{Elements, NodeLine, events_are_read_as_lines_of_their_own, read_node_line};
+use node_lines::{NodeLine, element_texts, events_are_read_as_lines_of_their_own, read_node_line};
 use ocpi_json::{Scratch, read_node_event};
 use ocpi_types::NodeEvent;
-use packet_equality::is_equal_node_event;
-use std::alloc::Global;
+use std::alloc::{AllocError, Global};
 use std::marker::Model;
 use transcript_parts::{EchoedLine, LineRead, TranscriptFault};
 
@@ -36,13 +34,13 @@ impl<'a> Drop for LineEvent<'a> {
 }
 
 impl<'a> Model for LineEvent<'a> {
-    ghost use Rattle.transcripts.specs.LineEvents.{IsEventAt, LineEvent};
+    ghost use Rattle.transcripts.specs.LineEvents.{IsReadAs, LineEvent};
 
     ghost Value = { LineEvent };
 
     ghost view = { λ e. record { text = e.text; event = e.event } };
 
-    ghost invariant = { λ e. IsEventAt (record { text = e.text; event = e.event }) };
+    ghost invariant = { λ e. IsReadAs (record { text = e.text; event = e.event }) };
 }
 
 /// The events that a line holds: one, or those of an array.
@@ -82,10 +80,10 @@ impl<'a> LineEvent<'a> {
         self.text
     }
 
-    /// The event, or why it is refused. The text is read as that event.
+    /// The event, or why it is refused: as the text is read.
     pub(crate) fn event(&self) -> &Result<NodeEvent, JsonFault>
         ensures event { result.now ≡ self.now.event }
-        ensures is { IsEventAt self.now }
+        ensures is { IsReadAs self.now }
     {
         &self.event
     }
@@ -135,12 +133,12 @@ impl<'a> LineEvents<'a> {
     }
 }
 
-/// The event of a line of its own.
+/// The event of a line of its own. An error is want of memory.
 fn one_event<'a>(
     alloc: Global,
     line: EchoedLine<'a>,
     event: NodeEvent,
-) -> Result<LineEvents<'a>, TranscriptFault>
+) -> Result<LineEvents<'a>, AllocError>
     requires { node_line_in line.bytes.now ≡ Ok (OneOf event) }
     ensures { IfOk result (λ h. h.line ≡ line.entry) }
 {
@@ -156,49 +154,24 @@ fn one_event<'a>(
             several: false,
             events,
         }),
-        Err(_) => Err(TranscriptFault::Memory),
+        Err(_) => Err(AllocError),
     }
 }
 
-/// An event of an array with its text, of which it is read.
-fn with_text<'a>(
-    alloc: Global,
-    scratch: &mut Scratch,
-    text: EchoedLine<'a>,
-    event: NodeEvent,
-) -> Result<LineEvent<'a>, TranscriptFault>
-    ensures { IfOk result (λ e. e ≡ record { text = text.entry; event = Ok event }) }
-{
-    match read_node_event(alloc, scratch, text.bytes) {
-        Ok(again) => {
-            if is_equal_node_event(&again, &event) {
-                Ok(LineEvent {
-                    text,
-                    event: Ok(again),
-                })
-            } else {
-                Err(TranscriptFault::Wrong(text.number))
-            }
-        }
-        Err(JsonFault::Memory) => Err(TranscriptFault::Memory),
-        Err(_) => Err(TranscriptFault::Wrong(text.number)),
-    }
-}
-
-/// The event at a place of an array, whose text that is.
+/// An element of an array, whose text that is. An error is want of memory.
 fn element_event<'a>(
     alloc: Global,
     scratch: &mut Scratch,
-    elements: &Elements<'_>,
-    place: usize,
     text: EchoedLine<'a>,
-) -> Result<LineEvent<'a>, TranscriptFault>
-    requires { place < length elements.now }
-    ensures { IfOk result (λ e. (e.text.number ≡ text.entry.number) × (slice_get elements.now place ≡ Some e.event)) }
+) -> Result<LineEvent<'a>, AllocError>
+    ensures { IfOk result (λ e. e ≡ record { text = text.entry; event = node_event_in text.entry.bytes.now }) }
 {
-    match elements.read(alloc, place) {
-        Ok(event) => with_text(alloc, scratch, text, event),
-        Err(JsonFault::Memory) => Err(TranscriptFault::Memory),
+    match read_node_event(alloc, scratch, text.bytes) {
+        Ok(event) => Ok(LineEvent {
+            text,
+            event: Ok(event),
+        }),
+        Err(JsonFault::Memory) => Err(AllocError),
         Err(fault) => Ok(LineEvent {
             text,
             event: Err(fault),
@@ -206,57 +179,61 @@ fn element_event<'a>(
     }
 }
 
-/// The events of an array, with their texts.
+/// The elements of an array, whose texts these are. An error is want of memory.
 fn element_events<'a>(
     alloc: Global,
     line: EchoedLine<'a>,
-    elements: &Elements<'_>,
     texts: &[&'a [u8]],
-) -> Result<Vec<LineEvent<'a>>, TranscriptFault>
-    requires { length texts.now ≡ length elements.now }
-    ensures { IfOk result (λ es. AreEventsOf elements.now line.entry es.items) }
+) -> Result<Vec<LineEvent<'a>>, AllocError>
+    ensures { IfOk result (λ es. AreReadFrom (map (λ t. t.now) texts.now) line.entry es.items) }
 {
     let mut scratch = Scratch::new(alloc);
     let mut events = Vec::new(alloc);
-    for place in 0..elements.len() {
+    for text in texts {
         let text = EchoedLine {
             number: line.number,
-            bytes: texts[place],
+            bytes: *text,
         };
-        match element_event(alloc, &mut scratch, elements, place, text) {
+        match element_event(alloc, &mut scratch, text) {
             Ok(event) => match events.push(event) {
                 Ok(()) => {}
-                Err(_) => return Err(TranscriptFault::Memory),
+                Err(_) => return Err(AllocError),
             },
-            Err(fault) => return Err(fault),
+            Err(_) => return Err(AllocError),
         }
     }
     Ok(events)
 }
 
-/// The events of a line that is an array.
-fn several_events<'a>(
-    alloc: Global,
-    line: EchoedLine<'a>,
-    elements: &Elements<'_>,
-) -> Result<LineEvents<'a>, TranscriptFault>
-    requires { node_line_in line.bytes.now ≡ Ok (SeveralOf elements.now) }
+/// The events of a line that is an array. An error is want of memory.
+fn several_events<'a>(alloc: Global, line: EchoedLine<'a>) -> Result<LineEvents<'a>, AllocError>
+    requires { (xs : List (Read NodeEventOf)) × (node_line_in line.bytes.now ≡ Ok (SeveralOf xs)) }
     ensures { IfOk result (λ h. h.line ≡ line.entry) }
 {
     let texts = match element_texts(alloc, line.bytes) {
         Ok(texts) => texts,
-        Err(_) => return Err(TranscriptFault::Memory),
+        Err(_) => return Err(AllocError),
     };
-    if texts.len() != elements.len() {
-        return Err(TranscriptFault::Wrong(line.number));
-    }
-    match element_events(alloc, line, elements, texts.as_slice()) {
+    match element_events(alloc, line, texts.as_slice()) {
         Ok(events) => Ok(LineEvents {
             line,
             several: true,
             events,
         }),
-        Err(fault) => Err(fault),
+        Err(_) => Err(AllocError),
+    }
+}
+
+/// The events, unless memory ran out.
+fn unless_starved<'a>(
+    events: Result<LineEvents<'a>, AllocError>,
+) -> Result<LineEvents<'a>, TranscriptFault>
+    ensures same { IfOk result (λ h. events.entry ≡ Ok h) }
+    ensures starved { IfErr result (λ fault. TellsNotARun fault → ⊥) }
+{
+    match events {
+        Ok(events) => Ok(events),
+        Err(_) => Err(TranscriptFault::Memory),
     }
 }
 
@@ -272,8 +249,8 @@ pub(crate) fn events_of<'a>(
 {
     let line = part.line();
     match read_node_line(alloc, scratch, line.bytes) {
-        Ok(NodeLine::One(event)) => one_event(alloc, line, event),
-        Ok(NodeLine::Several(elements)) => several_events(alloc, line, &elements),
+        Ok(NodeLine::One(event)) => unless_starved(one_event(alloc, line, event)),
+        Ok(NodeLine::Several(_)) => unless_starved(several_events(alloc, line)),
         Err(fault) => Err(not_a_run(fault, line.number)),
     }
 }

@@ -255,7 +255,10 @@ impl<'a> Reading<'a> {
         requires told { (at : ℕ) × (part.now.ending ≡ Answered (done.Refused (Some node_fault.Memory)) at) }
         ensures { OnOk result (TakesLine self.old part.now self.new) }
     {
-        if !part.gave_nothing() || is_list_line(part.line().bytes) {
+        if !part.gave_nothing() {
+            return Err(TranscriptFault::NotARun(part.line().number));
+        }
+        if is_list_line(part.line().bytes) {
             return Err(TranscriptFault::NotARun(part.line().number));
         }
         let told = Some(JsonFault::Memory);

@@ -13,13 +13,13 @@ returns-in_default c =
     ended_so_far c.args.lines.now c.loop-line.answers.items c.loop-line.packets.items c.loop-line.lines FileEnd c.loop-line.lines c.loop-line.invariant
     (subst (λ ls. IsEnding ls FileEnd ls) (sym c.in_default.ensures.none) AtEnd)
 
-pub loop-line-preserved-in-Ok-Packet : goal.loop-line-preserved-in-Ok-Packet
-loop-line-preserved-in-Ok-Packet c =
+pub loop-line-preserved-in-Ok : goal.loop-line-preserved-in-Ok
+loop-line-preserved-in-Ok c =
     packet_so_far c.args.lines.now c.loop-line.answers.items c.loop-line.packets.items c.loop-line.lines (line_of c.in-Some.line) c.in-Some.rest c.in-Ok-Packet.packet c.push.new.self.items
     c.loop-line.invariant c.in-Some.ensures.some (subst (IsBehind (line_of c.in-Some.line)) c.in-Ok-Packet.field-0-is c.in-Ok-Packet.ensures) c.in-Ok.ensures.items
 
-pub loop-line-preserved-in-Ok-Event : goal.loop-line-preserved-in-Ok-Event
-loop-line-preserved-in-Ok-Event c =
+pub loop-line-preserved : goal.loop-line-preserved
+loop-line-preserved c =
     answer_so_far c.args.lines.now c.loop-line.answers.items c.loop-line.packets.items c.loop-line.lines (line_of c.in-Some.line) c.in-Some.rest
     (record { packets = c.loop-line.packets.items; done = c.in-Ok-Event.done; event = c.in-Ok-Event.event; number = c.in-Some.line.number }) c.push_answer.new.answers.items
     c.push_answer.new.packets.items c.loop-line.invariant c.in-Some.ensures.some

@@ -1,4 +1,3 @@
-use Rattle.std.proofs.Common.{◌≡◌, [], ◌∷◌, ◌++◌, drop, length, refl, sym, ap, subst, ◌∙◌, rules, arith}
 use Rattle.std.specs.Prelude.{Contains}
 use Rattle.transcripts.specs.Following.{GoesOn, StandsAt}
 use Rattle.transcripts.specs.Told.{Told}

@@ -1,4 +1,4 @@
-use Rattle.std.proofs.Common.{◌≡◌, ◌∙◌, true, Some, subst, sym}
+use Rattle.std.proofs.Common.{◌≡◌, ◌∙◌, List, true, Some, ap, subst}
 use Rattle.std.specs.Prelude.{IfSome}
 use Rattle.transcript_parts.specs.LineReads.{LineRead}
 use Rattle.transcripts.specs.Following.{ComeInTurn, GoesOn, StandsAt, restarted, unanswered_line}
@@ -10,7 +10,10 @@ pub returns-in-Ok-Some-true : goal.returns-in-Ok-Some-true
 returns-in-Ok-Some-true c =
     let left = c.args.left.now in
     let come = subst (λ o. IfSome o (λ changed. ComeInTurn c.unanswered-part.result c.args.way c.events.result.now changed c.come_in_turn.new.way)) c.in-Ok-Some-true.field-0-is c.in-Ok-Some-true.ensures in
-    let come : ComeInTurn (unanswered_line left.line) c.args.way left.events true c.come_in_turn.new.way = ? in
+    let come : ComeInTurn (unanswered_line left.line) c.args.way left.events true c.come_in_turn.new.way =
+    subst (λ b. ComeInTurn (unanswered_line left.line) c.args.way left.events b c.come_in_turn.new.way) c.in-Ok-Some-true.field-0-0-test
+    (subst (λ (es : List LineEvent). ComeInTurn (unanswered_line left.line) c.args.way es c.in-Ok-Some-true.field-0-0 c.come_in_turn.new.way) c.events.ensures
+    (subst (λ (p : LineRead). ComeInTurn p c.args.way c.events.result.now c.in-Ok-Some-true.field-0-0 c.come_in_turn.new.way) (c.unanswered-part.ensures ∙ ap unanswered_line c.line.ensures) come)) in
     on_more c.push_restarted.result (adds_weaker (λ t. (t ≡ restarted c.come_in_turn.new.way) × StandsAt c.args.opened.now t)
     (λ t. GoesOn c.args.way (Some left) t × StandsAt c.args.opened.now t) c.args.ways.now.items c.push_restarted.new.ways.items
     (λ t p. (carried_out c.args.way c.come_in_turn.new.way t left come p.0, p.1))) c.push_restarted.ensures

@@ -1,4 +1,4 @@
-use Rattle.std.proofs.Common.{◌≡◌, [], ◌∷◌, ◌++◌, None, Some, inl, inr, length, refl, sym, ap, subst, ◌∙◌, rules, arith}
+use Rattle.std.proofs.Common.{◌≡◌, refl, sym, subst}
 use Rattle.std.specs.Prelude.{OnOk}
 use Rattle.transcripts.specs.Following.{Adds, StandsAt}
 use Rattle.transcripts.proofs.all_ways.push_standing.Goals.{in-Ok, in-Err-push}

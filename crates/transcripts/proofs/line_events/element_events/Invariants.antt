@@ -1,7 +1,7 @@
-use Rattle.std.proofs.Common.{take}
-use Rattle.transcripts.specs.LineEvents.{AreEventsOf}
+use Rattle.std.proofs.Common.{map, take}
+use Rattle.transcripts.specs.LineEvents.{AreReadFrom}
 use Rattle.transcripts.proofs.line_events.element_events.Given as goal
 
--- the events before this place are read
-abbrev pub invariant-loop-place : goal.invariant-loop-place
-invariant-loop-place l = AreEventsOf (take l.place l.elements) l.line l.events.items
+-- the texts before this one are read
+abbrev pub invariant-loop-text : goal.invariant-loop-text
+invariant-loop-text l = AreReadFrom (map (λ t. t.now) (take l.text-index l.texts)) l.line l.events.items

@@ -1,4 +1,4 @@
-use Rattle.std.proofs.Common.{◌≡◌, [], false, None, Some, refl, sym, ap, subst, ◌∙◌}
+use Rattle.std.proofs.Common.{[], false, None, sym, subst}
 use Rattle.std.specs.Prelude.{IfSome}
 use Rattle.transcript_parts.specs.Lines.{lines_in}
 use Rattle.transcript_parts.specs.Parts.{IsPart}

@@ -1,4 +1,4 @@
-use Rattle.std.proofs.Common.{◌≡◌, [], None, Some, refl, sym, ap, subst, ◌∙◌}
+use Rattle.std.proofs.Common.{[], Some, refl}
 use Rattle.transcript_parts.specs.Lines.{lines_in}
 use Rattle.transcripts.proofs.FollowingLemmas.{standing, transcript_keeps}
 use Rattle.transcripts.proofs.transcript.read_transcript.Goals as goal

@@ -1,8 +1,35 @@
-use Rattle.std.proofs.Common.{◌≡◌, ◌∙◌, sym, subst, arith}
+use Rattle.std.proofs.Common.{◌≡◌, ◌+◌, ◌∙◌, ap, length, take, subst, sym, arith}
+use Rattle.std.proofs.Math.Seq.{take-length}
+use Rattle.std.proofs.lemmas.List.{length-take-le}
 use Rattle.std.proofs.lemmas.Option.{slice_get-get_or}
+use Rattle.std.specs.Prelude.{IfSome, Some, slice_get}
 use Rattle.histories.proofs.Lists.{take_one}
+use Rattle.transcripts.specs.Following.{ComeInTurn, Gives, NoneYet}
+use Rattle.transcripts.specs.LineEvents.{packets_at}
 use Rattle.transcripts.proofs.WayLemmas.{come_more}
 use Rattle.transcripts.proofs.turns.come_in_turn.Goals as goal
 
 pub loop-place-preserved : goal.loop-place-preserved
-loop-place-preserved c = come_more c.args.part.now c.args.way.now c.loop-place.way c.take.new.self ?
+loop-place-preserved c =
+    let part = c.args.part.now in
+    let events = c.args.events.now in
+    let place = c.loop-place.place in
+    let e = c.index-events-place.result in
+    let at : slice_get events place ≡ Some e = slice_get-get_or events place e (omega arith) ∙ ap Some (sym c.index-events-place.is) in
+    let now = c.loop-place.way in
+    let next = c.take.new.self in
+    let changes = c.in-Ok-Some.changes in
+    let gives = subst (λ o. IfSome o (λ b. Gives now e c.ending_at-ending.result c.packets_at.result.now b next)) c.in-Ok-Some.field-0-is c.in-Ok-Some.ensures in
+    come_more part c.args.way.now now next (take place events) (take (place + 1) events) e place c.loop-place.changed changes c.either-changed.result c.loop-place.invariant
+    (take_one events place e at) (length-take-le place events (omega arith))
+    (subst (λ end. Gives now e end (packets_at part place) changes next) c.ending_at-ending.ensures
+    (subst (λ qs. Gives now e c.ending_at-ending.result qs changes next) c.packets_at.ensures gives)) c.either-changed.ensures
+
+pub loop-place-init : goal.loop-place-init
+loop-place-init c = NoneYet
+
+pub returns : goal.returns
+returns c =
+    let events = c.args.events.now in
+    let whole : c.loop-place.place ≡ length events = omega (arith, c.loop-place-test.false, c.loop-place.auto.place-end) in
+    subst (λ es. ComeInTurn c.args.part.now c.args.way.now es c.loop-place.changed c.loop-place.way) (ap (λ n. take n events) whole ∙ take-length events) c.loop-place.invariant

@@ -1,6 +1,5 @@
-use Rattle.std.proofs.Common.{◌≡◌, ◌<◌, [], ◌∷◌, ◌++◌, None, Some, inr, length, refl, sym, ap, subst, ◌∙◌, rules, arith}
+use Rattle.std.proofs.Common.{◌<◌, length, sym, ap, subst, rules, arith}
 use Rattle.std.specs.Prelude.{Contains}
-use Rattle.transcripts.proofs.FollowingLemmas.{standing}
 use Rattle.transcripts.proofs.reading.Reading.into_first.Goals as goal
 
 pub returns : goal.returns

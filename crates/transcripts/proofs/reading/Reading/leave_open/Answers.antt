@@ -1,4 +1,4 @@
-use Rattle.std.proofs.Common.{◌≡◌, Some, refl, sym, ap, subst, ◌∙◌}
+use Rattle.std.proofs.Common.{Some, refl, sym, ap, subst, ◌∙◌}
 use Rattle.transcripts.specs.Following.{LeftOpen, LeftOut, TellsNotARun, in_run}
 use Rattle.transcripts.proofs.FollowingLemmas.{passes, standing}
 use Rattle.transcripts.proofs.reading.Reading.leave_open.Goals as goal

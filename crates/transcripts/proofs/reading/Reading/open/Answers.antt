@@ -1,6 +1,4 @@
-use Rattle.std.proofs.Common.{◌≡◌, ◌<◌, [], ◌∷◌, ◌++◌, None, Some, inr, length, refl, sym, ap, subst, ◌∙◌, rules, arith}
-use Rattle.transcript_parts.specs.declared.parts.Part.TheVariants.{Line}
-use Rattle.transcripts.specs.Following.{TakesLine, TakesPart}
+use Rattle.transcripts.specs.Following.{TakesLine}
 use Rattle.transcripts.proofs.WayLemmas.{on_more}
 use Rattle.transcripts.proofs.reading.Reading.open.Goals as goal
 

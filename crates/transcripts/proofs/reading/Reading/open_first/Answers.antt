@@ -1,4 +1,4 @@
-use Rattle.std.proofs.Common.{◌≡◌, ◌<◌, [], ◌∷◌, ◌++◌, None, Some, true, inr, length, refl, sym, ap, subst, ◌∙◌, rules, arith}
+use Rattle.std.proofs.Common.{◌≡◌, [], ◌∷◌, ◌++◌, None, true, sym, ap, subst, ◌∙◌, rules, arith}
 use Rattle.std.specs.Prelude.{Contains}
 use Rattle.ocpi_types.specs.Setups.{party_of}
 use Rattle.transcript_lines.specs.declared.done.Done.TheVariants as done

@@ -1,4 +1,4 @@
-use Rattle.std.proofs.Common.{◌≡◌, ◌<◌, [], ◌∷◌, ◌++◌, None, Some, inr, length, refl, sym, ap, subst, ◌∙◌, rules, arith}
+use Rattle.std.proofs.Common.{◌<◌, length, refl, ap, subst, rules, arith}
 use Rattle.transcripts.specs.Following.{AllGoOn}
 use Rattle.transcripts.proofs.FollowingLemmas.{opened_later}
 use Rattle.transcripts.proofs.reading.Reading.open_later.Goals as goal

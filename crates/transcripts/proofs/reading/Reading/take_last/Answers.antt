@@ -1,4 +1,4 @@
-use Rattle.std.proofs.Common.{◌≡◌, ◌<◌, [], ◌∷◌, ◌++◌, true, false, None, Some, inl, inr, length, refl, sym, ap, subst, ◌∙◌, rules, arith}
+use Rattle.std.proofs.Common.{refl, subst, rules}
 use Rattle.transcripts.specs.Following.{Last, TakesLine}
 use Rattle.transcripts.proofs.FollowingLemmas.{in_run_is, passes_line}
 use Rattle.transcripts.proofs.WayLemmas.{on_more}

@@ -1,4 +1,3 @@
-use Rattle.std.proofs.Common.{◌≡◌, ◌<◌, [], ◌∷◌, ◌++◌, None, Some, inr, length, refl, sym, ap, subst, ◌∙◌, rules, arith}
 use Rattle.transcripts.specs.Following.{TakesLine}
 use Rattle.transcripts.proofs.WayLemmas.{on_more}
 use Rattle.transcripts.proofs.reading.Reading.take_line.Goals as goal

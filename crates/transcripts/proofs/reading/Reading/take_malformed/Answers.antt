@@ -13,6 +13,6 @@ returns-in-Ok-true c = passes_line c.args.self.now c.args.self.now c.args.part.n
 
 pub returns : goal.returns
 returns c = passes c.args.self.now _ c.args.part.now (ap (λ r. r.setup) c.self.view_is) (ap (λ r. r.ways) c.self.view_is) (c.gave_nothing.ensures.0 (search rules))
-    (λ told. NoSetup c.args.told c.requires.told.0 c.may_be_event.result c.requires.within c.requires.told.1
-    (subst (λ (l : Line). IsTrue c.may_be_event.result ↔ ((c.args.told ≡ Some Memory) × (IsListLine l.bytes → ⊥))) c.line-may_be_event.ensures c.may_be_event.ensures)
-    (ap (standing told c.may_be_event.result) (ap (λ r. r.unanswered) c.self.view_is)))
+    (λ told. NoSetup c.args.told c.requires.told.0 c.may_be_event-self-inside.result c.requires.within c.requires.told.1
+    (subst (λ (l : Line). IsTrue c.may_be_event-self-inside.result ↔ ((c.args.told ≡ Some Memory) × (IsListLine l.bytes → ⊥))) c.line-4.ensures c.may_be_event-self-inside.ensures)
+    (ap (standing told c.may_be_event-self-inside.result) (ap (λ r. r.unanswered) c.self.view_is)))

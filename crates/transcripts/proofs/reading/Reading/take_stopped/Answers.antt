@@ -1,4 +1,4 @@
-use Rattle.std.proofs.Common.{◌≡◌, ◌<◌, [], ◌∷◌, ◌++◌, None, Some, inr, length, refl, sym, ap, subst, ◌∙◌, rules, arith}
+use Rattle.std.proofs.Common.{ap, subst, ◌∙◌}
 use Rattle.transcripts.specs.Following.{TakesLine, in_run}
 use Rattle.transcripts.proofs.FollowingLemmas.{in_run_is}
 use Rattle.transcripts.proofs.WayLemmas.{on_more}

@@ -1,5 +1,4 @@
-use Rattle.std.proofs.Common.{◌≡◌, [], ◌∷◌, ◌++◌, refl, sym, ap, subst, ◌∙◌, rules}
-use Rattle.std.specs.Prelude.{IsTrue}
+use Rattle.std.proofs.Common.{◌≡◌, [], ◌∷◌, ◌++◌, true, false, refl, sym, ap, subst, ◌∙◌, rules}
 use Rattle.ocpi_text.specs.Text.{key}
 use Rattle.ocpi_types.specs.Setups.{party_of}
 use Rattle.node_replay.specs.Replayed.{Answers, IsNotEntered, Passes, Refuses}
@@ -22,7 +21,11 @@ invariant_of-self-in-Ok-Stepped c =
 pub returns-then-not-is_same : goal.returns-then-not-is_same
 returns-then-not-is_same c = IfSome_then c.nothing_where.result c.nothing_where.ensures (λ changed p.
     skipped c.args.self.now c.args.self.now c.args.event.now c.args.text c.args.ending.now c.args.packets.now changed
-    (λ own. let same : IsTrue c.is_same.result = c.is_same.ensures.1 (own ∙ sym (ap key c.party.ensures)) in absurd (search (rules, cc))) refl (c.is_skipped.ensures p.0) p.1.0 p.1.1)
+    (λ own.
+    let other : c.is_same.result ≡ false = search rules in
+    let wrong : ⊥ = (let bad : false ≡ true = sym other ∙ c.is_same.ensures.1 (own ∙ sym (ap key c.party.ensures)) in cc) in
+    absurd wrong)
+    refl (c.is_skipped.ensures p.0) p.1 p.2)
 
 pub returns-in-Ok-Stepped : goal.returns-in-Ok-Stepped
 returns-in-Ok-Stepped c = IfSome_then c.changed_where.result c.changed_where.ensures (λ changed p.
@@ -40,21 +43,21 @@ returns-in-Ok-Stepped c = IfSome_then c.changed_where.result c.changed_where.ens
 pub returns-in-Ok-Skipped : goal.returns-in-Ok-Skipped
 returns-in-Ok-Skipped c =
     let not = subst (λ r. Answers c.self.inside.replay c.in_ok-kind.kind r c.apply.new.self) c.in-Ok-Skipped.field-0-is c.in-Ok-Skipped.ensures.ok in
-    IfSome_then c.nothing_where-2.result c.nothing_where-2.ensures (λ changed p.
+    IfSome_then c.nothing_where-in-Ok-Skipped.result c.nothing_where-in-Ok-Skipped.ensures (λ changed p.
     subst (λ w. Gives w (one_event c.args.text c.args.event.now) c.args.ending.now c.args.packets.now changed (told c.apply.new.self c.reserve.new.self.items)) c.self.view_is
     (skipped (told c.self.inside.replay c.self.inside.sources.items) (told c.apply.new.self c.reserve.new.self.items) c.args.event.now c.args.text c.args.ending.now c.args.packets.now changed
     (λ own. subst (Passes c.self.inside.replay.state) c.in_ok-kind.ensures.equal not.0)
     (ap (λ r. told r c.reserve.new.self.items) not.1 ∙ ap (told c.self.inside.replay) c.reserve.ensures.items)
-    (c.is_skipped-2.ensures p.0) p.1.0 p.1.1))
+    (c.is_skipped-in-Ok-Skipped.ensures p.0) p.1 p.2))
 
 pub returns-in-Err-Core : goal.returns-in-Err-Core
 returns-in-Err-Core c =
     let not = subst (λ f. IsNotEntered c.self.inside.replay c.in_ok-kind.kind f c.apply.new.self) c.in-Err-Core.field-0-is c.in-Err-Core.ensures.err in
-    IfSome_then c.nothing_where-3.result c.nothing_where-3.ensures (λ changed p.
+    IfSome_then c.nothing_where-in-Err-Core.result c.nothing_where-in-Err-Core.ensures (λ changed p.
     subst (λ w. Gives w (one_event c.args.text c.args.event.now) c.args.ending.now c.args.packets.now changed (told c.apply.new.self c.reserve.new.self.items)) c.self.view_is
     (refused (told c.self.inside.replay c.self.inside.sources.items) (told c.apply.new.self c.reserve.new.self.items) c.args.event.now c.args.text c.args.ending.now c.args.packets.now changed
     c.in-Err-Core.fault
     (c.is_same.ensures.0 (search rules) ∙ ap key c.party.ensures ∙ ap (λ w. key (party_of w.replay.member)) (sym c.self.view_is))
     (subst (λ k. Refuses c.self.inside.replay.state k c.in-Err-Core.fault) c.in_ok-kind.ensures.equal not.0)
     (ap (λ r. told r c.reserve.new.self.items) not.1 ∙ ap (told c.self.inside.replay) c.reserve.ensures.items)
-    (c.is_refused.ensures p.0) p.1.0 p.1.1))
+    (c.is_refused.ensures p.0) p.1 p.2))

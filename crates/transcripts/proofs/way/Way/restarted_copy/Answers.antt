@@ -1,4 +1,4 @@
-use Rattle.std.proofs.Common.{◌≡◌, [], ◌∷◌, ◌++◌, None, Some, inl, inr, length, refl, sym, ap, subst, ◌∙◌, rules, arith}
+use Rattle.std.proofs.Common.{[], ◌∷◌, ◌++◌, ap, ◌∙◌}
 use Rattle.node_replay.specs.Replayed.{started_again}
 use Rattle.transcripts.specs.declared.source.Source.TheVariants.{Restarted}
 use Rattle.transcripts.proofs.WayLemmas.{has_restarted, told}
