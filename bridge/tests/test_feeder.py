@@ -8,7 +8,6 @@ import sys
 import tempfile
 import time
 import unittest
-from collections import deque
 from collections.abc import Awaitable
 from pathlib import Path
 from typing import TypeVar
@@ -21,7 +20,6 @@ from ocpi_bridge.events import Events, Outcome
 from ocpi_bridge.json_text import Members
 from ocpi_bridge.node import feeder as feeder_module
 from ocpi_bridge.node.feeder import Feeder, NodeEnded, OutcomeLost
-from ocpi_bridge.node.lines import Waiting, next_line
 from ocpi_bridge.state import State
 
 from .running import PROGRAM, operator, provider
@@ -277,14 +275,6 @@ class SeveralTest(FeederCase):
         self.assertEqual(events, [outcome.event for outcome in running.noted if outcome.event["event"] != "tick"])
         packets = [packet.request for outcome in running.noted for packet in outcome.packets]
         self.assertEqual(list(range(1, 301)), packets)
-
-    async def test_a_line_ends_with_its_first_swipe_or_tick(self) -> None:
-        words = ["token", "swipe", "service", "tick", "tick", "token", "token"]
-        queue = deque(Waiting({"event": word, "node": "BE/BEC"}) for word in words)
-        lines = []
-        while (line := next_line(queue)) is not None:
-            lines.append([waiting.event["event"] for waiting in line.waiting])
-        self.assertEqual([["token", "swipe"], ["service", "tick"], ["tick"], ["token", "token"]], lines)
 
     async def test_an_event_that_spoils_its_line_is_found_and_no_other_suffers(self) -> None:
         _, words = await self.carry_out(self.tokens("T1", "T2", "\x01", "T4"))
