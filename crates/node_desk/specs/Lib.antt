@@ -2,3 +2,4 @@ pub mod Logs
 pub mod Passes
 pub mod Guarded
 pub mod Faults
+pub mod Calls

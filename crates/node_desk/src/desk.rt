@@ -5,6 +5,7 @@ ghost use Rattle.node_cell.specs.Keepers.{keeper_of};
 ghost use Rattle.node_history.specs.Cells.{IsCell};
 ghost use Rattle.history_laws.specs.Replays.{Replays};
 ghost use Rattle.node_rows.specs.Holds.{HoldsRows};
+ghost use Rattle.node_desk.specs.Calls.{WasEntered, WasRefused};
 ghost use Rattle.node_desk.specs.Logs.{GoesOn, log_of};
 ghost use Rattle.node_desk.specs.Passes.{IsUnused, PassOf};
 ghost use Rattle.node_desk.specs.declared.fault.DeskFault.TheVariants.{Rewound};
@@ -114,10 +115,13 @@ impl<J: Naming, K: Keep + Drop, G: Gate + Drop> Desk<J, K, G> {
         pass: &mut Pass<J>,
         event: NodeEventKind,
     ) -> Result<Receipt, Refusal>
+        ensures entered { IfOk result (WasEntered (keeper_of K.content K.is_honest K.refusals K.may_leave) J.before) }
         ensures event { IfOk result (λ r. r.event ≡ event) }
         ensures place { IfOk result (λ r. pass.old.seen ≤ r.place) }
         ensures seen { IfOk result (λ r. pass.new.seen ≡ r.place + 1) }
         ensures counted { OnOk result (pass.new.count ≡ pass.old.count + 1) }
+        ensures refused { IfErr result (λ e. WasRefused (keeper_of K.content K.is_honest K.refusals K.may_leave)
+            J.before pass.old.seen event e.fault) }
         ensures back { IfErr result (λ e. e.event ≡ event) }
         ensures kept { OnErr result (pass.new ≡ pass.old) }
         ensures rewound { IfErr result (λ e. (k : ℕ) → e.fault ≡ Rewound k → k < pass.old.seen) }

@@ -1,7 +1,7 @@
 //! A desk: many threads bring events to one node, which stands behind a lock.
 //!
 //! ```
-//! let (desk, mut passes) = Desk::<J, _, _>::new(alloc, blank, party, cell, Open, 2)?;
+//! let (desk, mut passes) = Desk::<J, _, _>::new(alloc, blank, cell, Open, 2)?;
 //! let mut pass = passes.pop()?;
 //! let packet = prepare(alloc, &mut scratch, line)?;
 //! let receipt = desk.call(rt, &mut pass, NodeEventKind::Deliver { at, packet })?;

@@ -6,6 +6,7 @@ ghost use Rattle.node_cell.specs.Keepers.{keeper_of};
 ghost use Rattle.node_desk.specs.Faults.{IsNotCalled, of_cell};
 ghost use Rattle.node_desk.specs.declared.fault.DeskFault.TheVariants.{Rewound};
 ghost use Rattle.node_history.specs.declared.fault.CellFault.{CellFault as CellFaultOf};
+ghost use Rattle.node_desk.specs.Calls.{WasEntered, WasRefused};
 ghost use Rattle.node_desk.specs.Logs.{GoesOn, log_of};
 ghost use Rattle.receipts.specs.Audits.{entry_of};
 
@@ -145,16 +146,20 @@ impl<J: Naming, K: Keep> Locked<J, K> {
         ensures entered { IfOk result (λ r. Enters (keeper_of K.content K.is_honest K.refusals K.may_leave) self.old.cell (entry_of r) self.new.cell) }
         ensures place { IfOk result (λ r. r.place ≡ length self.old.cell.history) }
         ensures event { IfOk result (λ r. r.event ≡ event) }
+        ensures was_entered { IfOk result (WasEntered (keeper_of K.content K.is_honest K.refusals K.may_leave) J.before) }
         ensures before { IfOk result (λ r. pass.old.seen ≤ r.place) }
         ensures seen { IfOk result (λ r. pass.new.seen ≡ r.place + 1) }
         ensures counted { OnOk result (pass.new.count ≡ pass.old.count + 1) }
         ensures refused { IfErr result (λ e. IsNotCalled (keeper_of K.content K.is_honest K.refusals K.may_leave)
             self.old.cell pass.old.seen event e.fault self.new.cell) }
+        ensures was_refused { IfErr result (λ e. WasRefused (keeper_of K.content K.is_honest K.refusals K.may_leave)
+            J.before pass.old.seen event e.fault) }
         ensures rewound { IfErr result (λ e. (k : ℕ) → e.fault ≡ Rewound k → k < pass.old.seen) }
         ensures back { IfErr result (λ e. e.event ≡ event) }
         ensures kept { OnErr result (pass.new ≡ pass.old) }
     {
         let Locked { cell, made } = self;
+        cell.is_replay();
         match call(cell, gate, pass.seen, event) {
             Ok(receipt) => {
                 made.add(&mut pass.share, 1);
