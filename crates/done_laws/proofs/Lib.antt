@@ -1,0 +1,3 @@
+pub mod PlainTexts
+pub mod NamedMembers
+pub mod DoneReads
