@@ -4,4 +4,5 @@ pub mod Reaching
 pub mod Waiting
 pub mod Sweeping
 pub mod Turning
+pub mod Excluding
 pub mod Telling

@@ -1,7 +1,6 @@
 -- How a weaving goes on, and what its end says.
 use Rattle.std.proofs.Common.{zero, suc, ◌≡◌, ◌≢◌, ℕ, ◌+◌, ◌-◌, ◌<◌, ◌≤◌, List, [], ◌∷◌, ◌++◌, length, take, drop, replicate, inl, inr, refl, sym, ap, subst, ◌∙◌, arith, append_assoc, append-nil, add-zero, length-append, length-set, take_all}
 use Rattle.std.specs.Prelude.{Some, Contains, slice_get, slice_index, slice_set, sum}
-use Rattle.std.proofs.lemmas.Bool.{cases_eq}
 use Rattle.std.proofs.lemmas.List.{get_or-set_other, get_or-set_same, take-append-drop}
 use Rattle.std.proofs.lemmas.List.Elements.{Contains-push_cases}
 use Rattle.std.proofs.lemmas.List.Sums.{sum_by-cons, sum_by-set}
@@ -10,22 +9,24 @@ use Rattle.ocpi_types.specs.declared.packet.Packet.{Packet}
 use Rattle.tables.proofs.Elements.{in_none}
 use Rattle.histories.specs.declared.entry.Entry.{Entry}
 use Rattle.histories.specs.declared.history.NodeHistory.{NodeHistory}
-use Rattle.histories.specs.Causes.{HasMore, IsBlock, IsGivenBefore, Waits}
-use Rattle.histories.specs.Entries.{Delivers, IsNumbered, packets_of, sent}
-use Rattle.histories.specs.Weaving.{AreApart, AreNumbered, IsWoven, Names, Woven, history}
+use Rattle.histories.specs.Causes.{HasMore}
+use Rattle.histories.specs.Entries.{IsNumbered, packets_of, sent}
+use Rattle.histories.specs.Weaving.{AreApart, AreNumbered, Woven, history}
 use Rattle.histories.proofs.Lists.{got_after, got_front, got_left, got_within, is_in, place_in, some_same, stands, take_one}
 use Rattle.histories.proofs.WovenLists.{history_elsewhere, history_here, same_key, sent_join, sent_one}
 use Rattle.weave.specs.declared.needs.Need.{Need}
 use Rattle.weave.specs.declared.turn.Turn.{Turn}
-use Rattle.weave.specs.Needs.{IsGivenBy, IsNeed, OfNothing, OfPacket}
+use Rattle.weave.specs.Given.{IsWovenWith, NamesWith, WaitsWith}
+use Rattle.weave.specs.Needs.{IsNeed, OfNothing, OfPacket}
 use Rattle.weave.specs.Reached.{IsEarly, IsStuck, IsWovenTo, Reached, entries_in, serial_in, total}
-use Rattle.weave.specs.Turns.{AreTurns, IsOrder}
+use Rattle.weave.specs.TurnFaults.{IsEnd}
+use Rattle.weave.specs.Turns.{IsOrderWith}
 use Rattle.weave.proofs.Needing.{given_by}
 use Rattle.weave.proofs.Places.{index_replicate, length_replicate, sum_replicate}
 use Rattle.weave.proofs.Turning.{turns_push}
 
-pub start_reached : (hs : List NodeHistory) → Reached hs (replicate (length hs) 0) (replicate (length hs) 0) []
-start_reached hs = record {
+pub start_reached : (given : List (List ℕ)) (hs : List NodeHistory) → Reached given hs (replicate (length hs) 0) (replicate (length hs) 0) []
+start_reached given hs = record {
   xs = [];
   nodes = λ x h. absurd (in_none x h);
   names = tt;
@@ -40,9 +41,9 @@ start_reached hs = record {
   count = sym (sum_replicate (length hs));
 }
 
-woven_push : (before xs : List Woven) (x : Woven) → IsWoven before xs → Names (before ++ xs) x → IsWoven before (xs ++ x ∷ [])
-woven_push before [] x woven names = (subst (λ l. Names l x) (append-nil before) names, tt)
-woven_push before (y ∷ xs) x (first, woven) names = (first, woven_push (before ++ y ∷ []) xs x woven (subst (λ l. Names l x) (sym (append_assoc before (y ∷ []) xs)) names))
+woven_push : (given : List (List ℕ)) (before xs : List Woven) (x : Woven) → IsWovenWith given before xs → NamesWith given (before ++ xs) x → IsWovenWith given before (xs ++ x ∷ [])
+woven_push given before [] x woven names = (subst (λ l. NamesWith given l x) (append-nil before) names, tt)
+woven_push given before (y ∷ xs) x (first, woven) names = (first, woven_push given (before ++ y ∷ []) xs x woven (subst (λ l. NamesWith given l x) (sym (append_assoc before (y ∷ []) xs)) names))
 
 -- the serial of the last of some packets of a node counts those so far
 last_serial : (party : List ℕ) (before ps after : List Packet) → IsNumbered party ((before ++ ps) ++ after) → serial_in (length before) (slice_get ps (length ps - 1)) ≡ length before + length ps
@@ -63,7 +64,7 @@ sums (h ∷ hs) (p ∷ ps) each within =
     let rest = sums hs ps (omega (arith, each)) (λ i g at. within (suc i) g at) in
     omega (arith, first, rest, sum_by-cons (λ n. n) p ps, sum_by-cons entries_in h hs)
 
-module _ (hs : List NodeHistory) (places newest : List ℕ) (turns : List Turn) (r : Reached hs places newest turns) where
+module _ (given : List (List ℕ)) (hs : List NodeHistory) (places newest : List ℕ) (turns : List Turn) (r : Reached given hs places newest turns) where
   pub bound : length turns ≤ total hs
   bound = let count = r.count in let g = sums hs places r.place_each (λ i h at. (r.each i h at).within) in omega (arith, count, g)
 
@@ -74,7 +75,7 @@ module _ (hs : List NodeHistory) (places newest : List ℕ) (turns : List Turn) 
       ∙ ap (λ l. sent l ++ sent (drop (slice_index places i) h.entries.now)) (sym (r.each i h at).before)
 
   module _ (apart : AreApart hs) (numbered : AreNumbered hs) (c : ℕ) (h : NodeHistory) (here : slice_get hs c ≡ Some h) (e : Entry) (at : slice_get h.entries.now (slice_index places c) ≡ Some e)
-      (n : Need) (need : IsNeed hs e n) (ready : n.serial ≤ slice_index newest n.sender) where
+      (n : Need) (need : IsNeed given hs e n) (ready : n.serial ≤ slice_index newest n.sender) where
     abbrev x : Woven
     x = record { party = h.party; entry = e }
 
@@ -93,9 +94,9 @@ module _ (hs : List NodeHistory) (places newest : List ℕ) (turns : List Turn) 
     below : c < length hs
     below = got_within hs c h here
 
-    names_x : Names r.xs x
+    names_x : NamesWith given r.xs x
     names_x q is =
-        let g = given_by hs e n q need is in
+        let g = given_by given hs e n q need is in
         let woven = r.each n.sender g.sender g.here in
         let count = woven.newest_is in
         let serial = g.serial_is in
@@ -157,7 +158,7 @@ module _ (hs : List NodeHistory) (places newest : List ℕ) (turns : List Turn) 
           }
     ]
 
-    pub taken : Reached hs (slice_set places c (slice_index places c + 1)) (slice_set newest c (serial_in (slice_index newest c) (slice_get (packets_of e) (length (packets_of e) - 1))))
+    pub taken : Reached given hs (slice_set places c (slice_index places c + 1)) (slice_set newest c (serial_in (slice_index newest c) (slice_get (packets_of e) (length (packets_of e) - 1))))
         (turns ++ record { history = c; entry = slice_index places c } ∷ [])
     taken = record {
       xs = r.xs ++ x ∷ [];
@@ -165,7 +166,7 @@ module _ (hs : List NodeHistory) (places newest : List ℕ) (turns : List Turn) 
         | inl i ↦ r.nodes y i
         | inr same ↦ subst (λ (z : Woven). (g : NodeHistory) × Contains hs g × (g.party ≡ z.party)) same (h, is_in hs c h here, refl)
       ];
-      names = woven_push [] r.xs x r.names names_x;
+      names = woven_push given [] r.xs x r.names names_x;
       turns_are = turns_push hs turns r.xs (record { history = c; entry = slice_index places c }) x r.turns_are (record { history = h; here = here; party = refl; entry = at });
       place_each = length-set places c (slice_index places c + 1) ∙ r.place_each;
       newest_each = length-set newest c last ∙ r.newest_each;
@@ -181,10 +182,10 @@ module _ (hs : List NodeHistory) (places newest : List ℕ) (turns : List Turn) 
 
   -- where no history has an entry that can be taken, and one has an entry, they are at a block
   module _ (apart : AreApart hs) (numbered : AreNumbered hs) where
-    early_waits : (e : Entry) → IsEarly hs newest e → Waits hs places e
+    early_waits : (e : Entry) → IsEarly given hs newest e → WaitsWith given hs places e
     early_waits e early = (
       early.packet,
-      early.delivers,
+      early.asks,
       λ g.
           let is_sender : early.number ≡ g.number = apart early.number g.number early.sender g.sender early.here g.here (early.same ∙ sym g.same) in
           let woven = r.each g.number g.sender g.here in
@@ -198,11 +199,14 @@ module _ (hs : List NodeHistory) (places newest : List ℕ) (turns : List Turn) 
           omega (arith, serial, inside, count, later),
     )
 
-    pub block : ((i : ℕ) → i < length hs → IsStuck hs places newest i) → HasMore hs places → IsBlock hs places
-    block stuck more = record { size = r.place_each; some = more; each = λ i h e here at. early_waits e (stuck i (got_within hs i h here) h e here at) }
+    pub block : ((i : ℕ) → i < length hs → IsStuck given hs places newest i) → HasMore hs places → IsEnd given hs places
+    block stuck more = record {
+      placed = (r.xs, record { nodes = r.nodes; within = λ i h here. (r.each i h here).within; order = λ i h here. (r.each i h here).before; names = r.names });
+      block = record { size = r.place_each; some = more; each = λ i h e here at. early_waits e (stuck i (got_within hs i h here) h e here at) };
+    }
 
   -- and where each is at its end, all is woven
-  pub finished : ((i : ℕ) (h : NodeHistory) → slice_get hs i ≡ Some h → length h.entries.now ≤ slice_index places i) → IsOrder hs turns
+  pub finished : ((i : ℕ) (h : NodeHistory) → slice_get hs i ≡ Some h → length h.entries.now ≤ slice_index places i) → IsOrderWith given hs turns
   finished done = (r.xs, record { nodes = r.nodes; order = order; names = r.names }, r.turns_are)
     where
       order : (h : NodeHistory) → Contains hs h → history (key h.party) r.xs ≡ h.entries.now
@@ -211,48 +215,48 @@ module _ (hs : List NodeHistory) (places newest : List ℕ) (turns : List Turn) 
           (r.each i h here).before ∙ take_all (slice_index places i) h.entries.now (done i h here)
 
 -- an entry that cannot be taken
-pub early_one : (hs : List NodeHistory) (newest : List ℕ) (e : Entry) (n : Need) → IsNeed hs e n → slice_index newest n.sender < n.serial → IsEarly hs newest e
-early_one hs newest e n (OfPacket q delivers g) less = record {
+pub early_one : (given : List (List ℕ)) (hs : List NodeHistory) (newest : List ℕ) (e : Entry) (n : Need) → IsNeed given hs e n → slice_index newest n.sender < n.serial → IsEarly given hs newest e
+early_one given hs newest e n (OfPacket q asks g) less = record {
   packet = q;
-  delivers = delivers;
+  asks = asks;
   number = n.sender;
   sender = g.sender;
   here = g.here;
   same = g.same;
   later = let serial = g.serial_is in omega (arith, less, serial);
 }
-early_one hs newest e n (OfNothing none h here nothing) less = absurd (omega (arith, less, nothing))
+early_one given hs newest e n (OfNothing none h here nothing) less = absurd (omega (arith, less, nothing))
 
 -- so its history is stuck
-pub stuck_one : (hs : List NodeHistory) (places newest : List ℕ) (i : ℕ) (h : NodeHistory) (e : Entry) (n : Need) → slice_get hs i ≡ Some h → slice_get h.entries.now (slice_index places i) ≡ Some e → IsNeed hs e n →
-    slice_index newest n.sender < n.serial → IsStuck hs places newest i
-stuck_one hs places newest i h e n here at need less g f there is =
+pub stuck_one : (given : List (List ℕ)) (hs : List NodeHistory) (places newest : List ℕ) (i : ℕ) (h : NodeHistory) (e : Entry) (n : Need) → slice_get hs i ≡ Some h → slice_get h.entries.now (slice_index places i) ≡ Some e → IsNeed given hs e n →
+    slice_index newest n.sender < n.serial → IsStuck given hs places newest i
+stuck_one given hs places newest i h e n here at need less g f there is =
     let is_h : h ≡ g = some_same h g (sym here ∙ there) in
     let is_e : e ≡ f = some_same e f (sym at ∙ ap (λ (z : NodeHistory). slice_get z.entries.now (slice_index places i)) is_h ∙ is) in
-    subst (IsEarly hs newest) is_e (early_one hs newest e n need less)
+    subst (IsEarly given hs newest) is_e (early_one given hs newest e n need less)
 
 -- and so is one at its end
-pub end_stuck : (hs : List NodeHistory) (places newest : List ℕ) (i : ℕ) (h : NodeHistory) → slice_get hs i ≡ Some h → length h.entries.now ≤ slice_index places i → IsStuck hs places newest i
-end_stuck hs places newest i h here past g f there is =
+pub end_stuck : (given : List (List ℕ)) (hs : List NodeHistory) (places newest : List ℕ) (i : ℕ) (h : NodeHistory) → slice_get hs i ≡ Some h → length h.entries.now ≤ slice_index places i → IsStuck given hs places newest i
+end_stuck given hs places newest i h here past g f there is =
     let is_h : h ≡ g = some_same h g (sym here ∙ there) in
     let size = ap (λ (z : NodeHistory). length z.entries.now) is_h in
     let inside = got_within g.entries.now (slice_index places i) f is in
     absurd (omega (arith, past, inside, size))
 
 -- who sends what an entry waits for is one of the histories
-pub sender_within : (hs : List NodeHistory) (e : Entry) (n : Need) → IsNeed hs e n → n.sender < length hs
-sender_within hs e n (OfPacket q delivers g) = got_within hs n.sender g.sender g.here
-sender_within hs e n (OfNothing none h here nothing) = got_within hs n.sender h here
+pub sender_within : (given : List (List ℕ)) (hs : List NodeHistory) (e : Entry) (n : Need) → IsNeed given hs e n → n.sender < length hs
+sender_within given hs e n (OfPacket q asks g) = got_within hs n.sender g.sender g.here
+sender_within given hs e n (OfNothing none h here nothing) = got_within hs n.sender h here
 
-module _ (hs : List NodeHistory) (places newest : List ℕ) (turns : List Turn) (r : Reached hs places newest turns) (apart : AreApart hs) (numbered : AreNumbered hs) (c : ℕ) (h : NodeHistory)
-    (here : slice_get hs c ≡ Some h) (e : Entry) (at : slice_get h.entries.now (slice_index places c) ≡ Some e) (n : Need) (need : IsNeed hs e n) (ready : n.serial ≤ slice_index newest n.sender) where
+module _ (given : List (List ℕ)) (hs : List NodeHistory) (places newest : List ℕ) (turns : List Turn) (r : Reached given hs places newest turns) (apart : AreApart hs) (numbered : AreNumbered hs) (c : ℕ) (h : NodeHistory)
+    (here : slice_get hs c ≡ Some h) (e : Entry) (at : slice_get h.entries.now (slice_index places c) ≡ Some e) (n : Need) (need : IsNeed given hs e n) (ready : n.serial ≤ slice_index newest n.sender) where
   -- as it was read and written
   pub taken_as : (place before serial : ℕ) (after : List Turn) → slice_index places c ≡ place → slice_index newest c ≡ before → serial ≡ serial_in before (slice_get (packets_of e) (length (packets_of e) - 1)) →
-      after ≡ turns ++ record { history = c; entry = place } ∷ [] → Reached hs (slice_set places c (place + 1)) (slice_set newest c serial) after
+      after ≡ turns ++ record { history = c; entry = place } ∷ [] → Reached given hs (slice_set places c (place + 1)) (slice_set newest c serial) after
   taken_as place before serial after place_is before_is serial_is after_is =
       let number : serial_in (slice_index newest c) (slice_get (packets_of e) (length (packets_of e) - 1)) ≡ serial =
       ap (λ m. serial_in m (slice_get (packets_of e) (length (packets_of e) - 1))) before_is ∙ sym serial_is in
-      subst (λ l. Reached hs (slice_set places c (place + 1)) (slice_set newest c serial) l) (sym after_is)
-      (subst (λ m. Reached hs (slice_set places c (m + 1)) (slice_set newest c serial) (turns ++ record { history = c; entry = m } ∷ [])) place_is
-      (subst (λ m. Reached hs (slice_set places c (slice_index places c + 1)) (slice_set newest c m) (turns ++ record { history = c; entry = slice_index places c } ∷ [])) number
-      (taken hs places newest turns r apart numbered c h here e at n need ready)))
+      subst (λ l. Reached given hs (slice_set places c (place + 1)) (slice_set newest c serial) l) (sym after_is)
+      (subst (λ m. Reached given hs (slice_set places c (m + 1)) (slice_set newest c serial) (turns ++ record { history = c; entry = m } ∷ [])) place_is
+      (subst (λ m. Reached given hs (slice_set places c (slice_index places c + 1)) (slice_set newest c m) (turns ++ record { history = c; entry = slice_index places c } ∷ [])) number
+      (taken given hs places newest turns r apart numbered c h here e at n need ready)))

@@ -1,5 +1,5 @@
 -- What the next entry of each history waits for, as histories go on.
-use Rattle.std.proofs.Common.{◌≡◌, ◌≢◌, ◌⊎◌, ℕ, ◌+◌, ◌<◌, List, get_or, length, map, replicate, inl, inr, sym, ap, ◌∙◌, arith, length-set}
+use Rattle.std.proofs.Common.{◌≡◌, ◌≢◌, ◌⊎◌, ℕ, ◌+◌, ◌<◌, List, get_or, length, replicate, inl, inr, sym, ap, ◌∙◌, arith, length-set}
 use Rattle.std.specs.Prelude.{Option, None, Some, Vec, option_map, slice_get, slice_index, slice_set}
 use Rattle.std.proofs.lemmas.Bool.{cases_eq}
 use Rattle.std.proofs.lemmas.List.{length-map, get_or-set_other, get_or-set_same}
@@ -55,14 +55,14 @@ module _ {A : Type 0} (rows : List (Vec Need A)) where
             ∙ ap (λ k. Some (slice_get w.items k)) (sym (get_or-set_other places i j (place + 1) 0 apart))
 
 -- the next entry of a history, and that it waits for this
-pub record AtNext (hs : List NodeHistory) (places : List ℕ) (i : ℕ) (n : Need) : Type 0 where
+pub record AtNext (given : List (List ℕ)) (hs : List NodeHistory) (places : List ℕ) (i : ℕ) (n : Need) : Type 0 where
   pub history : NodeHistory
   pub entry : Entry
   pub here : slice_get hs i ≡ Some history
   pub at : slice_get history.entries.now (slice_index places i) ≡ Some entry
-  pub need : IsNeed hs entry n
+  pub need : IsNeed given hs entry n
 
-module _ {A : Type 0} (hs : List NodeHistory) (rows : List (Vec Need A)) (places : List ℕ) (waits : List (Option Need)) (all : AreAllNeeds hs (length hs) rows) (known : AreWaits rows places waits)
+module _ {A : Type 0} (given : List (List ℕ)) (hs : List NodeHistory) (rows : List (Vec Need A)) (places : List ℕ) (waits : List (Option Need)) (all : AreAllNeeds given hs (length hs) rows) (known : AreWaits rows places waits)
     (i : ℕ) (below : i < length hs) (o : Option Need) (read : o ≡ get_or waits i o) where
   row : (v : Vec Need A) × (slice_get rows i ≡ Some v)
   row = let size = all.size in stands rows i (omega (arith, size, below))
@@ -74,7 +74,7 @@ module _ {A : Type 0} (hs : List NodeHistory) (rows : List (Vec Need A)) (places
       some_same o (slice_get row.0.items (slice_index places i)) (sym (got_by waits i o (omega (arith, size, count, below)) read) ∙ known.each i row.0 row.1)
 
   -- there is no next entry
-  pub none_left : o ≡ None → (newest : List ℕ) → IsStuck hs places newest i
+  pub none_left : o ≡ None → (newest : List ℕ) → IsStuck given hs places newest i
   none_left none newest h e here at =
       let needs = all.each i row.0 row.1 h here in
       let size = needs.size in
@@ -84,7 +84,7 @@ module _ {A : Type 0} (hs : List NodeHistory) (rows : List (Vec Need A)) (places
       cc
 
   -- there is one
-  pub next_of : (n : Need) → o ≡ Some n → AtNext hs places i n
+  pub next_of : (n : Need) → o ≡ Some n → AtNext given hs places i n
   next_of n some =
       let (h, here) = stands hs i below in
       let needs = all.each i row.0 row.1 h here in

@@ -3,7 +3,7 @@ use Rattle.std.specs.Prelude.{◌≡◌, ◌<◌, ℕ, List, Some, slice_get}
 use Rattle.ocpi_types.specs.declared.packet.Packet.{Packet}
 use Rattle.histories.specs.declared.entry.Entry.{Entry}
 use Rattle.histories.specs.declared.history.NodeHistory.{NodeHistory}
-use Rattle.histories.specs.Causes.{AreAllGiven, IsBlock, IsDifferent, IsGiven, IsNeverSent, IsSentOtherwise, IsUnsent}
+use Rattle.histories.specs.Causes.{AreAllGiven, IsBlock, IsDifferent, IsGiven, IsNeverSent}
 use Rattle.histories.specs.Entries.{Delivers}
 use Rattle.weave.specs.declared.fault.WeaveFault.{WeaveFault}
 use Rattle.weave.specs.declared.fault.WeaveFault.TheVariants.{Differs, Memory, NeverSent, NoOrder}
@@ -34,24 +34,3 @@ Explains hs (NeverSent q) = IsNeverSent hs q × IsFirst hs q
 Explains hs (Differs q) = IsDifferent hs q × IsFirst hs q
 Explains hs (NoOrder front) = IsBlock hs front.items × AreAllGiven hs
 Explains hs Memory = Unit {0}
-
--- what is told of a packet that comes
-abbrev pub BlamesPacket : List NodeHistory → Packet → WeaveFault → Type 0
-BlamesPacket hs q (NeverSent r) = (r ≡ q) × IsUnsent hs q
-BlamesPacket hs q (Differs r) = (r ≡ q) × IsSentOtherwise hs q
-BlamesPacket hs q (NoOrder front) = ⊥
-BlamesPacket hs q Memory = Unit {0}
-
--- and of an entry
-abbrev pub Blames : List NodeHistory → Entry → WeaveFault → Type 0
-Blames hs e (NeverSent q) = Delivers e q × IsUnsent hs q
-Blames hs e (Differs q) = Delivers e q × IsSentOtherwise hs q
-Blames hs e (NoOrder front) = ⊥
-Blames hs e Memory = Unit {0}
-
--- and of a history
-abbrev pub BlamesIn : List NodeHistory → ℕ → WeaveFault → Type 0
-BlamesIn hs i (NeverSent q) = IsUnsent hs q × IsFirstIn hs i q
-BlamesIn hs i (Differs q) = IsSentOtherwise hs q × IsFirstIn hs i q
-BlamesIn hs i (NoOrder front) = ⊥
-BlamesIn hs i Memory = Unit {0}

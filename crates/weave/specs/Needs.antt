@@ -1,12 +1,13 @@
 -- The packets of each history by their serials, and what each entry waits for.
-use Rattle.std.specs.Prelude.{◌≡◌, ℕ, ◌+◌, List, [], Option, None, Some, Vec, length, map, slice_get}
+use Rattle.std.specs.Prelude.{◌≡◌, ℕ, ◌+◌, List, None, Some, Vec, length, map, slice_get}
 use Rattle.std.specs.Borrow.{Bor}
 use Rattle.ocpi_text.specs.Text.{key}
 use Rattle.ocpi_types.specs.declared.packet.Packet.{Packet}
 use Rattle.histories.specs.declared.entry.Entry.{Entry}
 use Rattle.histories.specs.declared.history.NodeHistory.{NodeHistory}
-use Rattle.histories.specs.Entries.{Delivers, sent}
+use Rattle.histories.specs.Entries.{sent}
 use Rattle.weave.specs.declared.needs.Need.{Need}
+use Rattle.weave.specs.Given.{Asks}
 
 abbrev pub now_of : List (Bor Packet) → List Packet
 now_of rs = map (λ (r : Bor Packet). r.now) rs
@@ -39,21 +40,21 @@ pub record IsGivenBy (hs : List NodeHistory) (n : Need) (q : Packet) : Type 0 wh
   pub serial_is : n.serial ≡ q.serial
   pub stands : StandsAt (sent sender.entries.now) q.serial q
 
--- what the entry waits for: the packet that it delivers; or nothing, where it delivers none
-pub data IsNeed (hs : List NodeHistory) (e : Entry) (n : Need) : Type 0 where
-  OfPacket : (q : Packet) → Delivers e q → IsGivenBy hs n q → IsNeed hs e n
-  OfNothing : ((q : Packet) → Delivers e q → ⊥) → (h : NodeHistory) → slice_get hs n.sender ≡ Some h → n.serial ≡ 0 → IsNeed hs e n
+-- what the entry waits for: the packet that it delivers; or nothing, where it delivers none, or one from a given party
+pub data IsNeed (given : List (List ℕ)) (hs : List NodeHistory) (e : Entry) (n : Need) : Type 0 where
+  OfPacket : (q : Packet) → Asks given e q → IsGivenBy hs n q → IsNeed given hs e n
+  OfNothing : ((q : Packet) → Asks given e q → ⊥) → (h : NodeHistory) → slice_get hs n.sender ≡ Some h → n.serial ≡ 0 → IsNeed given hs e n
 
 -- what each of these entries waits for
-pub record AreNeeds (hs : List NodeHistory) (es : List Entry) (ns : List Need) : Type 0 where
+pub record AreNeeds (given : List (List ℕ)) (hs : List NodeHistory) (es : List Entry) (ns : List Need) : Type 0 where
   pub size : length ns ≡ length es
-  pub each : (k : ℕ) (e : Entry) (n : Need) → slice_get es k ≡ Some e → slice_get ns k ≡ Some n → IsNeed hs e n
+  pub each : (k : ℕ) (e : Entry) (n : Need) → slice_get es k ≡ Some e → slice_get ns k ≡ Some n → IsNeed given hs e n
 
 -- what each entry of the history of that number waits for
-abbrev pub AreNeedsAt : {A : Type 0} → List NodeHistory → ℕ → Vec Need A → Type 0
-AreNeedsAt hs i v = (h : NodeHistory) → slice_get hs i ≡ Some h → AreNeeds hs h.entries.now v.items
+abbrev pub AreNeedsAt : {A : Type 0} → List (List ℕ) → List NodeHistory → ℕ → Vec Need A → Type 0
+AreNeedsAt given hs i v = (h : NodeHistory) → slice_get hs i ≡ Some h → AreNeeds given hs h.entries.now v.items
 
 -- a row for each of the first histories, of what each of its entries waits for
-pub record AreAllNeeds {A : Type 0} (hs : List NodeHistory) (count : ℕ) (rows : List (Vec Need A)) : Type 0 where
+pub record AreAllNeeds {A : Type 0} (given : List (List ℕ)) (hs : List NodeHistory) (count : ℕ) (rows : List (Vec Need A)) : Type 0 where
   pub size : length rows ≡ count
-  pub each : (i : ℕ) (v : Vec Need A) → slice_get rows i ≡ Some v → AreNeedsAt hs i v
+  pub each : (i : ℕ) (v : Vec Need A) → slice_get rows i ≡ Some v → AreNeedsAt given hs i v

@@ -5,8 +5,8 @@ use Rattle.weave.specs.declared.needs.Need.{Need}
 use Rattle.weave.specs.declared.weaving.Weaving.{Weaving}
 use Rattle.weave.specs.Reached.{IsStuck, Reached}
 
-abbrev pub IsReached : List NodeHistory → Weaving → Type 0
-IsReached hs w = Reached hs w.places.items w.newest.items w.turns.items
+abbrev pub IsReached : List (List ℕ) → List NodeHistory → Weaving → Type 0
+IsReached given hs w = Reached given hs w.places.items w.newest.items w.turns.items
 
 -- what the first entry of each row waits for
 abbrev pub AreFirst : {A : Type 0} → List (Vec Need A) → List (Option Need) → Type 0
@@ -17,15 +17,15 @@ pub record AreWaits {A : Type 0} (rows : List (Vec Need A)) (places : List ℕ) 
   pub size : length waits ≡ length rows
   pub each : (i : ℕ) (v : Vec Need A) → slice_get rows i ≡ Some v → slice_get waits i ≡ Some (slice_get v.items (slice_index places i))
 
-pub record IsUnderWay {A : Type 0} (hs : List NodeHistory) (rows : List (Vec Need A)) (w : Weaving) : Type 0 where
-  pub reached : IsReached hs w
+pub record IsUnderWay {A : Type 0} (given : List (List ℕ)) (hs : List NodeHistory) (rows : List (Vec Need A)) (w : Weaving) : Type 0 where
+  pub reached : IsReached given hs w
   pub waits : AreWaits rows w.places.items w.waits.items
 
-abbrev pub IsStuckAt : List NodeHistory → Weaving → ℕ → Type 0
-IsStuckAt hs w i = IsStuck hs w.places.items w.newest.items i
+abbrev pub IsStuckAt : List (List ℕ) → List NodeHistory → Weaving → ℕ → Type 0
+IsStuckAt given hs w i = IsStuck given hs w.places.items w.newest.items i
 
-abbrev pub AllStuck : List NodeHistory → Weaving → Type 0
-AllStuck hs w = (i : ℕ) → i < length hs → IsStuckAt hs w i
+abbrev pub AllStuck : List (List ℕ) → List NodeHistory → Weaving → Type 0
+AllStuck given hs w = (i : ℕ) → i < length hs → IsStuckAt given hs w i
 
 -- each history is at its end
 abbrev pub AreDone : List NodeHistory → Weaving → Type 0

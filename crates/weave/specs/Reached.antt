@@ -4,9 +4,10 @@ use Rattle.ocpi_text.specs.Text.{key}
 use Rattle.ocpi_types.specs.declared.packet.Packet.{Packet}
 use Rattle.histories.specs.declared.entry.Entry.{Entry}
 use Rattle.histories.specs.declared.history.NodeHistory.{NodeHistory}
-use Rattle.histories.specs.Entries.{Delivers, sent}
-use Rattle.histories.specs.Weaving.{IsWoven, Woven, history}
+use Rattle.histories.specs.Entries.{sent}
+use Rattle.histories.specs.Weaving.{Woven, history}
 use Rattle.weave.specs.declared.turn.Turn.{Turn}
+use Rattle.weave.specs.Given.{Asks, IsWovenWith}
 use Rattle.weave.specs.Turns.{AreTurns}
 
 -- how far one history is woven: to that place, and what it sent so far is numbered up to that serial
@@ -16,10 +17,10 @@ pub record IsWovenTo (h : NodeHistory) (place newest : ℕ) (xs : List Woven) : 
   pub newest_is : newest ≡ length (sent (history (key h.party) xs))
 
 -- the turns name the entries before these places, woven, and what each history sent last by them has these serials
-pub record Reached (hs : List NodeHistory) (places newest : List ℕ) (turns : List Turn) : Type 0 where
+pub record Reached (given : List (List ℕ)) (hs : List NodeHistory) (places newest : List ℕ) (turns : List Turn) : Type 0 where
   pub xs : List Woven
   pub nodes : (x : Woven) → Contains xs x → (h : NodeHistory) × Contains hs h × (h.party ≡ x.party)
-  pub names : IsWoven [] xs
+  pub names : IsWovenWith given [] xs
   pub turns_are : AreTurns hs turns xs
   pub place_each : length places ≡ length hs
   pub newest_each : length newest ≡ length hs
@@ -31,10 +32,10 @@ abbrev pub serial_in : ℕ → Option Packet → ℕ
 serial_in n None = n
 serial_in n (Some q) = q.serial
 
--- the entry cannot be taken: it delivers what its sender has still to give
-pub record IsEarly (hs : List NodeHistory) (newest : List ℕ) (e : Entry) : Type 0 where
+-- the entry cannot be taken: it delivers what its sender, which is not given, has still to give
+pub record IsEarly (given : List (List ℕ)) (hs : List NodeHistory) (newest : List ℕ) (e : Entry) : Type 0 where
   pub packet : Packet
-  pub delivers : Delivers e packet
+  pub asks : Asks given e packet
   pub number : ℕ
   pub sender : NodeHistory
   pub here : slice_get hs number ≡ Some sender
@@ -42,8 +43,8 @@ pub record IsEarly (hs : List NodeHistory) (newest : List ℕ) (e : Entry) : Typ
   pub later : slice_index newest number < packet.serial
 
 -- no entry of the history can be taken
-abbrev pub IsStuck : List NodeHistory → List ℕ → List ℕ → ℕ → Type 0
-IsStuck hs places newest i = (h : NodeHistory) (e : Entry) → slice_get hs i ≡ Some h → slice_get h.entries.now (slice_index places i) ≡ Some e → IsEarly hs newest e
+abbrev pub IsStuck : List (List ℕ) → List NodeHistory → List ℕ → List ℕ → ℕ → Type 0
+IsStuck given hs places newest i = (h : NodeHistory) (e : Entry) → slice_get hs i ≡ Some h → slice_get h.entries.now (slice_index places i) ≡ Some e → IsEarly given hs newest e
 
 abbrev pub entries_in : NodeHistory → ℕ
 entries_in h = length h.entries.now

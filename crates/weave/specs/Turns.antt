@@ -1,7 +1,8 @@
 -- An order of the entries of histories, in which each is named by its history and its place there.
-use Rattle.std.specs.Prelude.{◌≡◌, List, [], ◌∷◌, Some, slice_get}
+use Rattle.std.specs.Prelude.{◌≡◌, ℕ, List, [], ◌∷◌, Some, slice_get}
 use Rattle.histories.specs.declared.history.NodeHistory.{NodeHistory}
 use Rattle.histories.specs.Weaving.{Interleaves, Woven}
+use Rattle.weave.specs.Given.{InterleavesWith}
 use Rattle.weave.specs.declared.turn.Turn.{Turn}
 
 -- the turn names this entry of this party
@@ -21,3 +22,7 @@ AreTurns hs (t ∷ ts) (x ∷ xs) = IsTurn hs t x × AreTurns hs ts xs
 -- the turns name an interleaving of the whole histories
 abbrev pub IsOrder : List NodeHistory → List Turn → Type 0
 IsOrder hs turns = (xs : List Woven) × Interleaves hs xs × AreTurns hs turns xs
+
+-- and one in which what given parties sent is taken as it came
+abbrev pub IsOrderWith : List (List ℕ) → List NodeHistory → List Turn → Type 0
+IsOrderWith given hs turns = (xs : List Woven) × InterleavesWith given hs xs × AreTurns hs turns xs

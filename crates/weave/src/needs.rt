@@ -1,16 +1,19 @@
-//! What each entry waits for, and the first that waits for what was never sent.
+//! What each entry waits for, and the first that waits for what was never sent. What given parties sent is waited for by
+//! none.
 
-ghost use Rattle.std.specs.Prelude.{◌≡◌, ◌⊎◌, ◌<◌, IfErr, IfNone, IfOk, IfSome, Contains, length, Some as SomeOf, slice_get};
+ghost use Rattle.std.specs.Prelude.{◌≡◌, ◌<◌, IfErr, IfNone, IfOk, IfSome, IsTrue, Contains, false, length, Some as SomeOf, slice_get};
 ghost use Rattle.ocpi_text.specs.Text.{key};
 ghost use Rattle.ocpi_types.specs.declared.packet.Packet.{Packet as PacketOf};
+ghost use Rattle.histories.specs.declared.entry.Entry.{Entry as EntryOf};
 ghost use Rattle.histories.specs.declared.history.NodeHistory.{NodeHistory as HistoryOf};
-ghost use Rattle.histories.specs.Entries.{Delivers};
+ghost use Rattle.histories.specs.Entries.{Delivers, sent};
 ghost use Rattle.histories.specs.Weaving.{AreApart, AreNumbered};
-ghost use Rattle.weave.specs.declared.fault.WeaveFault.TheVariants.{Differs as OfDiffers, Memory as OfMemory, NeverSent as OfNeverSent};
-ghost use Rattle.weave.specs.Faults.{Blames, BlamesIn, BlamesPacket, Explains};
+ghost use Rattle.weave.specs.Given.{Asks, IsFrom};
 ghost use Rattle.weave.specs.Needs.{AreAllNeeds, AreNeedsAt, IsGivenBy, IsMissing, IsNeed, IsTable, StandsAt, now_of, row_of, sent_in};
+ghost use Rattle.weave.specs.TurnFaults.{Blames, BlamesIn, BlamesPacket, BlamesTurn, ExplainsTurns};
 
-use crate::fault::WeaveFault;
+use crate::turn::Turn;
+use crate::turn_fault::TurnFault;
 use histories::{Entry, NodeHistory};
 use ocpi_text::Party;
 use ocpi_types::{NodeEventKind, Packet};
@@ -23,6 +26,15 @@ pub struct Need {
     /// The number of the sender's history.
     pub sender: usize,
     pub serial: u64,
+}
+
+/// Why what a packet waits for never comes.
+#[derive(Clone, Copy)]
+pub enum Gap {
+    /// No history has sent a packet of its sender and serial.
+    NeverSent,
+    /// That history has sent another of that serial.
+    Differs(Need),
 }
 
 /// All packets of a history, in order.
@@ -90,49 +102,29 @@ fn packet_at<'a>(row: &[&'a Packet], serial: u64) -> Option<&'a Packet>
     Some(row[serial as usize - 1])
 }
 
-/// What is told of a packet that was never sent.
-fn never_sent(packet: &Packet) -> WeaveFault
-    ensures { (result ≡ OfNeverSent packet.now) ⊎ (result ≡ OfMemory) }
-{
-    match packet.copy() {
-        Ok(packet) => WeaveFault::NeverSent(packet),
-        Err(_) => WeaveFault::Memory,
-    }
-}
-
-/// What is told of a packet that was sent otherwise.
-fn differs(packet: &Packet) -> WeaveFault
-    ensures { (result ≡ OfDiffers packet.now) ⊎ (result ≡ OfMemory) }
-{
-    match packet.copy() {
-        Ok(packet) => WeaveFault::Differs(packet),
-        Err(_) => WeaveFault::Memory,
-    }
-}
-
 /// That a packet which comes was sent by its sender, whose history has that number.
 fn need_of_sender(
     histories: &[NodeHistory<'_>],
     table: &[Vec<&Packet>],
     packet: &Packet,
     sender: usize,
-) -> Result<Need, WeaveFault>
+) -> Result<Need, Gap>
     requires table { IsTable histories.now table.now }
     requires apart { AreApart histories.now }
     requires numbered { AreNumbered histories.now }
     requires in_range { sender < length table.now }
     requires sender { (h : HistoryOf) × (slice_get histories.now sender ≡ SomeOf h) × (key h.party ≡ key packet.now.from) }
     ensures need { IfOk result (λ n. IsGivenBy histories.now n packet.now) }
-    ensures fault { IfErr result (λ f. BlamesPacket histories.now packet.now f) }
+    ensures gap { IfErr result (λ g. BlamesPacket histories.now packet.now g) }
 {
     let serial = packet.serial.value();
     match packet_at(table[sender].as_slice(), serial) {
-        None => Err(never_sent(packet)),
+        None => Err(Gap::NeverSent),
         Some(given) => {
             if is_equal_packet(given, packet) {
                 Ok(Need { sender, serial })
             } else {
-                Err(differs(packet))
+                Err(Gap::Differs(Need { sender, serial }))
             }
         }
     }
@@ -144,21 +136,34 @@ fn need_of_packet(
     table: &[Vec<&Packet>],
     packet: &Packet,
     guess: usize,
-) -> Result<Need, WeaveFault>
+) -> Result<Need, Gap>
     requires table { IsTable histories.now table.now }
     requires apart { AreApart histories.now }
     requires numbered { AreNumbered histories.now }
     ensures need { IfOk result (λ n. IsGivenBy histories.now n packet.now) }
-    ensures fault { IfErr result (λ f. BlamesPacket histories.now packet.now f) }
+    ensures gap { IfErr result (λ g. BlamesPacket histories.now packet.now g) }
 {
     match sender_of(histories, &packet.from, guess) {
-        None => Err(never_sent(packet)),
+        None => Err(Gap::NeverSent),
         Some(sender) => need_of_sender(histories, table, packet, sender),
     }
 }
 
+/// Whether a packet is from one of these parties, in whichever case.
+pub fn is_from(given: &[Party], packet: &Packet) -> bool
+    ensures yes { IsTrue result → IsFrom given.now packet.now }
+    ensures no { result ≡ false → IsFrom given.now packet.now → ⊥ }
+{
+    for party in given {
+        if party.is_same(&packet.from) {
+            return true;
+        }
+    }
+    false
+}
+
 /// The packet that an entry delivers.
-fn delivered(entry: &Entry) -> Option<&Packet>
+pub fn delivered(entry: &Entry) -> Option<&Packet>
     ensures found { IfSome result (λ q. Delivers entry.now q.now) }
     ensures none { IfNone result ((q : PacketOf) → Delivers entry.now q → ⊥) }
 {
@@ -175,22 +180,40 @@ fn delivered(entry: &Entry) -> Option<&Packet>
     }
 }
 
+/// The packet that an entry delivers, where it is from no given party.
+fn asked<'a>(given: &[Party], entry: &'a Entry) -> Option<&'a Packet>
+    ensures found { IfSome result (λ q. Asks given.now entry.now q.now) }
+    ensures none { IfNone result ((q : PacketOf) → Asks given.now entry.now q → ⊥) }
+{
+    match delivered(entry) {
+        Some(packet) => {
+            if is_from(given, packet) {
+                None
+            } else {
+                Some(packet)
+            }
+        }
+        None => None,
+    }
+}
+
 /// What an entry of the history of that number waits for. `guess`: whose packet it may deliver.
 fn need_of(
     histories: &[NodeHistory<'_>],
+    given: &[Party],
     table: &[Vec<&Packet>],
     entry: &Entry,
     number: usize,
     guess: usize,
-) -> Result<Need, WeaveFault>
+) -> Result<Need, Gap>
     requires table { IsTable histories.now table.now }
     requires apart { AreApart histories.now }
     requires numbered { AreNumbered histories.now }
     requires in_range { number < length histories.now }
-    ensures need { IfOk result (λ n. IsNeed histories.now entry.now n) }
-    ensures fault { IfErr result (λ f. Blames histories.now entry.now f) }
+    ensures need { IfOk result (λ n. IsNeed given.now histories.now entry.now n) }
+    ensures gap { IfErr result (λ g. Blames given.now histories.now entry.now g) }
 {
-    match delivered(entry) {
+    match asked(given, entry) {
         Some(packet) => need_of_packet(histories, table, packet, guess),
         None => Ok(Need {
             sender: number,
@@ -199,26 +222,70 @@ fn need_of(
     }
 }
 
+/// The place of the entry that sent the packet at a position of all that entries sent, from 0.
+fn sending_entry(entries: &[Entry], position: usize) -> usize
+    requires { position < length (sent entries.now) }
+    ensures { (e : EntryOf) × (q : PacketOf) × (slice_get entries.now result ≡ SomeOf e) × Contains e.packets q × (slice_get (sent entries.now) position ≡ SomeOf q) }
+{
+    let mut left = position;
+    for (place, entry) in entries.iter().enumerate() {
+        let count = entry.packets.as_slice().len();
+        if left < count {
+            return place;
+        }
+        left -= count;
+    }
+    0
+}
+
+/// What is told of an entry that delivers a packet for which there is such a gap.
+fn gap_fault(histories: &[NodeHistory<'_>], came: Turn, gap: Gap) -> TurnFault
+    requires { (q : PacketOf) × BlamesPacket histories.now q gap }
+    ensures { (q : PacketOf) → BlamesPacket histories.now q gap → BlamesTurn histories.now came q result }
+{
+    match gap {
+        Gap::NeverSent => TurnFault::NeverSent(came),
+        Gap::Differs(need) => {
+            let entries = histories[need.sender].entries;
+            let sent_by = Turn {
+                history: need.sender,
+                entry: sending_entry(entries, need.serial as usize - 1),
+            };
+            TurnFault::Differs(came, sent_by)
+        }
+    }
+}
+
 /// What each entry of the history of that number waits for.
 fn needs_of(
     alloc: Global,
     histories: &[NodeHistory<'_>],
+    given: &[Party],
     table: &[Vec<&Packet>],
     entries: &[Entry],
     number: usize,
-) -> Result<Vec<Need>, WeaveFault>
+) -> Result<Vec<Need>, TurnFault>
     requires table { IsTable histories.now table.now }
     requires apart { AreApart histories.now }
     requires numbered { AreNumbered histories.now }
     requires in_range { number < length histories.now }
     requires entries { (h : HistoryOf) × (slice_get histories.now number ≡ SomeOf h) × (h.entries.now ≡ entries.now) }
-    ensures needs { IfOk result (λ v. AreNeedsAt histories.now number v) }
-    ensures fault { IfErr result (λ f. BlamesIn histories.now number f) }
+    ensures needs { IfOk result (λ v. AreNeedsAt given.now histories.now number v) }
+    ensures fault { IfErr result (λ f. BlamesIn given.now histories.now number f) }
 {
     let mut needs = Vec::new(alloc);
     let mut guess = number;
-    for entry in entries {
-        let need = need_of(histories, table, entry, number, guess)?;
+    for (place, entry) in entries.iter().enumerate() {
+        let need = match need_of(histories, given, table, entry, number, guess) {
+            Ok(need) => need,
+            Err(gap) => {
+                let came = Turn {
+                    history: number,
+                    entry: place,
+                };
+                return Err(gap_fault(histories, came, gap));
+            }
+        };
         if need.serial > 0 {
             guess = need.sender;
         }
@@ -231,31 +298,36 @@ fn needs_of(
 fn needs_over(
     alloc: Global,
     histories: &[NodeHistory<'_>],
+    given: &[Party],
     table: &[Vec<&Packet>],
-) -> Result<Vec<Vec<Need>>, WeaveFault>
+) -> Result<Vec<Vec<Need>>, TurnFault>
     requires table { IsTable histories.now table.now }
     requires apart { AreApart histories.now }
     requires numbered { AreNumbered histories.now }
-    ensures needs { IfOk result (λ rows. AreAllNeeds histories.now (length histories.now) rows.items) }
-    ensures fault { IfErr result (λ f. Explains histories.now f) }
+    ensures needs { IfOk result (λ rows. AreAllNeeds given.now histories.now (length histories.now) rows.items) }
+    ensures fault { IfErr result (λ f. ExplainsTurns given.now histories.now f) }
 {
     let mut rows = Vec::new(alloc);
     for number in 0..histories.len() {
         let entries = histories[number].entries;
-        let row = needs_of(alloc, histories, table, entries, number)?;
+        let row = needs_of(alloc, histories, given, table, entries, number)?;
         rows.push(row)?;
     }
     Ok(rows)
 }
 
-/// What each entry of each history waits for; or the first packet that came, in the order of the histories and of their
-/// entries, and was not sent so.
-pub fn all_needs(alloc: Global, histories: &[NodeHistory<'_>]) -> Result<Vec<Vec<Need>>, WeaveFault>
+/// What each entry of each history waits for; or the first that delivers a packet, from no given party, which was not
+/// sent so, in the order of the histories and of their entries.
+pub fn all_needs(
+    alloc: Global,
+    histories: &[NodeHistory<'_>],
+    given: &[Party],
+) -> Result<Vec<Vec<Need>>, TurnFault>
     requires apart { AreApart histories.now }
     requires numbered { AreNumbered histories.now }
-    ensures needs { IfOk result (λ rows. AreAllNeeds histories.now (length histories.now) rows.items) }
-    ensures fault { IfErr result (λ f. Explains histories.now f) }
+    ensures needs { IfOk result (λ rows. AreAllNeeds given.now histories.now (length histories.now) rows.items) }
+    ensures fault { IfErr result (λ f. ExplainsTurns given.now histories.now f) }
 {
     let table = table_of(alloc, histories)?;
-    needs_over(alloc, histories, &table)
+    needs_over(alloc, histories, given, &table)
 }

@@ -1,20 +1,21 @@
 //! The weaving of histories: entries are placed while some history has one that can be placed.
 
-ghost use Rattle.std.specs.Prelude.{◌≡◌, ◌+◌, ◌<◌, ◌≤◌, ◌-◌, IfErr, IfOk, OnOk, Some as SomeOf, length, slice_get};
+ghost use Rattle.std.specs.Prelude.{◌≡◌, ◌+◌, ◌<◌, ◌≤◌, ◌-◌, ℕ, IfErr, IfOk, List, OnOk, Some as SomeOf, length, slice_get};
 ghost use Rattle.std.specs.Bool.{OnFalse, OnTrue};
 ghost use Rattle.histories.specs.declared.entry.Entry.{Entry as EntryOf};
 ghost use Rattle.histories.specs.Causes.{HasMore};
 ghost use Rattle.histories.specs.Weaving.{AreApart, AreNumbered};
-ghost use Rattle.weave.specs.Faults.{Explains};
 ghost use Rattle.weave.specs.Needs.{AreAllNeeds};
 ghost use Rattle.weave.specs.Progress.{AllStuck, AreDone, AreFirst, IsReached, IsStuckAt, IsUnderWay};
 ghost use Rattle.weave.specs.Reached.{serial_in};
-ghost use Rattle.weave.specs.Turns.{IsOrder};
+ghost use Rattle.weave.specs.TurnFaults.{ExplainsTurns};
+ghost use Rattle.weave.specs.Turns.{IsOrderWith};
 
-use crate::fault::WeaveFault;
 use crate::needs::Need;
 use crate::turn::Turn;
+use crate::turn_fault::TurnFault;
 use histories::{Entry, NodeHistory};
+use ocpi_text::Party;
 use ocpi_types::Packet;
 use std::alloc::{AllocError, Global};
 
@@ -56,10 +57,11 @@ fn first_waits(alloc: Global, needs: &[Vec<Need>]) -> Result<Vec<Option<Need>>, 
 fn start(
     alloc: Global,
     histories: &[NodeHistory<'_>],
+    _given: &[Party],
     needs: &[Vec<Need>],
 ) -> Result<Weaving, AllocError>
     requires { length needs.now ≡ length histories.now }
-    ensures { IfOk result (λ w. IsUnderWay histories.now needs.now w) }
+    ensures { IfOk result (λ w. IsUnderWay _given.now histories.now needs.now w) }
 {
     let places = vec![in alloc; 0; histories.len()]?;
     let newest = vec![in alloc; 0; histories.len()]?;
@@ -93,6 +95,7 @@ fn packets_at(entries: &[Entry], place: usize) -> &[Packet]
 /// Places the next entry of a history, where it has one and what this waits for was sent before.
 fn take_entry(
     histories: &[NodeHistory<'_>],
+    _given: &[Party],
     needs: &[Vec<Need>],
     weaving: &mut Weaving,
     i: usize,
@@ -100,11 +103,11 @@ fn take_entry(
     requires in_range { i < length histories.now }
     requires apart { AreApart histories.now }
     requires numbered { AreNumbered histories.now }
-    requires needs { AreAllNeeds histories.now (length histories.now) needs.now }
-    requires under_way { IsUnderWay histories.now needs.now weaving.old }
-    ensures under_way { OnOk result (IsUnderWay histories.now needs.now weaving.new) }
+    requires needs { AreAllNeeds _given.now histories.now (length histories.now) needs.now }
+    requires under_way { IsUnderWay _given.now histories.now needs.now weaving.old }
+    ensures under_way { OnOk result (IsUnderWay _given.now histories.now needs.now weaving.new) }
     ensures taken { IfOk result (λ b. OnTrue b (length weaving.new.turns.items ≡ length weaving.old.turns.items + 1)) }
-    ensures stuck { IfOk result (λ b. OnFalse b ((weaving.new ≡ weaving.old) × IsStuckAt histories.now weaving.old i)) }
+    ensures stuck { IfOk result (λ b. OnFalse b ((weaving.new ≡ weaving.old) × IsStuckAt _given.now histories.now weaving.old i)) }
 {
     let need = match weaving.waits[i] {
         None => return Ok(false),
@@ -128,20 +131,21 @@ fn take_entry(
 /// Goes once over the histories, and places what entries of each it can. Tells whether there were any.
 fn sweep(
     histories: &[NodeHistory<'_>],
+    given: &[Party],
     needs: &[Vec<Need>],
     weaving: &mut Weaving,
 ) -> Result<bool, AllocError>
     requires apart { AreApart histories.now }
     requires numbered { AreNumbered histories.now }
-    requires needs { AreAllNeeds histories.now (length histories.now) needs.now }
-    requires under_way { IsUnderWay histories.now needs.now weaving.old }
-    ensures under_way { OnOk result (IsUnderWay histories.now needs.now weaving.new) }
+    requires needs { AreAllNeeds given.now histories.now (length histories.now) needs.now }
+    requires under_way { IsUnderWay given.now histories.now needs.now weaving.old }
+    ensures under_way { OnOk result (IsUnderWay given.now histories.now needs.now weaving.new) }
     ensures moved { IfOk result (λ b. OnTrue b (length weaving.old.turns.items < length weaving.new.turns.items)) }
-    ensures stuck { IfOk result (λ b. OnFalse b (AllStuck histories.now weaving.new)) }
+    ensures stuck { IfOk result (λ b. OnFalse b (AllStuck given.now histories.now weaving.new)) }
 {
     let mut moved = false;
     for i in 0..histories.len() {
-        while take_entry(histories, needs, weaving, i)? {
+        while take_entry(histories, given, needs, weaving, i)? {
             moved = true;
         }
     }
@@ -150,7 +154,7 @@ fn sweep(
 
 /// All entries are placed.
 fn is_done(histories: &[NodeHistory<'_>], weaving: &Weaving) -> bool
-    requires { IsReached histories.now weaving.now }
+    requires { (given : List (List ℕ)) × IsReached given histories.now weaving.now }
     ensures done { OnTrue result (AreDone histories.now weaving.now) }
     ensures more { OnFalse result (HasMore histories.now weaving.now.places.items) }
 {
@@ -166,19 +170,20 @@ fn is_done(histories: &[NodeHistory<'_>], weaving: &Weaving) -> bool
 pub fn order(
     alloc: Global,
     histories: &[NodeHistory<'_>],
+    given: &[Party],
     needs: &[Vec<Need>],
-) -> Result<Vec<Turn>, WeaveFault>
+) -> Result<Vec<Turn>, TurnFault>
     requires apart { AreApart histories.now }
     requires numbered { AreNumbered histories.now }
-    requires needs { AreAllNeeds histories.now (length histories.now) needs.now }
-    ensures order { IfOk result (λ turns. IsOrder histories.now turns.items) }
-    ensures fault { IfErr result (λ f. Explains histories.now f) }
+    requires needs { AreAllNeeds given.now histories.now (length histories.now) needs.now }
+    ensures order { IfOk result (λ turns. IsOrderWith given.now histories.now turns.items) }
+    ensures fault { IfErr result (λ f. ExplainsTurns given.now histories.now f) }
 {
-    let mut weaving = start(alloc, histories, needs)?;
-    while sweep(histories, needs, &mut weaving)? {}
+    let mut weaving = start(alloc, histories, given, needs)?;
+    while sweep(histories, given, needs, &mut weaving)? {}
     if is_done(histories, &weaving) {
         Ok(weaving.turns)
     } else {
-        Err(WeaveFault::NoOrder(weaving.places))
+        Err(TurnFault::NoOrder(weaving.places))
     }
 }

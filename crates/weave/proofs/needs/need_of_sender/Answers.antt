@@ -1,18 +1,18 @@
-use Rattle.std.proofs.Common.{◌≡◌, sym, ap, subst, ◌∙◌, arith, refl}
+use Rattle.std.proofs.Common.{◌≡◌, sym, ap, subst, ◌∙◌, arith}
 use Rattle.weave.specs.Needs.{IsMissing, StandsAt, now_of, sent_in}
-use Rattle.weave.proofs.Needing.{row_is, sent_otherwise, told_otherwise, told_unsent, unsent}
+use Rattle.weave.specs.TurnFaults.{IsGivenOtherwise}
+use Rattle.weave.proofs.Needing.{given_otherwise, row_is, unsent}
 use Rattle.weave.proofs.Places.{got_by}
 use Rattle.weave.proofs.needs.need_of_sender.Goals as goal
 
-pub returns-in-None-clause-fault : goal.returns-in-None-clause-fault
-returns-in-None-clause-fault c =
+pub returns-in-None-clause-gap : goal.returns-in-None-clause-gap
+returns-in-None-clause-gap c =
     let (h, here, same) = c.requires.sender in
     let at = got_by c.args.table.now c.args.sender c.index-table-sender.result (omega arith) c.index-table-sender.is in
     let row = row_is c.args.histories.now c.args.table.now c.requires.table c.args.sender h c.index-table-sender.result here at in
     let is : now_of c.as_slice.result.now ≡ sent_in h = ap now_of c.as_slice.ensures.value ∙ row in
-    told_unsent c.args.histories.now c.args.packet.now c.never_sent.result c.never_sent.ensures
-    (unsent c.args.histories.now c.requires.apart c.requires.numbered c.args.packet.now c.args.sender h here same
-    (subst (λ l. IsMissing l c.args.packet.now.serial) is (subst (IsMissing (now_of c.as_slice.result.now)) c.value-serial.ensures.value c.in-None.ensures.none)))
+    unsent c.args.histories.now c.requires.apart c.requires.numbered c.args.packet.now c.args.sender h here same
+    (subst (λ l. IsMissing l c.args.packet.now.serial) is (subst (IsMissing (now_of c.as_slice.result.now)) c.value-serial.ensures.value c.in-None.ensures.none))
 
 pub returns-then-is_equal_packet-clause-need : goal.returns-then-is_equal_packet-clause-need
 returns-then-is_equal_packet-clause-need c =
@@ -29,13 +29,13 @@ returns-then-is_equal_packet-clause-need c =
       stands = subst (StandsAt (sent_in h) c.args.packet.now.serial) (c.is_equal_packet.ensures.0 c.if-is_equal_packet.true) found;
     }
 
-pub returns-else-is_equal_packet-clause-fault : goal.returns-else-is_equal_packet-clause-fault
-returns-else-is_equal_packet-clause-fault c =
+pub returns-else-is_equal_packet-clause-gap : goal.returns-else-is_equal_packet-clause-gap
+returns-else-is_equal_packet-clause-gap c =
     let (h, here, same) = c.requires.sender in
     let at = got_by c.args.table.now c.args.sender c.index-table-sender.result (omega arith) c.index-table-sender.is in
     let row = row_is c.args.histories.now c.args.table.now c.requires.table c.args.sender h c.index-table-sender.result here at in
     let is : now_of c.as_slice.result.now ≡ sent_in h = ap now_of c.as_slice.ensures.value ∙ row in
     let found = subst (λ l. StandsAt l c.args.packet.now.serial c.in-Some.given.now) is (subst (λ n. StandsAt (now_of c.as_slice.result.now) n c.in-Some.given.now) c.value-serial.ensures.value c.in-Some.ensures.found) in
-    told_otherwise c.args.histories.now c.args.packet.now c.differs.result c.differs.ensures
-    (sent_otherwise c.args.histories.now c.requires.apart c.requires.numbered c.args.packet.now c.args.sender h c.in-Some.given.now here same found
+    subst (λ n. IsGivenOtherwise c.args.histories.now (record { sender = c.args.sender; serial = n }) c.args.packet.now) (sym c.value-serial.ensures.value)
+    (given_otherwise c.args.histories.now c.requires.apart c.requires.numbered c.args.packet.now c.args.sender h c.in-Some.given.now here same found
     (λ e. let yes = c.is_equal_packet.ensures.1 e in let no = c.if-is_equal_packet.false in cc))

@@ -1,5 +1,4 @@
 use Rattle.std.proofs.Common.{take, sym, ap, subst, ◌∙◌, ◌+◌, arith, take_all}
-use Rattle.std.proofs.lemmas.Result.{err_from_is_err_and}
 use Rattle.histories.specs.declared.history.NodeHistory.{NodeHistory}
 use Rattle.histories.proofs.Lists.{some_same}
 use Rattle.weave.specs.Needs.{AreNeeds}
@@ -7,21 +6,21 @@ use Rattle.weave.proofs.Needing.{blamed_in, needs_push}
 use Rattle.weave.proofs.Places.{got_by}
 use Rattle.weave.proofs.needs.needs_of.Goals as goal
 
-pub returns-in_err-need-clause-fault : goal.returns-in_err-need-clause-fault
-returns-in_err-need-clause-fault c =
-    let p = err_from_is_err_and c.from_residual.result c.from_residual.ensures.1 in
+pub returns-in-Err-clause-fault : goal.returns-in-Err-clause-fault
+returns-in-Err-clause-fault c =
     let (h, here, is) = c.requires.entries in
-    let at = got_by c.args.entries.now c.loop-entry.entry-index c.entry-item.result (omega arith) c.entry-item.is in
-    rw (p.1, p.2) (blamed_in c.args.histories.now c.args.entries.now c.loop-entry.entry-index c.loop-entry.needs.items c.loop-entry.invariant c.args.number h c.entry-item.result c.in_err-need.field-0.0 here is at c.in_err-need.ensures.fault)
+    let at = got_by c.args.entries.now c.loop-place.place c.index-entries-place.result (omega arith) c.index-entries-place.is in
+    blamed_in c.args.given.now c.args.histories.now c.args.entries.now c.loop-place.place c.loop-place.needs.items c.loop-place.invariant c.args.number h c.index-entries-place.result c.in-Err.gap c.gap_fault.result here is at
+    c.in-Err.ensures.gap c.gap_fault.ensures
 
-pub loop-entry-preserved : goal.loop-entry-preserved
-loop-entry-preserved c =
-    let at = got_by c.args.entries.now c.loop-entry.entry-index c.entry-item.result (omega arith) c.entry-item.is in
-    subst (AreNeeds c.args.histories.now (take (c.loop-entry.entry-index + 1) c.args.entries.now)) (sym c.in_ok-push.ensures.items)
-    (needs_push c.args.histories.now c.args.entries.now c.loop-entry.entry-index c.loop-entry.needs.items c.loop-entry.invariant c.entry-item.result c.in_ok-need.need at c.in_ok-need.ensures.need)
+pub loop-place-preserved : goal.loop-place-preserved
+loop-place-preserved c =
+    let at = got_by c.args.entries.now c.loop-place.place c.index-entries-place.result (omega arith) c.index-entries-place.is in
+    subst (AreNeeds c.args.given.now c.args.histories.now (take (c.loop-place.place + 1) c.args.entries.now)) (sym c.in_ok-push.ensures.items)
+    (needs_push c.args.given.now c.args.histories.now c.args.entries.now c.loop-place.place c.loop-place.needs.items c.loop-place.invariant c.index-entries-place.result c.in-Ok.need at c.in-Ok.ensures.need)
 
 pub returns-clause-needs : goal.returns-clause-needs
 returns-clause-needs c = λ h at.
     let (g, here, is) = c.requires.entries in
-    let whole = take_all c.loop-entry.entry-index c.args.entries.now (omega arith) ∙ sym is ∙ ap (λ (z : NodeHistory). z.entries.now) (some_same g h (sym here ∙ at)) in
-    subst (λ l. AreNeeds c.args.histories.now l c.loop-entry.needs.items) whole c.loop-entry.invariant
+    let whole = take_all c.loop-place.place c.args.entries.now (omega arith) ∙ sym is ∙ ap (λ (z : NodeHistory). z.entries.now) (some_same g h (sym here ∙ at)) in
+    subst (λ l. AreNeeds c.args.given.now c.args.histories.now l c.loop-place.needs.items) whole c.loop-place.invariant

@@ -6,7 +6,7 @@ use Rattle.weave.proofs.weaving.sweep.Goals as goal
 pub loop-moved-smaller : goal.loop-moved-smaller
 loop-moved-smaller c =
     let more = on_true _ _ c.in_ok-take_entry.ensures.taken c.if-branch.true in
-    fewer c.args.histories.now c.loop-moved.weaving c.take_entry.new.weaving c.in_ok-take_entry.ensures.under_way.reached (omega (arith, more))
+    fewer c.args.given.now c.args.histories.now c.loop-moved.weaving c.take_entry.new.weaving c.in_ok-take_entry.ensures.under_way.reached (omega (arith, more))
 
 pub loop-i-preserved : goal.loop-i-preserved
 loop-i-preserved c =
@@ -15,5 +15,5 @@ loop-i-preserved c =
       under_way = c.in_ok-take_entry.ensures.under_way;
       grown = subst (λ w. length c.args.weaving.now.turns.items ≤ length w.turns.items) (sym same) c.loop-moved.invariant.grown;
       moved = subst (λ w. OnTrue c.loop-moved.moved (length c.args.weaving.now.turns.items < length w.turns.items)) (sym same) c.loop-moved.invariant.moved;
-      stuck = stuck_on c.args.histories.now c.loop-moved.moved c.loop-moved.weaving c.take_entry.new.weaving c.loop-i.i same c.loop-moved.invariant.stuck here;
+      stuck = stuck_on c.args.given.now c.args.histories.now c.loop-moved.moved c.loop-moved.weaving c.take_entry.new.weaving c.loop-i.i same c.loop-moved.invariant.stuck here;
     }

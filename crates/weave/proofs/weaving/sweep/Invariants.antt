@@ -6,10 +6,10 @@ use Rattle.weave.proofs.weaving.sweep.Given as goal
 
 abbrev pub invariant-loop-moved : goal.invariant-loop-moved
 invariant-loop-moved l = record {
-  under_way : IsUnderWay l.histories l.needs l.weaving;
+  under_way : IsUnderWay l.given l.histories l.needs l.weaving;
   grown : length l.fn.weaving.turns.items ≤ length l.weaving.turns.items;
   moved : OnTrue l.moved (length l.fn.weaving.turns.items < length l.weaving.turns.items);
-  stuck : OnFalse l.moved ((k : ℕ) → k < l.i → IsStuckAt l.histories l.weaving k);
+  stuck : OnFalse l.moved ((k : ℕ) → k < l.i → IsStuckAt l.given l.histories l.weaving k);
 }
 
 abbrev pub decreases-loop-moved : goal.decreases-loop-moved
@@ -17,8 +17,8 @@ decreases-loop-moved l = total l.histories - length l.weaving.turns.items
 
 abbrev pub invariant-loop-i : goal.invariant-loop-i
 invariant-loop-i l = record {
-  under_way : IsUnderWay l.histories l.needs l.weaving;
+  under_way : IsUnderWay l.given l.histories l.needs l.weaving;
   grown : length l.fn.weaving.turns.items ≤ length l.weaving.turns.items;
   moved : OnTrue l.moved (length l.fn.weaving.turns.items < length l.weaving.turns.items);
-  stuck : OnFalse l.moved ((k : ℕ) → k < l.i → IsStuckAt l.histories l.weaving k);
+  stuck : OnFalse l.moved ((k : ℕ) → k < l.i → IsStuckAt l.given l.histories l.weaving k);
 }

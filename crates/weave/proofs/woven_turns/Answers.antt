@@ -1,0 +1,5 @@
+use Rattle.weave.proofs.Telling.{order_of}
+use Rattle.weave.proofs.woven_turns.Goals as goal
+
+pub returns-in-Ok-clause-order : goal.returns-in-Ok-clause-order
+returns-in-Ok-clause-order c = order_of c.args.histories.now c.in-Ok.turns.items c.in-Ok.ensures.order
