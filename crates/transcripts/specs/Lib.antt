@@ -1,3 +1,4 @@
 pub mod LineEvents
 pub mod Told
 pub mod Following
+pub mod Covering
