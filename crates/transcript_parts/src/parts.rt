@@ -37,7 +37,8 @@ fn shows_first(kind: &LineKind, why: JsonFault) -> bool
     ensures { (line : List ℕ) (l : Line) (ls : List Line) → setup_in line ≡ Err why → IsKind l kind.now → (IsTrue result ↔ StandsFirst line (l ∷ ls)) }
 {
     match kind {
-        LineKind::RunWithoutLines | LineKind::Setup => true,
+        LineKind::RunWithoutLines => true,
+        LineKind::Setup => true,
         LineKind::Tells(told) => match (told.event, told.done) {
             (None, Done::Malformed(fault)) => is_told(fault, why),
             _ => false,
