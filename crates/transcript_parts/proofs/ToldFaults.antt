@@ -1,5 +1,5 @@
 -- Faults that are told, and those of a line that is no setup.
-use Rattle.std.proofs.Common.{◌≡◌, ◌↔◌, ◌⊎◌, inl, inr, ◌∙◌, ℕ, Bool, IsTrue, true, false, List, Option, Some, Result, Ok, Err, refl, ap, sym, subst}
+use Rattle.std.proofs.Common.{◌≡◌, ◌↔◌, ◌⊎◌, inl, inr, ◌∙◌, ℕ, Bool, IsTrue, false, List, Option, Some, Result, Ok, Err, refl, ap, sym, subst}
 use Rattle.std.specs.Option.{option_eq}
 use Rattle.std.specs.Prelude.{IfOk}
 use Rattle.json_text.specs.Fault.{Fails, Read}
@@ -72,6 +72,7 @@ fits_refused line why told refused = (fits, told_fits)
     fits : FitsFirst line told → (told ≡ Some why) ⊎ (told ≡ Some Memory)
     fits (inl (other, is, e)) = inl (e ∙ ap (λ w. Some w) (same_refusal line other why is refused))
     fits (inr memory) = inr memory
+
     told_fits : (told ≡ Some why) ⊎ (told ≡ Some Memory) → FitsFirst line told
     told_fits (inl e) = inl (why, refused, e)
     told_fits (inr memory) = inr memory

@@ -1,10 +1,9 @@
 -- What one line is, it is alone; so what stands behind an echoed line, and with it a part, is read in one way.
-use Rattle.std.proofs.Common.{◌≡◌, ◌↔◌, ◌⊎◌, inl, inr, ◌∙◌, ℕ, Bool, IsTrue, true, false, List, [], ◌∷◌, Option, Some, None, Ok, Err, refl, ap, sym, subst}
+use Rattle.std.proofs.Common.{◌≡◌, ◌↔◌, ◌⊎◌, ◌∙◌, ℕ, Bool, IsTrue, true, List, [], ◌∷◌, Option, Some, None, Err, refl, ap, sym, subst}
 use Rattle.json_text.specs.declared.fault.JsonFault.{JsonFault}
 use Rattle.json_text.specs.declared.fault.JsonFault.TheVariants.{Memory}
 use Rattle.ocpi_json.specs.SetupForms.{setup_in}
 use Rattle.ocpi_types.specs.declared.packet.Packet.{Packet}
-use Rattle.ocpi_types.specs.declared.setup.Node.{Node}
 use Rattle.transcript_lines.specs.declared.done.Done.{Done}
 use Rattle.transcript_lines.specs.declared.done.Done.TheVariants.{Malformed}
 use Rattle.transcript_lines.specs.declared.done.DoneLine.{DoneLine}
@@ -12,7 +11,7 @@ use Rattle.transcript_parts.specs.declared.line_kinds.LineKind.{LineKind}
 use Rattle.transcript_parts.specs.declared.line_kinds.LineKind.TheVariants as kind
 use Rattle.transcript_parts.specs.LineReads.{LineRead}
 use Rattle.transcript_parts.specs.Lines.{Line}
-use Rattle.transcript_parts.specs.Parts.{AtDone, AtEnd, AtEvent, AtLast, AtRun, BeforeEnd, BeforeNoLines, BeforeRefusal, BeforeSetup, BeginsRun, Ends, FitsFirst, IsAnswer, IsEnding, IsKind, IsOther, IsPacketLine, IsPart, IsSetupLine, NoneSent, OfNoLines, OfRefused, OfSetup, OneSent, PartsAreUnique, Sends, StandsFirst, TellsDone}
+use Rattle.transcript_parts.specs.Parts.{AtDone, AtEnd, AtEvent, AtLast, AtRun, BeforeNoLines, BeforeRefusal, BeforeSetup, BeginsRun, Ends, FitsFirst, IsAnswer, IsEnding, IsKind, IsOther, IsPacketLine, NoneSent, OfNoLines, OfRefused, OfSetup, OneSent, PartsAreUnique, Sends, StandsFirst, TellsDone}
 use Rattle.transcript_parts.specs.declared.line_read.EventAnswer.{EventAnswer}
 use Rattle.transcript_parts.specs.declared.line_read.Ending.{Ending}
 use Rattle.transcript_parts.specs.declared.line_read.Ending.TheVariants.{Answered}
@@ -81,6 +80,7 @@ malformed_shows line l ls d told why b refused tells same at is = (shows, shown)
     shows : IsTrue b → StandsFirst line (l ∷ ls)
     shows true_is =
         BeforeRefusal told (subst (λ e. TellsDone l (Malformed told) e) at (subst (λ x. TellsDone l x d.event) same tells)) ((fits_refused line why told refused).1 (is.0 true_is))
+
     shown : StandsFirst line (l ∷ ls) → IsTrue b
     shown first =
         let (other, was, none, fits) = shown_by_done line l ls d.done d.event tells first in
@@ -171,9 +171,8 @@ same_part lines rest more p q is that =
     let line : p.line ≡ q.line = cc whole in
     let behind : is.behind ≡ that.behind = cc whole in
     let ends : Ends is.behind q.answers q.packets q.ending more = subst (λ b. Ends b q.answers q.packets q.ending more) (sym behind) that.ends in
-    let (answers, packets, last, leaves) = same_ends is.behind rest more p.answers q.answers p.packets q.packets p.ending q.ending is.ends ends in
-    (
+    let (answers, packets, last, leaves) = same_ends is.behind rest more p.answers q.answers p.packets q.packets p.ending q.ending is.ends ends in (
       ap (λ x. read_of x p.answers p.packets p.ending) line ∙ ap (λ x. read_of q.line x p.packets p.ending) answers ∙ ap (λ x. read_of q.line q.answers x p.ending) packets
-      ∙ ap (λ x. read_of q.line q.answers q.packets x) last,
+          ∙ ap (λ x. read_of q.line q.answers q.packets x) last,
       leaves,
     )

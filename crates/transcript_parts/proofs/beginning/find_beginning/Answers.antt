@@ -18,7 +18,7 @@ pub returns-in-Ok-Some-opening_line-clause-found : goal.returns-in-Ok-Some-openi
 returns-in-Ok-Some-opening_line-clause-found c =
     let part = subst (λ o. IfSome o (λ p. IsPart c.loop-part.lines p c.next_part.new.lines)) c.in-Ok-Some.field-0-is c.in-Ok-Some.ensures.some in
     let (opens, is) = subst (λ o. MatchOption o (IsNoRun c.in-Ok-Some.part) (λ l. Opens c.in-Ok-Some.part × (line_of l ≡ c.in-Ok-Some.part.line))) c.in-Ok-Some-opening_line.field-0-is
-        c.in-Ok-Some-opening_line.ensures.is in
+    c.in-Ok-Some-opening_line.ensures.is in
     found_at (lines_in c.args.text.now) c.loop-part.lines c.in-Ok-Some.part c.next_part.new.lines c.in-Ok-Some-opening_line.line c.beginning_at.result c.loop-part.invariant part opens is
     c.beginning_at.ensures.is
 
@@ -26,7 +26,7 @@ pub returns-in-Ok-Some-opening_line-clause-none : goal.returns-in-Ok-Some-openin
 returns-in-Ok-Some-opening_line-clause-none c =
     let part = subst (λ o. IfSome o (λ p. IsPart c.loop-part.lines p c.next_part.new.lines)) c.in-Ok-Some.field-0-is c.in-Ok-Some.ensures.some in
     let (opens, is) = subst (λ o. MatchOption o (IsNoRun c.in-Ok-Some.part) (λ l. Opens c.in-Ok-Some.part × (line_of l ≡ c.in-Ok-Some.part.line))) c.in-Ok-Some-opening_line.field-0-is
-        c.in-Ok-Some-opening_line.ensures.is in
+    c.in-Ok-Some-opening_line.ensures.is in
     none_at (lines_in c.args.text.now) c.loop-part.lines c.in-Ok-Some.part c.next_part.new.lines c.in-Ok-Some-opening_line.line c.beginning_at.result c.loop-part.invariant part opens is
     c.beginning_at.ensures.refused
 
@@ -40,5 +40,5 @@ pub loop-part-preserved : goal.loop-part-preserved
 loop-part-preserved c =
     let part = subst (λ o. IfSome o (λ p. IsPart c.loop-part.lines p c.next_part.new.lines)) c.in-Ok-Some.field-0-is c.in-Ok-Some.ensures.some in
     let passed = subst (λ o. MatchOption o (IsNoRun c.in-Ok-Some.part) (λ l. Opens c.in-Ok-Some.part × (line_of l ≡ c.in-Ok-Some.part.line))) c.in-Ok-None-opening_line.field-0-is
-        c.in-Ok-None-opening_line.ensures.is in
+    c.in-Ok-None-opening_line.ensures.is in
     passed_more (lines_in c.args.text.now) c.loop-part.lines c.in-Ok-Some.part c.next_part.new.lines c.loop-part.invariant part passed

@@ -1,4 +1,4 @@
-use Rattle.std.proofs.Common.{◌≡◌, Some, true, inl, refl, sym, ◌∙◌}
+use Rattle.std.proofs.Common.{◌≡◌, Some, inl, sym, ◌∙◌}
 use Rattle.transcript_parts.proofs.ToldFaults.{told_faults}
 use Rattle.transcript_parts.proofs.first_lines.is_told.Goals as goal
 
