@@ -2,3 +2,4 @@ pub mod LineEvents
 pub mod Told
 pub mod Following
 pub mod Covering
+pub mod Exact
