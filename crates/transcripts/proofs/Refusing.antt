@@ -66,12 +66,15 @@ refused_event (Err e) line told why fails is other = tt
 -- ---- what is told of a line that was refused
 
 -- memory may run out for one that is no setup, and no array
-pub starves : (line : List ℕ) (none list : Bool) → (IsTrue none ↔ ((why : JsonFault) × (setup_in line ≡ Err why))) → (IsTrue list ↔ IsListLine line) → (may : Bool)
-    → (IsTrue may ↔ (IsTrue none × (IsTrue list → ⊥))) → IsTrue may ↔ MayStarve line
-starves line none list is_none is_list may both = (
-  (λ yes. let setup = is_none.0 (both.0 yes).0 in record { fault = setup.0; no_setup = setup.1; no_list = λ is. (both.0 yes).1 (is_list.1 is) }),
-  (λ may_starve. both.1 (is_none.1 (may_starve.fault, may_starve.no_setup), λ yes. may_starve.no_list (is_list.0 yes))),
+pub starves : (line : List ℕ) (none list out : Bool) → (IsTrue none ↔ ((why : JsonFault) × (setup_in line ≡ Err why))) → (IsTrue list ↔ IsListLine line) → IsTrue none
+    → (IsTrue out ↔ (IsTrue list → ⊥)) → IsTrue out ↔ MayStarve line
+starves line none list out is_none is_list so other = (
+  (λ yes. let setup = is_none.0 so in record { fault = setup.0; no_setup = setup.1; no_list = λ is. other.0 yes (is_list.1 is) }),
+  (λ may. other.1 (λ yes. may.no_list (is_list.0 yes))),
 )
+
+pub starves_not : (line : List ℕ) (none : Bool) → (IsTrue none ↔ ((why : JsonFault) × (setup_in line ≡ Err why))) → (IsTrue none → ⊥) → IsTrue false ↔ MayStarve line
+starves_not line none is_none no = ((λ yes. absurd (cc)), (λ may. absurd (no (is_none.1 (may.fault, may.no_setup)))))
 
 -- it fits the line as an event where the line is refused so, or where memory may have run out for it
 pub fits_refused : (line : List ℕ) (told : Option JsonFault) (refused : Bool) → (IsTrue refused ↔ IsRefusedEvent line told) → IsTrue refused → IsTrue true ↔ FitsEvent line told
