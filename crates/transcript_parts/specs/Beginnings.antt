@@ -1,5 +1,5 @@
 -- Where a file's first run is opened, and what may stand before that.
-use Rattle.std.specs.Prelude.{◌≡◌, ℕ, List, Ok}
+use Rattle.std.specs.Prelude.{◌≡◌, ◌⊎◌, ℕ, List, [], ◌∷◌, Ok}
 use Rattle.ocpi_types.specs.declared.setup.Node.{Node}
 use Rattle.ocpi_json.specs.SetupForms.{setup_in}
 use Rattle.transcript_lines.specs.declared.done.Done.TheVariants as done
@@ -15,6 +15,10 @@ use Rattle.transcript_parts.specs.declared.line_read.Ending.TheVariants.{Answere
 -- the end says that a run was opened, and this of its node
 abbrev pub TellsOpened : Ending → Opened → Type 0
 TellsOpened end o = end ≡ Answered (done.Opened o.party o.rows o.serial) o.number
+
+-- a run was opened behind the part
+abbrev pub Opens : LineRead → Type 0
+Opens p = (o : Opened) × TellsOpened p.ending o
 
 -- what the end says of a line where no run is open: it was refused as the first one of a run, or a stop left it
 abbrev pub FitsNoRun : List ℕ → Ending → Type 0
@@ -45,3 +49,51 @@ Accuses (fault.Wrong n) = Unit {0}
 Accuses (fault.NotARun n) = Unit {0}
 Accuses (fault.TooManyWays n) = ⊥
 Accuses fault.Memory = ⊥
+
+-- ---- which fault it is
+
+-- one of the lines has the number
+abbrev pub HasNumber : List Line → ℕ → Type 0
+HasNumber [] n = ⊥
+HasNumber (l ∷ ls) n = (l.number ≡ n) ⊎ HasNumber ls n
+
+-- one of these lines is no line of a transcript, or memory ran out
+abbrev pub IsWrongIn : List Line → TranscriptFault → Type 0
+IsWrongIn lines (fault.Wrong n) = HasNumber lines n
+IsWrongIn lines (fault.NotARun n) = ⊥
+IsWrongIn lines (fault.TooManyWays n) = ⊥
+IsWrongIn lines fault.Memory = Unit {0}
+
+-- the line of that number was answered otherwise, or memory ran out
+abbrev pub IsNotARun : ℕ → TranscriptFault → Type 0
+IsNotARun at (fault.Wrong n) = ⊥
+IsNotARun at (fault.NotARun n) = n ≡ at
+IsNotARun at (fault.TooManyWays n) = ⊥
+IsNotARun at fault.Memory = Unit {0}
+
+-- what became of a line, and it was not refused as a line
+abbrev pub TellsOther : Ending → Type 0
+TellsOther (Answered (done.Malformed told) at) = ⊥
+TellsOther (Answered (done.Refused fault) at) = Unit {0}
+TellsOther (Answered done.Skipped at) = Unit {0}
+TellsOther (Answered done.Idle at) = Unit {0}
+TellsOther (Answered (done.Stepped n) at) = Unit {0}
+TellsOther (Answered (done.Opened party rows serial) at) = Unit {0}
+TellsOther (Answered (done.All n) at) = Unit {0}
+TellsOther NextRun = ⊥
+TellsOther FileEnd = ⊥
+
+-- why a part is not passed over where no run is open: another end than those that may stand there is told of its line as
+-- one that no transcript has; else the line was answered otherwise
+abbrev pub IsNotPassed : LineRead → TranscriptFault → Type 0
+IsNotPassed p (fault.Wrong n) = (n ≡ p.line.number) × TellsOther p.ending
+IsNotPassed p (fault.NotARun n) = (n ≡ p.line.number) × (TellsOther p.ending → ⊥)
+IsNotPassed p (fault.TooManyWays n) = ⊥
+IsNotPassed p fault.Memory = Unit {0}
+
+-- the fault is not that more histories fit than are followed
+abbrev pub IsOfOneWay : TranscriptFault → Type 0
+IsOfOneWay (fault.Wrong n) = Unit {0}
+IsOfOneWay (fault.NotARun n) = Unit {0}
+IsOfOneWay (fault.TooManyWays n) = ⊥
+IsOfOneWay fault.Memory = Unit {0}

@@ -12,6 +12,8 @@ use Rattle.transcript_lines.specs.declared.done.Done.TheVariants.{Malformed}
 use Rattle.transcript_lines.specs.declared.done.DoneLine.{DoneLine}
 use Rattle.transcript_parts.specs.LineReads.{LineRead}
 use Rattle.transcript_parts.specs.Lines.{Line}
+use Rattle.transcript_parts.specs.declared.line_kinds.LineKind.{LineKind}
+use Rattle.transcript_parts.specs.declared.line_kinds.LineKind.TheVariants as kind
 use Rattle.transcript_parts.specs.declared.parts.Behind.{Behind}
 use Rattle.transcript_parts.specs.declared.parts.Behind.TheVariants as behind
 use Rattle.transcript_parts.specs.declared.line_read.EventAnswer.{EventAnswer}
@@ -37,6 +39,14 @@ pub record IsOther (l : Line) : Type 0 where
 -- it is a setup
 abbrev pub IsSetupLine : Line → List Node → Type 0
 IsSetupLine l setup = IsOther l × (setup_in l.bytes ≡ Ok setup)
+
+-- what it is wherever it stands: one of these, and one alone
+abbrev pub IsKind : Line → LineKind → Type 0
+IsKind l kind.RunWithoutLines = l.bytes ≡ run_without_lines
+IsKind l (kind.Tells d) = TellsDone l d.done d.event
+IsKind l (kind.Packet q) = IsPacketLine l q
+IsKind l kind.Setup = (setup : List Node) × IsSetupLine l setup
+IsKind l (kind.Other why) = IsOther l × (setup_in l.bytes ≡ Err why)
 
 -- ---- the first line of a run
 
@@ -89,6 +99,14 @@ pub record IsPart (lines : List Line) (p : LineRead) (rest : List Line) : Type 0
   pub begin : lines ≡ p.line ∷ behind
   pub ends : Ends behind p.answers p.packets p.ending rest
 
+-- the lines begin with no part
+abbrev pub HasNoPart : List Line → Type 0
+HasNoPart lines = (p : LineRead) (rest : List Line) → IsPart lines p rest → ⊥
+
+-- nor has what stands behind an echoed line an end
+abbrev pub HasNoEnd : List Line → Type 0
+HasNoEnd lines = (told : List EventAnswer) (qs : List Packet) (end : Ending) (rest : List Line) → Ends lines told qs end rest → ⊥
+
 -- no lines begin with two different parts
 abbrev pub PartsAreUnique : Type 0
 PartsAreUnique = (lines rest more : List Line) (p q : LineRead) → IsPart lines p rest → IsPart lines q more → (p ≡ q) × (rest ≡ more)
@@ -101,3 +119,7 @@ IsBehind l others (behind.Packet q) = IsPacketLine l q
 IsBehind l others (behind.Event d place) = TellsDone l d (Some place)
 IsBehind l others (behind.Done d) = TellsDone l d None
 IsBehind l others behind.NextRun = BeginsRun l others
+
+-- it is nothing that may stand there
+abbrev pub IsNothing : Line → List Line → Type 0
+IsNothing l others = (b : Behind) → IsBehind l others b → ⊥
