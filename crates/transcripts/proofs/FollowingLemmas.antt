@@ -47,6 +47,20 @@ goes_on_keeps setup earlier old None new e k = subst (Kept setup earlier) (sym e
 goes_on_keeps setup earlier old (Some u) new (inl e) k = subst (Kept setup earlier) (sym e) k
 goes_on_keeps setup earlier old (Some u) new (inr done) k = subst (Kept setup earlier) (sym done.starts) (come_keeps setup earlier _ old u.events _ done.between done.come k)
 
+-- it is the same member of it
+happens_member : (old : Told) (e : LineEvent) (end : Ending) (packets : List Packet) (changed : Bool) (new : Told) → Gives old e end packets changed new → new.replay.member ≡ old.replay.member
+happens_member old e end packets changed new (inl h) = h.enters.member
+happens_member old e end packets changed new (inr stays) = ap (λ (t : Told). t.replay.member) stays.same
+
+come_member : (p : LineRead) (old : Told) (es : List LineEvent) (changed : Bool) (new : Told) → ComeInTurn p old es changed new → new.replay.member ≡ old.replay.member
+come_member p old es changed new NoneYet = refl
+come_member p old es changed new (OneMore e before gives so) = happens_member _ e _ _ _ new gives ∙ come_member p old _ _ _ before
+
+pub goes_on_member : (old : Told) (left : Option LineEvents) (new : Told) → GoesOn old left new → new.replay.member ≡ old.replay.member
+goes_on_member old None new is = ap (λ (t : Told). t.replay.member) is
+goes_on_member old (Some h) new (inl is) = ap (λ (t : Told). t.replay.member) is
+goes_on_member old (Some h) new (inr carried) = ap (λ (t : Told). t.replay.member) carried.starts ∙ come_member _ old h.events _ carried.between carried.come
+
 abbrev pub KeptBy : List Node → List Told → Option Told → Type 0
 KeptBy setup earlier None = Unit {0}
 KeptBy setup earlier (Some t) = Kept setup earlier t
