@@ -50,13 +50,14 @@ one_more setup earlier all lines rest s p t before is (Later r) = absurd (cc (be
 one_more setup earlier all lines rest s p t before is (Came x) = absurd (cc (before.outside, x.within))
 one_more setup earlier all lines rest s p t before is (Passed nothing x) = inr (passed setup all lines rest s p t before is nothing x)
 
+behind : (setup : List Node) (earlier : List Told) (all lines rest : List Line) (s : Standing) (p : LineRead) (t : Standing) → HasBeginning setup all ⊎ IsBefore setup all lines s → IsPart lines p rest
+    → Follows setup earlier s p t → HasBeginning setup all ⊎ IsBefore setup all rest t
+behind setup earlier all lines rest s p t (inl begins) is follows = inl begins
+behind setup earlier all lines rest s p t (inr before) is follows = one_more setup earlier all lines rest s p t before is follows
+
 so_far : (setup : List Node) (earlier : List Told) (all lines : List Line) (s : Standing) → ReadTo setup earlier all lines s → HasBeginning setup all ⊎ IsBefore setup all lines s
 so_far setup earlier all lines s Start = inr (record { outside = refl; none = refl; begins = λ line begins. begins })
-so_far setup earlier all lines s (More p before is follows) = of (so_far setup earlier all _ _ before)
-  where
-    of : HasBeginning setup all ⊎ IsBefore setup all _ _ → HasBeginning setup all ⊎ IsBefore setup all lines s
-    of (inl begins) = inl begins
-    of (inr yet) = one_more setup earlier all _ lines _ p s yet is follows
+so_far setup earlier all lines s (More p before is follows) = behind setup earlier all _ lines _ p s (so_far setup earlier all _ _ before) is follows
 
 pub transcripts_have_beginnings : TranscriptsHaveBeginnings
 transcripts_have_beginnings setup earlier text t (end, reads, told) = of (so_far setup earlier (lines_in text) [] end reads)
