@@ -3,17 +3,18 @@ use Rattle.std.proofs.Common.{◌≡◌, ◌⊎◌, inl, inr, Bool, true, List, 
 use Rattle.std.proofs.lemmas.List.Elements.{Contains-append_left, Contains-push, Contains-push_cases}
 use Rattle.std.proofs.lemmas.List.Sorted.{Contains-permutation}
 use Rattle.std.specs.Prelude.{Contains, IsPermutation, map}
-use Rattle.node_replay.specs.Replayed.{Replay, started_again}
+use Rattle.node_replay.specs.Replayed.{started_again}
+use Rattle.ocpi_types.specs.declared.node_events.NodeEvent.{NodeEvent}
 use Rattle.transcript_parts.specs.LineReads.{LineRead}
 use Rattle.transcript_parts.specs.Lines.{Line, line_of}
 use Rattle.transcript_parts.specs.declared.first_lines.Opened.{Opened}
 use Rattle.transcript_parts.specs.declared.line_read.Ending.TheVariants.{NextRun}
 use Rattle.transcripts.specs.Covering.{ComesTo, GoesTo, HasWay, IsSameLine, LosesNone, LosesNoneByRun}
-use Rattle.transcripts.specs.Exact.{AddsEach, CarriedOutAs, ComeAs, GoesOnAs}
+use Rattle.transcripts.specs.Exact.{AddsEach, CarriedOutAs, ComeAs, GoesOnAs, HoldsOnly, IsFound, OnlyCome, WouldChange}
 use Rattle.transcripts.specs.Following.{CarriedOut, ComeInTurn, ComeWithoutChoice, GoesOn, GoesOnWithoutChoice, StandsAt, restarted, unanswered_line}
 use Rattle.transcripts.specs.LineEvents.{LineEvent, LineEvents, event_at}
 use Rattle.transcripts.specs.Told.{Told}
-use Rattle.transcripts.proofs.StandingLemmas.{stands_alike}
+use Rattle.transcripts.proofs.OnlyLemmas.{line_changes_nothing}
 
 -- ---- ways that are there
 
@@ -118,6 +119,34 @@ came_out way h t c = record { old = c.old; same = c.same; events = c.line.events
     both : IsBoth (unanswered_line h.line)
     both = subst IsBoth one_line (c.carried.come, c.forced)
 
+-- and so it is found that it came there, and changed a row
+carried_found : (way : Told) (h : LineEvents) (es : List LineEvent) (p : LineRead) (found : Option Bool) (now : Told) → es ≡ h.events → p ≡ unanswered_line h.line → OnlyCome way es p found now
+    → (t : Told) (c : CarriedOutAs way h t) → IsFound found now true c.carried.between
+carried_found way h es p found now events line only t c =
+    only true c.carried.between (subst (λ xs. ComeAs way xs p true c.carried.between) (sym events)
+    (subst (λ q. ComeAs way h.events q true c.carried.between) (sym line) (came_out way h t c)))
+
+pub carried_starts : (way : Told) (h : LineEvents) (es : List LineEvent) (p : LineRead) (found : Option Bool) (now : Told) → es ≡ h.events → p ≡ unanswered_line h.line → OnlyCome way es p found now
+    → (t : Told) → CarriedOutAs way h t → started_again now.replay ≡ t.replay
+carried_starts way h es p found now events line only t c = of found (carried_found way h es p found now events line only t c)
+  where
+    of : (o : Option Bool) → IsFound o now true c.carried.between → started_again now.replay ≡ t.replay
+    of None is = absurd is
+    of (Some b) is = ap started_again is.1 ∙ ap (λ (u : Told). u.replay) (sym c.carried.starts)
+
+pub not_carried : (way : Told) (h : LineEvents) (es : List LineEvent) (p : LineRead) (found : Option Bool) (now : Told) → es ≡ h.events → p ≡ unanswered_line h.line → OnlyCome way es p found now
+    → (found ≡ Some true → ⊥) → (t : Told) → CarriedOutAs way h t → ⊥
+not_carried way h es p found now events line only other t c = of found other (carried_found way h es p found now events line only t c)
+  where
+    of : (o : Option Bool) → (o ≡ Some true → ⊥) → IsFound o now true c.carried.between → ⊥
+    of None no is = is
+    of (Some b) no is = no (ap Some is.0)
+
+-- a line of just one event, which would change no row, was not carried out
+pub changes_none : (way : Told) (h : LineEvents) (x : NodeEvent) → HoldsOnly h x → WouldChange way x false → (t : Told) → CarriedOutAs way h t → ⊥
+changes_none way h x holds would t c =
+    line_changes_nothing way h.events (record { text = h.line; event = Ok x }) (unanswered_line h.line) x c.carried.between holds refl would (came_out way h t c)
+
 -- with no line that was left open a way starts again
 pub goes_on_alone : (way t : Told) → GoesOnAs way None t → started_again way.replay ≡ t.replay
 goes_on_alone way t g = by g.line g.alike g.goes_on
@@ -137,3 +166,20 @@ goes_on_with way h t g = by g.line g.alike g.goes_on g.forced
     by : (line : Option LineEvents) → IsSameLine (Some h) line → (on : GoesOn g.old line t) → GoesOnWithoutChoice g.old line t on → CarriedOutAs way h t ⊎ (started_again way.replay ≡ t.replay)
     by None alike on forced = absurd alike
     by (Some l) alike on forced = of l alike on forced
+
+-- where it was not carried out, the way starts again
+pub goes_on_without : (way : Told) (h : LineEvents) (t : Told) → ((u : Told) → CarriedOutAs way h u → ⊥) → GoesOnAs way (Some h) t → started_again way.replay ≡ t.replay
+goes_on_without way h t none g = by (goes_on_with way h t g)
+  where
+    by : CarriedOutAs way h t ⊎ (started_again way.replay ≡ t.replay) → started_again way.replay ≡ t.replay
+    by (inl carried) = absurd (none t carried)
+    by (inr is) = is
+
+-- and else it goes on by either
+pub goes_on_by_either : (way without : Told) (h : LineEvents) (t : Told) (S : Type 0) → without.replay ≡ started_again way.replay → GoesOnAs way (Some h) t → S
+    → (CarriedOutAs way h t × S) ⊎ ((without.replay ≡ t.replay) × S)
+goes_on_by_either way without h t S again g stands = by (goes_on_with way h t g)
+  where
+    by : CarriedOutAs way h t ⊎ (started_again way.replay ≡ t.replay) → (CarriedOutAs way h t × S) ⊎ ((without.replay ≡ t.replay) × S)
+    by (inl carried) = inl (carried, stands)
+    by (inr is) = inr (again ∙ is, stands)

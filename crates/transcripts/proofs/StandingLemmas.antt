@@ -21,26 +21,27 @@ use Rattle.world_steps.specs.World.{NodeState, Operates, Provides}
 
 -- ---- lists with the same elements, each once
 
--- a list in which an element stands is what stands before it, that, and what stands behind it
-parts_at : {X : Type 0} (ys : List X) (x : X) → Contains ys x → (front : List X) × (back : List X) × (ys ≡ front ++ x ∷ back)
-parts_at [] x among = absurd (in_none x among)
-parts_at (y ∷ ys) x among = by (Contains-append_cases (y ∷ []) ys x among)
-  where
-    by : Contains (y ∷ []) x ⊎ Contains ys x → (front : List _) × (back : List _) × (y ∷ ys ≡ front ++ x ∷ back)
-    by (inl here) = ([], ys, ap (λ z. z ∷ ys) (in_single y x here))
-    by (inr later) = let (front, back, is) = parts_at ys x later in (y ∷ front, back, ap (λ l. y ∷ l) is)
+module _ {X : Type 0} where
+  -- a list in which an element stands is what stands before it, that, and what stands behind it
+  parts_at : (ys : List X) (x : X) → Contains ys x → (front : List X) × (back : List X) × (ys ≡ front ++ x ∷ back)
+  parts_at [] x among = absurd (in_none x among)
+  parts_at (y ∷ ys) x among = by (Contains-append_cases (y ∷ []) ys x among)
+    where
+      by : Contains (y ∷ []) x ⊎ Contains ys x → (front : List X) × (back : List X) × (y ∷ ys ≡ front ++ x ∷ back)
+      by (inl here) = ([], ys, ap (λ z. z ∷ ys) (in_single y x here))
+      by (inr later) = let (front, back, is) = parts_at ys x later in (y ∷ front, back, ap (λ l. y ∷ l) is)
 
--- another element stands before or behind it
-others_at : {X : Type 0} (front back : List X) (x z : X) → x ≢ z → Contains (front ++ x ∷ back) z → Contains (front ++ back) z
-others_at front back x z other among = by (Contains-append_cases front (x ∷ back) z among)
-  where
-    of : Contains (x ∷ []) z ⊎ Contains back z → Contains (front ++ back) z
-    of (inl here) = absurd (other (in_single x z here))
-    of (inr behind) = Contains-append_right front back z behind
+  -- another element stands before or behind it
+  others_at : (front back : List X) (x z : X) → x ≢ z → Contains (front ++ x ∷ back) z → Contains (front ++ back) z
+  others_at front back x z other among = by (Contains-append_cases front (x ∷ back) z among)
+    where
+      of : Contains (x ∷ []) z ⊎ Contains back z → Contains (front ++ back) z
+      of (inl here) = absurd (other (in_single x z here))
+      of (inr behind) = Contains-append_right front back z behind
 
-    by : Contains front z ⊎ Contains (x ∷ back) z → Contains (front ++ back) z
-    by (inl before) = Contains-append_left front back z before
-    by (inr from) = of (Contains-append_cases (x ∷ []) back z from)
+      by : Contains front z ⊎ Contains (x ∷ back) z → Contains (front ++ back) z
+      by (inl before) = Contains-append_left front back z before
+      by (inr from) = of (Contains-append_cases (x ∷ []) back z from)
 
 module _ {X K : Type 0} (key_at : X → K) where
   -- one whose elements stand under keys of their own, and in the other, is no longer

@@ -95,7 +95,8 @@ fn push_carried_out<'a>(
     let part = LineRead::unanswered(alloc, left.line());
     match come_in_turn(&mut way, left.events(), &part) {
         Ok(Some(true)) => push_restarted(way, opened, ways),
-        Ok(_) => Ok(()),
+        Ok(Some(false)) => Ok(()),
+        Ok(None) => Ok(()),
         Err(_) => Err(AllocError),
     }
 }

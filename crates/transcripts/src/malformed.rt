@@ -68,7 +68,8 @@ pub(crate) fn may_starve(
     ensures memory { IfErr result (λ fault. fault ≡ transcript_fault.Memory) }
 {
     match is_no_setup(alloc, scratch, line) {
-        Ok(no_setup) => Ok(no_setup && !is_list_line(line.bytes)),
+        Ok(true) => Ok(!is_list_line(line.bytes)),
+        Ok(false) => Ok(false),
         Err(fault) => Err(fault),
     }
 }
