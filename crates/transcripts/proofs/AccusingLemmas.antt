@@ -32,6 +32,10 @@ use Rattle.transcripts.proofs.HoldingLemmas.{held_alike, shape_alike}
 use Rattle.transcripts.proofs.StandingLemmas.{spelled_once}
 use Rattle.transcripts.proofs.WayLemmas.{in_none}
 
+-- nothing comes of a line, whatever other files there are
+abbrev pub EndsLine : Reading → LineRead → Type 0
+EndsLine old p = (earlier : List Told) → EndsAll earlier old p
+
 -- ---- calls
 
 -- what follows where a call failed
@@ -113,11 +117,11 @@ module _ (old : Reading) (p : LineRead) (within : old.within ≡ true) where
         of (inl event) = absurd (no_event event.0)
         of (inr first) = subst (Covers new) (sym first.2) (known_ended old new on.before ways ended_now left on.known)
 
-    pub ends_malformed_shown : (fault : TranscriptFault) → (GaveNothing p → ⊥) → EndsByLine old p fault
-    ends_malformed_shown fault gave earlier accuses t on = gave (malformed earlier t on).0
+    pub ends_malformed_shown : (GaveNothing p → ⊥) → EndsLine old p
+    ends_malformed_shown gave earlier t on = gave (malformed earlier t on).0
 
-    pub ends_malformed : (fault : TranscriptFault) → (FitsEvent p.line.bytes told → ⊥) → (FitsFirst p.line.bytes told → ⊥) → EndsByLine old p fault
-    ends_malformed fault no_event no_first earlier accuses t on = of (malformed earlier t on).1
+    pub ends_malformed : (FitsEvent p.line.bytes told → ⊥) → (FitsFirst p.line.bytes told → ⊥) → EndsLine old p
+    ends_malformed no_event no_first earlier t on = of (malformed earlier t on).1
       where
         of : (FitsEvent p.line.bytes told × (t ≡ on.before)) ⊎ ((FitsEvent p.line.bytes told → ⊥) × FitsFirst p.line.bytes told × (t ≡ ended on.before)) → ⊥
         of (inl event) = no_event event.0
@@ -131,8 +135,8 @@ module _ (old : Reading) (p : LineRead) (within : old.within ≡ true) where
     pub keeps_starved : KeepsLine old p old
     keeps_starved earlier t on = subst (Covers old) (sym (starved earlier t on).2) on.known
 
-    pub ends_starved : (fault : TranscriptFault) → (GaveNothing p → MayStarve p.line.bytes → ⊥) → EndsByLine old p fault
-    ends_starved fault other earlier accuses t on = let found = starved earlier t on in other found.0 found.1
+    pub ends_starved : (GaveNothing p → MayStarve p.line.bytes → ⊥) → EndsLine old p
+    ends_starved other earlier t on = let found = starved earlier t on in other found.0 found.1
 
   -- that a stop left
   pub keeps_last : p.ending ≡ FileEnd → GaveNothing p → KeepsLine old p old
@@ -195,8 +199,8 @@ module _ (old : Reading) (p : LineRead) where
 
   module _ (h : LineEvents) (is_line : line_of h.line ≡ p.line) (holds : Holds h) where
     -- what is told of it is told of no such events
-    pub comes_in_no_shape : (fault : TranscriptFault) → (HasShape h p → ⊥) → ComesToNone (in_run old) p fault
-    comes_in_no_shape fault none accuses t on =
+    pub comes_in_no_shape : (HasShape h p → ⊥) → (t : Standing) → ComesOn (in_run old) p t → ⊥
+    comes_in_no_shape none t on =
         let x = on.comes in
         let (events, several, long) = held_alike x.line h x.holds holds (x.is_line ∙ sym is_line) in
         none (shape_alike x.line h p several long x.shape)
@@ -225,8 +229,8 @@ module _ (old : Reading) (p : LineRead) where
       })
 
       -- and of none where there is none
-      pub comes_to_no_way : (fault : TranscriptFault) → ways ≡ [] → ComesToNone (in_run old) p fault
-      comes_to_no_way fault none accuses t on = no_way ways on.comes.new none (kept on.comes.new (comes_to t on))
+      pub comes_to_no_way : ways ≡ [] → (t : Standing) → ComesOn (in_run old) p t → ⊥
+      comes_to_no_way none t on = no_way ways on.comes.new none (kept on.comes.new (comes_to t on))
 
 -- ---- a line that a stop left open
 

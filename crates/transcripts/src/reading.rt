@@ -155,13 +155,15 @@ impl<'a> Reading<'a> {
         ensures all { OnOk result (KeepsAll earlier.now self.old part.now self.new) }
         ensures none { IfErr result (EndsBy earlier.now self.old part.now) }
     {
-        if let Some(opened) = opened_by(part.ending()) {
-            return self.open(scratch, part, opened, earlier);
-        }
-        if self.within {
-            self.take_within(scratch, part)
-        } else {
-            self.take_outside(scratch, part)
+        match opened_by(part.ending()) {
+            Some(opened) => self.open(scratch, part, opened, earlier),
+            None => {
+                if self.within {
+                    self.take_within(scratch, part)
+                } else {
+                    self.take_outside(scratch, part)
+                }
+            }
         }
     }
 
@@ -273,10 +275,11 @@ impl<'a> Reading<'a> {
             return Err(TranscriptFault::NotARun(part.line().number));
         }
         match may_starve(self.alloc, scratch, part.line()) {
-            Ok(true) => Ok(()),
-            Ok(false) => Err(TranscriptFault::NotARun(part.line().number)),
-            Err(_) => Err(TranscriptFault::Memory),
+            Ok(true) => {}
+            Ok(false) => return Err(TranscriptFault::NotARun(part.line().number)),
+            Err(_) => return Err(TranscriptFault::Memory),
         }
+        Ok(())
     }
 
     /// Takes a line that a stop left without its answer, and that is not the last one of the file.
