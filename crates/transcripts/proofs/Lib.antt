@@ -5,3 +5,7 @@ pub mod HoldingLemmas
 pub mod OnlyLemmas
 pub mod StandingLemmas
 pub mod KeepingLemmas
+pub mod BeginningLemmas
+pub mod CoveringLemmas
+pub mod AccusingLemmas
+pub mod HistoryLemmas

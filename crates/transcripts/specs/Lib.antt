@@ -3,3 +3,5 @@ pub mod Told
 pub mod Following
 pub mod Covering
 pub mod Exact
+pub mod Accusing
+pub mod Laws
