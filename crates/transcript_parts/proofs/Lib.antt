@@ -1,2 +1,4 @@
 mod LineLemmas
+mod UniqueParts
 pub mod PartLemmas
+mod BeginningLemmas
