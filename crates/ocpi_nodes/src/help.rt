@@ -149,18 +149,15 @@ Output, on standard output: one run in which all happened that the transcripts t
   `play`: the setup line of the first FILE, then an event a line, each delivery behind its sending.
   A delivery from a given party stands as it came, with its packet, which `play` refuses.
   Or why there is none, and nothing else:
-    refused 1 NeverSent(BE/BEC 9 FILE:12)         a packet came at that line, which its sender
-                                                  never sent under that serial
-    refused 2 Differs(BE/BEC 9 FILE:31 FILE:12)   its sender sent another one, for the first line
-    refused 3 NoOrder(FILE:12 FILE:7)             each of these lines waits for what is sent behind
-                                                  another
+    refused 1 NeverSent(BE/BEC 9 FILE:12)         this line got a packet that its sender never sent
+    refused 2 Differs(BE/BEC 9 FILE:31 FILE:12)   for the first line its sender sent another one
+    refused 3 NoOrder(FILE:12 FILE:7)             each line waits for what is sent behind another
     refused 4 Memory                              memory ran out
-    refused 5 NotARun(FILE:12)                    the node would have answered that line otherwise
-    refused 6 WrongTranscript(FILE:12)            it is no line of one, or has another setup or party
-    refused 7 TooManyWays(FILE:12)                stops leave open what was carried out, in more than
-                                                  64 ways
-  FILE:12 is a line of that file, from 1; at line 0 no run in it was opened. Of the first two,
-  standard error says more. docs/DISPUTES.md says what follows from each.
+    refused 5 NotARun(FILE:12)                    the node would have answered it otherwise
+    refused 6 WrongTranscript(FILE:12)            it is no line of one, or of another setup or party
+    refused 7 TooManyWays(FILE:12)                stops leave open more than 64 ways
+  FILE:12 is a line of that file, from 1; at line 0 no run in it was opened. Beside the first two
+  standard error may say more. docs/DISPUTES.md says what follows from each.
 
 Exit status:
   0  a run was written
