@@ -4,8 +4,9 @@
     bench/fail_allocations_in_weave.py PROGRAM FILE.. [--workers 4]
 
 PROGRAM is `ocpi_nodes`, in whose process bench/fail_allocation.c stands before the C library (it is built here). Each run must
-give what it gives with ample memory, or `refused 4 Memory` alone with status 1. Before the words of the command line are read
-memory may also run out for these: status 2, no output, and standard error says so; such runs are counted apart. No run may be
+give what it gives with ample memory, or `refused 4 Memory` alone with status 1; only the words beside a refusal may be wanting.
+Before the words of the command line are read memory may also run out for these: status 2, no output, and standard error says so;
+such runs are counted apart. No run may be
 refused so where no allocation failed. The last line says what was tried.
 """
 
@@ -40,7 +41,8 @@ class Weaving:
     def __init__(self, given, library):
         self.words, self.library = [os.path.abspath(given.program), "weave", *given.files], library
         self.status, self.output, said = self.run(0)
-        if self.status not in (0, 1) or said or self.output == MEMORY:
+        self.said = said
+        if self.status not in (0, 1) or said and not said.startswith(b"weave: ") or self.output == MEMORY:
             sys.exit(f"fail_allocations_in_weave: with ample memory: status {self.status}, {said[:200]!r}")
 
     def run(self, number):
@@ -52,9 +54,9 @@ class Weaving:
         """What came of the run in which that allocation fails; `none` where it makes fewer."""
         status, output, said = self.run(number)
         rest = said.replace(FAILED, b"", 1)
-        is_whole = (status, output, rest) == (self.status, self.output, b"")
+        is_whole = (status, output) == (self.status, self.output) and rest in (b"", self.said)
         if rest == said:
-            return "none" if is_whole else f"WRONG without a failed allocation: status {status}, {output[:200]!r}, {said[:200]!r}"
+            return "none" if is_whole and said == self.said else f"WRONG without a failed allocation: status {status}, {output[:200]!r}, {said[:200]!r}"
         if is_whole:
             return "whole"
         if (status, output, rest) == (1, MEMORY, b""):

@@ -1,13 +1,15 @@
 #!/usr/bin/env python3
 """Weaves transcripts by itself, as docs/PROTOCOL.md has it, for tests of `ocpi_nodes weave`.
 
-    bench/woven_run.py FILE..
+    bench/woven_run.py [--given PARTY].. FILE..
 
-It prints the run, or the refusal 1, 2 or 3. It knows no node, so it takes what a node answered as right: the refusals 5 and 7
-are never told. Where a stop leaves open what was carried out, a packet may be one that it kept from being written, or a line is
-none of a transcript, it gives up and says so (Unmodelled). It is written from the rules, and not from the code.
+It prints the run, or the refusal 1, 2 or 3; or what is wrong with a party that is given, with status 2. It knows no node, so it
+takes what a node answered as right: the refusals 5 and 7 are never told. Where a stop leaves open what was carried out, a packet
+may be one that it kept from being written, or a line is none of a transcript, it gives up and says so (Unmodelled). It is written
+from the rules, and not from the code.
 """
 
+import argparse
 import json
 import sys
 from decimal import Decimal
@@ -24,6 +26,10 @@ class Unmodelled(Exception):
 
 class Refused(Exception):
     """Why there is no run."""
+
+
+class WrongGiven(Exception):
+    """Why what a party sent cannot be taken as it came."""
 
 
 def object_of(line):
@@ -150,31 +156,43 @@ def spellings(setup):
 
 
 def seen_of(transcripts):
-    """All packets that were seen, by sender and serial."""
-    return {(key_of(it.party), packet["serial"]): packet
+    """All packets that were seen, by sender and serial, each with the place of the line for which it was sent."""
+    return {(key_of(it.party), packet["serial"]): (packet, f"{it.name}:{entry.number}")
             for it in transcripts for entry in it.entries for packet in entry.packets}
 
 
-def try_deliveries(transcripts, parties):
-    """That each packet which came was sent so."""
+def given_keys(transcripts, parties, given):
+    """The parties whose packets are taken as they came, as keys."""
+    for word in given:
+        if key_of(word) not in parties:
+            raise WrongGiven(f"weave: no {word} in the setup")
+        if key_of(word) in {key_of(it.party) for it in transcripts}:
+            raise WrongGiven(f"weave: {word} has a file")
+    return {key_of(word) for word in given}
+
+
+def try_deliveries(transcripts, parties, given):
+    """That each packet which came, but from a given party, was sent so."""
     seen = seen_of(transcripts)
     lacking = {key_of(it.party) for it in transcripts if it.may_lack}
     for transcript in transcripts:
         for entry in transcript.entries:
             came = entry.delivered()
-            if came is None:
+            if came is None or key_of(came["from"]) in given:
                 continue
             key = key_of(came["from"]), came["serial"]
-            told = f"({parties.get(key[0], came['from'])} {key[1]})"
+            told = f"{parties.get(key[0], came['from'])} {key[1]}"
+            place = f"{transcript.name}:{entry.number}"
             if key not in seen and key[0] in lacking:
-                raise Unmodelled(f"{told} may be a packet that a stop kept from being written")
+                raise Unmodelled(f"({told}) may be a packet that a stop kept from being written")
             if key not in seen:
-                raise Refused(f"refused 1 NeverSent{told}")
-            if seen[key] != came:
-                raise Refused(f"refused 2 Differs{told}")
+                raise Refused(f"refused 1 NeverSent({told} {place})")
+            sent, sent_at = seen[key]
+            if sent != came:
+                raise Refused(f"refused 2 Differs({told} {sent_at} {place})")
 
 
-def order_of(transcripts):
+def order_of(transcripts, given):
     """All entries, round by round, each file as far as it can go."""
     places, sent, order = [0] * len(transcripts), set(), []
     is_moving = True
@@ -184,7 +202,7 @@ def order_of(transcripts):
             while places[at] < len(transcript.entries):
                 entry = transcript.entries[places[at]]
                 came = entry.delivered()
-                if came is not None and (key_of(came["from"]), came["serial"]) not in sent:
+                if came is not None and key_of(came["from"]) not in given and (key_of(came["from"]), came["serial"]) not in sent:
                     break
                 sent.update((key_of(transcript.party), packet["serial"]) for packet in entry.packets)
                 order.append((transcript, entry))
@@ -196,12 +214,12 @@ def order_of(transcripts):
     return order
 
 
-def line_of(transcript, entry, parties):
+def line_of(transcript, entry, parties, given):
     """An event of the run."""
     node, came = parties[key_of(transcript.party)], entry.delivered()
     if entry.event == {"event": "restart"}:
         made = {"event": "restart", "node": node}
-    elif came is None:
+    elif came is None or key_of(came["from"]) in given:
         return entry.line
     else:
         made = {"at": entry.event["at"], "event": "deliver", "from": parties[key_of(came["from"])], "node": node,
@@ -209,28 +227,41 @@ def line_of(transcript, entry, parties):
     return json.dumps(made, separators=(",", ":"), ensure_ascii=False).encode()
 
 
-def weave(files):
-    """The run of files, which are names and texts, as bytes of lines; or the line with the refusal."""
+def weave(files, given=()):
+    """The run of files, which are names and texts, as bytes of lines; or the line with the refusal. What the given parties
+    sent is taken as it came."""
     transcripts = [Transcript(name, text) for name, text in files]
     parties = spellings(transcripts[0].setup)
+    given = given_keys(transcripts, parties, given)
     try:
-        try_deliveries(transcripts, parties)
-        order = order_of(transcripts)
+        try_deliveries(transcripts, parties, given)
+        order = order_of(transcripts, given)
     except Refused as refused:
         return f"{refused}\n".encode()
-    lines = [transcripts[0].setup, *(line_of(*it, parties) for it in order)]
+    lines = [transcripts[0].setup, *(line_of(*it, parties, given) for it in order)]
     return b"".join(line + b"\n" for line in lines)
 
 
+def words_of(words):
+    """The files and the given parties that the words of the command line name."""
+    options = argparse.ArgumentParser(description=__doc__.split("\n", maxsplit=1)[0])
+    options.add_argument("--given", action="append", default=[])
+    options.add_argument("files", nargs="+")
+    return options.parse_args(words)
+
+
 def main():
-    files = []
-    for name in sys.argv[1:]:
+    words, files = words_of(sys.argv[1:]), []
+    for name in words.files:
         with open(name, "rb") as file:
             files.append((name, file.read()))
     try:
-        sys.stdout.buffer.write(weave(files))
+        sys.stdout.buffer.write(weave(files, words.given))
     except Unmodelled as fault:
         sys.exit(f"woven_run: {fault}")
+    except WrongGiven as fault:
+        print(fault, file=sys.stderr)
+        return 2
     return 0
 
 

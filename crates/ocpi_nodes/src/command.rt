@@ -19,8 +19,7 @@ pub enum Word<'a> {
     /// Of a store's file.
     Settle(&'a str),
     Node(NodeWords<'a>),
-    /// Of the files of transcripts, in their order, as they were given.
-    Weave(Vec<&'a str>),
+    Weave(WeaveWords<'a>),
 }
 
 /// What the command line says for a run of one node.
@@ -36,9 +35,18 @@ pub struct NodeWords<'a> {
     pub echo: bool,
 }
 
+/// What the command line says for `weave`.
+#[derive(Drop)]
+pub struct WeaveWords<'a> {
+    /// The parties whose packets are taken as they came, as they were given.
+    pub given: Vec<&'a str>,
+    /// The files of transcripts, in their order, as they were given.
+    pub files: Vec<&'a str>,
+}
+
 /// Takes the command line `ocpi_nodes [answer | play [--store DIR] | node PARTY [--store FILE [--existing]] [--echo] |
-/// settle FILE | weave FILE.. | help [COMMAND]]`, or gives clap's text: the help or the version that was asked for, or
-/// what is wrong.
+/// settle FILE | weave [--given PARTY].. FILE.. | help [COMMAND]]`, or gives clap's text: the help or the version that
+/// was asked for, or what is wrong.
 pub fn take_words<'a>(alloc: Global, words: &'a [String]) -> Result<Word<'a>, Error> {
     let command = Command::new(alloc, "ocpi_nodes")
         .version("0.1.0")
@@ -138,6 +146,11 @@ fn settle<'a>(alloc: Global) -> Result<Command<'a>, Error> {
 }
 
 fn weave<'a>(alloc: Global) -> Result<Command<'a>, Error> {
+    let given = Arg::new(alloc, "given")
+        .long("given")
+        .value_name("PARTY")
+        .action(ArgAction::Append)
+        .help("Take what this party sent as it came: it has no file here");
     let files = Arg::new(alloc, "files")
         .value_name("FILE")
         .required(true)
@@ -146,19 +159,30 @@ fn weave<'a>(alloc: Global) -> Result<Command<'a>, Error> {
     let command = Command::new(alloc, "weave")
         .about("Make one run of the transcripts of several nodes, as input of `play`")
         .after_help(help::WEAVE)
-        .arg(files)?;
-    Ok(command)
+        .arg(given)?;
+    with_arg(command, files)
 }
 
-/// `weave` with its files.
-fn weave_word<'a>(alloc: Global, given: &ArgMatches<'a>) -> Result<Word<'a>, Error> {
-    let mut files = Vec::new(alloc);
-    if let Some(names) = given.get_strs("files") {
-        for name in names {
-            files.push(*name)?;
+/// The values of an argument, in their order.
+fn values_of<'a>(
+    alloc: Global,
+    matches: &ArgMatches<'a>,
+    name: &str,
+) -> Result<Vec<&'a str>, Error> {
+    let mut values = Vec::new(alloc);
+    if let Some(given) = matches.get_strs(name) {
+        for value in given {
+            values.push(*value)?;
         }
     }
-    Ok(Word::Weave(files))
+    Ok(values)
+}
+
+/// `weave` with its parties and files.
+fn weave_word<'a>(alloc: Global, matches: &ArgMatches<'a>) -> Result<Word<'a>, Error> {
+    let given = values_of(alloc, matches, "given")?;
+    let files = values_of(alloc, matches, "files")?;
+    Ok(Word::Weave(WeaveWords { given, files }))
 }
 
 /// The program that was named, and `answer` where none was; of those beside `weave`.

@@ -142,25 +142,29 @@ pub const WEAVE: &str =
     r#"Input: each FILE is a transcript, all that `node PARTY --echo` read and wrote for one node. Several
   runs over one store stand in it one behind the other. The setups of all are equal, the parties
   differ. A last line that has no end was cut, and is left out. Standard input is not read.
+  What a party sent that --given names is taken as it came; it has no FILE. PARTY is one of the
+  setup, in any case. Say --given once for each such party.
 
 Output, on standard output: one run in which all happened that the transcripts tell, as input of
   `play`: the setup line of the first FILE, then an event a line, each delivery behind its sending.
+  A delivery from a given party stands as it came, with its packet, which `play` refuses.
   Or why there is none, and nothing else:
-    refused 1 NeverSent(BE/BEC 9)        a packet of that serial came, which its sender never sent
-    refused 2 Differs(BE/BEC 9)          its sender sent another one under that serial
-    refused 3 NoOrder(FILE:12 FILE:7)    each of these lines waits for what is sent behind another
-    refused 4 Memory                     memory ran out
-    refused 5 NotARun(FILE:12)           the node would have answered that line otherwise
-    refused 6 WrongTranscript(FILE:12)   it is no line of one, or has another setup or party
-    refused 7 TooManyWays(FILE:12)       stops leave open what was carried out, in more than 64 ways
-  FILE:12 is a line of that file, from 1; at line 0 no run in it was opened. docs/DISPUTES.md says
-  what follows from each.
+    refused 1 NeverSent(BE/BEC 9 FILE:12)         this line got a packet that its sender never sent
+    refused 2 Differs(BE/BEC 9 FILE:31 FILE:12)   for the first line its sender sent another one
+    refused 3 NoOrder(FILE:12 FILE:7)             each line waits for what is sent behind another
+    refused 4 Memory                              memory ran out
+    refused 5 NotARun(FILE:12)                    the node would have answered it otherwise
+    refused 6 WrongTranscript(FILE:12)            it is no line of one, or of another setup or party
+    refused 7 TooManyWays(FILE:12)                stops leave open more than 64 ways
+  FILE:12 is a line of that file, from 1; at line 0 no run in it was opened. Beside the first two
+  standard error may say more. docs/DISPUTES.md says what follows from each.
 
 Exit status:
   0  a run was written
   1  the transcripts were refused, or writing failed, which standard error says
-  2  the command line is wrong
+  2  the command line is wrong, or --given names a party that the setup has not, or one of a FILE
   3  a file was not read, which standard error says; nothing is said of the others
 
-Example, with the transcripts of two partners:
-  ./ocpi_nodes weave be.transcript nl.transcript | ./ocpi_nodes play"#;
+Examples, with the transcripts of two partners, and of one of them and a third:
+  ./ocpi_nodes weave be.transcript nl.transcript | ./ocpi_nodes play
+  ./ocpi_nodes weave --given NL/TNM be.transcript de.transcript"#;

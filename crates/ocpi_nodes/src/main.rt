@@ -90,7 +90,7 @@ fn run_word(rt: &HostRuntime, word: Word<'_>) -> u8 {
         Word::Play(Some(folder)) => play_in_files(rt, &mut io::writer(rt), folder, &mut told),
         Word::Settle(file) => settle_buffered(rt, file, &mut told),
         Word::Node(words) => return run_node_word(rt, &words),
-        Word::Weave(files) => return report_weave(rt, weave_files(rt, files.as_slice())),
+        Word::Weave(words) => return report_weave(rt, weave_files(rt, &words)),
     };
     report(rt, ran, &told)
 }

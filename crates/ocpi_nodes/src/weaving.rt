@@ -3,13 +3,15 @@
 ghost use Rattle.std.specs.Prelude.{◌≡◌, IfOk, Err, Ok};
 ghost use Rattle.line_runs.specs.Outcome.{exit_status};
 ghost use Rattle.line_runs.specs.declared.outcome.RunFault.{RunFault as RunFaultOf};
+ghost use Rattle.weave_runs.specs.declared.fault.GivenFault.{GivenFault as GivenFaultOf};
 
 use crate::BUFFER_BYTES;
+use crate::command::{WRONG_WORDS, WeaveWords};
 use crate::refusal::words_for_unread;
 use line_runs::{Ran, RunFault, flush, status_of, write_whole};
 use std::fs;
-use std::io::{self, BufWriter, ErrorKind};
-use weave_runs::{TranscriptFile, run_weave};
+use std::io::{self, BufWriter, ErrorKind, Write};
+use weave_runs::{GivenFault, TranscriptFile, WeaveRunFault, run_weave};
 
 /// The exit status where a file was not read.
 pub const UNREAD: u8 = 3;
@@ -19,13 +21,15 @@ pub const UNREAD: u8 = 3;
 pub enum WeaveStop<'a> {
     /// The file was not read, and nothing is said of any.
     Unread { file: &'a str, kind: ErrorKind },
+    /// What a party sent cannot be taken as it came.
+    Given(GivenFault<'a>),
     Run(RunFault),
 }
 
 /// Reads each file whole, in their order, and writes the run that is made of them, or why there is none.
-pub fn weave_files<'a>(rt: &HostRuntime, files: &[&'a str]) -> Result<Ran, WeaveStop<'a>> {
+pub fn weave_files<'a>(rt: &HostRuntime, words: &WeaveWords<'a>) -> Result<Ran, WeaveStop<'a>> {
     let mut texts = Vec::new(rt.alloc());
-    for file in files {
+    for file in words.files.as_slice() {
         match read_file(rt, *file) {
             Ok(text) => {
                 if texts.push(text).is_err() {
@@ -36,7 +40,7 @@ pub fn weave_files<'a>(rt: &HostRuntime, files: &[&'a str]) -> Result<Ran, Weave
             Err(kind) => return Err(WeaveStop::Unread { file: *file, kind }),
         }
     }
-    weave_texts(rt, files, texts.as_slice())
+    weave_texts(rt, words, texts.as_slice())
 }
 
 /// All that a file has.
@@ -50,25 +54,42 @@ fn read_file(rt: &HostRuntime, file: &str) -> Result<Vec<u8>, ErrorKind> {
 /// Weaves what was read.
 fn weave_texts<'a>(
     rt: &HostRuntime,
-    files: &[&str],
+    words: &WeaveWords<'a>,
     texts: &[Vec<u8>],
 ) -> Result<Ran, WeaveStop<'a>> {
-    let mut given = Vec::new(rt.alloc());
-    for (name, text) in files.iter().zip(texts) {
+    let mut files = Vec::new(rt.alloc());
+    for (name, text) in words.files.iter().zip(texts) {
         let file = TranscriptFile {
             name: *name,
             text: text.as_slice(),
         };
-        if given.push(file).is_err() {
+        if files.push(file).is_err() {
             return refuse_memory(rt);
         }
     }
     match BufWriter::with_capacity(rt.alloc(), BUFFER_BYTES, io::writer(rt)) {
-        Ok(mut writer) => match run_weave(rt.alloc(), given.as_slice(), &mut writer) {
-            Ok(ran) => Ok(ran),
-            Err(fault) => Err(WeaveStop::Run(fault)),
-        },
+        Ok(mut writer) => weave_to(rt, files.as_slice(), words.given.as_slice(), &mut writer),
         Err(_) => refuse_memory(rt),
+    }
+}
+
+/// Weaves files to a writer, and says what goes with a refusal.
+fn weave_to<'a, W: Write>(
+    rt: &HostRuntime,
+    files: &[TranscriptFile<'_>],
+    given: &[&'a str],
+    writer: &mut W,
+) -> Result<Ran, WeaveStop<'a>> {
+    let mut words = String::new(rt.alloc());
+    match run_weave(rt.alloc(), files, given, writer, &mut words) {
+        Ok(ran) => {
+            if !words.is_empty() {
+                let _ = eprintln!(rt; "{}", words.as_str());
+            }
+            Ok(ran)
+        }
+        Err(WeaveRunFault::Run(fault)) => Err(WeaveStop::Run(fault)),
+        Err(WeaveRunFault::Given(fault)) => Err(WeaveStop::Given(fault)),
     }
 }
 
@@ -85,6 +106,7 @@ fn refuse_memory<'a>(rt: &HostRuntime) -> Result<Ran, WeaveStop<'a>> {
 /// Says what stopped a run of `weave`, if anything did, and answers the exit status.
 pub fn report_weave(rt: &HostRuntime, ran: Result<Ran, WeaveStop<'_>>) -> u8
     ensures ran { IfOk ran.entry (λ r. result ≡ exit_status (Ok r)) }
+    ensures given { (fault : GivenFaultOf) → ran.entry ≡ Err (WeaveStop.Given fault) → result ≡ WRONG_WORDS }
     ensures stopped { (fault : RunFaultOf) → ran.entry ≡ Err (WeaveStop.Run fault) → result ≡ exit_status (Err fault) }
 {
     match ran {
@@ -93,9 +115,25 @@ pub fn report_weave(rt: &HostRuntime, ran: Result<Ran, WeaveStop<'_>>) -> u8
             let _ = eprintln!(rt; "{fault}");
             status_of(Err(fault))
         }
+        Err(WeaveStop::Given(fault)) => {
+            tell_given(rt, fault);
+            WRONG_WORDS
+        }
         Err(WeaveStop::Unread { file, kind }) => {
             let _ = eprintln!(rt; "{file}: {}", words_for_unread(kind));
             UNREAD
+        }
+    }
+}
+
+/// Says why what a party sent cannot be taken as it came.
+fn tell_given(rt: &HostRuntime, fault: GivenFault<'_>) {
+    match fault {
+        GivenFault::Unknown(word) => {
+            let _ = eprintln!(rt; "weave: no {word} in the setup");
+        }
+        GivenFault::HasFile(word) => {
+            let _ = eprintln!(rt; "weave: {word} has a file");
         }
     }
 }

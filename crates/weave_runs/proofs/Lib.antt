@@ -1,3 +1,4 @@
+mod GivenLemmas
 mod ToldLemmas
 mod RunLemmas
 mod StepLemmas

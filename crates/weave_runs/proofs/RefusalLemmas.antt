@@ -1,16 +1,20 @@
 -- The lines of refusals, as they are made.
-use Rattle.std.proofs.Common.{zero, suc, ◌≡◌, ◌∙◌, ℕ, ◌+◌, List, [], ◌∷◌, ◌++◌, Bool, true, false, Option, None, bytes_eq, cond, drop, sym, ap, add-one}
+use Rattle.std.proofs.Common.{zero, suc, ◌≡◌, ◌∙◌, ℕ, ◌+◌, List, [], ◌∷◌, ◌++◌, Bool, true, false, Option, None, bytes_eq, cond, drop, sym, subst, ap, add-one, refl}
 use Rattle.std.proofs.lemmas.List.{append_assoc}
 use Rattle.std.specs.Prelude.{Some, slice_get}
 use Rattle.ocpi_text.specs.Text.{key}
 use Rattle.ocpi_types.specs.Setups.{node_key, party_of}
 use Rattle.ocpi_types.specs.declared.setup.Node.{Node}
 use Rattle.histories.proofs.Lists.{some_same}
+use Rattle.ocpi_types.specs.declared.packet.Packet.{Packet}
+use Rattle.histories.specs.declared.entry.Entry.{Entry}
+use Rattle.histories.specs.Entries.{Delivers}
 use Rattle.transcripts.specs.Told.{Told}
+use Rattle.weave.specs.declared.turn.Turn.{Turn}
 use Rattle.weave_runs.specs.declared.told.TranscriptFile.{TranscriptFile}
-use Rattle.weave_runs.specs.Refusals.{front_places, mark_of, marked, next_number, place_list, place_text, spelled}
+use Rattle.weave_runs.specs.Refusals.{DeliversAt, IsLineOf, front_places, mark_of, marked, next_number, place_list, place_text, spelled}
 
-drop_one : {X : Type 0} (xs : List X) (k : ℕ) (x : X) → slice_get xs k ≡ Some x → drop k xs ≡ x ∷ drop (k + 1) xs
+pub drop_one : {X : Type 0} (xs : List X) (k : ℕ) (x : X) → slice_get xs k ≡ Some x → drop k xs ≡ x ∷ drop (k + 1) xs
 drop_one [] k x at = cc
 drop_one (y ∷ xs) zero x at = ap (λ z. z ∷ xs) (some_same y x at)
 drop_one (y ∷ xs) (suc k) x at = drop_one xs k x at ∙ ap (λ n. x ∷ drop n xs) (add-one k) ∙ sym (ap (λ n. x ∷ drop n (y ∷ xs)) (add-one (suc k)))
@@ -53,3 +57,44 @@ module _ (files : List TranscriptFile) (told : List Told) (front : List ℕ) (i 
   no_place first out whole is so_far =
       ap (λ (o : Option ℕ). out ++ marked first (place_list f.name.now o ++ front_places (drop (i + 1) files) (drop (i + 1) told) (drop (i + 1) front))) is
       ∙ ap (λ ps. out ++ marked first ps) (sym places_on) ∙ so_far
+
+-- ---- the entry that a turn names
+
+nothing_there : {X : Type 0} (o : Option X) (x : X) → o ≡ None → o ≡ Some x → ⊥
+nothing_there o x none some = none_some (sym none ∙ some)
+  where
+    none_some : None ≡ Some x → ⊥
+    none_some e = cc
+
+module _ (told : List Told) (t : Turn) where
+  pub no_teller : slice_get told t.history ≡ None → (q : Packet) → DeliversAt told t q → ⊥
+  no_teller none q d = nothing_there (slice_get told t.history) d.teller_of none d.here
+
+  module _ (u : Told) (here : slice_get told t.history ≡ Some u) where
+    entry_of : (q : Packet) (d : DeliversAt told t q) → slice_get u.replay.entries t.entry ≡ Some d.entry
+    entry_of q d = ap (λ (v : Told). slice_get v.replay.entries t.entry) (some_same u d.teller_of (sym here ∙ d.here)) ∙ d.stands
+
+    pub no_entry : slice_get u.replay.entries t.entry ≡ None → (q : Packet) → DeliversAt told t q → ⊥
+    no_entry none q d = nothing_there (slice_get u.replay.entries t.entry) d.entry none (entry_of q d)
+
+    module _ (e : Entry) (stands : slice_get u.replay.entries t.entry ≡ Some e) where
+      pub delivers_at : (q : Packet) → Delivers e q → DeliversAt told t q
+      delivers_at q delivers = record { teller_of = u; here = here; entry = e; stands = stands; delivers = delivers }
+
+      pub no_packet : ((q : Packet) → Delivers e q → ⊥) → (q : Packet) → DeliversAt told t q → ⊥
+      no_packet none q d = none q (subst (λ (f : Entry). Delivers f q) (some_same d.entry e (sym (entry_of q d) ∙ stands)) d.delivers)
+
+    module _ (files : List TranscriptFile) where
+      pub no_line : next_number u t.entry ≡ None → (name : List ℕ) (line : ℕ) → IsLineOf files told t name line → ⊥
+      no_line none name line is =
+          nothing_there (next_number u t.entry) line none (ap (λ (v : Told). next_number v t.entry) (some_same u is.teller_of (sym here ∙ is.here)) ∙ is.line_is)
+
+      pub line_of : (f : TranscriptFile) (line : ℕ) → slice_get files t.history ≡ Some f → next_number u t.entry ≡ Some line → IsLineOf files told t f.name.now line
+      line_of f line at is = record { file = f; of_file = at; name_is = refl; teller_of = u; here = here; line_is = is }
+
+  module _ (files : List TranscriptFile) (name : List ℕ) (line : ℕ) where
+    pub no_file : slice_get files t.history ≡ None → IsLineOf files told t name line → ⊥
+    no_file none is = nothing_there (slice_get files t.history) is.file none is.of_file
+
+    pub no_teller_of_line : slice_get told t.history ≡ None → IsLineOf files told t name line → ⊥
+    no_teller_of_line none is = nothing_there (slice_get told t.history) is.teller_of none is.here

@@ -12,7 +12,7 @@ use Rattle.history_laws.specs.Laws.{IsRunOf}
 use Rattle.tables.proofs.Elements.{in_front}
 use Rattle.world_steps.specs.Steps.{Does, Gives, IsForNone, Loses, NoNode, NothingReaches, Outcome, Passes, Refuses, WorldRun, WorldStep}
 use Rattle.world_steps.specs.World.{IsAt, NodeState, Place, World}
-use Rattle.weave_runs.specs.Steps.{Came, Delivered, IsStep, Restarted, Step, entry_of, event_told}
+use Rattle.weave_runs.specs.Steps.{Came, Delivered, Given, IsStep, Restarted, Step, entry_of, event_told}
 
 -- ---- one step
 
@@ -39,24 +39,27 @@ step_respelled w v d e node kind (o, gives) =
 
 -- ---- the lines of a run
 
-node_told : (s : Step) → IsStep s → key (event_of s.entry).node ≡ key s.event.node
-node_told s (Came reads node kind) = sym node
-node_told s (Delivered at q is text told reads) = ap (λ (e : Event). key e.node) (sym told)
-node_told s (Restarted is text told reads) = ap (λ (e : Event). key e.node) (sym told)
+module _ (given : List (List ℕ)) where
+  node_told : (s : Step) → IsStep given s → key (event_of s.entry).node ≡ key s.event.node
+  node_told s (Came reads node kind) = sym node
+  node_told s (Delivered at q is asked text told reads) = ap (λ (e : Event). key e.node) (sym told)
+  node_told s (Restarted is text told reads) = ap (λ (e : Event). key e.node) (sym told)
+  node_told s (Given at q is from line told) = ap (λ (e : Event). key e.node) (sym told)
 
-kind_told : (s : Step) → IsStep s → (event_of s.entry).kind ≡ s.event.kind
-kind_told s (Came reads node kind) = sym kind
-kind_told s (Delivered at q is text told reads) = ap (λ (e : Event). e.kind) (sym told)
-kind_told s (Restarted is text told reads) = ap (λ (e : Event). e.kind) (sym told)
+  kind_told : (s : Step) → IsStep given s → (event_of s.entry).kind ≡ s.event.kind
+  kind_told s (Came reads node kind) = sym kind
+  kind_told s (Delivered at q is asked text told reads) = ap (λ (e : Event). e.kind) (sym told)
+  kind_told s (Restarted is text told reads) = ap (λ (e : Event). e.kind) (sym told)
+  kind_told s (Given at q is from line told) = ap (λ (e : Event). e.kind) (sym told)
 
-run_told : (steps : List Step) (w v : World) → ((s : Step) → Contains steps s → IsStep s) → WorldRun w (map event_of (map entry_of steps)) v → WorldRun w (map event_told steps) v
-run_told [] w v each run = run
-run_told (s ∷ steps) w v each (u, step, rest) =
-    let is = each s (in_front s steps) in
-    (u, step_respelled w u (event_of s.entry) s.event (node_told s is) (kind_told s is) step, run_told steps u v (λ t within. each t (in_later s steps t within)) rest)
+  run_told : (steps : List Step) (w v : World) → ((s : Step) → Contains steps s → IsStep given s) → WorldRun w (map event_of (map entry_of steps)) v → WorldRun w (map event_told steps) v
+  run_told [] w v each run = run
+  run_told (s ∷ steps) w v each (u, step, rest) =
+      let is = each s (in_front s steps) in
+      (u, step_respelled w u (event_of s.entry) s.event (node_told s is) (kind_told s is) step, run_told steps u v (λ t within. each t (in_later s steps t within)) rest)
 
--- the events that the lines tell are the run that the entries are
-pub run_as_told : (setup : List Node) (hs : List NodeHistory) (states : List NodeState) (steps : List Step) → ((s : Step) → Contains steps s → IsStep s)
-    → IsRunOf setup hs states (map event_of (map entry_of steps)) → IsRunOf setup hs states (map event_told steps)
-run_as_told setup hs states steps each run =
-    record { world = run.world; run = run_told steps _ run.world each run.run; ends = run.ends; others = run.others; right = run.right }
+  -- the events that the lines tell are the run that the entries are
+  pub run_as_told : (setup : List Node) (hs : List NodeHistory) (states : List NodeState) (steps : List Step) → ((s : Step) → Contains steps s → IsStep given s)
+      → IsRunOf setup hs states (map event_of (map entry_of steps)) → IsRunOf setup hs states (map event_told steps)
+  run_as_told setup hs states steps each run =
+      record { world = run.world; run = run_told steps _ run.world each run.run; ends = run.ends; others = run.others; right = run.right }

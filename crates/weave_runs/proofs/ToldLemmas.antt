@@ -1,5 +1,5 @@
 -- The histories of transcripts of nodes of a setup are replayed from its opening, and numbered.
-use Rattle.std.proofs.Common.{◌≡◌, ◌⊎◌, ◌∙◌, ℕ, ◌+◌, List, [], ◌∷◌, ◌++◌, length, take, map, sym, ap, subst, option_map, arith, refl, inl, inr}
+use Rattle.std.proofs.Common.{◌≡◌, ◌⊎◌, ◌∙◌, ℕ, ◌+◌, List, [], ◌∷◌, ◌++◌, length, take, drop, take-append-drop, map, sym, ap, subst, option_map, arith, refl, inl, inr}
 use Rattle.std.proofs.lemmas.List.{length-append, length-map, map-append, take-append-le, take_at}
 use Rattle.std.proofs.lemmas.List.Elements.{Contains-append_cases}
 use Rattle.std.specs.Prelude.{◌≢◌, Contains, Some, slice_get}
@@ -15,7 +15,10 @@ use Rattle.history_laws.specs.Replays.{Replays}
 use Rattle.tables.proofs.Elements.{in_none, in_single}
 use Rattle.transcripts.specs.Following.{IsTranscriptOf}
 use Rattle.transcripts.specs.Told.{IsTold, Told}
+use Rattle.transcript_parts.specs.declared.fault.TranscriptFault.{TranscriptFault}
+use Rattle.weave_runs.specs.Accusations.{RefusesAt}
 use Rattle.weave_runs.specs.declared.told.TranscriptFile.{TranscriptFile}
+use Rattle.weave_runs.proofs.RefusalLemmas.{drop_one}
 use Rattle.world_laws.specs.Laws.{IsSetup}
 use Rattle.world_steps.specs.World.{opening_of}
 use Rattle.weave_runs.specs.Histories.{AreHistories, AreToldOf, AreTranscripts, Lived, lived, lived_told, state_told, teller}
@@ -81,6 +84,19 @@ module _ (setup : List Node) where
       each : (j : ℕ) (g : TranscriptFile) (u : Told) → slice_get (take (i + 1) files) j ≡ Some g → slice_get (told ++ t ∷ []) j ≡ Some u → IsTranscriptOf setup (take j (told ++ t ∷ [])) g.text.now u
       each j g u here there =
           both j g u (got_pushed (take i files) f j g (sym (ap (λ fs. slice_get fs j) (take_one files i f at)) ∙ here)) (got_pushed told t j u there)
+
+  -- the one behind them is refused
+  pub refuses_here : (files : List TranscriptFile) (told : List Told) (i : ℕ) (f : TranscriptFile) (name : List ℕ) (fault : TranscriptFault) → slice_get files i ≡ Some f
+      → AreTranscripts setup (take i files) told → f.name.now ≡ name → RefusesAt setup files name fault
+  refuses_here files told i f name fault at are is = record {
+    front = take i files;
+    file = f;
+    behind = drop (i + 1) files;
+    files_are = sym (take-append-drop i files) ∙ ap (λ l. take i files ++ l) (drop_one files i f at);
+    name_is = is;
+    told = told;
+    are_transcripts = are;
+  }
 
 -- ---- all of them
 

@@ -1,4 +1,6 @@
 pub mod Histories
+pub mod Parties
 pub mod Steps
 pub mod Refusals
+pub mod Accusations
 pub mod Outputs

@@ -1,15 +1,19 @@
 -- The lines of refusals.
-use Rattle.std.specs.Prelude.{◌≡◌, ℕ, Bool, true, false, List, [], ◌∷◌, ◌++◌, Option, None, Some, Contains, bytes_eq, codes, cond, decimal, length, slice_get}
+use Rattle.std.specs.Prelude.{◌≡◌, ℕ, Bool, true, false, List, [], ◌∷◌, ◌++◌, Option, None, Some, bytes_eq, codes, cond, decimal, length, slice_get}
 use Rattle.ocpi_text.specs.Text.{key}
 use Rattle.ocpi_types.specs.Setups.{node_key, party_of}
 use Rattle.ocpi_types.specs.declared.setup.Node.{Node}
+use Rattle.histories.specs.declared.entry.Entry.{Entry}
+use Rattle.histories.specs.Entries.{Delivers}
+use Rattle.ocpi_types.specs.declared.packet.Packet.{Packet}
 use Rattle.transcripts.specs.Told.{Told}
 use Rattle.transcript_parts.specs.declared.fault.TranscriptFault.{TranscriptFault}
 use Rattle.transcript_parts.specs.declared.fault.TranscriptFault.TheVariants as file
 use Rattle.transcripts.specs.declared.source.Source.{Source}
 use Rattle.transcripts.specs.declared.source.Source.TheVariants.{Echoed, Restarted}
-use Rattle.weave.specs.declared.fault.WeaveFault.{WeaveFault}
-use Rattle.weave.specs.declared.fault.WeaveFault.TheVariants as weave
+use Rattle.weave.specs.declared.turn.Turn.{Turn}
+use Rattle.weave.specs.declared.turn_fault.TurnFault.{TurnFault}
+use Rattle.weave.specs.declared.turn_fault.TurnFault.TheVariants as weave
 use Rattle.weave_runs.specs.declared.told.TranscriptFile.{TranscriptFile}
 
 -- ---- for want of memory
@@ -18,10 +22,6 @@ abbrev pub memory_line : List ℕ
 memory_line = codes "refused 4 Memory\n"
 
 -- ---- a file
-
--- the name is that of one of the files
-abbrev pub IsOfFile : List TranscriptFile → List ℕ → Type 0
-IsOfFile files name = (f : TranscriptFile) × Contains files f × (f.name.now ≡ name)
 
 -- a line of a file
 abbrev pub place_text : List ℕ → ℕ → List ℕ
@@ -37,16 +37,12 @@ transcript_line name (file.NotARun line) = place_line (codes "5 NotARun") name l
 transcript_line name (file.TooManyWays line) = place_line (codes "7 TooManyWays") name line
 transcript_line name file.Memory = memory_line
 
--- ---- a packet
+-- ---- a party
 
 -- the party as the setup spells it; or as it is, where the setup does not have it
 abbrev pub spelled : List Node → List ℕ → List ℕ
 spelled [] party = party
 spelled (n ∷ ns) party = cond (bytes_eq (node_key n) (key party)) (party_of n) (spelled ns party)
-
--- a refusal, by its number and name, with a packet's sender and serial
-abbrev pub packet_line : List ℕ → List ℕ → ℕ → List ℕ
-packet_line what sender serial = codes "refused " ++ (what ++ (codes "(" ++ (sender ++ (codes " " ++ (decimal serial ++ codes ")\n")))))
 
 -- ---- a front
 
@@ -83,17 +79,62 @@ marked is_first (p ∷ ps) = mark_of is_first ++ p ++ marked false ps
 abbrev pub front_line : List TranscriptFile → List Told → List ℕ → List ℕ
 front_line files told front = codes "refused 3 NoOrder" ++ marked true (front_places files told front) ++ codes ")\n"
 
+-- ---- an entry that a turn names
+
+-- it delivers the packet
+pub record DeliversAt (told : List Told) (t : Turn) (q : Packet) : Type 0 where
+  pub teller_of : Told
+  pub here : slice_get told t.history ≡ Some teller_of
+  pub entry : Entry
+  pub stands : slice_get teller_of.replay.entries t.entry ≡ Some entry
+  pub delivers : Delivers entry q
+
+-- it came as that line of the file of that name
+pub record IsLineOf (files : List TranscriptFile) (told : List Told) (t : Turn) (name : List ℕ) (line : ℕ) : Type 0 where
+  pub file : TranscriptFile
+  pub of_file : slice_get files t.history ≡ Some file
+  pub name_is : file.name.now ≡ name
+  pub teller_of : Told
+  pub here : slice_get told t.history ≡ Some teller_of
+  pub line_is : next_number teller_of t.entry ≡ Some line
+
+-- both
+pub record ComesBy (files : List TranscriptFile) (told : List Told) (t : Turn) : Type 0 where
+  pub packet : Packet
+  pub delivers : DeliversAt told t packet
+  pub name : List ℕ
+  pub line : ℕ
+  pub is_line : IsLineOf files told t name line
+
+-- its line alone
+abbrev pub CameAsLine : List TranscriptFile → List Told → Turn → Type 0
+CameAsLine files told t = (name : List ℕ) × (line : ℕ) × IsLineOf files told t name line
+
 -- ---- any refusal to weave histories
 
--- a front has a place for each file
-abbrev pub HasFront : List TranscriptFile → WeaveFault → Type 0
-HasFront files (weave.NeverSent q) = Unit {0}
-HasFront files (weave.Differs q) = Unit {0}
-HasFront files (weave.NoOrder front) = length front.items ≡ length files
-HasFront files weave.Memory = Unit {0}
+-- of the sender's serial, by the line at which the packet came
+abbrev pub never_sent_line : List ℕ → ℕ → List ℕ → ℕ → List ℕ
+never_sent_line sender serial name line =
+    codes "refused 1 NeverSent(" ++ (sender ++ (codes " " ++ (decimal serial ++ (codes " " ++ (name ++ (codes ":" ++ (decimal line ++ codes ")\n")))))))
 
-abbrev pub weave_line : List Node → List TranscriptFile → List Told → WeaveFault → List ℕ
-weave_line setup files told (weave.NeverSent q) = packet_line (codes "1 NeverSent") (spelled setup q.from) q.serial
-weave_line setup files told (weave.Differs q) = packet_line (codes "2 Differs") (spelled setup q.from) q.serial
-weave_line setup files told (weave.NoOrder front) = front_line files told front.items
-weave_line setup files told weave.Memory = memory_line
+-- of the sender's serial, by the line for which it sent the other packet, and the one at which this came
+abbrev pub differs_line : List ℕ → ℕ → List ℕ → ℕ → List ℕ → ℕ → List ℕ
+differs_line sender serial sent_name sent_line name line =
+    codes "refused 2 Differs(" ++ (sender ++ (codes " " ++ (decimal serial ++ (codes " " ++ (sent_name ++ (codes ":" ++ (decimal sent_line
+    ++ (codes " " ++ (name ++ (codes ":" ++ (decimal line ++ codes ")\n")))))))))))
+
+-- what is told can be: the entries that it names came as lines, and a front has a place for each file
+abbrev pub CanTell : List TranscriptFile → List Told → TurnFault → Type 0
+CanTell files told (weave.NeverSent came) = ComesBy files told came
+CanTell files told (weave.Differs came by) = ComesBy files told came × CameAsLine files told by
+CanTell files told (weave.NoOrder places) = length places.items ≡ length files
+CanTell files told weave.Memory = Unit {0}
+
+-- the line tells it: with the sender of the packet as the setup spells it, and the lines of the entries that it names
+abbrev pub TellsFault : List Node → List TranscriptFile → List Told → TurnFault → List ℕ → Type 0
+TellsFault setup files told (weave.NeverSent came) line =
+    (c : ComesBy files told came) × (line ≡ never_sent_line (spelled setup c.packet.from) c.packet.serial c.name c.line)
+TellsFault setup files told (weave.Differs came by) line =
+    (c : ComesBy files told came) × (s : CameAsLine files told by) × (line ≡ differs_line (spelled setup c.packet.from) c.packet.serial s.0 s.1 c.name c.line)
+TellsFault setup files told (weave.NoOrder places) line = line ≡ front_line files told places.items
+TellsFault setup files told weave.Memory line = line ≡ memory_line

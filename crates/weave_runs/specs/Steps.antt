@@ -10,7 +10,8 @@ use Rattle.ocpi_types.specs.declared.packet.Packet.{Packet}
 use Rattle.histories.specs.Weaving.{Woven, event_of, kind_of}
 use Rattle.node_replay.specs.Replayed.{restart_entry}
 use Rattle.transcript_lines.specs.EventLines.{delivery_text, restart_text}
-use Rattle.transcripts.specs.Told.{Told}
+use Rattle.transcripts.specs.Told.{IsEventLine, Told}
+use Rattle.weave.specs.Given.{IsFrom}
 use Rattle.weave.specs.declared.turn.Turn.{Turn}
 use Rattle.weave_runs.specs.Histories.{teller}
 
@@ -23,13 +24,16 @@ pub record Step : Type 0 where
   pub line : List ℕ
 
 -- The event is that of the entry, in whichever case the line spells the node; and the line tells it. What is written of a
--- delivery or of a start between runs is read so where it is no longer than a line may be.
-pub data IsStep (s : Step) : Type 0 where
-  Came : event_in s.line ≡ Ok s.event → key s.event.node ≡ key s.entry.party → s.event.kind ≡ kind_of s.entry.entry.event → IsStep s
-  Delivered : (at : ℕ) (q : Packet) → s.entry.entry.event ≡ event.Deliver at q → s.line ≡ delivery_text at q.from s.entry.party q.serial → s.event ≡ event_of s.entry
-      → (length s.line ≤ max_line → event_in s.line ≡ Ok s.event) → IsStep s
+-- delivery or of a start between runs is read so where it is no longer than a line may be. A delivery from a given party
+-- stands as it came, with its packet: one node reads it as what came to it.
+pub data IsStep (given : List (List ℕ)) (s : Step) : Type 0 where
+  Came : event_in s.line ≡ Ok s.event → key s.event.node ≡ key s.entry.party → s.event.kind ≡ kind_of s.entry.entry.event → IsStep given s
+  Delivered : (at : ℕ) (q : Packet) → s.entry.entry.event ≡ event.Deliver at q → (IsFrom given q → ⊥) → s.line ≡ delivery_text at q.from s.entry.party q.serial
+      → s.event ≡ event_of s.entry → (length s.line ≤ max_line → event_in s.line ≡ Ok s.event) → IsStep given s
   Restarted : s.entry.entry ≡ restart_entry → s.line ≡ restart_text s.entry.party → s.event ≡ event_of s.entry
-      → (length s.line ≤ max_line → event_in s.line ≡ Ok s.event) → IsStep s
+      → (length s.line ≤ max_line → event_in s.line ≡ Ok s.event) → IsStep given s
+  Given : (at : ℕ) (q : Packet) → s.entry.entry.event ≡ event.Deliver at q → IsFrom given q → IsEventLine s.entry.party s.entry.entry s.line → s.event ≡ event_of s.entry
+      → IsStep given s
 
 -- a line with its end
 abbrev pub ended : List ℕ → List ℕ
@@ -82,22 +86,22 @@ abbrev pub AddsRestart : List ℕ → List ℕ → List ℕ → Type 0
 AddsRestart party before after = AddsText (restart_text party) (record { node = party; kind = kind.Restart }) before after
 
 -- some line, of an entry
-abbrev pub AddsStep : Woven → List ℕ → List ℕ → Type 0
-AddsStep x before after = (s : Step) × IsStep s × (s.entry ≡ x) × AddsLine s.line before after
+abbrev pub AddsStep : List (List ℕ) → Woven → List ℕ → List ℕ → Type 0
+AddsStep given x before after = (s : Step) × IsStep given s × (s.entry ≡ x) × AddsLine s.line before after
 
 -- and of the entry that a turn names
-abbrev pub AddsTurn : List Told → Turn → List ℕ → List ℕ → Type 0
-AddsTurn told t before after = (x : Woven) × Names told t x × AddsStep x before after
+abbrev pub AddsTurn : List (List ℕ) → List Told → Turn → List ℕ → List ℕ → Type 0
+AddsTurn given told t before after = (x : Woven) × Names told t x × AddsStep given x before after
 
 -- ---- the lines of turns
 
 -- the lines of the entries that turns name, in this order
-abbrev pub AreStepsOf : List Told → List Turn → List Step → Type 0
-AreStepsOf told [] [] = Unit {0}
-AreStepsOf told [] (s ∷ steps) = ⊥
-AreStepsOf told (t ∷ turns) [] = ⊥
-AreStepsOf told (t ∷ turns) (s ∷ steps) = IsStep s × Names told t s.entry × AreStepsOf told turns steps
+abbrev pub AreStepsOf : List (List ℕ) → List Told → List Turn → List Step → Type 0
+AreStepsOf given told [] [] = Unit {0}
+AreStepsOf given told [] (s ∷ steps) = ⊥
+AreStepsOf given told (t ∷ turns) [] = ⊥
+AreStepsOf given told (t ∷ turns) (s ∷ steps) = IsStep given s × Names told t s.entry × AreStepsOf given told turns steps
 
 -- the text has the setup line and these
-abbrev pub HasSteps : List Told → List Turn → List ℕ → List ℕ → Type 0
-HasSteps told turns line text = (steps : List Step) × AreStepsOf told turns steps × (text ≡ ended line ++ steps_text steps)
+abbrev pub HasSteps : List (List ℕ) → List Told → List Turn → List ℕ → List ℕ → Type 0
+HasSteps given told turns line text = (steps : List Step) × AreStepsOf given told turns steps × (text ≡ ended line ++ steps_text steps)

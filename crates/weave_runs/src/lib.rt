@@ -2,65 +2,87 @@
 //!
 //! ```
 //! let files = [TranscriptFile { name: "be.transcript", text }, ..];
-//! let ran = run_weave(alloc, &files, &mut writer);
-//! let status = status_of(ran);
+//! let ran = run_weave(alloc, &files, &["NL/TNM"], &mut writer, &mut words);
 //! ```
 #![tactic(auto)]
 
-ghost use Rattle.std.specs.Prelude.{◌≡◌, IfErr, IfOk, List, ℕ, take};
+ghost use Rattle.std.specs.Prelude.{◌≡◌, IfErr, IfOk, List, ℕ, string_bytes, take};
 ghost use Rattle.std.specs.Io.KnownBytes.{Appends};
-ghost use Rattle.line_runs.specs.Run.{gives_front};
-ghost use Rattle.line_runs.specs.declared.outcome.Ran.{Ran as RanOf};
-ghost use Rattle.weave_runs.specs.Outputs.{Weaves};
+ghost use Rattle.weave_runs.specs.Outputs.{EndsBefore, Weaves};
 
+mod difference;
+mod fault;
+mod given;
 mod refusal;
 mod told;
 mod weaving;
+mod words;
 mod written;
 
+pub use fault::{GivenFault, WeaveRunFault};
 use line_runs::{Ran, RunFault, flush, write_whole};
 use refusal::MEMORY_LINE;
 use std::alloc::Global;
 use std::io::Write;
 pub use told::TranscriptFile;
-use weaving::{Written, weave_files};
+use weaving::{Refusal, Written, weave_files};
 
 /// Writes all of these bytes, and has the writer pass them on.
-fn write_all<W: Write>(writer: &mut W, bytes: &[u8], ran: Ran) -> Result<Ran, RunFault>
+fn write_all<'a, W: Write>(writer: &mut W, bytes: &[u8], ran: Ran) -> Result<Ran, WeaveRunFault<'a>>
     ensures ok { IfOk result (λ r. (r ≡ ran) × Appends (W.contents writer.old) (W.contents writer.new) bytes.now) }
-    ensures err { IfErr result (λ fault. (fault ≡ RunFault.WriteFailed)
+    ensures err { IfErr result (λ fault. (fault ≡ WeaveRunFault.Run RunFault.WriteFailed)
         × (n : ℕ) × Appends (W.contents writer.old) (W.contents writer.new) (take n bytes.now)) }
 {
     match write_whole(writer, bytes) {
         Ok(()) => match flush(writer) {
             Ok(()) => Ok(ran),
-            Err(fault) => Err(fault),
+            Err(fault) => Err(WeaveRunFault::Run(fault)),
         },
-        Err(fault) => Err(fault),
+        Err(fault) => Err(WeaveRunFault::Run(fault)),
     }
 }
 
+/// Writes the line of a refusal, and adds what is said beside it to `words`.
+fn write_refusal<'a, W: Write>(
+    writer: &mut W,
+    refusal: &Refusal,
+    words: &mut String,
+) -> Result<Ran, WeaveRunFault<'a>>
+    ensures ok { IfOk result (λ r. (r ≡ Ran.WithRefusals) × Appends (W.contents writer.old) (W.contents writer.new) (string_bytes refusal.now.line)) }
+    ensures err { IfErr result (λ fault. (fault ≡ WeaveRunFault.Run RunFault.WriteFailed)
+        × (n : ℕ) × Appends (W.contents writer.old) (W.contents writer.new) (take n (string_bytes refusal.now.line))) }
+{
+    // Where memory runs out for the words, the line stands alone.
+    let _ = words.push_str(refusal.words.as_str());
+    write_all(writer, refusal.line.as_bytes(), Ran::WithRefusals)
+}
+
 /// Weaves transcripts of nodes of one setup, in the order of the files, and writes the run as input of `play`, or one
-/// line with the refusal. No files give nothing.
+/// line with the refusal. No files give nothing. What the parties sent that `given` names, in whichever case, is taken
+/// as it came: they have no files. Where one of them is none of the setup, or has a file, nothing is written.
 ///
-/// The run is an interleaving of the histories of the files, and a legal run of their setup's world from its opening,
-/// which ends with each node as its history left it. So the nodes are safe, what is acknowledged is held, and answers
-/// agree. Where packets came that were never sent, or were sent otherwise, or there is no order, the line says so, and
-/// these histories have no interleaving.
+/// The run is an interleaving of the histories of the files. Where nothing came from a given party, it is a legal run of
+/// their setup's world from its opening, which ends with each node as its history left it. So the nodes are safe, what
+/// is acknowledged is held, and answers agree. Where packets came that were never sent, or were sent otherwise, or there
+/// is no order, the line says so, and these histories have no interleaving.
 ///
-/// All of it is made before anything is written. Where writing fails, a beginning of it is written.
-pub fn run_weave<W: Write>(
+/// All of it is made before anything is written. Where writing fails, a beginning of it is written. What is said beside
+/// a refusal, if anything, is added to `words`.
+pub fn run_weave<'a, W: Write>(
     alloc: Global,
     files: &[TranscriptFile<'_>],
+    given: &[&'a str],
     writer: &mut W,
-) -> Result<Ran, RunFault>
-    ensures ok { IfOk result (λ ran. (out : List ℕ) × Weaves files.now ran out × Appends (W.contents writer.old) (W.contents writer.new) out) }
-    ensures err { IfErr result (λ fault. (fault ≡ RunFault.WriteFailed)
-        × gives_front (λ out. (ran : RanOf) × Weaves files.now ran out) (W.contents writer.old) (W.contents writer.new)) }
+    words: &mut String,
+) -> Result<Ran, WeaveRunFault<'a>>
+    ensures ok { IfOk result (λ ran. (out : List ℕ) × Weaves given.now files.now ran out
+        × Appends (W.contents writer.old) (W.contents writer.new) out) }
+    ensures err { IfErr result (EndsBefore given.now files.now (W.contents writer.old) (W.contents writer.new)) }
 {
-    match weave_files(alloc, files) {
+    match weave_files(alloc, files, given) {
         Ok(Written::Run(text)) => write_all(writer, text.as_slice(), Ran::Whole),
-        Ok(Written::Refused(line)) => write_all(writer, line.as_bytes(), Ran::WithRefusals),
+        Ok(Written::Refused(refusal)) => write_refusal(writer, &refusal, words),
+        Ok(Written::Wrong(fault)) => Err(WeaveRunFault::Given(fault)),
         Err(_) => write_all(writer, MEMORY_LINE.as_bytes(), Ran::WithRefusals),
     }
 }

@@ -1,16 +1,34 @@
 //! Why transcripts are not woven, as a line.
 
-ghost use Rattle.std.specs.Prelude.{◌≡◌, ◌++◌, IfOk, OnOk, length, string_bytes};
-ghost use Rattle.weave_runs.specs.Refusals.{HasFront, front_line, mark_of, memory_line, next_number, packet_line, place_line, place_text, spelled, transcript_line, weave_line};
+ghost use Rattle.std.specs.Prelude.{◌≡◌, ◌++◌, IfNone, IfOk, IfSome, List, OnOk, length, string_bytes, ℕ};
+ghost use Rattle.ocpi_types.specs.declared.packet.Packet.{Packet as PacketOf};
+ghost use Rattle.weave.specs.declared.turn_fault.TurnFault.TheVariants.{Differs as OfDiffers, NeverSent as OfNeverSent};
+ghost use Rattle.weave_runs.specs.Refusals.{
+  CanTell,
+  DeliversAt,
+  IsLineOf,
+  TellsFault,
+  differs_line,
+  front_line,
+  mark_of,
+  memory_line,
+  never_sent_line,
+  next_number,
+  place_line,
+  place_text,
+  spelled,
+  transcript_line,
+};
 
 use crate::told::TranscriptFile;
+use crate::written::delivered_by;
 use json_text::is_same_party;
 use ocpi_text::Party;
 use ocpi_types::{Node, Packet};
 use std::alloc::{AllocError, Global};
 use transcript_parts::TranscriptFault;
 use transcripts::{Source, Transcript};
-use weave::WeaveFault;
+use weave::{Turn, TurnFault};
 
 /// What is told where memory ran out.
 pub(crate) const MEMORY_LINE: &str = "refused 4 Memory\n";
@@ -27,24 +45,12 @@ fn spelling<'a>(nodes: &'a [Node], party: &'a Party) -> &'a Party
     party
 }
 
-/// The line of a refusal that names a packet. An error is want of memory.
-fn packet_refusal(
-    alloc: Global,
-    what: &str,
-    nodes: &[Node],
-    packet: &Packet,
-) -> Result<String, AllocError>
-    ensures { IfOk result (λ s. string_bytes s ≡ packet_line what.now (spelled nodes.now packet.now.from) packet.now.serial) }
-{
-    let mut output = String::new(alloc);
-    let party = spelling(nodes, &packet.from);
-    writeln!(
-        output,
-        "refused {what}({} {})",
-        party.as_str(),
-        packet.serial.value()
-    )?;
-    Ok(output)
+/// A line of a file.
+#[derive(Clone, Copy)]
+pub(crate) struct Place<'a> {
+    /// The name of the file.
+    pub name: &'a str,
+    pub line: usize,
 }
 
 /// The line of a refusal that names a line of a file. An error is want of memory.
@@ -132,22 +138,154 @@ fn front_refusal(
     Ok(output)
 }
 
+/// The packet that the entry of a turn delivers.
+pub(crate) fn packet_at<'a>(transcripts: &'a [Transcript<'_>], turn: Turn) -> Option<&'a Packet>
+    ensures some { IfSome result (λ q. DeliversAt transcripts.now turn q.now) }
+    ensures none { IfNone result ((q : PacketOf) → DeliversAt transcripts.now turn q → ⊥) }
+{
+    let Some(transcript) = transcripts.get(turn.history) else {
+        return None;
+    };
+    match transcript.entries().get(turn.entry) {
+        Some(entry) => delivered_by(entry),
+        None => None,
+    }
+}
+
+/// Where the line of the entry of a turn stands, where it came as a line.
+pub(crate) fn place_of<'a>(
+    files: &[TranscriptFile<'a>],
+    transcripts: &[Transcript<'_>],
+    turn: Turn,
+) -> Option<Place<'a>>
+    ensures some { IfSome result (λ p. IsLineOf files.now transcripts.now turn p.name.now p.line) }
+    ensures none { IfNone result ((name : List ℕ) (line : ℕ) → IsLineOf files.now transcripts.now turn name line → ⊥) }
+{
+    let Some(file) = files.get(turn.history) else {
+        return None;
+    };
+    let Some(transcript) = transcripts.get(turn.history) else {
+        return None;
+    };
+    match next_line(transcript, turn.entry) {
+        Some(line) => Some(Place {
+            name: file.name,
+            line,
+        }),
+        None => None,
+    }
+}
+
+/// The line that tells that a packet came which was never sent. An error is want of memory.
+fn never_sent_line(
+    alloc: Global,
+    nodes: &[Node],
+    packet: &Packet,
+    came: Place<'_>,
+) -> Result<String, AllocError>
+    ensures { IfOk result (λ s. string_bytes s ≡ never_sent_line (spelled nodes.now packet.now.from) packet.now.serial came.name.now came.line) }
+{
+    let mut output = String::new(alloc);
+    let party = spelling(nodes, &packet.from);
+    writeln!(
+        output,
+        "refused 1 NeverSent({} {} {}:{})",
+        party.as_str(),
+        packet.serial.value(),
+        came.name,
+        came.line
+    )?;
+    Ok(output)
+}
+
+/// The line that tells that a packet came otherwise than it was sent. An error is want of memory.
+fn differs_line(
+    alloc: Global,
+    nodes: &[Node],
+    packet: &Packet,
+    sent: Place<'_>,
+    came: Place<'_>,
+) -> Result<String, AllocError>
+    ensures { IfOk result (λ s. string_bytes s
+        ≡ differs_line (spelled nodes.now packet.now.from) packet.now.serial sent.name.now sent.line came.name.now came.line) }
+{
+    let mut output = String::new(alloc);
+    let party = spelling(nodes, &packet.from);
+    writeln!(
+        output,
+        "refused 2 Differs({} {} {}:{} {}:{})",
+        party.as_str(),
+        packet.serial.value(),
+        sent.name,
+        sent.line,
+        came.name,
+        came.line
+    )?;
+    Ok(output)
+}
+
+/// The line of a refusal by an entry that delivers a packet which was never sent. An error is want of memory.
+fn never_sent_refusal(
+    alloc: Global,
+    nodes: &[Node],
+    files: &[TranscriptFile<'_>],
+    transcripts: &[Transcript<'_>],
+    came: Turn,
+) -> Result<String, AllocError>
+    requires { CanTell files.now transcripts.now (OfNeverSent came) }
+    ensures { IfOk result (λ s. TellsFault nodes.now files.now transcripts.now (OfNeverSent came) (string_bytes s)) }
+{
+    let Some(packet) = packet_at(transcripts, came) else {
+        return memory_refusal(alloc);
+    };
+    match place_of(files, transcripts, came) {
+        Some(place) => never_sent_line(alloc, nodes, packet, place),
+        None => memory_refusal(alloc),
+    }
+}
+
+/// The line of a refusal by an entry that delivers a packet, and the one that gave another. An error is want of memory.
+fn differs_refusal(
+    alloc: Global,
+    nodes: &[Node],
+    files: &[TranscriptFile<'_>],
+    transcripts: &[Transcript<'_>],
+    came: Turn,
+    sent: Turn,
+) -> Result<String, AllocError>
+    requires { CanTell files.now transcripts.now (OfDiffers came sent) }
+    ensures { IfOk result (λ s. TellsFault nodes.now files.now transcripts.now (OfDiffers came sent) (string_bytes s)) }
+{
+    let Some(packet) = packet_at(transcripts, came) else {
+        return memory_refusal(alloc);
+    };
+    let Some(left) = place_of(files, transcripts, sent) else {
+        return memory_refusal(alloc);
+    };
+    match place_of(files, transcripts, came) {
+        Some(right) => differs_line(alloc, nodes, packet, left, right),
+        None => memory_refusal(alloc),
+    }
+}
+
 /// The line that refuses histories which have no interleaving. An error is want of memory.
 pub(crate) fn weave_refusal(
     alloc: Global,
     nodes: &[Node],
     files: &[TranscriptFile<'_>],
     transcripts: &[Transcript<'_>],
-    fault: &WeaveFault,
+    fault: &TurnFault,
 ) -> Result<String, AllocError>
     requires told { length transcripts.now ≡ length files.now }
-    requires front { HasFront files.now fault.now }
-    ensures { IfOk result (λ s. string_bytes s ≡ weave_line nodes.now files.now transcripts.now fault.now) }
+    requires can { CanTell files.now transcripts.now fault.now }
+    ensures { IfOk result (λ s. TellsFault nodes.now files.now transcripts.now fault.now (string_bytes s)) }
 {
     match fault {
-        WeaveFault::NeverSent(packet) => packet_refusal(alloc, "1 NeverSent", nodes, packet),
-        WeaveFault::Differs(packet) => packet_refusal(alloc, "2 Differs", nodes, packet),
-        WeaveFault::NoOrder(front) => front_refusal(alloc, files, transcripts, front.as_slice()),
-        WeaveFault::Memory => memory_refusal(alloc),
+        TurnFault::NeverSent(came) => never_sent_refusal(alloc, nodes, files, transcripts, *came),
+        TurnFault::Differs(came, sent) => {
+            differs_refusal(alloc, nodes, files, transcripts, *came, *sent)
+        }
+        TurnFault::NoOrder(places) => front_refusal(alloc, files, transcripts, places.as_slice()),
+        TurnFault::Memory => memory_refusal(alloc),
     }
 }

@@ -2,7 +2,7 @@
 
 ghost use Rattle.std.specs.Prelude.{◌≡◌, IfErr, IfOk};
 ghost use Rattle.weave_runs.specs.Histories.{AreToldOf, AreTranscripts};
-ghost use Rattle.weave_runs.specs.Refusals.{IsOfFile};
+ghost use Rattle.weave_runs.specs.Accusations.{RefusesAt};
 
 use json_text::Scratch;
 use ocpi_types::Setup;
@@ -48,7 +48,7 @@ pub(crate) fn read_files<'a>(
 ) -> Result<Vec<Transcript<'a>>, FileFault<'a>>
     ensures told { IfOk result (λ ts. AreToldOf setup.now ts.items) }
     ensures transcripts { IfOk result (λ ts. AreTranscripts setup.now files.now ts.items) }
-    ensures err { IfErr result (λ f. IsOfFile files.now f.name.now) }
+    ensures err { IfErr result (λ f. RefusesAt setup.now files.now f.name.now f.fault) }
 {
     let mut transcripts = Vec::new(alloc);
     for file in files {

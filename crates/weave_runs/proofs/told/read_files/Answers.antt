@@ -2,7 +2,7 @@ use Rattle.std.proofs.Common.{◌≡◌, ◌++◌, ◌∷◌, ◌+◌, [], take,
 use Rattle.std.proofs.lemmas.Option.{slice_get-get_or}
 use Rattle.transcripts.specs.Following.{IsNew}
 use Rattle.weave_runs.specs.Histories.{AreToldOf, AreTranscripts, teller}
-use Rattle.weave_runs.proofs.ToldLemmas.{told_more, transcripts_more}
+use Rattle.weave_runs.proofs.ToldLemmas.{refuses_here, told_more, transcripts_more}
 use Rattle.weave_runs.proofs.told.read_files.Goals as goal
 
 pub loop-file-preserved : goal.loop-file-preserved
@@ -16,3 +16,13 @@ loop-file-preserved c =
       subst (AreTranscripts setup (take (c.loop-file.file-index + 1) c.args.files.now)) (sym items)
           (transcripts_more setup c.args.files.now before c.loop-file.file-index _ t (slice_get-get_or c.args.files.now c.loop-file.file-index _ (omega arith)) c.loop-file.invariant.1 c.as_slice-earlier.result.now c.as_slice-earlier.ensures.value c.in-Ok.ensures.told),
     )
+
+pub returns-in-Err : goal.returns-in-Err
+returns-in-Err c =
+    refuses_here c.args.setup.now c.args.files.now c.loop-file.transcripts.items c.loop-file.file-index _ _ _ (slice_get-get_or c.args.files.now c.loop-file.file-index _ (omega arith))
+    c.loop-file.invariant.1 (sym c.of.ensures.name)
+
+pub returns-in-Err-push : goal.returns-in-Err-push
+returns-in-Err-push c =
+    refuses_here c.args.setup.now c.args.files.now c.loop-file.transcripts.items c.loop-file.file-index _ _ _ (slice_get-get_or c.args.files.now c.loop-file.file-index _ (omega arith))
+    c.loop-file.invariant.1 (sym c.of.ensures.name)

@@ -1,7 +1,23 @@
-use Rattle.std.proofs.Common.{refl, sym}
-use Rattle.histories.proofs.Lists.{is_in}
-use Rattle.weave_runs.specs.Outputs.{OfFile}
+use Rattle.std.proofs.Common.{drop, refl, sym}
+use Rattle.weave_runs.specs.Accusations.{AtFirst}
+use Rattle.weave_runs.proofs.OutputLemmas.{file_refused, ok_more}
+use Rattle.weave_runs.proofs.RefusalLemmas.{drop_one}
 use Rattle.weave_runs.proofs.weaving.weave_files.Goals as goal
 
-pub returns : goal.returns
-returns c = OfFile _ _ (c.in-Some.first.now, is_in c.args.files.now 0 c.in-Some.first.now (sym c.in-Some.ensures.value), refl) c.in_ok-file_refusal-in-Err.ensures
+pub weave_from-requires : goal.weave_from-requires
+weave_from-requires c = record {
+  first = c.in-Some.first.now;
+  others = drop 1 c.args.files.now;
+  files_are = drop_one c.args.files.now 0 c.in-Some.first.now (sym c.in-Some.ensures.value);
+  setup_line = c.in-Ok.ensures;
+}
+
+pub returns-in-Err : goal.returns-in-Err
+returns-in-Err c =
+    let refuses = record {
+      first = c.in-Some.first.now;
+      others = drop 1 c.args.files.now;
+      files_are = drop_one c.args.files.now 0 c.in-Some.first.now (sym c.in-Some.ensures.value);
+      name_is = refl;
+    } in
+    ok_more c.refused_file.result (λ w is. file_refused c.args.words.now c.args.files.now _ _ (AtFirst refuses) w is) c.refused_file.ensures

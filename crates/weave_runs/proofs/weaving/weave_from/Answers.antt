@@ -1,5 +1,6 @@
-use Rattle.weave_runs.specs.Outputs.{OfFile}
+use Rattle.weave_runs.specs.Accusations.{Behind}
+use Rattle.weave_runs.proofs.OutputLemmas.{file_refused, ok_more}
 use Rattle.weave_runs.proofs.weaving.weave_from.Goals as goal
 
-pub returns-in_ok-file_refusal-in-Err : goal.returns-in_ok-file_refusal-in-Err
-returns-in_ok-file_refusal-in-Err c = OfFile _ _ c.in-Err.ensures.err c.in_ok-file_refusal-in-Err.ensures
+pub returns-in-Err : goal.returns-in-Err
+returns-in-Err c = ok_more c.refused_file.result (λ w is. file_refused c.args.words.now c.args.files.now _ _ (Behind _ _ c.requires c.in-Err.ensures.err) w is) c.refused_file.ensures

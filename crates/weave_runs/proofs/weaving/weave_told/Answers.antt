@@ -1,37 +1,35 @@
-use Rattle.std.proofs.Common.{ap, map, sym, subst, ◌∙◌, inr}
+use Rattle.std.proofs.Common.{sym, subst}
 use Rattle.ocpi_types.specs.declared.setup.Node.{Node}
 use Rattle.std.specs.Prelude.{List}
-use Rattle.weave.specs.Turns.{IsOrder}
-use Rattle.weave_runs.specs.Histories.{lived}
-use Rattle.weave_runs.specs.Refusals.{weave_line}
-use Rattle.weave_runs.proofs.ToldLemmas as told
-use Rattle.weave_runs.proofs.StepLemmas as step
-use Rattle.weave_runs.proofs.OutputLemmas as output
+use Rattle.weave_runs.specs.Outputs.{Read}
+use Rattle.weave_runs.specs.Parties.{AreGiven, IsWrongAmong}
+use Rattle.weave_runs.proofs.OutputLemmas.{ok_more, read_written}
 use Rattle.weave_runs.proofs.weaving.weave_told.Goals as goal
-
-pub weave_turns-requires-clause-apart : goal.weave_turns-requires-clause-apart
-weave_turns-requires-clause-apart c =
-    told.apart _ c.args.transcripts.now c.deref.result.now (ap (map lived) c.deref.ensures.value ∙ c.in_ok-histories.ensures) c.requires.told
-
-pub weave_turns-requires-clause-numbered : goal.weave_turns-requires-clause-numbered
-weave_turns-requires-clause-numbered c =
-    told.numbered _ c.args.transcripts.now c.deref.result.now (ap (map lived) c.deref.ensures.value ∙ c.in_ok-histories.ensures) c.requires.told c.nodes_of-nodes.ensures.is_setup c.replays_are_numbered.ensures
-
-pub woven_text-requires : goal.woven_text-requires
-woven_text-requires c =
-    let order = subst (IsOrder c.deref.result.now) (sym c.as_slice.ensures.value) c.in-Ok.ensures.order in
-    step.order_named c.args.transcripts.now c.deref.result.now (ap (map lived) c.deref.ensures.value ∙ c.in_ok-histories.ensures) c.as_slice.result.now order
 
 pub returns-in-Ok : goal.returns-in-Ok
 returns-in-Ok c =
-    let same = ap (map lived) c.deref.ensures.value ∙ c.in_ok-histories.ensures in
-    let order = subst (IsOrder c.deref.result.now) (sym c.as_slice.ensures.value) c.in-Ok.ensures.order in
-    inr (output.woven c.args.files.now c.args.beginning.now.setup c.args.transcripts.now c.deref.result.now c.requires.transcripts same c.requires.told c.nodes_of-nodes.ensures.is_setup
-    c.interleavings_are_runs.ensures c.args.beginning.now.line.now c.requires.setup_line c.as_slice.result.now order _ c.in_ok-woven_text-in-Ok.ensures)
+    let told = c.args.transcripts.now in
+    let words = c.args.words.now in
+    let parties = subst (AreGiven c.nodes_of-nodes.result.now told words) (sym c.as_slice.ensures.value) c.in-Ok.ensures.given in
+    let read : Read words c.args.files.now = record {
+      setup = c.args.beginning.now.setup;
+      line = c.args.beginning.now.line.now;
+      told = told;
+      given = c.as_slice.result.now;
+      begins = c.requires.begins;
+      are_transcripts = c.requires.transcripts;
+      are_told = c.requires.told;
+      are_given = subst (λ (ns : List Node). AreGiven ns told words c.as_slice.result.now) c.nodes_of-nodes.ensures.value parties;
+    } in
+    ok_more c.weave_given.result (λ w is. read_written words c.args.files.now read w is) c.weave_given.ensures
 
-pub returns : goal.returns
-returns c =
-    let same = ap (map lived) c.deref.ensures.value ∙ c.in_ok-histories.ensures in
-    let spelled = ap (λ (ns : List Node). weave_line ns c.args.files.now c.args.transcripts.now c.in-Err.fault) c.nodes_of-nodes.ensures.value in
-    output.refusal c.args.files.now c.args.beginning.now.setup c.args.transcripts.now c.deref.result.now c.requires.transcripts same c.requires.told c.in-Err.fault c.in-Err.ensures.cause
-    c.in-Err.ensures.complete _ (c.in_ok-weave_refusal-in-Err.ensures ∙ spelled)
+pub returns-in-Err-Wrong : goal.returns-in-Err-Wrong
+returns-in-Err-Wrong c = record {
+  setup = c.args.beginning.now.setup;
+  line = c.args.beginning.now.line.now;
+  told = c.args.transcripts.now;
+  begins = c.requires.begins;
+  are_transcripts = c.requires.transcripts;
+  are_told = c.requires.told;
+  wrong = subst (λ (ns : List Node). IsWrongAmong ns c.args.transcripts.now c.args.words.now c.in-Err-Wrong.fault) c.nodes_of-nodes.ensures.value c.in-Err-Wrong.ensures.wrong;
+}

@@ -4,4 +4,4 @@ use Rattle.weave_runs.proofs.written.woven_text.Given as goal
 
 -- the lines of the turns before this one are written
 abbrev pub invariant-loop-turn : goal.invariant-loop-turn
-invariant-loop-turn l = HasSteps l.transcripts (take l.turn-index l.turns) l.line l.text.items
+invariant-loop-turn l = HasSteps l.given l.transcripts (take l.turn-index l.turns) l.line l.text.items

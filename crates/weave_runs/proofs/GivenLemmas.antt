@@ -1,0 +1,21 @@
+-- The parties that words name.
+use Rattle.std.proofs.Common.{◌≡◌, ℕ, ◌+◌, List, [], ◌∷◌, ◌++◌, take, sym, subst}
+use Rattle.std.specs.Borrow.{Bor}
+use Rattle.std.specs.Prelude.{Some, slice_get}
+use Rattle.ocpi_types.specs.declared.setup.Node.{Node}
+use Rattle.histories.proofs.Lists.{take_one}
+use Rattle.transcripts.specs.Told.{Told}
+use Rattle.weave_runs.specs.Parties.{AreGiven, IsGiven}
+
+module _ (setup : List Node) (told : List Told) where
+  given_push : (ws : List (Bor (List ℕ))) (ps : List (List ℕ)) (w : Bor (List ℕ)) (p : List ℕ) → AreGiven setup told ws ps → IsGiven setup told w.now p → AreGiven setup told (ws ++ w ∷ []) (ps ++ p ∷ [])
+  given_push [] [] w p h is = (is, tt)
+  given_push [] (q ∷ ps) w p h is = absurd h
+  given_push (v ∷ ws) [] w p h is = absurd h
+  given_push (v ∷ ws) (q ∷ ps) w p (first, rest) is = (first, given_push ws ps w p rest is)
+
+  -- one word more
+  pub given_more : (words : List (Bor (List ℕ))) (i : ℕ) (w : Bor (List ℕ)) (ps longer : List (List ℕ)) (p : List ℕ) → slice_get words i ≡ Some w → AreGiven setup told (take i words) ps
+      → IsGiven setup told w.now p → longer ≡ ps ++ p ∷ [] → AreGiven setup told (take (i + 1) words) longer
+  given_more words i w ps longer p at are is added =
+      subst (AreGiven setup told (take (i + 1) words)) (sym added) (subst (λ ws. AreGiven setup told ws (ps ++ p ∷ [])) (sym (take_one words i w at)) (given_push (take i words) ps w p are is))

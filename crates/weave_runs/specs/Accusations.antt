@@ -1,0 +1,39 @@
+-- How files begin, and which is refused.
+use Rattle.std.specs.Prelude.{◌≡◌, ℕ, List, [], ◌∷◌, ◌++◌, Ok}
+use Rattle.ocpi_json.specs.SetupForms.{setup_in}
+use Rattle.ocpi_types.specs.declared.setup.Node.{Node}
+use Rattle.transcript_parts.specs.declared.fault.TranscriptFault.{TranscriptFault}
+use Rattle.transcripts.specs.Told.{Told}
+use Rattle.weave_runs.specs.Histories.{AreTranscripts}
+use Rattle.weave_runs.specs.Refusals.{transcript_line}
+use Rattle.weave_runs.specs.declared.told.TranscriptFile.{TranscriptFile}
+
+-- the first of the files begins with that setup, which is read of that line
+pub record Begin (files : List TranscriptFile) (line : List ℕ) (setup : List Node) : Type 0 where
+  pub first : TranscriptFile
+  pub others : List TranscriptFile
+  pub files_are : files ≡ first ∷ others
+  pub setup_line : setup_in line ≡ Ok setup
+
+-- The files before one of that name are transcripts of nodes of the setup, and that one is refused by the fault.
+pub record RefusesAt (setup : List Node) (files : List TranscriptFile) (name : List ℕ) (fault : TranscriptFault) : Type 0 where
+  pub front : List TranscriptFile
+  pub file : TranscriptFile
+  pub behind : List TranscriptFile
+  pub files_are : files ≡ front ++ file ∷ behind
+  pub name_is : file.name.now ≡ name
+  pub told : List Told
+  pub are_transcripts : AreTranscripts setup front told
+
+-- the first file is of that name, and has no beginning
+pub record HasNoBeginning (files : List TranscriptFile) (name : List ℕ) (fault : TranscriptFault) : Type 0 where
+  pub first : TranscriptFile
+  pub others : List TranscriptFile
+  pub files_are : files ≡ first ∷ others
+  pub name_is : first.name.now ≡ name
+
+-- a file is refused: the first, which has no beginning, or one behind transcripts of nodes of the setup with which the first
+-- begins
+pub data RefusesFile (files : List TranscriptFile) (name : List ℕ) (fault : TranscriptFault) : Type 0 where
+  AtFirst : HasNoBeginning files name fault → RefusesFile files name fault
+  Behind : (line : List ℕ) (setup : List Node) → Begin files line setup → RefusesAt setup files name fault → RefusesFile files name fault
