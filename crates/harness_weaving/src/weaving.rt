@@ -12,7 +12,7 @@ use crate::parting::{Parted, part};
 use cell_weaving::weave_cells;
 use node_core::nodes_of;
 use node_desk::Gate;
-use node_harness::{Loss, Ran, Script, run_nodes};
+use node_harness::{Loss, NodeRan, Script, run_nodes};
 use node_history::NodeCell;
 use node_store::ListKeep;
 use ocpi_types::{Event, Setup};
@@ -32,18 +32,16 @@ pub struct WovenRun {
     pub events: Vec<Event>,
 }
 
-/// Takes the nodes of a run apart, and weaves what happened at them.
-fn weave_parts(alloc: Global, ran: Ran) -> Result<WovenRun, NoRun>
-    requires { (setup : List NodeOf) × AreCellsOf setup (map cell_in ran.nodes.items) }
-    ensures parts { IfOk result (λ w. ArePartsOf ran.nodes.items w.cells.items w.receipts.items) }
-    ensures run { IfOk result (λ w. (setup : List NodeOf) → AreCellsOf setup (map cell_in ran.nodes.items)
-        → IsRunOfCells setup w.cells.items w.events.items) }
-    ensures err { IfErr result (IsToldOf (map cell_in ran.nodes.items)) }
+/// Weaves what happened at cells.
+fn weave_parts(alloc: Global, parted: Parted) -> Result<WovenRun, NoRun>
+    requires { (setup : List NodeOf) × AreCellsOf setup parted.cells.items }
+    ensures cells { IfOk result (λ w. w.cells.items ≡ parted.cells.items) }
+    ensures receipts { IfOk result (λ w. w.receipts.items ≡ parted.receipts.items) }
+    ensures run { IfOk result (λ w. (setup : List NodeOf) → AreCellsOf setup parted.cells.items
+        → IsRunOfCells setup parted.cells.items w.events.items) }
+    ensures err { IfErr result (IsToldOf parted.cells.items) }
 {
-    let Ran { nodes } = ran;
-    let Ok(Parted { cells, receipts }) = part(alloc, nodes) else {
-        return Err(NoRun::Memory);
-    };
+    let Parted { cells, receipts } = parted;
     match weave_cells(alloc, cells.as_slice()) {
         Ok(events) => Ok(WovenRun {
             cells,
@@ -51,6 +49,20 @@ fn weave_parts(alloc: Global, ran: Ran) -> Result<WovenRun, NoRun>
             events,
         }),
         Err(fault) => Err(of_weave(fault)),
+    }
+}
+
+/// Takes the nodes of a run apart, and weaves what happened at them.
+fn weave_nodes(alloc: Global, nodes: Vec<NodeRan>) -> Result<WovenRun, NoRun>
+    requires { (setup : List NodeOf) × AreCellsOf setup (map cell_in nodes.items) }
+    ensures parts { IfOk result (λ w. ArePartsOf nodes.items w.cells.items w.receipts.items) }
+    ensures run { IfOk result (λ w. (setup : List NodeOf) → AreCellsOf setup (map cell_in nodes.items)
+        → IsRunOfCells setup (map cell_in nodes.items) w.events.items) }
+    ensures err { IfErr result (IsToldOf (map cell_in nodes.items)) }
+{
+    match part(alloc, nodes) {
+        Ok(parted) => weave_parts(alloc, parted),
+        Err(_) => Err(NoRun::Memory),
     }
 }
 
@@ -76,7 +88,7 @@ pub fn run_and_weave<G: Gate + Sync, R: Threads + Wait + Sync>(
 {
     let _members = nodes_of(setup);
     match run_nodes(rt, alloc, setup, script, losses, gate) {
-        Ok(ran) => weave_parts(alloc, ran),
+        Ok(ran) => weave_nodes(alloc, ran.nodes),
         Err(fault) => Err(of_run(fault)),
     }
 }
