@@ -1,5 +1,5 @@
 -- The cells of the nodes of a run are fit to be woven.
-use Rattle.std.proofs.Common.{◌≡◌, ◌∙◌, ℕ, List, length, map, sym, ap, subst, arith, option_map, Result, Ok, Err, IfOk, IfErr}
+use Rattle.std.proofs.Common.{◌≡◌, ◌∙◌, ℕ, ◌<◌, List, length, map, sym, ap, subst, arith, option_map, Result, Ok, Err, IfOk, IfErr}
 use Rattle.std.proofs.lemmas.List.{length-map}
 use Rattle.std.proofs.lemmas.Option.{slice_get-map}
 use Rattle.std.specs.Prelude.{Contains, Some, slice_get, vec_len}
@@ -99,5 +99,5 @@ told cells weave.Memory why = tt
 
 pub parts_of : (nodes : List NodeRan) (parted : Parted) (r : Result WovenRun NoRun) → ArePartsOf nodes parted.cells.items parted.receipts.items → IfOk r (λ w. w.cells.items ≡ parted.cells.items)
     → IfOk r (λ w. w.receipts.items ≡ parted.receipts.items) → IfOk r (λ w. ArePartsOf nodes w.cells.items w.receipts.items)
-parts_of nodes parted (Ok w) parts cells receipts = record { cells_are = cells ∙ parts.cells_are; receipts_are = receipts ∙ parts.receipts_are }
-parts_of nodes parted (Err f) parts cells receipts = tt
+parts_of nodes parted (Ok w) parts same_cells same_receipts = record { cells_are = same_cells ∙ parts.cells_are; receipts_are = same_receipts ∙ parts.receipts_are }
+parts_of nodes parted (Err f) parts same_cells same_receipts = tt
