@@ -1,0 +1,55 @@
+-- What of a node is told apart, so that its answer is one.
+use Rattle.std.specs.Prelude.{◌≡◌, ℕ, List, [], map, Some, Contains, IsSome, ⊤}
+use Rattle.std.specs.FinMap.{get}
+use Rattle.ocpi_text.specs.Text.{key}
+use Rattle.ocpi_types.specs.Connectors.{AreConnectors}
+use Rattle.ocpi_types.specs.Locations.{AreLocations}
+use Rattle.ocpi_types.specs.Parties.{AreParties}
+use Rattle.ocpi_types.specs.declared.commands.Command.{Command}
+use Rattle.ocpi_types.specs.declared.commands.Command.TheVariants as command
+use Rattle.ocpi_types.specs.declared.packet.Body.{Body}
+use Rattle.ocpi_types.specs.declared.packet.Body.TheVariants as body
+use Rattle.ocpi_types.specs.declared.site.Evse.{Evse}
+use Rattle.ocpi_types.specs.declared.site.Location.{Location}
+use Rattle.ocpi_types.specs.declared.stored.SentCommand.{SentCommand}
+use Rattle.operator_rows.specs.State as operator
+use Rattle.operator_steps.specs.Events as inputs
+use Rattle.provider_rows.specs.State as provider
+use Rattle.provider_rows.specs.State.{url_of}
+use Rattle.world_steps.specs.World.{NodeState, Operates, Provides}
+
+-- no two commands of a provider have their results posted to one url. So it is of each that ran from its opening
+-- (OCPI 2.2.1, Commands: response_url)
+abbrev pub UrlsDiffer : provider.State → Type 0
+UrlsDiffer s = (m n : ℕ) (c d : SentCommand) → get s.rows.outbox.commands m ≡ Some c → get s.rows.outbox.commands n ≡ Some d → url_of c.command ≡ url_of d.command → m ≡ n
+
+-- no two providers of an operator are one party, and no two of its locations, of its EVSEs, or of the connectors of an
+-- EVSE have one id. The types of a site keep it
+pub record SiteDiffers (s : operator.State) : Type 0 where
+  pub parties : AreParties (record { operator = s.party; providers = s.providers })
+  pub locations : AreLocations s.site.locations
+  pub connectors : (l : Location) (e : Evse) → Contains s.site.locations l → Contains l.evses e → AreConnectors e.connectors
+
+-- what a node is told apart by
+abbrev pub IsApart : NodeState → Type 0
+IsApart (Operates s) = SiteDiffers s
+IsApart (Provides s) = UrlsDiffer s
+
+-- a start and a reservation name the EVSE that they are about, which else is picked of several (OCPI 2.2.1, Commands:
+-- StartSession, ReserveNow)
+abbrev pub NamesEvse : Command → Type 0
+NamesEvse (command.StartSession c) = IsSome c.evse_uid
+NamesEvse (command.ReserveNow c) = IsSome c.evse_uid
+NamesEvse (command.StopSession c) = ⊤
+NamesEvse (command.CancelReservation c) = ⊤
+NamesEvse (command.UnlockConnector c) = ⊤
+
+-- the packet leaves an operator no EVSE to pick
+abbrev pub LeavesNoPick : Body → Type 0
+LeavesNoPick (body.Command c) = NamesEvse c
+LeavesNoPick other = ⊤
+
+-- and neither does the input
+abbrev pub PicksNone : inputs.Input → Type 0
+PicksNone (inputs.Arrives at q) = LeavesNoPick q.body
+PicksNone other = ⊤
