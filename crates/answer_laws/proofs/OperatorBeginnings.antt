@@ -110,7 +110,7 @@ one_told m p type uid x y (desk.Known t shown line) (desk.Known u also other) =
 
 module _ (s : State) (one : OneClaimEach s.rows) where
   -- the reservation that holds an EVSE is one
-  one_hold : (evse uid other : List ℕ) (type kind : TokenType) (p q id key_of : List ℕ) → HoldsFor s.rows evse uid type p id → HoldsFor s.rows evse other kind q key_of → (p ≡ q) × (id ≡ key_of)
+  one_hold : (evse uid other : List ℕ) (type kind : TokenType) (p q id jd : List ℕ) → HoldsFor s.rows evse uid type p id → HoldsFor s.rows evse other kind q jd → (p ≡ q) × (id ≡ jd)
   one_hold evse uid other type kind p q id jd h g =
       let first : Claim = Reserved p id in
       let second : Claim = Reserved q jd in

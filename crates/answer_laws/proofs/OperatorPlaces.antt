@@ -1,5 +1,5 @@
 -- A place of a site is found by its ids.
-use Rattle.std.proofs.Common.{◌≡◌, ℕ, List, [], ◌∷◌, refl, sym, ap, subst, ◌∙◌}
+use Rattle.std.proofs.Common.{◌≡◌, ℕ, true, false, List, [], ◌∷◌, refl, sym, ap, subst, ◌∙◌}
 use Rattle.std.specs.Prelude.{Option, None, Some, Contains, slice_get, IsSome}
 use Rattle.ocpi_text.specs.Text.{key}
 use Rattle.ocpi_types.specs.Apart.{AllDiffer}
@@ -39,23 +39,23 @@ module _ (s : State) (apart : SiteDiffers s) where
   one_provider party p q h g = one_peer (key s.party ∷ []) s.providers party p q apart.parties.apart h g
 
   pub one_location : (id : List ℕ) (l m : Location) → IsLocation s.site.locations id l → IsLocation s.site.locations id m → l ≡ m
-  one_location id l m h g = one_of_key (λ (x : Location). key x.id) [] s.site.locations l m apart.locations.apart h.listed g.listed (h.same ∙ sym g.same)
+  one_location id l m h g = one_of_key (λ (x : Location). key x.id) [] s.site.locations l m apart.places.locations.apart h.listed g.listed (h.same ∙ sym g.same)
 
   -- a connector that is found by the uid of its EVSE and by its own id
   pub one_connector : (evse connector : List ℕ) (l m : Location) (e f : Evse) (j k : Connector) → IsConnectorAt s.site.locations evse connector l e j → IsConnectorAt s.site.locations evse connector m f k →
       (l ≡ m) × (e ≡ f) × (j ≡ k)
   one_connector evse connector l m e f j k h g =
-      let one = one_evse s.site.locations evse l m e f apart.locations.evses_apart h.of_site g.of_site in
+      let one = one_evse s.site.locations evse l m e f apart.places.locations.evses_apart h.of_site g.of_site in
       let here : Contains f.connectors j = subst (λ (x : Evse). Contains x.connectors j) one.1 h.listed in
-      (one.0, one.1, same_connector f.connectors (apart.connectors m f g.of_site.listed g.of_site.within) j k here g.listed (h.same ∙ sym g.same))
+      (one.0, one.1, same_connector f.connectors (apart.places.connectors m f g.of_site.listed g.of_site.within) j k here g.listed (h.same ∙ sym g.same))
 
   -- an EVSE of a location that is named is one
   pub one_named : (named : Option (List ℕ)) (l : Location) (e f : Evse) → IsSome named → Contains s.site.locations l → IsEvseFor l named e → IsEvseFor l named f → e ≡ f
-  one_named None l e f is listed h g = absurd is
+  one_named None l e f is listed h g = absurd (let bad : false ≡ true = is in cc)
   one_named (Some name) l e f is listed h g =
-      (one_evse s.site.locations (key name) l l e f apart.locations.evses_apart (record { listed = listed; within = h.listed; same = h.named }) (record { listed = listed; within = g.listed; same = g.named })).1
+      (one_evse s.site.locations (key name) l l e f apart.places.locations.evses_apart (record { listed = listed; within = h.listed; same = h.named }) (record { listed = listed; within = g.listed; same = g.named })).1
 
   -- the connector that is named, or the first, is one
   pub one_chosen : (named : Option (List ℕ)) (l : Location) (e : Evse) (j k : Connector) → Contains s.site.locations l → Contains l.evses e → IsChosen named e.connectors j → IsChosen named e.connectors k → j ≡ k
   one_chosen None l e j k listed within h g = let found : Some j ≡ Some k = sym h ∙ g in cc
-  one_chosen (Some name) l e j k listed within h g = same_connector e.connectors (apart.connectors l e listed within) j k h.0 g.0 (h.1 ∙ sym g.1)
+  one_chosen (Some name) l e j k listed within h g = same_connector e.connectors (apart.places.connectors l e listed within) j k h.0 g.0 (h.1 ∙ sym g.1)

@@ -11,6 +11,7 @@ use Rattle.ocpi_types.specs.declared.packet.Body.{Body}
 use Rattle.ocpi_types.specs.declared.packet.Body.TheVariants as body
 use Rattle.ocpi_types.specs.declared.site.Evse.{Evse}
 use Rattle.ocpi_types.specs.declared.site.Location.{Location}
+use Rattle.ocpi_types.specs.declared.site.Site.{Site}
 use Rattle.ocpi_types.specs.declared.stored.SentCommand.{SentCommand}
 use Rattle.operator_rows.specs.State as operator
 use Rattle.operator_steps.specs.Events as inputs
@@ -23,12 +24,16 @@ use Rattle.world_steps.specs.World.{NodeState, Operates, Provides}
 abbrev pub UrlsDiffer : provider.State → Type 0
 UrlsDiffer s = (m n : ℕ) (c d : SentCommand) → get s.rows.outbox.commands m ≡ Some c → get s.rows.outbox.commands n ≡ Some d → url_of c.command ≡ url_of d.command → m ≡ n
 
--- no two providers of an operator are one party, and no two of its locations, of its EVSEs, or of the connectors of an
--- EVSE have one id. The types of a site keep it
+-- no two locations of a site, no two of its EVSEs, and no two connectors of an EVSE have one id. The types of a site keep
+-- it
+pub record PlacesDiffer (site : Site) : Type 0 where
+  pub locations : AreLocations site.locations
+  pub connectors : (l : Location) (e : Evse) → Contains site.locations l → Contains l.evses e → AreConnectors e.connectors
+
+-- so it is of an operator's site, and no two of its providers are one party
 pub record SiteDiffers (s : operator.State) : Type 0 where
   pub parties : AreParties (record { operator = s.party; providers = s.providers })
-  pub locations : AreLocations s.site.locations
-  pub connectors : (l : Location) (e : Evse) → Contains s.site.locations l → Contains l.evses e → AreConnectors e.connectors
+  pub places : PlacesDiffer s.site
 
 -- what a node is told apart by
 abbrev pub IsApart : NodeState → Type 0

@@ -1,0 +1,15 @@
+//! The laws of replayed nodes.
+
+ghost use Rattle.replay_laws.specs.Answers.{NodesHaveOneAnswer, ReplaysHaveOneAnswer};
+
+/// A node has at most one answer to an event: the packets that it sends, whether rows change, and the node behind it;
+/// that the event is none of its role; or why it refuses it. A START_SESSION or a RESERVE_NOW to an operator that names
+/// no EVSE is excepted.
+pub fn nodes_have_one_answer()
+    ensures { NodesHaveOneAnswer }
+{}
+
+/// So has each node of a setup, whatever happened at it since it was opened.
+pub fn replays_have_one_answer()
+    ensures { ReplaysHaveOneAnswer }
+{}
