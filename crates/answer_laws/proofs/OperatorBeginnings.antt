@@ -85,7 +85,7 @@ not_both_kinds AllowedOffline h g = h
 not_both_kinds Never h g = h
 
 not_valid : (t : Token) → t.valid ≡ false → t.valid ≡ true → ⊥
-not_valid t no yes = let bad : true ≡ false = sym yes ∙ no in cc
+not_valid t void valid = let bad : true ≡ false = sym valid ∙ void in cc
 
 abbrev TokenIs : Token → Swipe → Type 0
 TokenIs t x = Branch (desk.IsAsked t.whitelist) (λ (y : Swipe). y ≡ told.Ask t) (Branch (t.valid ≡ true) (λ y. y ≡ told.Begin t) (λ y. y ≡ told.Nothing)) x

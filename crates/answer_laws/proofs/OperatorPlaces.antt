@@ -24,7 +24,7 @@ one_evse locations uid l m e f apart h g =
     let b = place l.evses e h.within in
     let c = place locations m g.listed in
     let d = place m.evses f g.within in
-    let same : (a.0, b.0) ≡ (c.0, d.0) = one_evse_each locations apart uid (a.0, b.0) (c.0, d.0)
+    let same : ◌≡◌ {A = ℕ × ℕ} (a.0, b.0) (c.0, d.0) = one_evse_each locations apart uid (a.0, b.0) (c.0, d.0)
     (record { evse = e; at = record { location = l; stands = a.1; within = b.1 }; same = h.same })
     (record { evse = f; at = record { location = m; stands = c.1; within = d.1 }; same = g.same }) in
     let found : Some l ≡ Some m = sym a.1 ∙ (λ i. slice_get locations (same i).0) ∙ c.1 in

@@ -43,7 +43,7 @@ module _ (s : State) (evse : List ℕ) (in_service : Bool) where
   ServiceIs acts = Branch (IsEvse s.site.locations evse) (Branch (works s.rows.out_of_service evse ≡ in_service) (λ (x : List Act). x ≡ []) (λ x. x ≡ service_acts evse in_service)) (λ x. x ≡ []) acts
 
   other_than : (a b : Bool) → a ≡ b → b ≡ true → a ≡ false → ⊥
-  other_than a b same yes no = let bad : true ≡ false = sym yes ∙ sym same ∙ no in cc
+  other_than a b same on off = let bad : true ≡ false = sym on ∙ sym same ∙ off in cc
 
   service_is : (acts : List Act) → ServiceLine s evse in_service acts → ServiceIs acts
   service_is acts (service.Unknown none is) = inr (none, is)

@@ -36,7 +36,7 @@ use Rattle.answer_laws.proofs.Listings.{one_peer}
 abbrev Answer : Type 0
 Answer = Reply × List Act
 
-both_are : {reply other : Reply} {own acts : List Act} → reply ≡ other → own ≡ acts → (reply, own) ≡ (other, acts)
+both_are : {reply other : Reply} {own acts : List Act} → reply ≡ other → own ≡ acts → ◌≡◌ {A = Answer} (reply, own) (other, acts)
 both_are a b = λ i. (a i, b i)
 
 -- what is kept of a result, where the command has none yet
@@ -99,7 +99,7 @@ module _ (s : State) (at : ℕ) (q : Packet) where
   carried_by b x carries is = subst (λ (z : Body). AnswerIs z x) (sym carries) is
 
   not_valid : (t : Token) → t.valid ≡ false → t.valid ≡ true → ⊥
-  not_valid t no yes = let bad : true ≡ false = sym yes ∙ no in cc
+  not_valid t void valid = let bad : true ≡ false = sym valid ∙ void in cc
 
   answer_is : (reply : Reply) (own : List Act) → Answers s at q reply own → AnswerIs q.body (reply, own)
   answer_is reply own (packets.ResultTaken r carries n c fits none a b) = carried_by (body.CommandResult r) (reply, own) carries
@@ -232,5 +232,5 @@ module _ (s : State) (at : ℕ) (q : Packet) where
     one_kind apart (body.PutToken t) xs ys h g = absurd h
     one_kind apart (body.Authorization a) xs ys h g = absurd h
 
-    one_line : UrlsDiffer s → AtMostOne (PacketLine s at q to)
+    pub one_line : UrlsDiffer s → AtMostOne (PacketLine s at q to)
     one_line apart xs ys h g = one_kind apart q.body xs ys (line_is xs h) (line_is ys g)

@@ -92,7 +92,7 @@ module _ (s : State) where
   one_order : (at : ℕ) (operator : List ℕ) (o : Order) → IsConsistent s → AtMostOne (OrderLine s at operator o)
   one_order at operator o fine xs ys h g =
       let to : h.to ≡ g.to = one_peer (key s.party ∷ []) s.operators operator h.to g.to fine.peers.apart h.peer g.peer in
-      let made : (h.command, h.before) ≡ (g.command, g.before) = one_made o (h.command, h.before) (g.command, g.before) (makes_is o h.command h.before h.makes) (makes_is o g.command g.before g.makes) in
+      let made : ◌≡◌ {A = Command × List Act} (h.command, h.before) (g.command, g.before) = one_made o (h.command, h.before) (g.command, g.before) (makes_is o h.command h.before h.makes) (makes_is o g.command g.before g.makes) in
       h.acts_are ∙ (λ i. (made i).1 ++ (commanded at (next_request s) (to i) (made i).0 ∷ [])) ∙ sym g.acts_are
 
 -- ---- tokens, and moments
