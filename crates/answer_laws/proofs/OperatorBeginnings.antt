@@ -1,6 +1,6 @@
 -- What begins a session at an operator is one thing: a start that is carried out, an answer, a deadline, or a token that
 -- is shown.
-use Rattle.std.proofs.Common.{◌≡◌, ℕ, true, false, List, [], ◌∷◌, inl, inr, refl, sym, ap, subst, ◌∙◌}
+use Rattle.std.proofs.Common.{◌≡◌, ℕ, true, false, List, inl, inr, refl, sym, ap, subst, ◌∙◌}
 use Rattle.std.specs.Prelude.{Option, None, Some, is_some}
 use Rattle.std.specs.FinMap.{get}
 use Rattle.std.specs.Ordering.{is_gt, ordering_reverse}
@@ -12,9 +12,7 @@ use Rattle.ocpi_text.specs.Text.{key}
 use Rattle.ocpi_types.specs.declared.authorizations.Authorization.{Authorization}
 use Rattle.ocpi_types.specs.declared.authorizations.Authorization.TheVariants as authorization
 use Rattle.ocpi_types.specs.declared.authorizations.AuthorizationInfo.{AuthorizationInfo}
-use Rattle.ocpi_types.specs.declared.commands.Command.{Command}
 use Rattle.ocpi_types.specs.declared.commands.Command.TheVariants as command
-use Rattle.ocpi_types.specs.declared.commands.StartSession.{StartSession}
 use Rattle.ocpi_types.specs.declared.site.Connector.{Connector}
 use Rattle.ocpi_types.specs.declared.site.Evse.{Evse}
 use Rattle.ocpi_types.specs.declared.site.Location.{Location}
@@ -169,8 +167,8 @@ module _ (s : State) (one : OneClaimEach s.rows) where
         let connectors : Some h.connector ≡ Some g.connector = sym h.connector_is ∙ g.connector_is in
         let connector : h.connector ≡ g.connector = cc in
         let place : IsConnectorAt s.site.locations (key g.evse) (key g.connector) h.location h.of_evse h.of_connector =
-            subst (λ (x : List ℕ). IsConnectorAt s.site.locations (key g.evse) (key x) h.location h.of_evse h.of_connector) connector
-            (subst (λ (x : List ℕ). IsConnectorAt s.site.locations (key x) (key h.connector) h.location h.of_evse h.of_connector) evse h.place) in
+        subst (λ (x : List ℕ). IsConnectorAt s.site.locations (key g.evse) (key x) h.location h.of_evse h.of_connector) connector
+        (subst (λ (x : List ℕ). IsConnectorAt s.site.locations (key x) (key h.connector) h.location h.of_evse h.of_connector) evse h.place) in
         let at = one_connector s apart (key g.evse) (key g.connector) h.location g.location h.of_evse g.of_evse h.of_connector g.of_connector place g.place in
         h.begins_is ∙ (λ i. begins (starts i).token how.Command (starts i).authorization_reference (at.0 i) (at.1 i) (at.2 i) None) ∙ sym g.begins_is
 

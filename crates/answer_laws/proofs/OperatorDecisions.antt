@@ -1,6 +1,6 @@
 -- A command is decided in one way, unless it leaves an EVSE to be picked.
-use Rattle.std.proofs.Common.{◌≡◌, ◌≤◌, ℕ, true, false, List, [], ◌∷◌, inl, inr, refl, sym, ap, subst, ◌∙◌}
-use Rattle.std.specs.Prelude.{◌≢◌, ◌⊎◌, Option, None, Some, IsSome}
+use Rattle.std.proofs.Common.{◌≡◌, ℕ, List, inl, inr, sym, ap, subst, ◌∙◌}
+use Rattle.std.specs.Prelude.{◌⊎◌, None, Some, IsSome}
 use Rattle.std.specs.FinMap.{get}
 use Rattle.ocpi_text.specs.Text.{key}
 use Rattle.ocpi_types.specs.declared.commands.CancelReservation.{CancelReservation}
@@ -20,7 +20,7 @@ use Rattle.ocpi_types.specs.declared.words.CommandResultType.TheVariants as resu
 use Rattle.reservation_book.specs.Refusals.{IsHere, IsInTime}
 use Rattle.reservation_book.specs.declared.standing.Standing.{Standing}
 use Rattle.session_state.specs.Pasts.{IsFinal}
-use Rattle.site_book.specs.Sites.{Fits, IsEvseFor, IsLocation}
+use Rattle.site_book.specs.Sites.{IsEvseFor, IsLocation}
 use Rattle.site_book.specs.declared.claim.Claim.{Claim}
 use Rattle.site_book.specs.declared.claim.Claim.TheVariants.{Reserved}
 use Rattle.tables.proofs.Options.{not_both}
@@ -35,7 +35,8 @@ use Rattle.operator_tables.specs.Unlock as unlock
 use Rattle.operator_tables.specs.declared.decision.Decision.{Decision}
 use Rattle.operator_tables.specs.declared.decision.Decision.TheVariants as decision
 use Rattle.answer_laws.specs.Nodes.{NamesEvse, SiteDiffers}
-use Rattle.answer_laws.proofs.Branching.{AtMostOne, Branch, one_branch, one_is}
+use Rattle.answer_laws.specs.Picks.{DecisionsDifferByPicks, TakesEvse}
+use Rattle.answer_laws.proofs.Branching.{Alike, AtMostOne, Branch, alike_branch, one_branch, one_is}
 use Rattle.answer_laws.proofs.OperatorPlaces.{one_chosen, one_location, one_named}
 
 abbrev Is : Decision → Decision → Type 0
@@ -95,12 +96,15 @@ module _ (s : State) (at : ℕ) (sender : List ℕ) (n : ℕ) (one_claim : OneCl
 
   unlock_is : (c : UnlockConnector) (d : Decision) → unlock.UnlockLine s.site s.rows sender c d → UnlockIs c d
   unlock_is c d (unlock.UnknownLocation none is) = inr (λ f. none f.0 f.1, is)
-  unlock_is c d (unlock.NoPlace l here none is) = inl ((l, here), inr (
-    λ f.
-        let same : f.0 ≡ l = one_location s apart c.location_id f.0 l f.3.location here in
-        none f.1 f.2 (subst (λ (z : Location). unlock.IsUnlocked z c f.1 f.2) same f.3.place),
-    is,
-  ))
+  unlock_is c d (unlock.NoPlace l here none is) = inl (
+    (l, here),
+    inr (
+      λ f.
+          let same : f.0 ≡ l = one_location s apart c.location_id f.0 l f.3.location here in
+          none f.1 f.2 (subst (λ (z : Location). unlock.IsUnlocked z c f.1 f.2) same f.3.place),
+      is,
+    ),
+  )
   unlock_is c d (unlock.Foreign l e k there foreign is) =
       inl ((l, there.location), inl ((l, e, k, there), inl (subst (λ (uid : List ℕ). IsForeign s.rows (key sender) uid) there.place.named foreign, is)))
   unlock_is c d (unlock.Allowed l e k there own is) =
@@ -148,8 +152,8 @@ module _ (s : State) (at : ℕ) (sender : List ℕ) (n : ℕ) (one_claim : OneCl
   abbrev StartIs : StartSession → Decision → Type 0
   StartIs c d = Branch (start.IsMismatched sender c) (Is (decision.Refused 2001))
       (Branch (Located c.location_id)
-        (Branch (Reached c) (Branch (start.IsBarred s.rows.spent (key sender) c) (Is (decision.Answered response.Rejected)) (ThereIs c)) (Is (decision.Answered response.Rejected)))
-        (Is (decision.Refused 2003))) d
+      (Branch (Reached c) (Branch (start.IsBarred s.rows.spent (key sender) c) (Is (decision.Answered response.Rejected)) (ThereIs c)) (Is (decision.Answered response.Rejected)))
+      (Is (decision.Refused 2003))) d
 
   same_place : (c : StartSession) (l m : Location) → start.IsPlaced s.site sender c l → start.IsPlaced s.site sender c m → l ≡ m
   same_place c l m h g = one_location s apart c.location_id l m h.location g.location
@@ -174,12 +178,18 @@ module _ (s : State) (at : ℕ) (sender : List ℕ) (n : ℕ) (one_claim : OneCl
   start_is : (c : StartSession) (d : Decision) → start.StartLine s.site s.rows sender c d → StartIs c d
   start_is c d (start.Mismatched wrong is) = inl (wrong, is)
   start_is c d (start.UnknownLocation right none is) = inr (right, inr (λ f. none f.0 f.1, is))
-  start_is c d (start.NoPlace l placed none is) = inr (placed.matched, inl ((l, placed.location), inr (
-    λ f.
-        let same : f.0 ≡ l = same_place c f.0 l f.3.placed placed in
-        none f.1 f.2 (subst (λ (z : Location). start.IsPlace z c f.1 f.2) same f.3.place),
-    is,
-  )))
+  start_is c d (start.NoPlace l placed none is) = inr (
+    placed.matched,
+    inl (
+      (l, placed.location),
+      inr (
+        λ f.
+            let same : f.0 ≡ l = same_place c f.0 l f.3.placed placed in
+            none f.1 f.2 (subst (λ (z : Location). start.IsPlace z c f.1 f.2) same f.3.place),
+        is,
+      ),
+    ),
+  )
   start_is c d (start.Barred l e k placed barred is) = inr (placed.placed.matched, inl ((l, placed.placed.location), inl ((l, e, k, placed), inl (barred, is))))
   start_is c d (start.Inoperative l e k may out is) =
       let placed = may.reached.placed in
@@ -266,8 +276,8 @@ module _ (s : State) (at : ℕ) (sender : List ℕ) (n : ℕ) (one_claim : OneCl
   abbrev SoundIs : ReserveNow → Decision → Type 0
   SoundIs c d = Branch (reserve.IsVoid at c) (Is (decision.Answered response.Rejected))
       (Branch (IsInTime s.rows.booked.marks (reserve.reservation_key sender c) n)
-        (Branch (HereIs c) (HoldIs c) (Is (decision.Answered response.Rejected)))
-        (Is (decision.Answered response.Rejected))) d
+      (Branch (HereIs c) (HoldIs c) (Is (decision.Answered response.Rejected)))
+      (Is (decision.Answered response.Rejected))) d
 
   abbrev ReserveIs : ReserveNow → Decision → Type 0
   ReserveIs c d = Branch (key c.token.party ≡ key sender)
@@ -291,18 +301,30 @@ module _ (s : State) (at : ℕ) (sender : List ℕ) (n : ℕ) (one_claim : OneCl
   reserve_is : (c : ReserveNow) (d : Decision) → reserve.ReserveLine s.site s.rows at sender n c d → ReserveIs c d
   reserve_is c d (reserve.Mismatched wrong is) = inr (wrong, is)
   reserve_is c d (reserve.UnknownLocation own none is) = inl (own, inr (λ f. none f.0 f.1, is))
-  reserve_is c d (reserve.NoEvse l placed none is) = inl (placed.own, inl ((l, placed.location), inr (
-    λ f. none f.1 (subst (λ (z : Location). IsEvseFor z c.evse_uid f.1) (same_location c f.0 l f.2.placed placed) f.2.place),
-    is,
-  )))
+  reserve_is c d (reserve.NoEvse l placed none is) = inl (
+    placed.own,
+    inl (
+      (l, placed.location),
+      inr (
+        λ f. none f.1 (subst (λ (z : Location). IsEvseFor z c.evse_uid f.1) (same_location c f.0 l f.2.placed placed) f.2.place),
+        is,
+      ),
+    ),
+  )
   reserve_is c d (reserve.Void l e there void is) = at_evse c l e d there (inl (void, is))
   reserve_is c d (reserve.Stale l e asked late is) = at_evse c l e d asked.reached (inr (asked.sound, inr (late, is)))
-  reserve_is c d (reserve.Elsewhere l e timely elsewhere is) = at_evse c l e d timely.asked.reached (inr (timely.asked.sound, inl (timely.in_time, inr (
-    λ f.
-        let same : f.0 ≡ l = same_location c f.0 l f.1 timely.asked.reached.placed in
-        elsewhere (subst (λ (z : Location). IsHere s.rows.booked.reservations (reserve.reservation_key sender c) (key z.id)) same f.2),
-    is,
-  ))))
+  reserve_is c d (reserve.Elsewhere l e timely elsewhere is) = at_evse c l e d timely.asked.reached (inr (
+    timely.asked.sound,
+    inl (
+      timely.in_time,
+      inr (
+        λ f.
+            let same : f.0 ≡ l = same_location c f.0 l f.1 timely.asked.reached.placed in
+            elsewhere (subst (λ (z : Location). IsHere s.rows.booked.reservations (reserve.reservation_key sender c) (key z.id)) same f.2),
+        is,
+      ),
+    ),
+  ))
   reserve_is c d (reserve.Inoperative l e may out is) =
       let placed = may.timely.asked.reached.placed in
       hold_is c l e d may (inr (
@@ -330,6 +352,47 @@ module _ (s : State) (at : ℕ) (sender : List ℕ) (n : ℕ) (one_claim : OneCl
       one_branch (one_branch (one_branch (one_branch (one_is _) (one_branch (one_branch (one_branch (one_hold c named) (one_branch (one_is _) (one_is _))) (one_is _)) (one_is _))) (one_is _)) (one_is _)) (one_is _) d e
       (reserve_is c d h) (reserve_is c e g)
 
+  -- ---- where an EVSE is left to pick
+
+  abbrev OrPicked : Decision → Decision → Type 0
+  OrPicked d e = (d ≡ e) ⊎ (TakesEvse d × TakesEvse e)
+
+  is_alike : (z : Decision) → Alike OrPicked (Is z)
+  is_alike z d e h g = inl (one_is z d e h g)
+
+  both_take : (x y d e : Decision) → TakesEvse x → TakesEvse y → d ≡ x → e ≡ y → OrPicked d e
+  both_take x y d e first second h g = inr (subst TakesEvse (sym h) first, subst TakesEvse (sym g) second)
+
+  both_take_held : (c : StartSession) → Alike OrPicked (TakesHeld c)
+  both_take_held c d e h g = both_take _ _ d e tt tt h.1 g.1
+
+  both_take_open : (c : StartSession) → Alike OrPicked (TakesOpen c)
+  both_take_open c d e h g = both_take _ _ d e tt tt h.1 g.1
+
+  both_hold : (c : ReserveNow) → Alike OrPicked (Holds c)
+  both_hold c d e h g = both_take _ _ d e tt tt h.1 g.1
+
+  alike_start : (c : StartSession) → Alike OrPicked (start.StartLine s.site s.rows sender c)
+  alike_start c d e h g =
+      alike_branch OrPicked (is_alike _)
+      (alike_branch OrPicked (alike_branch OrPicked (alike_branch OrPicked (is_alike _)
+      (alike_branch OrPicked (both_take_held c) (alike_branch OrPicked (both_take_open c) (alike_branch OrPicked (is_alike _) (is_alike _))))) (is_alike _)) (is_alike _)) d e
+      (start_is c d h) (start_is c e g)
+
+  alike_reserve : (c : ReserveNow) → Alike OrPicked (reserve.ReserveLine s.site s.rows at sender n c)
+  alike_reserve c d e h g =
+      alike_branch OrPicked
+      (alike_branch OrPicked (alike_branch OrPicked (alike_branch OrPicked (is_alike _) (alike_branch OrPicked (alike_branch OrPicked
+      (alike_branch OrPicked (both_hold c) (alike_branch OrPicked (is_alike _) (is_alike _))) (is_alike _)) (is_alike _))) (is_alike _)) (is_alike _)) (is_alike _) d e
+      (reserve_is c d h) (reserve_is c e g)
+
+  alike_decisions : (c : Command) → Alike OrPicked (Decides s.site s.rows at sender n c)
+  alike_decisions (command.StartSession c) d e h g = alike_start c d e h g
+  alike_decisions (command.StopSession c) d e h g = inl (one_stop c d e h g)
+  alike_decisions (command.ReserveNow c) d e h g = alike_reserve c d e h g
+  alike_decisions (command.CancelReservation c) d e h g = inl (one_cancel c d e h g)
+  alike_decisions (command.UnlockConnector c) d e h g = inl (one_unlock c d e h g)
+
   -- ---- any command
 
   pub one_decision : (c : Command) → NamesEvse c → AtMostOne (Decides s.site s.rows at sender n c)
@@ -338,3 +401,6 @@ module _ (s : State) (at : ℕ) (sender : List ℕ) (n : ℕ) (one_claim : OneCl
   one_decision (command.ReserveNow c) named d e h g = one_reserve c named d e h g
   one_decision (command.CancelReservation c) named d e h g = one_cancel c d e h g
   one_decision (command.UnlockConnector c) named d e h g = one_unlock c d e h g
+
+pub decisions_differ_by_picks : DecisionsDifferByPicks
+decisions_differ_by_picks s at sender n c d e sound apart h g = alike_decisions s at sender n sound.sound.one_claim apart c d e h g

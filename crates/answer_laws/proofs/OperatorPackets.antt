@@ -1,5 +1,5 @@
 -- A packet comes to one thing at an operator, unless it leaves an EVSE to be picked.
-use Rattle.std.proofs.Common.{◌≡◌, ◌≤◌, ◌<◌, ◌++◌, ◌+◌, ℕ, List, [], ◌∷◌, inl, inr, refl, sym, ap, subst, ◌∙◌, arith}
+use Rattle.std.proofs.Common.{◌≡◌, ◌++◌, ◌+◌, ℕ, List, [], ◌∷◌, inl, inr, sym, ap, subst, ◌∙◌, arith}
 use Rattle.std.specs.Prelude.{◌⊎◌, Option, None, Some}
 use Rattle.std.specs.FinMap.{get}
 use Rattle.tables.proofs.Options.{not_both}
@@ -9,7 +9,6 @@ use Rattle.ocpi_types.specs.declared.commands.Command.{Command}
 use Rattle.ocpi_types.specs.declared.packet.Body.{Body}
 use Rattle.ocpi_types.specs.declared.packet.Body.TheVariants as body
 use Rattle.ocpi_types.specs.declared.packet.Packet.{Packet}
-use Rattle.ocpi_types.specs.declared.replies.Ack.{Ack}
 use Rattle.ocpi_types.specs.declared.rows.Change.TheVariants.{Put}
 use Rattle.ocpi_types.specs.declared.rows.Row.TheVariants as row
 use Rattle.ocpi_types.specs.declared.stored.Reply.{Reply}
@@ -43,7 +42,7 @@ module _ (s : State) (fine : IsConsistent s) (apart : SiteDiffers s) (at : ℕ) 
   abbrev TokenIs : List ℕ → Token → List Act → Type 0
   TokenIs to t acts = Branch (key t.party ≡ key q.from)
       (Branch (IsNewer s.rows.tokens t) (λ (x : List Act). x ≡ answered (key q.from) to q.request (acknowledgement at 1000) ∷ (changed (Put (row.Token t)) ∷ []))
-        (λ x. x ≡ answered (key q.from) to q.request (acknowledgement at 1000) ∷ []))
+      (λ x. x ≡ answered (key q.from) to q.request (acknowledgement at 1000) ∷ []))
       (λ x. x ≡ answered (key q.from) to q.request (acknowledgement at 2001) ∷ []) acts
 
   not_newer : (t : Token) → IsNotNewer s.rows.tokens t → IsNewer s.rows.tokens t → ⊥

@@ -1,15 +1,14 @@
 -- A place of a site is found by its ids.
-use Rattle.std.proofs.Common.{◌≡◌, ℕ, true, false, List, [], ◌∷◌, refl, sym, ap, subst, ◌∙◌}
+use Rattle.std.proofs.Common.{◌≡◌, ℕ, true, false, List, [], ◌∷◌, sym, subst, ◌∙◌}
 use Rattle.std.specs.Prelude.{Option, None, Some, Contains, slice_get, IsSome}
 use Rattle.ocpi_text.specs.Text.{key}
 use Rattle.ocpi_types.specs.Apart.{AllDiffer}
-use Rattle.ocpi_types.specs.Connectors.{AreConnectors}
 use Rattle.ocpi_types.specs.Locations.{site_evse_keys}
 use Rattle.ocpi_types.specs.declared.site.Connector.{Connector}
 use Rattle.ocpi_types.specs.declared.site.Evse.{Evse}
 use Rattle.ocpi_types.specs.declared.site.Location.{Location}
 use Rattle.site_book.proofs.Apart.{one_evse_each, place}
-use Rattle.site_book.specs.Sites.{Fits, IsChosen, IsEvseFor, IsEvseOf, IsLocation, IsNamed}
+use Rattle.site_book.specs.Sites.{IsChosen, IsEvseFor, IsEvseOf, IsLocation}
 use Rattle.node_steps.specs.Peers.{IsPeer}
 use Rattle.operator_rows.specs.State.{State}
 use Rattle.session_tables.proofs.Finding.{same_connector}

@@ -15,9 +15,9 @@ use Rattle.operator_steps.specs.Sessions.{HasNoStamp}
 use Rattle.operator_steps.specs.Steps as packets
 use Rattle.operator_steps.specs.Steps.{Comes, IsForMe, IsTaken, PacketLine}
 use Rattle.operator_steps.specs.Tick.{TickLine}
-use Rattle.world_steps.specs.Steps.{NodeRefuses, OperatorRefuses}
+use Rattle.world_steps.specs.Steps.{OperatorRefuses}
 use Rattle.world_steps.specs.Network.{OfOperator, OfProvider}
-use Rattle.world_steps.specs.World.{NodeState, Operates, Provides}
+use Rattle.world_steps.specs.World.{Operates, Provides}
 use Rattle.answer_laws.specs.Answers.{RefusalsHaveOneReason}
 use Rattle.answer_laws.specs.Nodes.{SiteDiffers}
 use Rattle.answer_laws.proofs.Branching.{Branch, one_branch, one_is}

@@ -1,6 +1,6 @@
 -- A report of a charge point comes to one thing at an operator.
 use Rattle.std.proofs.Common.{◌≡◌, ◌++◌, ◌+◌, ◌<◌, ℕ, List, [], ◌∷◌, inl, inr, refl, sym, ap, subst, ◌∙◌, arith}
-use Rattle.std.specs.Prelude.{Option, None, Some}
+use Rattle.std.specs.Prelude.{None, Some}
 use Rattle.std.specs.FinMap.{get}
 use Rattle.ocpi_text.specs.Moment.{last_moment}
 use Rattle.ocpi_text.specs.Text.{key}
@@ -110,7 +110,7 @@ module _ (s : State) (fine : IsConsistent s) (apart : SiteDiffers s) (at : ℕ) 
   not_ended_and_started : (e f : Ending) (b : Beginning) → IsEnded s report e → IsStarted s report f b → ⊥
   not_ended_and_started e f b h g =
       let by : EndsBy s.rows (event.Accepts g.provider f.number) e.provider e.number h.command.command e.result =
-          subst (λ (r : ChargerEvent). EndsBy s.rows r e.provider e.number h.command.command e.result) g.report_is h.by in
+      subst (λ (r : ChargerEvent). EndsBy s.rows r e.provider e.number h.command.command e.result) g.report_is h.by in
       let provider : f.provider ≡ e.provider = sym g.same ∙ by.0.0 in
       let number : f.number ≡ e.number = by.0.1 in
       let found : Some g.command ≡ Some h.command = sym g.stands ∙ (λ i. get s.rows.commands.pending (provider i, number i)) ∙ h.stands in
@@ -267,6 +267,11 @@ module _ (s : State) (fine : IsConsistent s) (apart : SiteDiffers s) (at : ℕ) 
     waits = waiting.Begins (s.rows.request + 1) (record { token = t; place = p; deadline = answer_deadline at }) ∷ [];
   }
 
+  one_asking : (t : Token) (l m : List ℕ) (p o : Place) (v w : Work) → IsAsked s at t l p v → IsAsked s at t m o w → l ≡ m → p ≡ o → v ≡ w
+  one_asking t l m p o v w h g location place =
+      let to : h.to ≡ g.to = one_provider s apart t.party h.to g.to h.of_provider g.of_provider in
+      h.work_is ∙ (λ i. asked_work t (location i) (place i) (to i)) ∙ sym g.work_is
+
   one_asked : AtMostOne Asked
   one_asked v w h g =
       let t = h.found in
@@ -275,10 +280,7 @@ module _ (s : State) (fine : IsConsistent s) (apart : SiteDiffers s) (at : ℕ) 
       let token : t.0 ≡ u.0 = cc in
       let location : t.1 ≡ u.1 = cc in
       let place : t.2 ≡ u.2 = cc in
-      let party : u.0.party ≡ u.0.party = refl in
-      let mine : IsAsked s at u.0 t.1 t.2 v = subst (λ (z : Token). IsAsked s at z t.1 t.2 v) token h.asks in
-      let to : mine.to ≡ g.asks.to = one_provider s apart u.0.party mine.to g.asks.to mine.of_provider g.asks.of_provider in
-      mine.work_is ∙ (λ i. asked_work u.0 (location i) (place i) (to i)) ∙ sym g.asks.work_is
+      one_asking u.0 t.1 u.1 t.2 u.2 v w (subst (λ (z : Token). IsAsked s at z t.1 t.2 v) token h.asks) g.asks location place
 
   pub one_report : AtMostOne (ChargerLine s at report)
   one_report v w h g = one_branch one_ended (one_branch one_started (one_branch one_moved_work (one_branch one_begun (one_branch one_asked (one_is (quiet [])))))) v w (report_is v h) (report_is w g)

@@ -1,5 +1,5 @@
 -- An operator has one step by an input that leaves it no EVSE to pick.
-use Rattle.std.proofs.Common.{◌≡◌, ◌<◌, ◌+◌, ℕ, Bool, true, false, List, [], ◌∷◌, inl, inr, refl, sym, ap, subst, ◌∙◌, arith}
+use Rattle.std.proofs.Common.{◌≡◌, ◌<◌, ◌+◌, ℕ, Bool, true, false, List, [], ◌∷◌, inl, inr, sym, ap, subst, ◌∙◌, arith}
 use Rattle.ocpi_text.specs.Moment.{last_moment}
 use Rattle.ocpi_types.specs.declared.cdrs.Cdr.{Cdr}
 use Rattle.ocpi_types.specs.declared.rows.Change.TheVariants.{Put, Drop}
@@ -10,16 +10,15 @@ use Rattle.site_book.specs.Sites.{IsEvse, works}
 use Rattle.node_steps.specs.Acts.{Act, changed, pushed}
 use Rattle.operator_rows.specs.Sound.{IsConsistent}
 use Rattle.operator_rows.specs.State.{State}
-use Rattle.operator_rows.specs.Steps.{restarted}
 use Rattle.operator_steps.specs.Credits as credits
 use Rattle.operator_steps.specs.Credits.{CreditLine, CreditsTo, HasNoCreditStamp, next_credit}
 use Rattle.operator_steps.specs.Events.{Arrives, Asks, Credits, Event, Input, Reports, Restarts, Serves, Ticks, event_out}
-use Rattle.operator_steps.specs.Moves.{Quietly, StepBy, Work, acted, quiet}
+use Rattle.operator_steps.specs.Moves.{Quietly, Work, acted, quiet}
 use Rattle.operator_steps.specs.Service as service
 use Rattle.operator_steps.specs.Service.{ServiceLine}
 use Rattle.world_steps.specs.Steps as steps
 use Rattle.world_steps.specs.Steps.{OperatorDoes}
-use Rattle.world_steps.specs.World.{NodeState, Operates, Provides}
+use Rattle.world_steps.specs.World.{Operates, Provides}
 use Rattle.answer_laws.specs.Answers.{OperatorsHaveOneStep}
 use Rattle.answer_laws.specs.Nodes.{PicksNone, SiteDiffers}
 use Rattle.answer_laws.proofs.Branching.{AtMostOne, Branch, one_branch, one_is}

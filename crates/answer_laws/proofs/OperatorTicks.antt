@@ -1,7 +1,6 @@
 -- A moment comes to one thing at an operator.
-use Rattle.std.proofs.Common.{◌≡◌, ◌≢◌, ◌++◌, ◌+◌, ℕ, List, [], ◌∷◌, length, map, inl, inr, refl, sym, ap, subst, ◌∙◌, arith}
-use Rattle.std.specs.Prelude.{Option, None, Some, Contains}
-use Rattle.std.specs.FinMap.{get}
+use Rattle.std.proofs.Common.{◌≡◌, ◌++◌, ◌+◌, ℕ, List, [], ◌∷◌, length, map, refl, sym, ap, subst, ◌∙◌}
+use Rattle.std.specs.Prelude.{None, Some, Contains}
 use Rattle.std.specs.declared.cmp.Ordering.TheVariants.{Less}
 use Rattle.std.proofs.lemmas.List.Elements.{Contains-append_right}
 use Rattle.tables.specs.Keys.{text_number_cmp, text_number_total}
@@ -105,14 +104,14 @@ module _ (s : State) (fine : IsConsistent s) (apart : SiteDiffers s) (at : ℕ) 
   one_tick : AtMostOne (IsTickOf s at)
   one_tick v w h g =
       let requests : map request_of h.ends ≡ map request_of g.ends =
-          one_of_pairs (λ (a b : List ℕ × ℕ). text_number_cmp a b ≡ Less) (not_less_both text_number_cmp text_number_total) (book.IsDue s.rows.commands.pending at)
-          (map request_of h.ends) (map request_of g.ends) h.timed_out.due.in_order g.timed_out.due.in_order h.timed_out.due.exact g.timed_out.due.exact in
+      one_of_pairs (λ (a b : List ℕ × ℕ). text_number_cmp a b ≡ Less) (not_less_both text_number_cmp text_number_total) (book.IsDue s.rows.commands.pending at)
+      (map request_of h.ends) (map request_of g.ends) h.timed_out.due.in_order g.timed_out.due.in_order h.timed_out.due.exact g.timed_out.due.exact in
       let ends : h.ends ≡ g.ends = one_timeouts h.ends g.ends requests h.timed_out.each g.timed_out.each in
       let expired : h.expired ≡ g.expired =
-          one_ascending expiry_at expiry_cmp expiry_total (HasExpired at s.rows.booked.reservations) h.expired g.expired h.have_expired.in_order g.have_expired.in_order h.have_expired.exact g.have_expired.exact in
+      one_ascending expiry_at expiry_cmp expiry_total (HasExpired at s.rows.booked.reservations) h.expired g.expired h.have_expired.in_order g.have_expired.in_order h.have_expired.exact g.have_expired.exact in
       let late : h.late ≡ g.late = one_exactly (waits.IsDue s.waits at) h.late g.late h.are_late g.are_late in
       let begun = one_late (s.rows.request + length h.ends) s.rows.charged.last_session h.late h.begun h.now h.unanswered (s.rows.request + length g.ends) s.rows.charged.last_session g.late g.begun g.now g.unanswered
-          (ap (λ (l : List Ending). s.rows.request + length l) ends) refl late in
+      (ap (λ (l : List Ending). s.rows.request + length l) ends) refl late in
       let mine : AreExactly (IsStillDue s at g.begun) h.due = subst (λ (acts : List Act). AreExactly (IsStillDue s at acts) h.due) begun.0 h.are_due in
       let due : h.due ≡ g.due = one_exactly (IsStillDue s at g.begun) h.due g.due mine g.are_due in
       h.work_is ∙ (λ i. tick_work (ends i) (expired i) (late i) (begun.1 i) (begun.0 i) (due i)) ∙ sym g.work_is

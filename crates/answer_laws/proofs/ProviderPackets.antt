@@ -1,6 +1,6 @@
 -- A packet comes to one thing at a provider.
-use Rattle.std.proofs.Common.{◌≡◌, ◌++◌, ℕ, true, false, List, [], ◌∷◌, inl, inr, refl, sym, ap, subst, ◌∙◌}
-use Rattle.std.specs.Prelude.{◌⊎◌, Option, Some, None}
+use Rattle.std.proofs.Common.{◌≡◌, ℕ, true, false, List, [], ◌∷◌, inl, inr, sym, ap, subst, ◌∙◌}
+use Rattle.std.specs.Prelude.{Option, Some, None}
 use Rattle.std.specs.FinMap.{get}
 use Rattle.ocpi_text.specs.Text.{key}
 use Rattle.ocpi_types.specs.declared.authorizations.Authorize.{Authorize}
@@ -8,7 +8,6 @@ use Rattle.ocpi_types.specs.declared.cdrs.Cdr.{Cdr}
 use Rattle.ocpi_types.specs.declared.packet.Body.{Body}
 use Rattle.ocpi_types.specs.declared.packet.Body.TheVariants as body
 use Rattle.ocpi_types.specs.declared.packet.Packet.{Packet}
-use Rattle.ocpi_types.specs.declared.replies.Ack.{Ack}
 use Rattle.ocpi_types.specs.declared.replies.CommandResponse.{CommandResponse}
 use Rattle.ocpi_types.specs.declared.replies.CommandResult.{CommandResult}
 use Rattle.ocpi_types.specs.declared.sessions.Session.{Session}
@@ -18,7 +17,7 @@ use Rattle.ocpi_types.specs.declared.token.Token.{Token}
 use Rattle.ocpi_types.specs.declared.words.CommandResultType.{CommandResultType}
 use Rattle.handover.specs.Cdrs.{cdr_key}
 use Rattle.handover.specs.Inbox.{IsInConflict, IsNews, session_key}
-use Rattle.token_desk.specs.Authorizing.{IsHeld, asked_type}
+use Rattle.token_desk.specs.Authorizing.{IsHeld}
 use Rattle.token_desk.specs.References.{reference_of}
 use Rattle.node_steps.specs.Acts.{Act, acknowledged, answered, repeated}
 use Rattle.provider_rows.specs.State.{State}
@@ -30,7 +29,6 @@ use Rattle.provider_steps.specs.Packets.{Acknowledges, Answers, Comes, FitsComma
 use Rattle.tables.proofs.Options.{not_both}
 use Rattle.answer_laws.specs.Nodes.{UrlsDiffer}
 use Rattle.answer_laws.proofs.Branching.{AtMostOne, Branch, one_branch, one_is}
-use Rattle.answer_laws.proofs.Listings.{one_peer}
 
 -- how a request is answered, and what else is done
 abbrev Answer : Type 0
@@ -68,7 +66,7 @@ module _ (s : State) (at : ℕ) (q : Packet) where
   abbrev CdrIs : Cdr → Answer → Type 0
   CdrIs c = Branch (IsRight s q c.cdr_token.party c.party)
       (Branch (IsInConflict s.rows.inbox.cdrs c) (λ x. x ≡ (acknowledgement at 2001, []))
-        (Branch (get s.rows.inbox.cdrs (cdr_key c) ≡ Some c) (λ x. x ≡ (acknowledgement at 1000, [])) (λ x. x ≡ (acknowledgement at 1000, billed c ∷ []))))
+      (Branch (get s.rows.inbox.cdrs (cdr_key c) ≡ Some c) (λ x. x ≡ (acknowledgement at 1000, [])) (λ x. x ≡ (acknowledgement at 1000, billed c ∷ []))))
       (λ x. x ≡ (acknowledgement at 2001, []))
 
   abbrev Holds : Authorize → Token → Type 0
@@ -136,7 +134,7 @@ module _ (s : State) (at : ℕ) (q : Packet) where
       let found : Some g.token ≡ Some h.token = sym g.held ∙ h.held in
       let same : g.token ≡ h.token = cc in
       let there = subst (λ (t : Token). Branch (t.valid ≡ true) (λ (z : Answer). z ≡ (allowed_reply at t (reference_of s.party (next_reference s)).text, referenced (next_reference s) ∷ []))
-          (λ z. z ≡ (blocked_reply at t, [])) y) same g.is in
+      (λ z. z ≡ (blocked_reply at t, [])) y) same g.is in
       one_branch (one_is _) (one_is _) x y h.is there
 
   one_answer : UrlsDiffer s → (b : Body) → AtMostOne (AnswerIs b)

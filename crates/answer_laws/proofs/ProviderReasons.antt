@@ -1,7 +1,6 @@
 -- A provider refuses an input for one reason.
-use Rattle.std.proofs.Common.{◌≡◌, ◌<◌, ℕ, List, inl, inr, refl, sym, ◌∙◌, arith}
-use Rattle.std.specs.Prelude.{◌≢◌, Some}
-use Rattle.std.specs.FinMap.{get}
+use Rattle.std.proofs.Common.{◌≡◌, ℕ, List, inl, inr, refl, sym, ◌∙◌, arith}
+use Rattle.std.specs.Prelude.{◌≢◌}
 use Rattle.ocpi_text.specs.Text.{key}
 use Rattle.ocpi_types.specs.declared.commands.Command.{Command}
 use Rattle.ocpi_types.specs.declared.events.Order.{Order}
@@ -22,7 +21,7 @@ use Rattle.provider_steps.specs.Packets.{Answers, Comes, IsForMe, IsRequest, IsT
 use Rattle.provider_steps.specs.Tokens.{TokenLine}
 use Rattle.world_steps.specs.Steps.{ProviderRefuses}
 use Rattle.ocpi_types.specs.declared.stored.Reply.{Reply}
-use Rattle.answer_laws.proofs.Branching.{AtMostOne, Branch, one_branch, one_is}
+use Rattle.answer_laws.proofs.Branching.{Branch, one_branch, one_is}
 
 -- what a provider does by an input it does not refuse for another reason than the numbers that it takes
 module _ (s : State) where

@@ -1,7 +1,6 @@
 -- A provider has one step by an input.
 use Rattle.std.proofs.Common.{◌≡◌, ◌++◌, ℕ, List, [], ◌∷◌, map, refl, sym, ap, subst, ◌∙◌}
-use Rattle.std.specs.Prelude.{Option, Some, None, Contains}
-use Rattle.std.specs.FinMap.{get}
+use Rattle.std.specs.Prelude.{Option, Some, Contains}
 use Rattle.std.proofs.lemmas.List.Elements.{Contains-append_right}
 use Rattle.tables.proofs.Elements.{in_front, not_none}
 use Rattle.ocpi_text.specs.Text.{key}
@@ -18,10 +17,9 @@ use Rattle.token_desk.specs.References.{reference_of}
 use Rattle.node_steps.specs.Acts.{Act, commanded, in_turn}
 use Rattle.provider_rows.specs.Sound.{IsConsistent}
 use Rattle.provider_rows.specs.State.{State}
-use Rattle.provider_rows.specs.Steps.{restarted}
 use Rattle.provider_steps.specs.Acts.{own_url, referenced, stored, token_acts}
 use Rattle.provider_steps.specs.Events.{Arrives, Asks, Event, Gives, Input, Restarts, Submits, Ticks, event_out}
-use Rattle.provider_steps.specs.Moves.{Out, StepBy, acted, idle}
+use Rattle.provider_steps.specs.Moves.{acted}
 use Rattle.provider_steps.specs.Orders as orders
 use Rattle.provider_steps.specs.Orders.{IsOwnToken, Makes, OrderLine, next_reference, next_request}
 use Rattle.provider_steps.specs.Packets.{Comes, PacketLine}
@@ -30,10 +28,10 @@ use Rattle.provider_steps.specs.Tokens.{TokenLine}
 use Rattle.provider_steps.specs.declared.pushing.Pushing.{Pushing}
 use Rattle.world_steps.specs.Steps as steps
 use Rattle.world_steps.specs.Steps.{ProviderDoes}
-use Rattle.world_steps.specs.World.{NodeState, Operates, Provides}
+use Rattle.world_steps.specs.World.{Operates, Provides}
 use Rattle.answer_laws.specs.Answers.{ProvidersHaveOneStep}
 use Rattle.answer_laws.specs.Nodes.{UrlsDiffer}
-use Rattle.answer_laws.proofs.Branching.{AtMostOne, one_is}
+use Rattle.answer_laws.proofs.Branching.{AtMostOne}
 use Rattle.answer_laws.proofs.Listings.{one_exactly, one_peer, one_replaced}
 use Rattle.answer_laws.proofs.ProviderPackets.{one_line}
 
@@ -116,7 +114,7 @@ one_token s at t fine xs ys h g =
     let version : h.version ≡ g.version = h.version_is ∙ sym g.version_is in
     let m = s.rows.outbox.pushes in
     let mine : (p : Pushing) → Contains h.pushes p → IsReplaced m (subject p.to (push.PutToken g.version)) p.replaced =
-        λ p i. subst (λ (v : Token). IsReplaced m (subject p.to (push.PutToken v)) p.replaced) version (h.are_pushes.replaced p i) in
+    λ p i. subst (λ (v : Token). IsReplaced m (subject p.to (push.PutToken v)) p.replaced) version (h.are_pushes.replaced p i) in
     let pushes : h.pushes ≡ g.pushes = one_pushes m g.version fine.sound.outbox.one_each h.pushes g.pushes (h.are_pushes.to_all ∙ sym g.are_pushes.to_all) mine g.are_pushes.replaced in
     h.acts_are ∙ (λ i. stored (version i) ∷ in_turn (token_acts at (version i)) s.rows.outbox.last (pushes i)) ∙ sym g.acts_are
 

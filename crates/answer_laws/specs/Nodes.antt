@@ -1,7 +1,6 @@
 -- What of a node is told apart, so that its answer is one.
-use Rattle.std.specs.Prelude.{◌≡◌, ℕ, List, [], map, Some, Contains, IsSome, ⊤}
+use Rattle.std.specs.Prelude.{◌≡◌, ℕ, Some, Contains, IsSome, ⊤}
 use Rattle.std.specs.FinMap.{get}
-use Rattle.ocpi_text.specs.Text.{key}
 use Rattle.ocpi_types.specs.Connectors.{AreConnectors}
 use Rattle.ocpi_types.specs.Locations.{AreLocations}
 use Rattle.ocpi_types.specs.Parties.{AreParties}

@@ -1,6 +1,7 @@
 //! The laws of answers.
 
 ghost use Rattle.answer_laws.specs.Answers.{OperatorsHaveOneStep, ProvidersHaveOneStep, RefusalsHaveOneReason};
+ghost use Rattle.answer_laws.specs.Picks.{DecisionsDifferByPicks};
 
 /// What a provider does by an input is one thing: the rows that it changes, the packets that it sends, and the provider
 /// behind it.
@@ -17,4 +18,9 @@ pub fn operators_have_one_step()
 /// Why a node refuses what reaches it is one thing, but for want of memory.
 pub fn refusals_have_one_reason()
     ensures { RefusalsHaveOneReason }
+{}
+
+/// Where two decisions on one command differ, each takes an EVSE: nothing else is left open.
+pub fn decisions_differ_by_picks()
+    ensures { DecisionsDifferByPicks }
 {}
