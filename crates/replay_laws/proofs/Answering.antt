@@ -4,15 +4,14 @@ use Rattle.std.specs.Prelude.{◌≢◌}
 use Rattle.ocpi_types.specs.declared.node_events.NodeEventKind.{NodeEventKind}
 use Rattle.ocpi_types.specs.declared.node_events.NodeEventKind.TheVariants as event
 use Rattle.ocpi_types.specs.declared.packet.Packet.{Packet}
-use Rattle.ocpi_types.specs.declared.rows.Change.{Change}
 use Rattle.answer_laws.proofs.OperatorReasons.{refusals_have_one_reason}
 use Rattle.answer_laws.proofs.OperatorSteps.{operators_have_one_step}
 use Rattle.answer_laws.proofs.ProviderSteps.{providers_have_one_step}
 use Rattle.answer_laws.specs.Nodes.{IsApart, PicksNone}
 use Rattle.histories.specs.declared.entry.Entry.{Entry}
-use Rattle.history_laws.specs.Replays.{Brings, Did, Does, EntryStep, Idle, WasIdle}
+use Rattle.history_laws.specs.Replays.{Brings, Does, EntryStep, Idle, WasIdle}
 use Rattle.node_steps.specs.declared.fault.NodeFault.{NodeFault}
-use Rattle.node_replay.specs.Replayed.{ChangesRows, Leads, Passes, Refuses}
+use Rattle.node_replay.specs.Replayed.{ChangesRows, Refuses}
 use Rattle.operator_rows.specs.State as operator
 use Rattle.operator_steps.specs.Events as operator_events
 use Rattle.provider_rows.specs.State as provider

@@ -1,6 +1,6 @@
 -- A node of a setup has one answer to an event, whatever happened at it since it was opened.
 use Rattle.std.proofs.Common.{◌≡◌, ℕ, List, [], ◌∷◌, refl, sym, ap, subst}
-use Rattle.std.specs.Prelude.{Contains, Some, slice_get}
+use Rattle.std.specs.Prelude.{Contains}
 use Rattle.ocpi_types.specs.Parties.{AreParties}
 use Rattle.ocpi_types.specs.declared.setup.Node.{Node}
 use Rattle.ocpi_types.specs.declared.setup.Node.TheVariants as node
@@ -9,7 +9,6 @@ use Rattle.answer_laws.specs.Nodes.{IsApart, PlacesDiffer, SiteDiffers, UrlsDiff
 use Rattle.histories.specs.declared.entry.Entry.{Entry}
 use Rattle.history_laws.specs.Replays.{Does, Idle, Replays}
 use Rattle.node_core.proofs.OpeningSetups.{are_parties_of}
-use Rattle.node_replay.specs.Replayed.{IsReplay}
 use Rattle.operator_rows.specs.State as operator
 use Rattle.provider_laws.proofs.commands.Urls.{urls_have_one_number}
 use Rattle.provider_laws.specs.Laws.{Run}
@@ -21,7 +20,7 @@ use Rattle.site_book.proofs.Apart.{place}
 use Rattle.stored_laws.specs.Nodes.{IsOfOpening}
 use Rattle.world_laws.specs.Laws.{IsSetup}
 use Rattle.world_steps.specs.Steps as steps
-use Rattle.world_steps.specs.Steps.{AtOperator, AtProvider, NodeStep, ProviderDoes}
+use Rattle.world_steps.specs.Steps.{AtOperator, AtProvider, ProviderDoes}
 use Rattle.world_steps.specs.World.{NodeState, Operates, Provides, opening_of, operators_of, providers_of}
 
 -- ---- providers

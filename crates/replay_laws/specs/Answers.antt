@@ -9,7 +9,7 @@ use Rattle.answer_laws.specs.Nodes.{IsApart, LeavesNoPick, PlacesDiffer}
 use Rattle.node_replay.specs.Replayed.{IsReplay, Leads, Passes, Refuses, Replay}
 use Rattle.node_steps.specs.declared.fault.NodeFault.{NodeFault}
 use Rattle.stored_laws.specs.Nodes.{IsSound}
-use Rattle.world_steps.specs.World.{NodeState, Operates, Provides}
+use Rattle.world_steps.specs.World.{NodeState, Operates}
 
 -- an answer of a node to an event: packets, whether rows changed, and the node behind it; that the event is none of its
 -- role; or a refusal
