@@ -34,8 +34,8 @@ use Rattle.operator_tables.specs.Stop as stop
 use Rattle.operator_tables.specs.Unlock as unlock
 use Rattle.operator_tables.specs.declared.decision.Decision.{Decision}
 use Rattle.operator_tables.specs.declared.decision.Decision.TheVariants as decision
-use Rattle.answer_laws.specs.Nodes.{NamesEvse, SiteDiffers}
-use Rattle.answer_laws.specs.Picks.{DecisionsDifferByPicks, TakesEvse}
+use Rattle.answer_laws.specs.Nodes.{SiteDiffers}
+use Rattle.answer_laws.specs.Picks.{DecisionsDifferByPicks, NamedEvsesLeaveOnePick, NamesEvse, TakesEvse}
 use Rattle.answer_laws.proofs.Branching.{Alike, AtMostOne, Branch, alike_branch, one_branch, one_is}
 use Rattle.answer_laws.proofs.OperatorPlaces.{one_chosen, one_location, one_named}
 
@@ -404,3 +404,6 @@ module _ (s : State) (at : ℕ) (sender : List ℕ) (n : ℕ) (one_claim : OneCl
 
 pub decisions_differ_by_picks : DecisionsDifferByPicks
 decisions_differ_by_picks s at sender n c d e sound apart h g = alike_decisions s at sender n sound.sound.one_claim apart c d e h g
+
+pub named_evses_leave_one_pick : NamedEvsesLeaveOnePick
+named_evses_leave_one_pick s at q sound apart named c d e carries new h g first second = one_decision s at q.from q.request sound.sound.one_claim apart c (named c carries) d e h g

@@ -1,3 +1,3 @@
 pub mod Nodes
-pub mod Answers
 pub mod Picks
+pub mod Answers

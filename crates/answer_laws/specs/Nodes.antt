@@ -1,19 +1,14 @@
 -- What of a node is told apart, so that its answer is one.
-use Rattle.std.specs.Prelude.{◌≡◌, ℕ, Some, Contains, IsSome, ⊤}
+use Rattle.std.specs.Prelude.{◌≡◌, ℕ, Some, Contains}
 use Rattle.std.specs.FinMap.{get}
 use Rattle.ocpi_types.specs.Connectors.{AreConnectors}
 use Rattle.ocpi_types.specs.Locations.{AreLocations}
 use Rattle.ocpi_types.specs.Parties.{AreParties}
-use Rattle.ocpi_types.specs.declared.commands.Command.{Command}
-use Rattle.ocpi_types.specs.declared.commands.Command.TheVariants as command
-use Rattle.ocpi_types.specs.declared.packet.Body.{Body}
-use Rattle.ocpi_types.specs.declared.packet.Body.TheVariants as body
 use Rattle.ocpi_types.specs.declared.site.Evse.{Evse}
 use Rattle.ocpi_types.specs.declared.site.Location.{Location}
 use Rattle.ocpi_types.specs.declared.site.Site.{Site}
 use Rattle.ocpi_types.specs.declared.stored.SentCommand.{SentCommand}
 use Rattle.operator_rows.specs.State as operator
-use Rattle.operator_steps.specs.Events as inputs
 use Rattle.provider_rows.specs.State as provider
 use Rattle.provider_rows.specs.State.{url_of}
 use Rattle.world_steps.specs.World.{NodeState, Operates, Provides}
@@ -38,22 +33,3 @@ pub record SiteDiffers (s : operator.State) : Type 0 where
 abbrev pub IsApart : NodeState → Type 0
 IsApart (Operates s) = SiteDiffers s
 IsApart (Provides s) = UrlsDiffer s
-
--- a start and a reservation name the EVSE that they are about, which else is picked of several (OCPI 2.2.1, Commands:
--- StartSession, ReserveNow)
-abbrev pub NamesEvse : Command → Type 0
-NamesEvse (command.StartSession c) = IsSome c.evse_uid
-NamesEvse (command.ReserveNow c) = IsSome c.evse_uid
-NamesEvse (command.StopSession c) = ⊤
-NamesEvse (command.CancelReservation c) = ⊤
-NamesEvse (command.UnlockConnector c) = ⊤
-
--- the packet leaves an operator no EVSE to pick
-abbrev pub LeavesNoPick : Body → Type 0
-LeavesNoPick (body.Command c) = NamesEvse c
-LeavesNoPick other = ⊤
-
--- and neither does the input
-abbrev pub PicksNone : inputs.Input → Type 0
-PicksNone (inputs.Arrives at q) = LeavesNoPick q.body
-PicksNone other = ⊤

@@ -5,7 +5,8 @@ use Rattle.ocpi_types.specs.declared.node_events.NodeEventKind.TheVariants as ev
 use Rattle.ocpi_types.specs.declared.packet.Packet.{Packet}
 use Rattle.ocpi_types.specs.declared.setup.Node.{Node}
 use Rattle.ocpi_types.specs.declared.setup.Node.TheVariants as node
-use Rattle.answer_laws.specs.Nodes.{IsApart, LeavesNoPick, PlacesDiffer}
+use Rattle.answer_laws.specs.Nodes.{IsApart, PlacesDiffer}
+use Rattle.answer_laws.specs.Picks.{HasOnePick}
 use Rattle.node_replay.specs.Replayed.{IsReplay, Leads, Passes, Refuses, Replay}
 use Rattle.node_steps.specs.declared.fault.NodeFault.{NodeFault}
 use Rattle.stored_laws.specs.Nodes.{IsSound}
@@ -28,14 +29,14 @@ MayAnswer s k (Declined why) = Refuses s k why
 abbrev pub HasOneAnswer : NodeState → NodeEventKind → Type 0
 HasOneAnswer s k = (a b : NodeAnswer) → MayAnswer s k a → MayAnswer s k b → a ≡ b
 
--- the event leaves the node no EVSE to pick: it is no start and no reservation at an operator that names none
-abbrev pub NoPickOf : NodeState → NodeEventKind → Type 0
-NoPickOf (Operates s) (event.Deliver at packet) = LeavesNoPick packet.body
-NoPickOf s k = ⊤
+-- the rules leave the node one EVSE at most to take by the event; a provider takes none
+abbrev pub IsSettled : NodeState → NodeEventKind → Type 0
+IsSettled (Operates s) (event.Deliver at packet) = HasOnePick s at packet
+IsSettled s k = ⊤
 
 -- then it has one answer
 abbrev pub NodesHaveOneAnswer : Type 0
-NodesHaveOneAnswer = (s : NodeState) (k : NodeEventKind) → IsSound s → IsApart s → NoPickOf s k → HasOneAnswer s k
+NodesHaveOneAnswer = (s : NodeState) (k : NodeEventKind) → IsSound s → IsApart s → IsSettled s k → HasOneAnswer s k
 
 -- the places of a node's site, if it has one, have different ids
 abbrev pub HasPlaces : Node → Type 0
@@ -44,4 +45,4 @@ HasPlaces (node.Provider party) = ⊤
 
 -- so has each node of a setup, whatever happened at it since it was opened
 abbrev pub ReplaysHaveOneAnswer : Type 0
-ReplaysHaveOneAnswer = (r : Replay) (k : NodeEventKind) → IsReplay r → HasPlaces r.member → NoPickOf r.state k → HasOneAnswer r.state k
+ReplaysHaveOneAnswer = (r : Replay) (k : NodeEventKind) → IsReplay r → HasPlaces r.member → IsSettled r.state k → HasOneAnswer r.state k

@@ -3,8 +3,8 @@
 ghost use Rattle.replay_laws.specs.Answers.{NodesHaveOneAnswer, ReplaysHaveOneAnswer};
 
 /// A node has at most one answer to an event: the packets that it sends, whether rows change, and the node behind it;
-/// that the event is none of its role; or why it refuses it. A START_SESSION or a RESERVE_NOW to an operator that names
-/// no EVSE is excepted.
+/// that the event is none of its role; or why it refuses it. A new START_SESSION or RESERVE_NOW is excepted for which an
+/// operator may take one of several EVSEs.
 pub fn nodes_have_one_answer()
     ensures { NodesHaveOneAnswer }
 {}
