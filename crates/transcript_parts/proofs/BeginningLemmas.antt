@@ -1,11 +1,14 @@
 -- The first run that is opened in the lines of a file.
-use Rattle.std.proofs.Common.{◌≡◌, ◌∙◌, ℕ, List, [], ◌∷◌, Ok, ap, sym, subst}
+use Rattle.std.proofs.Common.{◌≡◌, ◌∙◌, ℕ, List, [], ◌∷◌, Result, Ok, Err, ap, sym, subst}
+use Rattle.std.specs.Prelude.{IfErr, IfOk}
 use Rattle.ocpi_json.specs.SetupForms.{setup_in}
 use Rattle.ocpi_types.specs.declared.setup.Node.{Node}
-use Rattle.transcript_parts.specs.Beginnings.{BeginsWith, FitsNoRun, Here, IsNoRun, IsNotARun, IsNotPassed, IsOfOneWay, IsWrongIn, Later, Opens, TellsOpened}
+use Rattle.transcript_parts.specs.Beginnings.{Accuses, BeginsWith, FitsNoRun, Here, IsNoRun, IsNotARun, IsNotPassed, IsOfOneWay, IsWrongIn, Later, Opens, TellsOpened}
 use Rattle.transcript_parts.specs.LineReads.{LineRead}
-use Rattle.transcript_parts.specs.Lines.{Line}
+use Rattle.transcript_parts.specs.Lines.{Line, line_of}
 use Rattle.transcript_parts.specs.Parts.{HasNoPart, IsPart}
+use Rattle.transcript_parts.specs.declared.beginning.Beginning.{Beginning}
+use Rattle.transcript_parts.specs.declared.echoed.EchoedLine.{EchoedLine}
 use Rattle.transcript_parts.specs.declared.fault.TranscriptFault.{TranscriptFault}
 use Rattle.transcript_parts.specs.declared.fault.TranscriptFault.TheVariants as fault
 use Rattle.transcript_parts.specs.declared.first_lines.Opened.{Opened}
@@ -57,6 +60,23 @@ passed_more all left p rest so_far part passed = record {
   found = λ line setup begins. so_far.found line setup (Later p part passed begins);
   only = λ line setup begins. begins_behind left p rest part passed line setup (so_far.only line setup begins);
 }
+
+-- a part behind which a run was opened: its line is the beginning, or no line is
+pub found_at : (all left : List Line) (p : LineRead) (rest : List Line) (line : EchoedLine) (r : Result Beginning TranscriptFault) → PassedSoFar all left → IsPart left p rest → Opens p
+    → line_of line ≡ p.line → IfOk r (λ b. (setup_in b.line.now ≡ Ok b.setup) × (b.line.now ≡ line.bytes.now)) → IfOk r (λ b. BeginsWith all b.line.now b.setup)
+found_at all left p rest line (Ok b) so_far part (o, opens) is (reads, from) =
+    let same : b.line.now ≡ p.line.bytes = from ∙ ap (λ l. l.bytes) is in
+    so_far.found b.line.now b.setup
+    (subst (λ bs. BeginsWith left bs b.setup) (sym same) (Here p o part opens (subst (λ bs. setup_in bs ≡ Ok b.setup) same reads)))
+found_at all left p rest line (Err f) so_far part opens is from = tt
+
+pub none_at : (all left : List Line) (p : LineRead) (rest : List Line) (line : EchoedLine) (r : Result Beginning TranscriptFault) → PassedSoFar all left → IsPart left p rest → Opens p
+    → line_of line ≡ p.line → IfErr r (λ f. Accuses f → (setup : List Node) → setup_in line.bytes.now ≡ Ok setup → ⊥)
+    → IfErr r (λ f. Accuses f → (at : List ℕ) (setup : List Node) → BeginsWith all at setup → ⊥)
+none_at all left p rest line (Ok b) so_far part opens is unread = tt
+none_at all left p rest line (Err f) so_far part (o, opens) is unread = λ accuses at setup begins.
+    let bytes : p.line.bytes ≡ line.bytes.now = sym (ap (λ l. l.bytes) is) in
+    none_begins left p rest part (opens_or_passes p o opens) (λ opened one reads. unread accuses one (subst (λ bs. setup_in bs ≡ Ok one) bytes reads)) at setup (so_far.only at setup begins)
 
 -- ---- which fault it is
 

@@ -1,5 +1,5 @@
 -- The parts of a transcript, taken from the front of its lines.
-use Rattle.std.proofs.Common.{◌≡◌, ◌<◌, ◌≤◌, ◌⊎◌, inl, inr, ◌∙◌, ℕ, List, [], ◌∷◌, ◌++◌, Option, Some, None, Ok, Err, length, ap, sym, refl, subst, arith}
+use Rattle.std.proofs.Common.{◌≡◌, ◌<◌, ◌≤◌, inl, inr, ◌∙◌, ℕ, List, [], ◌∷◌, ◌++◌, Some, None, Err, length, ap, sym, refl, subst, arith}
 use Rattle.std.proofs.lemmas.List.{append-nil, append_assoc}
 use Rattle.json_text.specs.declared.fault.JsonFault.{JsonFault}
 use Rattle.ocpi_json.specs.SetupForms.{setup_in}
@@ -13,7 +13,6 @@ use Rattle.transcript_parts.specs.declared.fault.TranscriptFault.{TranscriptFaul
 use Rattle.transcript_parts.specs.declared.fault.TranscriptFault.TheVariants as fault
 use Rattle.transcript_parts.specs.declared.line_read.EventAnswer.{EventAnswer}
 use Rattle.transcript_parts.specs.declared.line_read.Ending.{Ending}
-use Rattle.transcript_parts.specs.declared.line_read.Ending.TheVariants.{NextRun}
 use Rattle.transcript_parts.specs.declared.parts.Behind.{Behind}
 use Rattle.transcript_parts.specs.declared.parts.Behind.TheVariants as behind
 use Rattle.transcript_parts.proofs.UniqueParts.{ending_sends_none, event_or_ending, packet_or_done}

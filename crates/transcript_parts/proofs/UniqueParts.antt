@@ -1,20 +1,21 @@
 -- What one line is, it is alone; so what stands behind an echoed line, and with it a part, is read in one way.
-use Rattle.std.proofs.Common.{◌≡◌, ◌≢◌, ◌↔◌, ◌⊎◌, inl, inr, ◌∙◌, ℕ, List, [], ◌∷◌, Option, Some, None, Ok, Err, refl, ap, sym, subst}
-use Rattle.json_text.specs.Fault.{Fails, Read}
+use Rattle.std.proofs.Common.{◌≡◌, ◌↔◌, ◌⊎◌, ◌∙◌, ℕ, Bool, IsTrue, true, List, [], ◌∷◌, Option, Some, None, Err, refl, ap, sym, subst}
 use Rattle.json_text.specs.declared.fault.JsonFault.{JsonFault}
-use Rattle.json_text.specs.declared.fault.JsonFault.TheVariants.{BadNumberToken, Memory, Missing, Syntax, TaggedText, UnknownKind, UnknownWord, WrongForm}
+use Rattle.json_text.specs.declared.fault.JsonFault.TheVariants.{Memory}
 use Rattle.ocpi_json.specs.SetupForms.{setup_in}
 use Rattle.ocpi_types.specs.declared.packet.Packet.{Packet}
-use Rattle.ocpi_types.specs.declared.setup.Node.{Node}
 use Rattle.transcript_lines.specs.declared.done.Done.{Done}
 use Rattle.transcript_lines.specs.declared.done.Done.TheVariants.{Malformed}
 use Rattle.transcript_lines.specs.declared.done.DoneLine.{DoneLine}
+use Rattle.transcript_parts.specs.declared.line_kinds.LineKind.{LineKind}
+use Rattle.transcript_parts.specs.declared.line_kinds.LineKind.TheVariants as kind
 use Rattle.transcript_parts.specs.LineReads.{LineRead}
 use Rattle.transcript_parts.specs.Lines.{Line}
-use Rattle.transcript_parts.specs.Parts.{AtDone, AtEnd, AtEvent, AtLast, AtRun, BeforeEnd, BeforeNoLines, BeforeRefusal, BeforeSetup, BeginsRun, Ends, FitsFirst, IsAnswer, IsEnding, IsOther, IsPacketLine, IsPart, IsSetupLine, NoneSent, OfNoLines, OfRefused, OfSetup, OneSent, PartsAreUnique, Sends, StandsFirst, TellsDone}
+use Rattle.transcript_parts.specs.Parts.{AtDone, AtEnd, AtEvent, AtLast, AtRun, BeforeNoLines, BeforeRefusal, BeforeSetup, BeginsRun, Ends, FitsFirst, IsAnswer, IsEnding, IsKind, IsOther, IsPacketLine, NoneSent, OfNoLines, OfRefused, OfSetup, OneSent, PartsAreUnique, Sends, StandsFirst, TellsDone}
 use Rattle.transcript_parts.specs.declared.line_read.EventAnswer.{EventAnswer}
 use Rattle.transcript_parts.specs.declared.line_read.Ending.{Ending}
 use Rattle.transcript_parts.specs.declared.line_read.Ending.TheVariants.{Answered}
+use Rattle.transcript_parts.proofs.ToldFaults.{fits_refused}
 
 -- ---- one line
 
@@ -42,20 +43,7 @@ same_done l d e at place a b =
     let same : told_line d at ≡ told_line e place = cc (a.1, b.1) in
     (ap (λ x. x.done) same, ap (λ x. x.event) same)
 
-pub same_refusal : (line : List ℕ) (why other : JsonFault) → setup_in line ≡ Err why → setup_in line ≡ Err other → why ≡ other
-same_refusal line why other a b = cc (a, b)
-
 -- ---- the first line of a run
-
-pub fits_refused : (line : List ℕ) (why : JsonFault) (told : Option JsonFault) → setup_in line ≡ Err why → FitsFirst line told ↔ ((told ≡ Some why) ⊎ (told ≡ Some Memory))
-fits_refused line why told refused = (fits, told_fits)
-  where
-    fits : FitsFirst line told → (told ≡ Some why) ⊎ (told ≡ Some Memory)
-    fits (inl (other, is, e)) = inl (e ∙ ap (λ w. Some w) (same_refusal line other why is refused))
-    fits (inr memory) = inr memory
-    told_fits : (told ≡ Some why) ⊎ (told ≡ Some Memory) → FitsFirst line told
-    told_fits (inl e) = inl (why, refused, e)
-    told_fits (inr memory) = inr memory
 
 -- a line that tells of a line shows it by a refusal alone
 pub shown_by_done : (line : List ℕ) (l : Line) (ls : List Line) (d : Done) (place : Option ℕ) → TellsDone l d place → StandsFirst line (l ∷ ls)
@@ -75,6 +63,30 @@ pub other_shows_none : (line : List ℕ) (l : Line) (ls : List Line) (why : Json
 other_shows_none line l ls why other refused (BeforeRefusal told is fits) = other.tells (told_line (Malformed told) None) is.1
 other_shows_none line l ls why other refused (BeforeSetup setup is) = cc (is.1, refused)
 other_shows_none line l ls why other refused (BeforeNoLines is) = other.apart is
+
+-- what a line of each kind shows
+pub no_lines_show : (line : List ℕ) (l : Line) (ls : List Line) (k : LineKind) → k ≡ kind.RunWithoutLines → IsKind l k → IsTrue true ↔ StandsFirst line (l ∷ ls)
+no_lines_show line l ls k e is = (λ one_is. BeforeNoLines (subst (IsKind l) e is), λ first. refl)
+
+pub setup_shows : (line : List ℕ) (l : Line) (ls : List Line) (k : LineKind) → k ≡ kind.Setup → IsKind l k → IsTrue true ↔ StandsFirst line (l ∷ ls)
+setup_shows line l ls k e is =
+    let (setup, one) = subst (IsKind l) e is in
+    (λ one_is. BeforeSetup setup one, λ first. refl)
+
+pub malformed_shows : (line : List ℕ) (l : Line) (ls : List Line) (d : DoneLine) (told : Option JsonFault) (why : JsonFault) (b : Bool) → setup_in line ≡ Err why → TellsDone l d.done d.event
+    → d.done ≡ Malformed told → d.event ≡ None → (IsTrue b ↔ ((told ≡ Some why) ⊎ (told ≡ Some Memory))) → IsTrue b ↔ StandsFirst line (l ∷ ls)
+malformed_shows line l ls d told why b refused tells same at is = (shows, shown)
+  where
+    shows : IsTrue b → StandsFirst line (l ∷ ls)
+    shows true_is =
+        BeforeRefusal told (subst (λ e. TellsDone l (Malformed told) e) at (subst (λ x. TellsDone l x d.event) same tells)) ((fits_refused line why told refused).1 (is.0 true_is))
+
+    shown : StandsFirst line (l ∷ ls) → IsTrue b
+    shown first =
+        let (other, was, none, fits) = shown_by_done line l ls d.done d.event tells first in
+        let both : Malformed other ≡ Malformed told = sym was ∙ same in
+        let one : other ≡ told = cc both in
+        is.1 ((fits_refused line why told refused).0 (subst (FitsFirst line) one fits))
 
 -- ---- the packets
 
@@ -159,21 +171,8 @@ same_part lines rest more p q is that =
     let line : p.line ≡ q.line = cc whole in
     let behind : is.behind ≡ that.behind = cc whole in
     let ends : Ends is.behind q.answers q.packets q.ending more = subst (λ b. Ends b q.answers q.packets q.ending more) (sym behind) that.ends in
-    let (answers, packets, last, leaves) = same_ends is.behind rest more p.answers q.answers p.packets q.packets p.ending q.ending is.ends ends in
-    (
+    let (answers, packets, last, leaves) = same_ends is.behind rest more p.answers q.answers p.packets q.packets p.ending q.ending is.ends ends in (
       ap (λ x. read_of x p.answers p.packets p.ending) line ∙ ap (λ x. read_of q.line x p.packets p.ending) answers ∙ ap (λ x. read_of q.line q.answers x p.ending) packets
-      ∙ ap (λ x. read_of q.line q.answers q.packets x) last,
+          ∙ ap (λ x. read_of q.line q.answers q.packets x) last,
       leaves,
     )
-
--- ---- a refusal for another reason than memory is exact
-
-pub refused_so : {X : Type 0} (why : JsonFault) (read : Read X) → (why ≡ Memory → ⊥) → Fails why read → read ≡ Err why
-refused_so Memory read other fails = absurd (other refl)
-refused_so Syntax read other fails = fails
-refused_so BadNumberToken read other fails = fails
-refused_so TaggedText read other fails = fails
-refused_so (Missing f) read other fails = fails
-refused_so (WrongForm f) read other fails = fails
-refused_so (UnknownWord f) read other fails = fails
-refused_so UnknownKind read other fails = fails

@@ -1,4 +1,4 @@
-use Rattle.std.proofs.Common.{refl, subst}
+use Rattle.std.proofs.Common.{subst}
 use Rattle.transcript_parts.specs.Lines.{line_of}
 use Rattle.transcript_parts.specs.Parts.{IsKind, OfSetup}
 use Rattle.transcript_parts.proofs.parts.read_behind.Goals as goal

@@ -1,5 +1,5 @@
-use Rattle.std.proofs.Common.{[], List, sym, subst, refl}
-use Rattle.transcript_parts.specs.Lines.{Line, line_of}
+use Rattle.std.proofs.Common.{sym, subst, refl}
+use Rattle.transcript_parts.specs.Lines.{line_of}
 use Rattle.transcript_parts.specs.Parts.{AtDone, AtEnd, AtRun, IsBehind, IsEnding}
 use Rattle.transcript_parts.specs.declared.line_read.Ending.TheVariants.{Answered, FileEnd, NextRun}
 use Rattle.transcript_parts.proofs.PartLemmas.{answer_so_far, ended_so_far, none_so_far, packet_so_far, refused_so_far, wrong_so_far}
