@@ -96,7 +96,6 @@ module _ (old : Reading) (p : LineRead) where
 -- ---- lines within a run
 
 module _ (old : Reading) (p : LineRead) (within : old.within ≡ true) where
-
   -- that were refused as lines
   module _ (told : Option JsonFault) (at : ℕ) (ends : p.ending ≡ Answered (done.Malformed told) at) where
     malformed : (earlier : List Told) (t : Standing) → (on : FollowsOn earlier old p t)

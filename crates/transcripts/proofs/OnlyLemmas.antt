@@ -216,7 +216,7 @@ come_before p old xs changed new (OneMore {es = es} {before = b} {now = w} {afte
         let long = length-append es (e ∷ []) in
         let whole : n ≡ length (es ++ e ∷ []) = omega (arith, long, within, all) in
         subst (ComeUpTo p old) (sym (ap (λ m. take m (es ++ e ∷ [])) whole ∙ take-length (es ++ e ∷ [])))
-            (record { changed = after; new = u; come = OneMore {es = es} {before = b} {now = w} {after = after} {t = t} {u = u} e come gives so; forced = forced })
+        (record { changed = after; new = u; come = OneMore {es = es} {before = b} {now = w} {after = after} {t = t} {u = u} e come gives so; forced = forced })
     by (inr some) earlier = subst (ComeUpTo p old) (sym (take-append-le n es (e ∷ []) some)) (earlier some)
 
 -- a history of one event more came so far, and then to that
