@@ -24,6 +24,7 @@ ghost use Rattle.transcript_parts.specs.Beginnings.{Accuses};
 ghost use Rattle.transcript_parts.specs.LineReads.{GaveNothing};
 ghost use Rattle.transcript_parts.specs.declared.line_read.Ending.TheVariants.{Answered, FileEnd, NextRun};
 ghost use Rattle.transcript_lines.specs.declared.done.Done.TheVariants as done;
+ghost use Rattle.transcript_lines.specs.declared.done.Done.TheVariants.{Refused as RefusedOf};
 ghost use Rattle.node_steps.specs.declared.fault.NodeFault.TheVariants as node_fault;
 
 use crate::all_ways::{go_on, happen_in_ways};
@@ -88,7 +89,7 @@ impl<'a> Model for Reading<'a> {
 
 /// Whether it is told of a line that memory ran out for it.
 fn is_starved(done: &Done) -> bool
-    ensures { IsTrue result ↔ (done.now ≡ done.Refused (Some node_fault.Memory)) }
+    ensures { IsTrue result ↔ (done.now ≡ RefusedOf (Some node_fault.Memory)) }
 {
     match done {
         Done::Refused(told) => *told == Some(NodeFault::Memory),
