@@ -97,12 +97,19 @@ fn is_starved(done: &Done) -> bool
     }
 }
 
-/// Whether the node of one of the ways is of that party, as it is spelled.
+/// Whether the node of a way is of that party, as it is spelled.
+fn is_of(way: &Way<'_>, party: &Party) -> bool
+    ensures { IsTrue result ↔ (party_of way.now.replay.member ≡ party.now) }
+{
+    way.party().as_str() == party.as_str()
+}
+
+/// Whether the node of one of the ways is.
 fn one_is_of(ways: &[Way<'_>], party: &Party) -> bool
     ensures { (t : Told) → Contains ways.now t → party_of t.replay.member ≡ party.now → IsTrue result }
 {
     for way in ways {
-        if way.party().as_str() == party.as_str() {
+        if is_of(way, party) {
             return true;
         }
     }
