@@ -13,7 +13,7 @@ use Rattle.transcript_parts.specs.declared.echoed.EchoedLine.{EchoedLine}
 use Rattle.transcript_parts.specs.declared.line_read.EventAnswer.{EventAnswer}
 use Rattle.node_lines.specs.ElementTexts.{AreElementsOf}
 use Rattle.node_lines.specs.NodeLines.{node_line_in}
-use Rattle.node_lines.specs.declared.node_line.NodeLine.TheVariants.{One, Several}
+use Rattle.node_lines.specs.declared.node_line.NodeLine.TheVariants.{Several}
 use Rattle.ocpi_json.specs.NodeEventForms.{node_event_in}
 use Rattle.transcripts.specs.Exact.{HoldsOnly}
 use Rattle.transcripts.specs.LineEvents.{AreReadFrom, HasShape, HasShapeBy, Holds, HoldsBy, HoldsSeveral, LineEvent, LineEvents, event_at, text_at}

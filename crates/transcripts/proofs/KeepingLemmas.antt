@@ -1,18 +1,18 @@
 -- No way is lost as the events of a line, or a run, come to each of them.
-use Rattle.std.proofs.Common.{◌≡◌, ◌⊎◌, inl, inr, Bool, false, true, not, IsTrue, List, [], ◌∷◌, ◌++◌, Option, None, Some, Result, OnOk, Ok, Err, refl, sym, ap, subst, ◌∙◌}
+use Rattle.std.proofs.Common.{◌≡◌, ◌⊎◌, inl, inr, Bool, false, true, not, IsTrue, List, [], ◌∷◌, ◌++◌, Option, None, Some, Ok, refl, sym, ap, subst, ◌∙◌}
 use Rattle.std.proofs.lemmas.List.Elements.{Contains-append_left, Contains-push, Contains-push_cases}
 use Rattle.std.proofs.lemmas.List.Sorted.{Contains-permutation}
-use Rattle.std.specs.Prelude.{Contains, IsPermutation, map}
+use Rattle.std.specs.Prelude.{Contains, IsPermutation}
 use Rattle.node_replay.specs.Replayed.{started_again}
 use Rattle.ocpi_types.specs.declared.node_events.NodeEvent.{NodeEvent}
 use Rattle.transcript_parts.specs.LineReads.{LineRead}
-use Rattle.transcript_parts.specs.Lines.{Line, line_of}
+use Rattle.transcript_parts.specs.Lines.{Line}
 use Rattle.transcript_parts.specs.declared.first_lines.Opened.{Opened}
 use Rattle.transcript_parts.specs.declared.line_read.Ending.TheVariants.{NextRun}
-use Rattle.transcripts.specs.Covering.{ComesTo, GoesTo, HasWay, IsSameLine, LosesNone, LosesNoneByRun}
+use Rattle.transcripts.specs.Covering.{HasWay, IsSameLine, LosesNone, LosesNoneByRun}
 use Rattle.transcripts.specs.Exact.{AddsEach, CarriedOutAs, ComeAs, GoesOnAs, HoldsOnly, IsFound, OnlyCome, WouldChange}
-use Rattle.transcripts.specs.Following.{CarriedOut, ComeInTurn, ComeWithoutChoice, GoesOn, GoesOnWithoutChoice, StandsAt, restarted, unanswered_line}
-use Rattle.transcripts.specs.LineEvents.{LineEvent, LineEvents, event_at}
+use Rattle.transcripts.specs.Following.{ComeInTurn, ComeWithoutChoice, GoesOn, GoesOnWithoutChoice, StandsAt, restarted, unanswered_line}
+use Rattle.transcripts.specs.LineEvents.{LineEvent, LineEvents}
 use Rattle.transcripts.specs.Told.{Told}
 use Rattle.transcripts.proofs.OnlyLemmas.{line_changes_nothing}
 

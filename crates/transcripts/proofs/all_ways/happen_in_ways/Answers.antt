@@ -1,4 +1,4 @@
-use Rattle.std.specs.Prelude.{Contains, IfSome, None, Some}
+use Rattle.std.specs.Prelude.{Contains, IfSome}
 use Rattle.std.proofs.Common.{◌∙◌, ap, arith, subst}
 use Rattle.transcripts.specs.Exact.{OnlyCome}
 use Rattle.transcripts.specs.Following.{ComeInTurn, ComesOf}
