@@ -78,6 +78,11 @@ inside old s b is known = sym known.within ∙ is
 pub no_way : (ways : List Told) (t : Told) → ways ≡ [] → HasWay ways t → ⊥
 no_way ways t none has = in_none (λ w. ⊥) ways none has.0 has.1
 
+-- of no length there are none
+pub nothing_in : (ways : List Told) → length ways ≡ 0 → ways ≡ []
+nothing_in [] none = refl
+nothing_in (w ∷ ways) none = absurd (omega (arith, none))
+
 no_way_of : (ways : List Told) (told : Option Told) (t : Told) → ways ≡ [] → HasWayOf ways told → told ≡ Some t → ⊥
 no_way_of ways told t none has is = no_way ways t none (subst (HasWayOf ways) is has)
 
@@ -96,7 +101,6 @@ module _ (old : Reading) (p : LineRead) where
 -- ---- lines within a run
 
 module _ (old : Reading) (p : LineRead) (within : old.within ≡ true) where
-
   -- that were refused as lines
   module _ (told : Option JsonFault) (at : ℕ) (ends : p.ending ≡ Answered (done.Malformed told) at) where
     malformed : (earlier : List Told) (t : Standing) → (on : FollowsOn earlier old p t)

@@ -104,7 +104,6 @@ starved_came s p t at is x = came_as s p t x ⊥
 -- ---- what a part makes of a node
 
 module _ (setup : List Node) (earlier : List Told) (s : Standing) (p : LineRead) (t : Standing) where
-
   -- outside a run
   passes_outside : s.within ≡ false → PassesLine s p t → FitsNoRun p.line.bytes p.ending × (t ≡ s)
   passes_outside outside (Outside within fits same) = (fits, same)
@@ -139,7 +138,6 @@ module _ (setup : List Node) (earlier : List Told) (s : Standing) (p : LineRead)
       passes (Last within ends same) = absurd (cc (is, ends))
 
   module _ (inside : s.within ≡ true) where
-
     -- a line that was refused as a line
     pub follows_malformed : (told : Option JsonFault) (at : ℕ) → p.ending ≡ Answered (done.Malformed told) at → Follows setup earlier s p t
         → GaveNothing p × ((FitsEvent p.line.bytes told × (t ≡ s)) ⊎ ((FitsEvent p.line.bytes told → ⊥) × FitsFirst p.line.bytes told × (t ≡ ended s)))

@@ -1,18 +1,18 @@
 -- No way is lost as the events of a line, or a run, come to each of them.
-use Rattle.std.proofs.Common.{◌≡◌, ◌⊎◌, inl, inr, Bool, false, true, List, [], ◌∷◌, ◌++◌, Option, None, Some, Result, OnOk, Ok, Err, refl, sym, ap, subst, ◌∙◌}
+use Rattle.std.proofs.Common.{◌≡◌, ◌⊎◌, inl, inr, Bool, false, true, not, IsTrue, List, [], ◌∷◌, ◌++◌, Option, None, Some, Ok, refl, sym, ap, subst, ◌∙◌}
 use Rattle.std.proofs.lemmas.List.Elements.{Contains-append_left, Contains-push, Contains-push_cases}
 use Rattle.std.proofs.lemmas.List.Sorted.{Contains-permutation}
-use Rattle.std.specs.Prelude.{Contains, IsPermutation, map}
+use Rattle.std.specs.Prelude.{Contains, IsPermutation}
 use Rattle.node_replay.specs.Replayed.{started_again}
 use Rattle.ocpi_types.specs.declared.node_events.NodeEvent.{NodeEvent}
 use Rattle.transcript_parts.specs.LineReads.{LineRead}
-use Rattle.transcript_parts.specs.Lines.{Line, line_of}
+use Rattle.transcript_parts.specs.Lines.{Line}
 use Rattle.transcript_parts.specs.declared.first_lines.Opened.{Opened}
 use Rattle.transcript_parts.specs.declared.line_read.Ending.TheVariants.{NextRun}
-use Rattle.transcripts.specs.Covering.{ComesTo, GoesTo, HasWay, IsSameLine, LosesNone, LosesNoneByRun}
+use Rattle.transcripts.specs.Covering.{HasWay, IsSameLine, LosesNone, LosesNoneByRun}
 use Rattle.transcripts.specs.Exact.{AddsEach, CarriedOutAs, ComeAs, GoesOnAs, HoldsOnly, IsFound, OnlyCome, WouldChange}
-use Rattle.transcripts.specs.Following.{CarriedOut, ComeInTurn, ComeWithoutChoice, GoesOn, GoesOnWithoutChoice, StandsAt, restarted, unanswered_line}
-use Rattle.transcripts.specs.LineEvents.{LineEvent, LineEvents, event_at}
+use Rattle.transcripts.specs.Following.{ComeInTurn, ComeWithoutChoice, GoesOn, GoesOnWithoutChoice, StandsAt, restarted, unanswered_line}
+use Rattle.transcripts.specs.LineEvents.{LineEvent, LineEvents}
 use Rattle.transcripts.specs.Told.{Told}
 use Rattle.transcripts.proofs.OnlyLemmas.{line_changes_nothing}
 
@@ -146,6 +146,10 @@ not_carried way h es p found now events line only other t c = of found other (ca
 pub changes_none : (way : Told) (h : LineEvents) (x : NodeEvent) → HoldsOnly h x → WouldChange way x false → (t : Told) → CarriedOutAs way h t → ⊥
 changes_none way h x holds would t c =
     line_changes_nothing way h.events (record { text = h.line; event = Ok x }) (unanswered_line h.line) x c.carried.between holds refl would (came_out way h t c)
+
+pub none_changed : (way : Told) (h : LineEvents) (x : NodeEvent) (changes : Bool) → HoldsOnly h x → WouldChange way x changes → IsTrue (not changes) → (t : Told) → CarriedOutAs way h t → ⊥
+none_changed way h x false holds would none t c = changes_none way h x holds would t c
+none_changed way h x true holds would none t c = let bad : false ≡ true = none in cc
 
 -- with no line that was left open a way starts again
 pub goes_on_alone : (way t : Told) → GoesOnAs way None t → started_again way.replay ≡ t.replay

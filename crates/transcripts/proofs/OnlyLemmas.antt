@@ -1,5 +1,5 @@
 -- An event, or the events of a line, that leave a node no choice come to no more than was found.
-use Rattle.std.proofs.Common.{◌≡◌, ◌⊎◌, ◌↔◌, inl, inr, ℕ, zero, suc, ◌+◌, ◌<◌, ◌≤◌, Bool, true, false, List, [], ◌∷◌, ◌++◌, length, map, take, Option, None, Some, Ok, Err, IsTrue, refl, sym, ap, subst, ◌∙◌, arith, length-append}
+use Rattle.std.proofs.Common.{◌≡◌, ◌⊎◌, ◌↔◌, inl, inr, ℕ, zero, suc, ◌<◌, ◌≤◌, Bool, true, false, List, [], ◌∷◌, ◌++◌, length, map, take, Option, None, Some, Ok, Err, IsTrue, refl, sym, ap, subst, ◌∙◌, arith, length-append}
 use Rattle.std.proofs.Math.Seq.{take-length}
 use Rattle.std.proofs.lemmas.Bool.{cases_lt}
 use Rattle.std.proofs.lemmas.List.{length-map, map-append, same_from_push, take-append-le, take-map}
@@ -19,7 +19,7 @@ use Rattle.ocpi_types.specs.declared.setup.Node.{Node}
 use Rattle.transcript_parts.specs.LineReads.{LineRead}
 use Rattle.transcript_parts.specs.declared.line_read.Ending.{Ending}
 use Rattle.transcripts.specs.Exact.{ComeAs, ComesAs, IsFound, OnlyCome, OnlyGives, WouldChange}
-use Rattle.transcripts.specs.Following.{ComeInTurn, ComeWithoutChoice, Declined, FitsEntry, FitsNothing, Gives, Happens, HasOneAnswer, IsOwn, LeavesNoChoice, Malformed, NodeAnswer, NoneYet, OneMore, PassedOver, Refused, Skipped, Stays, Stepped, TellsMalformed, TellsRefused, TellsSkipped}
+use Rattle.transcripts.specs.Following.{ComeInTurn, ComeWithoutChoice, Declined, FitsEntry, FitsNothing, Gives, Happens, HasOneAnswer, IsOwn, Malformed, NoneYet, OneMore, Refused, Skipped, Stays, Stepped, TellsMalformed, TellsRefused, TellsSkipped}
 use Rattle.transcripts.specs.LineEvents.{LineEvent, ending_at, event_at, packets_at}
 use Rattle.transcripts.specs.Told.{Told}
 use Rattle.world_steps.specs.World.{NodeState}
@@ -216,7 +216,7 @@ come_before p old xs changed new (OneMore {es = es} {before = b} {now = w} {afte
         let long = length-append es (e ∷ []) in
         let whole : n ≡ length (es ++ e ∷ []) = omega (arith, long, within, all) in
         subst (ComeUpTo p old) (sym (ap (λ m. take m (es ++ e ∷ [])) whole ∙ take-length (es ++ e ∷ [])))
-            (record { changed = after; new = u; come = OneMore {es = es} {before = b} {now = w} {after = after} {t = t} {u = u} e come gives so; forced = forced })
+        (record { changed = after; new = u; come = OneMore {es = es} {before = b} {now = w} {after = after} {t = t} {u = u} e come gives so; forced = forced })
     by (inr some) earlier = subst (ComeUpTo p old) (sym (take-append-le n es (e ∷ []) some)) (earlier some)
 
 -- a history of one event more came so far, and then to that

@@ -1,5 +1,5 @@
 -- Why a line is refused as a whole.
-use Rattle.std.proofs.Common.{◌≡◌, ◌≢◌, ◌⊎◌, ◌↔◌, ◌∙◌, inl, inr, ℕ, Bool, true, false, List, Option, Some, Result, Ok, Err, IfOk, OnOk, IsTrue, refl, sym, ap}
+use Rattle.std.proofs.Common.{◌≡◌, ◌≢◌, ◌↔◌, ◌∙◌, inl, inr, ℕ, Bool, true, false, List, Option, Some, Result, Ok, Err, IfOk, OnOk, IsTrue, refl, sym, ap}
 use Rattle.json_text.specs.Fault.{Fails, Read}
 use Rattle.json_text.specs.declared.fault.JsonFault.{JsonFault}
 use Rattle.json_text.specs.declared.fault.JsonFault.TheVariants.{Syntax, BadNumberToken, TaggedText, Missing, WrongForm, UnknownWord, UnknownKind, Memory}

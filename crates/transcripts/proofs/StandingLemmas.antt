@@ -1,6 +1,5 @@
 -- At which node a run was opened: with the number of its rows, which it has once each, and of one party of its setup.
-use Rattle.std.proofs.Common.{◌≡◌, ◌≢◌, ◌⊎◌, ◌↔◌, inl, inr, ℕ, suc, ◌+◌, ◌≤◌, List, [], ◌∷◌, ◌++◌, length, map, refl, sym, ap, subst, ◌∙◌, arith, length-append}
-use Rattle.std.proofs.lemmas.List.{append_assoc}
+use Rattle.std.proofs.Common.{◌≡◌, ◌≢◌, ◌⊎◌, ◌↔◌, inl, inr, ℕ, ◌≤◌, Bool, IsTrue, List, [], ◌∷◌, ◌++◌, length, map, sym, ap, subst, ◌∙◌, arith, length-append}
 use Rattle.std.proofs.lemmas.List.Elements.{Contains-append_cases, Contains-append_left, Contains-append_right}
 use Rattle.std.specs.List.{AllPairs}
 use Rattle.std.specs.Prelude.{All, Contains}
@@ -84,6 +83,15 @@ stands o t rs are = (
   (λ s. record { party = s.0; serial = s.1; rows = (rs, are, s.2) }),
   (λ s. (s.party, s.serial, s.rows.2 ∙ as_many_rows t.replay.state s.rows.0 rs s.rows.1 are)),
 )
+
+pub stands_by : (o : Opened) (t : Told) (is_at out : Bool) (value stored : ℕ)
+    → (IsTrue is_at ↔ ((party_of t.replay.member ≡ o.party) × (o.serial ≡ last_serial t.replay.state))) → IsTrue is_at
+    → ((rs : List Row) × AreNodeRows rs t.replay.state × (stored ≡ length rs)) → value ≡ o.rows → (IsTrue out ↔ (value ≡ stored)) → IsTrue out ↔ StandsAt o t
+stands_by o t is_at out value stored at here rows is same =
+    let one = stands o t rows.0 rows.1 in (
+      (λ yes. one.0 ((at.0 here).0, (at.0 here).1, sym is ∙ same.0 yes ∙ rows.2)),
+      (λ s. same.1 (is ∙ (one.1 s).2 ∙ sym rows.2)),
+    )
 
 -- that depends on the node alone, and not on where its entries stand
 pub stands_alike : (o : Opened) (t u : Told) → t.replay ≡ u.replay → StandsAt o t → StandsAt o u

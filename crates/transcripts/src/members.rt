@@ -9,13 +9,20 @@ use crate::transcript::Transcript;
 use ocpi_text::Party;
 use ocpi_types::Node;
 
+/// Whether the party of a node is spelled so.
+fn is_spelled_so(node: &Node, party: &Party) -> bool
+    ensures { IsTrue result ↔ (party_of node.now ≡ party.now) }
+{
+    node.party().as_str() == party.as_str()
+}
+
 /// The node of a setup whose party is spelled so.
 pub(crate) fn member_spelled<'a>(nodes: &'a [Node], party: &Party) -> Option<&'a Node>
     ensures some { IfSome result (λ member. Contains nodes.now member.now × (party_of member.now ≡ party.now)) }
     ensures none { IfNone result ((member : NodeOf) → Contains nodes.now member → party_of member ≡ party.now → ⊥) }
 {
     for node in nodes {
-        if node.party().as_str() == party.as_str() {
+        if is_spelled_so(node, party) {
             return Some(node);
         }
     }

@@ -24,6 +24,7 @@ ghost use Rattle.transcript_parts.specs.Beginnings.{Accuses};
 ghost use Rattle.transcript_parts.specs.LineReads.{GaveNothing};
 ghost use Rattle.transcript_parts.specs.declared.line_read.Ending.TheVariants.{Answered, FileEnd, NextRun};
 ghost use Rattle.transcript_lines.specs.declared.done.Done.TheVariants as done;
+ghost use Rattle.transcript_lines.specs.declared.done.Done.TheVariants.{Refused as RefusedOf};
 ghost use Rattle.node_steps.specs.declared.fault.NodeFault.TheVariants as node_fault;
 
 use crate::all_ways::{go_on, happen_in_ways};
@@ -88,12 +89,31 @@ impl<'a> Model for Reading<'a> {
 
 /// Whether it is told of a line that memory ran out for it.
 fn is_starved(done: &Done) -> bool
-    ensures { IsTrue result ↔ (done.now ≡ done.Refused (Some node_fault.Memory)) }
+    ensures { IsTrue result ↔ (done.now ≡ RefusedOf (Some node_fault.Memory)) }
 {
     match done {
         Done::Refused(told) => *told == Some(NodeFault::Memory),
         _ => false,
     }
+}
+
+/// Whether the node of a way is of that party, as it is spelled.
+fn is_of(way: &Way<'_>, party: &Party) -> bool
+    ensures { IsTrue result ↔ (party_of way.now.replay.member ≡ party.now) }
+{
+    way.party().as_str() == party.as_str()
+}
+
+/// Whether the node of one of the ways is.
+fn one_is_of(ways: &[Way<'_>], party: &Party) -> bool
+    ensures { (t : Told) → Contains ways.now t → party_of t.replay.member ≡ party.now → IsTrue result }
+{
+    for way in ways {
+        if is_of(way, party) {
+            return true;
+        }
+    }
+    false
 }
 
 impl<'a> Reading<'a> {
@@ -465,7 +485,7 @@ impl<'a> Reading<'a> {
         ensures all { OnOk result (KeepsLine self.old part.now self.new) }
         ensures none { IfErr result (EndsByLine self.old part.now) }
     {
-        if !self.is_of(&opened.party) {
+        if !one_is_of(self.ways.as_slice(), &opened.party) {
             return Err(TranscriptFault::Wrong(opened.number));
         }
         match go_on(self.alloc, &mut self.ways, &self.unanswered, &opened) {
@@ -478,17 +498,5 @@ impl<'a> Reading<'a> {
             return Err(TranscriptFault::NotARun(part.line().number));
         }
         Ok(())
-    }
-
-    /// Whether the node that is read is of that party, as it is spelled.
-    fn is_of(&self, party: &Party) -> bool
-        ensures { (t : Told) → Contains self.now.ways t → party_of t.replay.member ≡ party.now → IsTrue result }
-    {
-        for way in self.ways.as_slice() {
-            if way.party().as_str() == party.as_str() {
-                return true;
-            }
-        }
-        false
     }
 }

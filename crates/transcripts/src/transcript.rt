@@ -17,6 +17,7 @@ use ocpi_text::Party;
 use ocpi_types::Setup;
 use std::alloc::Global;
 use std::marker::Model;
+use transcript_parts::laws::parts_are_unique;
 use transcript_parts::{Lines, TranscriptFault, next_part};
 
 /// What a file tells of a node: what happened at it since it was opened, and where each entry stands.
@@ -87,6 +88,7 @@ fn read_parts<'a>(
     ensures all { IfOk result (IsComplete setup.now earlier.now (lines_in text.now) []) }
     ensures none { IfErr result (AccusesRightly setup.now earlier.now text.now) }
 {
+    parts_are_unique();
     let mut lines = Lines::new(text);
     let mut reading = Reading::new(alloc, setup);
     loop {

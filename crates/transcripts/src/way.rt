@@ -5,6 +5,7 @@ ghost use Rattle.histories.specs.declared.entry.Entry.{Entry as EntryOf};
 ghost use Rattle.ocpi_json.specs.NodeEventForms.{node_event_in};
 ghost use Rattle.ocpi_types.specs.Setups.{party_of};
 ghost use Rattle.ocpi_types.specs.declared.packet.Packet.{Packet as PacketOf};
+ghost use Rattle.stored_laws.specs.Nodes.{last_serial};
 ghost use Rattle.transcripts.specs.Exact.{OnlyGives, WouldChange};
 ghost use Rattle.transcripts.specs.Following.{FitsEntry, Gives, StandsAt, TellsMalformed, TellsRefused, TellsSkipped, opening_told, restarted};
 ghost use Rattle.transcripts.specs.Told.{IsTold};
@@ -273,14 +274,19 @@ impl<'a> Way<'a> {
         Ok(Way { replay, sources })
     }
 
+    /// Whether the node is of the party of a run that was opened, with a last packet of that serial.
+    fn is_at(&self, opened: &Opened) -> bool
+        ensures { IsTrue result ↔ ((party_of self.now.replay.member ≡ opened.now.party) × (opened.now.serial ≡ last_serial self.now.replay.state)) }
+    {
+        self.party().as_str() == opened.party.as_str() && opened.serial == self.replay.last_serial()
+    }
+
     /// Whether the node is that of a run that was opened: of its party, with so many rows, and a last packet of that
     /// serial. An error is want of memory.
     pub(crate) fn stands_at(&self, opened: &Opened) -> Result<bool, AllocError>
         ensures { IfOk result (λ fits. IsTrue fits ↔ StandsAt opened.now self.now) }
     {
-        if self.party().as_str() != opened.party.as_str()
-            || opened.serial != self.replay.last_serial()
-        {
+        if !self.is_at(opened) {
             return Ok(false);
         }
         let stored = self.replay.rows()?;

@@ -1,5 +1,5 @@
 use Rattle.std.specs.Prelude.{Contains}
-use Rattle.std.proofs.Common.{[], refl}
+use Rattle.std.proofs.Common.{◌∙◌, ap, arith, subst}
 use Rattle.transcripts.specs.Following.{GoesOn, StandsAt}
 use Rattle.transcripts.specs.Told.{Told}
 use Rattle.transcripts.proofs.KeepingLemmas.{HasAllGoOn, all_taken, loses_none_by_run, none_taken, one_taken, still_way}
@@ -9,9 +9,9 @@ use Rattle.transcripts.proofs.all_ways.go_on.Goals as goal
 pub loop-way-init : goal.loop-way-init
 loop-way-init c =
     let all = c.args.ways.now.items in (
-      in_none (λ t. (s : Told) × Contains all s × GoesOn s c.args.unanswered.now t × StandsAt c.args.opened.now t) [] refl,
-      (λ t among. among),
-      none_taken (HasAllGoOn c.args.unanswered.now c.args.opened.now) all all [] refl,
+      in_none (λ t. (s : Told) × Contains all s × GoesOn s c.args.unanswered.now t × StandsAt c.args.opened.now t) c.replace-left.new.dest.items (ap (λ v. v.items) c.replace-left.ensures.after ∙ c.new.ensures.items),
+      (λ t among. subst (λ v. Contains v.items t) c.replace-left.ensures.value among),
+      none_taken (HasAllGoOn c.args.unanswered.now c.args.opened.now) all c.replace-left.result.items c.replace-left.new.dest.items (ap (λ v. v.items) c.replace-left.ensures.value),
     )
 
 pub loop-way-preserved : goal.loop-way-preserved
@@ -37,4 +37,4 @@ returns-clause-go_on c =
 pub returns-clause-none_lost : goal.returns-clause-none_lost
 returns-clause-none_lost c =
     loses_none_by_run c.args.ways.now.items c.loop-way.ways.items c.turn_round.new.ways.items c.args.unanswered.now c.args.opened.now c.turn_round.ensures
-    (all_taken (HasAllGoOn c.args.unanswered.now c.args.opened.now) c.args.ways.now.items c.loop-way.left.items c.loop-way.ways.items (in_none _ c.loop-way.left.items (search _)) c.loop-way.invariant.2)
+    (all_taken (HasAllGoOn c.args.unanswered.now c.args.opened.now) c.args.ways.now.items c.loop-way.left.items c.loop-way.ways.items (λ x among. omega (arith, among.1, c.loop-way.left.ok.0, c.in_default.ensures.cases.0)) c.loop-way.invariant.2)

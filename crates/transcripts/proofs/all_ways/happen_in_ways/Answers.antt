@@ -1,5 +1,5 @@
-use Rattle.std.specs.Prelude.{Contains, IfSome, None, Some}
-use Rattle.std.proofs.Common.{[], refl, subst}
+use Rattle.std.specs.Prelude.{Contains, IfSome}
+use Rattle.std.proofs.Common.{◌∙◌, ap, arith, subst}
 use Rattle.transcripts.specs.Exact.{OnlyCome}
 use Rattle.transcripts.specs.Following.{ComeInTurn, ComesOf}
 use Rattle.transcripts.proofs.KeepingLemmas.{HasAllCome, all_taken, has_last, loses_none, none_taken, one_taken, stay_one, still_way}
@@ -9,9 +9,9 @@ use Rattle.transcripts.proofs.all_ways.happen_in_ways.Goals as goal
 pub loop-way-init : goal.loop-way-init
 loop-way-init c =
     let all = c.args.ways.now.items in (
-      in_none (ComesOf all c.args.events.now c.args.part.now) [] refl,
-      (λ t among. among),
-      none_taken (HasAllCome c.args.events.now c.args.part.now) all all [] refl,
+      in_none (ComesOf all c.args.events.now c.args.part.now) c.replace-left.new.dest.items (ap (λ v. v.items) c.replace-left.ensures.after ∙ c.new.ensures.items),
+      (λ t among. subst (λ v. Contains v.items t) c.replace-left.ensures.value among),
+      none_taken (HasAllCome c.args.events.now c.args.part.now) all c.replace-left.result.items c.replace-left.new.dest.items (ap (λ v. v.items) c.replace-left.ensures.value),
     )
 
 pub loop-way-preserved-in-Ok : goal.loop-way-preserved-in-Ok
@@ -39,8 +39,8 @@ loop-way-preserved-in-Ok c =
           (λ changed t come. has_last before after now t c.in-Ok.ensures.items (only changed t come).1) c.loop-way.invariant.2,
     )
 
-pub loop-way-preserved-in-Ok-None : goal.loop-way-preserved-in-Ok-None
-loop-way-preserved-in-Ok-None c =
+pub loop-way-preserved : goal.loop-way-preserved
+loop-way-preserved c =
     let all = c.args.ways.now.items in
     let events = c.args.events.now in
     let part = c.args.part.now in
@@ -61,4 +61,4 @@ returns-clause-come c =
 pub returns-clause-none_lost : goal.returns-clause-none_lost
 returns-clause-none_lost c =
     loses_none c.args.ways.now.items c.loop-way.ways.items c.turn_round.new.ways.items c.args.events.now c.args.part.now c.turn_round.ensures
-    (all_taken (HasAllCome c.args.events.now c.args.part.now) c.args.ways.now.items c.loop-way.left.items c.loop-way.ways.items (in_none _ c.loop-way.left.items (search _)) c.loop-way.invariant.2)
+    (all_taken (HasAllCome c.args.events.now c.args.part.now) c.args.ways.now.items c.loop-way.left.items c.loop-way.ways.items (λ x among. omega (arith, among.1, c.loop-way.left.ok.0, c.in_default.ensures.cases.0)) c.loop-way.invariant.2)

@@ -1,9 +1,9 @@
-use Rattle.std.proofs.Common.{◌≡◌, ◌⊎◌, ◌∙◌, Some, ap, inl, inr}
+use Rattle.std.proofs.Common.{◌≡◌, ◌∙◌, Some, ap}
 use Rattle.node_replay.specs.Replayed.{started_again}
 use Rattle.transcripts.specs.Exact.{AddsEach, CarriedOutAs, GoesOnAs}
 use Rattle.transcripts.specs.Following.{Adds, GoesOn, StandsAt, restarted}
 use Rattle.transcripts.specs.Told.{Told}
-use Rattle.transcripts.proofs.KeepingLemmas.{each_both, each_of, goes_on_with, goes_on_without, goes_on_by_either}
+use Rattle.transcripts.proofs.KeepingLemmas.{each_both, each_of, goes_on_without, goes_on_by_either}
 use Rattle.transcripts.proofs.WayLemmas.{adds_both, adds_weaker, on_more, without_more}
 use Rattle.transcripts.proofs.all_ways.push_both.Goals as goal
 

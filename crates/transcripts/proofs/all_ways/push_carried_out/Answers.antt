@@ -1,4 +1,4 @@
-use Rattle.std.proofs.Common.{◌≡◌, ◌∙◌, List, true, false, None, Some, ap, refl, subst}
+use Rattle.std.proofs.Common.{◌≡◌, ◌∙◌, List, true, Some, ap, refl, subst}
 use Rattle.std.specs.Prelude.{IfSome}
 use Rattle.node_replay.specs.Replayed.{started_again}
 use Rattle.transcript_parts.specs.LineReads.{LineRead}

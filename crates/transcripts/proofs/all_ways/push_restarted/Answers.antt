@@ -1,4 +1,4 @@
-use Rattle.std.proofs.Common.{◌≡◌, ◌∙◌, ap, sym}
+use Rattle.std.proofs.Common.{◌≡◌, ◌∙◌, ap}
 use Rattle.node_replay.specs.Replayed.{started_again}
 use Rattle.transcripts.specs.Following.{StandsAt}
 use Rattle.transcripts.specs.Told.{Told}

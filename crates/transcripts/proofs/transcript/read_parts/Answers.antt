@@ -1,9 +1,8 @@
-use Rattle.std.proofs.Common.{[], false, None, refl, sym, subst}
+use Rattle.std.proofs.Common.{◌≡◌, [], false, None, refl, sym, subst}
 use Rattle.std.specs.Prelude.{IfNone, IfSome}
 use Rattle.transcript_parts.specs.Lines.{lines_in}
 use Rattle.transcript_parts.specs.Parts.{IsPart}
 use Rattle.transcript_parts.proofs.PartLemmas.{part_shortens}
-use Rattle.transcript_parts.proofs.UniqueParts.{same_part}
 use Rattle.transcripts.specs.Following.{IsRead}
 use Rattle.transcripts.proofs.FollowingLemmas.{more_read, nothing_read, reading}
 use Rattle.transcripts.proofs.HistoryLemmas.{KnowsAll, accused_lines, accused_part, knows_more, knows_nothing, knows_whole}
@@ -35,15 +34,18 @@ loop-part-preserved c =
           c.loop-part.invariant.is_read is c.in-Ok.ensures.each;
       knows =
           knows_more c.args.setup.now c.args.earlier.now (lines_in c.args.text.now) c.loop-part.lines c.loop-part.reading c.loop-part.invariant.knows c.next_part.new.lines c.in-Ok-Some.part
-          same_part c.loop-part.invariant.is_read.setup_is is c.take.new.self c.in-Ok.ensures.all;
+          c.parts_are_unique.ensures c.loop-part.invariant.is_read.setup_is is c.take.new.self c.in-Ok.ensures.all;
     }
 
 pub returns-in-Ok-None-clause-each : goal.returns-in-Ok-None-clause-each
-returns-in-Ok-None-clause-each c = ?
+returns-in-Ok-None-clause-each c =
+    let none = subst (λ o. IfNone o ((c.loop-part.lines ≡ []) × (c.next_part.new.lines ≡ []))) c.in-Ok-None.field-0-is c.in-Ok-None.ensures.none in
+    subst (λ ls. IsRead c.args.setup.now c.args.earlier.now (lines_in c.args.text.now) ls c.loop-part.reading) none.0 c.loop-part.invariant.is_read
 
 pub returns-in-Ok-None-clause-all : goal.returns-in-Ok-None-clause-all
 returns-in-Ok-None-clause-all c =
-    knows_whole c.args.setup.now c.args.earlier.now (lines_in c.args.text.now) c.loop-part.lines c.loop-part.reading c.loop-part.invariant.knows ?
+    let none = subst (λ o. IfNone o ((c.loop-part.lines ≡ []) × (c.next_part.new.lines ≡ []))) c.in-Ok-None.field-0-is c.in-Ok-None.ensures.none in
+    knows_whole c.args.setup.now c.args.earlier.now (lines_in c.args.text.now) c.loop-part.lines c.loop-part.reading c.loop-part.invariant.knows none.0
 
 pub returns-in-Err-clause-none : goal.returns-in-Err-clause-none
 returns-in-Err-clause-none c =
@@ -55,4 +57,4 @@ returns-in-Err-take-clause-none c =
     let is : IsPart c.loop-part.lines c.in-Ok-Some.part c.next_part.new.lines =
     subst (λ o. IfSome o (λ p. IsPart c.loop-part.lines p c.next_part.new.lines)) c.in-Ok-Some.field-0-is c.in-Ok-Some.ensures.some in
     accused_part c.args.setup.now c.args.earlier.now (lines_in c.args.text.now) c.loop-part.lines c.loop-part.reading c.loop-part.invariant.knows c.next_part.new.lines c.in-Ok-Some.part
-    same_part c.loop-part.invariant.is_read.setup_is is c.args.text.now c.in-Err-take.fault refl c.in-Err-take.ensures.none
+    c.parts_are_unique.ensures c.loop-part.invariant.is_read.setup_is is c.args.text.now c.in-Err-take.fault refl c.in-Err-take.ensures.none

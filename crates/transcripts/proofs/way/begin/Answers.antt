@@ -3,13 +3,13 @@ use Rattle.std.proofs.Math.Seq.{take-append_seam}
 use Rattle.std.proofs.lemmas.List.{take-append-drop}
 use Rattle.transcripts.proofs.way.begin.Goals as goal
 
-pub returns-then-branch : goal.returns-then-branch
-returns-then-branch c = (
+pub returns-then-packets-others : goal.returns-then-packets-others
+returns-then-packets-others c = (
   (λ no. absurd (cc)),
   (λ r.
       let whole = ap length r.1 in
       let long = length-append c.args.packets.now r.0 in
-      absurd (omega (arith, whole, long, c.branch.true))),
+      absurd (omega (arith, whole, long, c.if-packets-others.true))),
 )
 
 pub returns : goal.returns

@@ -1,8 +1,8 @@
-use Rattle.std.proofs.Common.{◌<◌, List, length, refl, ap, subst, ◌∙◌, rules, arith}
+use Rattle.std.proofs.Common.{◌≡◌, ◌<◌, List, length, refl, ap, subst, ◌∙◌, rules, arith}
 use Rattle.transcripts.specs.Covering.{LosesNone}
 use Rattle.transcripts.specs.Following.{AllCome}
 use Rattle.transcripts.specs.LineEvents.{LineEvent}
-use Rattle.transcripts.proofs.AccusingLemmas.{comes_in_no_shape, comes_to_no_way, comes_to_none, keeps_happened}
+use Rattle.transcripts.proofs.AccusingLemmas.{comes_in_no_shape, comes_to_no_way, comes_to_none, keeps_happened, nothing_in}
 use Rattle.transcripts.proofs.FollowingLemmas.{happened}
 use Rattle.transcripts.proofs.reading.Reading.happen.Goals as goal
 
@@ -15,11 +15,12 @@ returns-then-not-has_shape-clause-none c = λ accuses. comes_in_no_shape c.args.
 
 pub returns-then-is_empty-clause-none : goal.returns-then-is_empty-clause-none
 returns-then-is_empty-clause-none c =
+    let none : length c.happen_in_ways.new.ways.items ≡ 0 = search (rules, arith) in
     let line = c.in-Ok.events in
     λ accuses. comes_to_no_way c.args.self.now c.args.part.now line c.in-Ok.ensures.line c.are_held.ensures c.happen_in_ways.new.ways.items
     (subst (λ ws. LosesNone ws line.events c.args.part.now c.happen_in_ways.new.ways.items) (ap (λ r. r.ways) c.self.view_is)
     (subst (λ (es : List LineEvent). LosesNone c.self.inside.ways.items es c.args.part.now c.happen_in_ways.new.ways.items) c.events.ensures c.in-Ok-happen_in_ways.ensures.none_lost))
-    (search rules)
+    (nothing_in c.happen_in_ways.new.ways.items none)
 
 pub returns-clause-each : goal.returns-clause-each
 returns-clause-each c =
