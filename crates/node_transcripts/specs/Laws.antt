@@ -1,0 +1,37 @@
+-- What a run of `node` writes with an echo is a transcript of its node.
+use Rattle.std.specs.Prelude.{◌≡◌, ℕ, Bool, true, List, [], All, Option, Some, length}
+use Rattle.ocpi_types.specs.Setups.{party_of}
+use Rattle.ocpi_types.specs.declared.setup.Node.{Node}
+use Rattle.line_runs.specs.Numbered.{AreNumbered}
+use Rattle.line_runs.specs.declared.outcome.Ran.{Ran}
+use Rattle.node_keepers.specs.Opening.{Source}
+use Rattle.node_cell.specs.Keepers.{Keeper}
+use Rattle.done_laws.specs.Laws.{IsWhole}
+use Rattle.node_runs.specs.NodeAnswers.{NodeLineGives}
+use Rattle.node_runs.specs.NodeTurns.{IsMember, Running, Stage, opening}
+use Rattle.transcripts.specs.Following.{IsTranscriptOf}
+use Rattle.transcripts.specs.Told.{Told}
+use Rattle.node_transcripts.specs.Readable.{AreTold, FindsNoRows, IsPlain, ReadsSetups}
+
+-- what is told is that node of the setup, in the state in which it is
+pub record IsToldOf {K : Type 0} (wanted : Option (List ℕ)) (setup : List Node) (now : Running K) (t : Told) : Type 0 where
+  pub setup_is : t.replay.setup ≡ setup
+  pub member : IsMember setup wanted t.replay.member
+  pub state : t.replay.state ≡ now.node.state
+  pub party : party_of t.replay.member ≡ now.party
+
+-- some node of some setup is told by the bytes
+pub record IsTranscript {K : Type 0} (wanted : Option (List ℕ)) (now : Running K) (out : List ℕ) : Type 0 where
+  pub setup : List Node
+  pub told : Told
+  pub reads : IsTranscriptOf setup [] out told
+  pub is : IsToldOf wanted setup now told
+
+-- What the lines of a run give, each with its echo, tells the node that runs behind them. The lines are parts of the input
+-- between line feeds, and so few that their numbers can be read again; the keeper is honest; and nothing was kept before.
+abbrev pub RunsAreTranscripts : {K : Type 0} → Keeper K → Source K → Type 0
+RunsAreTranscripts {K} keeper source =
+    (wanted : Option (List ℕ)) (opened : List ℕ) (lines : List (List ℕ)) (ran : Ran) (out : List ℕ) (s : Stage K) (now : Running K)
+    (run : AreNumbered (NodeLineGives keeper source) true (opening wanted opened) lines ran out s) → s.running ≡ Some now
+    → All IsPlain lines → IsWhole (length lines) → FindsNoRows keeper source → keeper.is_honest now.node.keep → AreTold run
+    → IsTranscript wanted now out

@@ -1,0 +1,93 @@
+-- What is asked of a run of `node`, so that what it writes is read as it happened.
+use Rattle.std.specs.Prelude.{◌≡◌, ◌≢◌, ℕ, ◌<◌, List, [], ◌∷◌, All, Option, None, Some, Ok, Err, length}
+use Rattle.json_text.specs.declared.fault.JsonFault.{JsonFault}
+use Rattle.json_text.specs.declared.fault.JsonFault.TheVariants.{Memory}
+use Rattle.ocpi_types.specs.declared.packet.Packet.{Packet}
+use Rattle.ocpi_types.specs.declared.setup.Node.{Node}
+use Rattle.ocpi_json.specs.Packets.{packet_in, packet_text}
+use Rattle.ocpi_json.specs.SetupForms.{setup_in}
+use Rattle.world_laws.specs.Laws.{IsSetup}
+use Rattle.line_runs.specs.Numbered.{AreNumbered, empty_line, none_numbered, refused_line, taken_line}
+use Rattle.line_runs.specs.declared.outcome.Ran.{Ran}
+use Rattle.line_runs.specs.declared.run.Turn.{Turn}
+use Rattle.node_store.specs.Contents.{Content}
+use Rattle.std.specs.FinMap.{empty}
+use Rattle.node_keepers.specs.Opening.{Source}
+use Rattle.node_cell.specs.Keepers.{Keeper}
+use Rattle.transcript_lines.specs.Dones.{done_in, run_without_lines}
+use Rattle.done_laws.specs.Laws.{IsWhole}
+use Rattle.transcripts.specs.Following.{MayStarve}
+use Rattle.node_runs.specs.NodeAnswers.{GoesOn, LineTurn, NodeLineGives, NodeTurn, OneEvent, SeveralEvents}
+use Rattle.node_runs.specs.NodeTurns.{EventTurn, Running, Stage}
+use Rattle.node_runs.specs.NodeTurns as turns
+use Rattle.node_runs.specs.declared.fault.NodeStop.{NodeStop}
+
+-- a packet is written as one line, which is read as that packet
+pub record IsReadable (p : Packet) : Type 0 where
+  pub plain : All (λ b. b ≢ 10) (packet_text p)
+  pub some : 0 < length (packet_text p)
+  pub apart : packet_text p ≢ run_without_lines
+  pub no_done : done_in (packet_text p) ≡ Ok None
+  pub reads : packet_in (packet_text p) ≡ Ok p
+
+-- and so is each of these, whose number can be read again too
+pub record AreReadable (packets : List Packet) : Type 0 where
+  pub each : All IsReadable packets
+  pub few : IsWhole (length packets)
+
+-- the line is no setup
+abbrev pub IsNoSetup : List ℕ → Type 0
+IsNoSetup line = (why : JsonFault) × (setup_in line ≡ Err why)
+
+-- of one event: the packets that it sent are readable; and where memory ran out for its line, that is no setup and no array
+abbrev pub IsToldEvent : {K : Type 0} {keeper : Keeper K} {now : Running K} {stop : Option NodeStop} {number : ℕ} {line : List ℕ}
+    {turn : Turn} {out : List ℕ} {next : Running K} {stopped : Option NodeStop}
+    → EventTurn keeper now stop number line turn out next stopped → Type 0
+IsToldEvent (turns.DidStep x is packets changed does some taken written party same) = AreReadable packets
+IsToldEvent (turns.WasIdle x is does taken written party same) = Unit {0}
+IsToldEvent (turns.WasUnstored x is refused taken written left same) = Unit {0}
+IsToldEvent (turns.IsElsewhere x read other taken written left same) = Unit {0}
+IsToldEvent (turns.IsOfOtherRole x is passes taken written party same) = Unit {0}
+IsToldEvent {line = line} (turns.IsMalformed fault fails other refused written left same) = fault ≡ Memory → IsNoSetup line
+IsToldEvent (turns.IsRefused x is fault refuses refused written party same) = Unit {0}
+IsToldEvent {line = line} (turns.IsStarved x is refused written left same) = MayStarve line
+IsToldEvent (turns.IsLost x is fault fails ended written party same) = Unit {0}
+
+-- of a line behind the setup: it is no array
+abbrev pub IsToldLine : {K : Type 0} {keeper : Keeper K} {now : Running K} {stop : Option NodeStop} {number : ℕ} {line : List ℕ}
+    {turn : Turn} {out : List ℕ} {next : Running K} {stopped : Option NodeStop}
+    → LineTurn keeper now stop number line turn out next stopped → Type 0
+IsToldLine (OneEvent is) = IsToldEvent is
+IsToldLine (SeveralEvents is same) = ⊥
+
+-- of any line
+abbrev pub IsToldTurn : {K : Type 0} (keeper : Keeper K) (source : Source K) (running : Option (Running K)) (s : Stage K) (number : ℕ)
+    (line : List ℕ) (turn : Turn) (out : List ℕ) (t : Stage K) → NodeTurn keeper source running s number line turn out t → Type 0
+IsToldTurn keeper source None s number line turn out t is = Unit {0}
+IsToldTurn keeper source (Some now) s number line turn out t (inl is) = IsToldLine is.is
+IsToldTurn keeper source (Some now) s number line turn out t (inr ends) = Unit {0}
+
+abbrev pub IsTold : {K : Type 0} {keeper : Keeper K} {source : Source K} {s : Stage K} {number : ℕ} {line : List ℕ} {turn : Turn} {out : List ℕ} {t : Stage K}
+    → NodeLineGives keeper source s number line turn out t → Type 0
+IsTold {keeper = keeper} {source = source} {s = s} {number = number} {line = line} {turn = turn} {out = out} {t = t} is =
+    IsToldTurn keeper source s.running s number line turn out t is
+
+-- of each line of a run
+abbrev pub AreTold : {K : Type 0} {keeper : Keeper K} {source : Source K} {echo : Bool} {first : Stage K} {lines : List (List ℕ)} {ran : Ran} {out : List ℕ} {s : Stage K}
+    → AreNumbered (NodeLineGives keeper source) echo first lines ran out s → Type 0
+AreTold none_numbered = Unit {0}
+AreTold (empty_line before) = AreTold before
+AreTold (taken_line before some gives) = AreTold before × IsTold gives
+AreTold (refused_line before some gives) = AreTold before × IsTold gives
+
+-- a line has no line feed
+abbrev pub IsPlain : List ℕ → Type 0
+IsPlain line = All (λ b. b ≢ 10) line
+
+-- what is found for the node is a store without rows, where its keeper is honest
+abbrev pub FindsNoRows : {K : Type 0} → Keeper K → Source K → Type 0
+FindsNoRows keeper source = (k : _) → source.found 1 k → keeper.is_honest k → keeper.content k ≡ empty
+
+-- what is read as a setup is one, which its type keeps
+abbrev pub ReadsSetups : Type 0
+ReadsSetups = (line : List ℕ) (setup : List Node) → setup_in line ≡ Ok setup → IsSetup setup

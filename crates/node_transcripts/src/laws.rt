@@ -1,0 +1,20 @@
+//! What is read of what `node` writes. Each law is the contract of a function that does nothing of its own.
+
+ghost use Rattle.node_cell.specs.Keepers.{keeper_of};
+ghost use Rattle.node_keepers.specs.Opening.{source_of};
+ghost use Rattle.node_transcripts.specs.Laws.{RunsAreTranscripts};
+ghost use Rattle.node_transcripts.specs.Readable.{ReadsSetups};
+
+use done_laws::laws::done_lines_are_read;
+use node_keepers::Keeps;
+use node_rows::laws::empty_is_held;
+use stored_laws::laws::openings_can_start_again;
+
+/// What a run writes for its lines is a transcript of its node.
+pub fn runs_are_transcripts<S: Keeps>()
+    ensures { ReadsSetups → RunsAreTranscripts (keeper_of S.Kept.content S.Kept.is_honest S.Kept.refusals S.Kept.may_leave) (source_of S.may_refuse S.found) }
+{
+    done_lines_are_read();
+    empty_is_held();
+    openings_can_start_again();
+}
