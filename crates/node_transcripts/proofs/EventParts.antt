@@ -1,5 +1,5 @@
 -- What a line of one event makes of what is told of its node.
-use Rattle.std.proofs.Common.{◌≡◌, ◌≢◌, ◌⊎◌, ◌↔◌, ℕ, Bool, true, false, IsTrue, List, [], ◌∷◌, ◌++◌, Option, None, Some, Ok, Err, refl, sym, ap, subst, ◌∙◌, inl, inr}
+use Rattle.std.proofs.Common.{◌≡◌, ◌≢◌, ◌⊎◌, ◌↔◌, ℕ, ◌<◌, Bool, true, false, IsTrue, List, [], ◌∷◌, ◌++◌, Option, None, Some, Ok, Err, length, arith, refl, sym, ap, subst, ◌∙◌, inl, inr}
 use Rattle.ocpi_text.specs.Text.{key}
 use Rattle.ocpi_types.specs.Setups.{party_of}
 use Rattle.ocpi_types.specs.declared.node_events.NodeEvent.{NodeEvent}
@@ -31,11 +31,12 @@ use Rattle.transcript_parts.specs.LineReads.{LineRead}
 use Rattle.transcript_parts.specs.declared.echoed.EchoedLine.{EchoedLine}
 use Rattle.transcript_parts.specs.declared.line_read.Ending.{Ending}
 use Rattle.transcript_parts.specs.declared.line_read.Ending.TheVariants.{Answered}
-use Rattle.transcripts.specs.Following.{Came, ComeInTurn, FitsEntry, FitsEvent, FitsNothing, Follows, Gives, Happens, IsOwn, MayStarve, NoEvent, NoneYet, OneMore, Passed, Standing, Starved, Stays, begun}
+use Rattle.transcripts.specs.Following.{Came, ComeInTurn, FitsEntry, FitsEvent, FitsNothing, Follows, Gives, Happens, IsOwn, Last, MayStarve, NoEvent, NoneYet, OneMore, Passed, Standing, Starved, Stays, begun}
 use Rattle.transcripts.specs.Following as following
 use Rattle.transcripts.specs.LineEvents.{LineEvent, LineEvents}
 use Rattle.transcripts.specs.Told.{Told}
 use Rattle.transcripts.specs.declared.source.Source.TheVariants.{Echoed}
+use Rattle.node_transcripts.proofs.CutLines.{cut_part}
 use Rattle.node_transcripts.proofs.WrittenLines.{part_of}
 use Rattle.node_transcripts.specs.Readable.{IsNoSetup}
 
@@ -122,6 +123,34 @@ module _ (setup : List Node) (t : Told) (number at : ℕ) (line : List ℕ) (x :
   pub stayed : (d : Done) → FitsNothing t (event_of number line x) (Answered d at) → Follows setup [] (begun t) (part_of number at line [] d) (begun t)
   stayed d fits = came [] d false t (inr (record { fits = fits; nothing = refl; unchanged = refl; same = refl }))
 
+module _ (setup : List Node) (t : Told) (number : ℕ) (line : List ℕ) (x : NodeEvent) (read : node_line_in line ≡ Ok (One x)) where
+  -- the first packets alone stand at the end of a file
+  pub cut_short : (packets first rest : List Packet) (changed : Bool) (s : NodeState) → IsOwn t x → Leads t.replay.state x.kind packets changed s → packets ≡ first ++ rest → 0 < length first
+      → Follows setup [] (begun t) (cut_part number line first) (begun (entry_more t (echoed number line) x.kind packets s))
+  cut_short packets first rest changed s own leads e some = Came (record {
+    old = t;
+    new = entry_more t (echoed number line) x.kind packets s;
+    line = one_event number line x;
+    is_line = refl;
+    holds = (x, read, refl);
+    shape = refl;
+    changed = changed;
+    come = OneMore (event_of number line x) NoneYet (inl (record {
+        event = x;
+        reads = refl;
+        own = own;
+        enters = entered t (echoed number line) x.kind packets changed s leads;
+        fits = (rest, e);
+        sources = refl;
+      })) ((λ h. inr h), (λ h. elim h [ | inl none ↦ absurd none | inr now ↦ now ]));
+    shows = λ nothing.
+        let size = ap length nothing.1 in
+        absurd (omega (arith, size, some));
+    within = refl;
+    stood = refl;
+    stands = refl;
+  })
+
 -- ---- a line that did not come to the node
 
 -- a fault is that of the line, or memory ran out
@@ -142,6 +171,10 @@ fits_event fault line fails no_list no_setup =
       | inl is ↦ inl (fault, is, refl)
       | inr want ↦ inr (ap (λ f. Some f) want, record { fault = (no_setup want).0; no_setup = (no_setup want).1; no_list = no_list want })
     ]
+
+-- the last line of a file, of which nothing stands
+pub left_out : (setup : List Node) (t : Told) (number : ℕ) (line : List ℕ) → Follows setup [] (begun t) (cut_part number line []) (begun t)
+left_out setup t number line = Passed (refl, refl) (Last refl refl refl)
 
 module _ (setup : List Node) (t : Told) (number at : ℕ) (line : List ℕ) where
   pub no_event : (fault : JsonFault) → FitsEvent line (Some fault) → Follows setup [] (begun t) (part_of number at line [] (done.Malformed (Some fault))) (begun t)

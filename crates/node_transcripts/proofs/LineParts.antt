@@ -1,6 +1,7 @@
 -- What is written of a line is a part of a transcript.
-use Rattle.std.proofs.Common.{◌≡◌, ◌≢◌, ◌⊎◌, ℕ, ◌+◌, ◌<◌, Bool, true, false, List, [], ◌∷◌, ◌++◌, All, Option, None, Some, Ok, length, refl, sym, ap, subst, ◌∙◌, arith, inl, inr}
-use Rattle.std.proofs.lemmas.List.Elements.{All-nil}
+use Rattle.std.proofs.Common.{◌≡◌, ◌≢◌, ◌⊎◌, ℕ, zero, suc, ◌+◌, ◌<◌, Bool, true, false, List, [], ◌∷◌, ◌++◌, All, Option, None, Some, Ok, length, length-append, take, drop, refl, sym, ap, subst, ◌∙◌, arith, inl, inr}
+use Rattle.std.proofs.lemmas.List.{take-append-drop}
+use Rattle.std.proofs.lemmas.List.Elements.{All-nil, All-take}
 use Rattle.ocpi_text.specs.Text.{key}
 use Rattle.ocpi_types.specs.Setups.{party_of}
 use Rattle.ocpi_types.specs.declared.node_events.NodeEvent.{NodeEvent}
@@ -9,7 +10,9 @@ use Rattle.ocpi_types.specs.declared.setup.Node.{Node}
 use Rattle.node_lines.specs.NodeLines.{node_line_in}
 use Rattle.node_lines.specs.declared.node_line.NodeLine.TheVariants.{One}
 use Rattle.node_cell.specs.Keepers.{Keeper}
-use Rattle.node_cell.specs.Keepers as keepers
+use Rattle.node_cell.specs.Stored.{Does}
+use Rattle.world_steps.specs.World.{NodeState}
+use Rattle.ocpi_types.specs.declared.node_events.NodeEventKind.{NodeEventKind}
 use Rattle.node_steps.specs.declared.fault.NodeFault.TheVariants as node_fault
 use Rattle.program_lines.specs.Writing.{packet_lines}
 use Rattle.line_runs.specs.declared.run.Turn.{Turn}
@@ -24,14 +27,17 @@ use Rattle.transcript_lines.specs.declared.done.Done.TheVariants as done
 use Rattle.done_laws.specs.Laws.{DoneLinesAreRead, IsLineNumber, IsRead}
 use Rattle.transcript_parts.specs.LineReads.{LineRead}
 use Rattle.transcript_parts.specs.Lines.{Line}
-use Rattle.transcript_parts.specs.Parts.{IsPart}
+use Rattle.transcript_parts.specs.Parts.{AtEnd, AtLast, Ends, IsPart, NoneSent}
+use Rattle.transcript_parts.specs.declared.echoed.EchoedLine.{EchoedLine}
+use Rattle.transcript_parts.specs.declared.line_read.Ending.TheVariants.{FileEnd}
 use Rattle.transcripts.specs.Following.{Follows, IsOwn, Standing, begun}
 use Rattle.transcripts.specs.Following as following
 use Rattle.transcripts.specs.Told.{Told}
 use Rattle.node_transcripts.specs.Laws.{IsToldOf}
 use Rattle.node_transcripts.specs.Readable.{AreReadable, IsPlain, IsReadable, IsToldEvent}
-use Rattle.node_transcripts.proofs.EventParts.{did_lead, echoed, entry_more, fits_event, happened, no_event, starved, stayed, unstored_leads}
-use Rattle.node_transcripts.proofs.WrittenLines.{answer_part, answer_plain, answer_texts, answer_written, number_behind, numbered, part_of, written}
+use Rattle.node_transcripts.proofs.CutLines.{answer_cut, cut_is_part, cut_part}
+use Rattle.node_transcripts.proofs.EventParts.{cut_short, did_lead, echoed, entry_more, fits_event, happened, left_out, no_event, starved, stayed, unstored_leads}
+use Rattle.node_transcripts.proofs.WrittenLines.{answer_part, answer_plain, answer_texts, answer_written, number_behind, numbered, part_of, texts_of, written}
 
 -- the first part of the lines leads from a standing to a node that is told
 pub record Goes (setup : List Node) (s : Standing) (lines rest : List Line) (After : Told → Type 0) : Type 0 where
@@ -76,77 +82,193 @@ pub record IsOpen {K : Type 0} (wanted : Option (List ℕ)) (setup : List Node) 
   pub stands : s ≡ begun told
   pub is : IsToldOf wanted setup now told
 
-module _ {K : Type 0} (keeper : Keeper K) (wanted : Option (List ℕ)) (setup : List Node) (reads : DoneLinesAreRead) where
-  -- the line gave packets, and that; and this came of it
-  of_one : (now next : Running K) (line out text : List ℕ) (packets : List Packet) (d : Done) → All IsReadable packets → IsRead text d None → out ≡ packet_lines packets ++ text
-      → ((number at : ℕ) (t : Told) → IsToldOf wanted setup now t → (u : Told) × Follows setup [] (begun t) (part_of number at line packets d) (begun u) × IsToldOf wanted setup next u)
-      → ReadsOn setup (IsOpen wanted setup now) line out (IsToldOf wanted setup next)
-  of_one now next line out text packets d each is_read is leads =
-      by_answer setup (IsOpen wanted setup now) (IsToldOf wanted setup next) line out text packets d each is_read is
-      (λ number at s open.
-        let led = leads number at open.told open.is in
-        (led.0, (subst (λ (z : Standing). Follows setup [] z (part_of number at line packets d) (begun led.0)) (sym open.stands) led.1, led.2)))
+-- the part leads from what is told to a node that is told
+abbrev pub LeadsTo : List Node → Told → LineRead → (Told → Type 0) → Type 0
+LeadsTo setup t p After = (u : Told) × Follows setup [] (begun t) p (begun u) × After u
 
-  none : All IsReadable []
-  none = All-nil IsReadable
+-- what an event gave: its packets, the line that says what became of it, and where all of that leads, or the first packets
+-- alone, where they stand at the end of a file
+pub record AnswersOne {K : Type 0} (wanted : Option (List ℕ)) (setup : List Node) (now next : Running K) (line out : List ℕ) : Type 0 where
+  pub text : List ℕ
+  pub packets : List Packet
+  pub says : Done
+  pub each : All IsReadable packets
+  pub reads : IsRead text says None
+  pub is : out ≡ packet_lines packets ++ text
+  pub leads : (number at : ℕ) (t : Told) → IsToldOf wanted setup now t → LeadsTo setup t (part_of number at line packets says) (IsToldOf wanted setup next)
+  pub cuts : (number : ℕ) (t : Told) (first rest : List Packet) → IsToldOf wanted setup now t → packets ≡ first ++ rest → 0 < length first
+      → LeadsTo setup t (cut_part number line first) (IsToldOf wanted setup next)
+
+module _ {K : Type 0} (keeper : Keeper K) (wanted : Option (List ℕ)) (setup : List Node) (reads : DoneLinesAreRead) where
+  -- one that sent nothing
+  sent_none : (now next : Running K) (line out text : List ℕ) (d : Done) → IsRead text d None → out ≡ text
+      → ((number at : ℕ) (t : Told) → IsToldOf wanted setup now t → LeadsTo setup t (part_of number at line [] d) (IsToldOf wanted setup next))
+      → AnswersOne wanted setup now next line out
+  sent_none now next line out text d is_read is leads = record {
+    text = text;
+    packets = [];
+    says = d;
+    each = All-nil IsReadable;
+    reads = is_read;
+    is = is;
+    leads = leads;
+    cuts = λ number t first rest told e some.
+        let size = ap length e ∙ length-append first rest in
+        absurd (omega (arith, size, some));
+  }
 
   -- the node is as before, and so is its party
   same_told : (now next : Running K) (t : Told) → next.node.state ≡ now.node.state → next.party ≡ now.party → IsToldOf wanted setup now t → IsToldOf wanted setup next t
   same_told now next t state party is =
       record { setup_is = is.setup_is; member = is.member; state = is.state ∙ sym state; party = is.party ∙ sym party }
 
+  left_told : (now next : Running K) (t : Told) → next ≡ now → IsToldOf wanted setup now t → IsToldOf wanted setup next t
+  left_told now next t left is = subst (λ (r : Running K). IsToldOf wanted setup r t) (sym left) is
+
   own_of : (now : Running K) (line : List ℕ) (x : NodeEvent) (t : Told) → IsOfNode now.party line x → IsToldOf wanted setup now t → IsOwn t x
   own_of now line x t is told = is.same ∙ ap key (sym told.party)
 
+  -- one entry more is told of the node behind it
+  more_told : (now next : Running K) (t : Told) (l : EchoedLine) (k : NodeEventKind) (packets : List Packet) → next.party ≡ now.party → IsToldOf wanted setup now t
+      → IsToldOf wanted setup next (entry_more t l k packets next.node.state)
+  more_told now next t l k packets party is = record { setup_is = is.setup_is; member = is.member; state = refl; party = is.party ∙ sym party }
+
   -- what an event gave is a part
   module _ (now next : Running K) (stop stopped : Option NodeStop) (number : ℕ) (is_number : IsLineNumber number) (line : List ℕ) where
-    pub event_part : (turn : Turn) (out : List ℕ) (is : EventTurn keeper now stop number line turn out next stopped) → turn ≢ Ended → IsToldEvent is
-        → ReadsOn setup (IsOpen wanted setup now) line out (IsToldOf wanted setup next)
-    event_part turn out (turns.DidStep x is packets changed does some taken written party same) ends tells =
-        of_one now next line out (stepped_line number None (length packets)) packets (done.Stepped (length packets)) tells.each
-        (reads.stepped number None (length packets) is_number tt tells.few) written
-        (λ at_line at t told.
-          let leads = subst (λ s. Leads s x.kind packets changed next.node.state) (sym told.state) (did_lead keeper now.node next.node x.kind packets changed does) in
+    lead_of : (t : Told) (x : NodeEvent) (packets : List Packet) (changed : Bool) → IsToldOf wanted setup now t → Does keeper now.node x.kind packets changed next.node
+        → Leads t.replay.state x.kind packets changed next.node.state
+    lead_of t x packets changed told does =
+        subst (λ (s : NodeState). Leads s x.kind packets changed next.node.state) (sym told.state) (did_lead keeper now.node next.node x.kind packets changed does)
+
+    pub event_answer : (turn : Turn) (out : List ℕ) (is : EventTurn keeper now stop number line turn out next stopped) → turn ≢ Ended → IsToldEvent is
+        → AnswersOne wanted setup now next line out
+    event_answer turn out (turns.DidStep x is packets changed does some taken written party same) ends tells = record {
+      text = stepped_line number None (length packets);
+      packets = packets;
+      says = done.Stepped (length packets);
+      each = tells.each;
+      reads = reads.stepped number None (length packets) is_number tt tells.few;
+      is = written;
+      leads = λ at_line at t told.
           (entry_more t (echoed at_line line) x.kind packets next.node.state,
-           (happened setup t at_line at line x is.read packets (done.Stepped (length packets)) changed next.node.state (own_of now line x t is told) leads (refl, refl, some),
-            record { setup_is = told.setup_is; member = told.member; state = refl; party = told.party ∙ sym party })))
-    event_part turn out (turns.WasIdle x is does taken written party same) ends tells =
-        of_one now next line out (idle_line number None) [] done.Idle none (reads.idle number None is_number tt) written
+           (happened setup t at_line at line x is.read packets (done.Stepped (length packets)) changed next.node.state (own_of now line x t is told) (lead_of t x packets changed told does) (refl, refl, some),
+            more_told now next t (echoed at_line line) x.kind packets party told));
+      cuts = λ at_line t first rest told e some_first.
+          (entry_more t (echoed at_line line) x.kind packets next.node.state,
+           (cut_short setup t at_line line x is.read packets first rest changed next.node.state (own_of now line x t is told) (lead_of t x packets changed told does) e some_first,
+            more_told now next t (echoed at_line line) x.kind packets party told));
+    }
+    event_answer turn out (turns.WasIdle x is does taken written party same) ends tells =
+        sent_none now next line out (idle_line number None) done.Idle (reads.idle number None is_number tt) written
         (λ at_line at t told.
-          let leads = subst (λ s. Leads s x.kind [] false next.node.state) (sym told.state) (did_lead keeper now.node next.node x.kind [] false does) in
           (entry_more t (echoed at_line line) x.kind [] next.node.state,
-           (happened setup t at_line at line x is.read [] done.Idle false next.node.state (own_of now line x t is told) leads (refl, refl, refl),
-            record { setup_is = told.setup_is; member = told.member; state = refl; party = told.party ∙ sym party })))
-    event_part turn out (turns.WasUnstored x is refused taken written left same) ends tells =
-        of_one now next line out (idle_line number None) [] done.Idle none (reads.idle number None is_number tt) written
+           (happened setup t at_line at line x is.read [] done.Idle false next.node.state (own_of now line x t is told) (lead_of t x [] false told does) (refl, refl, refl),
+            more_told now next t (echoed at_line line) x.kind [] party told)))
+    event_answer turn out (turns.WasUnstored x is refused taken written left same) ends tells =
+        sent_none now next line out (idle_line number None) done.Idle (reads.idle number None is_number tt) written
         (λ at_line at t told.
           (entry_more t (echoed at_line line) x.kind [] t.replay.state,
            (happened setup t at_line at line x is.read [] done.Idle false t.replay.state (own_of now line x t is told) (unstored_leads t.replay.state x.kind refused) (refl, refl, refl),
-            same_told now next (entry_more t (echoed at_line line) x.kind [] t.replay.state) (ap (λ (r : Running K). r.node.state) left) (ap (λ (r : Running K). r.party) left)
+            left_told now next (entry_more t (echoed at_line line) x.kind [] t.replay.state) left
             (record { setup_is = told.setup_is; member = told.member; state = told.state; party = told.party }))))
-    event_part turn out (turns.IsElsewhere x read other taken written left same) ends tells =
-        of_one now next line out (skipped_line number None) [] done.Skipped none (reads.skipped number None is_number tt) written
+    event_answer turn out (turns.IsElsewhere x read other taken written left same) ends tells =
+        sent_none now next line out (skipped_line number None) done.Skipped (reads.skipped number None is_number tt) written
         (λ at_line at t told.
-          (t, (stayed setup t at_line at line x read done.Skipped (following.Skipped x refl tt (λ own. absurd (other (own ∙ ap key told.party)))),
-           same_told now next t (ap (λ (r : Running K). r.node.state) left) (ap (λ (r : Running K). r.party) left) told)))
-    event_part turn out (turns.IsOfOtherRole x is passes taken written party same) ends tells =
-        of_one now next line out (skipped_line number None) [] done.Skipped none (reads.skipped number None is_number tt) written
+          (t, (stayed setup t at_line at line x read done.Skipped (following.Skipped x refl tt (λ own. absurd (other (own ∙ ap key told.party)))), left_told now next t left told)))
+    event_answer turn out (turns.IsOfOtherRole x is passes taken written party same) ends tells =
+        sent_none now next line out (skipped_line number None) done.Skipped (reads.skipped number None is_number tt) written
         (λ at_line at t told.
-          let passed = subst (λ s. Passes s x.kind) (sym told.state) (record { taken = passes.taken; nothing = passes.nothing }) in
+          let passed : Passes t.replay.state x.kind = subst (λ (s : NodeState). Passes s x.kind) (sym told.state) (record { taken = passes.taken; nothing = passes.nothing }) in
           (t, (stayed setup t at_line at line x is.read done.Skipped (following.Skipped x refl tt (λ own. passed)), same_told now next t (ap (λ n. n.state) passes.same) party told)))
-    event_part turn out (turns.IsMalformed fault fails other refused written left same) ends tells =
-        of_one now next line out (malformed_line number None fault) [] (done.Malformed (Some fault)) none (reads.malformed number None fault is_number tt) written
+    event_answer turn out (turns.IsMalformed fault fails other refused written left same) ends tells =
+        sent_none now next line out (malformed_line number None fault) (done.Malformed (Some fault)) (reads.malformed number None fault is_number tt) written
+        (λ at_line at t told. (t, (no_event setup t at_line at line fault (fits_event fault line fails other tells), left_told now next t left told)))
+    event_answer turn out (turns.IsRefused x is fault refuses refused written party same) ends tells =
+        sent_none now next line out (refused_line number None fault) (done.Refused (Some fault)) (reads.refused number None fault is_number tt) written
         (λ at_line at t told.
-          (t, (no_event setup t at_line at line fault (fits_event fault line fails other tells),
-           same_told now next t (ap (λ (r : Running K). r.node.state) left) (ap (λ (r : Running K). r.party) left) told)))
-    event_part turn out (turns.IsRefused x is fault refuses refused written party same) ends tells =
-        of_one now next line out (refused_line number None fault) [] (done.Refused (Some fault)) none (reads.refused number None fault is_number tt) written
-        (λ at_line at t told.
-          let why = subst (λ s. Refuses s x.kind fault) (sym told.state) (record { input = refuses.input; brings = refuses.brings; refuses = refuses.refuses; other = refuses.other }) in
+          let why : Refuses t.replay.state x.kind fault = subst (λ (s : NodeState). Refuses s x.kind fault) (sym told.state)
+              (record { input = refuses.input; brings = refuses.brings; refuses = refuses.refuses; other = refuses.other }) in
           (t, (stayed setup t at_line at line x is.read (done.Refused (Some fault)) (following.Refused x refl fault refl (own_of now line x t is told) why),
            same_told now next t (ap (λ n. n.state) refuses.same) party told)))
-    event_part turn out (turns.IsStarved x is refused written left same) ends tells =
-        of_one now next line out (refused_line number None node_fault.Memory) [] (done.Refused (Some node_fault.Memory)) none (reads.refused number None node_fault.Memory is_number tt) written
-        (λ at_line at t told.
-          (t, (starved setup t at_line at line tells, same_told now next t (ap (λ (r : Running K). r.node.state) left) (ap (λ (r : Running K). r.party) left) told)))
-    event_part turn out (turns.IsLost x is fault fails ended written party same) ends tells = absurd (ends ended)
+    event_answer turn out (turns.IsStarved x is refused written left same) ends tells =
+        sent_none now next line out (refused_line number None node_fault.Memory) (done.Refused (Some node_fault.Memory)) (reads.refused number None node_fault.Memory is_number tt) written
+        (λ at_line at t told. (t, (starved setup t at_line at line tells, left_told now next t left told)))
+    event_answer turn out (turns.IsLost x is fault fails ended written party same) ends tells = absurd (ends ended)
+
+  -- the whole of it
+  pub whole_answer : (now next : Running K) (line out : List ℕ) → AnswersOne wanted setup now next line out → ReadsOn setup (IsOpen wanted setup now) line out (IsToldOf wanted setup next)
+  whole_answer now next line out a =
+      by_answer setup (IsOpen wanted setup now) (IsToldOf wanted setup next) line out a.text a.packets a.says a.each a.reads a.is
+      (λ number at s open.
+        let led = a.leads number at open.told open.is in
+        (led.0, (subst (λ (z : Standing). Follows setup [] z (part_of number at line a.packets a.says) (begun led.0)) (sym open.stands) led.1, led.2)))
+
+-- ---- the last line of a file
+
+-- what is told is the node before the line, or behind it
+abbrev pub IsToldOfEither : {K : Type 0} → Option (List ℕ) → List Node → Running K → Option (Running K) → Told → Type 0
+IsToldOfEither wanted setup now None t = IsToldOf wanted setup now t
+IsToldOfEither wanted setup now (Some next) t = IsToldOf wanted setup now t ⊎ IsToldOf wanted setup next t
+
+-- behind an echoed line that is the last one of a file, so many of the lines of this are a part
+pub record CutsOn (setup : List Node) (Before : Standing → Type 0) (line out : List ℕ) (After : Told → Type 0) : Type 0 where
+  pub texts : List (List ℕ)
+  pub is_written : out ≡ written texts
+  pub plain : All IsPlain texts
+  pub goes : (count number n : ℕ) (s : Standing) → Before s → Goes setup s (record { number = number; bytes = line } ∷ numbered n (take count texts) []) [] After
+
+module _ {K : Type 0} (wanted : Option (List ℕ)) (setup : List Node) (now : Running K) (line : List ℕ) where
+  -- nothing stands of it
+  bare : (After : Told → Type 0) (number : ℕ) (lines : List Line) (s : Standing) → lines ≡ [] → ((t : Told) → IsToldOf wanted setup now t → After t) → IsOpen wanted setup now s
+      → Goes setup s (record { number = number; bytes = line } ∷ lines) [] After
+  bare After number lines s none is open = record {
+    part = cut_part number line [];
+    is = record { behind = lines; begin = refl; ends = subst (λ (ls : List Line). Ends ls [] [] FileEnd []) (sym none) (AtLast NoneSent AtEnd) };
+    told = open.told;
+    follows = subst (λ (z : Standing). Follows setup [] z (cut_part number line []) (begun open.told)) (sym open.stands) (left_out setup open.told number line);
+    after = is open.told open.is;
+  }
+
+  took_none : (count n : ℕ) → numbered n (take count []) [] ≡ []
+  took_none zero n = refl
+  took_none (suc count) n = refl
+
+  pub nothing_cut : (After : Told → Type 0) (out : List ℕ) → out ≡ [] → ((t : Told) → IsToldOf wanted setup now t → After t) → CutsOn setup (IsOpen wanted setup now) line out After
+  nothing_cut After out none is =
+      record { texts = []; is_written = none; plain = All-nil IsPlain; goes = λ count number n s open. bare After number (numbered n (take count []) []) s (took_none count n) is open }
+
+  -- what an event gave
+  module _ (next : Running K) (out : List ℕ) (a : AnswersOne wanted setup now next line out) where
+    abbrev Either : Told → Type 0
+    Either t = IsToldOf wanted setup now t ⊎ IsToldOf wanted setup next t
+
+    led_to : (number : ℕ) (p : LineRead) (lines : List Line) (s : Standing) (open : IsOpen wanted setup now s) → IsPart lines p [] → LeadsTo setup open.told p (IsToldOf wanted setup next) → Goes setup s lines [] Either
+    led_to number p lines s open is led = record {
+      part = p;
+      is = is;
+      told = led.0;
+      follows = subst (λ (z : Standing). Follows setup [] z p (begun led.0)) (sym open.stands) led.1;
+      after = inr led.2;
+    }
+
+    first_packets : (number n : ℕ) (first rest : List Packet) (s : Standing) → a.packets ≡ first ++ rest → All IsReadable first → IsOpen wanted setup now s
+        → Goes setup s (record { number = number; bytes = line } ∷ numbered n (texts_of first) []) [] Either
+    first_packets number n [] rest s e each open = bare Either number [] s refl (λ t told. inl told) open
+    first_packets number n (q ∷ qs) rest s e each open =
+        led_to number (cut_part number line (q ∷ qs)) (record { number = number; bytes = line } ∷ numbered n (texts_of (q ∷ qs)) []) s open (cut_is_part number n line (q ∷ qs) each)
+        (a.cuts number open.told (q ∷ qs) rest open.is e (omega arith))
+
+    pub answer_cuts : CutsOn setup (IsOpen wanted setup now) line out Either
+    answer_cuts = record {
+      texts = answer_texts a.packets a.reads.line;
+      is_written = answer_written a.packets out a.text a.reads.line a.is a.reads.ends;
+      plain = answer_plain a.packets a.reads.line a.each a.reads.plain;
+      goes = λ count number n s open.
+          elim (answer_cut count a.packets a.reads.line) [
+            | inl some ↦ subst (λ (ts : List (List ℕ)). Goes setup s (record { number = number; bytes = line } ∷ numbered n ts []) [] Either) (sym some)
+                (first_packets number n (take count a.packets) (drop count a.packets) s (sym (take-append-drop count a.packets)) (All-take IsReadable count a.packets a.each) open)
+            | inr all ↦ subst (λ (ts : List (List ℕ)). Goes setup s (record { number = number; bytes = line } ∷ numbered n ts []) [] Either) (sym all)
+                (led_to number (part_of number (number_behind n a.packets) line a.packets a.says) (record { number = number; bytes = line } ∷ numbered n (answer_texts a.packets a.reads.line) []) s open
+                (answer_part number n line a.packets a.says a.text [] a.each a.reads) (a.leads number (number_behind n a.packets) open.told open.is))
+          ];
+    }

@@ -25,7 +25,7 @@ use Rattle.transcripts.specs.Following.{More, ReadTo, Standing, Start, begun, no
 use Rattle.transcripts.specs.Told.{Told}
 use Rattle.node_transcripts.specs.Laws.{IsToldOf, IsTranscript, RunsAreTranscripts}
 use Rattle.node_transcripts.specs.Readable.{AreTold, FindsNoRows, IsPlain, IsTold, IsToldLine, IsToldTurn, ReadsSetups}
-use Rattle.node_transcripts.proofs.LineParts.{IsOpen, ReadsOn, event_part}
+use Rattle.node_transcripts.proofs.LineParts.{IsOpen, ReadsOn, event_answer, whole_answer}
 use Rattle.node_transcripts.proofs.SetupParts.{opening_part}
 use Rattle.node_transcripts.proofs.WrittenLines.{lines_are, numbered, numbered_both, written, written_both}
 
@@ -41,7 +41,7 @@ pub record ReadsTo (setup : List Node) (out : List ℕ) (Stands : Standing → T
 pub nothing_read : (setup : List Node) → ReadsTo setup [] (λ s. s ≡ nothing_known)
 nothing_read setup = record { texts = []; is_written = refl; plain = All-nil IsPlain; reads = λ rest. (nothing_known, (Start, refl)) }
 
-echo_is : (line : List ℕ) → 0 < length line → echo_of true line ≡ line ++ 10 ∷ []
+pub echo_is : (line : List ℕ) → 0 < length line → echo_of true line ≡ line ++ 10 ∷ []
 echo_is [] some = absurd (omega (arith, some))
 echo_is (x ∷ xs) some = refl
 
@@ -74,10 +74,10 @@ is_end Taken = false
 is_end Refused = false
 is_end Ended = true
 
-taken_goes_on : Taken ≢ Ended
+pub taken_goes_on : Taken ≢ Ended
 taken_goes_on is = subst IsTrue (sym (ap is_end is)) tt
 
-refused_goes_on : Refused ≢ Ended
+pub refused_goes_on : Refused ≢ Ended
 refused_goes_on is = subst IsTrue (sym (ap is_end is)) tt
 
 -- ---- each line
@@ -139,7 +139,7 @@ module _ {K : Type 0} (keeper : Keeper K) (source : Source K) (wanted : Option (
   behind now next stop stopped number line turn out before is_number some plain ends (answers.OneEvent is) told sofar honest =
       let tells = sofar (event_honest is ends honest) in
       told_more tells.setup (IsOpen wanted tells.setup now) next before line out some plain tells.sofar
-      (event_part keeper wanted tells.setup reads now next stop stopped number is_number line turn out is ends told)
+      (whole_answer keeper wanted tells.setup reads now next line out (event_answer keeper wanted tells.setup reads now next stop stopped number is_number line turn out is ends told))
   behind now next stop stopped number line turn out before is_number some plain ends (answers.SeveralEvents is same) told sofar honest = absurd told
 
   module _ (held : EmptyIsHeld) (can : OpeningsCanStartAgain) (setups : ReadsSetups) (no_rows : FindsNoRows keeper source) where
@@ -171,7 +171,7 @@ module _ {K : Type 0} (keeper : Keeper K) (source : Source K) (wanted : Option (
     -- ---- all lines
 
     module _ (opened : List ℕ) where
-      known : {lines : List (List ℕ)} {ran : Ran} {out : List ℕ} {s : Stage K} (run : AreNumbered (NodeLineGives keeper source) true (opening wanted opened) lines ran out s)
+      pub known : {lines : List (List ℕ)} {ran : Ran} {out : List ℕ} {s : Stage K} (run : AreNumbered (NodeLineGives keeper source) true (opening wanted opened) lines ran out s)
           → All IsPlain lines → IsWhole (length lines) → AreTold run → Known s out
       known none_numbered plain few told = record { asked = refl; sofar = refl }
       known (empty_line {before = before} run) plain few told =

@@ -1,9 +1,10 @@
 -- What a run of `node` writes with an echo is a transcript of its node.
-use Rattle.std.specs.Prelude.{◌≡◌, ℕ, Bool, true, List, [], All, Option, Some, length}
+use Rattle.std.specs.Prelude.{◌≡◌, ◌⊎◌, ℕ, ◌+◌, ◌<◌, Bool, true, List, [], ◌++◌, All, Option, None, Some, length}
 use Rattle.ocpi_types.specs.Setups.{party_of}
 use Rattle.ocpi_types.specs.declared.setup.Node.{Node}
-use Rattle.line_runs.specs.Numbered.{AreNumbered}
+use Rattle.line_runs.specs.Numbered.{AreNumbered, echo_of}
 use Rattle.line_runs.specs.declared.outcome.Ran.{Ran}
+use Rattle.line_runs.specs.declared.run.Turn.{Turn}
 use Rattle.node_keepers.specs.Opening.{Source}
 use Rattle.node_cell.specs.Keepers.{Keeper}
 use Rattle.done_laws.specs.Laws.{IsWhole}
@@ -11,7 +12,7 @@ use Rattle.node_runs.specs.NodeAnswers.{NodeLineGives}
 use Rattle.node_runs.specs.NodeTurns.{IsMember, Running, Stage, opening}
 use Rattle.transcripts.specs.Following.{IsTranscriptOf}
 use Rattle.transcripts.specs.Told.{Told}
-use Rattle.node_transcripts.specs.Readable.{AreTold, FindsNoRows, IsPlain, ReadsSetups}
+use Rattle.node_transcripts.specs.Readable.{AreTold, FindsNoRows, IsPlain, IsTold}
 
 -- what is told is that node of the setup, in the state in which it is
 pub record IsToldOf {K : Type 0} (wanted : Option (List ℕ)) (setup : List Node) (now : Running K) (t : Told) : Type 0 where
@@ -35,3 +36,28 @@ RunsAreTranscripts {K} keeper source =
     (run : AreNumbered (NodeLineGives keeper source) true (opening wanted opened) lines ran out s) → s.running ≡ Some now
     → All IsPlain lines → IsWhole (length lines) → FindsNoRows keeper source → keeper.is_honest now.node.keep → AreTold run
     → IsTranscript wanted now out
+
+-- ---- a run that was cut, or that a line ended
+
+-- the node is told as it was before the last line, or behind it, where one runs there
+abbrev pub IsCutTranscript : {K : Type 0} → Option (List ℕ) → Running K → Option (Running K) → List ℕ → Type 0
+IsCutTranscript wanted now None out = IsTranscript wanted now out
+IsCutTranscript wanted now (Some next) out = IsTranscript wanted now out ⊎ IsTranscript wanted next out
+
+-- Whatever was written of one line more, from nothing of its echo up to all of its answer, and whether or not that line
+-- ended the run: all of it tells the node.
+abbrev pub CutRunsAreTranscripts : {K : Type 0} → Keeper K → Source K → Type 0
+CutRunsAreTranscripts {K} keeper source =
+    (wanted : Option (List ℕ)) (opened : List ℕ) (lines : List (List ℕ)) (ran : Ran) (out : List ℕ) (s : Stage K) (now : Running K)
+    (run : AreNumbered (NodeLineGives keeper source) true (opening wanted opened) lines ran out s) → s.running ≡ Some now
+    → All IsPlain lines → IsWhole (length lines + 1) → FindsNoRows keeper source → keeper.is_honest now.node.keep → AreTold run
+    → (line : List ℕ) (turn : Turn) (more : List ℕ) (t : Stage K) (gives : NodeLineGives keeper source s (length lines + 1) line turn more t) → IsTold gives
+    → 0 < length line → IsPlain line → (front rest : List ℕ) → echo_of true line ++ more ≡ front ++ rest → IsCutTranscript wanted now t.running (out ++ front)
+
+-- and so of a line that was not carried out, of which a beginning was echoed
+abbrev pub EchoesAreTranscripts : {K : Type 0} → Keeper K → Source K → Type 0
+EchoesAreTranscripts {K} keeper source =
+    (wanted : Option (List ℕ)) (opened : List ℕ) (lines : List (List ℕ)) (ran : Ran) (out : List ℕ) (s : Stage K) (now : Running K)
+    (run : AreNumbered (NodeLineGives keeper source) true (opening wanted opened) lines ran out s) → s.running ≡ Some now
+    → All IsPlain lines → IsWhole (length lines) → FindsNoRows keeper source → keeper.is_honest now.node.keep → AreTold run
+    → (line front rest : List ℕ) → IsPlain line → echo_of true line ≡ front ++ rest → IsTranscript wanted now (out ++ front)

@@ -2,7 +2,7 @@
 
 ghost use Rattle.node_cell.specs.Keepers.{keeper_of};
 ghost use Rattle.node_keepers.specs.Opening.{source_of};
-ghost use Rattle.node_transcripts.specs.Laws.{RunsAreTranscripts};
+ghost use Rattle.node_transcripts.specs.Laws.{CutRunsAreTranscripts, EchoesAreTranscripts, RunsAreTranscripts};
 ghost use Rattle.node_transcripts.specs.Readable.{ReadsSetups};
 
 use done_laws::laws::done_lines_are_read;
@@ -13,6 +13,17 @@ use stored_laws::laws::openings_can_start_again;
 /// What a run writes for its lines is a transcript of its node.
 pub fn runs_are_transcripts<S: Keeps>()
     ensures { ReadsSetups → RunsAreTranscripts (keeper_of S.Kept.content S.Kept.is_honest S.Kept.refusals S.Kept.may_leave) (source_of S.may_refuse S.found) }
+{
+    done_lines_are_read();
+    empty_is_held();
+    openings_can_start_again();
+}
+
+/// And so is what stands of a run that was cut, or that a line ended: the node is told as it was before the last line, or
+/// behind it.
+pub fn cut_runs_are_transcripts<S: Keeps>()
+    ensures answers { ReadsSetups → CutRunsAreTranscripts (keeper_of S.Kept.content S.Kept.is_honest S.Kept.refusals S.Kept.may_leave) (source_of S.may_refuse S.found) }
+    ensures echoes { ReadsSetups → EchoesAreTranscripts (keeper_of S.Kept.content S.Kept.is_honest S.Kept.refusals S.Kept.may_leave) (source_of S.may_refuse S.found) }
 {
     done_lines_are_read();
     empty_is_held();
