@@ -3,13 +3,12 @@ use Rattle.std.proofs.Common.{◌≡◌, ◌≢◌, ◌⊎◌, ℕ, zero, suc, �
 use Rattle.std.proofs.lemmas.List.{append-nil, append_assoc}
 use Rattle.std.proofs.lemmas.List.Elements.{All-append, All-cons, All-nil, All-take}
 use Rattle.ocpi_types.specs.declared.setup.Node.{Node}
-use Rattle.line_runs.specs.Numbered.{AreNumbered, echo_of}
-use Rattle.line_runs.specs.declared.outcome.Ran.{Ran}
+use Rattle.line_runs.specs.Numbered.{echo_of}
 use Rattle.line_runs.specs.declared.run.Turn.{Turn}
 use Rattle.line_runs.specs.declared.run.Turn.TheVariants.{Ended, Refused, Taken}
 use Rattle.node_keepers.specs.Opening.{Source}
 use Rattle.node_cell.specs.Keepers.{Keeper}
-use Rattle.node_rows.specs.Laws.{EmptyIsHeld}
+use Rattle.node_rows.specs.Laws.{EmptyIsHeld, NodesKeepOpenings}
 use Rattle.stored_laws.specs.Nodes.{OpeningsCanStartAgain}
 use Rattle.node_runs.specs.NodeAnswers.{LineTurn, NodeLineGives, NodeTurn}
 use Rattle.node_runs.specs.NodeAnswers as answers
@@ -21,11 +20,11 @@ use Rattle.transcript_parts.specs.Lines.{Line, lines_in}
 use Rattle.transcript_parts.proofs.LineLemmas.{some_line}
 use Rattle.transcripts.specs.Following.{More, ReadTo, Standing, begun}
 use Rattle.transcripts.specs.Told.{Told}
-use Rattle.node_transcripts.specs.Laws.{CutRunsAreTranscripts, EchoesAreTranscripts, IsCutTranscript, IsToldOf, IsTranscript}
-use Rattle.node_transcripts.specs.Readable.{FindsNoRows, IsPlain, IsToldEvent, IsToldLine, IsToldTurn, ReadsSetups}
+use Rattle.node_transcripts.specs.Laws.{CutRunsAreTranscripts, EchoesAreTranscripts, IsAsked, IsCutTranscript, IsToldOf, IsTranscript}
+use Rattle.node_transcripts.specs.Readable.{IsPlain, IsToldEvent, IsToldLine, IsToldTurn, ReadsSetups}
 use Rattle.node_transcripts.proofs.CutLines.{IsCut, cut_lines}
 use Rattle.node_transcripts.proofs.LineParts.{CutsOn, IsOpen, IsToldOfEither, answer_cuts, event_answer, nothing_cut}
-use Rattle.node_transcripts.proofs.Runs.{ReadsTo, Sofar, Tells, echo_is, known, refused_goes_on, taken_goes_on, whole}
+use Rattle.node_transcripts.proofs.Runs.{ReadsTo, Tells, echo_is, first_told, refused_goes_on, taken_goes_on, whole}
 use Rattle.node_transcripts.proofs.WrittenLines.{lines_are, numbered, numbered_both, written, written_both}
 
 -- ---- what a last line leaves
@@ -96,18 +95,18 @@ abbrev IsNone : {X : Type 0} → Option X → Type 0
 IsNone None = Unit {0}
 IsNone (Some x) = ⊥
 
-module _ {K : Type 0} (keeper : Keeper K) (source : Source K) (wanted : Option (List ℕ)) (reads : DoneLinesAreRead) where
-  opens_so : (setup : List Node) (now : Running K) (s : Standing) → IsOpen wanted setup now s → (t : Told) × (s.told ≡ Some t) × IsToldOf wanted setup now t
+module _ {K : Type 0} (keeper : Keeper K) (source : Source K) (Of : List Node → Node → Type 0) (reads : DoneLinesAreRead) (keep : NodesKeepOpenings) where
+  opens_so : (setup : List Node) (now : Running K) (s : Standing) → IsOpen Of setup now s → (t : Told) × (s.told ≡ Some t) × IsToldOf Of setup now t
   opens_so setup now s open = (open.told, (ap (λ (z : Standing). z.told) open.stands, open.is))
 
   -- what the line gives may be cut at any place
   line_cuts : (setup : List Node) (now next : Running K) (stop stopped : Option NodeStop) (number : ℕ) (line : List ℕ) (turn : Turn) (out : List ℕ) → IsLineNumber number
-      → (is : LineTurn keeper now stop number line turn out next stopped) → IsToldLine is → CutsOn setup (IsOpen wanted setup now) line out (IsToldOfEither wanted setup now (Some next))
+      → (is : LineTurn keeper now stop number line turn out next stopped) → IsToldLine is → CutsOn setup (IsOpen Of setup now) line out (IsToldOfEither Of setup now (Some next))
   line_cuts setup now next stop stopped number line turn out is_number (answers.OneEvent is) told = of_turn turn is told
     where
       whole_line : (turn : Turn) (is : EventTurn keeper now stop number line turn out next stopped) → turn ≢ Ended → IsToldEvent is
-          → CutsOn setup (IsOpen wanted setup now) line out (IsToldOfEither wanted setup now (Some next))
-      whole_line turn is ends told = answer_cuts wanted setup now line next out (event_answer keeper wanted setup reads now next stop stopped number is_number line turn out is ends told)
+          → CutsOn setup (IsOpen Of setup now) line out (IsToldOfEither Of setup now (Some next))
+      whole_line turn is ends told = answer_cuts Of setup now line next out (event_answer keeper Of setup reads keep now next stop stopped number is_number line turn out is ends told)
 
       -- such a line gives nothing
       ended_empty : (turn : Turn) (is : EventTurn keeper now stop number line turn out next stopped) → turn ≡ Ended → out ≡ []
@@ -121,53 +120,52 @@ module _ {K : Type 0} (keeper : Keeper K) (source : Source K) (wanted : Option (
       ended_empty turn (turns.IsStarved x is refused written left same) ends = absurd (refused_goes_on (sym refused ∙ ends))
       ended_empty turn (turns.IsLost x is fault fails ended written party same) ends = written
 
-      lost : (is : EventTurn keeper now stop number line Ended out next stopped) → IsToldEvent is → CutsOn setup (IsOpen wanted setup now) line out (IsToldOfEither wanted setup now (Some next))
-      lost is told = nothing_cut wanted setup now line (IsToldOfEither wanted setup now (Some next)) out (ended_empty Ended is refl) (λ t is. inl is)
+      lost : (is : EventTurn keeper now stop number line Ended out next stopped) → IsToldEvent is → CutsOn setup (IsOpen Of setup now) line out (IsToldOfEither Of setup now (Some next))
+      lost is told = nothing_cut Of setup now line (IsToldOfEither Of setup now (Some next)) out (ended_empty Ended is refl) (λ t is. inl is)
 
       of_turn : (turn : Turn) (is : EventTurn keeper now stop number line turn out next stopped) → IsToldEvent is
-          → CutsOn setup (IsOpen wanted setup now) line out (IsToldOfEither wanted setup now (Some next))
+          → CutsOn setup (IsOpen Of setup now) line out (IsToldOfEither Of setup now (Some next))
       of_turn Taken is told = whole_line Taken is taken_goes_on told
       of_turn Refused is told = whole_line Refused is refused_goes_on told
       of_turn Ended is told = lost is told
   line_cuts setup now next stop stopped number line turn out is_number (answers.SeveralEvents is same) told = absurd told
 
-  told_either : (setup : List Node) (now : Running K) (q : Option (Running K)) (out : List ℕ) → TellsSo setup out (IsToldOfEither wanted setup now q) → IsCutTranscript wanted now q out
+  told_either : (setup : List Node) (now : Running K) (q : Option (Running K)) (out : List ℕ) → TellsSo setup out (IsToldOfEither Of setup now q) → IsCutTranscript Of now q out
   told_either setup now None out tells = record { setup = setup; told = tells.told; reads = (tells.end, (tells.reads, tells.is)); is = tells.after }
   told_either setup now (Some next) out tells = of_after tells.after
     where
-      of_after : IsToldOf wanted setup now tells.told ⊎ IsToldOf wanted setup next tells.told → IsTranscript wanted now out ⊎ IsTranscript wanted next out
+      of_after : IsToldOf Of setup now tells.told ⊎ IsToldOf Of setup next tells.told → IsTranscript Of now out ⊎ IsTranscript Of next out
       of_after (inl is) = inl (record { setup = setup; told = tells.told; reads = (tells.end, (tells.reads, tells.is)); is = is })
       of_after (inr is) = inr (record { setup = setup; told = tells.told; reads = (tells.end, (tells.reads, tells.is)); is = is })
 
   -- any line, behind the setup
   turn_cuts : (setup : List Node) (now : Running K) (s t : Stage K) (number : ℕ) (line : List ℕ) (turn : Turn) (out : List ℕ) → IsLineNumber number
       → (gives : NodeTurn keeper source (Some now) s number line turn out t) → IsToldTurn keeper source (Some now) s number line turn out t gives
-      → CutsOn setup (IsOpen wanted setup now) line out (IsToldOfEither wanted setup now t.running)
+      → CutsOn setup (IsOpen Of setup now) line out (IsToldOfEither Of setup now t.running)
   turn_cuts setup now s t number line turn out is_number (inl goes) told =
-      subst (λ (q : Option (Running K)). CutsOn setup (IsOpen wanted setup now) line out (IsToldOfEither wanted setup now q)) (sym (ap (λ (z : Stage K). z.running) goes.left))
+      subst (λ (q : Option (Running K)). CutsOn setup (IsOpen Of setup now) line out (IsToldOfEither Of setup now q)) (sym (ap (λ (z : Stage K). z.running) goes.left))
       (line_cuts setup now goes.next s.stop goes.stopped number line turn out is_number goes.is told)
   turn_cuts setup now s t number line turn out is_number (inr ends) told =
-      subst (λ (q : Option (Running K)). CutsOn setup (IsOpen wanted setup now) line out (IsToldOfEither wanted setup now q)) (sym (ap (λ (z : Stage K). z.running) ends.left))
-      (nothing_cut wanted setup now line (IsToldOfEither wanted setup now None) out ends.written (λ t is. is))
+      subst (λ (q : Option (Running K)). CutsOn setup (IsOpen Of setup now) line out (IsToldOfEither Of setup now q)) (sym (ap (λ (z : Stage K). z.running) ends.left))
+      (nothing_cut Of setup now line (IsToldOfEither Of setup now None) out ends.written (λ t is. is))
 
-  either_so : (setup : List Node) (now : Running K) (q : Option (Running K)) (s : Standing) → IsOpen wanted setup now s
-      → (t : Told) × (s.told ≡ Some t) × IsToldOfEither wanted setup now q t
+  either_so : (setup : List Node) (now : Running K) (q : Option (Running K)) (s : Standing) → IsOpen Of setup now s
+      → (t : Told) × (s.told ≡ Some t) × IsToldOfEither Of setup now q t
   either_so setup now None s open = opens_so setup now s open
   either_so setup now (Some next) s open = (open.told, (ap (λ (z : Standing). z.told) open.stands, inl open.is))
 
-  -- which node runs before a line
+  -- a line behind the setup
   with_running : (q : Option (Running K)) (now : Running K) (s t : Stage K) (number : ℕ) (line : List ℕ) (turn : Turn) (out before : List ℕ) → q ≡ Some now
       → (gives : NodeTurn keeper source q s number line turn out t) → IsToldTurn keeper source q s number line turn out t gives → IsLineNumber number → 0 < length line → IsPlain line
-      → Sofar keeper source wanted reads q before → keeper.is_honest now.node.keep → (front rest : List ℕ) → echo_of true line ++ out ≡ front ++ rest
-      → IsCutTranscript wanted now t.running (before ++ front)
-  with_running None now s t number line turn out before e gives told is_number some plain sofar honest front rest cut = absurd (subst (λ (q : Option (Running K)). IsNone q) e tt)
-  with_running (Some old) now s t number line turn out before e gives told is_number some plain sofar honest front rest cut =
+      → Tells keeper source Of now before → (front rest : List ℕ) → echo_of true line ++ out ≡ front ++ rest → IsCutTranscript Of now t.running (before ++ front)
+  with_running None now s t number line turn out before e gives told is_number some plain tells front rest cut = absurd (subst (λ (q : Option (Running K)). IsNone q) e tt)
+  with_running (Some old) now s t number line turn out before e gives told is_number some plain tells front rest cut =
       let same : old ≡ now = ap (the now) e in
-      let tells = sofar (subst (λ (r : Running K). keeper.is_honest r.node.keep) (sym same) honest) in
-      subst (λ (r : Running K). IsCutTranscript wanted r t.running (before ++ front)) same
-      (told_either tells.setup old t.running (before ++ front)
-      (cut_so tells.setup (IsOpen wanted tells.setup old) (IsToldOfEither wanted tells.setup old t.running) (λ z open. either_so tells.setup old t.running z open) before line out front rest some plain tells.sofar
-      (turn_cuts tells.setup old s t number line turn out is_number gives told) cut))
+      let tells_old = subst (λ (r : Running K). Tells keeper source Of r before) (sym same) tells in
+      subst (λ (r : Running K). IsCutTranscript Of r t.running (before ++ front)) same
+      (told_either tells_old.setup old t.running (before ++ front)
+      (cut_so tells_old.setup (IsOpen Of tells_old.setup old) (IsToldOfEither Of tells_old.setup old t.running) (either_so tells_old.setup old t.running) before line out front rest some plain tells_old.sofar
+      (turn_cuts tells_old.setup old s t number line turn out is_number gives told) cut))
 
 -- ---- behind a run
 
@@ -178,21 +176,22 @@ none_before (x ∷ xs) rest e =
     let size = ap length e in
     absurd (omega (arith, size))
 
-pub cut_runs_are_transcripts : {K : Type 0} (keeper : Keeper K) (source : Source K) → DoneLinesAreRead → EmptyIsHeld → OpeningsCanStartAgain → ReadsSetups → CutRunsAreTranscripts keeper source
-cut_runs_are_transcripts keeper source reads held can setups wanted opened lines ran out s now run is plain few no_rows honest told line turn more t gives told_line some plain_line front rest cut =
-    let all = known keeper source wanted reads held can setups no_rows opened run plain (omega (arith, few)) told in
-    with_running keeper source wanted reads s.running now s t (length lines + 1) line turn more out is gives told_line (record { some = omega arith; whole = few }) some plain_line
-    all.sofar honest front rest cut
+-- a beginning of the echo of a line more
+echo_cut : {K : Type 0} (keeper : Keeper K) (source : Source K) (Of : List Node → Node → Type 0) (reads : DoneLinesAreRead) (keep : NodesKeepOpenings) (now : Running K) (out line front rest : List ℕ)
+    → IsPlain line → echo_of true line ≡ front ++ rest → Tells keeper source Of now out → IsTranscript Of now (out ++ front)
+echo_cut keeper source Of reads keep now out [] front rest plain cut tells = whole Of tells.setup now out front (subst IsPlain (none_before front rest cut) (All-nil (λ b. b ≢ 10))) tells.sofar
+echo_cut keeper source Of reads keep now out (x ∷ xs) front rest plain cut tells =
+    told_either keeper source Of reads keep tells.setup now None (out ++ front)
+    (cut_so tells.setup (IsOpen Of tells.setup now) (IsToldOf Of tells.setup now) (opens_so keeper source Of reads keep tells.setup now) out (x ∷ xs) [] front rest (omega arith) plain tells.sofar
+    (nothing_cut Of tells.setup now (x ∷ xs) (IsToldOf Of tells.setup now) [] refl (λ t is. is)) (append-nil (echo_of true (x ∷ xs)) ∙ cut))
 
-pub echoes_are_transcripts : {K : Type 0} (keeper : Keeper K) (source : Source K) → DoneLinesAreRead → EmptyIsHeld → OpeningsCanStartAgain → ReadsSetups → EchoesAreTranscripts keeper source
-echoes_are_transcripts {K} keeper source reads held can setups wanted opened lines ran out s now run is plain few no_rows honest told line front rest plain_line cut =
-    let all = known keeper source wanted reads held can setups no_rows opened run plain few told in
-    let tells = subst (λ (q : Option (Running K)). Sofar keeper source wanted reads q out) is all.sofar honest in
-    of_line line plain_line cut tells
-  where
-    of_line : (line : List ℕ) → IsPlain line → echo_of true line ≡ front ++ rest → Tells keeper source wanted reads now out → IsTranscript wanted now (out ++ front)
-    of_line [] plain_line cut tells = whole wanted tells.setup now out front (subst IsPlain (none_before front rest cut) (All-nil (λ b. b ≢ 10))) tells.sofar
-    of_line (x ∷ xs) plain_line cut tells =
-        told_either keeper source wanted reads tells.setup now None (out ++ front)
-        (cut_so tells.setup (IsOpen wanted tells.setup now) (IsToldOf wanted tells.setup now) (opens_so keeper source wanted reads tells.setup now) out (x ∷ xs) [] front rest (omega arith) plain_line tells.sofar
-        (nothing_cut wanted tells.setup now (x ∷ xs) (IsToldOf wanted tells.setup now) [] refl (λ t is. is)) (append-nil (echo_of true (x ∷ xs)) ∙ cut))
+module _ {K : Type 0} (keeper : Keeper K) (source : Source K) (reads : DoneLinesAreRead) (keep : NodesKeepOpenings) (held : EmptyIsHeld) (can : OpeningsCanStartAgain) (setups : ReadsSetups) where
+  pub cut_runs_are_transcripts : CutRunsAreTranscripts keeper source
+  cut_runs_are_transcripts wanted opened lines ran out s now run is plain few honest told asks line turn more t gives told_line some plain_line front rest cut =
+      let tells = first_told keeper source reads keep held can setups wanted run now is plain (omega (arith, few)) told asks honest in
+      with_running keeper source (IsAsked wanted) reads keep s.running now s t (length lines + 1) line turn more out is gives told_line (record { some = omega arith; whole = few }) some plain_line tells front rest cut
+
+  pub echoes_are_transcripts : EchoesAreTranscripts keeper source
+  echoes_are_transcripts wanted opened lines ran out s now run is plain few honest told asks line front rest plain_line cut =
+      echo_cut keeper source (IsAsked wanted) reads keep now out line front rest plain_line cut
+      (first_told keeper source reads keep held can setups wanted run now is plain few told asks honest)

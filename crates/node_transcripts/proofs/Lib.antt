@@ -5,3 +5,4 @@ pub mod LineParts
 pub mod SetupParts
 pub mod Runs
 pub mod CutRuns
+pub mod LaterRuns

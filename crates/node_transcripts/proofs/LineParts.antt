@@ -11,7 +11,9 @@ use Rattle.node_lines.specs.NodeLines.{node_line_in}
 use Rattle.node_lines.specs.declared.node_line.NodeLine.TheVariants.{One}
 use Rattle.node_cell.specs.Keepers.{Keeper}
 use Rattle.node_cell.specs.Stored.{Does}
-use Rattle.world_steps.specs.World.{NodeState}
+use Rattle.node_rows.specs.Laws.{NodesKeepOpenings}
+use Rattle.world_steps.specs.Steps.{NodeStep}
+use Rattle.world_steps.specs.World.{NodeState, opening_of}
 use Rattle.ocpi_types.specs.declared.node_events.NodeEventKind.{NodeEventKind}
 use Rattle.node_steps.specs.declared.fault.NodeFault.TheVariants as node_fault
 use Rattle.program_lines.specs.Writing.{packet_lines}
@@ -77,10 +79,10 @@ by_answer setup Before After line out text packets d each reads is leads = recor
 -- ---- a line of one event
 
 -- a run is open, and this is its node
-pub record IsOpen {K : Type 0} (wanted : Option (List ℕ)) (setup : List Node) (now : Running K) (s : Standing) : Type 0 where
+pub record IsOpen {K : Type 0} (Of : List Node → Node → Type 0) (setup : List Node) (now : Running K) (s : Standing) : Type 0 where
   pub told : Told
   pub stands : s ≡ begun told
-  pub is : IsToldOf wanted setup now told
+  pub is : IsToldOf Of setup now told
 
 -- the part leads from what is told to a node that is told
 abbrev pub LeadsTo : List Node → Told → LineRead → (Told → Type 0) → Type 0
@@ -88,22 +90,22 @@ LeadsTo setup t p After = (u : Told) × Follows setup [] (begun t) p (begun u) �
 
 -- what an event gave: its packets, the line that says what became of it, and where all of that leads, or the first packets
 -- alone, where they stand at the end of a file
-pub record AnswersOne {K : Type 0} (wanted : Option (List ℕ)) (setup : List Node) (now next : Running K) (line out : List ℕ) : Type 0 where
+pub record AnswersOne {K : Type 0} (Of : List Node → Node → Type 0) (setup : List Node) (now next : Running K) (line out : List ℕ) : Type 0 where
   pub text : List ℕ
   pub packets : List Packet
   pub says : Done
   pub each : All IsReadable packets
   pub reads : IsRead text says None
   pub is : out ≡ packet_lines packets ++ text
-  pub leads : (number at : ℕ) (t : Told) → IsToldOf wanted setup now t → LeadsTo setup t (part_of number at line packets says) (IsToldOf wanted setup next)
-  pub cuts : (number : ℕ) (t : Told) (first rest : List Packet) → IsToldOf wanted setup now t → packets ≡ first ++ rest → 0 < length first
-      → LeadsTo setup t (cut_part number line first) (IsToldOf wanted setup next)
+  pub leads : (number at : ℕ) (t : Told) → IsToldOf Of setup now t → LeadsTo setup t (part_of number at line packets says) (IsToldOf Of setup next)
+  pub cuts : (number : ℕ) (t : Told) (first rest : List Packet) → IsToldOf Of setup now t → packets ≡ first ++ rest → 0 < length first
+      → LeadsTo setup t (cut_part number line first) (IsToldOf Of setup next)
 
-module _ {K : Type 0} (keeper : Keeper K) (wanted : Option (List ℕ)) (setup : List Node) (reads : DoneLinesAreRead) where
+module _ {K : Type 0} (keeper : Keeper K) (Of : List Node → Node → Type 0) (setup : List Node) (reads : DoneLinesAreRead) (keep : NodesKeepOpenings) where
   -- one that sent nothing
   sent_none : (now next : Running K) (line out text : List ℕ) (d : Done) → IsRead text d None → out ≡ text
-      → ((number at : ℕ) (t : Told) → IsToldOf wanted setup now t → LeadsTo setup t (part_of number at line [] d) (IsToldOf wanted setup next))
-      → AnswersOne wanted setup now next line out
+      → ((number at : ℕ) (t : Told) → IsToldOf Of setup now t → LeadsTo setup t (part_of number at line [] d) (IsToldOf Of setup next))
+      → AnswersOne Of setup now next line out
   sent_none now next line out text d is_read is leads = record {
     text = text;
     packets = [];
@@ -118,30 +120,36 @@ module _ {K : Type 0} (keeper : Keeper K) (wanted : Option (List ℕ)) (setup : 
   }
 
   -- the node is as before, and so is its party
-  same_told : (now next : Running K) (t : Told) → next.node.state ≡ now.node.state → next.party ≡ now.party → IsToldOf wanted setup now t → IsToldOf wanted setup next t
+  same_told : (now next : Running K) (t : Told) → next.node.state ≡ now.node.state → next.party ≡ now.party → IsToldOf Of setup now t → IsToldOf Of setup next t
   same_told now next t state party is =
-      record { setup_is = is.setup_is; member = is.member; state = is.state ∙ sym state; party = is.party ∙ sym party }
+      record { setup_is = is.setup_is; member = is.member; state = is.state ∙ sym state; party = is.party ∙ sym party; of_member = is.of_member }
 
-  left_told : (now next : Running K) (t : Told) → next ≡ now → IsToldOf wanted setup now t → IsToldOf wanted setup next t
-  left_told now next t left is = subst (λ (r : Running K). IsToldOf wanted setup r t) (sym left) is
+  left_told : (now next : Running K) (t : Told) → next ≡ now → IsToldOf Of setup now t → IsToldOf Of setup next t
+  left_told now next t left is = subst (λ (r : Running K). IsToldOf Of setup r t) (sym left) is
 
-  own_of : (now : Running K) (line : List ℕ) (x : NodeEvent) (t : Told) → IsOfNode now.party line x → IsToldOf wanted setup now t → IsOwn t x
+  own_of : (now : Running K) (line : List ℕ) (x : NodeEvent) (t : Told) → IsOfNode now.party line x → IsToldOf Of setup now t → IsOwn t x
   own_of now line x t is told = is.same ∙ ap key (sym told.party)
 
   -- one entry more is told of the node behind it
-  more_told : (now next : Running K) (t : Told) (l : EchoedLine) (k : NodeEventKind) (packets : List Packet) → next.party ≡ now.party → IsToldOf wanted setup now t
-      → IsToldOf wanted setup next (entry_more t l k packets next.node.state)
-  more_told now next t l k packets party is = record { setup_is = is.setup_is; member = is.member; state = refl; party = is.party ∙ sym party }
+  more_told : (now next : Running K) (t : Told) (l : EchoedLine) (k : NodeEventKind) (packets : List Packet) (changed : Bool) → next.party ≡ now.party → Does keeper now.node k packets changed next.node
+      → IsToldOf Of setup now t → IsToldOf Of setup next (entry_more t l k packets next.node.state)
+  more_told now next t l k packets changed party does is = record {
+    setup_is = is.setup_is;
+    member = is.member;
+    state = refl;
+    party = is.party ∙ sym party;
+    of_member = keep.by_steps (opening_of setup t.replay.member) t.replay.state next.node.state does.event is.of_member (subst (λ (s : NodeState). NodeStep s does.event next.node.state) (sym is.state) does.step);
+  }
 
   -- what an event gave is a part
   module _ (now next : Running K) (stop stopped : Option NodeStop) (number : ℕ) (is_number : IsLineNumber number) (line : List ℕ) where
-    lead_of : (t : Told) (x : NodeEvent) (packets : List Packet) (changed : Bool) → IsToldOf wanted setup now t → Does keeper now.node x.kind packets changed next.node
+    lead_of : (t : Told) (x : NodeEvent) (packets : List Packet) (changed : Bool) → IsToldOf Of setup now t → Does keeper now.node x.kind packets changed next.node
         → Leads t.replay.state x.kind packets changed next.node.state
     lead_of t x packets changed told does =
         subst (λ (s : NodeState). Leads s x.kind packets changed next.node.state) (sym told.state) (did_lead keeper now.node next.node x.kind packets changed does)
 
     pub event_answer : (turn : Turn) (out : List ℕ) (is : EventTurn keeper now stop number line turn out next stopped) → turn ≢ Ended → IsToldEvent is
-        → AnswersOne wanted setup now next line out
+        → AnswersOne Of setup now next line out
     event_answer turn out (turns.DidStep x is packets changed does some taken written party same) ends tells = record {
       text = stepped_line number None (length packets);
       packets = packets;
@@ -152,25 +160,25 @@ module _ {K : Type 0} (keeper : Keeper K) (wanted : Option (List ℕ)) (setup : 
       leads = λ at_line at t told.
           (entry_more t (echoed at_line line) x.kind packets next.node.state,
            (happened setup t at_line at line x is.read packets (done.Stepped (length packets)) changed next.node.state (own_of now line x t is told) (lead_of t x packets changed told does) (refl, refl, some),
-            more_told now next t (echoed at_line line) x.kind packets party told));
+            more_told now next t (echoed at_line line) x.kind packets changed party does told));
       cuts = λ at_line t first rest told e some_first.
           (entry_more t (echoed at_line line) x.kind packets next.node.state,
            (cut_short setup t at_line line x is.read packets first rest changed next.node.state (own_of now line x t is told) (lead_of t x packets changed told does) e some_first,
-            more_told now next t (echoed at_line line) x.kind packets party told));
+            more_told now next t (echoed at_line line) x.kind packets changed party does told));
     }
     event_answer turn out (turns.WasIdle x is does taken written party same) ends tells =
         sent_none now next line out (idle_line number None) done.Idle (reads.idle number None is_number tt) written
         (λ at_line at t told.
           (entry_more t (echoed at_line line) x.kind [] next.node.state,
            (happened setup t at_line at line x is.read [] done.Idle false next.node.state (own_of now line x t is told) (lead_of t x [] false told does) (refl, refl, refl),
-            more_told now next t (echoed at_line line) x.kind [] party told)))
+            more_told now next t (echoed at_line line) x.kind [] false party does told)))
     event_answer turn out (turns.WasUnstored x is refused taken written left same) ends tells =
         sent_none now next line out (idle_line number None) done.Idle (reads.idle number None is_number tt) written
         (λ at_line at t told.
           (entry_more t (echoed at_line line) x.kind [] t.replay.state,
            (happened setup t at_line at line x is.read [] done.Idle false t.replay.state (own_of now line x t is told) (unstored_leads t.replay.state x.kind refused) (refl, refl, refl),
             left_told now next (entry_more t (echoed at_line line) x.kind [] t.replay.state) left
-            (record { setup_is = told.setup_is; member = told.member; state = told.state; party = told.party }))))
+            (record { setup_is = told.setup_is; member = told.member; state = told.state; party = told.party; of_member = told.of_member }))))
     event_answer turn out (turns.IsElsewhere x read other taken written left same) ends tells =
         sent_none now next line out (skipped_line number None) done.Skipped (reads.skipped number None is_number tt) written
         (λ at_line at t told.
@@ -196,9 +204,9 @@ module _ {K : Type 0} (keeper : Keeper K) (wanted : Option (List ℕ)) (setup : 
     event_answer turn out (turns.IsLost x is fault fails ended written party same) ends tells = absurd (ends ended)
 
   -- the whole of it
-  pub whole_answer : (now next : Running K) (line out : List ℕ) → AnswersOne wanted setup now next line out → ReadsOn setup (IsOpen wanted setup now) line out (IsToldOf wanted setup next)
+  pub whole_answer : (now next : Running K) (line out : List ℕ) → AnswersOne Of setup now next line out → ReadsOn setup (IsOpen Of setup now) line out (IsToldOf Of setup next)
   whole_answer now next line out a =
-      by_answer setup (IsOpen wanted setup now) (IsToldOf wanted setup next) line out a.text a.packets a.says a.each a.reads a.is
+      by_answer setup (IsOpen Of setup now) (IsToldOf Of setup next) line out a.text a.packets a.says a.each a.reads a.is
       (λ number at s open.
         let led = a.leads number at open.told open.is in
         (led.0, (subst (λ (z : Standing). Follows setup [] z (part_of number at line a.packets a.says) (begun led.0)) (sym open.stands) led.1, led.2)))
@@ -206,9 +214,9 @@ module _ {K : Type 0} (keeper : Keeper K) (wanted : Option (List ℕ)) (setup : 
 -- ---- the last line of a file
 
 -- what is told is the node before the line, or behind it
-abbrev pub IsToldOfEither : {K : Type 0} → Option (List ℕ) → List Node → Running K → Option (Running K) → Told → Type 0
-IsToldOfEither wanted setup now None t = IsToldOf wanted setup now t
-IsToldOfEither wanted setup now (Some next) t = IsToldOf wanted setup now t ⊎ IsToldOf wanted setup next t
+abbrev pub IsToldOfEither : {K : Type 0} → (List Node → Node → Type 0) → List Node → Running K → Option (Running K) → Told → Type 0
+IsToldOfEither Of setup now None t = IsToldOf Of setup now t
+IsToldOfEither Of setup now (Some next) t = IsToldOf Of setup now t ⊎ IsToldOf Of setup next t
 
 -- behind an echoed line that is the last one of a file, so many of the lines of this are a part
 pub record CutsOn (setup : List Node) (Before : Standing → Type 0) (line out : List ℕ) (After : Told → Type 0) : Type 0 where
@@ -217,9 +225,9 @@ pub record CutsOn (setup : List Node) (Before : Standing → Type 0) (line out :
   pub plain : All IsPlain texts
   pub goes : (count number n : ℕ) (s : Standing) → Before s → Goes setup s (record { number = number; bytes = line } ∷ numbered n (take count texts) []) [] After
 
-module _ {K : Type 0} (wanted : Option (List ℕ)) (setup : List Node) (now : Running K) (line : List ℕ) where
+module _ {K : Type 0} (Of : List Node → Node → Type 0) (setup : List Node) (now : Running K) (line : List ℕ) where
   -- nothing stands of it
-  bare : (After : Told → Type 0) (number : ℕ) (lines : List Line) (s : Standing) → lines ≡ [] → ((t : Told) → IsToldOf wanted setup now t → After t) → IsOpen wanted setup now s
+  bare : (After : Told → Type 0) (number : ℕ) (lines : List Line) (s : Standing) → lines ≡ [] → ((t : Told) → IsToldOf Of setup now t → After t) → IsOpen Of setup now s
       → Goes setup s (record { number = number; bytes = line } ∷ lines) [] After
   bare After number lines s none is open = record {
     part = cut_part number line [];
@@ -233,16 +241,16 @@ module _ {K : Type 0} (wanted : Option (List ℕ)) (setup : List Node) (now : Ru
   took_none zero n = refl
   took_none (suc count) n = refl
 
-  pub nothing_cut : (After : Told → Type 0) (out : List ℕ) → out ≡ [] → ((t : Told) → IsToldOf wanted setup now t → After t) → CutsOn setup (IsOpen wanted setup now) line out After
+  pub nothing_cut : (After : Told → Type 0) (out : List ℕ) → out ≡ [] → ((t : Told) → IsToldOf Of setup now t → After t) → CutsOn setup (IsOpen Of setup now) line out After
   nothing_cut After out none is =
       record { texts = []; is_written = none; plain = All-nil IsPlain; goes = λ count number n s open. bare After number (numbered n (take count []) []) s (took_none count n) is open }
 
   -- what an event gave
-  module _ (next : Running K) (out : List ℕ) (a : AnswersOne wanted setup now next line out) where
+  module _ (next : Running K) (out : List ℕ) (a : AnswersOne Of setup now next line out) where
     abbrev Either : Told → Type 0
-    Either t = IsToldOf wanted setup now t ⊎ IsToldOf wanted setup next t
+    Either t = IsToldOf Of setup now t ⊎ IsToldOf Of setup next t
 
-    led_to : (number : ℕ) (p : LineRead) (lines : List Line) (s : Standing) (open : IsOpen wanted setup now s) → IsPart lines p [] → LeadsTo setup open.told p (IsToldOf wanted setup next) → Goes setup s lines [] Either
+    led_to : (number : ℕ) (p : LineRead) (lines : List Line) (s : Standing) (open : IsOpen Of setup now s) → IsPart lines p [] → LeadsTo setup open.told p (IsToldOf Of setup next) → Goes setup s lines [] Either
     led_to number p lines s open is led = record {
       part = p;
       is = is;
@@ -251,14 +259,14 @@ module _ {K : Type 0} (wanted : Option (List ℕ)) (setup : List Node) (now : Ru
       after = inr led.2;
     }
 
-    first_packets : (number n : ℕ) (first rest : List Packet) (s : Standing) → a.packets ≡ first ++ rest → All IsReadable first → IsOpen wanted setup now s
+    first_packets : (number n : ℕ) (first rest : List Packet) (s : Standing) → a.packets ≡ first ++ rest → All IsReadable first → IsOpen Of setup now s
         → Goes setup s (record { number = number; bytes = line } ∷ numbered n (texts_of first) []) [] Either
     first_packets number n [] rest s e each open = bare Either number [] s refl (λ t told. inl told) open
     first_packets number n (q ∷ qs) rest s e each open =
         led_to number (cut_part number line (q ∷ qs)) (record { number = number; bytes = line } ∷ numbered n (texts_of (q ∷ qs)) []) s open (cut_is_part number n line (q ∷ qs) each)
         (a.cuts number open.told (q ∷ qs) rest open.is e (omega arith))
 
-    pub answer_cuts : CutsOn setup (IsOpen wanted setup now) line out Either
+    pub answer_cuts : CutsOn setup (IsOpen Of setup now) line out Either
     answer_cuts = record {
       texts = answer_texts a.packets a.reads.line;
       is_written = answer_written a.packets out a.text a.reads.line a.is a.reads.ends;

@@ -1,5 +1,5 @@
 -- What is asked of a run of `node`, so that what it writes is read as it happened.
-use Rattle.std.specs.Prelude.{◌≡◌, ◌≢◌, ℕ, ◌<◌, List, [], ◌∷◌, All, Option, None, Some, Ok, Err, length}
+use Rattle.std.specs.Prelude.{◌≡◌, ◌≢◌, inl, inr, ℕ, ◌+◌, ◌<◌, Bool, List, [], ◌∷◌, All, Option, None, Some, Ok, Err, length}
 use Rattle.json_text.specs.declared.fault.JsonFault.{JsonFault}
 use Rattle.json_text.specs.declared.fault.JsonFault.TheVariants.{Memory}
 use Rattle.ocpi_types.specs.declared.packet.Packet.{Packet}
@@ -10,15 +10,16 @@ use Rattle.world_laws.specs.Laws.{IsSetup}
 use Rattle.line_runs.specs.Numbered.{AreNumbered, empty_line, none_numbered, refused_line, taken_line}
 use Rattle.line_runs.specs.declared.outcome.Ran.{Ran}
 use Rattle.line_runs.specs.declared.run.Turn.{Turn}
-use Rattle.node_store.specs.Contents.{Content}
+use Rattle.line_runs.specs.declared.run.Turn.TheVariants.{Refused, Taken}
 use Rattle.std.specs.FinMap.{empty}
 use Rattle.node_keepers.specs.Opening.{Source}
 use Rattle.node_cell.specs.Keepers.{Keeper}
+use Rattle.node_cell.specs.Stored.{Stored}
 use Rattle.transcript_lines.specs.Dones.{done_in, run_without_lines}
 use Rattle.done_laws.specs.Laws.{IsWhole}
 use Rattle.transcripts.specs.Following.{MayStarve}
 use Rattle.node_runs.specs.NodeAnswers.{GoesOn, LineTurn, NodeLineGives, NodeTurn, OneEvent, SeveralEvents}
-use Rattle.node_runs.specs.NodeTurns.{EventTurn, Running, Stage}
+use Rattle.node_runs.specs.NodeTurns.{EventTurn, Running, SetupTurn, Stage}
 use Rattle.node_runs.specs.NodeTurns as turns
 use Rattle.node_runs.specs.declared.fault.NodeStop.{NodeStop}
 
@@ -84,9 +85,34 @@ AreTold (refused_line before some gives) = AreTold before × IsTold gives
 abbrev pub IsPlain : List ℕ → Type 0
 IsPlain line = All (λ b. b ≢ 10) line
 
--- what is found for the node is a store without rows, where its keeper is honest
-abbrev pub FindsNoRows : {K : Type 0} → Keeper K → Source K → Type 0
-FindsNoRows keeper source = (k : _) → source.found 1 k → keeper.is_honest k → keeper.content k ≡ empty
+-- ---- how a run is opened
+
+-- what is asked of the setup with which a run was opened, of the node, of how many rows were loaded, of the node as it was
+-- made of them, and of the keeper that was found
+abbrev pub IsOpenedSo : {K : Type 0} {keeper : Keeper K} {source : Source K} {s : Stage K} {number : ℕ} {line : List ℕ} {turn : Turn} {out : List ℕ} {t : Stage K}
+    → (List Node → Node → ℕ → Stored K → K → Type 0) → SetupTurn keeper source s number line turn out t → Type 0
+IsOpenedSo Asks (turns.Opened setup read member is rows node begins taken written next) = Asks setup member rows node begins.starts.fresh
+IsOpenedSo Asks (turns.Unbegun setup read asked spare stop unbegun ended written next) = Unit {0}
+IsOpenedSo Asks (turns.NoSetup fault fails ended written next) = Unit {0}
+
+abbrev pub OpensSo : {K : Type 0} (keeper : Keeper K) (source : Source K) (Asks : List Node → Node → ℕ → Stored K → K → Type 0) (running : Option (Running K)) (s : Stage K) (number : ℕ)
+    (line : List ℕ) (turn : Turn) (out : List ℕ) (t : Stage K) → NodeTurn keeper source running s number line turn out t → Type 0
+OpensSo keeper source Asks None s number line turn out t is = IsOpenedSo Asks is
+OpensSo keeper source Asks (Some now) s number line turn out t is = Unit {0}
+
+-- and so of the line that opened a run
+abbrev pub RunOpensSo : {K : Type 0} {keeper : Keeper K} {source : Source K} {echo : Bool} {first : Stage K} {lines : List (List ℕ)} {ran : Ran} {out : List ℕ} {s : Stage K}
+    → (List Node → Node → ℕ → Stored K → K → Type 0) → AreNumbered (NodeLineGives keeper source) echo first lines ran out s → Type 0
+RunOpensSo Asks none_numbered = Unit {0}
+RunOpensSo Asks (empty_line before) = RunOpensSo Asks before
+RunOpensSo {keeper = keeper} {source = source} Asks (taken_line {s = s} {t = t} {line = line} {before = lines} {more = more} before some gives) =
+    RunOpensSo Asks before × OpensSo keeper source Asks s.running s (length lines + 1) line Taken more t gives
+RunOpensSo {keeper = keeper} {source = source} Asks (refused_line {s = s} {t = t} {line = line} {before = lines} {more = more} before some gives) =
+    RunOpensSo Asks before × OpensSo keeper source Asks s.running s (length lines + 1) line Refused more t gives
+
+-- the keeper that was found keeps no rows, where it is honest
+abbrev pub HasNoRows : {K : Type 0} → Keeper K → List Node → Node → ℕ → Stored K → K → Type 0
+HasNoRows keeper setup member rows node fresh = keeper.is_honest fresh → keeper.content fresh ≡ empty
 
 -- what is read as a setup is one, which its type keeps
 abbrev pub ReadsSetups : Type 0

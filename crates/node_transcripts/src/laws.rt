@@ -2,12 +2,13 @@
 
 ghost use Rattle.node_cell.specs.Keepers.{keeper_of};
 ghost use Rattle.node_keepers.specs.Opening.{source_of};
+ghost use Rattle.node_transcripts.specs.LaterRuns.{SeveralRunsAreTranscripts};
 ghost use Rattle.node_transcripts.specs.Laws.{CutRunsAreTranscripts, EchoesAreTranscripts, RunsAreTranscripts};
 ghost use Rattle.node_transcripts.specs.Readable.{ReadsSetups};
 
 use done_laws::laws::done_lines_are_read;
 use node_keepers::Keeps;
-use node_rows::laws::empty_is_held;
+use node_rows::laws::{empty_is_held, nodes_keep_openings};
 use stored_laws::laws::openings_can_start_again;
 
 /// What a run writes for its lines is a transcript of its node.
@@ -15,6 +16,7 @@ pub fn runs_are_transcripts<S: Keeps>()
     ensures { ReadsSetups → RunsAreTranscripts (keeper_of S.Kept.content S.Kept.is_honest S.Kept.refusals S.Kept.may_leave) (source_of S.may_refuse S.found) }
 {
     done_lines_are_read();
+    nodes_keep_openings();
     empty_is_held();
     openings_can_start_again();
 }
@@ -26,6 +28,17 @@ pub fn cut_runs_are_transcripts<S: Keeps>()
     ensures echoes { ReadsSetups → EchoesAreTranscripts (keeper_of S.Kept.content S.Kept.is_honest S.Kept.refusals S.Kept.may_leave) (source_of S.may_refuse S.found) }
 {
     done_lines_are_read();
+    nodes_keep_openings();
+    empty_is_held();
+    openings_can_start_again();
+}
+
+/// Runs of one node over one store, one behind the other, are one transcript.
+pub fn several_runs_are_transcripts<S: Keeps>()
+    ensures { ReadsSetups → SeveralRunsAreTranscripts (keeper_of S.Kept.content S.Kept.is_honest S.Kept.refusals S.Kept.may_leave) (source_of S.may_refuse S.found) }
+{
+    done_lines_are_read();
+    nodes_keep_openings();
     empty_is_held();
     openings_can_start_again();
 }
