@@ -97,7 +97,7 @@ IsNone (Some x) = ⊥
 
 module _ {K : Type 0} (keeper : Keeper K) (source : Source K) (Of : List Node → Node → Type 0) (reads : DoneLinesAreRead) (keep : NodesKeepOpenings) where
   opens_so : (setup : List Node) (now : Running K) (s : Standing) → IsOpen Of setup now s → (t : Told) × (s.told ≡ Some t) × IsToldOf Of setup now t
-  opens_so setup now s open = (open.told, (ap (λ (z : Standing). z.told) open.stands, open.is))
+  opens_so setup now s stood = (stood.told, (ap (λ (z : Standing). z.told) stood.stands, stood.is))
 
   -- what the line gives may be cut at any place
   line_cuts : (setup : List Node) (now next : Running K) (stop stopped : Option NodeStop) (number : ℕ) (line : List ℕ) (turn : Turn) (out : List ℕ) → IsLineNumber number
@@ -151,8 +151,8 @@ module _ {K : Type 0} (keeper : Keeper K) (source : Source K) (Of : List Node �
 
   either_so : (setup : List Node) (now : Running K) (q : Option (Running K)) (s : Standing) → IsOpen Of setup now s
       → (t : Told) × (s.told ≡ Some t) × IsToldOfEither Of setup now q t
-  either_so setup now None s open = opens_so setup now s open
-  either_so setup now (Some next) s open = (open.told, (ap (λ (z : Standing). z.told) open.stands, inl open.is))
+  either_so setup now None s stood = opens_so setup now s stood
+  either_so setup now (Some next) s stood = (stood.told, (ap (λ (z : Standing). z.told) stood.stands, inl stood.is))
 
   -- a line behind the setup
   with_running : (q : Option (Running K)) (now : Running K) (s t : Stage K) (number : ℕ) (line : List ℕ) (turn : Turn) (out before : List ℕ) → q ≡ Some now

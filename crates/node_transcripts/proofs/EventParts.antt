@@ -40,6 +40,13 @@ use Rattle.node_transcripts.proofs.CutLines.{cut_part}
 use Rattle.node_transcripts.proofs.WrittenLines.{part_of}
 use Rattle.node_transcripts.specs.Readable.{IsNoSetup}
 
+abbrev is_false : Bool → Type 0
+is_false false = Unit {0}
+is_false true = ⊥
+
+not_true : IsTrue false → ⊥
+not_true h = subst is_false h tt
+
 -- ---- an entry more
 
 abbrev pub entry_more : Told → EchoedLine → NodeEventKind → List Packet → NodeState → Told
@@ -53,7 +60,7 @@ entry_more t l k packets s = record {
   sources = t.sources ++ Echoed l ∷ [];
 }
 
-pub entered : (t : Told) (l : EchoedLine) (k : NodeEventKind) (packets : List Packet) (changed : Bool) (s : NodeState)
+abbrev pub entered : (t : Told) (l : EchoedLine) (k : NodeEventKind) (packets : List Packet) (changed : Bool) (s : NodeState)
     → Leads t.replay.state k packets changed s → Enters t.replay k changed (entry_more t l k packets s).replay
 entered t l k packets changed s leads = record { packets = packets; leads = leads; entries = refl; setup = refl; member = refl }
 
@@ -71,7 +78,7 @@ pub unstored_leads : (s : NodeState) (k : NodeEventKind) → k ≡ event.Refused
 unstored_leads s k refused = record {
   own = λ passes. passes.taken refused;
   step = replays.Idle (record { why = inl refused; sends = refl; same = refl });
-  tells = ((λ h. absurd h), (λ h. absurd h));
+  tells = (not_true, (λ h. absurd h));
 }
 
 -- ---- a line of one event
@@ -98,7 +105,7 @@ module _ (setup : List Node) (t : Told) (number at : ℕ) (line : List ℕ) (x :
     holds = (x, read, refl);
     shape = refl;
     changed = changed;
-    come = OneMore (event_of number line x) NoneYet gives ((λ h. inr h), (λ h. elim h [ | inl none ↦ absurd none | inr now ↦ now ]));
+    come = OneMore (event_of number line x) NoneYet gives ((λ h. inr h), (λ h. elim h [ | inl none ↦ absurd (not_true none) | inr now ↦ now ]));
     shows = tt;
     within = refl;
     stood = refl;
@@ -142,7 +149,7 @@ module _ (setup : List Node) (t : Told) (number : ℕ) (line : List ℕ) (x : No
         enters = entered t (echoed number line) x.kind packets changed s leads;
         fits = (rest, e);
         sources = refl;
-      })) ((λ h. inr h), (λ h. elim h [ | inl none ↦ absurd none | inr now ↦ now ]));
+      })) ((λ h. inr h), (λ h. elim h [ | inl none ↦ absurd (not_true none) | inr now ↦ now ]));
     shows = λ nothing.
         let size = ap length nothing.1 in
         absurd (omega (arith, size, some));

@@ -207,9 +207,9 @@ module _ {K : Type 0} (keeper : Keeper K) (Of : List Node → Node → Type 0) (
   pub whole_answer : (now next : Running K) (line out : List ℕ) → AnswersOne Of setup now next line out → ReadsOn setup (IsOpen Of setup now) line out (IsToldOf Of setup next)
   whole_answer now next line out a =
       by_answer setup (IsOpen Of setup now) (IsToldOf Of setup next) line out a.text a.packets a.says a.each a.reads a.is
-      (λ number at s open.
-        let led = a.leads number at open.told open.is in
-        (led.0, (subst (λ (z : Standing). Follows setup [] z (part_of number at line a.packets a.says) (begun led.0)) (sym open.stands) led.1, led.2)))
+      (λ number at s stood.
+        let led = a.leads number at stood.told stood.is in
+        (led.0, (subst (λ (z : Standing). Follows setup [] z (part_of number at line a.packets a.says) (begun led.0)) (sym stood.stands) led.1, led.2)))
 
 -- ---- the last line of a file
 
@@ -229,12 +229,12 @@ module _ {K : Type 0} (Of : List Node → Node → Type 0) (setup : List Node) (
   -- nothing stands of it
   bare : (After : Told → Type 0) (number : ℕ) (lines : List Line) (s : Standing) → lines ≡ [] → ((t : Told) → IsToldOf Of setup now t → After t) → IsOpen Of setup now s
       → Goes setup s (record { number = number; bytes = line } ∷ lines) [] After
-  bare After number lines s none is open = record {
+  bare After number lines s none is stood = record {
     part = cut_part number line [];
     is = record { behind = lines; begin = refl; ends = subst (λ (ls : List Line). Ends ls [] [] FileEnd []) (sym none) (AtLast NoneSent AtEnd) };
-    told = open.told;
-    follows = subst (λ (z : Standing). Follows setup [] z (cut_part number line []) (begun open.told)) (sym open.stands) (left_out setup open.told number line);
-    after = is open.told open.is;
+    told = stood.told;
+    follows = subst (λ (z : Standing). Follows setup [] z (cut_part number line []) (begun stood.told)) (sym stood.stands) (left_out setup stood.told number line);
+    after = is stood.told stood.is;
   }
 
   took_none : (count n : ℕ) → numbered n (take count []) [] ≡ []
@@ -243,40 +243,40 @@ module _ {K : Type 0} (Of : List Node → Node → Type 0) (setup : List Node) (
 
   pub nothing_cut : (After : Told → Type 0) (out : List ℕ) → out ≡ [] → ((t : Told) → IsToldOf Of setup now t → After t) → CutsOn setup (IsOpen Of setup now) line out After
   nothing_cut After out none is =
-      record { texts = []; is_written = none; plain = All-nil IsPlain; goes = λ count number n s open. bare After number (numbered n (take count []) []) s (took_none count n) is open }
+      record { texts = []; is_written = none; plain = All-nil IsPlain; goes = λ count number n s stood. bare After number (numbered n (take count []) []) s (took_none count n) is stood }
 
   -- what an event gave
   module _ (next : Running K) (out : List ℕ) (a : AnswersOne Of setup now next line out) where
     abbrev Either : Told → Type 0
     Either t = IsToldOf Of setup now t ⊎ IsToldOf Of setup next t
 
-    led_to : (number : ℕ) (p : LineRead) (lines : List Line) (s : Standing) (open : IsOpen Of setup now s) → IsPart lines p [] → LeadsTo setup open.told p (IsToldOf Of setup next) → Goes setup s lines [] Either
-    led_to number p lines s open is led = record {
+    led_to : (number : ℕ) (p : LineRead) (lines : List Line) (s : Standing) (stood : IsOpen Of setup now s) → IsPart lines p [] → LeadsTo setup stood.told p (IsToldOf Of setup next) → Goes setup s lines [] Either
+    led_to number p lines s stood is led = record {
       part = p;
       is = is;
       told = led.0;
-      follows = subst (λ (z : Standing). Follows setup [] z p (begun led.0)) (sym open.stands) led.1;
+      follows = subst (λ (z : Standing). Follows setup [] z p (begun led.0)) (sym stood.stands) led.1;
       after = inr led.2;
     }
 
     first_packets : (number n : ℕ) (first rest : List Packet) (s : Standing) → a.packets ≡ first ++ rest → All IsReadable first → IsOpen Of setup now s
         → Goes setup s (record { number = number; bytes = line } ∷ numbered n (texts_of first) []) [] Either
-    first_packets number n [] rest s e each open = bare Either number [] s refl (λ t told. inl told) open
-    first_packets number n (q ∷ qs) rest s e each open =
-        led_to number (cut_part number line (q ∷ qs)) (record { number = number; bytes = line } ∷ numbered n (texts_of (q ∷ qs)) []) s open (cut_is_part number n line (q ∷ qs) each)
-        (a.cuts number open.told (q ∷ qs) rest open.is e (omega arith))
+    first_packets number n [] rest s e each stood = bare Either number [] s refl (λ t told. inl told) stood
+    first_packets number n (q ∷ qs) rest s e each stood =
+        led_to number (cut_part number line (q ∷ qs)) (record { number = number; bytes = line } ∷ numbered n (texts_of (q ∷ qs)) []) s stood (cut_is_part number n line (q ∷ qs) each)
+        (a.cuts number stood.told (q ∷ qs) rest stood.is e (omega arith))
 
     pub answer_cuts : CutsOn setup (IsOpen Of setup now) line out Either
     answer_cuts = record {
       texts = answer_texts a.packets a.reads.line;
       is_written = answer_written a.packets out a.text a.reads.line a.is a.reads.ends;
       plain = answer_plain a.packets a.reads.line a.each a.reads.plain;
-      goes = λ count number n s open.
+      goes = λ count number n s stood.
           elim (answer_cut count a.packets a.reads.line) [
             | inl some ↦ subst (λ (ts : List (List ℕ)). Goes setup s (record { number = number; bytes = line } ∷ numbered n ts []) [] Either) (sym some)
-                (first_packets number n (take count a.packets) (drop count a.packets) s (sym (take-append-drop count a.packets)) (All-take IsReadable count a.packets a.each) open)
+                (first_packets number n (take count a.packets) (drop count a.packets) s (sym (take-append-drop count a.packets)) (All-take IsReadable count a.packets a.each) stood)
             | inr all ↦ subst (λ (ts : List (List ℕ)). Goes setup s (record { number = number; bytes = line } ∷ numbered n ts []) [] Either) (sym all)
-                (led_to number (part_of number (number_behind n a.packets) line a.packets a.says) (record { number = number; bytes = line } ∷ numbered n (answer_texts a.packets a.reads.line) []) s open
-                (answer_part number n line a.packets a.says a.text [] a.each a.reads) (a.leads number (number_behind n a.packets) open.told open.is))
+                (led_to number (part_of number (number_behind n a.packets) line a.packets a.says) (record { number = number; bytes = line } ∷ numbered n (answer_texts a.packets a.reads.line) []) s stood
+                (answer_part number n line a.packets a.says a.text [] a.each a.reads) (a.leads number (number_behind n a.packets) stood.told stood.is))
           ];
     }

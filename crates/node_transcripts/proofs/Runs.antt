@@ -1,5 +1,5 @@
 -- What the lines of a run give is a transcript of its node.
-use Rattle.std.proofs.Common.{◌≡◌, ◌≢◌, ◌⊎◌, ℕ, ◌+◌, ◌<◌, Bool, true, false, IsTrue, List, [], ◌∷◌, ◌++◌, All, Option, None, Some, Ok, length, refl, sym, ap, subst, ◌∙◌, arith, inl, inr, length-append}
+use Rattle.std.proofs.Common.{◌≡◌, ◌≢◌, ◌⊎◌, ℕ, ◌+◌, ◌<◌, Bool, true, false, List, [], ◌∷◌, ◌++◌, All, Option, None, Some, Ok, length, refl, sym, ap, subst, ◌∙◌, arith, inl, inr, length-append}
 use Rattle.std.proofs.lemmas.List.{append-nil, append_assoc}
 use Rattle.std.proofs.lemmas.List.Elements.{All-append, All-cons, All-nil, All-pop}
 use Rattle.ocpi_types.specs.Setups.{party_of}
@@ -72,16 +72,16 @@ line_more setup Stands After out line more some plain before on =
           (begun goes.told, (subst (λ (all : List Line). ReadTo setup [] all rest (begun goes.told)) (sym whole) (More goes.part sofar.1 goes.is goes.follows), (goes.told, (refl, goes.after))));
     }
 
-abbrev is_end : Turn → Bool
-is_end Taken = false
-is_end Refused = false
-is_end Ended = true
+abbrev goes_on : Turn → Type 0
+goes_on Taken = Unit {0}
+goes_on Refused = Unit {0}
+goes_on Ended = ⊥
 
 pub taken_goes_on : Taken ≢ Ended
-taken_goes_on is = subst IsTrue (sym (ap is_end is)) tt
+taken_goes_on is = subst goes_on is tt
 
 pub refused_goes_on : Refused ≢ Ended
-refused_goes_on is = subst IsTrue (sym (ap is_end is)) tt
+refused_goes_on is = subst goes_on is tt
 
 -- ---- each line
 

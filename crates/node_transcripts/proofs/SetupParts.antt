@@ -136,19 +136,19 @@ module _ {K : Type 0} (keeper : Keeper K) (source : Source K) (Of : List Node �
       by_answer setup (IsOpen Of setup ended) (IsToldOf {K = K} Of setup now) line out (opened_line number (party_of m) rows (last_serial node.state)) []
       (done.Opened (party_of m) rows (last_serial node.state)) (All-nil IsReadable)
       (reads.opened number (party_of m) rows (last_serial node.state) is_number ((setups line setup read).parties m within) few whole) written
-      (λ at_line at s open.
-        let t = open.told in
-        let is_m : t.replay.member ≡ m = only t.replay.member open.is.member in
+      (λ at_line at s stood.
+        let t = stood.told in
+        let is_m : t.replay.member ≡ m = only t.replay.member stood.is.member in
         let of_ended : IsOfOpening (opening_of setup m) ended.node.state =
-            subst (λ (n : NodeState). IsOfOpening (opening_of setup m) n) open.is.state (subst (λ (x : Node). IsOfOpening (opening_of setup x) t.replay.state) is_m open.is.of_member) in
+            subst (λ (n : NodeState). IsOfOpening (opening_of setup m) n) stood.is.state (subst (λ (x : Node). IsOfOpening (opening_of setup x) t.replay.state) is_m stood.is.of_member) in
         let again : node.state ≡ restarted ended.node.state = starts.again honest_node ended.node.state (record {
             starts = stored.starts;
             of_member = of_ended;
             holds = subst (λ (c : Content). HoldsRows c ended.node.state) (sym same) (stored.holds honest);
           }) in
-        let state_is : restarted t.replay.state ≡ node.state = ap restarted open.is.state ∙ sym again in
+        let state_is : restarted t.replay.state ≡ node.state = ap restarted stood.is.state ∙ sym again in
         let opened : Opened = record { party = party_of m; rows = rows; serial = last_serial node.state; number = at } in
-        (restarted_told t, (subst (λ (z : Standing). Follows setup [] z (part_of at_line at line [] (done.Opened (party_of m) rows (last_serial node.state))) (begun (restarted_told t))) (sym open.stands)
+        (restarted_told t, (subst (λ (z : Standing). Follows setup [] z (part_of at_line at line [] (done.Opened (party_of m) rows (last_serial node.state))) (begun (restarted_told t))) (sym stood.stands)
           (Later (record {
             old = t;
             new = restarted_told t;
@@ -165,9 +165,9 @@ module _ {K : Type 0} (keeper : Keeper K) (source : Source K) (Of : List Node �
             goes_on = refl;
             stands = refl;
           })), record {
-            setup_is = open.is.setup_is;
-            member = open.is.member;
+            setup_is = stood.is.setup_is;
+            member = stood.is.member;
             state = state_is;
             party = ap party_of is_m;
-            of_member = keep.by_restarts (opening_of setup t.replay.member) t.replay.state open.is.of_member;
+            of_member = keep.by_restarts (opening_of setup t.replay.member) t.replay.state stood.is.of_member;
           })))

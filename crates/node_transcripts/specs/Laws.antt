@@ -14,7 +14,7 @@ use Rattle.node_runs.specs.NodeAnswers.{NodeLineGives}
 use Rattle.node_runs.specs.NodeTurns.{IsMember, Running, Stage, opening}
 use Rattle.transcripts.specs.Following.{IsTranscriptOf}
 use Rattle.transcripts.specs.Told.{Told}
-use Rattle.node_transcripts.specs.Readable.{AreTold, HasNoRows, IsPlain, IsTold, RunOpensSo}
+use Rattle.node_transcripts.specs.Readable.{AreTold, HasNoRows, IsPlain, IsToldTurn, RunOpensSo}
 
 -- what is told is such a node of the setup, in the state in which it is, and it is of its opening there
 pub record IsToldOf {K : Type 0} (Of : List Node → Node → Type 0) (setup : List Node) (now : Running K) (t : Told) : Type 0 where
@@ -58,7 +58,7 @@ CutRunsAreTranscripts {K} keeper source =
     (wanted : Option (List ℕ)) (opened : List ℕ) (lines : List (List ℕ)) (ran : Ran) (out : List ℕ) (s : Stage K) (now : Running K)
     (run : AreNumbered (NodeLineGives keeper source) true (opening wanted opened) lines ran out s) → s.running ≡ Some now
     → All IsPlain lines → IsWhole (length lines + 1) → keeper.is_honest now.node.keep → AreTold run → RunOpensSo (HasNoRows keeper) run
-    → (line : List ℕ) (turn : Turn) (more : List ℕ) (t : Stage K) (gives : NodeLineGives keeper source s (length lines + 1) line turn more t) → IsTold gives
+    → (line : List ℕ) (turn : Turn) (more : List ℕ) (t : Stage K) (gives : NodeLineGives keeper source s (length lines + 1) line turn more t) → IsToldTurn keeper source s.running s (length lines + 1) line turn more t gives
     → 0 < length line → IsPlain line → (front rest : List ℕ) → echo_of true line ++ more ≡ front ++ rest → IsCutTranscript (IsAsked wanted) now t.running (out ++ front)
 
 -- and so of a line that was not carried out, of which a beginning was echoed

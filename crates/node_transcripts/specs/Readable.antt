@@ -1,5 +1,6 @@
 -- What is asked of a run of `node`, so that what it writes is read as it happened.
-use Rattle.std.specs.Prelude.{◌≡◌, ◌≢◌, inl, inr, ℕ, ◌+◌, ◌<◌, Bool, List, [], ◌∷◌, All, Option, None, Some, Ok, Err, length}
+use Rattle.std.specs.Prelude.{◌≡◌, ◌≢◌, ℕ, ◌+◌, ◌<◌, Bool, List, [], ◌∷◌, All, Option, None, Some, Ok, Err, length}
+use Rattle.std.proofs.Common.{inl, inr}
 use Rattle.json_text.specs.declared.fault.JsonFault.{JsonFault}
 use Rattle.json_text.specs.declared.fault.JsonFault.TheVariants.{Memory}
 use Rattle.ocpi_types.specs.declared.packet.Packet.{Packet}
@@ -68,18 +69,15 @@ IsToldTurn keeper source None s number line turn out t is = Unit {0}
 IsToldTurn keeper source (Some now) s number line turn out t (inl is) = IsToldLine is.is
 IsToldTurn keeper source (Some now) s number line turn out t (inr ends) = Unit {0}
 
-abbrev pub IsTold : {K : Type 0} {keeper : Keeper K} {source : Source K} {s : Stage K} {number : ℕ} {line : List ℕ} {turn : Turn} {out : List ℕ} {t : Stage K}
-    → NodeLineGives keeper source s number line turn out t → Type 0
-IsTold {keeper = keeper} {source = source} {s = s} {number = number} {line = line} {turn = turn} {out = out} {t = t} is =
-    IsToldTurn keeper source s.running s number line turn out t is
-
 -- of each line of a run
 abbrev pub AreTold : {K : Type 0} {keeper : Keeper K} {source : Source K} {echo : Bool} {first : Stage K} {lines : List (List ℕ)} {ran : Ran} {out : List ℕ} {s : Stage K}
     → AreNumbered (NodeLineGives keeper source) echo first lines ran out s → Type 0
 AreTold none_numbered = Unit {0}
 AreTold (empty_line before) = AreTold before
-AreTold (taken_line before some gives) = AreTold before × IsTold gives
-AreTold (refused_line before some gives) = AreTold before × IsTold gives
+AreTold {keeper = keeper} {source = source} (taken_line {s = s} {t = t} {line = line} {before = lines} {more = more} before some gives) =
+    AreTold before × IsToldTurn keeper source s.running s (length lines + 1) line Taken more t gives
+AreTold {keeper = keeper} {source = source} (refused_line {s = s} {t = t} {line = line} {before = lines} {more = more} before some gives) =
+    AreTold before × IsToldTurn keeper source s.running s (length lines + 1) line Refused more t gives
 
 -- a line has no line feed
 abbrev pub IsPlain : List ℕ → Type 0
