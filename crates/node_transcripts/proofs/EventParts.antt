@@ -44,7 +44,7 @@ abbrev is_false : Bool → Type 0
 is_false false = Unit {0}
 is_false true = ⊥
 
-not_true : IsTrue false → ⊥
+pub not_true : IsTrue false → ⊥
 not_true h = subst is_false h tt
 
 -- ---- an entry more

@@ -3,6 +3,8 @@ pub mod CutLines
 pub mod EventParts
 pub mod LineParts
 pub mod SetupParts
+pub mod Elements
+pub mod ListParts
 pub mod Runs
 pub mod CutRuns
 pub mod LaterRuns

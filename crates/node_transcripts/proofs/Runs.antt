@@ -8,6 +8,7 @@ use Rattle.line_runs.specs.Numbered.{AreNumbered, echo_of, empty_line, none_numb
 use Rattle.line_runs.specs.declared.outcome.Ran.{Ran}
 use Rattle.line_runs.specs.declared.run.Turn.{Turn}
 use Rattle.line_runs.specs.declared.run.Turn.TheVariants.{Ended, Refused, Taken}
+use Rattle.node_lines.specs.Laws.{SeveralAreFew}
 use Rattle.node_keepers.specs.Opening.{Source}
 use Rattle.node_cell.specs.Keepers.{Commits, Keeper}
 use Rattle.node_cell.specs.Keepers as keepers
@@ -28,6 +29,7 @@ use Rattle.transcripts.specs.Following.{IsTranscriptOf, More, ReadTo, Standing, 
 use Rattle.transcripts.specs.Told.{Told}
 use Rattle.node_transcripts.specs.Laws.{IsAsked, IsToldOf, IsTranscript, RunsAreTranscripts}
 use Rattle.node_transcripts.specs.Readable.{AreTold, HasNoRows, IsOpenedSo, IsPlain, IsToldLine, IsToldTurn, OpensSo, ReadsSetups, RunOpensSo}
+use Rattle.node_transcripts.proofs.ListParts.{list_part}
 use Rattle.node_transcripts.proofs.LineParts.{IsOpen, ReadsOn, event_answer, whole_answer}
 use Rattle.node_transcripts.proofs.SetupParts.{opening_part}
 use Rattle.node_transcripts.proofs.WrittenLines.{lines_are, numbered, numbered_both, written, written_both}
@@ -124,7 +126,7 @@ module _ {K : Type 0} (keeper : Keeper K) (source : Source K) (Of : List Node �
 
   -- ---- behind what stood before the run
 
-  module _ (reads : DoneLinesAreRead) (keep : NodesKeepOpenings) (wanted : Option (List ℕ)) (earlier : List ℕ) where
+  module _ (reads : DoneLinesAreRead) (keep : NodesKeepOpenings) (few_law : SeveralAreFew) (wanted : Option (List ℕ)) (earlier : List ℕ) where
     -- what is known behind some lines: where no node runs, nothing was written; else its node is told
     abbrev pub Sofar : Option (Running K) → List ℕ → Type 0
     Sofar None out = out ≡ []
@@ -147,7 +149,11 @@ module _ {K : Type 0} (keeper : Keeper K) (source : Source K) (Of : List Node �
         subst (Tells next) (append_assoc earlier before (echo_of true line ++ out))
         (told_more tells.setup (IsOpen Of tells.setup now) next (earlier ++ before) line out some plain tells.sofar
         (whole_answer keeper Of tells.setup reads keep now next line out (event_answer keeper Of tells.setup reads keep now next stop stopped number is_number line turn out is ends told)))
-    behind now next stop stopped number line turn out before is_number some plain ends (answers.SeveralEvents is same) told sofar honest = absurd told
+    behind now next stop stopped number line turn out before is_number some plain ends (answers.SeveralEvents is same) told sofar honest =
+        let tells = sofar (commits_honest is.commits honest) in
+        subst (Tells next) (append_assoc earlier before (echo_of true line ++ out))
+        (told_more tells.setup (IsOpen Of tells.setup now) next (earlier ++ before) line out some plain tells.sofar
+        (list_part keeper Of tells.setup reads keep few_law now next number is_number line turn out is told))
 
     module _ (Asks : List Node → Node → ℕ → Stored K → K → Type 0)
         (first_line : (number : ℕ) (line : List ℕ) (setup : List Node) (m : Node) (rows : ℕ) (node : Stored K) (out : List ℕ) → IsLineNumber number → 0 < length line → IsPlain line → setup_in line ≡ Ok setup
@@ -217,19 +223,19 @@ whole Of setup now out part plain sofar =
 
 -- ---- a run over a store without rows
 
-module _ {K : Type 0} (keeper : Keeper K) (source : Source K) (reads : DoneLinesAreRead) (keep : NodesKeepOpenings) (held : EmptyIsHeld) (can : OpeningsCanStartAgain) (setups : ReadsSetups)
+module _ {K : Type 0} (keeper : Keeper K) (source : Source K) (reads : DoneLinesAreRead) (keep : NodesKeepOpenings) (few_law : SeveralAreFew) (held : EmptyIsHeld) (can : OpeningsCanStartAgain) (setups : ReadsSetups)
     (wanted : Option (List ℕ)) where
   pub first_told : {opened : List ℕ} {lines : List (List ℕ)} {ran : Ran} {out : List ℕ} {s : Stage K} (run : AreNumbered (NodeLineGives keeper source) true (opening wanted opened) lines ran out s)
       (now : Running K) → s.running ≡ Some now → All IsPlain lines → IsWhole (length lines) → AreTold run → RunOpensSo (HasNoRows keeper) run → keeper.is_honest now.node.keep
       → Tells keeper source (IsAsked wanted) now out
   first_told run now is plain few told asks honest =
-      running_told keeper source (IsAsked wanted) reads keep wanted [] (HasNoRows keeper)
+      running_told keeper source (IsAsked wanted) reads keep few_law wanted [] (HasNoRows keeper)
       (λ number line setup m rows node out is_number some plain read is begins honest no_rows written.
         told_more keeper source (IsAsked wanted) setup (λ z. z ≡ nothing_known) (record { party = party_of m; node = node }) [] line out some plain (nothing_read setup)
         (opening_part keeper source held can (IsAsked wanted) reads setups number line setup m rows node out is_number read is.within is begins honest no_rows written))
       run now is plain few told asks honest
 
-pub runs_are_transcripts : {K : Type 0} (keeper : Keeper K) (source : Source K) → DoneLinesAreRead → NodesKeepOpenings → EmptyIsHeld → OpeningsCanStartAgain → ReadsSetups → RunsAreTranscripts keeper source
-runs_are_transcripts keeper source reads keep held can setups wanted opened lines ran out s now run is plain few honest told asks =
-    let tells = first_told keeper source reads keep held can setups wanted run now is plain few told asks honest in
+pub runs_are_transcripts : {K : Type 0} (keeper : Keeper K) (source : Source K) → DoneLinesAreRead → NodesKeepOpenings → SeveralAreFew → EmptyIsHeld → OpeningsCanStartAgain → ReadsSetups → RunsAreTranscripts keeper source
+runs_are_transcripts keeper source reads keep few_law held can setups wanted opened lines ran out s now run is plain few honest told asks =
+    let tells = first_told keeper source reads keep few_law held can setups wanted run now is plain few told asks honest in
     subst (IsTranscript (IsAsked wanted) now) (append-nil out) (whole (IsAsked wanted) tells.setup now out [] (All-nil (λ b. b ≢ 10)) tells.sofar)

@@ -20,6 +20,12 @@ use Rattle.transcript_lines.specs.Dones.{done_in, run_without_lines}
 use Rattle.done_laws.specs.Laws.{IsWhole}
 use Rattle.transcripts.specs.Following.{MayStarve}
 use Rattle.node_runs.specs.NodeAnswers.{GoesOn, LineTurn, NodeLineGives, NodeTurn, OneEvent, SeveralEvents}
+use Rattle.json_text.specs.Fault.{Read}
+use Rattle.ocpi_types.specs.declared.node_events.NodeEvent.{NodeEvent}
+use Rattle.world_steps.specs.Steps.{NodeEvent as Deed, packets_of}
+use Rattle.world_steps.specs.World.{NodeState}
+use Rattle.node_runs.specs.ListTurns.{AreDone, PlacedTurn}
+use Rattle.node_runs.specs.ListTurns as lists
 use Rattle.node_runs.specs.NodeTurns.{EventTurn, Running, SetupTurn, Stage}
 use Rattle.node_runs.specs.NodeTurns as turns
 use Rattle.node_runs.specs.declared.fault.NodeStop.{NodeStop}
@@ -55,12 +61,29 @@ IsToldEvent (turns.IsRefused x is fault refuses refused written party same) = Un
 IsToldEvent {line = line} (turns.IsStarved x is refused written left same) = MayStarve line
 IsToldEvent (turns.IsLost x is fault fails ended written party same) = Unit {0}
 
--- of a line behind the setup: it is no array
+-- of an event at a place of a line of several: the packets that it sent are readable
+abbrev pub IsToldPlaced : {party : List ℕ} {now : NodeState} {number place : ℕ} {read : Read NodeEvent} {turn : Turn} {out : List ℕ} {did : List Deed} {next : NodeState}
+    → PlacedTurn party now number place read turn out did next → Type 0
+IsToldPlaced (lists.WasDone x own deed brings step changed tells taken written one) = AreReadable (packets_of deed)
+IsToldPlaced (lists.WasUnstored x own refused taken written none same) = Unit {0}
+IsToldPlaced (lists.IsElsewhere x read other taken written none same) = Unit {0}
+IsToldPlaced (lists.IsOfOtherRole x own stored nothing taken written none same) = Unit {0}
+IsToldPlaced (lists.IsMalformed fault is other refused written none same) = Unit {0}
+IsToldPlaced (lists.IsRefused x own input brings fault refuses other refused written none same) = Unit {0}
+
+-- of each of them
+abbrev pub AreToldEach : {party : List ℕ} {first : NodeState} {number : ℕ} {events : List (Read NodeEvent)} {turn : Turn} {out : List ℕ} {did : List Deed} {after : NodeState}
+    → AreDone party first number events turn out did after → Type 0
+AreToldEach lists.none_done = Unit {0}
+AreToldEach (lists.one_taken before is) = AreToldEach before × IsToldPlaced is
+AreToldEach (lists.one_refused before is) = AreToldEach before × IsToldPlaced is
+
+-- of a line behind the setup
 abbrev pub IsToldLine : {K : Type 0} {keeper : Keeper K} {now : Running K} {stop : Option NodeStop} {number : ℕ} {line : List ℕ}
     {turn : Turn} {out : List ℕ} {next : Running K} {stopped : Option NodeStop}
     → LineTurn keeper now stop number line turn out next stopped → Type 0
 IsToldLine (OneEvent is) = IsToldEvent is
-IsToldLine (SeveralEvents is same) = ⊥
+IsToldLine (SeveralEvents is same) = AreToldEach is.carries.done
 
 -- of any line
 abbrev pub IsToldTurn : {K : Type 0} (keeper : Keeper K) (source : Source K) (running : Option (Running K)) (s : Stage K) (number : ℕ)

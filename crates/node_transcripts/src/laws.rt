@@ -8,6 +8,7 @@ ghost use Rattle.node_transcripts.specs.Readable.{ReadsSetups};
 
 use done_laws::laws::done_lines_are_read;
 use node_keepers::Keeps;
+use node_lines::laws::lines_of_several_have_at_most_256;
 use node_rows::laws::{empty_is_held, nodes_keep_openings};
 use stored_laws::laws::openings_can_start_again;
 
@@ -17,6 +18,7 @@ pub fn runs_are_transcripts<S: Keeps>()
 {
     done_lines_are_read();
     nodes_keep_openings();
+    lines_of_several_have_at_most_256();
     empty_is_held();
     openings_can_start_again();
 }
@@ -29,6 +31,7 @@ pub fn cut_runs_are_transcripts<S: Keeps>()
 {
     done_lines_are_read();
     nodes_keep_openings();
+    lines_of_several_have_at_most_256();
     empty_is_held();
     openings_can_start_again();
 }
@@ -39,6 +42,7 @@ pub fn several_runs_are_transcripts<S: Keeps>()
 {
     done_lines_are_read();
     nodes_keep_openings();
+    lines_of_several_have_at_most_256();
     empty_is_held();
     openings_can_start_again();
 }
