@@ -6,7 +6,6 @@ use Rattle.ocpi_types.specs.declared.setup.Node.{Node}
 use Rattle.line_runs.specs.Numbered.{echo_of}
 use Rattle.line_runs.specs.declared.run.Turn.{Turn}
 use Rattle.line_runs.specs.declared.run.Turn.TheVariants.{Ended, Refused, Taken}
-use Rattle.node_lines.specs.Laws.{SeveralAreFew}
 use Rattle.node_keepers.specs.Opening.{Source}
 use Rattle.node_cell.specs.Keepers.{Keeper}
 use Rattle.node_rows.specs.Laws.{EmptyIsHeld, NodesKeepOpenings}
@@ -88,6 +87,19 @@ module _ (setup : List Node) (Stands : Standing → Type 0) (After : Told → Ty
 
 -- ---- a line within a run
 
+-- of a line of one event that ends a run nothing is written but its echo
+pub ended_empty : {K : Type 0} {keeper : Keeper K} {now next : Running K} {stop stopped : Option NodeStop} {number : ℕ} {line : List ℕ} {turn : Turn} {out : List ℕ}
+    → EventTurn keeper now stop number line turn out next stopped → turn ≡ Ended → out ≡ []
+ended_empty (turns.DidStep x is packets changed does some taken written party same) ends = absurd (taken_goes_on (sym taken ∙ ends))
+ended_empty (turns.WasIdle x is does taken written party same) ends = absurd (taken_goes_on (sym taken ∙ ends))
+ended_empty (turns.WasUnstored x is refused taken written left same) ends = absurd (taken_goes_on (sym taken ∙ ends))
+ended_empty (turns.IsElsewhere x read other taken written left same) ends = absurd (taken_goes_on (sym taken ∙ ends))
+ended_empty (turns.IsOfOtherRole x is passes taken written party same) ends = absurd (taken_goes_on (sym taken ∙ ends))
+ended_empty (turns.IsMalformed fault fails other refused written left same) ends = absurd (refused_goes_on (sym refused ∙ ends))
+ended_empty (turns.IsRefused x is fault refuses refused written party same) ends = absurd (refused_goes_on (sym refused ∙ ends))
+ended_empty (turns.IsStarved x is refused written left same) ends = absurd (refused_goes_on (sym refused ∙ ends))
+ended_empty (turns.IsLost x is fault fails ended written party same) ends = written
+
 abbrev the : {X : Type 0} → X → Option X → X
 the d None = d
 the d (Some x) = x
@@ -98,7 +110,7 @@ IsNone (Some x) = ⊥
 
 module _ {K : Type 0} (keeper : Keeper K) (source : Source K) (Of : List Node → Node → Type 0) (reads : DoneLinesAreRead) (keep : NodesKeepOpenings) where
   opens_so : (setup : List Node) (now : Running K) (s : Standing) → IsOpen Of setup now s → (t : Told) × (s.told ≡ Some t) × IsToldOf Of setup now t
-  opens_so setup now s stood = (stood.told, (ap (λ (z : Standing). z.told) stood.stands, stood.is))
+  opens_so setup now s stood = (stood.told, ap (λ (z : Standing). z.told) stood.stands, stood.is)
 
   -- what the line gives may be cut at any place
   line_cuts : (setup : List Node) (now next : Running K) (stop stopped : Option NodeStop) (number : ℕ) (line : List ℕ) (turn : Turn) (out : List ℕ) → IsLineNumber number
@@ -109,20 +121,8 @@ module _ {K : Type 0} (keeper : Keeper K) (source : Source K) (Of : List Node �
           → CutsOn setup (IsOpen Of setup now) line out (IsToldOfEither Of setup now (Some next))
       whole_line turn is ends told = answer_cuts Of setup now line next out (event_answer keeper Of setup reads keep now next stop stopped number is_number line turn out is ends told)
 
-      -- such a line gives nothing
-      ended_empty : (turn : Turn) (is : EventTurn keeper now stop number line turn out next stopped) → turn ≡ Ended → out ≡ []
-      ended_empty turn (turns.DidStep x is packets changed does some taken written party same) ends = absurd (taken_goes_on (sym taken ∙ ends))
-      ended_empty turn (turns.WasIdle x is does taken written party same) ends = absurd (taken_goes_on (sym taken ∙ ends))
-      ended_empty turn (turns.WasUnstored x is refused taken written left same) ends = absurd (taken_goes_on (sym taken ∙ ends))
-      ended_empty turn (turns.IsElsewhere x read other taken written left same) ends = absurd (taken_goes_on (sym taken ∙ ends))
-      ended_empty turn (turns.IsOfOtherRole x is passes taken written party same) ends = absurd (taken_goes_on (sym taken ∙ ends))
-      ended_empty turn (turns.IsMalformed fault fails other refused written left same) ends = absurd (refused_goes_on (sym refused ∙ ends))
-      ended_empty turn (turns.IsRefused x is fault refuses refused written party same) ends = absurd (refused_goes_on (sym refused ∙ ends))
-      ended_empty turn (turns.IsStarved x is refused written left same) ends = absurd (refused_goes_on (sym refused ∙ ends))
-      ended_empty turn (turns.IsLost x is fault fails ended written party same) ends = written
-
       lost : (is : EventTurn keeper now stop number line Ended out next stopped) → IsToldEvent is → CutsOn setup (IsOpen Of setup now) line out (IsToldOfEither Of setup now (Some next))
-      lost is told = nothing_cut Of setup now line (IsToldOfEither Of setup now (Some next)) out (ended_empty Ended is refl) (λ t is. inl is)
+      lost is told = nothing_cut Of setup now line (IsToldOfEither Of setup now (Some next)) out (ended_empty is refl) (λ t is. inl is)
 
       of_turn : (turn : Turn) (is : EventTurn keeper now stop number line turn out next stopped) → IsToldEvent is
           → CutsOn setup (IsOpen Of setup now) line out (IsToldOfEither Of setup now (Some next))
@@ -133,12 +133,12 @@ module _ {K : Type 0} (keeper : Keeper K) (source : Source K) (Of : List Node �
       nothing_cut Of setup now line (IsToldOfEither Of setup now (Some next)) out (no_array is.events is.read) (λ t is. inl is)
 
   told_either : (setup : List Node) (now : Running K) (q : Option (Running K)) (out : List ℕ) → TellsSo setup out (IsToldOfEither Of setup now q) → IsCutTranscript Of now q out
-  told_either setup now None out tells = record { setup = setup; told = tells.told; reads = (tells.end, (tells.reads, tells.is)); is = tells.after }
+  told_either setup now None out tells = record { setup = setup; told = tells.told; reads = (tells.end, tells.reads, tells.is); is = tells.after }
   told_either setup now (Some next) out tells = of_after tells.after
     where
       of_after : IsToldOf Of setup now tells.told ⊎ IsToldOf Of setup next tells.told → IsTranscript Of now out ⊎ IsTranscript Of next out
-      of_after (inl is) = inl (record { setup = setup; told = tells.told; reads = (tells.end, (tells.reads, tells.is)); is = is })
-      of_after (inr is) = inr (record { setup = setup; told = tells.told; reads = (tells.end, (tells.reads, tells.is)); is = is })
+      of_after (inl is) = inl (record { setup = setup; told = tells.told; reads = (tells.end, tells.reads, tells.is); is = is })
+      of_after (inr is) = inr (record { setup = setup; told = tells.told; reads = (tells.end, tells.reads, tells.is); is = is })
 
   -- any line, behind the setup
   turn_cuts : (setup : List Node) (now : Running K) (s t : Stage K) (number : ℕ) (line : List ℕ) (turn : Turn) (out : List ℕ) → IsLineNumber number
@@ -154,7 +154,7 @@ module _ {K : Type 0} (keeper : Keeper K) (source : Source K) (Of : List Node �
   either_so : (setup : List Node) (now : Running K) (q : Option (Running K)) (s : Standing) → IsOpen Of setup now s
       → (t : Told) × (s.told ≡ Some t) × IsToldOfEither Of setup now q t
   either_so setup now None s stood = opens_so setup now s stood
-  either_so setup now (Some next) s stood = (stood.told, (ap (λ (z : Standing). z.told) stood.stands, inl stood.is))
+  either_so setup now (Some next) s stood = (stood.told, ap (λ (z : Standing). z.told) stood.stands, inl stood.is)
 
   -- a line behind the setup
   with_running : (q : Option (Running K)) (now : Running K) (s t : Stage K) (number : ℕ) (line : List ℕ) (turn : Turn) (out before : List ℕ) → q ≡ Some now
@@ -187,13 +187,13 @@ echo_cut keeper source Of reads keep now out (x ∷ xs) front rest plain cut tel
     (cut_so tells.setup (IsOpen Of tells.setup now) (IsToldOf Of tells.setup now) (opens_so keeper source Of reads keep tells.setup now) out (x ∷ xs) [] front rest (omega arith) plain tells.sofar
     (nothing_cut Of tells.setup now (x ∷ xs) (IsToldOf Of tells.setup now) [] refl (λ t is. is)) (append-nil (echo_of true (x ∷ xs)) ∙ cut))
 
-module _ {K : Type 0} (keeper : Keeper K) (source : Source K) (reads : DoneLinesAreRead) (keep : NodesKeepOpenings) (few_law : SeveralAreFew) (held : EmptyIsHeld) (can : OpeningsCanStartAgain) (setups : ReadsSetups) where
+module _ {K : Type 0} (keeper : Keeper K) (source : Source K) (reads : DoneLinesAreRead) (keep : NodesKeepOpenings) (held : EmptyIsHeld) (can : OpeningsCanStartAgain) (setups : ReadsSetups) where
   pub cut_runs_are_transcripts : CutRunsAreTranscripts keeper source
   cut_runs_are_transcripts wanted opened lines ran out s now run is plain few honest told asks line turn more t gives told_line no_array some plain_line front rest cut =
-      let tells = first_told keeper source reads keep few_law held can setups wanted run now is plain (omega (arith, few)) told asks honest in
+      let tells = first_told keeper source reads keep held can setups wanted run now is plain (omega (arith, few)) told asks honest in
       with_running keeper source (IsAsked wanted) reads keep s.running now s t (length lines + 1) line turn more out is gives told_line no_array (record { some = omega arith; whole = few }) some plain_line tells front rest cut
 
   pub echoes_are_transcripts : EchoesAreTranscripts keeper source
   echoes_are_transcripts wanted opened lines ran out s now run is plain few honest told asks line front rest plain_line cut =
       echo_cut keeper source (IsAsked wanted) reads keep now out line front rest plain_line cut
-      (first_told keeper source reads keep few_law held can setups wanted run now is plain few told asks honest)
+      (first_told keeper source reads keep held can setups wanted run now is plain few told asks honest)

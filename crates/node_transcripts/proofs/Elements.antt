@@ -5,9 +5,8 @@ use Rattle.std.specs.Prelude.{Contains}
 use Rattle.json_text.specs.Fault.{Read}
 use Rattle.ocpi_json.specs.NodeEventForms.{node_event_in}
 use Rattle.ocpi_types.specs.declared.node_events.NodeEvent.{NodeEvent}
-use Rattle.node_lines.specs.ElementTexts.{AreElements, AreElementsOf, Last, More, behind_element, behind_spaces, element_len, element_text, some_text}
+use Rattle.node_lines.specs.ElementTexts.{AreElements, AreElementsOf, Last, More, behind_element, behind_spaces, element_text, some_text}
 use Rattle.node_lines.specs.NodeLines.{node_line_in}
-use Rattle.node_lines.specs.declared.array_texts.Spot.TheVariants.{Outside}
 use Rattle.node_lines.specs.declared.node_line.NodeLine.TheVariants.{Several}
 use Rattle.node_lines.proofs.ElementLemmas.{elements_read}
 use Rattle.transcript_parts.specs.declared.echoed.EchoedLine.{EchoedLine}
@@ -22,6 +21,9 @@ drop_le (suc n) [] = omega arith
 drop_le (suc n) (x ∷ xs) =
     let le = drop_le n xs in
     omega (arith, le)
+
+behind_le : (s : List ℕ) → length (behind_element s) ≤ length s
+behind_le s = drop_le _ s
 
 first_byte : (behind rest : List ℕ) (c x : ℕ) (xs : List ℕ) → behind ≡ c ∷ rest → behind ≡ x ∷ xs → c ≡ x
 first_byte behind rest c x xs e f =
@@ -52,11 +54,11 @@ any_behind s (c ∷ rest) is later = by_comma (c == 44) refl
 found : (n : ℕ) (s : List ℕ) → length s ≤ n → (texts : List (List ℕ)) × AreElements s texts
 found zero s le = any_behind s (behind_element s) refl (λ rest e.
     let size = ap length e in
-    let within = drop_le (element_len 0 Outside s) s in
+    let within = behind_le s in
     absurd (omega (arith, size, within, le)))
 found (suc n) s le = any_behind s (behind_element s) refl (λ rest e.
     let size = ap length e in
-    let within = drop_le (element_len 0 Outside s) s in
+    let within = behind_le s in
     found n rest (omega (arith, size, within, le)))
 
 pub elements_of : (line : List ℕ) → (texts : List (List ℕ)) × AreElementsOf line texts

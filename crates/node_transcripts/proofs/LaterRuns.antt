@@ -7,7 +7,6 @@ use Rattle.ocpi_types.specs.Setups.{party_of}
 use Rattle.ocpi_types.specs.declared.setup.Node.{Node}
 use Rattle.ocpi_json.specs.SetupForms.{setup_in}
 use Rattle.line_runs.specs.Numbered.{echo_of}
-use Rattle.node_lines.specs.Laws.{SeveralAreFew}
 use Rattle.node_keepers.specs.Opening.{Source}
 use Rattle.node_cell.specs.Keepers.{Keeper}
 use Rattle.node_cell.specs.Stored.{IsStored, Stored}
@@ -25,7 +24,7 @@ use Rattle.node_transcripts.proofs.LineParts.{IsOpen}
 use Rattle.node_transcripts.proofs.Runs.{ReadsTo, Tells, nothing_read, read_so, running_told, told_more}
 use Rattle.node_transcripts.proofs.SetupParts.{later_part, opening_part}
 
-module _ {K : Type 0} (keeper : Keeper K) (source : Source K) (reads : DoneLinesAreRead) (keep : NodesKeepOpenings) (few_law : SeveralAreFew) (held : EmptyIsHeld) (can : OpeningsCanStartAgain) (setups : ReadsSetups)
+module _ {K : Type 0} (keeper : Keeper K) (source : Source K) (reads : DoneLinesAreRead) (keep : NodesKeepOpenings) (held : EmptyIsHeld) (can : OpeningsCanStartAgain) (setups : ReadsSetups)
     (setup : List Node) (member : Node) (wanted : Option (List ℕ)) where
   abbrev Of : List Node → Node → Type 0
   Of = IsGiven setup member
@@ -63,14 +62,14 @@ module _ {K : Type 0} (keeper : Keeper K) (source : Source K) (reads : DoneLines
   runs_told : {out : List ℕ} {now : Running K} → AreRuns keeper source setup member wanted out now → ReadsTo setup out (IsOpen Of setup now)
   runs_told {out = out} {now = now} (FirstRun is) =
       told_there now out
-      (running_told keeper source Of reads keep few_law wanted [] (IsSameNode keeper setup member empty) first_line is.run now is.is_running is.plain is.few is.told is.opens is.honest)
+      (running_told keeper source Of reads keep wanted [] (IsSameNode keeper setup member empty) first_line is.run now is.is_running is.plain is.few is.told is.opens is.honest)
   runs_told (LaterRun {out = out} {more = more} {ended = ended} {now = now} before stored honest is) =
       told_there now (out ++ more)
-      (running_told keeper source Of reads keep few_law wanted out (IsSameNode keeper setup member (keeper.content ended.node.keep)) (later_line ended out stored honest (runs_told before))
+      (running_told keeper source Of reads keep wanted out (IsSameNode keeper setup member (keeper.content ended.node.keep)) (later_line ended out stored honest (runs_told before))
       is.run now is.is_running is.plain is.few is.told is.opens is.honest)
 
-pub several_runs_are_transcripts : {K : Type 0} (keeper : Keeper K) (source : Source K) → DoneLinesAreRead → NodesKeepOpenings → SeveralAreFew → EmptyIsHeld → OpeningsCanStartAgain → ReadsSetups
+pub several_runs_are_transcripts : {K : Type 0} (keeper : Keeper K) (source : Source K) → DoneLinesAreRead → NodesKeepOpenings → EmptyIsHeld → OpeningsCanStartAgain → ReadsSetups
     → SeveralRunsAreTranscripts keeper source
-several_runs_are_transcripts keeper source reads keep few_law held can setups setup member wanted out now runs =
-    let all = read_so (IsGiven setup member) setup now out [] (All-nil (λ b. b ≢ 10)) (runs_told keeper source reads keep few_law held can setups setup member wanted runs) in
-    (all.0, (subst (λ s. IsTranscriptOf setup [] s all.0) (append-nil out) all.1, all.2))
+several_runs_are_transcripts keeper source reads keep held can setups setup member wanted out now runs =
+    let all = read_so (IsGiven setup member) setup now out [] (All-nil (λ b. b ≢ 10)) (runs_told keeper source reads keep held can setups setup member wanted runs) in
+    (all.0, subst (λ s. IsTranscriptOf setup [] s all.0) (append-nil out) all.1, all.2)

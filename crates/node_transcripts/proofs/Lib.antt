@@ -1,3 +1,4 @@
+pub mod Setups
 pub mod WrittenLines
 pub mod CutLines
 pub mod EventParts
@@ -8,3 +9,4 @@ pub mod ListParts
 pub mod Runs
 pub mod CutRuns
 pub mod LaterRuns
+pub mod Outputs

@@ -14,8 +14,8 @@ use Rattle.world_steps.specs.Steps.{NodeEvent as Deed, NodeStep, packets_of}
 use Rattle.world_steps.specs.World.{NodeState, opening_of}
 use Rattle.stored_laws.specs.Nodes.{IsOfOpening}
 use Rattle.node_rows.specs.Laws.{NodesKeepOpenings}
-use Rattle.node_lines.specs.Laws.{SeveralAreFew}
 use Rattle.node_lines.specs.NodeLines.{node_line_in}
+use Rattle.node_lines.proofs.NodeLineLemmas.{is_array}
 use Rattle.node_lines.specs.declared.node_line.NodeLine.TheVariants.{Several}
 use Rattle.node_replay.specs.Replayed.{Leads, Passes, Refuses}
 use Rattle.program_lines.specs.Writing.{packet_lines}
@@ -246,7 +246,7 @@ module _ {K : Type 0} (Of : List Node → Node → Type 0) (setup : List Node) (
     where
       none_come : (p : LineRead) (es : List LineEvent) → map event_at es ≡ [] → (t : Told) → IsToldAt now.node.state t
           → (u : Told) × (changed : Bool) × ComeInTurn p t es changed u × IsToldAt now.node.state u
-      none_come p [] are t told = (t, (false, (NoneYet, told)))
+      none_come p [] are t told = (t, false, NoneYet, told)
       none_come p (e ∷ es) are t told = absurd (omega (arith, ap length are))
 
   module _ (events : List (Read NodeEvent)) (lines : List ℕ) (s next : NodeState) (read : Read NodeEvent) (out : List ℕ) (before : AnswersAll events lines s)
@@ -281,9 +281,9 @@ module _ {K : Type 0} (Of : List Node → Node → Type 0) (setup : List Node) (
         let size : length parts.front ≡ length (before.answers n) = map_size event_at parts.front events parts.front_is ∙ sym (before.count n) in
         let at : slice_get p.answers (length parts.front) ≡ Some (answer_at (lines_at n)) =
             ap (λ l. slice_get l (length parts.front)) joined ∙ got_between (before.answers n) (answer_at (lines_at n)) more (length parts.front) size in
-        (came.told, (either sofar.1 came.changed,
-         (subst (λ (l : List LineEvent). ComeInTurn p t l (either sofar.1 came.changed) came.told) (sym parts.is)
-          (OneMore parts.last sofar.2 (given p (length parts.front) (answer_at (lines_at n)) at sofar.0 came.told parts.last came.changed came.gives) (either_is sofar.1 came.changed)), came.is)))
+        (came.told, either sofar.1 came.changed,
+         subst (λ (l : List LineEvent). ComeInTurn p t l (either sofar.1 came.changed) came.told) (sym parts.is)
+          (OneMore parts.last sofar.2 (given p (length parts.front) (answer_at (lines_at n)) at sofar.0 came.told parts.last came.changed came.gives) (either_is sofar.1 came.changed)), came.is)
       where
         given : (p : LineRead) (place : ℕ) (a : EventAnswer) → slice_get p.answers place ≡ Some a → (t u : Told) (e : LineEvent) (changed : Bool) → Gives t e (Answered a.done a.number) a.packets changed u
             → Gives t e (ending_at p place) (packets_at p place) changed u
@@ -308,7 +308,7 @@ module _ {K : Type 0} (Of : List Node → Node → Type 0) (setup : List Node) (
         ];
       ends = λ n behind rest more qs end is.
           subst (λ (ls : List Line). Ends ls (answers_at n ++ more) qs end rest) (sym (numbered_both n before.texts (answer_texts one.packets one.reads.line) behind))
-          (subst (λ (as : List EventAnswer). Ends (numbered n before.texts (numbered (lines_at n) (answer_texts one.packets one.reads.line) behind)) as qs end rest)
+          (subst (λ (told : List EventAnswer). Ends (numbered n before.texts (numbered (lines_at n) (answer_texts one.packets one.reads.line) behind)) told qs end rest)
             (sym (append_assoc (before.answers n) (answer_at (lines_at n) ∷ []) more))
           (before.ends n (numbered (lines_at n) (answer_texts one.packets one.reads.line) behind) rest (answer_at (lines_at n) ∷ more) qs end (one_ends (lines_at n) behind rest more qs end is)));
       come = come_more;
@@ -326,18 +326,18 @@ module _ {K : Type 0} (Of : List Node → Node → Type 0) (setup : List Node) (
 
   -- ---- the line
 
-  whole_few : (line : List ℕ) (events : List (Read NodeEvent)) → SeveralAreFew → node_line_in line ≡ Ok (Several events) → IsWhole (length events)
-  whole_few line events few_law read =
-      let few = few_law line events read in
+  whole_few : (line : List ℕ) (events : List (Read NodeEvent)) → node_line_in line ≡ Ok (Several events) → IsWhole (length events)
+  whole_few line events read =
+      let few = (is_array line events read).few in
       omega (arith, few)
 
 -- the whole of a line of several events
-pub list_part : {K : Type 0} (keeper : Keeper K) (Of : List Node → Node → Type 0) (setup : List Node) (reads : DoneLinesAreRead) (keep : NodesKeepOpenings) (few_law : SeveralAreFew)
+pub list_part : {K : Type 0} (keeper : Keeper K) (Of : List Node → Node → Type 0) (setup : List Node) (reads : DoneLinesAreRead) (keep : NodesKeepOpenings)
     (now next : Running K) (number : ℕ) (is_number : IsLineNumber number) (line : List ℕ) (turn : Turn) (out : List ℕ) (is : ListTurn keeper now number line turn out next) → AreToldEach is.carries.done
     → ReadsOn setup (IsOpen Of setup now) line out (IsToldOf Of setup next)
-list_part keeper Of setup reads keep few_law now next number is_number line turn out is told =
+list_part keeper Of setup reads keep now next number is_number line turn out is told =
     let events = is.events in
-    let whole = whole_few Of setup reads keep now number is_number line events few_law is.read in
+    let whole = whole_few Of setup reads keep now number is_number line events is.read in
     let all = all_answered Of setup reads keep now number is_number is.carries.done whole told in
     let says = reads.all number (length events) is_number whole in
     record {
@@ -358,7 +358,7 @@ list_part keeper Of setup reads keep few_law now next number is_number line turn
             is = record {
               behind = numbered n all.texts (last ∷ rest);
               begin = ap (λ ls. record { number = at_line; bytes = line } ∷ ls) behind;
-              ends = subst (λ (as : List EventAnswer). Ends (numbered n all.texts (last ∷ rest)) as [] (Answered (done.All (length events)) at) rest) (append-nil (all.answers n))
+              ends = subst (λ (told : List EventAnswer). Ends (numbered n all.texts (last ∷ rest)) told [] (Answered (done.All (length events)) at) rest) (append-nil (all.answers n))
                   (all.ends n (last ∷ rest) rest [] [] (Answered (done.All (length events)) at) (AtLast NoneSent (AtDone (done.All (length events)) (says.other, says.tells))));
             };
             told = sofar.0;

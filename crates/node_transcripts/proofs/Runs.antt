@@ -8,7 +8,6 @@ use Rattle.line_runs.specs.Numbered.{AreNumbered, echo_of, empty_line, none_numb
 use Rattle.line_runs.specs.declared.outcome.Ran.{Ran}
 use Rattle.line_runs.specs.declared.run.Turn.{Turn}
 use Rattle.line_runs.specs.declared.run.Turn.TheVariants.{Ended, Refused, Taken}
-use Rattle.node_lines.specs.Laws.{SeveralAreFew}
 use Rattle.node_keepers.specs.Opening.{Source}
 use Rattle.node_cell.specs.Keepers.{Commits, Keeper}
 use Rattle.node_cell.specs.Keepers as keepers
@@ -44,11 +43,15 @@ pub record ReadsTo (setup : List Node) (out : List ℕ) (Stands : Standing → T
   pub reads : (rest : List Line) → (s : Standing) × ReadTo setup [] (numbered 0 texts rest) rest s × Stands s
 
 pub nothing_read : (setup : List Node) → ReadsTo setup [] (λ s. s ≡ nothing_known)
-nothing_read setup = record { texts = []; is_written = refl; plain = All-nil IsPlain; reads = λ rest. (nothing_known, (Start, refl)) }
+nothing_read setup = record { texts = []; is_written = refl; plain = All-nil IsPlain; reads = λ rest. (nothing_known, Start, refl) }
 
 pub echo_is : (line : List ℕ) → 0 < length line → echo_of true line ≡ line ++ 10 ∷ []
 echo_is [] some = absurd (omega (arith, some))
 echo_is (x ∷ xs) some = refl
+
+-- a run is open behind a part
+told_of : {After : Told → Type 0} (t : Told) → After t → (u : Told) × (begun t ≡ begun u) × After u
+told_of t after = (t, refl, after)
 
 -- one line more
 pub line_more : (setup : List Node) (Stands : Standing → Type 0) (After : Told → Type 0) (out line more : List ℕ) → 0 < length line → IsPlain line
@@ -71,7 +74,7 @@ line_more setup Stands After out line more some plain before on =
               numbered_both 0 before.texts (line ∷ on.texts) rest ∙ ap (numbered 0 before.texts) (some_line (k + 1) line (numbered (k + 1) on.texts rest) some) in
           let sofar = before.reads behind in
           let goes = on.goes (k + 1) (k + 1) rest sofar.0 sofar.2 in
-          (begun goes.told, (subst (λ (all : List Line). ReadTo setup [] all rest (begun goes.told)) (sym whole) (More goes.part sofar.1 goes.is goes.follows), (goes.told, (refl, goes.after))));
+          (begun goes.told, subst (λ (all : List Line). ReadTo setup [] all rest (begun goes.told)) (sym whole) (More goes.part sofar.1 goes.is goes.follows), told_of {After = After} goes.told goes.after);
     }
 
 abbrev goes_on : Turn → Type 0
@@ -103,7 +106,7 @@ module _ {K : Type 0} (keeper : Keeper K) (source : Source K) (Of : List Node �
           texts = both.texts;
           is_written = both.is_written;
           plain = both.plain;
-          reads = λ rest. let at = both.reads rest in (at.0, (at.1, record { told = at.2.0; stands = at.2.1; is = at.2.2 }));
+          reads = λ rest. let at = both.reads rest in (at.0, at.1, record { told = at.2.0; stands = at.2.1; is = at.2.2 });
         };
       }
 
@@ -126,7 +129,7 @@ module _ {K : Type 0} (keeper : Keeper K) (source : Source K) (Of : List Node �
 
   -- ---- behind what stood before the run
 
-  module _ (reads : DoneLinesAreRead) (keep : NodesKeepOpenings) (few_law : SeveralAreFew) (wanted : Option (List ℕ)) (earlier : List ℕ) where
+  module _ (reads : DoneLinesAreRead) (keep : NodesKeepOpenings) (wanted : Option (List ℕ)) (earlier : List ℕ) where
     -- what is known behind some lines: where no node runs, nothing was written; else its node is told
     abbrev pub Sofar : Option (Running K) → List ℕ → Type 0
     Sofar None out = out ≡ []
@@ -153,7 +156,7 @@ module _ {K : Type 0} (keeper : Keeper K) (source : Source K) (Of : List Node �
         let tells = sofar (commits_honest is.commits honest) in
         subst (Tells next) (append_assoc earlier before (echo_of true line ++ out))
         (told_more tells.setup (IsOpen Of tells.setup now) next (earlier ++ before) line out some plain tells.sofar
-        (list_part keeper Of tells.setup reads keep few_law now next number is_number line turn out is told))
+        (list_part keeper Of tells.setup reads keep now next number is_number line turn out is told))
 
     module _ (Asks : List Node → Node → ℕ → Stored K → K → Type 0)
         (first_line : (number : ℕ) (line : List ℕ) (setup : List Node) (m : Node) (rows : ℕ) (node : Stored K) (out : List ℕ) → IsLineNumber number → 0 < length line → IsPlain line → setup_in line ≡ Ok setup
@@ -214,7 +217,7 @@ pub read_so : {K : Type 0} (Of : List Node → Node → Type 0) (setup : List No
 read_so Of setup now out part plain sofar =
     let at = sofar.reads [] in
     let lines : lines_in (out ++ part) ≡ numbered 0 sofar.texts [] = ap (λ s. lines_in (s ++ part)) sofar.is_written ∙ lines_are sofar.texts part sofar.plain plain in
-    (at.2.told, ((at.0, (subst (λ (all : List Line). ReadTo setup [] all [] at.0) (sym lines) at.1, ap (λ (z : Standing). z.told) at.2.stands)), at.2.is))
+    (at.2.told, (at.0, subst (λ (all : List Line). ReadTo setup [] all [] at.0) (sym lines) at.1, ap (λ (z : Standing). z.told) at.2.stands), at.2.is)
 
 pub whole : {K : Type 0} (Of : List Node → Node → Type 0) (setup : List Node) (now : Running K) (out part : List ℕ) → IsPlain part → ReadsTo setup out (IsOpen Of setup now) → IsTranscript Of now (out ++ part)
 whole Of setup now out part plain sofar =
@@ -223,19 +226,19 @@ whole Of setup now out part plain sofar =
 
 -- ---- a run over a store without rows
 
-module _ {K : Type 0} (keeper : Keeper K) (source : Source K) (reads : DoneLinesAreRead) (keep : NodesKeepOpenings) (few_law : SeveralAreFew) (held : EmptyIsHeld) (can : OpeningsCanStartAgain) (setups : ReadsSetups)
+module _ {K : Type 0} (keeper : Keeper K) (source : Source K) (reads : DoneLinesAreRead) (keep : NodesKeepOpenings) (held : EmptyIsHeld) (can : OpeningsCanStartAgain) (setups : ReadsSetups)
     (wanted : Option (List ℕ)) where
   pub first_told : {opened : List ℕ} {lines : List (List ℕ)} {ran : Ran} {out : List ℕ} {s : Stage K} (run : AreNumbered (NodeLineGives keeper source) true (opening wanted opened) lines ran out s)
       (now : Running K) → s.running ≡ Some now → All IsPlain lines → IsWhole (length lines) → AreTold run → RunOpensSo (HasNoRows keeper) run → keeper.is_honest now.node.keep
       → Tells keeper source (IsAsked wanted) now out
   first_told run now is plain few told asks honest =
-      running_told keeper source (IsAsked wanted) reads keep few_law wanted [] (HasNoRows keeper)
+      running_told keeper source (IsAsked wanted) reads keep wanted [] (HasNoRows keeper)
       (λ number line setup m rows node out is_number some plain read is begins honest no_rows written.
         told_more keeper source (IsAsked wanted) setup (λ z. z ≡ nothing_known) (record { party = party_of m; node = node }) [] line out some plain (nothing_read setup)
         (opening_part keeper source held can (IsAsked wanted) reads setups number line setup m rows node out is_number read is.within is begins honest no_rows written))
       run now is plain few told asks honest
 
-pub runs_are_transcripts : {K : Type 0} (keeper : Keeper K) (source : Source K) → DoneLinesAreRead → NodesKeepOpenings → SeveralAreFew → EmptyIsHeld → OpeningsCanStartAgain → ReadsSetups → RunsAreTranscripts keeper source
-runs_are_transcripts keeper source reads keep few_law held can setups wanted opened lines ran out s now run is plain few honest told asks =
-    let tells = first_told keeper source reads keep few_law held can setups wanted run now is plain few told asks honest in
+pub runs_are_transcripts : {K : Type 0} (keeper : Keeper K) (source : Source K) → DoneLinesAreRead → NodesKeepOpenings → EmptyIsHeld → OpeningsCanStartAgain → ReadsSetups → RunsAreTranscripts keeper source
+runs_are_transcripts keeper source reads keep held can setups wanted opened lines ran out s now run is plain few honest told asks =
+    let tells = first_told keeper source reads keep held can setups wanted run now is plain few told asks honest in
     subst (IsTranscript (IsAsked wanted) now) (append-nil out) (whole (IsAsked wanted) tells.setup now out [] (All-nil (λ b. b ≢ 10)) tells.sofar)

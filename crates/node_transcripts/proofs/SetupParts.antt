@@ -109,7 +109,7 @@ module _ {K : Type 0} (keeper : Keeper K) (source : Source K) (held : EmptyIsHel
         by_answer setup (λ s. s ≡ nothing_known) (IsToldOf {K = K} Of setup (record { party = party_of m; node = node })) line out (opened_line number (party_of m) 0 0) []
         (done.Opened (party_of m) 0 0) (All-nil IsReadable) (reads.opened number (party_of m) 0 0 is_number (is_setup.parties m within) (omega arith) (omega arith)) text_is
         (λ at_line at s nothing.
-          (opening_told setup m, (First (record {
+          (opening_told setup m, First (record {
             member = m;
             among = within;
             is_new = λ t in'. absurd (none_of t in');
@@ -119,7 +119,7 @@ module _ {K : Type 0} (keeper : Keeper K) (source : Source K) (held : EmptyIsHel
             answered = refl;
             first = ap (λ (z : Standing). z.told) nothing;
             stands = refl;
-          }), record { setup_is = refl; member = is; state = sym anew.is; party = refl; of_member = of_itself setup m })))
+          }), record { setup_is = refl; member = is; state = sym anew.is; party = refl; of_member = of_itself setup m }))
 
 -- ---- the first line of a later run
 
@@ -148,7 +148,7 @@ module _ {K : Type 0} (keeper : Keeper K) (source : Source K) (Of : List Node �
           }) in
         let state_is : restarted t.replay.state ≡ node.state = ap restarted stood.is.state ∙ sym again in
         let opened : Opened = record { party = party_of m; rows = rows; serial = last_serial node.state; number = at } in
-        (restarted_told t, (subst (λ (z : Standing). Follows setup [] z (part_of at_line at line [] (done.Opened (party_of m) rows (last_serial node.state))) (begun (restarted_told t))) (sym stood.stands)
+        (restarted_told t, subst (λ (z : Standing). Follows setup [] z (part_of at_line at line [] (done.Opened (party_of m) rows (last_serial node.state))) (begun (restarted_told t))) (sym stood.stands)
           (Later (record {
             old = t;
             new = restarted_told t;
@@ -170,4 +170,4 @@ module _ {K : Type 0} (keeper : Keeper K) (source : Source K) (Of : List Node �
             state = state_is;
             party = ap party_of is_m;
             of_member = keep.by_restarts (opening_of setup t.replay.member) t.replay.state stood.is.of_member;
-          })))
+          }))
