@@ -98,7 +98,7 @@ either_is : (a b : Bool) → IsTrue (either a b) ↔ (IsTrue a ⊎ IsTrue b)
 either_is true b = ((λ h. inl refl), (λ h. refl))
 either_is false b = ((λ h. inr h), (λ h. elim h [ | inl none ↦ absurd (not_true none) | inr now ↦ now ]))
 
-module _ {K : Type 0} (Of : List Node → Node → Type 0) (setup : List Node) (reads : DoneLinesAreRead) (keep : NodesKeepOpenings) (now : Running K) (number : ℕ) (is_number : IsLineNumber number) where
+module _ {K : Type 0} (Of : List Node → Node → Type 0) (setup : List Node) (law : DoneLinesAreRead) (keep : NodesKeepOpenings) (now : Running K) (number : ℕ) (is_number : IsLineNumber number) where
   -- the node is told as it is in the midst of a line
   abbrev pub at_state : NodeState → Running K
   at_state s = record { party = now.party; node = record { state = s; keep = now.node.keep } }
@@ -161,11 +161,11 @@ module _ {K : Type 0} (Of : List Node → Node → Type 0) (setup : List Node) (
     pub fits : (at : ℕ) → FitsEntry (Answered says at) packets changed packets
 
   says_step : (place : ℕ) (packets : List Packet) (changed : Bool) → IsWhole place → AreReadable packets → SaysStep place packets changed
-  says_step place [] false whole are = record { says = done.Idle; reads = reads.idle number (Some place) is_number whole; fits = λ at. (refl, refl, refl) }
-  says_step place [] true whole are = record { says = done.Stepped 0; reads = reads.stepped number (Some place) 0 is_number whole (omega arith); fits = λ at. (refl, refl, inl refl) }
+  says_step place [] false whole are = record { says = done.Idle; reads = law.idle number (Some place) is_number whole; fits = λ at. (refl, refl, refl) }
+  says_step place [] true whole are = record { says = done.Stepped 0; reads = law.stepped number (Some place) 0 is_number whole (omega arith); fits = λ at. (refl, refl, inl refl) }
   says_step place (p ∷ ps) changed whole are = record {
     says = done.Stepped (length (p ∷ ps));
-    reads = reads.stepped number (Some place) (length (p ∷ ps)) is_number whole are.few;
+    reads = law.stepped number (Some place) (length (p ∷ ps)) is_number whole are.few;
     fits = λ at. (refl, refl, inr (λ e. absurd (omega (arith, ap length e))));
   }
 
@@ -194,25 +194,25 @@ module _ {K : Type 0} (Of : List Node → Node → Type 0) (setup : List Node) (
             }) (says.fits at) (λ u is. keep.by_steps (opening_of setup u.replay.member) s next deed (subst (λ (n : NodeState). IsOfOpening (opening_of setup u.replay.member) n) is.state is.of_member) step);
       }
   placed_answer {s = s} {next = next} {place = place} {read = read} {out = out} (lists.WasUnstored x own refused taken written none same) whole are =
-      says_so s next place read out (idle_line number (Some place)) done.Idle (reads.idle number (Some place) is_number whole) written
+      says_so s next place read out (idle_line number (Some place)) done.Idle (law.idle number (Some place) is_number whole) written
       (λ at e is_read t told.
         happens s next x [] false (Answered done.Idle at) e (is_read ∙ own.is) own.same t told
         (subst (λ (n : NodeState). Leads s x.kind [] false n) (sym same) (unstored_leads s x.kind refused)) (refl, refl, refl)
         (λ u is. subst (λ (n : NodeState). IsOfOpening (opening_of setup u.replay.member) n) (is.state ∙ sym same) is.of_member))
   placed_answer {s = s} {next = next} {place = place} {read = read} {out = out} (lists.IsElsewhere x is_event other taken written none same) whole are =
-      says_so s next place read out (skipped_line number (Some place)) done.Skipped (reads.skipped number (Some place) is_number whole) written
+      says_so s next place read out (skipped_line number (Some place)) done.Skipped (law.skipped number (Some place) is_number whole) written
       (λ at e is_read t told.
         stays s next (Answered done.Skipped at) e t told same (following.Skipped x (is_read ∙ is_event) tt (λ own. absurd (other (own ∙ ap key told.party)))))
   placed_answer {s = s} {next = next} {place = place} {read = read} {out = out} (lists.IsOfOtherRole x own stored nothing taken written none same) whole are =
-      says_so s next place read out (skipped_line number (Some place)) done.Skipped (reads.skipped number (Some place) is_number whole) written
+      says_so s next place read out (skipped_line number (Some place)) done.Skipped (law.skipped number (Some place) is_number whole) written
       (λ at e is_read t told.
         stays s next (Answered done.Skipped at) e t told same
         (following.Skipped x (is_read ∙ own.is) tt (λ is_own. subst (λ (n : NodeState). Passes n x.kind) (sym told.state) (record { taken = stored; nothing = nothing }))))
   placed_answer {s = s} {next = next} {place = place} {read = read} {out = out} (lists.IsMalformed fault is_fault other refused written none same) whole are =
-      says_so s next place read out (malformed_line number (Some place) fault) (done.Malformed (Some fault)) (reads.malformed number (Some place) fault is_number whole) written
+      says_so s next place read out (malformed_line number (Some place) fault) (done.Malformed (Some fault)) (law.malformed number (Some place) fault is_number whole) written
       (λ at e is_read t told. stays s next (Answered (done.Malformed (Some fault)) at) e t told same (following.Malformed fault (is_read ∙ is_fault) refl))
   placed_answer {s = s} {next = next} {place = place} {read = read} {out = out} (lists.IsRefused x own input brings fault refuses other refused written none same) whole are =
-      says_so s next place read out (refused_line number (Some place) fault) (done.Refused (Some fault)) (reads.refused number (Some place) fault is_number whole) written
+      says_so s next place read out (refused_line number (Some place) fault) (done.Refused (Some fault)) (law.refused number (Some place) fault is_number whole) written
       (λ at e is_read t told.
         stays s next (Answered (done.Refused (Some fault)) at) e t told same
         (following.Refused x (is_read ∙ own.is) fault refl (own.same ∙ ap key (sym told.party))
@@ -332,14 +332,14 @@ module _ {K : Type 0} (Of : List Node → Node → Type 0) (setup : List Node) (
       omega (arith, few)
 
 -- the whole of a line of several events
-pub list_part : {K : Type 0} (keeper : Keeper K) (Of : List Node → Node → Type 0) (setup : List Node) (reads : DoneLinesAreRead) (keep : NodesKeepOpenings)
+pub list_part : {K : Type 0} (keeper : Keeper K) (Of : List Node → Node → Type 0) (setup : List Node) (law : DoneLinesAreRead) (keep : NodesKeepOpenings)
     (now next : Running K) (number : ℕ) (is_number : IsLineNumber number) (line : List ℕ) (turn : Turn) (out : List ℕ) (is : ListTurn keeper now number line turn out next) → AreToldEach is.carries.done
     → ReadsOn setup (IsOpen Of setup now) line out (IsToldOf Of setup next)
-list_part keeper Of setup reads keep now next number is_number line turn out is told =
+list_part keeper Of setup law keep now next number is_number line turn out is told =
     let events = is.events in
-    let whole = whole_few Of setup reads keep now number is_number line events is.read in
-    let all = all_answered Of setup reads keep now number is_number is.carries.done whole told in
-    let says = reads.all number (length events) is_number whole in
+    let whole = whole_few Of setup law keep now number is_number line events is.read in
+    let all = all_answered Of setup law keep now number is_number is.carries.done whole told in
+    let says = law.all number (length events) is_number whole in
     record {
       texts = all.texts ++ says.line ∷ [];
       is_written = is.carries.written ∙ ap (λ l. l ++ all_line number (length events)) all.is_written ∙ ap (λ l. written all.texts ++ l) says.ends ∙ sym (written_both all.texts (says.line ∷ []));
@@ -381,5 +381,5 @@ list_part keeper Of setup reads keep now next number is_number line turn out is 
     }
   where
     -- the node behind the line is the one after its last event
-    told_behind : (t : Told) → IsToldOf Of setup (at_state Of setup reads keep now number is_number next.node.state) t → IsToldOf Of setup next t
+    told_behind : (t : Told) → IsToldOf Of setup (at_state Of setup law keep now number is_number next.node.state) t → IsToldOf Of setup next t
     told_behind t told = record { setup_is = told.setup_is; member = told.member; state = told.state; party = told.party ∙ sym is.party; of_member = told.of_member }

@@ -3,6 +3,7 @@ use Rattle.std.proofs.Common.{◌≡◌, ◌≢◌, ℕ, zero, suc, ◌+◌, tru
 use Rattle.std.proofs.lemmas.List.{append-nil, append_assoc, take-append-drop}
 use Rattle.json_text.specs.Fault.{Read}
 use Rattle.ocpi_types.specs.declared.node_events.NodeEvent.{NodeEvent}
+use Rattle.ocpi_types.specs.declared.setup.Node.{Node}
 use Rattle.world_steps.specs.Steps.{NodeEvent as Deed}
 use Rattle.world_steps.specs.World.{NodeState}
 use Rattle.line_runs.specs.Numbered.{begun_answer, begun_between, begun_echo, begun_end, echo_of, numbered_end, numbered_stop}
@@ -39,27 +40,27 @@ line_ends : {K : Type 0} {keeper : Keeper K} {now next : Running K} {stop stoppe
 line_ends (answers.OneEvent is) ends = ended_empty is ends
 line_ends (answers.SeveralEvents is same) ends = absurd (done_goes_on is.carries.done ends)
 
+abbrev is_none : {X : Type 0} → Option X → Type 0
+is_none None = Unit {0}
+is_none (Some x) = ⊥
+
 turn_ends : {K : Type 0} (keeper : Keeper K) (source : Source K) (q : Option (Running K)) (now : Running K) (s t : Stage K) (number : ℕ) (line : List ℕ) (out : List ℕ) → q ≡ Some now
     → NodeTurn keeper source q s number line Ended out t → out ≡ []
-turn_ends keeper source None now s t number line out e gives = absurd (subst (λ (q : Option (Running _)). is_none q) e tt)
-  where
-    abbrev is_none : Option (Running _) → Type 0
-    is_none None = Unit {0}
-    is_none (Some x) = ⊥
+turn_ends keeper source None now s t number line out e gives = absurd (subst is_none e tt)
 turn_ends keeper source (Some old) now s t number line out e (inl goes) = line_ends goes.is refl
 turn_ends keeper source (Some old) now s t number line out e (inr ends) = ends.written
 
 -- at the end of an input nothing is written behind a node
 end_gives : {K : Type 0} (q : Option (Running K)) (now : Running K) (ran : Ran) (out : List ℕ) → q ≡ Some now → NodeEnd q ran out → out ≡ []
-end_gives q now ran out e gives = (subst (λ (z : Option (Running _)). NodeEnd z ran out) e gives).1
+end_gives {K} q now ran out e gives = (subst (λ (z : Option (Running K)). NodeEnd z ran out) e gives).1
 
 take_none : (n : ℕ) (out : List ℕ) → out ≡ [] → take n out ≡ []
 take_none zero out none = refl
 take_none (suc n) out none = ap (take (suc n)) none
 
 -- of the node that runs
-runs_on : {K : Type 0} (Of : _) (q : Option (Running K)) (now : Running K) (out : List ℕ) → q ≡ Some now → IsTranscript Of now out → IsCutTranscript Of now q out
-runs_on Of q now out e is = subst (λ (z : Option (Running _)). IsCutTranscript Of now z out) (sym e) (inl is)
+runs_on : {K : Type 0} (Of : List Node → Node → Type 0) (q : Option (Running K)) (now : Running K) (out : List ℕ) → q ≡ Some now → IsTranscript Of now out → IsCutTranscript Of now q out
+runs_on {K} Of q now out e is = subst (λ (z : Option (Running K)). IsCutTranscript Of now z out) (sym e) (inl is)
 
 module _ {K : Type 0} (keeper : Keeper K) (source : Source K) (reads : DoneLinesAreRead) (keep : NodesKeepOpenings) (held : EmptyIsHeld) (can : OpeningsCanStartAgain) (setups : ReadsSetups) where
   pub whole_runs_are_transcripts : WholeRunsAreTranscripts keeper source
