@@ -60,13 +60,13 @@ module _ (setup : List Node) (Stands : Standing → Type 0) (After : Told → Ty
       let behind : List Line = record { number = k + 1; bytes = line } ∷ numbered (k + 1) (take count on.texts) [] in
       let all : List (List ℕ) = before.texts ++ line ∷ take count on.texts in
       let lines : numbered 0 all [] ≡ numbered 0 before.texts behind =
-          numbered_both 0 before.texts (line ∷ take count on.texts) [] ∙ ap (numbered 0 before.texts) (some_line (k + 1) line (numbered (k + 1) (take count on.texts) []) some) in
+      numbered_both 0 before.texts (line ∷ take count on.texts) [] ∙ ap (numbered 0 before.texts) (some_line (k + 1) line (numbered (k + 1) (take count on.texts) []) some) in
       let sofar = before.reads behind in
       let goes = on.goes count (k + 1) (k + 1) sofar.0 sofar.2 in
       tells_so (out ++ ((line ++ 10 ∷ written (take count on.texts)) ++ part)) part all
       (sym (append_assoc out (line ++ 10 ∷ written (take count on.texts)) part)
-       ∙ ap (λ s. (s ++ (line ++ 10 ∷ written (take count on.texts))) ++ part) before.is_written
-       ∙ ap (λ s. s ++ part) (sym (written_both before.texts (line ∷ take count on.texts))))
+      ∙ ap (λ s. (s ++ (line ++ 10 ∷ written (take count on.texts))) ++ part) before.is_written
+      ∙ ap (λ s. s ++ part) (sym (written_both before.texts (line ∷ take count on.texts))))
       (All-append IsPlain before.texts (line ∷ take count on.texts) before.plain (All-cons IsPlain line (take count on.texts) plain (All-take IsPlain count on.texts on.plain))) last
       (begun goes.told) (subst (λ (ls : List Line). ReadTo setup [] ls [] (begun goes.told)) (sym lines) (More goes.part sofar.1 goes.is goes.follows)) goes.told refl goes.after
 
@@ -75,7 +75,7 @@ module _ (setup : List Node) (Stands : Standing → Type 0) (After : Told → Ty
       → TellsSo setup (out ++ front) After
   cut_so out line more front rest some plain before on e =
       let lines : written (line ∷ on.texts) ≡ front ++ rest =
-          sym (ap (λ s. s ++ more) (echo_is line some) ∙ append_assoc line (10 ∷ []) more ∙ ap (λ s. line ++ 10 ∷ s) on.is_written) ∙ e in
+      sym (ap (λ s. s ++ more) (echo_is line some) ∙ append_assoc line (10 ∷ []) more ∙ ap (λ s. line ++ 10 ∷ s) on.is_written) ∙ e in
       of_cut (cut_lines (line ∷ on.texts) (All-cons IsPlain line on.texts plain on.plain) front rest lines)
     where
       counted : (count : ℕ) (part : List ℕ) → front ≡ written (take count (line ∷ on.texts)) ++ part → IsPlain part → TellsSo setup (out ++ front) After

@@ -105,7 +105,7 @@ module _ (setup : List Node) (t : Told) (number at : ℕ) (line : List ℕ) (x :
     holds = (x, read, refl);
     shape = refl;
     changed = changed;
-    come = OneMore (event_of number line x) NoneYet gives ((λ h. inr h), (λ h. elim h [ | inl none ↦ absurd (not_true none) | inr now ↦ now ]));
+    come = OneMore (event_of number line x) NoneYet gives ((λ h. inr h), (λ h. elim h [ inl none ↦ absurd (not_true none) | inr now ↦ now ]));
     shows = tt;
     within = refl;
     stood = refl;
@@ -143,13 +143,13 @@ module _ (setup : List Node) (t : Told) (number : ℕ) (line : List ℕ) (x : No
     shape = refl;
     changed = changed;
     come = OneMore (event_of number line x) NoneYet (inl (record {
-        event = x;
-        reads = refl;
-        own = own;
-        enters = entered t (echoed number line) x.kind packets changed s leads;
-        fits = (rest, e);
-        sources = refl;
-      })) ((λ h. inr h), (λ h. elim h [ | inl none ↦ absurd (not_true none) | inr now ↦ now ]));
+      event = x;
+      reads = refl;
+      own = own;
+      enters = entered t (echoed number line) x.kind packets changed s leads;
+      fits = (rest, e);
+      sources = refl;
+    })) ((λ h. inr h), (λ h. elim h [ inl none ↦ absurd (not_true none) | inr now ↦ now ]));
     shows = λ nothing.
         let size = ap length nothing.1 in
         absurd (omega (arith, size, some));

@@ -157,47 +157,53 @@ module _ {K : Type 0} (keeper : Keeper K) (Of : List Node → Node → Type 0) (
       each = tells.each;
       reads = reads.stepped number None (length packets) is_number tt tells.few;
       is = written;
-      leads = λ at_line at t told.
-          (entry_more t (echoed at_line line) x.kind packets next.node.state,
-           happened setup t at_line at line x is.read packets (done.Stepped (length packets)) changed next.node.state (own_of now line x t is told) (lead_of t x packets changed told does) (refl, refl, some),
-            more_told now next t (echoed at_line line) x.kind packets changed party does told);
-      cuts = λ at_line t first rest told e some_first.
-          (entry_more t (echoed at_line line) x.kind packets next.node.state,
-           cut_short setup t at_line line x is.read packets first rest changed next.node.state (own_of now line x t is told) (lead_of t x packets changed told does) e some_first,
-            more_told now next t (echoed at_line line) x.kind packets changed party does told);
+      leads = λ at_line at t told. (
+        entry_more t (echoed at_line line) x.kind packets next.node.state,
+        happened setup t at_line at line x is.read packets (done.Stepped (length packets)) changed next.node.state (own_of now line x t is told) (lead_of t x packets changed told does) (refl, refl, some),
+        more_told now next t (echoed at_line line) x.kind packets changed party does told,
+      );
+      cuts = λ at_line t first rest told e some_first. (
+        entry_more t (echoed at_line line) x.kind packets next.node.state,
+        cut_short setup t at_line line x is.read packets first rest changed next.node.state (own_of now line x t is told) (lead_of t x packets changed told does) e some_first,
+        more_told now next t (echoed at_line line) x.kind packets changed party does told,
+      );
     }
     event_answer turn out (turns.WasIdle x is does taken written party same) ends tells =
         sent_none now next line out (idle_line number None) done.Idle (reads.idle number None is_number tt) written
-        (λ at_line at t told.
-          (entry_more t (echoed at_line line) x.kind [] next.node.state,
-           happened setup t at_line at line x is.read [] done.Idle false next.node.state (own_of now line x t is told) (lead_of t x [] false told does) (refl, refl, refl),
-            more_told now next t (echoed at_line line) x.kind [] false party does told))
+        (λ at_line at t told. (
+          entry_more t (echoed at_line line) x.kind [] next.node.state,
+          happened setup t at_line at line x is.read [] done.Idle false next.node.state (own_of now line x t is told) (lead_of t x [] false told does) (refl, refl, refl),
+          more_told now next t (echoed at_line line) x.kind [] false party does told,
+        ))
     event_answer turn out (turns.WasUnstored x is refused taken written left same) ends tells =
         sent_none now next line out (idle_line number None) done.Idle (reads.idle number None is_number tt) written
-        (λ at_line at t told.
-          (entry_more t (echoed at_line line) x.kind [] t.replay.state,
-           happened setup t at_line at line x is.read [] done.Idle false t.replay.state (own_of now line x t is told) (unstored_leads t.replay.state x.kind refused) (refl, refl, refl),
-            left_told now next (entry_more t (echoed at_line line) x.kind [] t.replay.state) left
-            (record { setup_is = told.setup_is; member = told.member; state = told.state; party = told.party; of_member = told.of_member })))
+        (λ at_line at t told. (
+          entry_more t (echoed at_line line) x.kind [] t.replay.state,
+          happened setup t at_line at line x is.read [] done.Idle false t.replay.state (own_of now line x t is told) (unstored_leads t.replay.state x.kind refused) (refl, refl, refl),
+          left_told now next (entry_more t (echoed at_line line) x.kind [] t.replay.state) left
+              (record { setup_is = told.setup_is; member = told.member; state = told.state; party = told.party; of_member = told.of_member }),
+        ))
     event_answer turn out (turns.IsElsewhere x read other taken written left same) ends tells =
         sent_none now next line out (skipped_line number None) done.Skipped (reads.skipped number None is_number tt) written
         (λ at_line at t told.
-          (t, stayed setup t at_line at line x read done.Skipped (following.Skipped x refl tt (λ own. absurd (other (own ∙ ap key told.party)))), left_told now next t left told))
+        (t, stayed setup t at_line at line x read done.Skipped (following.Skipped x refl tt (λ own. absurd (other (own ∙ ap key told.party)))), left_told now next t left told))
     event_answer turn out (turns.IsOfOtherRole x is passes taken written party same) ends tells =
         sent_none now next line out (skipped_line number None) done.Skipped (reads.skipped number None is_number tt) written
         (λ at_line at t told.
-          let passed : Passes t.replay.state x.kind = subst (λ (s : NodeState). Passes s x.kind) (sym told.state) (record { taken = passes.taken; nothing = passes.nothing }) in
-          (t, stayed setup t at_line at line x is.read done.Skipped (following.Skipped x refl tt (λ own. passed)), same_told now next t (ap (λ n. n.state) passes.same) party told))
+        let passed : Passes t.replay.state x.kind = subst (λ (s : NodeState). Passes s x.kind) (sym told.state) (record { taken = passes.taken; nothing = passes.nothing }) in
+        (t, stayed setup t at_line at line x is.read done.Skipped (following.Skipped x refl tt (λ own. passed)), same_told now next t (ap (λ n. n.state) passes.same) party told))
     event_answer turn out (turns.IsMalformed fault fails other refused written left same) ends tells =
         sent_none now next line out (malformed_line number None fault) (done.Malformed (Some fault)) (reads.malformed number None fault is_number tt) written
         (λ at_line at t told. (t, no_event setup t at_line at line fault (fits_event fault line fails other tells), left_told now next t left told))
     event_answer turn out (turns.IsRefused x is fault refuses refused written party same) ends tells =
         sent_none now next line out (refused_line number None fault) (done.Refused (Some fault)) (reads.refused number None fault is_number tt) written
         (λ at_line at t told.
-          let why : Refuses t.replay.state x.kind fault = subst (λ (s : NodeState). Refuses s x.kind fault) (sym told.state)
-              (record { input = refuses.input; brings = refuses.brings; refuses = refuses.refuses; other = refuses.other }) in
-          (t, stayed setup t at_line at line x is.read (done.Refused (Some fault)) (following.Refused x refl fault refl (own_of now line x t is told) why),
-           same_told now next t (ap (λ n. n.state) refuses.same) party told))
+        let why : Refuses t.replay.state x.kind fault = subst (λ (s : NodeState). Refuses s x.kind fault) (sym told.state)
+        (record { input = refuses.input; brings = refuses.brings; refuses = refuses.refuses; other = refuses.other }) in (
+          t,
+          stayed setup t at_line at line x is.read (done.Refused (Some fault)) (following.Refused x refl fault refl (own_of now line x t is told) why),
+          same_told now next t (ap (λ n. n.state) refuses.same) party told,
+        ))
     event_answer turn out (turns.IsStarved x is refused written left same) ends tells =
         sent_none now next line out (refused_line number None node_fault.Memory) (done.Refused (Some node_fault.Memory)) (reads.refused number None node_fault.Memory is_number tt) written
         (λ at_line at t told. (t, starved setup t at_line at line tells, left_told now next t left told))
@@ -208,8 +214,8 @@ module _ {K : Type 0} (keeper : Keeper K) (Of : List Node → Node → Type 0) (
   whole_answer now next line out a =
       by_answer setup (IsOpen Of setup now) (IsToldOf Of setup next) line out a.text a.packets a.says a.each a.reads a.is
       (λ number at s stood.
-        let led = a.leads number at stood.told stood.is in
-        (led.0, subst (λ (z : Standing). Follows setup [] z (part_of number at line a.packets a.says) (begun led.0)) (sym stood.stands) led.1, led.2))
+      let led = a.leads number at stood.told stood.is in
+      (led.0, subst (λ (z : Standing). Follows setup [] z (part_of number at line a.packets a.says) (begun led.0)) (sym stood.stands) led.1, led.2))
 
 -- ---- the last line of a file
 

@@ -96,7 +96,7 @@ either false b = b
 
 either_is : (a b : Bool) → IsTrue (either a b) ↔ (IsTrue a ⊎ IsTrue b)
 either_is true b = ((λ h. inl refl), (λ h. refl))
-either_is false b = ((λ h. inr h), (λ h. elim h [ | inl none ↦ absurd (not_true none) | inr now ↦ now ]))
+either_is false b = ((λ h. inr h), (λ h. elim h [ inl none ↦ absurd (not_true none) | inr now ↦ now ]))
 
 module _ {K : Type 0} (Of : List Node → Node → Type 0) (setup : List Node) (law : DoneLinesAreRead) (keep : NodesKeepOpenings) (now : Running K) (number : ℕ) (is_number : IsLineNumber number) where
   -- the node is told as it is in the midst of a line
@@ -196,27 +196,27 @@ module _ {K : Type 0} (Of : List Node → Node → Type 0) (setup : List Node) (
   placed_answer {s = s} {next = next} {place = place} {read = read} {out = out} (lists.WasUnstored x own refused taken written none same) whole are =
       says_so s next place read out (idle_line number (Some place)) done.Idle (law.idle number (Some place) is_number whole) written
       (λ at e is_read t told.
-        happens s next x [] false (Answered done.Idle at) e (is_read ∙ own.is) own.same t told
-        (subst (λ (n : NodeState). Leads s x.kind [] false n) (sym same) (unstored_leads s x.kind refused)) (refl, refl, refl)
-        (λ u is. subst (λ (n : NodeState). IsOfOpening (opening_of setup u.replay.member) n) (is.state ∙ sym same) is.of_member))
+      happens s next x [] false (Answered done.Idle at) e (is_read ∙ own.is) own.same t told
+      (subst (λ (n : NodeState). Leads s x.kind [] false n) (sym same) (unstored_leads s x.kind refused)) (refl, refl, refl)
+      (λ u is. subst (λ (n : NodeState). IsOfOpening (opening_of setup u.replay.member) n) (is.state ∙ sym same) is.of_member))
   placed_answer {s = s} {next = next} {place = place} {read = read} {out = out} (lists.IsElsewhere x is_event other taken written none same) whole are =
       says_so s next place read out (skipped_line number (Some place)) done.Skipped (law.skipped number (Some place) is_number whole) written
       (λ at e is_read t told.
-        stays s next (Answered done.Skipped at) e t told same (following.Skipped x (is_read ∙ is_event) tt (λ own. absurd (other (own ∙ ap key told.party)))))
+      stays s next (Answered done.Skipped at) e t told same (following.Skipped x (is_read ∙ is_event) tt (λ own. absurd (other (own ∙ ap key told.party)))))
   placed_answer {s = s} {next = next} {place = place} {read = read} {out = out} (lists.IsOfOtherRole x own stored nothing taken written none same) whole are =
       says_so s next place read out (skipped_line number (Some place)) done.Skipped (law.skipped number (Some place) is_number whole) written
       (λ at e is_read t told.
-        stays s next (Answered done.Skipped at) e t told same
-        (following.Skipped x (is_read ∙ own.is) tt (λ is_own. subst (λ (n : NodeState). Passes n x.kind) (sym told.state) (record { taken = stored; nothing = nothing }))))
+      stays s next (Answered done.Skipped at) e t told same
+      (following.Skipped x (is_read ∙ own.is) tt (λ is_own. subst (λ (n : NodeState). Passes n x.kind) (sym told.state) (record { taken = stored; nothing = nothing }))))
   placed_answer {s = s} {next = next} {place = place} {read = read} {out = out} (lists.IsMalformed fault is_fault other refused written none same) whole are =
       says_so s next place read out (malformed_line number (Some place) fault) (done.Malformed (Some fault)) (law.malformed number (Some place) fault is_number whole) written
       (λ at e is_read t told. stays s next (Answered (done.Malformed (Some fault)) at) e t told same (following.Malformed fault (is_read ∙ is_fault) refl))
   placed_answer {s = s} {next = next} {place = place} {read = read} {out = out} (lists.IsRefused x own input brings fault refuses other refused written none same) whole are =
       says_so s next place read out (refused_line number (Some place) fault) (done.Refused (Some fault)) (law.refused number (Some place) fault is_number whole) written
       (λ at e is_read t told.
-        stays s next (Answered (done.Refused (Some fault)) at) e t told same
-        (following.Refused x (is_read ∙ own.is) fault refl (own.same ∙ ap key (sym told.party))
-        (subst (λ (n : NodeState). Refuses n x.kind fault) (sym told.state) (record { input = input; brings = brings; refuses = refuses; other = other }))))
+      stays s next (Answered (done.Refused (Some fault)) at) e t told same
+      (following.Refused x (is_read ∙ own.is) fault refl (own.same ∙ ap key (sym told.party))
+      (subst (λ (n : NodeState). Refuses n x.kind fault) (sym told.state) (record { input = input; brings = brings; refuses = refuses; other = other }))))
 
   -- ---- all events so far
 
@@ -267,7 +267,7 @@ module _ {K : Type 0} (Of : List Node → Node → Type 0) (setup : List Node) (
         let at = number_behind k one.packets in
         let last : Line = record { number = at; bytes = one.reads.line } in
         let whole : numbered k (answer_texts one.packets one.reads.line) behind ≡ numbered k (texts_of one.packets) (last ∷ behind) =
-            numbered_both k (texts_of one.packets) (one.reads.line ∷ []) behind ∙ ap (numbered k (texts_of one.packets)) (some_line at one.reads.line behind one.reads.some) in
+        numbered_both k (texts_of one.packets) (one.reads.line ∷ []) behind ∙ ap (numbered k (texts_of one.packets)) (some_line at one.reads.line behind one.reads.some) in
         subst (λ (ls : List Line). Ends ls (answer_at k ∷ more) qs end rest) (sym whole)
         (AtEvent (packets_sent k one.packets (last ∷ behind) one.each) ((one.reads.other, one.reads.tells), refl, refl) is)
 
@@ -280,10 +280,13 @@ module _ {K : Type 0} (Of : List Node → Node → Type 0) (setup : List Node) (
         let came = one.came (number_behind (lines_at n) one.packets) parts.last parts.last_is sofar.0 sofar.3 in
         let size : length parts.front ≡ length (before.answers n) = map_size event_at parts.front events parts.front_is ∙ sym (before.count n) in
         let at : slice_get p.answers (length parts.front) ≡ Some (answer_at (lines_at n)) =
-            ap (λ l. slice_get l (length parts.front)) joined ∙ got_between (before.answers n) (answer_at (lines_at n)) more (length parts.front) size in
-        (came.told, either sofar.1 came.changed,
-         subst (λ (l : List LineEvent). ComeInTurn p t l (either sofar.1 came.changed) came.told) (sym parts.is)
-          (OneMore parts.last sofar.2 (given p (length parts.front) (answer_at (lines_at n)) at sofar.0 came.told parts.last came.changed came.gives) (either_is sofar.1 came.changed)), came.is)
+        ap (λ l. slice_get l (length parts.front)) joined ∙ got_between (before.answers n) (answer_at (lines_at n)) more (length parts.front) size in (
+          came.told,
+          either sofar.1 came.changed,
+          subst (λ (l : List LineEvent). ComeInTurn p t l (either sofar.1 came.changed) came.told) (sym parts.is)
+              (OneMore parts.last sofar.2 (given p (length parts.front) (answer_at (lines_at n)) at sofar.0 came.told parts.last came.changed came.gives) (either_is sofar.1 came.changed)),
+          came.is,
+        )
       where
         given : (p : LineRead) (place : ℕ) (a : EventAnswer) → slice_get p.answers place ≡ Some a → (t u : Told) (e : LineEvent) (changed : Bool) → Gives t e (Answered a.done a.number) a.packets changed u
             → Gives t e (ending_at p place) (packets_at p place) changed u
@@ -303,13 +306,13 @@ module _ {K : Type 0} (Of : List Node → Node → Type 0) (setup : List Node) (
           let events_size = length-append events (read ∷ []) in
           omega (arith, front, whole, events_size);
       places = λ n i a at. elim (got_pushed (before.answers n) (answer_at (lines_at n)) i a at) [
-          | inl earlier ↦ before.places n i a earlier
-          | inr here ↦ sym (ap (λ (x : EventAnswer). x.event) here.1) ∙ sym (here.0 ∙ before.count n)
-        ];
+        | inl earlier ↦ before.places n i a earlier
+        | inr here ↦ sym (ap (λ (x : EventAnswer). x.event) here.1) ∙ sym (here.0 ∙ before.count n)
+      ];
       ends = λ n behind rest more qs end is.
           subst (λ (ls : List Line). Ends ls (answers_at n ++ more) qs end rest) (sym (numbered_both n before.texts (answer_texts one.packets one.reads.line) behind))
           (subst (λ (told : List EventAnswer). Ends (numbered n before.texts (numbered (lines_at n) (answer_texts one.packets one.reads.line) behind)) told qs end rest)
-            (sym (append_assoc (before.answers n) (answer_at (lines_at n) ∷ []) more))
+          (sym (append_assoc (before.answers n) (answer_at (lines_at n) ∷ []) more))
           (before.ends n (numbered (lines_at n) (answer_texts one.packets one.reads.line) behind) rest (answer_at (lines_at n) ∷ more) qs end (one_ends (lines_at n) behind rest more qs end is)));
       come = come_more;
     }
@@ -349,7 +352,7 @@ list_part keeper Of setup law keep now next number is_number line turn out is to
           let last : Line = record { number = at; bytes = says.line } in
           let p : LineRead = record { line = record { number = at_line; bytes = line }; answers = all.answers n; packets = []; ending = Answered (done.All (length events)) at } in
           let behind : numbered n (all.texts ++ says.line ∷ []) rest ≡ numbered n all.texts (last ∷ rest) =
-              numbered_both n all.texts (says.line ∷ []) rest ∙ ap (numbered n all.texts) (some_line at says.line rest says.some) in
+          numbered_both n all.texts (says.line ∷ []) rest ∙ ap (numbered n all.texts) (some_line at says.line rest says.some) in
           let held : EventsOf at_line line events = events_of at_line line events is.read in
           let sofar = all.come n p [] (sym (append-nil (all.answers n))) held.all held.are stood.told stood.is in
           let size = map_size event_at held.all events held.are in

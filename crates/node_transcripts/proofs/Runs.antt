@@ -71,7 +71,7 @@ line_more setup Stands After out line more some plain before on =
       reads = λ rest.
           let behind : List Line = record { number = k + 1; bytes = line } ∷ numbered (k + 1) on.texts rest in
           let whole : numbered 0 (before.texts ++ line ∷ on.texts) rest ≡ numbered 0 before.texts behind =
-              numbered_both 0 before.texts (line ∷ on.texts) rest ∙ ap (numbered 0 before.texts) (some_line (k + 1) line (numbered (k + 1) on.texts rest) some) in
+          numbered_both 0 before.texts (line ∷ on.texts) rest ∙ ap (numbered 0 before.texts) (some_line (k + 1) line (numbered (k + 1) on.texts rest) some) in
           let sofar = before.reads behind in
           let goes = on.goes (k + 1) (k + 1) rest sofar.0 sofar.2 in
           (begun goes.told, subst (λ (all : List Line). ReadTo setup [] all rest (begun goes.told)) (sym whole) (More goes.part sofar.1 goes.is goes.follows), told_of {After = After} goes.told goes.after);
@@ -160,8 +160,8 @@ module _ {K : Type 0} (keeper : Keeper K) (source : Source K) (Of : List Node �
 
     module _ (Asks : List Node → Node → ℕ → Stored K → K → Type 0)
         (first_line : (number : ℕ) (line : List ℕ) (setup : List Node) (m : Node) (rows : ℕ) (node : Stored K) (out : List ℕ) → IsLineNumber number → 0 < length line → IsPlain line → setup_in line ≡ Ok setup
-            → turns.IsMember setup wanted m → (begins : turns.Begins keeper source setup m rows node) → keeper.is_honest node.keep → Asks setup m rows node begins.starts.fresh
-            → out ≡ opened_line number (party_of m) rows (last_serial node.state) → Tells (record { party = party_of m; node = node }) (earlier ++ (echo_of true line ++ out))) where
+        → turns.IsMember setup wanted m → (begins : turns.Begins keeper source setup m rows node) → keeper.is_honest node.keep → Asks setup m rows node begins.starts.fresh
+        → out ≡ opened_line number (party_of m) rows (last_serial node.state) → Tells (record { party = party_of m; node = node }) (earlier ++ (echo_of true line ++ out))) where
       -- the first line
       opens : (s t : Stage K) (number : ℕ) (line : List ℕ) (turn : Turn) (out before : List ℕ) → IsLineNumber number → 0 < length line → IsPlain line → turn ≢ Ended
           → (is : SetupTurn keeper source s number line turn out t) → IsOpenedSo Asks is → s.wanted ≡ wanted → before ≡ [] → Known t (before ++ (echo_of true line ++ out))
@@ -169,7 +169,7 @@ module _ {K : Type 0} (keeper : Keeper K) (source : Source K) (Of : List Node �
           let is_member = subst (λ w. turns.IsMember setup w m) asked is in
           stage_of t (Some (record { party = party_of m; node = node })) (before ++ (echo_of true line ++ out)) (ap (λ (z : Stage K). z.wanted) next ∙ asked) (ap (λ (z : Stage K). z.running) next)
           (λ honest. subst (λ b. Tells (record { party = party_of m; node = node }) (earlier ++ (b ++ (echo_of true line ++ out)))) (sym none)
-            (first_line number line setup m rows node out is_number some plain read is_member begins honest asks written))
+          (first_line number line setup m rows node out is_number some plain read is_member begins honest asks written))
       opens s t number line turn out before is_number some plain ends (turns.Unbegun setup read asked_places spare stop unbegun ended written next) asks asked none = absurd (ends ended)
       opens s t number line turn out before is_number some plain ends (turns.NoSetup fault fails ended written next) asks asked none = absurd (ends ended)
 
@@ -234,8 +234,8 @@ module _ {K : Type 0} (keeper : Keeper K) (source : Source K) (reads : DoneLines
   first_told run now is plain few told asks honest =
       running_told keeper source (IsAsked wanted) reads keep wanted [] (HasNoRows keeper)
       (λ number line setup m rows node out is_number some plain read is begins honest no_rows written.
-        told_more keeper source (IsAsked wanted) setup (λ z. z ≡ nothing_known) (record { party = party_of m; node = node }) [] line out some plain (nothing_read setup)
-        (opening_part keeper source held can (IsAsked wanted) reads setups number line setup m rows node out is_number read is.within is begins honest no_rows written))
+      told_more keeper source (IsAsked wanted) setup (λ z. z ≡ nothing_known) (record { party = party_of m; node = node }) [] line out some plain (nothing_read setup)
+      (opening_part keeper source held can (IsAsked wanted) reads setups number line setup m rows node out is_number read is.within is begins honest no_rows written))
       run now is plain few told asks honest
 
 pub runs_are_transcripts : {K : Type 0} (keeper : Keeper K) (source : Source K) → DoneLinesAreRead → NodesKeepOpenings → EmptyIsHeld → OpeningsCanStartAgain → ReadsSetups → RunsAreTranscripts keeper source

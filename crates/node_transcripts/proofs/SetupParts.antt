@@ -87,10 +87,10 @@ module _ {K : Type 0} (keeper : Keeper K) (source : Source K) (held : EmptyIsHel
       let list_is : starts.reopens.list ≡ holds.0 = ap (list_in []) (sym (starts.reopens.reads honest) ∙ ap rows_of nothing ∙ holds.1) in
       record {
         is = starts.again honest (opening_of setup m) (record {
-            starts = can setup is_setup m among;
-            of_member = of_itself setup m;
-            holds = subst (λ (c : Content). HoldsRows c (opening_of setup m)) (sym nothing) holds;
-          }) ∙ restarted_opening setup m;
+          starts = can setup is_setup m among;
+          of_member = of_itself setup m;
+          holds = subst (λ (c : Content). HoldsRows c (opening_of setup m)) (sym nothing) holds;
+        }) ∙ restarted_opening setup m;
         none = starts.reopens.counts ∙ ap length (list_is ∙ none_held);
       }
 
@@ -108,8 +108,9 @@ module _ {K : Type 0} (keeper : Keeper K) (source : Source K) (held : EmptyIsHel
         let text_is : out ≡ opened_line number (party_of m) 0 0 = written ∙ ap (λ n. opened_line number (party_of m) n (last_serial node.state)) anew.none ∙ ap (opened_line number (party_of m) 0) serial in
         by_answer setup (λ s. s ≡ nothing_known) (IsToldOf {K = K} Of setup (record { party = party_of m; node = node })) line out (opened_line number (party_of m) 0 0) []
         (done.Opened (party_of m) 0 0) (All-nil IsReadable) (reads.opened number (party_of m) 0 0 is_number (is_setup.parties m within) (omega arith) (omega arith)) text_is
-        (λ at_line at s nothing.
-          (opening_told setup m, First (record {
+        (λ at_line at s nothing. (
+          opening_told setup m,
+          First (record {
             member = m;
             among = within;
             is_new = λ t in'. absurd (none_of t in');
@@ -119,7 +120,9 @@ module _ {K : Type 0} (keeper : Keeper K) (source : Source K) (held : EmptyIsHel
             answered = refl;
             first = ap (λ (z : Standing). z.told) nothing;
             stands = refl;
-          }), record { setup_is = refl; member = is; state = sym anew.is; party = refl; of_member = of_itself setup m }))
+          }),
+          record { setup_is = refl; member = is; state = sym anew.is; party = refl; of_member = of_itself setup m },
+        ))
 
 -- ---- the first line of a later run
 
@@ -137,37 +140,40 @@ module _ {K : Type 0} (keeper : Keeper K) (source : Source K) (Of : List Node �
       (done.Opened (party_of m) rows (last_serial node.state)) (All-nil IsReadable)
       (reads.opened number (party_of m) rows (last_serial node.state) is_number ((setups line setup read).parties m within) few whole) written
       (λ at_line at s stood.
-        let t = stood.told in
-        let is_m : t.replay.member ≡ m = only t.replay.member stood.is.member in
-        let of_ended : IsOfOpening (opening_of setup m) ended.node.state =
-            subst (λ (n : NodeState). IsOfOpening (opening_of setup m) n) stood.is.state (subst (λ (x : Node). IsOfOpening (opening_of setup x) t.replay.state) is_m stood.is.of_member) in
-        let again : node.state ≡ restarted ended.node.state = starts.again honest_node ended.node.state (record {
-            starts = stored.starts;
-            of_member = of_ended;
-            holds = subst (λ (c : Content). HoldsRows c ended.node.state) (sym same) (stored.holds honest);
-          }) in
-        let state_is : restarted t.replay.state ≡ node.state = ap restarted stood.is.state ∙ sym again in
-        let opened : Opened = record { party = party_of m; rows = rows; serial = last_serial node.state; number = at } in
-        (restarted_told t, subst (λ (z : Standing). Follows setup [] z (part_of at_line at line [] (done.Opened (party_of m) rows (last_serial node.state))) (begun (restarted_told t))) (sym stood.stands)
-          (Later (record {
-            old = t;
-            new = restarted_told t;
-            reads = read;
-            nothing = (refl, refl);
-            opened = opened;
-            answered = refl;
-            stands_at = record {
-              party = ap party_of is_m;
-              serial = ap last_serial (sym state_is);
-              rows = (starts.reopens.list, subst (λ (n : NodeState). AreNodeRows starts.reopens.list n) (sym state_is) (made_rows setup m starts.reopens.list node.state starts.reopens.made), starts.reopens.counts);
-            };
-            stood = refl;
-            goes_on = refl;
-            stands = refl;
-          })), record {
-            setup_is = stood.is.setup_is;
-            member = stood.is.member;
-            state = state_is;
-            party = ap party_of is_m;
-            of_member = keep.by_restarts (opening_of setup t.replay.member) t.replay.state stood.is.of_member;
-          }))
+      let t = stood.told in
+      let is_m : t.replay.member ≡ m = only t.replay.member stood.is.member in
+      let of_ended : IsOfOpening (opening_of setup m) ended.node.state =
+      subst (λ (n : NodeState). IsOfOpening (opening_of setup m) n) stood.is.state (subst (λ (x : Node). IsOfOpening (opening_of setup x) t.replay.state) is_m stood.is.of_member) in
+      let again : node.state ≡ restarted ended.node.state = starts.again honest_node ended.node.state (record {
+        starts = stored.starts;
+        of_member = of_ended;
+        holds = subst (λ (c : Content). HoldsRows c ended.node.state) (sym same) (stored.holds honest);
+      }) in
+      let state_is : restarted t.replay.state ≡ node.state = ap restarted stood.is.state ∙ sym again in
+      let opened : Opened = record { party = party_of m; rows = rows; serial = last_serial node.state; number = at } in (
+        restarted_told t,
+        subst (λ (z : Standing). Follows setup [] z (part_of at_line at line [] (done.Opened (party_of m) rows (last_serial node.state))) (begun (restarted_told t))) (sym stood.stands)
+            (Later (record {
+              old = t;
+              new = restarted_told t;
+              reads = read;
+              nothing = (refl, refl);
+              opened = opened;
+              answered = refl;
+              stands_at = record {
+                party = ap party_of is_m;
+                serial = ap last_serial (sym state_is);
+                rows = (starts.reopens.list, subst (λ (n : NodeState). AreNodeRows starts.reopens.list n) (sym state_is) (made_rows setup m starts.reopens.list node.state starts.reopens.made), starts.reopens.counts);
+              };
+              stood = refl;
+              goes_on = refl;
+              stands = refl;
+            })),
+        record {
+          setup_is = stood.is.setup_is;
+          member = stood.is.member;
+          state = state_is;
+          party = ap party_of is_m;
+          of_member = keep.by_restarts (opening_of setup t.replay.member) t.replay.state stood.is.of_member;
+        },
+      ))

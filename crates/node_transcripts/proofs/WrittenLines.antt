@@ -93,7 +93,7 @@ answer_part number n line packets d text rest each reads =
     let at = number_behind n packets in
     let last : Line = record { number = at; bytes = reads.line } in
     let behind : numbered n (answer_texts packets reads.line) rest ≡ numbered n (texts_of packets) (last ∷ rest) =
-        numbered_both n (texts_of packets) (reads.line ∷ []) rest ∙ ap (numbered n (texts_of packets)) (some_line at reads.line rest reads.some) in
+    numbered_both n (texts_of packets) (reads.line ∷ []) rest ∙ ap (numbered n (texts_of packets)) (some_line at reads.line rest reads.some) in
     record {
       behind = numbered n (texts_of packets) (last ∷ rest);
       begin = ap (λ ls. record { number = number; bytes = line } ∷ ls) behind;
