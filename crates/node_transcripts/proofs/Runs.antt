@@ -53,11 +53,24 @@ echo_is (x ∷ xs) some = refl
 told_of : {After : Told → Type 0} (t : Told) → After t → (u : Told) × (begun t ≡ begun u) × After u
 told_of t after = (t, refl, after)
 
+-- the same where such lines stand behind them
+pub record ReadsIf (Fits : List Line → Type 0) (setup : List Node) (out : List ℕ) (Stands : Standing → Type 0) : Type 0 where
+  pub texts : List (List ℕ)
+  pub is_written : out ≡ written texts
+  pub plain : All IsPlain texts
+  pub reads : (rest : List Line) → Fits rest → (s : Standing) × ReadTo setup [] (numbered 0 texts rest) rest s × Stands s
+
+abbrev pub any_lines : List Line → Type 0
+any_lines rest = Unit {0}
+
+pub reads_if : (setup : List Node) (out : List ℕ) (Stands : Standing → Type 0) → ReadsTo setup out Stands → ReadsIf any_lines setup out Stands
+reads_if setup out Stands before = record { texts = before.texts; is_written = before.is_written; plain = before.plain; reads = λ rest fits. before.reads rest }
+
 -- one line more
-pub line_more : (setup : List Node) (Stands : Standing → Type 0) (After : Told → Type 0) (out line more : List ℕ) → 0 < length line → IsPlain line
-    → ReadsTo setup out Stands → ReadsOn setup Stands line more After
+pub line_more : (Fits : List Line → Type 0) (setup : List Node) (Stands : Standing → Type 0) (After : Told → Type 0) (out line more : List ℕ) → 0 < length line → IsPlain line
+    → ((number : ℕ) (others : List Line) → Fits (record { number = number; bytes = line } ∷ others)) → ReadsIf Fits setup out Stands → ReadsOn setup Stands line more After
     → ReadsTo setup (out ++ (echo_of true line ++ more)) (λ s. (t : Told) × (s ≡ begun t) × After t)
-line_more setup Stands After out line more some plain before on =
+line_more Fits setup Stands After out line more some plain fits before on =
     let k = 0 + length before.texts in
     record {
       texts = before.texts ++ line ∷ on.texts;
@@ -72,7 +85,7 @@ line_more setup Stands After out line more some plain before on =
           let behind : List Line = record { number = k + 1; bytes = line } ∷ numbered (k + 1) on.texts rest in
           let whole : numbered 0 (before.texts ++ line ∷ on.texts) rest ≡ numbered 0 before.texts behind =
           numbered_both 0 before.texts (line ∷ on.texts) rest ∙ ap (numbered 0 before.texts) (some_line (k + 1) line (numbered (k + 1) on.texts rest) some) in
-          let sofar = before.reads behind in
+          let sofar = before.reads behind (fits (k + 1) (numbered (k + 1) on.texts rest)) in
           let goes = on.goes (k + 1) (k + 1) rest sofar.0 sofar.2 in
           (begun goes.told, subst (λ (all : List Line). ReadTo setup [] all rest (begun goes.told)) (sym whole) (More goes.part sofar.1 goes.is goes.follows), told_of {After = After} goes.told goes.after);
     }
@@ -96,10 +109,11 @@ module _ {K : Type 0} (keeper : Keeper K) (source : Source K) (Of : List Node �
     pub setup : List Node
     pub sofar : ReadsTo setup out (IsOpen Of setup now)
 
-  pub told_more : (setup : List Node) (Stands : Standing → Type 0) (now : Running K) (out line more : List ℕ) → 0 < length line → IsPlain line
-      → ReadsTo setup out Stands → ReadsOn setup Stands line more (IsToldOf Of setup now) → Tells now (out ++ (echo_of true line ++ more))
-  told_more setup Stands now out line more some plain before on =
-      let both = line_more setup Stands (IsToldOf Of setup now) out line more some plain before on in
+  pub told_if : (Fits : List Line → Type 0) (setup : List Node) (Stands : Standing → Type 0) (now : Running K) (out line more : List ℕ) → 0 < length line → IsPlain line
+      → ((number : ℕ) (others : List Line) → Fits (record { number = number; bytes = line } ∷ others)) → ReadsIf Fits setup out Stands → ReadsOn setup Stands line more (IsToldOf Of setup now)
+      → Tells now (out ++ (echo_of true line ++ more))
+  told_if Fits setup Stands now out line more some plain fits before on =
+      let both = line_more Fits setup Stands (IsToldOf Of setup now) out line more some plain fits before on in
       record {
         setup = setup;
         sofar = record {
@@ -109,6 +123,10 @@ module _ {K : Type 0} (keeper : Keeper K) (source : Source K) (Of : List Node �
           reads = λ rest. let at = both.reads rest in (at.0, at.1, record { told = at.2.0; stands = at.2.1; is = at.2.2 });
         };
       }
+
+  pub told_more : (setup : List Node) (Stands : Standing → Type 0) (now : Running K) (out line more : List ℕ) → 0 < length line → IsPlain line
+      → ReadsTo setup out Stands → ReadsOn setup Stands line more (IsToldOf Of setup now) → Tells now (out ++ (echo_of true line ++ more))
+  told_more setup Stands now out line more some plain before on = told_if any_lines setup Stands now out line more some plain (λ number others. tt) (reads_if setup out Stands before) on
 
   -- the keeper was honest before
   commits_honest : {changes : _} {before after : K} → Commits keeper changes before after → keeper.is_honest after → keeper.is_honest before
@@ -158,9 +176,9 @@ module _ {K : Type 0} (keeper : Keeper K) (source : Source K) (Of : List Node �
         (told_more tells.setup (IsOpen Of tells.setup now) next (earlier ++ before) line out some plain tells.sofar
         (list_part keeper Of tells.setup reads keep now next number is_number line turn out is told))
 
-    module _ (Asks : List Node → Node → ℕ → Stored K → K → Type 0)
+    module _ (Asks : List ℕ → List Node → Node → ℕ → Stored K → K → Type 0)
         (first_line : (number : ℕ) (line : List ℕ) (setup : List Node) (m : Node) (rows : ℕ) (node : Stored K) (out : List ℕ) → IsLineNumber number → 0 < length line → IsPlain line → setup_in line ≡ Ok setup
-        → turns.IsMember setup wanted m → (begins : turns.Begins keeper source setup m rows node) → keeper.is_honest node.keep → Asks setup m rows node begins.starts.fresh
+        → turns.IsMember setup wanted m → (begins : turns.Begins keeper source setup m rows node) → keeper.is_honest node.keep → Asks line setup m rows node begins.starts.fresh
         → out ≡ opened_line number (party_of m) rows (last_serial node.state) → Tells (record { party = party_of m; node = node }) (earlier ++ (echo_of true line ++ out))) where
       -- the first line
       opens : (s t : Stage K) (number : ℕ) (line : List ℕ) (turn : Turn) (out before : List ℕ) → IsLineNumber number → 0 < length line → IsPlain line → turn ≢ Ended

@@ -24,11 +24,11 @@ use Rattle.node_runs.specs.NodeTurns.{Begins, Running}
 use Rattle.transcript_lines.specs.declared.done.Done.TheVariants as done
 use Rattle.done_laws.specs.Laws.{DoneLinesAreRead, IsLineNumber, IsWhole}
 use Rattle.transcript_parts.specs.declared.first_lines.Opened.{Opened}
-use Rattle.transcripts.specs.Following.{First, Follows, Later, Standing, begun, nothing_known, opening_told, restarted as restarted_told}
+use Rattle.transcripts.specs.Following.{First, Follows, GoesOn, Later, Standing, begun, nothing_known, opening_told, restarted as restarted_told}
 use Rattle.transcripts.specs.Told.{Told}
 use Rattle.node_transcripts.specs.Laws.{IsToldOf}
 use Rattle.node_transcripts.specs.Readable.{IsReadable, ReadsSetups}
-use Rattle.node_transcripts.proofs.LineParts.{IsOpen, ReadsOn, by_answer}
+use Rattle.node_transcripts.proofs.LineParts.{ReadsOn, by_answer}
 use Rattle.node_transcripts.proofs.WrittenLines.{part_of}
 
 -- ---- a node before its first event
@@ -126,17 +126,24 @@ module _ {K : Type 0} (keeper : Keeper K) (source : Source K) (held : EmptyIsHel
 
 -- ---- the first line of a later run
 
+-- where a run is opened behind another, the node goes on as that left it
+pub record ComesBack {K : Type 0} (Of : List Node → Node → Type 0) (setup : List Node) (ended : Running K) (s : Standing) : Type 0 where
+  pub told : Told
+  pub stands : s.told ≡ Some told
+  pub goes_on : GoesOn told s.unanswered (restarted_told told)
+  pub is : IsToldOf Of setup ended told
+
 module _ {K : Type 0} (keeper : Keeper K) (source : Source K) (Of : List Node → Node → Type 0) (reads : DoneLinesAreRead) (keep : NodesKeepOpenings) (setups : ReadsSetups) where
   pub later_part : (ended : Running K) → IsStored keeper ended.node → keeper.is_honest ended.node.keep → (number : ℕ) (line : List ℕ) (setup : List Node) (m : Node) (rows : ℕ) (node : Stored K) (out : List ℕ)
       → IsLineNumber number → setup_in line ≡ Ok setup → Contains setup m → IsWhole rows → IsWhole (last_serial node.state)
       → (begins : Begins keeper source setup m rows node) → keeper.is_honest node.keep → (keeper.is_honest begins.starts.fresh → keeper.content begins.starts.fresh ≡ keeper.content ended.node.keep)
       → ((found : Node) → Of setup found → found ≡ m) → out ≡ opened_line number (party_of m) rows (last_serial node.state)
-      → ReadsOn setup (IsOpen Of setup ended) line out (IsToldOf {K = K} Of setup (record { party = party_of m; node = node }))
+      → ReadsOn setup (ComesBack Of setup ended) line out (IsToldOf {K = K} Of setup (record { party = party_of m; node = node }))
   later_part ended stored honest number line setup m rows node out is_number read within few whole begins honest_node left only written =
       let now : Running K = record { party = party_of m; node = node } in
       let starts = begins.starts in
       let same : keeper.content starts.fresh ≡ keeper.content ended.node.keep = left (starts.reopens.keeps.earlier honest_node) in
-      by_answer setup (IsOpen Of setup ended) (IsToldOf {K = K} Of setup now) line out (opened_line number (party_of m) rows (last_serial node.state)) []
+      by_answer setup (ComesBack Of setup ended) (IsToldOf {K = K} Of setup now) line out (opened_line number (party_of m) rows (last_serial node.state)) []
       (done.Opened (party_of m) rows (last_serial node.state)) (All-nil IsReadable)
       (reads.opened number (party_of m) rows (last_serial node.state) is_number ((setups line setup read).parties m within) few whole) written
       (λ at_line at s stood.
@@ -152,23 +159,22 @@ module _ {K : Type 0} (keeper : Keeper K) (source : Source K) (Of : List Node �
       let state_is : restarted t.replay.state ≡ node.state = ap restarted stood.is.state ∙ sym again in
       let opened : Opened = record { party = party_of m; rows = rows; serial = last_serial node.state; number = at } in (
         restarted_told t,
-        subst (λ (z : Standing). Follows setup [] z (part_of at_line at line [] (done.Opened (party_of m) rows (last_serial node.state))) (begun (restarted_told t))) (sym stood.stands)
-            (Later (record {
-              old = t;
-              new = restarted_told t;
-              reads = read;
-              nothing = (refl, refl);
-              opened = opened;
-              answered = refl;
-              stands_at = record {
-                party = ap party_of is_m;
-                serial = ap last_serial (sym state_is);
-                rows = (starts.reopens.list, subst (λ (n : NodeState). AreNodeRows starts.reopens.list n) (sym state_is) (made_rows setup m starts.reopens.list node.state starts.reopens.made), starts.reopens.counts);
-              };
-              stood = refl;
-              goes_on = refl;
-              stands = refl;
-            })),
+        Later (record {
+          old = t;
+          new = restarted_told t;
+          reads = read;
+          nothing = (refl, refl);
+          opened = opened;
+          answered = refl;
+          stands_at = record {
+            party = ap party_of is_m;
+            serial = ap last_serial (sym state_is);
+            rows = (starts.reopens.list, subst (λ (n : NodeState). AreNodeRows starts.reopens.list n) (sym state_is) (made_rows setup m starts.reopens.list node.state starts.reopens.made), starts.reopens.counts);
+          };
+          stood = stood.stands;
+          goes_on = stood.goes_on;
+          stands = refl;
+        }),
         record {
           setup_is = stood.is.setup_is;
           member = stood.is.member;

@@ -108,22 +108,22 @@ IsPlain line = All (λ b. b ≢ 10) line
 
 -- ---- how a run is opened
 
--- what is asked of the setup with which a run was opened, of the node, of how many rows were loaded, of the node as it was
+-- what is asked of the line with which a run was opened, of its setup, of the node, of how many rows were loaded, of the node as it was
 -- made of them, and of the keeper that was found
 abbrev pub IsOpenedSo : {K : Type 0} {keeper : Keeper K} {source : Source K} {s : Stage K} {number : ℕ} {line : List ℕ} {turn : Turn} {out : List ℕ} {t : Stage K}
-    → (List Node → Node → ℕ → Stored K → K → Type 0) → SetupTurn keeper source s number line turn out t → Type 0
-IsOpenedSo Asks (turns.Opened setup read member is rows node begins taken written next) = Asks setup member rows node begins.starts.fresh
+    → (List ℕ → List Node → Node → ℕ → Stored K → K → Type 0) → SetupTurn keeper source s number line turn out t → Type 0
+IsOpenedSo {line = line} Asks (turns.Opened setup read member is rows node begins taken written next) = Asks line setup member rows node begins.starts.fresh
 IsOpenedSo Asks (turns.Unbegun setup read asked spare stop unbegun ended written next) = Unit {0}
 IsOpenedSo Asks (turns.NoSetup fault fails ended written next) = Unit {0}
 
-abbrev pub OpensSo : {K : Type 0} (keeper : Keeper K) (source : Source K) (Asks : List Node → Node → ℕ → Stored K → K → Type 0) (running : Option (Running K)) (s : Stage K) (number : ℕ)
+abbrev pub OpensSo : {K : Type 0} (keeper : Keeper K) (source : Source K) (Asks : List ℕ → List Node → Node → ℕ → Stored K → K → Type 0) (running : Option (Running K)) (s : Stage K) (number : ℕ)
     (line : List ℕ) (turn : Turn) (out : List ℕ) (t : Stage K) → NodeTurn keeper source running s number line turn out t → Type 0
 OpensSo keeper source Asks None s number line turn out t is = IsOpenedSo Asks is
 OpensSo keeper source Asks (Some now) s number line turn out t is = Unit {0}
 
 -- and so of the line that opened a run
 abbrev pub RunOpensSo : {K : Type 0} {keeper : Keeper K} {source : Source K} {echo : Bool} {first : Stage K} {lines : List (List ℕ)} {ran : Ran} {out : List ℕ} {s : Stage K}
-    → (List Node → Node → ℕ → Stored K → K → Type 0) → AreNumbered (NodeLineGives keeper source) echo first lines ran out s → Type 0
+    → (List ℕ → List Node → Node → ℕ → Stored K → K → Type 0) → AreNumbered (NodeLineGives keeper source) echo first lines ran out s → Type 0
 RunOpensSo Asks none_numbered = Unit {0}
 RunOpensSo Asks (empty_line before) = RunOpensSo Asks before
 RunOpensSo {keeper = keeper} {source = source} Asks (taken_line {s = s} {t = t} {line = line} {before = lines} {more = more} before some gives) =
@@ -132,8 +132,8 @@ RunOpensSo {keeper = keeper} {source = source} Asks (refused_line {s = s} {t = t
     RunOpensSo Asks before × OpensSo keeper source Asks s.running s (length lines + 1) line Refused more t gives
 
 -- the keeper that was found keeps no rows, where it is honest
-abbrev pub HasNoRows : {K : Type 0} → Keeper K → List Node → Node → ℕ → Stored K → K → Type 0
-HasNoRows keeper setup member rows node fresh = keeper.is_honest fresh → keeper.content fresh ≡ empty
+abbrev pub HasNoRows : {K : Type 0} → Keeper K → List ℕ → List Node → Node → ℕ → Stored K → K → Type 0
+HasNoRows keeper line setup member rows node fresh = keeper.is_honest fresh → keeper.content fresh ≡ empty
 
 -- what is read as a setup is one, which its type keeps
 abbrev pub ReadsSetups : Type 0
