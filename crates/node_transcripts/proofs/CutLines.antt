@@ -1,11 +1,9 @@
 -- A beginning of lines that are written: some whole lines, and what stands of one more.
-use Rattle.std.proofs.Common.{◌≡◌, ◌≢◌, ◌⊎◌, ℕ, zero, suc, ◌+◌, ◌<◌, List, [], ◌∷◌, ◌++◌, All, length, map, take, drop, refl, sym, ap, subst, ◌∙◌, arith, inl, inr}
-use Rattle.std.proofs.lemmas.List.{append_assoc, take-append-drop}
-use Rattle.std.proofs.lemmas.List.Elements.{All-cons, All-head, All-nil, All-tail, All-take}
+use Rattle.std.proofs.Common.{◌≡◌, ◌≢◌, ◌⊎◌, ℕ, zero, suc, List, [], ◌∷◌, ◌++◌, All, length, take, refl, sym, ap, subst, ◌∙◌, arith, inl, inr}
+use Rattle.std.proofs.lemmas.List.Elements.{All-cons, All-head, All-nil, All-tail}
 use Rattle.ocpi_types.specs.declared.packet.Packet.{Packet}
 use Rattle.transcript_parts.specs.LineReads.{LineRead}
-use Rattle.transcript_parts.specs.Lines.{Line}
-use Rattle.transcript_parts.specs.Parts.{AtEnd, AtLast, IsPart, NoneSent}
+use Rattle.transcript_parts.specs.Parts.{AtEnd, AtLast, IsPart}
 use Rattle.transcript_parts.specs.declared.line_read.Ending.TheVariants.{FileEnd}
 use Rattle.node_transcripts.specs.Readable.{IsPlain, IsReadable}
 use Rattle.node_transcripts.proofs.WrittenLines.{answer_texts, numbered, packets_sent, texts_of, written}

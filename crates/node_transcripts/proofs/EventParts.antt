@@ -1,7 +1,5 @@
 -- What a line of one event makes of what is told of its node.
-use Rattle.std.proofs.Common.{◌≡◌, ◌≢◌, ◌⊎◌, ◌↔◌, ℕ, ◌<◌, Bool, true, false, IsTrue, List, [], ◌∷◌, ◌++◌, Option, None, Some, Ok, Err, length, arith, refl, sym, ap, subst, ◌∙◌, inl, inr}
-use Rattle.ocpi_text.specs.Text.{key}
-use Rattle.ocpi_types.specs.Setups.{party_of}
+use Rattle.std.proofs.Common.{◌≡◌, ◌⊎◌, ℕ, ◌<◌, Bool, true, false, IsTrue, List, [], ◌∷◌, ◌++◌, Some, Ok, Err, length, arith, refl, ap, subst, inl, inr}
 use Rattle.ocpi_types.specs.declared.node_events.NodeEvent.{NodeEvent}
 use Rattle.ocpi_types.specs.declared.node_events.NodeEventKind.{NodeEventKind}
 use Rattle.ocpi_types.specs.declared.node_events.NodeEventKind.TheVariants as event
@@ -12,27 +10,20 @@ use Rattle.json_text.specs.declared.fault.JsonFault.TheVariants as json
 use Rattle.json_text.specs.Fault.{Fails, Read}
 use Rattle.node_lines.specs.ListLines.{IsListLine}
 use Rattle.node_lines.specs.NodeLines.{node_line_in}
-use Rattle.node_lines.specs.declared.node_line.NodeLine.{NodeLine}
 use Rattle.node_lines.specs.declared.node_line.NodeLine.TheVariants.{One}
-use Rattle.node_steps.specs.declared.fault.NodeFault.{NodeFault}
 use Rattle.node_steps.specs.declared.fault.NodeFault.TheVariants as node_fault
-use Rattle.histories.specs.declared.entry.Entry.{Entry}
 use Rattle.history_laws.specs.Replays.{EntryStep}
 use Rattle.history_laws.specs.Replays as replays
-use Rattle.world_steps.specs.Steps.{packets_of}
 use Rattle.world_steps.specs.World.{NodeState}
 use Rattle.node_cell.specs.Keepers.{Keeper}
 use Rattle.node_cell.specs.Stored as cell
 use Rattle.node_cell.specs.Stored.{Stored}
-use Rattle.node_replay.specs.Replayed.{Enters, Leads, Passes, Refuses, Replay}
+use Rattle.node_replay.specs.Replayed.{Enters, Leads}
 use Rattle.transcript_lines.specs.declared.done.Done.{Done}
 use Rattle.transcript_lines.specs.declared.done.Done.TheVariants as done
-use Rattle.transcript_parts.specs.LineReads.{LineRead}
 use Rattle.transcript_parts.specs.declared.echoed.EchoedLine.{EchoedLine}
-use Rattle.transcript_parts.specs.declared.line_read.Ending.{Ending}
 use Rattle.transcript_parts.specs.declared.line_read.Ending.TheVariants.{Answered}
-use Rattle.transcripts.specs.Following.{Came, ComeInTurn, FitsEntry, FitsEvent, FitsNothing, Follows, Gives, Happens, IsOwn, Last, MayStarve, NoEvent, NoneYet, OneMore, Passed, Standing, Starved, Stays, begun}
-use Rattle.transcripts.specs.Following as following
+use Rattle.transcripts.specs.Following.{Came, FitsEntry, FitsEvent, FitsNothing, Follows, Gives, IsOwn, Last, MayStarve, NoEvent, NoneYet, OneMore, Passed, Starved, begun}
 use Rattle.transcripts.specs.LineEvents.{LineEvent, LineEvents}
 use Rattle.transcripts.specs.Told.{Told}
 use Rattle.transcripts.specs.declared.source.Source.TheVariants.{Echoed}

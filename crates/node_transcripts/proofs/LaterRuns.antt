@@ -1,5 +1,5 @@
 -- What runs of one node give, one behind the other over one store, is one transcript.
-use Rattle.std.proofs.Common.{◌≡◌, ◌≢◌, ◌⊎◌, ℕ, ◌+◌, ◌<◌, true, false, List, [], ◌∷◌, ◌++◌, All, Option, Some, Ok, Err, length, refl, sym, ap, subst, ◌∙◌, inl, inr}
+use Rattle.std.proofs.Common.{◌≡◌, ◌≢◌, ℕ, ◌+◌, ◌<◌, true, false, List, [], ◌∷◌, ◌++◌, Option, Some, Ok, Err, length, refl, sym, ap, subst, ◌∙◌, inl, inr}
 use Rattle.std.proofs.lemmas.List.{append-nil}
 use Rattle.std.proofs.lemmas.List.Elements.{All-nil, All-push}
 use Rattle.std.specs.FinMap.{empty}
@@ -27,8 +27,7 @@ use Rattle.transcript_parts.proofs.LineLemmas.{some_line}
 use Rattle.transcripts.specs.Following.{Follows, GoesOn, IsTranscriptOf, LeftOpen, LeftOut, More, Passed, PassesLine, ReadTo, Standing, begun, ended, nothing_known, restarted}
 use Rattle.transcripts.specs.LineEvents.{LineEvents}
 use Rattle.transcripts.specs.Told.{Told}
-use Rattle.node_transcripts.specs.LaterRuns.{AreRuns, FirstRun, IsBetween, IsGiven, IsRunOf, IsSameNode, LaterRun, SeveralRunsAreTranscripts}
-use Rattle.node_transcripts.specs.Laws.{IsToldOf, IsTranscript}
+use Rattle.node_transcripts.specs.LaterRuns.{AreRuns, FirstRun, IsBetween, IsGiven, IsSameNode, LaterRun, SeveralRunsAreTranscripts}
 use Rattle.node_transcripts.specs.Readable.{IsPlain, ReadsSetups}
 use Rattle.node_transcripts.proofs.Elements.{EventsOf, events_of}
 use Rattle.node_transcripts.proofs.EventParts.{echoed, one_event}

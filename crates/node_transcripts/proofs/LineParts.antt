@@ -1,14 +1,11 @@
 -- What is written of a line is a part of a transcript.
-use Rattle.std.proofs.Common.{◌≡◌, ◌≢◌, ◌⊎◌, ℕ, zero, suc, ◌+◌, ◌<◌, Bool, true, false, List, [], ◌∷◌, ◌++◌, All, Option, None, Some, Ok, length, length-append, take, drop, refl, sym, ap, subst, ◌∙◌, arith, inl, inr}
+use Rattle.std.proofs.Common.{◌≡◌, ◌≢◌, ◌⊎◌, ℕ, zero, suc, ◌<◌, Bool, false, List, [], ◌∷◌, ◌++◌, All, Option, None, Some, length, length-append, take, drop, refl, sym, ap, subst, ◌∙◌, arith, inl, inr}
 use Rattle.std.proofs.lemmas.List.{take-append-drop}
 use Rattle.std.proofs.lemmas.List.Elements.{All-nil, All-take}
 use Rattle.ocpi_text.specs.Text.{key}
-use Rattle.ocpi_types.specs.Setups.{party_of}
 use Rattle.ocpi_types.specs.declared.node_events.NodeEvent.{NodeEvent}
 use Rattle.ocpi_types.specs.declared.packet.Packet.{Packet}
 use Rattle.ocpi_types.specs.declared.setup.Node.{Node}
-use Rattle.node_lines.specs.NodeLines.{node_line_in}
-use Rattle.node_lines.specs.declared.node_line.NodeLine.TheVariants.{One}
 use Rattle.node_cell.specs.Keepers.{Keeper}
 use Rattle.node_cell.specs.Stored.{Does}
 use Rattle.node_rows.specs.Laws.{NodesKeepOpenings}
@@ -18,7 +15,7 @@ use Rattle.ocpi_types.specs.declared.node_events.NodeEventKind.{NodeEventKind}
 use Rattle.node_steps.specs.declared.fault.NodeFault.TheVariants as node_fault
 use Rattle.program_lines.specs.Writing.{packet_lines}
 use Rattle.line_runs.specs.declared.run.Turn.{Turn}
-use Rattle.line_runs.specs.declared.run.Turn.TheVariants.{Ended, Refused, Taken}
+use Rattle.line_runs.specs.declared.run.Turn.TheVariants.{Ended}
 use Rattle.node_runs.specs.DoneLines.{idle_line, malformed_line, refused_line, skipped_line, stepped_line}
 use Rattle.node_runs.specs.NodeTurns.{EventTurn, IsOfNode, Running}
 use Rattle.node_runs.specs.NodeTurns as turns
@@ -36,7 +33,7 @@ use Rattle.transcripts.specs.Following.{Follows, IsOwn, Standing, begun}
 use Rattle.transcripts.specs.Following as following
 use Rattle.transcripts.specs.Told.{Told}
 use Rattle.node_transcripts.specs.Laws.{IsToldOf}
-use Rattle.node_transcripts.specs.Readable.{AreReadable, IsPlain, IsReadable, IsToldEvent}
+use Rattle.node_transcripts.specs.Readable.{IsPlain, IsReadable, IsToldEvent}
 use Rattle.node_transcripts.proofs.CutLines.{answer_cut, cut_is_part, cut_part}
 use Rattle.node_transcripts.proofs.EventParts.{cut_short, did_lead, echoed, entry_more, fits_event, happened, left_out, no_event, starved, stayed, unstored_leads}
 use Rattle.node_transcripts.proofs.WrittenLines.{answer_part, answer_plain, answer_texts, answer_written, number_behind, numbered, part_of, texts_of, written}

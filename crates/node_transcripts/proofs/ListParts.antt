@@ -1,5 +1,5 @@
 -- What is written of a line of several events is a part of a transcript.
-use Rattle.std.proofs.Common.{◌≡◌, ◌≢◌, ◌⊎◌, ◌↔◌, ℕ, ◌+◌, ◌<◌, ◌≤◌, Bool, true, false, IsTrue, List, [], ◌∷◌, ◌++◌, All, Option, None, Some, Ok, Err, length, map, refl, sym, ap, subst, ◌∙◌, arith, inl, inr, length-append}
+use Rattle.std.proofs.Common.{◌≡◌, ◌⊎◌, ◌↔◌, ℕ, ◌+◌, Bool, true, false, IsTrue, List, [], ◌∷◌, ◌++◌, All, Option, Some, Ok, length, map, refl, sym, ap, subst, ◌∙◌, arith, inl, inr, length-append}
 use Rattle.std.proofs.lemmas.List.{append-nil, append_assoc}
 use Rattle.std.proofs.lemmas.List.Elements.{All-append, All-nil, All-push}
 use Rattle.std.specs.Prelude.{◌==◌, if◌then◌else◌, slice_get}
@@ -10,7 +10,7 @@ use Rattle.ocpi_types.specs.declared.node_events.NodeEvent.{NodeEvent}
 use Rattle.ocpi_types.specs.declared.packet.Packet.{Packet}
 use Rattle.ocpi_types.specs.declared.setup.Node.{Node}
 use Rattle.history_laws.specs.Replays as replays
-use Rattle.world_steps.specs.Steps.{NodeEvent as Deed, NodeStep, packets_of}
+use Rattle.world_steps.specs.Steps.{NodeEvent as Deed, packets_of}
 use Rattle.world_steps.specs.World.{NodeState, opening_of}
 use Rattle.stored_laws.specs.Nodes.{IsOfOpening}
 use Rattle.node_rows.specs.Laws.{NodesKeepOpenings}
@@ -30,7 +30,7 @@ use Rattle.transcript_lines.specs.declared.done.Done.TheVariants as done
 use Rattle.done_laws.specs.Laws.{DoneLinesAreRead, IsLineNumber, IsRead, IsWhole}
 use Rattle.transcript_parts.specs.LineReads.{LineRead}
 use Rattle.transcript_parts.specs.Lines.{Line}
-use Rattle.transcript_parts.specs.Parts.{AtDone, AtEvent, AtLast, Ends, IsPart, NoneSent, Sends}
+use Rattle.transcript_parts.specs.Parts.{AtDone, AtEvent, AtLast, Ends, NoneSent}
 use Rattle.transcript_parts.specs.declared.line_read.EventAnswer.{EventAnswer}
 use Rattle.transcript_parts.specs.declared.line_read.Ending.{Ending}
 use Rattle.transcript_parts.specs.declared.line_read.Ending.TheVariants.{Answered}

@@ -1,5 +1,5 @@
 -- What a run wrote, however it came to its end, is a transcript of its node.
-use Rattle.std.proofs.Common.{◌≡◌, ◌≢◌, ℕ, zero, suc, ◌+◌, true, List, [], ◌∷◌, ◌++◌, Option, None, Some, Ok, length, take, drop, refl, sym, ap, subst, ◌∙◌, arith, inl, inr}
+use Rattle.std.proofs.Common.{◌≡◌, ◌≢◌, ℕ, zero, suc, ◌+◌, true, List, [], ◌++◌, Option, None, Some, length, take, drop, refl, sym, ap, subst, ◌∙◌, arith, inl, inr}
 use Rattle.std.proofs.lemmas.List.{append-nil, append_assoc, take-append-drop}
 use Rattle.json_text.specs.Fault.{Read}
 use Rattle.ocpi_types.specs.declared.node_events.NodeEvent.{NodeEvent}
@@ -21,8 +21,8 @@ use Rattle.node_runs.specs.NodeAnswers as answers
 use Rattle.node_runs.specs.NodeTurns.{Running, Stage}
 use Rattle.node_runs.specs.declared.fault.NodeStop.{NodeStop}
 use Rattle.done_laws.specs.Laws.{DoneLinesAreRead}
-use Rattle.node_transcripts.specs.Laws.{IsAsked, IsCutTranscript, IsNoCutArray, IsTranscript}
-use Rattle.node_transcripts.specs.Outputs.{BegunRunsAreTranscripts, IsReadRun, WholeRunsAreTranscripts}
+use Rattle.node_transcripts.specs.Laws.{IsAsked, IsCutTranscript, IsTranscript}
+use Rattle.node_transcripts.specs.Outputs.{BegunRunsAreTranscripts, WholeRunsAreTranscripts}
 use Rattle.node_transcripts.specs.Readable.{ReadsSetups}
 use Rattle.node_transcripts.proofs.CutRuns.{cut_runs_are_transcripts, echoes_are_transcripts, ended_empty}
 use Rattle.node_transcripts.proofs.Runs.{refused_goes_on, runs_are_transcripts, taken_goes_on}

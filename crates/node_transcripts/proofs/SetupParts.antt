@@ -1,9 +1,8 @@
 -- The first line of a run over a store without rows.
-use Rattle.std.proofs.Common.{◌≡◌, ◌≢◌, ◌⊎◌, ◌↔◌, ℕ, List, [], ◌∷◌, ◌++◌, All, Option, None, Some, Ok, length, refl, sym, ap, subst, ◌∙◌, arith}
+use Rattle.std.proofs.Common.{◌≡◌, ℕ, List, [], ◌∷◌, Option, None, Some, Ok, length, refl, sym, ap, subst, ◌∙◌, arith}
 use Rattle.std.proofs.lemmas.List.Elements.{All-contains_itself, All-head, All-nil}
 use Rattle.std.specs.FinMap.{empty}
 use Rattle.std.specs.Prelude.{Contains}
-use Rattle.ocpi_text.specs.Party.{party_at}
 use Rattle.ocpi_types.specs.Setups.{party_of}
 use Rattle.ocpi_types.specs.declared.rows.Row.{Row}
 use Rattle.ocpi_types.specs.declared.setup.Node.{Node}
@@ -24,12 +23,11 @@ use Rattle.node_runs.specs.NodeTurns.{Begins, Running}
 use Rattle.transcript_lines.specs.declared.done.Done.TheVariants as done
 use Rattle.done_laws.specs.Laws.{DoneLinesAreRead, IsLineNumber, IsWhole}
 use Rattle.transcript_parts.specs.declared.first_lines.Opened.{Opened}
-use Rattle.transcripts.specs.Following.{First, Follows, GoesOn, Later, Standing, begun, nothing_known, opening_told, restarted as restarted_told}
+use Rattle.transcripts.specs.Following.{First, GoesOn, Later, Standing, nothing_known, opening_told, restarted as restarted_told}
 use Rattle.transcripts.specs.Told.{Told}
 use Rattle.node_transcripts.specs.Laws.{IsToldOf}
 use Rattle.node_transcripts.specs.Readable.{IsReadable, ReadsSetups}
 use Rattle.node_transcripts.proofs.LineParts.{ReadsOn, by_answer}
-use Rattle.node_transcripts.proofs.WrittenLines.{part_of}
 
 -- ---- a node before its first event
 

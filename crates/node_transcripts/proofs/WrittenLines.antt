@@ -1,6 +1,6 @@
 -- Lines that are written, and the lines that are read of them.
-use Rattle.std.proofs.Common.{◌≡◌, ◌≢◌, ℕ, ◌+◌, ◌<◌, List, [], ◌∷◌, ◌++◌, All, Ok, Some, None, length, map, refl, sym, ap, subst, ◌∙◌, arith}
-use Rattle.std.proofs.lemmas.List.{append-nil, append_assoc}
+use Rattle.std.proofs.Common.{◌≡◌, ℕ, ◌+◌, List, [], ◌∷◌, ◌++◌, All, None, length, map, refl, sym, ap, subst, ◌∙◌, arith}
+use Rattle.std.proofs.lemmas.List.{append_assoc}
 use Rattle.std.proofs.lemmas.List.Elements.{All-head, All-map, All-push, All-tail, All-weaker}
 use Rattle.ocpi_types.specs.declared.packet.Packet.{Packet}
 use Rattle.ocpi_json.specs.Packets.{packet_text}
@@ -12,7 +12,7 @@ use Rattle.transcript_parts.specs.Lines.{Line, and_line, lines_behind, lines_in}
 use Rattle.transcript_parts.specs.Parts.{AtDone, AtLast, IsPart, NoneSent, OneSent, Sends}
 use Rattle.transcript_parts.specs.declared.line_read.Ending.TheVariants.{Answered}
 use Rattle.transcript_parts.proofs.LineLemmas.{no_feed, some_line, to_feed}
-use Rattle.node_transcripts.specs.Readable.{AreReadable, IsPlain, IsReadable}
+use Rattle.node_transcripts.specs.Readable.{IsPlain, IsReadable}
 
 -- these lines, each with its line feed
 abbrev pub written : List (List ℕ) → List ℕ

@@ -1,5 +1,5 @@
 -- What is asked of a run of `node`, so that what it writes is read as it happened.
-use Rattle.std.specs.Prelude.{◌≡◌, ◌≢◌, ℕ, ◌+◌, ◌<◌, Bool, List, [], ◌∷◌, All, Option, None, Some, Ok, Err, length}
+use Rattle.std.specs.Prelude.{◌≡◌, ◌≢◌, ℕ, ◌+◌, ◌<◌, Bool, List, All, Option, None, Some, Ok, Err, length}
 use Rattle.std.proofs.Common.{inl, inr}
 use Rattle.json_text.specs.declared.fault.JsonFault.{JsonFault}
 use Rattle.json_text.specs.declared.fault.JsonFault.TheVariants.{Memory}
@@ -19,7 +19,7 @@ use Rattle.node_cell.specs.Stored.{Stored}
 use Rattle.transcript_lines.specs.Dones.{done_in, run_without_lines}
 use Rattle.done_laws.specs.Laws.{IsWhole}
 use Rattle.transcripts.specs.Following.{MayStarve}
-use Rattle.node_runs.specs.NodeAnswers.{GoesOn, LineTurn, NodeLineGives, NodeTurn, OneEvent, SeveralEvents}
+use Rattle.node_runs.specs.NodeAnswers.{LineTurn, NodeLineGives, NodeTurn, OneEvent, SeveralEvents}
 use Rattle.json_text.specs.Fault.{Read}
 use Rattle.ocpi_types.specs.declared.node_events.NodeEvent.{NodeEvent}
 use Rattle.world_steps.specs.Steps.{NodeEvent as Deed, packets_of}
