@@ -17,7 +17,6 @@ use Rattle.node_runs.specs.NodeTurns as turns
 use Rattle.node_runs.specs.declared.fault.NodeStop.{NodeStop}
 use Rattle.done_laws.specs.Laws.{DoneLinesAreRead, IsLineNumber}
 use Rattle.transcript_parts.specs.Lines.{Line, lines_in}
-use Rattle.transcript_parts.proofs.LineLemmas.{some_line}
 use Rattle.transcripts.specs.Following.{More, ReadTo, Standing, begun}
 use Rattle.transcripts.specs.Told.{Told}
 use Rattle.node_transcripts.specs.Laws.{CutRunsAreTranscripts, EchoesAreTranscripts, IsAsked, IsCutTranscript, IsNoCutArray, IsToldOf, IsTranscript}
@@ -25,7 +24,7 @@ use Rattle.node_transcripts.specs.Readable.{IsPlain, IsToldEvent, IsToldLine, Is
 use Rattle.node_transcripts.proofs.CutLines.{IsCut, cut_lines}
 use Rattle.node_transcripts.proofs.LineParts.{CutsOn, IsOpen, IsToldOfEither, answer_cuts, event_answer, nothing_cut}
 use Rattle.node_transcripts.proofs.Runs.{ReadsTo, Tells, echo_is, first_told, refused_goes_on, taken_goes_on, whole}
-use Rattle.node_transcripts.proofs.WrittenLines.{lines_are, numbered, numbered_both, written, written_both}
+use Rattle.node_transcripts.proofs.WrittenLines.{lines_are, numbered, numbered_both, some_line, written, written_both}
 
 -- ---- what a last line leaves
 

@@ -23,7 +23,6 @@ use Rattle.transcript_parts.specs.LineReads.{LineRead}
 use Rattle.transcript_parts.specs.Lines.{Line}
 use Rattle.transcript_parts.specs.Parts.{AtLast, AtRun, IsEnding, IsPart, IsSetupLine, NoneSent, OfSetup}
 use Rattle.transcript_parts.specs.declared.line_read.Ending.TheVariants.{NextRun}
-use Rattle.transcript_parts.proofs.LineLemmas.{some_line}
 use Rattle.transcripts.specs.Following.{Follows, GoesOn, IsTranscriptOf, LeftOpen, LeftOut, More, Passed, PassesLine, ReadTo, Standing, begun, ended, nothing_known, restarted}
 use Rattle.transcripts.specs.LineEvents.{LineEvents}
 use Rattle.transcripts.specs.Told.{Told}
@@ -32,7 +31,7 @@ use Rattle.node_transcripts.specs.Readable.{IsPlain, ReadsSetups}
 use Rattle.node_transcripts.proofs.Elements.{EventsOf, events_of}
 use Rattle.node_transcripts.proofs.EventParts.{echoed, one_event}
 use Rattle.node_transcripts.proofs.LineParts.{IsOpen}
-use Rattle.node_transcripts.proofs.WrittenLines.{numbered, numbered_both, written, written_both}
+use Rattle.node_transcripts.proofs.WrittenLines.{numbered, numbered_both, some_line, written, written_both}
 use Rattle.node_transcripts.proofs.Runs.{ReadsIf, ReadsTo, Tells, nothing_read, read_so, running_told, told_if, told_more}
 use Rattle.node_transcripts.proofs.SetupParts.{ComesBack, later_part, opening_part}
 

@@ -34,7 +34,6 @@ use Rattle.transcript_parts.specs.Parts.{AtDone, AtEvent, AtLast, Ends, NoneSent
 use Rattle.transcript_parts.specs.declared.line_read.EventAnswer.{EventAnswer}
 use Rattle.transcript_parts.specs.declared.line_read.Ending.{Ending}
 use Rattle.transcript_parts.specs.declared.line_read.Ending.TheVariants.{Answered}
-use Rattle.transcript_parts.proofs.LineLemmas.{some_line}
 use Rattle.transcripts.specs.Following.{Came, ComeInTurn, FitsEntry, FitsNothing, Follows, Gives, NoneYet, OneMore, Standing, begun}
 use Rattle.transcripts.specs.Following as following
 use Rattle.transcripts.specs.LineEvents.{LineEvent, ending_at, ending_of, event_at, packets_at, packets_of as packets_told}
@@ -44,7 +43,7 @@ use Rattle.node_transcripts.specs.Readable.{AreReadable, AreToldEach, IsPlain, I
 use Rattle.node_transcripts.proofs.Elements.{EventsOf, events_of}
 use Rattle.node_transcripts.proofs.EventParts.{echoed, entered, entry_more, not_true, unstored_leads}
 use Rattle.node_transcripts.proofs.LineParts.{IsOpen, ReadsOn}
-use Rattle.node_transcripts.proofs.WrittenLines.{answer_plain, answer_texts, answer_written, number_behind, numbered, numbered_both, packets_sent, texts_of, written, written_both}
+use Rattle.node_transcripts.proofs.WrittenLines.{answer_plain, answer_texts, answer_written, number_behind, numbered, numbered_both, packets_sent, some_line, texts_of, written, written_both}
 
 -- ---- lists
 

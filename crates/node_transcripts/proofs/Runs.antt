@@ -23,7 +23,6 @@ use Rattle.node_runs.specs.NodeTurns as turns
 use Rattle.node_runs.specs.declared.fault.NodeStop.{NodeStop}
 use Rattle.done_laws.specs.Laws.{DoneLinesAreRead, IsLineNumber, IsWhole}
 use Rattle.transcript_parts.specs.Lines.{Line, lines_in}
-use Rattle.transcript_parts.proofs.LineLemmas.{some_line}
 use Rattle.transcripts.specs.Following.{IsTranscriptOf, More, ReadTo, Standing, Start, begun, nothing_known}
 use Rattle.transcripts.specs.Told.{Told}
 use Rattle.node_transcripts.specs.Laws.{IsAsked, IsToldOf, IsTranscript, RunsAreTranscripts}
@@ -31,7 +30,7 @@ use Rattle.node_transcripts.specs.Readable.{AreTold, HasNoRows, IsOpenedSo, IsPl
 use Rattle.node_transcripts.proofs.ListParts.{list_part}
 use Rattle.node_transcripts.proofs.LineParts.{IsOpen, ReadsOn, event_answer, whole_answer}
 use Rattle.node_transcripts.proofs.SetupParts.{opening_part}
-use Rattle.node_transcripts.proofs.WrittenLines.{lines_are, numbered, numbered_both, written, written_both}
+use Rattle.node_transcripts.proofs.WrittenLines.{lines_are, numbered, numbered_both, some_line, written, written_both}
 
 -- ---- what was written so far
 

@@ -1,6 +1,6 @@
 -- Lines that are written, and the lines that are read of them.
-use Rattle.std.proofs.Common.{◌≡◌, ℕ, ◌+◌, List, [], ◌∷◌, ◌++◌, All, None, length, map, refl, sym, ap, subst, ◌∙◌, arith}
-use Rattle.std.proofs.lemmas.List.{append_assoc}
+use Rattle.std.proofs.Common.{◌≡◌, ℕ, ◌+◌, List, [], ◌∷◌, ◌++◌, All, None, length, map, refl, sym, ap, subst, ◌∙◌, arith, cond, ne_eqb, ◌≢◌, ◌<◌}
+use Rattle.std.proofs.lemmas.List.{append_assoc, append-nil}
 use Rattle.std.proofs.lemmas.List.Elements.{All-head, All-map, All-push, All-tail, All-weaker}
 use Rattle.ocpi_types.specs.declared.packet.Packet.{Packet}
 use Rattle.ocpi_json.specs.Packets.{packet_text}
@@ -11,8 +11,31 @@ use Rattle.transcript_parts.specs.LineReads.{LineRead}
 use Rattle.transcript_parts.specs.Lines.{Line, and_line, lines_behind, lines_in}
 use Rattle.transcript_parts.specs.Parts.{AtDone, AtLast, IsPart, NoneSent, OneSent, Sends}
 use Rattle.transcript_parts.specs.declared.line_read.Ending.TheVariants.{Answered}
-use Rattle.transcript_parts.proofs.LineLemmas.{no_feed, some_line, to_feed}
 use Rattle.node_transcripts.specs.Readable.{IsPlain, IsReadable}
+
+-- ---- the lines of a text, from the front (`transcript_parts` keeps lemmas of its own on them to itself)
+
+-- what stands before a line feed is the rest of the line
+to_feed : (n : ℕ) (line front rest : List ℕ) → IsPlain front → lines_behind n line (front ++ 10 ∷ rest) ≡ and_line (n + 1) (line ++ front) (lines_behind (n + 1) [] rest)
+unfolding lines_behind
+to_feed n line [] rest plain = ap (λ l. and_line (n + 1) l (lines_behind (n + 1) [] rest)) (sym (append-nil line))
+to_feed n line (x ∷ xs) rest plain =
+    ap (λ b. cond b (and_line (n + 1) line (lines_behind (n + 1) [] (xs ++ 10 ∷ rest))) (lines_behind n (line ++ x ∷ []) (xs ++ 10 ∷ rest))) (ne_eqb x 10 (All-head (λ y. y ≢ 10) x xs plain))
+    ∙ to_feed n (line ++ x ∷ []) xs rest (All-tail (λ y. y ≢ 10) x xs plain)
+    ∙ ap (λ l. and_line (n + 1) l (lines_behind (n + 1) [] rest)) (append_assoc line (x ∷ []) xs)
+
+-- with no line feed there is no line
+no_feed : (n : ℕ) (line text : List ℕ) → IsPlain text → lines_behind n line text ≡ []
+unfolding lines_behind
+no_feed n line [] plain = refl
+no_feed n line (x ∷ xs) plain =
+    ap (λ b. cond b (and_line (n + 1) line (lines_behind (n + 1) [] xs)) (lines_behind n (line ++ x ∷ []) xs)) (ne_eqb x 10 (All-head (λ y. y ≢ 10) x xs plain))
+    ∙ no_feed n (line ++ x ∷ []) xs (All-tail (λ y. y ≢ 10) x xs plain)
+
+-- a line that holds something is one
+pub some_line : (n : ℕ) (front : List ℕ) (others : List Line) → 0 < length front → and_line n front others ≡ record { number = n; bytes = front } ∷ others
+some_line n [] others some = absurd (omega (arith, some))
+some_line n (c ∷ cs) others some = refl
 
 -- these lines, each with its line feed
 abbrev pub written : List (List ℕ) → List ℕ

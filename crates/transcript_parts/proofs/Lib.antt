@@ -1,2 +1,2 @@
-pub mod LineLemmas
+mod LineLemmas
 pub mod PartLemmas
