@@ -19,9 +19,10 @@ use Rattle.done_laws.specs.Laws.{DoneLinesAreRead, IsLineNumber}
 use Rattle.transcript_parts.specs.Lines.{Line, lines_in}
 use Rattle.transcripts.specs.Following.{More, ReadTo, Standing, begun}
 use Rattle.transcripts.specs.Told.{Told}
-use Rattle.node_transcripts.specs.Laws.{CutRunsAreTranscripts, EchoesAreTranscripts, IsAsked, IsCutTranscript, IsNoCutArray, IsToldOf, IsTranscript}
+use Rattle.node_transcripts.specs.Laws.{CutRunsAreTranscripts, EchoesAreTranscripts, IsAsked, IsCutTranscript, IsToldOf, IsTranscript}
 use Rattle.node_transcripts.specs.Readable.{IsPlain, IsToldEvent, IsToldLine, IsToldTurn, ReadsSetups}
 use Rattle.node_transcripts.proofs.CutLines.{IsCut, cut_lines}
+use Rattle.node_transcripts.proofs.ListCuts.{list_cuts}
 use Rattle.node_transcripts.proofs.LineParts.{CutsOn, IsOpen, IsToldOfEither, answer_cuts, event_answer, nothing_cut}
 use Rattle.node_transcripts.proofs.Runs.{ReadsTo, Tells, echo_is, first_told, refused_goes_on, taken_goes_on, whole}
 use Rattle.node_transcripts.proofs.WrittenLines.{lines_are, numbered, numbered_both, some_line, written, written_both}
@@ -113,8 +114,8 @@ module _ {K : Type 0} (keeper : Keeper K) (source : Source K) (Of : List Node �
 
   -- what the line gives may be cut at any place
   line_cuts : (setup : List Node) (now next : Running K) (stop stopped : Option NodeStop) (number : ℕ) (line : List ℕ) (turn : Turn) (out : List ℕ) → IsLineNumber number
-      → (is : LineTurn keeper now stop number line turn out next stopped) → IsToldLine is → IsNoCutArray line out → CutsOn setup (IsOpen Of setup now) line out (IsToldOfEither Of setup now (Some next))
-  line_cuts setup now next stop stopped number line turn out is_number (answers.OneEvent is) told no_array = of_turn turn is told
+      → (is : LineTurn keeper now stop number line turn out next stopped) → IsToldLine is → CutsOn setup (IsOpen Of setup now) line out (IsToldOfEither Of setup now (Some next))
+  line_cuts setup now next stop stopped number line turn out is_number (answers.OneEvent is) told = of_turn turn is told
     where
       whole_line : (turn : Turn) (is : EventTurn keeper now stop number line turn out next stopped) → turn ≢ Ended → IsToldEvent is
           → CutsOn setup (IsOpen Of setup now) line out (IsToldOfEither Of setup now (Some next))
@@ -128,8 +129,8 @@ module _ {K : Type 0} (keeper : Keeper K) (source : Source K) (Of : List Node �
       of_turn Taken is told = whole_line Taken is taken_goes_on told
       of_turn Refused is told = whole_line Refused is refused_goes_on told
       of_turn Ended is told = lost is told
-  line_cuts setup now next stop stopped number line turn out is_number (answers.SeveralEvents is same) told no_array =
-      nothing_cut Of setup now line (IsToldOfEither Of setup now (Some next)) out (no_array is.events is.read) (λ t is. inl is)
+  line_cuts setup now next stop stopped number line turn out is_number (answers.SeveralEvents is same) told =
+      list_cuts keeper Of setup reads keep now next number is_number line turn out is told
 
   told_either : (setup : List Node) (now : Running K) (q : Option (Running K)) (out : List ℕ) → TellsSo setup out (IsToldOfEither Of setup now q) → IsCutTranscript Of now q out
   told_either setup now None out tells = record { setup = setup; told = tells.told; reads = (tells.end, tells.reads, tells.is); is = tells.after }
@@ -141,12 +142,12 @@ module _ {K : Type 0} (keeper : Keeper K) (source : Source K) (Of : List Node �
 
   -- any line, behind the setup
   turn_cuts : (setup : List Node) (now : Running K) (s t : Stage K) (number : ℕ) (line : List ℕ) (turn : Turn) (out : List ℕ) → IsLineNumber number
-      → (gives : NodeTurn keeper source (Some now) s number line turn out t) → IsToldTurn keeper source (Some now) s number line turn out t gives → IsNoCutArray line out
+      → (gives : NodeTurn keeper source (Some now) s number line turn out t) → IsToldTurn keeper source (Some now) s number line turn out t gives
       → CutsOn setup (IsOpen Of setup now) line out (IsToldOfEither Of setup now t.running)
-  turn_cuts setup now s t number line turn out is_number (inl goes) told no_array =
+  turn_cuts setup now s t number line turn out is_number (inl goes) told =
       subst (λ (q : Option (Running K)). CutsOn setup (IsOpen Of setup now) line out (IsToldOfEither Of setup now q)) (sym (ap (λ (z : Stage K). z.running) goes.left))
-      (line_cuts setup now goes.next s.stop goes.stopped number line turn out is_number goes.is told no_array)
-  turn_cuts setup now s t number line turn out is_number (inr ends) told no_array =
+      (line_cuts setup now goes.next s.stop goes.stopped number line turn out is_number goes.is told)
+  turn_cuts setup now s t number line turn out is_number (inr ends) told =
       subst (λ (q : Option (Running K)). CutsOn setup (IsOpen Of setup now) line out (IsToldOfEither Of setup now q)) (sym (ap (λ (z : Stage K). z.running) ends.left))
       (nothing_cut Of setup now line (IsToldOfEither Of setup now None) out ends.written (λ t is. is))
 
@@ -157,16 +158,16 @@ module _ {K : Type 0} (keeper : Keeper K) (source : Source K) (Of : List Node �
 
   -- a line behind the setup
   with_running : (q : Option (Running K)) (now : Running K) (s t : Stage K) (number : ℕ) (line : List ℕ) (turn : Turn) (out before : List ℕ) → q ≡ Some now
-      → (gives : NodeTurn keeper source q s number line turn out t) → IsToldTurn keeper source q s number line turn out t gives → IsNoCutArray line out → IsLineNumber number → 0 < length line → IsPlain line
+      → (gives : NodeTurn keeper source q s number line turn out t) → IsToldTurn keeper source q s number line turn out t gives → IsLineNumber number → 0 < length line → IsPlain line
       → Tells keeper source Of now before → (front rest : List ℕ) → echo_of true line ++ out ≡ front ++ rest → IsCutTranscript Of now t.running (before ++ front)
-  with_running None now s t number line turn out before e gives told no_array is_number some plain tells front rest cut = absurd (subst (λ (q : Option (Running K)). IsNone q) e tt)
-  with_running (Some old) now s t number line turn out before e gives told no_array is_number some plain tells front rest cut =
+  with_running None now s t number line turn out before e gives told is_number some plain tells front rest cut = absurd (subst (λ (q : Option (Running K)). IsNone q) e tt)
+  with_running (Some old) now s t number line turn out before e gives told is_number some plain tells front rest cut =
       let same : old ≡ now = ap (the now) e in
       let tells_old = subst (λ (r : Running K). Tells keeper source Of r before) (sym same) tells in
       subst (λ (r : Running K). IsCutTranscript Of r t.running (before ++ front)) same
       (told_either tells_old.setup old t.running (before ++ front)
       (cut_so tells_old.setup (IsOpen Of tells_old.setup old) (IsToldOfEither Of tells_old.setup old t.running) (either_so tells_old.setup old t.running) before line out front rest some plain tells_old.sofar
-      (turn_cuts tells_old.setup old s t number line turn out is_number gives told no_array) cut))
+      (turn_cuts tells_old.setup old s t number line turn out is_number gives told) cut))
 
 -- ---- behind a run
 
@@ -188,9 +189,9 @@ echo_cut keeper source Of reads keep now out (x ∷ xs) front rest plain cut tel
 
 module _ {K : Type 0} (keeper : Keeper K) (source : Source K) (reads : DoneLinesAreRead) (keep : NodesKeepOpenings) (held : EmptyIsHeld) (can : OpeningsCanStartAgain) (setups : ReadsSetups) where
   pub cut_runs_are_transcripts : CutRunsAreTranscripts keeper source
-  cut_runs_are_transcripts wanted opened lines ran out s now run is plain few honest told asks line turn more t gives told_line no_array some plain_line front rest cut =
+  cut_runs_are_transcripts wanted opened lines ran out s now run is plain few honest told asks line turn more t gives told_line some plain_line front rest cut =
       let tells = first_told keeper source reads keep held can setups wanted run now is plain (omega (arith, few)) told asks honest in
-      with_running keeper source (IsAsked wanted) reads keep s.running now s t (length lines + 1) line turn more out is gives told_line no_array (record { some = omega arith; whole = few }) some plain_line tells front rest cut
+      with_running keeper source (IsAsked wanted) reads keep s.running now s t (length lines + 1) line turn more out is gives told_line (record { some = omega arith; whole = few }) some plain_line tells front rest cut
 
   pub echoes_are_transcripts : EchoesAreTranscripts keeper source
   echoes_are_transcripts wanted opened lines ran out s now run is plain few honest told asks line front rest plain_line cut =

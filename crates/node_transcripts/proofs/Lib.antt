@@ -6,6 +6,7 @@ pub mod LineParts
 pub mod SetupParts
 pub mod Elements
 pub mod ListParts
+pub mod ListCuts
 pub mod Runs
 pub mod CutRuns
 pub mod LaterRuns

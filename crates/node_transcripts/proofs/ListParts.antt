@@ -5,6 +5,8 @@ use Rattle.std.proofs.lemmas.List.Elements.{All-append, All-nil, All-push}
 use Rattle.std.specs.Prelude.{◌==◌, if◌then◌else◌, slice_get}
 use Rattle.histories.proofs.Lists.{got_between, got_pushed}
 use Rattle.json_text.specs.Fault.{Read}
+use Rattle.json_text.specs.declared.fault.JsonFault.{JsonFault}
+use Rattle.node_steps.specs.declared.fault.NodeFault.{NodeFault}
 use Rattle.ocpi_text.specs.Text.{key}
 use Rattle.ocpi_types.specs.declared.node_events.NodeEvent.{NodeEvent}
 use Rattle.ocpi_types.specs.declared.packet.Packet.{Packet}
@@ -33,7 +35,7 @@ use Rattle.transcript_parts.specs.Lines.{Line}
 use Rattle.transcript_parts.specs.Parts.{AtDone, AtEvent, AtLast, Ends, NoneSent}
 use Rattle.transcript_parts.specs.declared.line_read.EventAnswer.{EventAnswer}
 use Rattle.transcript_parts.specs.declared.line_read.Ending.{Ending}
-use Rattle.transcript_parts.specs.declared.line_read.Ending.TheVariants.{Answered}
+use Rattle.transcript_parts.specs.declared.line_read.Ending.TheVariants.{Answered, FileEnd}
 use Rattle.transcripts.specs.Following.{Came, ComeInTurn, FitsEntry, FitsNothing, Follows, Gives, NoneYet, OneMore, Standing, begun}
 use Rattle.transcripts.specs.Following as following
 use Rattle.transcripts.specs.LineEvents.{LineEvent, ending_at, ending_of, event_at, packets_at, packets_of as packets_told}
@@ -48,7 +50,7 @@ use Rattle.node_transcripts.proofs.WrittenLines.{answer_plain, answer_texts, ans
 -- ---- lists
 
 -- a list whose image ends with an element ends with one of that image
-record IsPushed {X Y : Type 0} (f : X → Y) (xs : List X) (ys : List Y) (y : Y) : Type 0 where
+pub record IsPushed {X Y : Type 0} (f : X → Y) (xs : List X) (ys : List Y) (y : Y) : Type 0 where
   pub front : List X
   pub last : X
   pub is : xs ≡ front ++ last ∷ []
@@ -63,7 +65,7 @@ abbrev behind_first : {X : Type 0} → List X → List X
 behind_first [] = []
 behind_first (x ∷ xs) = xs
 
-pushed : {X Y : Type 0} (f : X → Y) (xs : List X) (ys : List Y) (y : Y) → map f xs ≡ ys ++ y ∷ [] → IsPushed f xs ys y
+pub pushed : {X Y : Type 0} (f : X → Y) (xs : List X) (ys : List Y) (y : Y) → map f xs ≡ ys ++ y ∷ [] → IsPushed f xs ys y
 pushed f [] [] y e = absurd (omega (arith, ap length e))
 pushed f [] (z ∷ ys) y e = absurd (omega (arith, ap length e))
 pushed f (x ∷ xs) [] y e = record { front = []; last = x; is = ap (λ l. x ∷ l) (none xs (ap behind_first e)); front_is = refl; last_is = ap (first_or y) e }
@@ -81,7 +83,7 @@ pushed f (x ∷ xs) (z ∷ ys) y e =
       last_is = more.last_is;
     }
 
-map_size : {X Y : Type 0} (f : X → Y) (xs : List X) (ys : List Y) → map f xs ≡ ys → length xs ≡ length ys
+pub map_size : {X Y : Type 0} (f : X → Y) (xs : List X) (ys : List Y) → map f xs ≡ ys → length xs ≡ length ys
 map_size f [] ys e = ap length e
 map_size f (x ∷ xs) [] e = absurd (omega (arith, ap length e))
 map_size f (x ∷ xs) (y ∷ ys) e =
@@ -89,11 +91,11 @@ map_size f (x ∷ xs) (y ∷ ys) e =
     omega (arith, more)
 
 -- one changes a row, or the other
-abbrev either : Bool → Bool → Bool
+abbrev pub either : Bool → Bool → Bool
 either true b = true
 either false b = b
 
-either_is : (a b : Bool) → IsTrue (either a b) ↔ (IsTrue a ⊎ IsTrue b)
+pub either_is : (a b : Bool) → IsTrue (either a b) ↔ (IsTrue a ⊎ IsTrue b)
 either_is true b = ((λ h. inl refl), (λ h. refl))
 either_is false b = ((λ h. inr h), (λ h. elim h [ inl none ↦ absurd (not_true none) | inr now ↦ now ]))
 
@@ -123,12 +125,13 @@ module _ {K : Type 0} (Of : List Node → Node → Type 0) (setup : List Node) (
     pub reads : IsRead text says (Some place)
     pub is : out ≡ packet_lines packets ++ text
     pub came : (at : ℕ) (e : LineEvent) → e.event ≡ read → (t : Told) → IsToldAt s t → Came_of s next e (Answered says at) packets t
+    pub cut : (e : LineEvent) → e.event ≡ read → (t : Told) → IsToldAt s t → (first rest : List Packet) → packets ≡ first ++ rest → Came_of s next e FileEnd first t
 
   -- one that was carried out
-  happens : (s next : NodeState) (x : NodeEvent) (packets : List Packet) (changed : Bool) (end : Ending) (e : LineEvent) → e.event ≡ Ok x → key x.node ≡ key now.party → (t : Told) → IsToldAt s t
-      → Leads s x.kind packets changed next → FitsEntry end packets changed packets → ((t : Told) → IsToldAt s t → IsOfOpening (opening_of setup t.replay.member) next)
-      → Came_of s next e end packets t
-  happens s next x packets changed end e reads own t told leads fits of_next =
+  happens : (s next : NodeState) (x : NodeEvent) (packets first : List Packet) (changed : Bool) (end : Ending) (e : LineEvent) → e.event ≡ Ok x → key x.node ≡ key now.party → (t : Told) → IsToldAt s t
+      → Leads s x.kind packets changed next → FitsEntry end first changed packets → ((t : Told) → IsToldAt s t → IsOfOpening (opening_of setup t.replay.member) next)
+      → Came_of s next e end first t
+  happens s next x packets first changed end e reads own t told leads fits of_next =
       let leads_on : Leads t.replay.state x.kind packets changed next = subst (λ (n : NodeState). Leads n x.kind packets changed next) (sym told.state) leads in
       record {
         told = entry_more t e.text x.kind packets next;
@@ -168,16 +171,56 @@ module _ {K : Type 0} (Of : List Node → Node → Type 0) (setup : List Node) (
     fits = λ at. (refl, refl, inr (λ e. absurd (omega (arith, ap length e))));
   }
 
+  -- what is told of an event ends so, or the file does before
+  data EndOf (d : Done) : Ending → Type 0 where
+    Said : (at : ℕ) → EndOf d (Answered d at)
+    Unsaid : EndOf d FileEnd
+
+  is_idle : {end : Ending} → EndOf done.Idle end → FitsEntry end [] false []
+  is_idle (Said at) = (refl, refl, refl)
+  is_idle Unsaid = ([], refl)
+
+  is_skipped : {end : Ending} → EndOf done.Skipped end → following.TellsSkipped end
+  is_skipped (Said at) = tt
+  is_skipped Unsaid = tt
+
+  is_malformed : {end : Ending} {fault : JsonFault} → EndOf (done.Malformed (Some fault)) end → following.TellsMalformed fault end
+  is_malformed (Said at) = refl
+  is_malformed Unsaid = tt
+
+  is_refused : {end : Ending} {fault : NodeFault} → EndOf (done.Refused (Some fault)) end → following.TellsRefused fault end
+  is_refused (Said at) = refl
+  is_refused Unsaid = tt
+
+  none_first : (first rest : List Packet) → [] ≡ first ++ rest → first ≡ []
+  none_first [] rest e = refl
+  none_first (p ∷ first) rest e = absurd (omega (arith, ap length e))
+
   -- one that sent nothing
   says_so : (s next : NodeState) (place : ℕ) (read : Read NodeEvent) (out text : List ℕ) (d : Done) → IsRead text d (Some place) → out ≡ text
-      → ((at : ℕ) (e : LineEvent) → e.event ≡ read → (t : Told) → IsToldAt s t → Came_of s next e (Answered d at) [] t) → AnswersPlaced s next place read out
-  says_so s next place read out text d is_read is came =
-      record { text = text; packets = []; says = d; each = All-nil IsReadable; reads = is_read; is = is; came = came }
+      → ((end : Ending) → EndOf d end → (e : LineEvent) → e.event ≡ read → (t : Told) → IsToldAt s t → Came_of s next e end [] t) → AnswersPlaced s next place read out
+  says_so s next place read out text d is_read is came = record {
+    text = text;
+    packets = [];
+    says = d;
+    each = All-nil IsReadable;
+    reads = is_read;
+    is = is;
+    came = λ at. came (Answered d at) (Said at);
+    cut = λ e event t told first rest none. subst (λ (ps : List Packet). Came_of s next e FileEnd ps t) (sym (none_first first rest none)) (came FileEnd Unsaid e event t told);
+  }
 
-  placed_answer : {s next : NodeState} {place : ℕ} {read : Read NodeEvent} {turn : Turn} {out : List ℕ} {did : List Deed} (is : PlacedTurn now.party s number place read turn out did next)
+  pub placed_answer : {s next : NodeState} {place : ℕ} {read : Read NodeEvent} {turn : Turn} {out : List ℕ} {did : List Deed} (is : PlacedTurn now.party s number place read turn out did next)
       → IsWhole place → IsToldPlaced is → AnswersPlaced s next place read out
   placed_answer {s = s} {next = next} {place = place} {read = read} {out = out} (lists.WasDone x own deed brings step changed tells taken written one) whole are =
       let says = says_step place (packets_of deed) changed whole are in
+      let leads : Leads s x.kind (packets_of deed) changed next = record {
+        own = λ passes. passes.nothing _ brings;
+        step = replays.Does deed (record { brings = brings; step = step; sends = refl });
+        tells = tells;
+      } in
+      let of_next : (u : Told) → IsToldAt s u → IsOfOpening (opening_of setup u.replay.member) next =
+      λ u is. keep.by_steps (opening_of setup u.replay.member) s next deed (subst (λ (n : NodeState). IsOfOpening (opening_of setup u.replay.member) n) is.state is.of_member) step in
       record {
         text = step_line number (Some place) (packets_of deed) changed;
         packets = packets_of deed;
@@ -185,36 +228,32 @@ module _ {K : Type 0} (Of : List Node → Node → Type 0) (setup : List Node) (
         each = are.each;
         reads = says.reads;
         is = written;
-        came = λ at e is_read t told.
-            happens s next x (packets_of deed) changed (Answered says.says at) e (is_read ∙ own.is) own.same t told (record {
-              own = λ passes. passes.nothing _ brings;
-              step = replays.Does deed (record { brings = brings; step = step; sends = refl });
-              tells = tells;
-            }) (says.fits at) (λ u is. keep.by_steps (opening_of setup u.replay.member) s next deed (subst (λ (n : NodeState). IsOfOpening (opening_of setup u.replay.member) n) is.state is.of_member) step);
+        came = λ at e is_read t told. happens s next x (packets_of deed) (packets_of deed) changed (Answered says.says at) e (is_read ∙ own.is) own.same t told leads (says.fits at) of_next;
+        cut = λ e is_read t told first rest some. happens s next x (packets_of deed) first changed FileEnd e (is_read ∙ own.is) own.same t told leads (rest, some) of_next;
       }
   placed_answer {s = s} {next = next} {place = place} {read = read} {out = out} (lists.WasUnstored x own refused taken written none same) whole are =
       says_so s next place read out (idle_line number (Some place)) done.Idle (law.idle number (Some place) is_number whole) written
-      (λ at e is_read t told.
-      happens s next x [] false (Answered done.Idle at) e (is_read ∙ own.is) own.same t told
-      (subst (λ (n : NodeState). Leads s x.kind [] false n) (sym same) (unstored_leads s x.kind refused)) (refl, refl, refl)
+      (λ end is_end e is_read t told.
+      happens s next x [] [] false end e (is_read ∙ own.is) own.same t told
+      (subst (λ (n : NodeState). Leads s x.kind [] false n) (sym same) (unstored_leads s x.kind refused)) (is_idle is_end)
       (λ u is. subst (λ (n : NodeState). IsOfOpening (opening_of setup u.replay.member) n) (is.state ∙ sym same) is.of_member))
   placed_answer {s = s} {next = next} {place = place} {read = read} {out = out} (lists.IsElsewhere x is_event other taken written none same) whole are =
       says_so s next place read out (skipped_line number (Some place)) done.Skipped (law.skipped number (Some place) is_number whole) written
-      (λ at e is_read t told.
-      stays s next (Answered done.Skipped at) e t told same (following.Skipped x (is_read ∙ is_event) tt (λ own. absurd (other (own ∙ ap key told.party)))))
+      (λ end is_end e is_read t told.
+      stays s next end e t told same (following.Skipped x (is_read ∙ is_event) (is_skipped is_end) (λ own. absurd (other (own ∙ ap key told.party)))))
   placed_answer {s = s} {next = next} {place = place} {read = read} {out = out} (lists.IsOfOtherRole x own stored nothing taken written none same) whole are =
       says_so s next place read out (skipped_line number (Some place)) done.Skipped (law.skipped number (Some place) is_number whole) written
-      (λ at e is_read t told.
-      stays s next (Answered done.Skipped at) e t told same
-      (following.Skipped x (is_read ∙ own.is) tt (λ is_own. subst (λ (n : NodeState). Passes n x.kind) (sym told.state) (record { taken = stored; nothing = nothing }))))
+      (λ end is_end e is_read t told.
+      stays s next end e t told same
+      (following.Skipped x (is_read ∙ own.is) (is_skipped is_end) (λ is_own. subst (λ (n : NodeState). Passes n x.kind) (sym told.state) (record { taken = stored; nothing = nothing }))))
   placed_answer {s = s} {next = next} {place = place} {read = read} {out = out} (lists.IsMalformed fault is_fault other refused written none same) whole are =
       says_so s next place read out (malformed_line number (Some place) fault) (done.Malformed (Some fault)) (law.malformed number (Some place) fault is_number whole) written
-      (λ at e is_read t told. stays s next (Answered (done.Malformed (Some fault)) at) e t told same (following.Malformed fault (is_read ∙ is_fault) refl))
+      (λ end is_end e is_read t told. stays s next end e t told same (following.Malformed fault (is_read ∙ is_fault) (is_malformed is_end)))
   placed_answer {s = s} {next = next} {place = place} {read = read} {out = out} (lists.IsRefused x own input brings fault refuses other refused written none same) whole are =
       says_so s next place read out (refused_line number (Some place) fault) (done.Refused (Some fault)) (law.refused number (Some place) fault is_number whole) written
-      (λ at e is_read t told.
-      stays s next (Answered (done.Refused (Some fault)) at) e t told same
-      (following.Refused x (is_read ∙ own.is) fault refl (own.same ∙ ap key (sym told.party))
+      (λ end is_end e is_read t told.
+      stays s next end e t told same
+      (following.Refused x (is_read ∙ own.is) fault (is_refused is_end) (own.same ∙ ap key (sym told.party))
       (subst (λ (n : NodeState). Refuses n x.kind fault) (sym told.state) (record { input = input; brings = brings; refuses = refuses; other = other }))))
 
   -- ---- all events so far
@@ -231,7 +270,7 @@ module _ {K : Type 0} (Of : List Node → Node → Type 0) (setup : List Node) (
     pub come : (n : ℕ) (p : LineRead) (more : List EventAnswer) → p.answers ≡ answers n ++ more → (es : List LineEvent) → map event_at es ≡ events → (t : Told) → IsToldAt now.node.state t
         → (u : Told) × (changed : Bool) × ComeInTurn p t es changed u × IsToldAt s u
 
-  none_answered : AnswersAll [] [] now.node.state
+  unfoldable pub none_answered : AnswersAll [] [] now.node.state
   none_answered = record {
     texts = [];
     is_written = refl;
@@ -260,7 +299,7 @@ module _ {K : Type 0} (Of : List Node → Node → Type 0) (setup : List Node) (
     abbrev answers_at : ℕ → List EventAnswer
     answers_at n = before.answers n ++ answer_at (lines_at n) ∷ []
 
-    one_ends : (k : ℕ) (behind rest : List Line) (more : List EventAnswer) (qs : List Packet) (end : Ending) → Ends behind more qs end rest
+    pub one_ends : (k : ℕ) (behind rest : List Line) (more : List EventAnswer) (qs : List Packet) (end : Ending) → Ends behind more qs end rest
         → Ends (numbered k (answer_texts one.packets one.reads.line) behind) (answer_at k ∷ more) qs end rest
     one_ends k behind rest more qs end is =
         let at = number_behind k one.packets in
@@ -270,7 +309,7 @@ module _ {K : Type 0} (Of : List Node → Node → Type 0) (setup : List Node) (
         subst (λ (ls : List Line). Ends ls (answer_at k ∷ more) qs end rest) (sym whole)
         (AtEvent (packets_sent k one.packets (last ∷ behind) one.each) ((one.reads.other, one.reads.tells), refl, refl) is)
 
-    come_more : (n : ℕ) (p : LineRead) (more : List EventAnswer) → p.answers ≡ answers_at n ++ more → (es : List LineEvent) → map event_at es ≡ events ++ read ∷ [] → (t : Told) → IsToldAt now.node.state t
+    pub come_more : (n : ℕ) (p : LineRead) (more : List EventAnswer) → p.answers ≡ answers_at n ++ more → (es : List LineEvent) → map event_at es ≡ events ++ read ∷ [] → (t : Told) → IsToldAt now.node.state t
         → (u : Told) × (changed : Bool) × ComeInTurn p t es changed u × IsToldAt next u
     come_more n p more is es are t told =
         let parts = pushed event_at es events read are in
@@ -292,7 +331,7 @@ module _ {K : Type 0} (Of : List Node → Node → Type 0) (setup : List Node) (
         given p place a at t u e changed gives =
             subst (λ (o : Option EventAnswer). Gives t e (ending_of o p.ending) (packets_told o (if place == length p.answers then p.packets else [])) changed u) (sym at) gives
 
-    one_more : AnswersAll (events ++ read ∷ []) (lines ++ out) next
+    unfoldable pub one_more : AnswersAll (events ++ read ∷ []) (lines ++ out) next
     one_more = record {
       texts = before.texts ++ answer_texts one.packets one.reads.line;
       is_written = ap (λ l. l ++ out) before.is_written ∙ ap (λ l. written before.texts ++ l) (answer_written one.packets out one.text one.reads.line one.is one.reads.ends)
@@ -316,7 +355,7 @@ module _ {K : Type 0} (Of : List Node → Node → Type 0) (setup : List Node) (
       come = come_more;
     }
 
-  all_answered : {events : List (Read NodeEvent)} {turn : Turn} {lines : List ℕ} {did : List Deed} {after : NodeState} (all : AreDone now.party now.node.state number events turn lines did after)
+  pub all_answered : {events : List (Read NodeEvent)} {turn : Turn} {lines : List ℕ} {did : List Deed} {after : NodeState} (all : AreDone now.party now.node.state number events turn lines did after)
       → IsWhole (length events) → AreToldEach all → AnswersAll events lines after
   all_answered lists.none_done whole told = none_answered
   all_answered (lists.one_taken {before = events} {out = lines} {more = out} {now = s} {next = next} {read = read} before is) whole told =
@@ -328,19 +367,18 @@ module _ {K : Type 0} (Of : List Node → Node → Type 0) (setup : List Node) (
 
   -- ---- the line
 
-  whole_few : (line : List ℕ) (events : List (Read NodeEvent)) → node_line_in line ≡ Ok (Several events) → IsWhole (length events)
+  pub whole_few : (line : List ℕ) (events : List (Read NodeEvent)) → node_line_in line ≡ Ok (Several events) → IsWhole (length events)
   whole_few line events read =
       let few = (is_array line events read).few in
       omega (arith, few)
 
--- the whole of a line of several events
-pub list_part : {K : Type 0} (keeper : Keeper K) (Of : List Node → Node → Type 0) (setup : List Node) (law : DoneLinesAreRead) (keep : NodesKeepOpenings)
-    (now next : Running K) (number : ℕ) (is_number : IsLineNumber number) (line : List ℕ) (turn : Turn) (out : List ℕ) (is : ListTurn keeper now number line turn out next) → AreToldEach is.carries.done
+-- the whole of a line of several events, by the answers of all of them
+unfoldable pub list_whole : {K : Type 0} (keeper : Keeper K) (Of : List Node → Node → Type 0) (setup : List Node) (law : DoneLinesAreRead) (keep : NodesKeepOpenings)
+    (now next : Running K) (number : ℕ) (is_number : IsLineNumber number) (line : List ℕ) (turn : Turn) (out : List ℕ) (is : ListTurn keeper now number line turn out next) (whole : IsWhole (length is.events))
+    → AnswersAll Of setup law keep now number is_number is.events is.carries.lines next.node.state
     → ReadsOn setup (IsOpen Of setup now) line out (IsToldOf Of setup next)
-list_part keeper Of setup law keep now next number is_number line turn out is told =
+list_whole keeper Of setup law keep now next number is_number line turn out is whole all =
     let events = is.events in
-    let whole = whole_few Of setup law keep now number is_number line events is.read in
-    let all = all_answered Of setup law keep now number is_number is.carries.done whole told in
     let says = law.all number (length events) is_number whole in
     record {
       texts = all.texts ++ says.line ∷ [];
@@ -385,3 +423,10 @@ list_part keeper Of setup law keep now next number is_number line turn out is to
     -- the node behind the line is the one after its last event
     told_behind : (t : Told) → IsToldOf Of setup (at_state Of setup law keep now number is_number next.node.state) t → IsToldOf Of setup next t
     told_behind t told = record { setup_is = told.setup_is; member = told.member; state = told.state; party = told.party ∙ sym is.party; of_member = told.of_member }
+
+pub list_part : {K : Type 0} (keeper : Keeper K) (Of : List Node → Node → Type 0) (setup : List Node) (law : DoneLinesAreRead) (keep : NodesKeepOpenings)
+    (now next : Running K) (number : ℕ) (is_number : IsLineNumber number) (line : List ℕ) (turn : Turn) (out : List ℕ) (is : ListTurn keeper now number line turn out next) → AreToldEach is.carries.done
+    → ReadsOn setup (IsOpen Of setup now) line out (IsToldOf Of setup next)
+list_part keeper Of setup law keep now next number is_number line turn out is told =
+    let whole = whole_few Of setup law keep now number is_number line is.events is.read in
+    list_whole keeper Of setup law keep now next number is_number line turn out is whole (all_answered Of setup law keep now number is_number is.carries.done whole told)

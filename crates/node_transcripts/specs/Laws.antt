@@ -1,5 +1,5 @@
 -- What a run of `node` writes with an echo is a transcript of its node.
-use Rattle.std.specs.Prelude.{◌≡◌, ◌⊎◌, ℕ, ◌+◌, ◌<◌, true, List, [], ◌++◌, All, Option, None, Some, Ok, length}
+use Rattle.std.specs.Prelude.{◌≡◌, ◌⊎◌, ℕ, ◌+◌, ◌<◌, true, List, [], ◌++◌, All, Option, None, Some, length}
 use Rattle.ocpi_types.specs.Setups.{party_of}
 use Rattle.ocpi_types.specs.declared.setup.Node.{Node}
 use Rattle.stored_laws.specs.Nodes.{IsOfOpening}
@@ -9,10 +9,6 @@ use Rattle.line_runs.specs.declared.outcome.Ran.{Ran}
 use Rattle.line_runs.specs.declared.run.Turn.{Turn}
 use Rattle.node_keepers.specs.Opening.{Source}
 use Rattle.node_cell.specs.Keepers.{Keeper}
-use Rattle.json_text.specs.Fault.{Read}
-use Rattle.ocpi_types.specs.declared.node_events.NodeEvent.{NodeEvent}
-use Rattle.node_lines.specs.NodeLines.{node_line_in}
-use Rattle.node_lines.specs.declared.node_line.NodeLine.TheVariants.{Several}
 use Rattle.done_laws.specs.Laws.{IsWhole}
 use Rattle.node_runs.specs.NodeAnswers.{NodeLineGives}
 use Rattle.node_runs.specs.NodeTurns.{IsMember, Running, Stage, opening}
@@ -55,10 +51,6 @@ abbrev pub IsCutTranscript : {K : Type 0} → (List Node → Node → Type 0) �
 IsCutTranscript Of now None out = IsTranscript Of now out
 IsCutTranscript Of now (Some next) out = IsTranscript Of now out ⊎ IsTranscript Of next out
 
--- an array of events, of which something is written, is not cut
-abbrev pub IsNoCutArray : List ℕ → List ℕ → Type 0
-IsNoCutArray line more = (events : List (Read NodeEvent)) → node_line_in line ≡ Ok (Several events) → more ≡ []
-
 -- Whatever was written of one line more, from nothing of its echo up to all of its answer, and whether or not that line
 -- ended the run: all of it tells the node.
 abbrev pub CutRunsAreTranscripts : {K : Type 0} → Keeper K → Source K → Type 0
@@ -67,7 +59,7 @@ CutRunsAreTranscripts {K} keeper source =
     (run : AreNumbered (NodeLineGives keeper source) true (opening wanted opened) lines ran out s) → s.running ≡ Some now
     → All IsPlain lines → IsWhole (length lines + 1) → keeper.is_honest now.node.keep → AreTold run → RunOpensSo (HasNoRows keeper) run
     → (line : List ℕ) (turn : Turn) (more : List ℕ) (t : Stage K) (gives : NodeLineGives keeper source s (length lines + 1) line turn more t) → IsToldTurn keeper source s.running s (length lines + 1) line turn more t gives
-    → IsNoCutArray line more → 0 < length line → IsPlain line → (front rest : List ℕ) → echo_of true line ++ more ≡ front ++ rest → IsCutTranscript (IsAsked wanted) now t.running (out ++ front)
+    → 0 < length line → IsPlain line → (front rest : List ℕ) → echo_of true line ++ more ≡ front ++ rest → IsCutTranscript (IsAsked wanted) now t.running (out ++ front)
 
 -- and so of a line that was not carried out, of which a beginning was echoed
 abbrev pub EchoesAreTranscripts : {K : Type 0} → Keeper K → Source K → Type 0

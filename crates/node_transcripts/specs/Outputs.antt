@@ -8,7 +8,7 @@ use Rattle.node_cell.specs.Keepers.{Keeper}
 use Rattle.done_laws.specs.Laws.{IsWhole}
 use Rattle.node_runs.specs.NodeAnswers.{NodeEndGives, NodeLineGives}
 use Rattle.node_runs.specs.NodeTurns.{Running, Stage, opening}
-use Rattle.node_transcripts.specs.Laws.{IsAsked, IsCutTranscript, IsNoCutArray}
+use Rattle.node_transcripts.specs.Laws.{IsAsked, IsCutTranscript}
 use Rattle.node_transcripts.specs.Readable.{AreTold, HasNoRows, IsPlain, IsToldTurn, RunOpensSo}
 
 -- behind these lines that node runs, and what they gave can be read: they have no line feeds; their numbers, and that of one
@@ -29,7 +29,7 @@ abbrev pub IsReadBegun : {K : Type 0} {keeper : Keeper K} {source : Source K} {w
 IsReadBegun (begun_between run later) now = IsReadRun run now
 IsReadBegun (begun_echo run line front more is later) now = IsReadRun run now × IsPlain line
 IsReadBegun {keeper = keeper} {source = source} (begun_answer {s = s} {t = t} {line = line} {before = before} {turn = turn} {more = more} run some gives later n) now =
-    IsReadRun run now × IsPlain line × IsToldTurn keeper source s.running s (length before + 1) line turn more t gives × IsNoCutArray line more
+    IsReadRun run now × IsPlain line × IsToldTurn keeper source s.running s (length before + 1) line turn more t gives
 IsReadBegun (begun_end run gives n) now = IsReadRun run now
 
 -- and where it was not cut: of all lines, or of those up to the one that ended it
