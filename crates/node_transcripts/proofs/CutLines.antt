@@ -1,0 +1,84 @@
+-- A beginning of lines that are written: some whole lines, and what stands of one more.
+use Rattle.std.proofs.Common.{◌≡◌, ◌≢◌, ◌⊎◌, ℕ, zero, suc, List, [], ◌∷◌, ◌++◌, All, length, take, refl, sym, ap, subst, ◌∙◌, arith, inl, inr}
+use Rattle.std.proofs.lemmas.List.Elements.{All-cons, All-head, All-nil, All-tail}
+use Rattle.ocpi_types.specs.declared.packet.Packet.{Packet}
+use Rattle.transcript_parts.specs.LineReads.{LineRead}
+use Rattle.transcript_parts.specs.Parts.{AtEnd, AtLast, IsPart}
+use Rattle.transcript_parts.specs.declared.line_read.Ending.TheVariants.{FileEnd}
+use Rattle.node_transcripts.specs.Readable.{IsPlain, IsReadable}
+use Rattle.node_transcripts.proofs.WrittenLines.{answer_texts, numbered, packets_sent, texts_of, written}
+
+abbrev first_or : ℕ → List ℕ → ℕ
+first_or d [] = d
+first_or d (x ∷ xs) = x
+
+abbrev behind_first : List ℕ → List ℕ
+behind_first [] = []
+behind_first (x ∷ xs) = xs
+
+-- so many whole lines, and what stands of one more
+pub record IsCut (lines : List (List ℕ)) (front : List ℕ) : Type 0 where
+  pub count : ℕ
+  pub part : List ℕ
+  pub is : front ≡ written (take count lines) ++ part
+  pub plain : IsPlain part
+
+-- the same, where these bytes stood before the rest of the first line
+record IsCutBehind (line : List ℕ) (lines : List (List ℕ)) (front : List ℕ) : Type 0 where
+  pub count : ℕ
+  pub part : List ℕ
+  pub is : front ≡ (line ++ 10 ∷ written (take count lines)) ++ part
+  pub plain : IsPlain part
+
+cut_line : (line : List ℕ) (lines : List (List ℕ)) → IsPlain line → ((front rest : List ℕ) → written lines ≡ front ++ rest → IsCut lines front)
+    → (front rest : List ℕ) → line ++ 10 ∷ written lines ≡ front ++ rest → IsPlain front ⊎ IsCutBehind line lines front
+cut_line line lines plain later [] rest e = inl (All-nil (λ b. b ≢ 10))
+cut_line [] lines plain later (x ∷ xs) rest e =
+    let cut = later xs rest (ap behind_first e) in
+    inr (record { count = cut.count; part = cut.part; is = ap (λ y. y ∷ xs) (sym (ap (first_or 0) e)) ∙ ap (λ s. 10 ∷ s) cut.is; plain = cut.plain })
+cut_line (y ∷ ys) lines plain later (x ∷ xs) rest e =
+    let same : y ≡ x = ap (first_or 0) e in
+    elim (cut_line ys lines (All-tail (λ b. b ≢ 10) y ys plain) later xs rest (ap behind_first e)) [
+      | inl all ↦ inl (All-cons (λ b. b ≢ 10) x xs (subst (λ b. b ≢ 10) same (All-head (λ b. b ≢ 10) y ys plain)) all)
+      | inr cut ↦ inr (record { count = cut.count; part = cut.part; is = ap (λ b. b ∷ xs) (sym same) ∙ ap (λ s. y ∷ s) cut.is; plain = cut.plain })
+    ]
+
+pub cut_lines : (lines : List (List ℕ)) → All IsPlain lines → (front rest : List ℕ) → written lines ≡ front ++ rest → IsCut lines front
+cut_lines [] plain [] rest e = record { count = 0; part = []; is = refl; plain = All-nil (λ b. b ≢ 10) }
+cut_lines [] plain (x ∷ xs) rest e =
+    let size = ap length e in
+    absurd (omega (arith, size))
+cut_lines (line ∷ lines) plain front rest e =
+    elim (cut_line line lines (All-head IsPlain line lines plain) (cut_lines lines (All-tail IsPlain line lines plain)) front rest e) [
+      | inl all ↦ record { count = 0; part = front; is = refl; plain = all }
+      | inr cut ↦ record { count = suc cut.count; part = cut.part; is = cut.is; plain = cut.plain }
+    ]
+
+-- ---- a line that was not answered whole
+
+-- so many of the lines that answer one: these packets, or all
+pub answer_cut : (count : ℕ) (packets : List Packet) (last : List ℕ)
+    → (take count (answer_texts packets last) ≡ texts_of (take count packets)) ⊎ (take count (answer_texts packets last) ≡ answer_texts packets last)
+answer_cut zero packets last = inl refl
+answer_cut (suc count) [] last = inr (end_of count)
+  where
+    end_of : (n : ℕ) → last ∷ take n [] ≡ last ∷ []
+    end_of zero = refl
+    end_of (suc n) = refl
+answer_cut (suc count) (p ∷ packets) last =
+    elim (answer_cut count packets last) [
+      | inl some ↦ inl (ap (λ ts. texts_of (p ∷ []) ++ ts) some)
+      | inr all ↦ inr (ap (λ ts. texts_of (p ∷ []) ++ ts) all)
+    ]
+
+-- the part of a line of which only packets stand at the end of a file
+abbrev pub cut_part : ℕ → List ℕ → List Packet → LineRead
+cut_part number line packets = record { line = record { number = number; bytes = line }; answers = []; packets = packets; ending = FileEnd }
+
+pub cut_is_part : (number n : ℕ) (line : List ℕ) (packets : List Packet) → All IsReadable packets
+    → IsPart (record { number = number; bytes = line } ∷ numbered n (texts_of packets) []) (cut_part number line packets) []
+cut_is_part number n line packets each = record {
+  behind = numbered n (texts_of packets) [];
+  begin = refl;
+  ends = AtLast (packets_sent n packets [] each) AtEnd;
+}

@@ -1,0 +1,13 @@
+pub mod Setups
+pub mod WrittenLines
+pub mod CutLines
+pub mod EventParts
+pub mod LineParts
+pub mod SetupParts
+pub mod Elements
+pub mod ListParts
+pub mod ListCuts
+pub mod Runs
+pub mod CutRuns
+pub mod LaterRuns
+pub mod Outputs

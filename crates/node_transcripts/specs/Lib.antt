@@ -1,0 +1,4 @@
+pub mod Readable
+pub mod Laws
+pub mod LaterRuns
+pub mod Outputs

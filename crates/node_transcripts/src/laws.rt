@@ -1,0 +1,55 @@
+//! What is read of what `node` writes. Each law is the contract of a function that does nothing of its own.
+
+ghost use Rattle.node_cell.specs.Keepers.{keeper_of};
+ghost use Rattle.node_keepers.specs.Opening.{source_of};
+ghost use Rattle.node_transcripts.specs.LaterRuns.{SeveralRunsAreTranscripts};
+ghost use Rattle.node_transcripts.specs.Laws.{CutRunsAreTranscripts, EchoesAreTranscripts, RunsAreTranscripts};
+ghost use Rattle.node_transcripts.specs.Outputs.{BegunRunsAreTranscripts, WholeRunsAreTranscripts};
+
+use done_laws::laws::done_lines_are_read;
+use node_keepers::Keeps;
+use node_rows::laws::{empty_is_held, nodes_keep_openings};
+use stored_laws::laws::openings_can_start_again;
+
+/// What a run writes for its lines is a transcript of its node.
+pub fn runs_are_transcripts<S: Keeps>()
+    ensures { RunsAreTranscripts (keeper_of S.Kept.content S.Kept.is_honest S.Kept.refusals S.Kept.may_leave) (source_of S.may_refuse S.found) }
+{
+    done_lines_are_read();
+    nodes_keep_openings();
+    empty_is_held();
+    openings_can_start_again();
+}
+
+/// And so is what stands of a run that was cut, or that a line ended: the node is told as it was before the last line, or
+/// behind it.
+pub fn cut_runs_are_transcripts<S: Keeps>()
+    ensures answers { CutRunsAreTranscripts (keeper_of S.Kept.content S.Kept.is_honest S.Kept.refusals S.Kept.may_leave) (source_of S.may_refuse S.found) }
+    ensures echoes { EchoesAreTranscripts (keeper_of S.Kept.content S.Kept.is_honest S.Kept.refusals S.Kept.may_leave) (source_of S.may_refuse S.found) }
+{
+    done_lines_are_read();
+    nodes_keep_openings();
+    empty_is_held();
+    openings_can_start_again();
+}
+
+/// Runs of one node over one store, one behind the other, are one transcript.
+pub fn several_runs_are_transcripts<S: Keeps>()
+    ensures { SeveralRunsAreTranscripts (keeper_of S.Kept.content S.Kept.is_honest S.Kept.refusals S.Kept.may_leave) (source_of S.may_refuse S.found) }
+{
+    done_lines_are_read();
+    nodes_keep_openings();
+    empty_is_held();
+    openings_can_start_again();
+}
+
+/// Whatever `run_node` wrote, whether the run came to the end of its input, ended at a line, or was cut, is a transcript.
+pub fn outputs_are_transcripts<S: Keeps>()
+    ensures whole { WholeRunsAreTranscripts (keeper_of S.Kept.content S.Kept.is_honest S.Kept.refusals S.Kept.may_leave) (source_of S.may_refuse S.found) }
+    ensures begun { BegunRunsAreTranscripts (keeper_of S.Kept.content S.Kept.is_honest S.Kept.refusals S.Kept.may_leave) (source_of S.may_refuse S.found) }
+{
+    done_lines_are_read();
+    nodes_keep_openings();
+    empty_is_held();
+    openings_can_start_again();
+}
