@@ -9,7 +9,7 @@ use Rattle.tables.specs.Keys.{text_cmp}
 use Rattle.tables.proofs.Options.{none_some}
 use Rattle.ocpi_text.specs.Text.{key}
 use Rattle.ocpi_text.specs.declared.own_ids.OwnIdKind.TheVariants as own
-use Rattle.ocpi_types.specs.Credits.{IsBill, IsCredit, IsCreditOf, is_credit}
+use Rattle.ocpi_types.specs.Credits.{IsBill, IsCredit, IsCreditOf}
 use Rattle.ocpi_types.specs.declared.cdrs.Cdr.{Cdr}
 use Rattle.ocpi_types.specs.declared.site.SiteLine.{SiteLine}
 use Rattle.ocpi_types.specs.declared.stored.Push.TheVariants as push
