@@ -1,0 +1,14 @@
+pub mod Branching
+pub mod Listings
+pub mod ProviderPackets
+pub mod ProviderSteps
+pub mod ProviderReasons
+pub mod OperatorPlaces
+pub mod OperatorSessions
+pub mod OperatorBeginnings
+pub mod OperatorDecisions
+pub mod OperatorPackets
+pub mod OperatorReports
+pub mod OperatorTicks
+pub mod OperatorSteps
+pub mod OperatorReasons

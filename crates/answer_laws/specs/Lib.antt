@@ -1,0 +1,3 @@
+pub mod Nodes
+pub mod Picks
+pub mod Answers

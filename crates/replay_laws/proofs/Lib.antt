@@ -1,0 +1,3 @@
+pub mod Answering
+pub mod Replaying
+pub mod ReadPlaces

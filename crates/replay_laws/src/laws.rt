@@ -1,0 +1,21 @@
+//! The laws of replayed nodes.
+
+ghost use Rattle.replay_laws.specs.Answers.{NodesHaveOneAnswer, ReplaysHaveOneAnswer};
+ghost use Rattle.replay_laws.specs.Setups.{SetupsHavePlaces};
+
+/// A node has at most one answer to an event: the packets that it sends, whether rows change, and the node behind it;
+/// that the event is none of its role; or why it refuses it. A new START_SESSION or RESERVE_NOW is excepted for which an
+/// operator may take one of several EVSEs.
+pub fn nodes_have_one_answer()
+    ensures { NodesHaveOneAnswer }
+{}
+
+/// So has each node of a setup, whatever happened at it since it was opened.
+pub fn replays_have_one_answer()
+    ensures { ReplaysHaveOneAnswer }
+{}
+
+/// The ids of its places differ in each setup that a line spells.
+pub fn setups_have_places()
+    ensures { SetupsHavePlaces }
+{}
