@@ -3,5 +3,6 @@ pub mod UnlockPlaces
 pub mod Takings
 pub mod ReservedStarts
 pub mod SessionMoves
+pub mod OpenedStarts
 pub mod EndedPushes
 pub mod AnsweredTokens

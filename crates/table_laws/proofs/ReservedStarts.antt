@@ -91,16 +91,16 @@ module _ (p q : List ℕ) (n m : ℕ) (o : OpenCommand) where
         three_alone (reply_of at (decision.Resulted x)) (push.CommandResult (told (url_of c) x)) x (subst (λ (z : Decision). Contains (all_changes (decided_acts at last to p n c z)) opens) is i)
 
     -- and the reservation that it uses ends
-    ends_used : (place : Place) (id : List ℕ) → Contains (all_changes (decided_acts at last to p n c (decision.Started place (Some id)))) (Drop (keys.Reservation p id))
+    pub ends_used : (place : Place) (id : List ℕ) → Contains (all_changes (decided_acts at last to p n c (decision.Started place (Some id)))) (Drop (keys.Reservation p id))
     ends_used place id =
         let rest = all_changes (opened p n (book.open_command c (Some place) (deadline at)) ∷ (spent p (reference_of c) ++ [])) in
         Contains-append_right (Put (row.Reply p n (reply_of at (decision.Started place (Some id)))) ∷ []) (Drop (keys.Reservation p id) ∷ rest) (Drop (keys.Reservation p id)) (in_front (Drop (keys.Reservation p id)) rest)
 
-works : (s : State) (e : Evse) → get s.rows.out_of_service (key e.uid) ≡ None → Works s.rows e
+pub works : (s : State) (e : Evse) → get s.rows.out_of_service (key e.uid) ≡ None → Works s.rows e
 works s e is = ap (λ (o : Option (Unit {0})). not (is_some o)) is
 
 module _ (s : State) (sender : List ℕ) (c : StartSession) (are : AreLocations s.site.locations) (h : HasReserved s (key sender) c) where
-  its_location : IsLocation s.site.locations c.location_id h.location
+  pub its_location : IsLocation s.site.locations c.location_id h.location
   its_location = record { listed = h.listed; same = h.location_is }
 
   -- the reservation, as it stands
@@ -119,12 +119,12 @@ module _ (s : State) (sender : List ℕ) (c : StartSession) (are : AreLocations 
   }
 
   -- so no free EVSE is taken
-  not_free : (l : Location) → IsLocation s.site.locations c.location_id l → start.NoneHeld s.rows sender c l → ⊥
+  pub not_free : (l : Location) → IsLocation s.site.locations c.location_id l → start.NoneHeld s.rows sender c l → ⊥
   not_free l at none =
       let same : l ≡ h.location = one_location s.site.locations c.location_id l h.location are at its_location in
       none h.evse h.connector standing (subst (λ (z : Location). start.IsPlace z c h.evse h.connector) (sym same) h.fits) (works s h.evse h.in_service) (held l same)
 
-reserved_for : (s : State) (sender : List ℕ) (c : StartSession) (l : Location) (e : Evse) (x : Standing) → IsLocation s.site.locations c.location_id l → IsHeldFor s.rows sender c.token l e x →
+pub reserved_for : (s : State) (sender : List ℕ) (c : StartSession) (l : Location) (e : Evse) (x : Standing) → IsLocation s.site.locations c.location_id l → IsHeldFor s.rows sender c.token l e x →
     IsReservedFor s (key sender) x.id (key e.uid) c
 reserved_for s sender c l e x at h = record {
   reservation = x.reservation;

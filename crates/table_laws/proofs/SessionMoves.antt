@@ -54,13 +54,13 @@ use Rattle.operator_laws.proofs.events.Doing.{does}
 use Rattle.table_laws.specs.Moving.{IsAt, IsCarriedOut, IsFollowed, IsOpened, OwnSessionsAreStopped, ReadingsAreKept, StopsEndSessions}
 
 -- what the acts of an event that is carried out put stands then
-changed_by : (s t : State) (e : Event) (by : IsCarriedOut s e t) (c : Change) → Contains (all_changes by.work.acts) c → Contains e.changes c
+pub changed_by : (s t : State) (e : Event) (by : IsCarriedOut s e t) (c : Change) → Contains (all_changes by.work.acts) c → Contains e.changes c
 changed_by s t e by c i =
     let counts = count_changes (counters_of s) (counted (counters_of s) by.work.acts) in
     let is : e.changes ≡ (step_of_acts s by.work.acts).changes = ap (λ (o : Out). o.changes) by.out_is in
     subst (λ (l : List Change). Contains l c) (sym is) (Contains-append_right counts (all_changes by.work.acts) c i)
 
-put_stands : (s t : State) (e : Event) → IsConsistent s → (by : IsCarriedOut s e t) → (r : Row) → Contains (all_changes by.work.acts) (Put r) → HasRow t.rows r
+pub put_stands : (s t : State) (e : Event) → IsConsistent s → (by : IsCarriedOut s e t) → (r : Row) → Contains (all_changes by.work.acts) (Put r) → HasRow t.rows r
 put_stands s t e fine by r i = (((does s t e (events.Done by)).follows fine).rows r).1 (inl (changed_by s t e by (Put r) i))
 
 -- ---- reports

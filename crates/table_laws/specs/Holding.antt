@@ -1,5 +1,5 @@
 -- Which EVSE a start takes that a reservation of its provider is for (OCPI 2.2.1, Commands: StartSession, ReserveNow).
-use Rattle.std.specs.Prelude.{◌≡◌, ℕ, List, Some, None, Contains}
+use Rattle.std.specs.Prelude.{◌≡◌, ℕ, true, List, Some, None, Contains}
 use Rattle.std.specs.FinMap.{get}
 use Rattle.ocpi_text.specs.Text.{key}
 use Rattle.ocpi_types.specs.Locations.{AreLocations}
@@ -17,9 +17,11 @@ use Rattle.ocpi_types.specs.declared.stored.OpenCommand.{OpenCommand}
 use Rattle.ocpi_types.specs.declared.stored.Reservation.{Reservation}
 use Rattle.reservation_book.specs.Tokens.{IsToken}
 use Rattle.site_book.specs.Sites.{Fits}
+use Rattle.operator_rows.specs.Sound.{IsConsistent}
 use Rattle.operator_rows.specs.State.{State}
 use Rattle.operator_steps.specs.Events.{Arrives, Event, Happens}
 use Rattle.operator_laws.specs.Sessions.{Puts}
+use Rattle.table_laws.specs.Moving.{IsCarriedOut}
 
 -- the provider of that key reserved that EVSE for the token of the start, at the location that the start names
 pub record IsReservedFor (s : State) (p id evse : List ℕ) (c : StartSession) : Type 0 where
@@ -54,3 +56,24 @@ abbrev pub ReservationsAreUsed : Type 0
 ReservationsAreUsed = (s t : State) (e : Event) → AreLocations s.site.locations → Happens s e t → (at : ℕ) (q : Packet) (c : StartSession) → e.input ≡ Arrives at q →
     q.body ≡ body.Command (command.StartSession c) → HasReserved s (key q.from) c → (o : OpenCommand) → Puts e (row.Pending (key q.from) q.request o) →
     UsesReservation s e (key q.from) c o
+
+-- the start may be carried out where an EVSE is there for it: its token is its sender's and is valid, it names no connector
+-- without its EVSE, and its authorization reference was not used before
+pub record MayStart (s : State) (p : List ℕ) (c : StartSession) : Type 0 where
+  pub own : key c.token.party ≡ p
+  pub valid : c.token.valid ≡ true
+  pub named : (connector : List ℕ) → c.connector_id ≡ Some connector → (evse : List ℕ) × (c.evse_uid ≡ Some evse)
+  pub unspent : (reference : List ℕ) → c.authorization_reference ≡ Some reference → get s.rows.spent (p, key reference) ≡ None
+
+-- the start of the packet is open, at an EVSE that was reserved for it, and the reservation ended
+pub record OpensReserved (s : State) (e : Event) (t : State) (q : Packet) (c : StartSession) : Type 0 where
+  pub opened : OpenCommand
+  pub stands : get t.rows.commands.pending (key q.from, q.request) ≡ Some opened
+  pub command_is : opened.command ≡ command.StartSession c
+  pub uses : UsesReservation s e (key q.from) c opened
+
+-- where its provider has a reservation for it, a start that may be carried out is opened, whatever else claims EVSEs
+abbrev pub ReservedStartsAreOpened : Type 0
+ReservedStartsAreOpened = (s t : State) (e : Event) → IsConsistent s → AreLocations s.site.locations → IsCarriedOut s e t → (at : ℕ) (q : Packet) (c : StartSession) →
+    e.input ≡ Arrives at q → q.body ≡ body.Command (command.StartSession c) → get s.rows.commands.replies (key q.from, q.request) ≡ None → MayStart s (key q.from) c →
+    HasReserved s (key q.from) c → OpensReserved s e t q c

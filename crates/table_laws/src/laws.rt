@@ -2,7 +2,7 @@
 
 ghost use Rattle.table_laws.specs.Acknowledging.{AcknowledgedPushesEnd};
 ghost use Rattle.table_laws.specs.Answering.{AnswersAreAboutTokens};
-ghost use Rattle.table_laws.specs.Holding.{ReservationsAreUsed};
+ghost use Rattle.table_laws.specs.Holding.{ReservationsAreUsed, ReservedStartsAreOpened};
 ghost use Rattle.table_laws.specs.Moving.{OwnSessionsAreStopped, ReadingsAreKept, StopsEndSessions};
 ghost use Rattle.table_laws.specs.Replacing.{TokensAreReplacedByLater, TokensNeverFall};
 ghost use Rattle.table_laws.specs.Taking.{ConflictsAreRefused, RecordsAreTaken, ResultsAreTaken, VersionsAreTaken};
@@ -53,6 +53,12 @@ pub fn results_are_taken()
 /// the start uses one as it is opened, and takes no EVSE that is free (OCPI 2.2.1, Commands: StartSession, ReserveNow).
 pub fn reservations_are_used()
     ensures { ReservationsAreUsed }
+{}
+
+/// And such a start is opened, where it comes for the first time, its token is valid and its reference was not used
+/// before: it is not told that each EVSE is occupied.
+pub fn reserved_starts_are_opened()
+    ensures { ReservedStartsAreOpened }
 {}
 
 /// A reading at an EVSE makes the next version of the ACTIVE session there, unless it is below the last or too high
