@@ -109,7 +109,7 @@ module _ (setup : List Node) (earlier : List Told) (all lines : List Line) (old 
 -- ---- the whole file
 
 -- no run was opened
-pub accused_file : (setup : List Node) (earlier : List Told) (text : List ℕ) (r : Reading) (fault : TranscriptFault) → IsComplete setup earlier (lines_in text) [] r → r.ways ≡ []
-    → AccusesRightly setup earlier text fault
-accused_file setup earlier text r fault complete none accuses t x =
+pub accused_file : (setup : List Node) (earlier : List Told) (text : List ℕ) (r : Reading) → IsComplete setup earlier (lines_in text) [] r → r.ways ≡ [] → (t : Told)
+    → IsTranscriptWithoutChoice setup earlier text t → ⊥
+accused_file setup earlier text r complete none t x =
     no_way r.ways t none (subst (HasWayOf r.ways) x.told (complete x.end x.reads x.forced).way)

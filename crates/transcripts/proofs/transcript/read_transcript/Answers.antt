@@ -20,4 +20,4 @@ returns-in-Some-clause-new c =
     (transcript_keeps c.args.setup.now c.args.earlier.now (lines_in c.args.text.now) [] end c.in-Some.way ((c.in-Ok.ensures.each).each end (record { way = c.in-Some.ensures.some; within = refl; unanswered = refl })) refl).1
 
 pub returns-in-None-clause-none : goal.returns-in-None-clause-none
-returns-in-None-clause-none c = accused_file c.args.setup.now c.args.earlier.now c.args.text.now c.in-Ok.reading _ c.in-Ok.ensures.all c.in-None.ensures.none
+returns-in-None-clause-none c = λ accuses. accused_file c.args.setup.now c.args.earlier.now c.args.text.now c.in-Ok.reading c.in-Ok.ensures.all c.in-None.ensures.none
