@@ -3,6 +3,7 @@ use Rattle.std.proofs.Common.{◌≡◌, ◌∙◌, ℕ, List, length, sym, ap, 
 use Rattle.std.proofs.lemmas.List.Elements.{All-contains}
 use Rattle.std.specs.Prelude.{All, Contains, Some, slice_get}
 use Rattle.histories.proofs.Lists.{got_within, is_in, place_in, some_same}
+use Rattle.node_desk.specs.Logs.{GoesOn, Log, log_of}
 use Rattle.node_harness.specs.Opened.{AreOpened, IsOfSetup, IsOpenedAs, RanOf}
 use Rattle.node_harness.specs.Settled.{AreSettled}
 use Rattle.node_harness.specs.declared.settling.NodeRan.{NodeRan}
@@ -23,6 +24,13 @@ opened_there setup member c among party first = record { member = member; among 
 pub still : {K : Type 0} (setup : List Node) (c d : Cell K) → IsOfSetup setup c → d.party ≡ c.party → d.first ≡ c.first → IsOfSetup setup d
 still setup c d of party first =
     record { member = of.member; among = of.among; opened = record { party = party ∙ of.opened.party; first = first ∙ of.opened.first } }
+
+-- the cell of a desk is of the node that it was of, and began as that did
+pub same_party : {K : Type 0} (before : Log) (old new : Cell K) (number : ℕ) → log_of old ≡ before → GoesOn before (log_of new) number → new.party ≡ old.party
+same_party before old new number is goes = goes.party ∙ ap (λ (l : Log). l.party) (sym is)
+
+pub same_first : {K : Type 0} (before : Log) (old new : Cell K) (number : ℕ) → log_of old ≡ before → GoesOn before (log_of new) number → new.first ≡ old.first
+same_first before old new number is goes = goes.first ∙ ap (λ (l : Log). l.first) (sym is)
 
 module _ (setup : List Node) (is_setup : IsSetup setup) (script : ℕ → List NodeEventKind) (nodes : List NodeRan) (settled : AreSettled setup script nodes (length setup)) (all : All (RanOf setup) nodes) where
   -- the cell at a place is of that node which stands there: of the setup there is but one of its party

@@ -122,6 +122,7 @@ fn work_all<J: Naming + Send + Sync, G: Gate + Sync, R: Threads + Wait + Sync>(
 }
 
 /// The desk of a node, from its making to its closing. No desk and no name leaves it.
+#[tactic(auto, using(crate::proofs::Openings::same_party, crate::proofs::Openings::same_first))]
 fn in_desk<J: Naming + Send + Sync, G: Gate + Sync, R: Threads + Wait + Sync>(
     rt: &R,
     alloc: Global,
