@@ -21,8 +21,10 @@ pub returns-in-Err : goal.returns-in-Err
 returns-in-Err c =
     refuses_here c.args.setup.now c.args.files.now c.loop-file.transcripts.items c.loop-file.file-index _ _ _ (slice_get-get_or c.args.files.now c.loop-file.file-index _ (omega arith))
     c.loop-file.invariant.1 (sym c.of.ensures.name)
+    (subst (λ (f : TranscriptFault). AccusesRightly c.args.setup.now c.loop-file.transcripts.items _ f) (sym c.of.ensures.fault)
+    (subst (λ (ts : List Told). AccusesRightly c.args.setup.now ts _ c.in-Err.fault) c.as_slice-earlier.ensures.value c.in-Err.ensures.none))
 
 pub returns-in-Err-push : goal.returns-in-Err-push
 returns-in-Err-push c =
     refuses_here c.args.setup.now c.args.files.now c.loop-file.transcripts.items c.loop-file.file-index _ _ _ (slice_get-get_or c.args.files.now c.loop-file.file-index _ (omega arith))
-    c.loop-file.invariant.1 (sym c.of.ensures.name)
+    c.loop-file.invariant.1 (sym c.of-push.ensures.name) (subst (AccusesRightly c.args.setup.now c.loop-file.transcripts.items _) (sym c.of-push.ensures.fault) (λ accused. absurd accused))

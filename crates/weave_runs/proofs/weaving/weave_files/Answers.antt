@@ -9,7 +9,8 @@ weave_from-requires c = record {
   first = c.in-Some.first.now;
   others = drop 1 c.args.files.now;
   files_are = drop_one c.args.files.now 0 c.in-Some.first.now (sym c.in-Some.ensures.value);
-  setup_line = c.in-Ok.ensures;
+  setup_line = c.in-Ok.ensures.setup;
+  begins = c.in-Ok.ensures.found;
 }
 
 pub returns-in-Err : goal.returns-in-Err
@@ -19,5 +20,8 @@ returns-in-Err c =
       others = drop 1 c.args.files.now;
       files_are = drop_one c.args.files.now 0 c.in-Some.first.now (sym c.in-Some.ensures.value);
       name_is = refl;
+      none = λ accused setup t is.
+          let begins = c.transcripts_have_beginnings.ensures setup [] c.in-Some.first.now.text.now t is in
+          c.in-Err.ensures.none accused begins.0 setup begins.1;
     } in
     ok_more c.refused_file.result (λ w is. file_refused c.args.words.now c.args.files.now _ _ (AtFirst refuses) w is) c.refused_file.ensures
