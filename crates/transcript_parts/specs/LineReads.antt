@@ -1,5 +1,5 @@
 -- An echoed line, and what was written of it.
-use Rattle.std.specs.Prelude.{◌≡◌, ℕ, List, []}
+use Rattle.std.specs.Prelude.{◌≡◌, List, []}
 use Rattle.ocpi_types.specs.declared.packet.Packet.{Packet}
 use Rattle.transcript_parts.specs.Lines.{Line}
 use Rattle.transcript_parts.specs.declared.line_read.EventAnswer.{EventAnswer}

@@ -93,7 +93,7 @@ pub fn fits_first(
     match read_setup(alloc, scratch, line.bytes) {
         Ok(_) => Ok(false),
         Err(JsonFault::Memory) => Err(TranscriptFault::Memory),
-        Err(why) => Ok(told == Some(why)),
+        Err(why) => Ok(is_told(told, why)),
     }
 }
 

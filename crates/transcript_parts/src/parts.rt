@@ -32,12 +32,14 @@ enum Behind {
     NextRun,
 }
 
-/// Whether a line of the kind shows that the one before it, which is no setup for this reason, is the first one of a run.
+/// Whether a line of the kind shows that the one before it, which is no setup for this reason, is the first one of a
+/// run.
 fn shows_first(kind: &LineKind, why: JsonFault) -> bool
     ensures { (line : List ℕ) (l : Line) (ls : List Line) → setup_in line ≡ Err why → IsKind l kind.now → (IsTrue result ↔ StandsFirst line (l ∷ ls)) }
 {
     match kind {
-        LineKind::RunWithoutLines | LineKind::Setup => true,
+        LineKind::RunWithoutLines => true,
+        LineKind::Setup => true,
         LineKind::Tells(told) => match (told.event, told.done) {
             (None, Done::Malformed(fault)) => is_told(fault, why),
             _ => false,
@@ -187,8 +189,8 @@ fn take_ending(
     }
 }
 
-/// Takes the next part of a file, if there is one: an echoed line, whatever it holds, and what stands behind it. Refused
-/// (`Wrong`) at the line that may not stand there.
+/// Takes the next part of a file, if there is one: an echoed line, whatever it holds, and what stands behind it.
+/// Refused (`Wrong`) at a line that may not stand there.
 pub fn next_part<'a>(
     alloc: Global,
     scratch: &mut Scratch,

@@ -1,5 +1,5 @@
 -- No way is lost as the events of a line, or a run, come to each of them.
-use Rattle.std.proofs.Common.{◌≡◌, ◌⊎◌, inl, inr, Bool, true, List, [], ◌∷◌, ◌++◌, Option, None, Some, Result, OnOk, Ok, Err, refl, sym, ap, subst, ◌∙◌}
+use Rattle.std.proofs.Common.{◌≡◌, ◌⊎◌, inl, inr, Bool, false, true, List, [], ◌∷◌, ◌++◌, Option, None, Some, Result, OnOk, Ok, Err, refl, sym, ap, subst, ◌∙◌}
 use Rattle.std.proofs.lemmas.List.Elements.{Contains-append_left, Contains-push, Contains-push_cases}
 use Rattle.std.proofs.lemmas.List.Sorted.{Contains-permutation}
 use Rattle.std.specs.Prelude.{Contains, IsPermutation, map}
@@ -139,8 +139,8 @@ pub not_carried : (way : Told) (h : LineEvents) (es : List LineEvent) (p : LineR
 not_carried way h es p found now events line only other t c = of found other (carried_found way h es p found now events line only t c)
   where
     of : (o : Option Bool) → (o ≡ Some true → ⊥) → IsFound o now true c.carried.between → ⊥
-    of None no is = is
-    of (Some b) no is = no (ap Some is.0)
+    of None unlike is = is
+    of (Some b) unlike is = unlike (ap Some is.0)
 
 -- a line of just one event, which would change no row, was not carried out
 pub changes_none : (way : Told) (h : LineEvents) (x : NodeEvent) → HoldsOnly h x → WouldChange way x false → (t : Told) → CarriedOutAs way h t → ⊥

@@ -58,8 +58,8 @@ one_node r s t k b c one x y =
 -- that nothing became of it, as is told
 nothing_found : (fits : Option Bool) (tells : Bool) (packets : List Packet) (now new : Told) (changed : Bool) → IfSome fits (λ c. IsTrue tells × (packets ≡ []) × (c ≡ false))
     → IfNone fits (IsTrue tells × (packets ≡ []) → ⊥) → IsTrue tells → packets ≡ [] → changed ≡ false → now.replay ≡ new.replay → IsFound fits now changed new
-nothing_found None tells packets now new changed some none yes empty unchanged is = absurd (none (yes, empty))
-nothing_found (Some c) tells packets now new changed some none yes empty unchanged is = (some.2 ∙ sym unchanged, is)
+nothing_found None tells packets now new changed some none told empty unchanged is = absurd (none (told, empty))
+nothing_found (Some c) tells packets now new changed some none told empty unchanged is = (some.2 ∙ sym unchanged, is)
 
 same_event : (r : Read NodeEvent) (x y : NodeEvent) → r ≡ Ok x → r ≡ Ok y → y ≡ x
 same_event r x y one other = let both : Ok y ≡ r = sym other in let same : Ok y ≡ Ok x = both ∙ one in cc
@@ -143,8 +143,8 @@ module _ (way : Told) (e : LineEvent) (x : NodeEvent) (end : Ending) (packets : 
         sent_is = last way.replay.entries (record { event = k; packets = enters.packets }) enters.entries
 
         found : (o : Option Bool) → IfSome o (λ c. IsTrue tells × (c ≡ changes)) → IfNone o (IsTrue tells → ⊥) → IsTrue tells → changes ≡ changed → now.replay ≡ new.replay → IsFound o now changed new
-        found None s n yes is same = absurd (n yes)
-        found (Some b) s n yes is same = (s.1 ∙ is, same)
+        found None s n told is same = absurd (n told)
+        found (Some b) s n told is same = (s.1 ∙ is, same)
 
         by : Gave way.replay k end packets changed new.replay → HasOneAnswer way.replay.state k → IsFound fits now changed new
         by (Entered h told) one =
@@ -208,15 +208,16 @@ come_before : (p : LineRead) (old : Told) (xs : List LineEvent) (changed : Bool)
     → ComeUpTo p old (take n xs)
 come_before p old xs changed new NoneYet forced zero within = record { changed = false; new = old; come = NoneYet; forced = tt }
 come_before p old xs changed new NoneYet forced (suc n) within = absurd (omega (arith, within))
-come_before p old xs changed new (OneMore {es = es} {before = b} {now = w} {after = after} {t = t} {u = u} e come gives so) forced n within = by (cases_lt (length es) n)
+come_before p old xs changed new (OneMore {es = es} {before = b} {now = w} {after = after} {t = t} {u = u} e come gives so) forced n within =
+    by (cases_lt (length es) n) (come_before p old es b t come forced.0 n)
   where
-    by : (length es < n) ⊎ (n ≤ length es) → ComeUpTo p old (take n (es ++ e ∷ []))
-    by (inl all) =
+    by : (length es < n) ⊎ (n ≤ length es) → (n ≤ length es → ComeUpTo p old (take n es)) → ComeUpTo p old (take n (es ++ e ∷ []))
+    by (inl all) earlier =
         let long = length-append es (e ∷ []) in
         let whole : n ≡ length (es ++ e ∷ []) = omega (arith, long, within, all) in
         subst (ComeUpTo p old) (sym (ap (λ m. take m (es ++ e ∷ [])) whole ∙ take-length (es ++ e ∷ [])))
-        (record { changed = after; new = u; come = OneMore {es = es} {before = b} {now = w} {after = after} {t = t} {u = u} e come gives so; forced = forced })
-    by (inr some) = subst (ComeUpTo p old) (sym (take-append-le n es (e ∷ []) some)) (come_before p old es b t come forced.0 n some)
+            (record { changed = after; new = u; come = OneMore {es = es} {before = b} {now = w} {after = after} {t = t} {u = u} e come gives so; forced = forced })
+    by (inr some) earlier = subst (ComeUpTo p old) (sym (take-append-le n es (e ∷ []) some)) (earlier some)
 
 -- a history of one event more came so far, and then to that
 record CameTo (way : Told) (es : List LineEvent) (e : LineEvent) (p : LineRead) (changed : Bool) (new : Told) : Type 0 where
@@ -357,7 +358,6 @@ line_changes_nothing way es e p x new is reads would c =
       forced = m.last.forced;
     })
   where
-    by : (m : CameTo way [] e p true new) → false ≡ m.before → IsTrue m.before ⊎ IsTrue m.now → ComesAs way e (ending_at p (length [])) (packets_at p (length [])) m.now new → ⊥
+    by : (m : CameTo way [] e p true new) → false ≡ m.before → IsTrue m.before ⊎ IsTrue m.now → ComesAs way e (ending_at p 0) (packets_at p 0) m.now new → ⊥
     by m unchanged (inl before) last = let bad : false ≡ true = unchanged ∙ before in cc
-    by m unchanged (inr now) last =
-        changes_nothing way e x (ending_at p (length [])) (packets_at p (length [])) new reads would (subst (λ b. ComesAs way e (ending_at p (length [])) (packets_at p (length [])) b new) now last)
+    by m unchanged (inr now) last = changes_nothing way e x (ending_at p 0) (packets_at p 0) new reads would (subst (λ b. ComesAs way e (ending_at p 0) (packets_at p 0) b new) now last)

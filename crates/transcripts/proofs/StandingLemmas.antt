@@ -25,11 +25,12 @@ module _ {X : Type 0} where
   -- a list in which an element stands is what stands before it, that, and what stands behind it
   parts_at : (ys : List X) (x : X) → Contains ys x → (front : List X) × (back : List X) × (ys ≡ front ++ x ∷ back)
   parts_at [] x among = absurd (in_none x among)
-  parts_at (y ∷ ys) x among = by (Contains-append_cases (y ∷ []) ys x among)
+  parts_at (y ∷ ys) x among = by (parts_at ys x) (Contains-append_cases (y ∷ []) ys x among)
     where
-      by : Contains (y ∷ []) x ⊎ Contains ys x → (front : List X) × (back : List X) × (y ∷ ys ≡ front ++ x ∷ back)
-      by (inl here) = ([], ys, ap (λ z. z ∷ ys) (in_single y x here))
-      by (inr later) = let (front, back, is) = parts_at ys x later in (y ∷ front, back, ap (λ l. y ∷ l) is)
+      by : (Contains ys x → (front : List X) × (back : List X) × (ys ≡ front ++ x ∷ back)) → Contains (y ∷ []) x ⊎ Contains ys x
+          → (front : List X) × (back : List X) × (y ∷ ys ≡ front ++ x ∷ back)
+      by parts (inl here) = ([], ys, ap (λ z. z ∷ ys) (in_single y x here))
+      by parts (inr later) = let (front, back, is) = parts later in (y ∷ front, back, ap (λ l. y ∷ l) is)
 
   -- another element stands before or behind it
   others_at : (front back : List X) (x z : X) → x ≢ z → Contains (front ++ x ∷ back) z → Contains (front ++ back) z
@@ -97,27 +98,28 @@ stands_alike o t u same s = record {
 -- no later text is one of the earlier ones
 differs : (earlier ks : List (List ℕ)) (k : List ℕ) → DifferFrom earlier ks → Contains ks k → Contains earlier k → ⊥
 differs earlier [] k apart among before = in_none k among
-differs earlier (j ∷ ks) k apart among before = by (Contains-append_cases (j ∷ []) ks k among)
+differs earlier (j ∷ ks) k apart among before = by (differs (earlier ++ j ∷ []) ks k apart.1) (Contains-append_cases (j ∷ []) ks k among)
   where
-    by : Contains (j ∷ []) k ⊎ Contains ks k → ⊥
-    by (inl here) = apart.0 (subst (Contains earlier) (sym (in_single j k here)) before)
-    by (inr later) = differs (earlier ++ j ∷ []) ks k apart.1 later (Contains-append_left earlier (j ∷ []) k before)
+    by : (Contains ks k → Contains (earlier ++ j ∷ []) k → ⊥) → Contains (j ∷ []) k ⊎ Contains ks k → ⊥
+    by later (inl here) = apart.0 (subst (Contains earlier) (sym (in_single j k here)) before)
+    by later (inr after) = later after (Contains-append_left earlier (j ∷ []) k before)
 
 -- nodes whose parties differ are one where their parties are
 one_node : (earlier : List (List ℕ)) (ns : List Node) (m n : Node) → DifferFrom earlier (map node_key ns) → Contains ns m → Contains ns n → node_key m ≡ node_key n → m ≡ n
 one_node earlier [] m n apart is_m is_n same = absurd (in_none m is_m)
-one_node earlier (x ∷ ns) m n apart is_m is_n same = by (Contains-append_cases (x ∷ []) ns m is_m) (Contains-append_cases (x ∷ []) ns n is_n)
+one_node earlier (x ∷ ns) m n apart is_m is_n same =
+    by (λ first second. one_node (earlier ++ node_key x ∷ []) ns m n apart.1 first second same) (Contains-append_cases (x ∷ []) ns m is_m) (Contains-append_cases (x ∷ []) ns n is_n)
   where
     later : (y : Node) → Contains ns y → node_key x ≡ node_key y → ⊥
     later y is_y key_is =
         differs (earlier ++ node_key x ∷ []) (map node_key ns) (node_key y) apart.1 (in_map node_key ns y is_y)
         (subst (Contains (earlier ++ node_key x ∷ [])) key_is (Contains-append_right earlier (node_key x ∷ []) (node_key x) (in_front (node_key x) [])))
 
-    by : Contains (x ∷ []) m ⊎ Contains ns m → Contains (x ∷ []) n ⊎ Contains ns n → m ≡ n
-    by (inl here) (inl also) = sym (in_single x m here) ∙ in_single x n also
-    by (inl here) (inr after) = absurd (later n after (ap node_key (in_single x m here) ∙ same))
-    by (inr after) (inl here) = absurd (later m after (ap node_key (in_single x n here) ∙ sym same))
-    by (inr first) (inr second) = one_node (earlier ++ node_key x ∷ []) ns m n apart.1 first second same
+    by : (Contains ns m → Contains ns n → m ≡ n) → Contains (x ∷ []) m ⊎ Contains ns m → Contains (x ∷ []) n ⊎ Contains ns n → m ≡ n
+    by both (inl here) (inl also) = sym (in_single x m here) ∙ in_single x n also
+    by both (inl here) (inr after) = absurd (later n after (ap node_key (in_single x m here) ∙ same))
+    by both (inr after) (inl here) = absurd (later m after (ap node_key (in_single x n here) ∙ sym same))
+    by both (inr first) (inr second) = both first second
 
 -- in a setup two nodes of one party, as it is spelled, are one
 pub spelled_once : (setup : List Node) (m n : Node) → IsSetup setup → Contains setup m → Contains setup n → party_of m ≡ party_of n → m ≡ n

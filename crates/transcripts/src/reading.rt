@@ -96,6 +96,18 @@ fn is_starved(done: &Done) -> bool
     }
 }
 
+/// Whether the node of one of the ways is of that party, as it is spelled.
+fn one_is_of(ways: &[Way<'_>], party: &Party) -> bool
+    ensures { (t : Told) → Contains ways.now t → party_of t.replay.member ≡ party.now → IsTrue result }
+{
+    for way in ways {
+        if way.party().as_str() == party.as_str() {
+            return true;
+        }
+    }
+    false
+}
+
 impl<'a> Reading<'a> {
     /// Nothing is read yet.
     pub(crate) fn new(alloc: Global, setup: &'a Setup) -> Reading<'a>
@@ -465,7 +477,7 @@ impl<'a> Reading<'a> {
         ensures all { OnOk result (KeepsLine self.old part.now self.new) }
         ensures none { IfErr result (EndsByLine self.old part.now) }
     {
-        if !self.is_of(&opened.party) {
+        if !one_is_of(self.ways.as_slice(), &opened.party) {
             return Err(TranscriptFault::Wrong(opened.number));
         }
         match go_on(self.alloc, &mut self.ways, &self.unanswered, &opened) {
@@ -478,17 +490,5 @@ impl<'a> Reading<'a> {
             return Err(TranscriptFault::NotARun(part.line().number));
         }
         Ok(())
-    }
-
-    /// Whether the node that is read is of that party, as it is spelled.
-    fn is_of(&self, party: &Party) -> bool
-        ensures { (t : Told) → Contains self.now.ways t → party_of t.replay.member ≡ party.now → IsTrue result }
-    {
-        for way in self.ways.as_slice() {
-            if way.party().as_str() == party.as_str() {
-                return true;
-            }
-        }
-        false
     }
 }

@@ -1,13 +1,14 @@
-use Rattle.std.proofs.Common.{◌<◌, length, refl, ap, subst, rules, arith}
+use Rattle.std.proofs.Common.{◌<◌, ◌∙◌, length, refl, sym, ap, subst, rules, arith}
+use Rattle.std.specs.Prelude.{Contains}
 use Rattle.transcripts.specs.Covering.{LosesNoneByRun}
 use Rattle.transcripts.specs.Following.{AllGoOn}
 use Rattle.transcripts.proofs.AccusingLemmas.{ends_later_shown, ends_no_way, ends_other_party, keeps_later}
 use Rattle.transcripts.proofs.FollowingLemmas.{opened_later}
 use Rattle.transcripts.proofs.reading.Reading.open_later.Goals as goal
 
-pub returns-then-not-is_of-clause-none : goal.returns-then-not-is_of-clause-none
-returns-then-not-is_of-clause-none c = λ earlier accuses. ends_other_party earlier c.args.self.now c.args.part.now c.args.opened c.requires.opened c.requires.later
-    (λ w among party. absurd (cc (c.is_of.ensures w among party, c.if-not-is_of.true)))
+pub returns-then-not-one_is_of-clause-none : goal.returns-then-not-one_is_of-clause-none
+returns-then-not-one_is_of-clause-none c = λ earlier accuses. ends_other_party earlier c.args.self.now c.args.part.now c.args.opened c.requires.opened c.requires.later
+    (λ w among party. absurd (cc (c.one_is_of.ensures w (subst (λ ws. Contains ws w) (sym (c.as_slice.ensures.value ∙ ap (λ r. r.ways) c.self.view_is)) among) party, c.if-not-one_is_of.true)))
 
 pub returns-clause-each : goal.returns-clause-each
 returns-clause-each c =
