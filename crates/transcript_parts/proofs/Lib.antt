@@ -1,2 +1,5 @@
 mod LineLemmas
+pub mod ToldFaults
+mod UniqueParts
 pub mod PartLemmas
+mod BeginningLemmas

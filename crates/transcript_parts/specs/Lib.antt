@@ -1,3 +1,4 @@
 pub mod Lines
 pub mod LineReads
 pub mod Parts
+pub mod Beginnings

@@ -1,13 +1,17 @@
 //! The first run of a file.
 
-ghost use Rattle.std.specs.Prelude.{◌≡◌, IfOk, Ok};
+ghost use Rattle.std.specs.Prelude.{◌≡◌, ℕ, List, IfErr, IfOk, MatchOption, Ok};
 ghost use Rattle.ocpi_json.specs.SetupForms.{setup_in};
+ghost use Rattle.ocpi_types.specs.declared.setup.Node.{Node};
+ghost use Rattle.transcript_parts.specs.Beginnings.{Accuses, BeginsWith, IsNoRun, IsNotARun, IsOfOneWay, Opens};
+ghost use Rattle.transcript_parts.specs.Lines.{line_of, lines_in};
 
 use crate::echoed::EchoedLine;
 use crate::fault::TranscriptFault;
 use crate::first_lines::{opened_by, opened_setup, pass_line};
+use crate::line_read::LineRead;
 use crate::lines::Lines;
-use crate::parts::{Part, next_part};
+use crate::parts::next_part;
 use ocpi_json::Scratch;
 use ocpi_types::Setup;
 use std::alloc::Global;
@@ -24,16 +28,17 @@ pub struct Beginning<'a> {
 fn opening_line<'a>(
     alloc: Global,
     scratch: &mut Scratch,
-    part: Part<'a>,
-) -> Result<Option<EchoedLine<'a>>, TranscriptFault> {
-    let part = match part {
-        Part::RunWithoutLines => return Ok(None),
-        Part::Line(part) => part,
-    };
+    part: &LineRead<'a>,
+) -> Result<Option<EchoedLine<'a>>, TranscriptFault>
+    ensures is { IfOk result (λ l. MatchOption l (IsNoRun part.now) (λ line. Opens part.now × (line_of line ≡ part.now.line))) }
+    ensures passed { IfErr result (λ f. Accuses f → IsNoRun part.now → ⊥) }
+    ensures opened { IfErr result (λ f. Opens part.now → ⊥) }
+    ensures named { IfErr result IsOfOneWay }
+{
     if opened_by(part.ending()).is_some() {
         return Ok(Some(part.line()));
     }
-    match pass_line(alloc, scratch, &part) {
+    match pass_line(alloc, scratch, part) {
         Ok(()) => Ok(None),
         Err(fault) => Err(fault),
     }
@@ -45,7 +50,9 @@ fn beginning_at<'a>(
     scratch: &mut Scratch,
     line: EchoedLine<'a>,
 ) -> Result<Beginning<'a>, TranscriptFault>
-    ensures { IfOk result (λ b. setup_in b.line.now ≡ Ok b.setup) }
+    ensures is { IfOk result (λ b. (setup_in b.line.now ≡ Ok b.setup) × (b.line.now ≡ line.entry.bytes.now)) }
+    ensures refused { IfErr result (λ f. Accuses f → (setup : List Node) → setup_in line.entry.bytes.now ≡ Ok setup → ⊥) }
+    ensures named { IfErr result (IsNotARun line.entry.number) }
 {
     match opened_setup(alloc, scratch, line) {
         Ok(setup) => Ok(Beginning {
@@ -63,7 +70,10 @@ pub fn find_beginning<'a>(
     scratch: &mut Scratch,
     text: &'a [u8],
 ) -> Result<Beginning<'a>, TranscriptFault>
-    ensures { IfOk result (λ b. setup_in b.line.now ≡ Ok b.setup) }
+    ensures setup { IfOk result (λ b. setup_in b.line.now ≡ Ok b.setup) }
+    ensures found { IfOk result (λ b. BeginsWith (lines_in text.now) b.line.now b.setup) }
+    ensures none { IfErr result (λ f. Accuses f → (line : List ℕ) (setup : List Node) → BeginsWith (lines_in text.now) line setup → ⊥) }
+    ensures named { IfErr result IsOfOneWay }
 {
     let mut lines = Lines::new(text);
     loop {
@@ -72,7 +82,7 @@ pub fn find_beginning<'a>(
             Ok(None) => return Err(TranscriptFault::Wrong(0)),
             Err(fault) => return Err(fault),
         };
-        match opening_line(alloc, scratch, part) {
+        match opening_line(alloc, scratch, &part) {
             Ok(Some(line)) => return beginning_at(alloc, scratch, line),
             Ok(None) => {}
             Err(fault) => return Err(fault),

@@ -1,10 +1,14 @@
 //! The first line of a run, and lines where no run is open.
 
-ghost use Rattle.std.specs.Prelude.{◌≡◌, IfOk, IfSome, IsTrue, Ok, OnOk};
+ghost use Rattle.std.specs.Prelude.{◌≡◌, ◌↔◌, ◌⊎◌, List, Err, IfErr, IfOk, IsTrue, MatchOption, Ok, OnOk, Some};
+ghost use Rattle.json_text.specs.declared.fault.JsonFault.{JsonFault};
+ghost use Rattle.json_text.specs.declared.fault.JsonFault.TheVariants as json;
 ghost use Rattle.ocpi_json.specs.SetupForms.{setup_in};
-ghost use Rattle.transcript_lines.specs.declared.done.Done.TheVariants as done;
-ghost use Rattle.transcript_parts.specs.LineReads.{GaveNothing, GivesNone};
-ghost use Rattle.transcript_parts.specs.declared.line_read.Ending.TheVariants.{Answered};
+ghost use Rattle.ocpi_types.specs.declared.setup.Node.{Node};
+ghost use Rattle.transcript_parts.specs.Beginnings.{Accuses, FitsNoRun, IsNoRun, IsNotARun, IsNotPassed, TellsOpened, TellsOther};
+ghost use Rattle.transcript_parts.specs.Parts.{FitsFirst};
+ghost use Rattle.transcript_parts.specs.declared.fault.TranscriptFault.TheVariants.{Memory};
+ghost use Rattle.transcript_parts.specs.declared.first_lines.Opened.{Opened};
 
 use crate::echoed::EchoedLine;
 use crate::fault::TranscriptFault;
@@ -28,7 +32,7 @@ pub struct Opened {
 
 /// What is said where a run was opened.
 pub fn opened_by(ending: &Ending) -> Option<Opened>
-    ensures { IfSome result (λ o. ending.now ≡ Answered (done.Opened o.party o.rows o.serial) o.number) }
+    ensures { MatchOption result ((o : Opened) → TellsOpened ending.now o → ⊥) (TellsOpened ending.now) }
 {
     match ending {
         Ending::Answered { done, number } => match done {
@@ -48,13 +52,15 @@ pub fn opened_by(ending: &Ending) -> Option<Opened>
     }
 }
 
-/// The setup of a line behind which a run was opened.
+/// The setup of a line behind which a run was opened. A line that is none is told (`NotARun`).
 pub fn opened_setup(
     alloc: Global,
     scratch: &mut Scratch,
     line: EchoedLine<'_>,
 ) -> Result<Setup, TranscriptFault>
-    ensures { IfOk result (λ setup. setup_in line.entry.bytes.now ≡ Ok setup) }
+    ensures is { IfOk result (λ setup. setup_in line.entry.bytes.now ≡ Ok setup) }
+    ensures refused { IfErr result (λ f. Accuses f → (setup : List Node) → setup_in line.entry.bytes.now ≡ Ok setup → ⊥) }
+    ensures named { IfErr result (IsNotARun line.entry.number) }
 {
     match read_setup(alloc, scratch, line.bytes) {
         Ok(setup) => Ok(setup),
@@ -63,47 +69,83 @@ pub fn opened_setup(
     }
 }
 
-/// Whether the first line of a run is refused so. Want of memory may refuse each that is no setup.
-pub fn is_refused_setup(
+/// Whether the fault that is told of a line is this one, or want of memory.
+pub fn is_told(told: Option<JsonFault>, why: JsonFault) -> bool
+    ensures { IsTrue result ↔ ((told ≡ Some why) ⊎ (told ≡ Some json.Memory)) }
+{
+    told == Some(why) || told == Some(JsonFault::Memory)
+}
+
+/// Whether a line that is refused so may be the first one of a run: it is no setup for that reason. Want of memory may
+/// refuse each.
+pub fn fits_first(
     alloc: Global,
     scratch: &mut Scratch,
     line: EchoedLine<'_>,
     told: Option<JsonFault>,
-) -> Result<bool, TranscriptFault> {
+) -> Result<bool, TranscriptFault>
+    ensures is { IfOk result (λ fits. IsTrue fits ↔ FitsFirst line.entry.bytes.now told) }
+    ensures memory { IfErr result (λ f. f ≡ Memory) }
+{
+    if told == Some(JsonFault::Memory) {
+        return Ok(true);
+    }
     match read_setup(alloc, scratch, line.bytes) {
         Ok(_) => Ok(false),
         Err(JsonFault::Memory) => Err(TranscriptFault::Memory),
-        Err(fault) => Ok(told == Some(fault) || told == Some(JsonFault::Memory)),
+        Err(why) => Ok(is_told(told, why)),
     }
 }
 
-/// Whether a line that opened no run may stand where none is open: its run ended with it, or a stop came.
-fn ends_run(
+/// Whether a line is no setup.
+pub fn is_no_setup(
+    alloc: Global,
+    scratch: &mut Scratch,
+    line: EchoedLine<'_>,
+) -> Result<bool, TranscriptFault>
+    ensures is { IfOk result (λ no. IsTrue no ↔ ((why : JsonFault) × (setup_in line.entry.bytes.now ≡ Err why))) }
+    ensures memory { IfErr result (λ f. f ≡ Memory) }
+{
+    match read_setup(alloc, scratch, line.bytes) {
+        Ok(_) => Ok(false),
+        Err(JsonFault::Memory) => Err(TranscriptFault::Memory),
+        Err(_) => Ok(true),
+    }
+}
+
+/// Whether what the end says of a line may be said where no run is open: it was refused as the first one of a run, or a
+/// stop left it.
+fn fits_no_run(
     alloc: Global,
     scratch: &mut Scratch,
     part: &LineRead<'_>,
 ) -> Result<bool, TranscriptFault>
-    ensures { IfOk result (λ fits. IsTrue fits → GivesNone part.now.ending) }
+    ensures is { IfOk result (λ fits. IsTrue fits ↔ FitsNoRun part.now.line.bytes part.now.ending) }
+    ensures other { IfOk result (λ fits. TellsOther part.now.ending → ⊥) }
+    ensures refused { IfErr result (λ f. Accuses f → FitsNoRun part.now.line.bytes part.now.ending → ⊥) }
+    ensures named { IfErr result (IsNotPassed part.now) }
 {
     match part.ending() {
         Ending::Answered { done, .. } => match done {
-            Done::Malformed(told) => is_refused_setup(alloc, scratch, part.line(), *told),
+            Done::Malformed(told) => fits_first(alloc, scratch, part.line(), *told),
             _ => Err(TranscriptFault::Wrong(part.line().number)),
         },
         Ending::NextRun | Ending::FileEnd => Ok(true),
     }
 }
 
-/// Passes a line that opened no run, where none is open.
+/// Passes a line that opened no run, where none is open. Refused (`Wrong`) where another `done` than `malformed` stands
+/// behind it, and (`NotARun`) where that does not fit it as the first one of a run, or something else stands behind it.
 pub fn pass_line(
     alloc: Global,
     scratch: &mut Scratch,
     part: &LineRead<'_>,
 ) -> Result<(), TranscriptFault>
-    ensures none { OnOk result (GivesNone part.now.ending) }
-    ensures nothing { OnOk result (GaveNothing part.now) }
+    ensures passed { OnOk result (IsNoRun part.now) }
+    ensures refused { IfErr result (λ f. Accuses f → IsNoRun part.now → ⊥) }
+    ensures named { IfErr result (IsNotPassed part.now) }
 {
-    let fits = match ends_run(alloc, scratch, part) {
+    let fits = match fits_no_run(alloc, scratch, part) {
         Ok(fits) => fits,
         Err(fault) => return Err(fault),
     };

@@ -1,29 +1,25 @@
-//! The parts of a transcript: an echoed line with what was written of it, or a run without lines.
+//! The parts of a transcript: an echoed line with what was written of it.
 
-ghost use Rattle.std.specs.Prelude.{◌≡◌, ◌≢◌, ◌++◌, ◌∷◌, [], IfNone, IfOk, IfSome, None, Ok, OnOk};
-ghost use Rattle.transcript_lines.specs.Dones.{done_in, run_without_lines};
+ghost use Rattle.std.specs.Prelude.{◌≡◌, ◌++◌, ◌∷◌, ◌↔◌, ℕ, List, [], Err, IfErr, IfNone, IfOk, IfSome, IsTrue, OnOk};
+ghost use Rattle.ocpi_json.specs.SetupForms.{setup_in};
+ghost use Rattle.transcript_parts.specs.Beginnings.{Accuses, IsWrongIn};
 ghost use Rattle.transcript_parts.specs.Lines.{Line, line_of};
-ghost use Rattle.transcript_parts.specs.Parts.{Ends, IsBehind, IsPart, TellsDone};
+ghost use Rattle.transcript_parts.specs.Parts.{Ends, HasNoEnd, HasNoPart, IsBehind, IsKind, IsNothing, IsOther, IsPart, StandsFirst, TellsDone};
+ghost use Rattle.transcript_parts.specs.declared.fault.TranscriptFault.TheVariants.{Memory};
 
 use crate::echoed::EchoedLine;
 use crate::fault::TranscriptFault;
+use crate::first_lines::is_told;
+use crate::line_kinds::{LineKind, line_kind};
 use crate::line_read::{Ending, EventAnswer, LineRead, line_read};
 use crate::lines::Lines;
 use histories::Packets;
 use json_text::JsonFault;
-use ocpi_json::{Scratch, read_packet, read_setup};
+use ocpi_json::Scratch;
 use ocpi_text::Whole;
 use ocpi_types::Packet;
 use std::alloc::Global;
-use transcript_lines::{Done, DoneFault, DoneLine, is_run_without_lines, read_done};
-
-/// A part of a transcript.
-#[derive(Drop)]
-pub enum Part<'a> {
-    /// A run that had no line.
-    RunWithoutLines,
-    Line(LineRead<'a>),
-}
+use transcript_lines::{Done, DoneLine};
 
 /// A line behind an echoed one.
 #[derive(Drop)]
@@ -36,31 +32,44 @@ enum Behind {
     NextRun,
 }
 
-/// What a line is that says nothing of what became of one: a packet, or the setup of the next run.
-fn packet_or_setup(
+/// Whether a line of the kind shows that the one before it, which is no setup for this reason, is the first one of a
+/// run.
+fn shows_first(kind: &LineKind, why: JsonFault) -> bool
+    ensures { (line : List ℕ) (l : Line) (ls : List Line) → setup_in line ≡ Err why → IsKind l kind.now → (IsTrue result ↔ StandsFirst line (l ∷ ls)) }
+{
+    match kind {
+        LineKind::RunWithoutLines => true,
+        LineKind::Setup => true,
+        LineKind::Tells(told) => match (told.event, told.done) {
+            (None, Done::Malformed(fault)) => is_told(fault, why),
+            _ => false,
+        },
+        LineKind::Packet(_) | LineKind::Other(_) => false,
+    }
+}
+
+/// Whether the lines show that the one before them, which is no setup for this reason, is the first one of a run.
+fn stands_first(
     alloc: Global,
     scratch: &mut Scratch,
-    line: EchoedLine<'_>,
-) -> Result<Behind, TranscriptFault>
-    requires done { done_in line.bytes.now ≡ Ok None }
-    requires other { line.bytes.now ≢ run_without_lines }
-    ensures { IfOk result (IsBehind (line_of line.entry)) }
+    why: JsonFault,
+    others: &Lines<'_>,
+) -> Result<bool, TranscriptFault>
+    ensures is { IfOk result (λ first. (line : List ℕ) → setup_in line ≡ Err why → (IsTrue first ↔ StandsFirst line others.now)) }
+    ensures memory { IfErr result (λ f. f ≡ Memory) }
 {
-    match read_packet(alloc, scratch, line.bytes) {
-        Ok(packet) => return Ok(Behind::Packet(packet)),
-        Err(JsonFault::Memory) => return Err(TranscriptFault::Memory),
-        Err(_) => {}
-    }
-    match read_setup(alloc, scratch, line.bytes) {
-        Ok(_) => Ok(Behind::NextRun),
-        Err(JsonFault::Memory) => Err(TranscriptFault::Memory),
-        Err(_) => Err(TranscriptFault::Wrong(line.number)),
+    let Some((line, _rest)) = others.next() else {
+        return Ok(true);
+    };
+    match line_kind(alloc, scratch, line) {
+        Ok(kind) => Ok(shows_first(&kind, why)),
+        Err(fault) => Err(fault),
     }
 }
 
 /// A line that tells of an echoed one, or of an event of it.
 fn behind_of(told: DoneLine) -> Behind
-    ensures { (l : Line) → TellsDone l told.done told.event → IsBehind l result }
+    ensures { (l : Line) (others : List Line) → TellsDone l told.done told.event → IsBehind l others result }
 {
     let done = told.done;
     match told.event {
@@ -69,22 +78,45 @@ fn behind_of(told: DoneLine) -> Behind
     }
 }
 
-/// What a line behind an echoed one is.
+/// What a line behind an echoed one is that is no setup for this reason, and nothing else.
+fn next_run_or_wrong(
+    alloc: Global,
+    scratch: &mut Scratch,
+    line: EchoedLine<'_>,
+    why: JsonFault,
+    others: &Lines<'_>,
+) -> Result<Behind, TranscriptFault>
+    requires other { IsOther (line_of line) }
+    requires refused { setup_in line.bytes.now ≡ Err why }
+    ensures is { IfOk result (IsBehind (line_of line.entry) others.now) }
+    ensures refused { IfErr result (λ f. Accuses f → IsNothing (line_of line.entry) others.now) }
+    ensures wrong { IfErr result (IsWrongIn (line_of line.entry ∷ [])) }
+{
+    match stands_first(alloc, scratch, why, others) {
+        Ok(true) => Ok(Behind::NextRun),
+        Ok(false) => Err(TranscriptFault::Wrong(line.number)),
+        Err(fault) => Err(fault),
+    }
+}
+
+/// What a line behind an echoed one is, before these others.
 fn read_behind(
     alloc: Global,
     scratch: &mut Scratch,
     line: EchoedLine<'_>,
+    others: &Lines<'_>,
 ) -> Result<Behind, TranscriptFault>
-    ensures { IfOk result (IsBehind (line_of line.entry)) }
+    ensures is { IfOk result (IsBehind (line_of line.entry) others.now) }
+    ensures refused { IfErr result (λ f. Accuses f → IsNothing (line_of line.entry) others.now) }
+    ensures wrong { IfErr result (IsWrongIn (line_of line.entry ∷ [])) }
 {
-    if is_run_without_lines(line.bytes) {
-        return Ok(Behind::NextRun);
-    }
-    match read_done(alloc, scratch, line.bytes) {
-        Ok(Some(told)) => Ok(behind_of(told)),
-        Ok(None) => packet_or_setup(alloc, scratch, line),
-        Err(DoneFault::NoDone) => Err(TranscriptFault::Wrong(line.number)),
-        Err(DoneFault::Memory) => Err(TranscriptFault::Memory),
+    match line_kind(alloc, scratch, line) {
+        Ok(LineKind::RunWithoutLines) => Ok(Behind::NextRun),
+        Ok(LineKind::Setup) => Ok(Behind::NextRun),
+        Ok(LineKind::Tells(told)) => Ok(behind_of(told)),
+        Ok(LineKind::Packet(packet)) => Ok(Behind::Packet(packet)),
+        Ok(LineKind::Other(why)) => next_run_or_wrong(alloc, scratch, line, why, others),
+        Err(fault) => Err(fault),
     }
 }
 
@@ -99,6 +131,7 @@ fn push_answer(
 ) -> Result<(), TranscriptFault>
     ensures answers { OnOk result (answers.new.items ≡ answers.old.items ++ record { packets = packets.old.items; done = done; event = event; number = number } ∷ []) }
     ensures packets { packets.new.items ≡ [] }
+    ensures memory { IfErr result (λ f. f ≡ Memory) }
 {
     let sent = std::mem::replace(packets, Vec::new(alloc));
     let answer = EventAnswer {
@@ -124,13 +157,15 @@ fn take_ending(
 ) -> Result<Ending, TranscriptFault>
     requires answers { answers.old.items ≡ [] }
     requires packets { packets.old.items ≡ [] }
-    ensures { IfOk result (λ end. Ends lines.old answers.new.items packets.new.items end lines.new) }
+    ensures ended { IfOk result (λ end. Ends lines.old answers.new.items packets.new.items end lines.new) }
+    ensures refused { IfErr result (λ f. Accuses f → HasNoEnd lines.old) }
+    ensures wrong { IfErr result (IsWrongIn lines.old) }
 {
     loop {
         let Some((line, rest)) = lines.next() else {
             return Ok(Ending::FileEnd);
         };
-        match read_behind(alloc, scratch, line) {
+        match read_behind(alloc, scratch, line, &rest) {
             Ok(Behind::Packet(packet)) => match packets.push(packet) {
                 Ok(()) => *lines = rest,
                 Err(_) => return Err(TranscriptFault::Memory),
@@ -154,26 +189,26 @@ fn take_ending(
     }
 }
 
-/// Takes the next part of a file, if there is one.
+/// Takes the next part of a file, if there is one: an echoed line, whatever it holds, and what stands behind it.
+/// Refused (`Wrong`) at a line that may not stand there.
 pub fn next_part<'a>(
     alloc: Global,
     scratch: &mut Scratch,
     lines: &mut Lines<'a>,
-) -> Result<Option<Part<'a>>, TranscriptFault>
+) -> Result<Option<LineRead<'a>>, TranscriptFault>
     ensures some { IfOk result (λ part. IfSome part (λ p. IsPart lines.old p lines.new)) }
     ensures none { IfOk result (λ part. IfNone part ((lines.old ≡ []) × (lines.new ≡ []))) }
+    ensures refused { IfErr result (λ f. Accuses f → HasNoPart lines.old) }
+    ensures wrong { IfErr result (IsWrongIn lines.old) }
 {
     let Some((line, rest)) = lines.next() else {
         return Ok(None);
     };
     *lines = rest;
-    if is_run_without_lines(line.bytes) {
-        return Ok(Some(Part::RunWithoutLines));
-    }
     let mut answers = Vec::new(alloc);
     let mut packets = Vec::new(alloc);
     match take_ending(alloc, scratch, lines, &mut answers, &mut packets) {
-        Ok(ending) => Ok(Some(Part::Line(line_read(line, answers, packets, ending)))),
+        Ok(ending) => Ok(Some(line_read(line, answers, packets, ending))),
         Err(fault) => Err(fault),
     }
 }

@@ -5,7 +5,7 @@ use Rattle.std.specs.Prelude.{Contains, OnOk}
 use Rattle.ocpi_types.specs.Setups.{party_of}
 use Rattle.ocpi_types.specs.declared.packet.Packet.{Packet}
 use Rattle.ocpi_types.specs.declared.setup.Node.{Node}
-use Rattle.transcripts.specs.Following.{AllCome, AllGoOn, Came, ComeInTurn, ComesOf, First, Follows, Gives, GoesOn, Happens, IsNew, IsOneOf, IsRead, IsWayOf, Last, Later, LeftOpen, LeftOut, More, NoEvent, NoLines, NoSetup, NoneYet, OneMore, Outside, Passed, PassesLine, ReadTo, Reading, ShowsEvent, Standing, Start, Starved, TakesLine, TakesPart, in_run, is_open_behind, opening_told}
+use Rattle.transcripts.specs.Following.{AllCome, AllGoOn, Came, ComeInTurn, ComesOf, First, Follows, Gives, GoesOn, Happens, IsNew, IsOneOf, IsRead, IsWayOf, Last, Later, LeftOpen, LeftOut, More, NoEvent, NoSetup, NoneYet, OneMore, Outside, Passed, PassesLine, ReadTo, Reading, ShowsEvent, Standing, Start, Starved, TakesLine, TakesPart, in_run, is_open_behind, opening_told}
 use Rattle.transcripts.specs.LineEvents.{HasShape, Holds, LineEvent, LineEvents}
 use Rattle.transcript_parts.specs.Lines.{Line, line_of}
 use Rattle.transcript_parts.specs.LineReads.{GaveNothing, LineRead}
@@ -16,8 +16,6 @@ use Rattle.transcript_lines.specs.declared.done.Done.TheVariants as done
 use Rattle.transcript_parts.specs.declared.first_lines.Opened.{Opened}
 use Rattle.transcript_parts.specs.declared.line_read.Ending.{Ending}
 use Rattle.transcript_parts.specs.declared.line_read.Ending.TheVariants.{Answered}
-use Rattle.transcript_parts.specs.declared.parts.Part.{Part}
-use Rattle.transcript_parts.specs.declared.parts.Part.TheVariants as part
 
 abbrev pub standing : Option Told → Bool → Option LineEvents → Standing
 standing told within left = record { told = told; within = within; unanswered = left }
@@ -49,6 +47,20 @@ goes_on_keeps setup earlier old None new e k = subst (Kept setup earlier) (sym e
 goes_on_keeps setup earlier old (Some u) new (inl e) k = subst (Kept setup earlier) (sym e) k
 goes_on_keeps setup earlier old (Some u) new (inr done) k = subst (Kept setup earlier) (sym done.starts) (come_keeps setup earlier _ old u.events _ done.between done.come k)
 
+-- it is the same member of it
+happens_member : (old : Told) (e : LineEvent) (end : Ending) (packets : List Packet) (changed : Bool) (new : Told) → Gives old e end packets changed new → new.replay.member ≡ old.replay.member
+happens_member old e end packets changed new (inl h) = h.enters.member
+happens_member old e end packets changed new (inr stays) = ap (λ (t : Told). t.replay.member) stays.same
+
+come_member : (p : LineRead) (old : Told) (es : List LineEvent) (changed : Bool) (new : Told) → ComeInTurn p old es changed new → new.replay.member ≡ old.replay.member
+come_member p old es changed new NoneYet = refl
+come_member p old es changed new (OneMore e before gives so) = happens_member _ e _ _ _ new gives ∙ come_member p old _ _ _ before
+
+pub goes_on_member : (old : Told) (left : Option LineEvents) (new : Told) → GoesOn old left new → new.replay.member ≡ old.replay.member
+goes_on_member old None new is = ap (λ (t : Told). t.replay.member) is
+goes_on_member old (Some h) new (inl is) = ap (λ (t : Told). t.replay.member) is
+goes_on_member old (Some h) new (inr carried) = ap (λ (t : Told). t.replay.member) carried.starts ∙ come_member _ old h.events _ carried.between carried.come
+
 abbrev pub KeptBy : List Node → List Told → Option Told → Type 0
 KeptBy setup earlier None = Unit {0}
 KeptBy setup earlier (Some t) = Kept setup earlier t
@@ -57,22 +69,21 @@ kept_as : (setup : List Node) (earlier : List Told) (o p : Option Told) → p �
 kept_as setup earlier o p e k = subst (KeptBy setup earlier) (sym e) k
 
 passed_same : (s : Standing) (p : LineRead) (t : Standing) → PassesLine s p t → t.told ≡ s.told
-passed_same s p t (Outside within unread is) = ap (λ z. z.told) is
-passed_same s p t (NoEvent told at within ends refused is) = ap (λ z. z.told) is
-passed_same s p t (NoSetup told at opened within ends opens is) = ap (λ z. z.told) is
-passed_same s p t (Starved at within ends other is) = ap (λ z. z.told) is
+passed_same s p t (Outside within fits is) = ap (λ z. z.told) is
+passed_same s p t (NoEvent told at within ends fits is) = ap (λ z. z.told) is
+passed_same s p t (NoSetup told at within ends no_event first is) = ap (λ z. z.told) is
+passed_same s p t (Starved at within ends may is) = ap (λ z. z.told) is
 passed_same s p t (LeftOpen u within leaves is) = ap (λ z. z.told) is
 passed_same s p t (LeftOut within ends none is) = ap (λ z. z.told) is
 passed_same s p t (Last within ends is) = ap (λ z. z.told) is
 
-follows_keeps : (setup : List Node) (earlier : List Told) (s : Standing) (p : Part) (t : Standing) → Follows setup earlier s p t → KeptBy setup earlier s.told → KeptBy setup earlier t.told
-follows_keeps setup earlier s p t (NoLines e) k = kept_as setup earlier s.told t.told (ap (λ z. z.told) e) k
+follows_keeps : (setup : List Node) (earlier : List Told) (s : Standing) (p : LineRead) (t : Standing) → Follows setup earlier s p t → KeptBy setup earlier s.told → KeptBy setup earlier t.told
 follows_keeps setup earlier s p t (First o) k = kept_as setup earlier (Some (opening_told setup o.member)) t.told (ap (λ z. z.told) o.stands) (refl, o.is_new)
 follows_keeps setup earlier s p t (Later r) k =
     kept_as setup earlier (Some r.new) t.told (ap (λ z. z.told) r.stands) (goes_on_keeps setup earlier r.old s.unanswered r.new r.goes_on (subst (KeptBy setup earlier) r.stood k))
 follows_keeps setup earlier s p t (Came x) k =
     kept_as setup earlier (Some x.new) t.told (ap (λ z. z.told) x.stands) (come_keeps setup earlier _ x.old x.line.events x.changed x.new x.come (subst (KeptBy setup earlier) x.stood k))
-follows_keeps setup earlier s p t (Passed nothing x) k = kept_as setup earlier s.told t.told (passed_same s _ t x) k
+follows_keeps setup earlier s p t (Passed nothing x) k = kept_as setup earlier s.told t.told (passed_same s p t x) k
 
 read_keeps : (setup : List Node) (earlier : List Told) (all lines : List Line) (s : Standing) → ReadTo setup earlier all lines s → KeptBy setup earlier s.told
 read_keeps setup earlier all lines s Start = tt
@@ -94,7 +105,7 @@ nothing_read setup earlier all = record { setup_is = refl; each = λ s is. start
     start None within left is v e = subst (ReadTo setup earlier all all) (sym (same_standing None within false left None v e)) Start
     start (Some t) within left is v e = absurd (omega (arith, is.1))
 
-pub more_read : (setup : List Node) (earlier : List Told) (all lines rest : List Line) (p : Part) (old new : Reading)
+pub more_read : (setup : List Node) (earlier : List Told) (all lines rest : List Line) (p : LineRead) (old new : Reading)
     → IsRead setup earlier all lines old → IsPart lines p rest → TakesPart earlier old p new → IsRead setup earlier all rest new
 more_read setup earlier all lines rest p old new r is takes = record {
   setup_is = takes.setup ∙ r.setup_is;
@@ -134,16 +145,6 @@ pub on_both : {A B X Y Z : Type 0} (r : Result A B) → OnOk r X → OnOk r Y �
 on_both (Ok a) x y f = f x y
 on_both (Err b) x y f = tt
 
-pub no_lines : (earlier : List Told) (old new : Reading) → new ≡ reading old.setup old.ways false old.unanswered → TakesPart earlier old part.RunWithoutLines new
-no_lines earlier old new e = record { setup = ap (λ r. r.setup) e; each = λ t one. by t (subst (λ r. IsOneOf r t) e one) }
-  where
-    by : (t : Standing) → IsOneOf (reading old.setup old.ways false old.unanswered) t → (s : Standing) × IsOneOf old s × Follows old.setup earlier s part.RunWithoutLines t
-    by t one = (
-      standing t.told old.within old.unanswered,
-      record { way = one.way; within = refl; unanswered = refl },
-      NoLines (same_standing t.told t.within false t.unanswered old.unanswered one.within one.unanswered),
-    )
-
 -- it came to the node
 pub happened : (old new : Reading) (p : LineRead) (line : LineEvents) → line_of line.line ≡ p.line → Holds line → HasShape line p → new.setup ≡ old.setup → new.within ≡ is_open_behind p.ending
     → new.unanswered ≡ old.unanswered → AllCome old.ways line.events p new.ways → new.ways ≢ [] → ShowsEvent p p.ending → TakesLine (in_run old) p new
@@ -151,7 +152,7 @@ happened old new p line is_line holds shape setup within left all some shows ear
     record { setup = setup; each = λ t one. by t.told t.within t.unanswered one.way (one.within ∙ within) (one.unanswered ∙ left) }
   where
     Before : Standing → Type 0
-    Before t = (s : Standing) × IsOneOf (in_run old) s × Follows old.setup earlier s (part.Line p) t
+    Before t = (s : Standing) × IsOneOf (in_run old) s × Follows old.setup earlier s p t
 
     of : (t : Told) (v : Bool) (u : Option LineEvents) → v ≡ is_open_behind p.ending → u ≡ old.unanswered → ComesOf old.ways line.events p t → Before (standing (Some t) v u)
     of t v u a b c = (
@@ -180,11 +181,11 @@ happened old new p line is_line holds shape setup within left all some shows ear
 -- a run is opened, the first of the file
 pub opened_first : (earlier : List Told) (old new : Reading) (p : LineRead) (member : Node) (at : ℕ) → Contains old.setup member → IsNew earlier (party_of member)
     → setup_in p.line.bytes ≡ Ok old.setup → GaveNothing p → p.ending ≡ Answered (done.Opened (party_of member) 0 0) at → old.ways ≡ []
-    → new ≡ reading old.setup (opening_told old.setup member ∷ []) true None → TakesPart earlier old (part.Line p) new
+    → new ≡ reading old.setup (opening_told old.setup member ∷ []) true None → TakesPart earlier old p new
 opened_first earlier old new p member at among fresh reads no_packets answered empty is = record { setup = ap (λ r. r.setup) is; each = λ t one. of t (subst (λ r. IsOneOf r t) is one) }
   where
     Before : Standing → Type 0
-    Before t = (s : Standing) × IsOneOf old s × Follows old.setup earlier s (part.Line p) t
+    Before t = (s : Standing) × IsOneOf old s × Follows old.setup earlier s p t
 
     first : Told
     first = opening_told old.setup member
@@ -222,7 +223,7 @@ opened_later old new p opened reads no_packets answered setup within left all so
     record { setup = setup; each = λ t one. by t.told t.within t.unanswered one.way (one.within ∙ within) (one.unanswered ∙ left) }
   where
     Before : Standing → Type 0
-    Before t = (s : Standing) × IsOneOf old s × Follows old.setup earlier s (part.Line p) t
+    Before t = (s : Standing) × IsOneOf old s × Follows old.setup earlier s p t
 
     by : (told : Option Told) (v : Bool) (u : Option LineEvents) → IsWayOf new.ways told → v ≡ true → u ≡ None → Before (standing told v u)
     by None v u one a b = absurd (some one)

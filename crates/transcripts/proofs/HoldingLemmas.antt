@@ -1,19 +1,21 @@
 -- The events of a line, read one after another, and the places of their answers.
-use Rattle.std.proofs.Common.{◌≡◌, ◌+◌, ◌⊎◌, ◌∙◌, ℕ, List, [], ◌∷◌, ◌++◌, inl, inr, length, map, take, sym, ap, subst, arith, refl}
+use Rattle.std.proofs.Common.{◌≡◌, ◌+◌, ◌⊎◌, ◌∙◌, ℕ, Bool, true, false, List, [], ◌∷◌, ◌++◌, inl, inr, length, map, take, sym, ap, subst, arith, refl}
 use Rattle.std.proofs.Math.Seq.{take-length}
-use Rattle.std.proofs.lemmas.List.{length-take-le, map-append}
+use Rattle.std.proofs.lemmas.List.{length-map, length-take-le, map-append}
 use Rattle.std.proofs.lemmas.Option.{slice_get_within}
 use Rattle.std.specs.Prelude.{Ok, Some, slice_get}
 use Rattle.histories.proofs.Lists.{got_pushed, take_one}
 use Rattle.json_text.specs.Fault.{Read}
 use Rattle.ocpi_types.specs.declared.node_events.NodeEvent.{NodeEvent}
+use Rattle.transcript_parts.specs.LineReads.{LineRead}
+use Rattle.transcript_parts.specs.Lines.{Line, line_of}
 use Rattle.transcript_parts.specs.declared.echoed.EchoedLine.{EchoedLine}
 use Rattle.transcript_parts.specs.declared.line_read.EventAnswer.{EventAnswer}
 use Rattle.node_lines.specs.ElementTexts.{AreElementsOf}
 use Rattle.node_lines.specs.NodeLines.{node_line_in}
-use Rattle.node_lines.specs.declared.node_line.NodeLine.TheVariants.{Several}
+use Rattle.node_lines.specs.declared.node_line.NodeLine.TheVariants.{One, Several}
 use Rattle.ocpi_json.specs.NodeEventForms.{node_event_in}
-use Rattle.transcripts.specs.LineEvents.{AreReadFrom, HoldsSeveral, LineEvent, event_at, text_at}
+use Rattle.transcripts.specs.LineEvents.{AreReadFrom, HasShape, HasShapeBy, Holds, HoldsBy, HoldsSeveral, LineEvent, LineEvents, event_at, text_at}
 use Rattle.transcripts.proofs.WayLemmas.{in_none, one_more}
 
 pub no_texts : (l : EchoedLine) (es : List LineEvent) → es ≡ [] → AreReadFrom [] l es
@@ -44,6 +46,35 @@ module _ {T : Type 0} (bytes : T → List ℕ) (texts : List T) where
     texts = subst (AreElementsOf l.bytes.now) (sym are.texts_are) cut;
     numbers = are.numbers;
   }
+
+-- ---- two that hold the same line
+
+held_by : (v w : Bool) (l m : EchoedLine) (es fs : List LineEvent) → HoldsBy v l es → HoldsBy w m fs → l.bytes.now ≡ m.bytes.now → (map event_at es ≡ map event_at fs) × (v ≡ w)
+held_by true true l m es fs one other same =
+    let both = sym one.array ∙ ap node_line_in same ∙ other.array in
+    let all : map event_at es ≡ map event_at fs = cc in
+    (all, refl)
+held_by false false l m es fs one other same =
+    let both = sym one.1 ∙ ap node_line_in same ∙ other.1 in
+    let event : one.0 ≡ other.0 = cc in
+    (ap (map event_at) one.2 ∙ ap (λ (x : NodeEvent). Ok x ∷ []) event ∙ sym (ap (map event_at) other.2), refl)
+held_by true false l m es fs one other same =
+    let both = sym one.array ∙ ap node_line_in same ∙ other.1 in
+    absurd cc
+held_by false true l m es fs one other same =
+    let both = sym one.1 ∙ ap node_line_in same ∙ other.array in
+    absurd cc
+
+-- they hold the same events
+pub held_alike : (g h : LineEvents) → Holds g → Holds h → line_of g.line ≡ line_of h.line
+    → (map event_at g.events ≡ map event_at h.events) × (g.several ≡ h.several) × (length g.events ≡ length h.events)
+held_alike g h one other same =
+    let (events, several) = held_by g.several h.several g.line h.line g.events h.events one other (ap (λ (l : Line). l.bytes) same) in
+    (events, several, sym (length-map g.events event_at) ∙ ap length events ∙ length-map h.events event_at)
+
+-- and what stands of a line may be told of the one as of the other
+pub shape_alike : (g h : LineEvents) (p : LineRead) → g.several ≡ h.several → length g.events ≡ length h.events → HasShape g p → HasShape h p
+shape_alike g h p several long shape = subst (λ n. HasShapeBy h.several n p) long (subst (λ b. HasShapeBy b (length g.events) p) several shape)
 
 -- ---- the places of answers
 

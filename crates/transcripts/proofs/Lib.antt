@@ -2,3 +2,10 @@ pub mod FollowingLemmas
 pub mod WayLemmas
 pub mod Refusing
 pub mod HoldingLemmas
+pub mod OnlyLemmas
+pub mod StandingLemmas
+pub mod KeepingLemmas
+pub mod BeginningLemmas
+pub mod CoveringLemmas
+pub mod AccusingLemmas
+pub mod HistoryLemmas

@@ -1,24 +1,27 @@
 -- How the parts of a transcript follow one another: what each makes of the node whose transcript it is.
+use Rattle.std.proofs.Common.{inl, inr}
 use Rattle.std.specs.Prelude.{◌≡◌, ◌≢◌, ◌⊎◌, ◌↔◌, ℕ, Bool, true, false, IsTrue, List, [], ◌∷◌, ◌++◌, Option, None, Some, Ok, Err, Contains, length}
 use Rattle.json_text.specs.declared.fault.JsonFault.{JsonFault}
 use Rattle.json_text.specs.declared.fault.JsonFault.TheVariants as json_fault
 use Rattle.ocpi_text.specs.Text.{key}
 use Rattle.ocpi_types.specs.Setups.{party_of}
 use Rattle.ocpi_types.specs.declared.node_events.NodeEvent.{NodeEvent}
+use Rattle.ocpi_types.specs.declared.node_events.NodeEventKind.{NodeEventKind}
 use Rattle.ocpi_types.specs.declared.packet.Packet.{Packet}
 use Rattle.ocpi_types.specs.declared.rows.Row.{Row}
 use Rattle.ocpi_types.specs.declared.setup.Node.{Node}
 use Rattle.node_lines.specs.ListLines.{IsListLine}
 use Rattle.node_lines.specs.NodeLines.{node_line_in}
 use Rattle.ocpi_json.specs.SetupForms.{setup_in}
-use Rattle.node_replay.specs.Replayed.{Enters, Passes, Refuses, started_again}
+use Rattle.node_replay.specs.Replayed.{Enters, Leads, Passes, Refuses, started_again}
 use Rattle.node_steps.specs.declared.fault.NodeFault.{NodeFault}
 use Rattle.node_steps.specs.declared.fault.NodeFault.TheVariants as node_fault
 use Rattle.stored_laws.specs.Nodes.{AreNodeRows, last_serial}
 use Rattle.transcript_lines.specs.declared.done.Done.TheVariants as done
 use Rattle.transcript_parts.specs.Lines.{Line, line_of, lines_in}
 use Rattle.transcript_parts.specs.LineReads.{GaveNothing, LineRead}
-use Rattle.transcript_parts.specs.Parts.{IsPart}
+use Rattle.transcript_parts.specs.Beginnings.{FitsNoRun}
+use Rattle.transcript_parts.specs.Parts.{FitsFirst, IsPart}
 use Rattle.transcripts.specs.LineEvents.{HasShape, Holds, LineEvent, LineEvents, ending_at, packets_at}
 use Rattle.transcripts.specs.Told.{Told}
 use Rattle.transcript_parts.specs.declared.fault.TranscriptFault.{TranscriptFault}
@@ -26,11 +29,9 @@ use Rattle.transcript_parts.specs.declared.fault.TranscriptFault.TheVariants as 
 use Rattle.transcript_parts.specs.declared.first_lines.Opened.{Opened}
 use Rattle.transcript_parts.specs.declared.line_read.Ending.{Ending}
 use Rattle.transcript_parts.specs.declared.line_read.Ending.TheVariants.{Answered, FileEnd, NextRun}
-use Rattle.transcript_parts.specs.declared.parts.Part.{Part}
-use Rattle.transcript_parts.specs.declared.parts.Part.TheVariants as part
 use Rattle.transcript_parts.specs.declared.echoed.EchoedLine.{EchoedLine}
 use Rattle.transcripts.specs.declared.source.Source.TheVariants.{Echoed, Restarted}
-use Rattle.world_steps.specs.World.{opening_of}
+use Rattle.world_steps.specs.World.{NodeState, opening_of}
 
 -- ---- one event
 
@@ -49,6 +50,27 @@ FitsEntry FileEnd packets changed sent = (rest : List Packet) × (sent ≡ packe
 -- the event is of the node's party
 abbrev pub IsOwn : Told → NodeEvent → Type 0
 IsOwn t x = key x.node ≡ key (party_of t.replay.member)
+
+-- an answer of a node to an event: packets, whether rows changed, and the node behind it; that the event is none of its
+-- role; or a refusal
+pub data NodeAnswer : Type 0 where
+  Stepped : List Packet → Bool → NodeState → NodeAnswer
+  PassedOver : NodeAnswer
+  Declined : NodeFault → NodeAnswer
+
+-- by the rules the node may answer so
+abbrev pub MayAnswer : NodeState → NodeEventKind → NodeAnswer → Type 0
+MayAnswer s k (Stepped packets changed t) = Leads s k packets changed t
+MayAnswer s k PassedOver = Passes s k
+MayAnswer s k (Declined why) = Refuses s k why
+
+-- the rules leave the node one answer at most (of several equal EVSEs they leave open which one is taken)
+abbrev pub HasOneAnswer : NodeState → NodeEventKind → Type 0
+HasOneAnswer s k = (a b : NodeAnswer) → MayAnswer s k a → MayAnswer s k b → a ≡ b
+
+-- and so it is of an event of a line, where that is the node's
+abbrev pub LeavesNoChoice : Told → LineEvent → Type 0
+LeavesNoChoice t e = (x : NodeEvent) → e.event ≡ Ok x → IsOwn t x → HasOneAnswer t.replay.state x.kind
 
 -- it is an event of the node, which was carried out, and gave what is told of it
 pub record Happens (old : Told) (e : LineEvent) (end : Ending) (packets : List Packet) (changed : Bool) (new : Told) : Type 0 where
@@ -121,6 +143,11 @@ pub data ComeInTurn (p : LineRead) (old : Told) : List LineEvent → Bool → To
   OneMore : {es : List LineEvent} {before now after : Bool} {t u : Told} (e : LineEvent) → ComeInTurn p old es before t
       → Gives t e (ending_at p (length es)) (packets_at p (length es)) now u → (IsTrue after ↔ (IsTrue before ⊎ IsTrue now)) → ComeInTurn p old (es ++ e ∷ []) after u
 
+-- to none of them could the node have answered otherwise
+abbrev pub ComeWithoutChoice : {p : LineRead} {old : Told} {es : List LineEvent} {changed : Bool} {new : Told} → ComeInTurn p old es changed new → Type 0
+ComeWithoutChoice NoneYet = Unit {0}
+ComeWithoutChoice (OneMore {t = t} e before gives so) = ComeWithoutChoice before × LeavesNoChoice t e
+
 -- ---- a run behind another
 
 -- the node is that with which a run was opened: of its party, as it is spelled, with so many rows, and a last packet of
@@ -148,6 +175,12 @@ pub record CarriedOut (old : Told) (h : LineEvents) (new : Told) : Type 0 where
 abbrev pub GoesOn : Told → Option LineEvents → Told → Type 0
 GoesOn old None new = new ≡ restarted old
 GoesOn old (Some h) new = (new ≡ restarted old) ⊎ CarriedOut old h new
+
+-- to none of the events of the line that was left open could the node have answered otherwise, if it was carried out
+abbrev pub GoesOnWithoutChoice : (old : Told) (left : Option LineEvents) (new : Told) → GoesOn old left new → Type 0
+GoesOnWithoutChoice old None new is = Unit {0}
+GoesOnWithoutChoice old (Some h) new (inl is) = Unit {0}
+GoesOnWithoutChoice old (Some h) new (inr carried) = ComeWithoutChoice carried.come
 
 -- ---- part by part
 
@@ -232,18 +265,6 @@ pub record LeavesOpen (p : LineRead) (h : LineEvents) : Type 0 where
   pub is_line : line_of h.line ≡ p.line
   pub holds : Holds h
 
--- what the end says of a line where no run is open: it was refused as the first one of a run, or a stop left it
-abbrev pub TellsNoRun : Ending → Type 0
-TellsNoRun (Answered (done.Malformed fault) at) = Unit {0}
-TellsNoRun (Answered (done.Refused fault) at) = ⊥
-TellsNoRun (Answered done.Skipped at) = ⊥
-TellsNoRun (Answered done.Idle at) = ⊥
-TellsNoRun (Answered (done.Stepped n) at) = ⊥
-TellsNoRun (Answered (done.Opened party rows serial) at) = ⊥
-TellsNoRun (Answered (done.All n) at) = ⊥
-TellsNoRun NextRun = Unit {0}
-TellsNoRun FileEnd = Unit {0}
-
 -- the line is refused as a whole, for the reason that is told
 abbrev pub IsRefusedEvent : List ℕ → Option JsonFault → Type 0
 IsRefusedEvent line told = (why : JsonFault) × (node_line_in line ≡ Err why) × (told ≡ Some why)
@@ -252,37 +273,68 @@ IsRefusedEvent line told = (why : JsonFault) × (node_line_in line ≡ Err why) 
 abbrev pub IsNoEvent : List ℕ → Type 0
 IsNoEvent line = (why : JsonFault) × (node_line_in line ≡ Err why)
 
+-- memory may run out for it: it is no setup and no array
+pub record MayStarve (line : List ℕ) : Type 0 where
+  pub fault : JsonFault
+  pub no_setup : setup_in line ≡ Err fault
+  pub no_list : IsListLine line → ⊥
+
+-- what is told of a line that was refused fits it as an event
+abbrev pub FitsEvent : List ℕ → Option JsonFault → Type 0
+FitsEvent line told = IsRefusedEvent line told ⊎ ((told ≡ Some json_fault.Memory) × MayStarve line)
+
 -- how a line is passed over that did not come to the node, and what is known behind it: no run was open; it was refused
--- as a line; it is told as malformed, as the first line of a run may be, of which nothing is said here but that the run
--- then ended, unless memory ran out, and the line is no array; memory ran out for any other line that is none; or a stop
--- left it
+-- as an event; it was refused, not as an event, and so as the first line of a run, which then ended; memory ran out for
+-- it; or a stop left it: as it may have been carried out, as it holds no event, or as the last line of the file
 pub data PassesLine (s : Standing) (p : LineRead) (t : Standing) : Type 0 where
-  Outside : s.within ≡ false → TellsNoRun p.ending → t ≡ s → PassesLine s p t
-  NoEvent : (told : Option JsonFault) (at : ℕ) → s.within ≡ true → p.ending ≡ Answered (done.Malformed told) at → IsRefusedEvent p.line.bytes told → t ≡ s → PassesLine s p t
-  NoSetup : (told : Option JsonFault) (at : ℕ) (within : Bool) → s.within ≡ true → p.ending ≡ Answered (done.Malformed told) at
-      → (IsTrue within ↔ ((told ≡ Some json_fault.Memory) × (IsListLine p.line.bytes → ⊥))) → t ≡ record { told = s.told; within = within; unanswered = s.unanswered } → PassesLine s p t
-  Starved : (at : ℕ) → s.within ≡ true → p.ending ≡ Answered (done.Refused (Some node_fault.Memory)) at → (IsListLine p.line.bytes → ⊥) → t ≡ s → PassesLine s p t
+  Outside : s.within ≡ false → FitsNoRun p.line.bytes p.ending → t ≡ s → PassesLine s p t
+  NoEvent : (told : Option JsonFault) (at : ℕ) → s.within ≡ true → p.ending ≡ Answered (done.Malformed told) at → FitsEvent p.line.bytes told → t ≡ s → PassesLine s p t
+  NoSetup : (told : Option JsonFault) (at : ℕ) → s.within ≡ true → p.ending ≡ Answered (done.Malformed told) at → (FitsEvent p.line.bytes told → ⊥) → FitsFirst p.line.bytes told
+      → t ≡ ended s → PassesLine s p t
+  Starved : (at : ℕ) → s.within ≡ true → p.ending ≡ Answered (done.Refused (Some node_fault.Memory)) at → MayStarve p.line.bytes → t ≡ s → PassesLine s p t
   LeftOpen : (h : LineEvents) → s.within ≡ true → LeavesOpen p h → t ≡ record { told = s.told; within = false; unanswered = Some h } → PassesLine s p t
   LeftOut : s.within ≡ true → p.ending ≡ NextRun → IsNoEvent p.line.bytes → t ≡ ended s → PassesLine s p t
   Last : s.within ≡ true → p.ending ≡ FileEnd → t ≡ s → PassesLine s p t
 
 -- what a part makes of what is known
-pub data Follows (setup : List Node) (earlier : List Told) (s : Standing) : Part → Standing → Type 0 where
-  NoLines : {t : Standing} → t ≡ ended s → Follows setup earlier s part.RunWithoutLines t
-  First : {p : LineRead} {t : Standing} → Opens setup earlier s p t → Follows setup earlier s (part.Line p) t
-  Later : {p : LineRead} {t : Standing} → Reopens setup s p t → Follows setup earlier s (part.Line p) t
-  Came : {p : LineRead} {t : Standing} → ComesToNode s p t → Follows setup earlier s (part.Line p) t
-  Passed : {p : LineRead} {t : Standing} → GaveNothing p → PassesLine s p t → Follows setup earlier s (part.Line p) t
+pub data Follows (setup : List Node) (earlier : List Told) (s : Standing) (p : LineRead) (t : Standing) : Type 0 where
+  First : Opens setup earlier s p t → Follows setup earlier s p t
+  Later : Reopens setup s p t → Follows setup earlier s p t
+  Came : ComesToNode s p t → Follows setup earlier s p t
+  Passed : GaveNothing p → PassesLine s p t → Follows setup earlier s p t
+
+-- to none of the events could the node have answered otherwise
+abbrev pub FollowsWithoutChoice : {setup : List Node} {earlier : List Told} {s : Standing} {p : LineRead} {t : Standing} → Follows setup earlier s p t → Type 0
+FollowsWithoutChoice (First o) = Unit {0}
+FollowsWithoutChoice {s = s} (Later r) = GoesOnWithoutChoice r.old s.unanswered r.new r.goes_on
+FollowsWithoutChoice (Came x) = ComeWithoutChoice x.come
+FollowsWithoutChoice (Passed nothing x) = Unit {0}
+
+-- nothing is read of a file
+abbrev pub nothing_known : Standing
+nothing_known = record { told = None; within = false; unanswered = None }
 
 -- what is known behind the parts that were read
 pub data ReadTo (setup : List Node) (earlier : List Told) (all : List Line) : List Line → Standing → Type 0 where
-  Start : ReadTo setup earlier all all (record { told = None; within = false; unanswered = None })
-  More : {lines rest : List Line} {s t : Standing} (p : Part) → ReadTo setup earlier all lines s → IsPart lines p rest
+  Start : ReadTo setup earlier all all nothing_known
+  More : {lines rest : List Line} {s t : Standing} (p : LineRead) → ReadTo setup earlier all lines s → IsPart lines p rest
       → Follows setup earlier s p t → ReadTo setup earlier all rest t
+
+-- and to no event so far could the node have answered otherwise
+abbrev pub ReadWithoutChoice : {setup : List Node} {earlier : List Told} {all lines : List Line} {s : Standing} → ReadTo setup earlier all lines s → Type 0
+ReadWithoutChoice Start = Unit {0}
+ReadWithoutChoice (More p before is follows) = ReadWithoutChoice before × FollowsWithoutChoice follows
 
 -- the whole file tells just that
 abbrev pub IsTranscriptOf : List Node → List Told → List ℕ → Told → Type 0
 IsTranscriptOf setup earlier text t = (end : Standing) × ReadTo setup earlier (lines_in text) [] end × (end.told ≡ Some t)
+
+-- it tells just that, and to no event could the node have answered otherwise by the rules
+pub record IsTranscriptWithoutChoice (setup : List Node) (earlier : List Told) (text : List ℕ) (t : Told) : Type 0 where
+  pub end : Standing
+  pub reads : ReadTo setup earlier (lines_in text) [] end
+  pub forced : ReadWithoutChoice reads
+  pub told : end.told ≡ Some t
 
 -- ---- while parts are read
 
@@ -312,13 +364,13 @@ pub record IsOneOf (r : Reading) (s : Standing) : Type 0 where
   pub unanswered : s.unanswered ≡ r.unanswered
 
 -- each way came of an earlier one by the part
-pub record TakesPart (earlier : List Told) (old : Reading) (p : Part) (new : Reading) : Type 0 where
+pub record TakesPart (earlier : List Told) (old : Reading) (p : LineRead) (new : Reading) : Type 0 where
   pub setup : new.setup ≡ old.setup
   pub each : (t : Standing) → IsOneOf new t → (s : Standing) × IsOneOf old s × Follows old.setup earlier s p t
 
 -- and so by a line within a run
 abbrev pub TakesLine : Reading → LineRead → Reading → Type 0
-TakesLine old p new = (earlier : List Told) → TakesPart earlier old (part.Line p) new
+TakesLine old p new = (earlier : List Told) → TakesPart earlier old p new
 
 -- the same, where a run is open
 abbrev pub in_run : Reading → Reading

@@ -1,7 +1,11 @@
 //! All ways in which what a transcript tells may have happened, those first that are preferred.
 
-ghost use Rattle.std.specs.Prelude.{◌≡◌, IsPermutation, OnOk, Some};
+ghost use Rattle.std.specs.Prelude.{◌≡◌, IfOk, IsPermutation, IsTrue, OnOk, Some};
+ghost use Rattle.node_replay.specs.Replayed.{started_again};
+ghost use Rattle.transcripts.specs.Covering.{LosesNone, LosesNoneByRun};
+ghost use Rattle.transcripts.specs.Exact.{AddsEach, CarriedOutAs, GoesOnAs};
 ghost use Rattle.transcripts.specs.Following.{Adds, AllCome, AllGoOn, GoesOn, StandsAt, restarted};
+ghost use Rattle.transcripts.specs.Told.{Told};
 
 use crate::line_events::{LineEvent, LineEvents};
 use crate::turns::come_in_turn;
@@ -24,7 +28,8 @@ pub(crate) fn happen_in_ways<'a>(
     events: &[LineEvent<'a>],
     part: &LineRead<'a>,
 ) -> Result<(), AllocError>
-    ensures { OnOk result (AllCome ways.old.items events.now part.now ways.new.items) }
+    ensures come { OnOk result (AllCome ways.old.items events.now part.now ways.new.items) }
+    ensures none_lost { OnOk result (LosesNone ways.old.items events.now part.now ways.new.items) }
 {
     let mut left = std::mem::replace(ways, Vec::new(alloc));
     while let Some(mut way) = left.pop() {
@@ -47,7 +52,8 @@ fn push_standing<'a>(
     opened: &Opened,
     ways: &mut Vec<Way<'a>>,
 ) -> Result<(), AllocError>
-    ensures { OnOk result (Adds (λ t. (t ≡ way.entry) × StandsAt opened.now t) ways.old.items ways.new.items) }
+    ensures adds { OnOk result (Adds (λ t. (t ≡ way.entry) × StandsAt opened.now t) ways.old.items ways.new.items) }
+    ensures each { OnOk result (AddsEach (λ t. (way.entry.replay ≡ t.replay) × StandsAt opened.now t) ways.old.items ways.new.items) }
 {
     match way.stands_at(opened) {
         Ok(true) => match ways.push(way) {
@@ -65,7 +71,8 @@ fn push_restarted<'a>(
     opened: &Opened,
     ways: &mut Vec<Way<'a>>,
 ) -> Result<(), AllocError>
-    ensures { OnOk result (Adds (λ t. (t ≡ restarted way.entry) × StandsAt opened.now t) ways.old.items ways.new.items) }
+    ensures adds { OnOk result (Adds (λ t. (t ≡ restarted way.entry) × StandsAt opened.now t) ways.old.items ways.new.items) }
+    ensures each { OnOk result (AddsEach (λ t. (started_again way.entry.replay ≡ t.replay) × StandsAt opened.now t) ways.old.items ways.new.items) }
 {
     match way.restart() {
         Ok(()) => push_standing(way, opened, ways),
@@ -82,18 +89,22 @@ fn push_carried_out<'a>(
     opened: &Opened,
     ways: &mut Vec<Way<'a>>,
 ) -> Result<(), AllocError>
-    ensures { OnOk result (Adds (λ t. GoesOn way.entry (Some left.now) t × StandsAt opened.now t) ways.old.items ways.new.items) }
+    ensures adds { OnOk result (Adds (λ t. GoesOn way.entry (Some left.now) t × StandsAt opened.now t) ways.old.items ways.new.items) }
+    ensures each { OnOk result (AddsEach (λ t. CarriedOutAs way.entry left.now t × StandsAt opened.now t) ways.old.items ways.new.items) }
 {
     let part = LineRead::unanswered(alloc, left.line());
     match come_in_turn(&mut way, left.events(), &part) {
         Ok(Some(true)) => push_restarted(way, opened, ways),
-        Ok(_) => Ok(()),
+        Ok(Some(false)) => Ok(()),
+        Ok(None) => Ok(()),
         Err(_) => Err(AllocError),
     }
 }
 
 /// Whether a line surely changes no row: one event that would change none. An error is want of memory.
-fn changes_none(way: &Way<'_>, left: &LineEvents<'_>) -> Result<bool, AllocError> {
+fn changes_none(way: &Way<'_>, left: &LineEvents<'_>) -> Result<bool, AllocError>
+    ensures { IfOk result (λ none. IsTrue none → (t : Told) → CarriedOutAs way.now left.now t → ⊥) }
+{
     match left.only_event() {
         Some(event) => match way.would_change(event) {
             Ok(changes) => Ok(!changes),
@@ -112,7 +123,8 @@ fn push_both<'a>(
     opened: &Opened,
     ways: &mut Vec<Way<'a>>,
 ) -> Result<(), AllocError>
-    ensures { OnOk result (Adds (λ t. GoesOn way.entry (Some left.now) t × StandsAt opened.now t) ways.old.items ways.new.items) }
+    ensures adds { OnOk result (Adds (λ t. GoesOn way.entry (Some left.now) t × StandsAt opened.now t) ways.old.items ways.new.items) }
+    ensures each { OnOk result (AddsEach (λ t. GoesOnAs way.entry (Some left.now) t × StandsAt opened.now t) ways.old.items ways.new.items) }
 {
     match changes_none(&way, left) {
         Ok(true) => return push_restarted(way, opened, ways),
@@ -137,7 +149,8 @@ fn push_going_on<'a>(
     opened: &Opened,
     ways: &mut Vec<Way<'a>>,
 ) -> Result<(), AllocError>
-    ensures { OnOk result (Adds (λ t. GoesOn way.entry unanswered.now t × StandsAt opened.now t) ways.old.items ways.new.items) }
+    ensures adds { OnOk result (Adds (λ t. GoesOn way.entry unanswered.now t × StandsAt opened.now t) ways.old.items ways.new.items) }
+    ensures each { OnOk result (AddsEach (λ t. GoesOnAs way.entry unanswered.now t × StandsAt opened.now t) ways.old.items ways.new.items) }
 {
     match unanswered {
         Some(left) => push_both(alloc, way, left, opened, ways),
@@ -153,7 +166,8 @@ pub(crate) fn go_on<'a>(
     unanswered: &Option<LineEvents<'a>>,
     opened: &Opened,
 ) -> Result<(), AllocError>
-    ensures { OnOk result (AllGoOn ways.old.items unanswered.now opened.now ways.new.items) }
+    ensures go_on { OnOk result (AllGoOn ways.old.items unanswered.now opened.now ways.new.items) }
+    ensures none_lost { OnOk result (LosesNoneByRun ways.old.items unanswered.now opened.now ways.new.items) }
 {
     let mut left = std::mem::replace(ways, Vec::new(alloc));
     while let Some(way) = left.pop() {

@@ -10,6 +10,7 @@
 
 mod all_ways;
 mod counting;
+pub mod laws;
 mod line_events;
 mod malformed;
 mod members;

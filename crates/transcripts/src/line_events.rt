@@ -1,6 +1,6 @@
 //! The events that an echoed line holds, each with its text.
 
-ghost use Rattle.std.specs.Prelude.{◌≡◌, IfErr, IfOk, List, Ok, map};
+ghost use Rattle.std.specs.Prelude.{◌≡◌, ◌⊎◌, IfErr, IfOk, IfSome, List, Ok, map};
 ghost use Rattle.json_text.specs.Fault.{Read};
 ghost use Rattle.node_lines.specs.declared.node_line.NodeLine.TheVariants.{One as OneOf, Several as SeveralOf};
 ghost use Rattle.node_lines.specs.NodeLines.{node_line_in};
@@ -8,6 +8,8 @@ ghost use Rattle.ocpi_json.specs.NodeEventForms.{node_event_in};
 ghost use Rattle.ocpi_types.specs.declared.node_events.NodeEvent.{NodeEvent as NodeEventOf};
 ghost use Rattle.transcript_parts.specs.Lines.{line_of};
 ghost use Rattle.transcripts.specs.LineEvents.{AreReadFrom, Holds, IsReadAs};
+ghost use Rattle.transcript_parts.specs.declared.fault.TranscriptFault.TheVariants as transcript_fault;
+ghost use Rattle.transcripts.specs.Exact.{HoldsOnly};
 ghost use Rattle.transcripts.specs.Following.{IsNoEvent, TellsNotARun};
 
 use crate::malformed::not_a_run;
@@ -119,7 +121,9 @@ impl<'a> LineEvents<'a> {
     }
 
     /// The event of a line that is no array.
-    pub(crate) fn only_event(&self) -> Option<&NodeEvent> {
+    pub(crate) fn only_event(&self) -> Option<&NodeEvent>
+        ensures { IfSome result (λ event. HoldsOnly self.now event.now) }
+    {
         if self.several {
             return None;
         }
@@ -230,6 +234,7 @@ fn unless_starved<'a>(
 ) -> Result<LineEvents<'a>, TranscriptFault>
     ensures same { IfOk result (λ h. events.entry ≡ Ok h) }
     ensures starved { IfErr result (λ fault. TellsNotARun fault → ⊥) }
+    ensures memory { IfErr result (λ fault. fault ≡ transcript_fault.Memory) }
 {
     match events {
         Ok(events) => Ok(events),
@@ -246,6 +251,7 @@ pub(crate) fn events_of<'a>(
 ) -> Result<LineEvents<'a>, TranscriptFault>
     ensures line { IfOk result (λ h. line_of h.line ≡ part.now.line) }
     ensures none { IfErr result (λ fault. TellsNotARun fault → IsNoEvent part.now.line.bytes) }
+    ensures fault { IfErr result (λ fault. TellsNotARun fault ⊎ (fault ≡ transcript_fault.Memory)) }
 {
     let line = part.line();
     match read_node_line(alloc, scratch, line.bytes) {

@@ -1,7 +1,8 @@
 //! Whose transcript a file is.
 
-ghost use Rattle.std.specs.Prelude.{◌≡◌, Contains, IfSome, IsTrue};
+ghost use Rattle.std.specs.Prelude.{◌≡◌, ◌↔◌, Contains, IfNone, IfSome, IsTrue};
 ghost use Rattle.ocpi_types.specs.Setups.{party_of};
+ghost use Rattle.ocpi_types.specs.declared.setup.Node.{Node as NodeOf};
 ghost use Rattle.transcripts.specs.Following.{IsNew};
 
 use crate::transcript::Transcript;
@@ -10,7 +11,8 @@ use ocpi_types::Node;
 
 /// The node of a setup whose party is spelled so.
 pub(crate) fn member_spelled<'a>(nodes: &'a [Node], party: &Party) -> Option<&'a Node>
-    ensures { IfSome result (λ member. Contains nodes.now member.now × (party_of member.now ≡ party.now)) }
+    ensures some { IfSome result (λ member. Contains nodes.now member.now × (party_of member.now ≡ party.now)) }
+    ensures none { IfNone result ((member : NodeOf) → Contains nodes.now member → party_of member ≡ party.now → ⊥) }
 {
     for node in nodes {
         if node.party().as_str() == party.as_str() {
@@ -22,7 +24,7 @@ pub(crate) fn member_spelled<'a>(nodes: &'a [Node], party: &Party) -> Option<&'a
 
 /// Whether none of the transcripts is of that party.
 pub(crate) fn is_new(transcripts: &[Transcript<'_>], party: &Party) -> bool
-    ensures { IsTrue result → IsNew transcripts.now party.now }
+    ensures { IsTrue result ↔ IsNew transcripts.now party.now }
 {
     for transcript in transcripts {
         if transcript.party().is_same(party) {

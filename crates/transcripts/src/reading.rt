@@ -1,32 +1,41 @@
 //! The reading of a transcript, part by part.
 
-ghost use Rattle.std.specs.Prelude.{◌≡◌, Contains, IfOk, IfSome, IsTrue, None, Ok, OnOk, Some, [], false, true, ℕ};
+ghost use Rattle.std.specs.Prelude.{◌≡◌, ◌≢◌, ◌↔◌, Contains, IfErr, IfNone, IfOk, IfSome, IsTrue, None, Ok, OnOk, Some, [], false, true, ℕ};
 ghost use Rattle.ocpi_json.specs.SetupForms.{setup_in};
+ghost use Rattle.ocpi_types.specs.Setups.{party_of};
+ghost use Rattle.transcripts.specs.Accusing.{
+  ComesToNone,
+  EndsBy,
+  EndsByLine,
+  KeepsComing,
+  KeepsLine,
+  OpensNone,
+};
+ghost use Rattle.transcripts.specs.Covering.{KeepsAll};
 ghost use Rattle.transcripts.specs.Following.{
   ShowsEvent,
   TakesLine,
   TakesPart,
-  TellsNoRun,
   in_run,
   is_open_behind,
 };
+ghost use Rattle.transcripts.specs.Told.{Told};
+ghost use Rattle.transcript_parts.specs.Beginnings.{Accuses};
 ghost use Rattle.transcript_parts.specs.LineReads.{GaveNothing};
 ghost use Rattle.transcript_parts.specs.declared.line_read.Ending.TheVariants.{Answered, FileEnd, NextRun};
-ghost use Rattle.transcript_parts.specs.declared.parts.Part.TheVariants.{Line as OfLine};
 ghost use Rattle.transcript_lines.specs.declared.done.Done.TheVariants as done;
 ghost use Rattle.node_steps.specs.declared.fault.NodeFault.TheVariants as node_fault;
 
 use crate::all_ways::{go_on, happen_in_ways};
 use crate::counting::are_too_many;
 use crate::line_events::{LineEvents, events_of};
-use crate::malformed::{is_refused_event, may_be_event};
+use crate::malformed::{fits_event, may_starve};
 use crate::members::{is_new, member_spelled};
 use crate::tellings::has_shape;
 use crate::transcript::Transcript;
 use crate::way::Way;
 use json_text::JsonFault;
 use node_core::nodes_of;
-use node_lines::is_list_line;
 use node_steps::NodeFault;
 use ocpi_json::Scratch;
 use ocpi_text::Party;
@@ -36,8 +45,7 @@ use std::alloc::Global;
 use std::marker::Model;
 use transcript_lines::Done;
 use transcript_parts::{
-    Ending, LineRead, Opened, Part, TranscriptFault, is_refused_setup, opened_by, opened_setup,
-    pass_line,
+    Ending, LineRead, Opened, TranscriptFault, fits_first, opened_by, opened_setup, pass_line,
 };
 
 /// What the parts so far tell: the ways in which it may have happened, those first that are preferred.
@@ -78,13 +86,13 @@ impl<'a> Model for Reading<'a> {
     ghost view = { λ r. record { setup = r.setup.now; ways = r.ways.items; within = r.within; unanswered = r.unanswered } };
 }
 
-/// Whether it is told of a line that it was refused as the first one of a run, or a stop left it.
-fn tells_no_run(ending: &Ending) -> bool
-    ensures { IsTrue result → TellsNoRun ending.now }
+/// Whether it is told of a line that memory ran out for it.
+fn is_starved(done: &Done) -> bool
+    ensures { IsTrue result ↔ (done.now ≡ done.Refused (Some node_fault.Memory)) }
 {
-    match ending {
-        Ending::Answered { done, .. } => matches!(done, Done::Malformed(_)),
-        Ending::NextRun | Ending::FileEnd => true,
+    match done {
+        Done::Refused(told) => *told == Some(NodeFault::Memory),
+        _ => false,
     }
 }
 
@@ -104,7 +112,8 @@ impl<'a> Reading<'a> {
 
     /// The way that is preferred, where a run was opened.
     pub(crate) fn into_first(self) -> Option<Way<'a>>
-        ensures { IfSome result (Contains self.entry.ways) }
+        ensures some { IfSome result (Contains self.entry.ways) }
+        ensures none { IfNone result (self.entry.ways ≡ []) }
     {
         let Reading {
             alloc: _,
@@ -125,25 +134,14 @@ impl<'a> Reading<'a> {
     pub(crate) fn take(
         &mut self,
         scratch: &mut Scratch,
-        part: Part<'a>,
+        part: LineRead<'a>,
         earlier: &[Transcript<'a>],
     ) -> Result<(), TranscriptFault>
-        ensures { OnOk result (TakesPart earlier.now self.old part.entry self.new) }
+        ensures each { OnOk result (TakesPart earlier.now self.old part.entry self.new) }
+        ensures all { OnOk result (KeepsAll earlier.now self.old part.entry self.new) }
+        ensures none { IfErr result (EndsBy earlier.now self.old part.entry) }
     {
-        match part {
-            Part::RunWithoutLines => {
-                self.end_run();
-                Ok(())
-            }
-            Part::Line(part) => self.take_line(scratch, &part, earlier),
-        }
-    }
-
-    /// No run is open any more.
-    fn end_run(&mut self)
-        ensures { self.new ≡ record { setup = self.old.setup; ways = self.old.ways; within = false; unanswered = self.old.unanswered } }
-    {
-        self.within = false;
+        self.take_line(scratch, &part, earlier)
     }
 
     /// Takes an echoed line and what was written of it.
@@ -153,15 +151,19 @@ impl<'a> Reading<'a> {
         part: &LineRead<'a>,
         earlier: &[Transcript<'a>],
     ) -> Result<(), TranscriptFault>
-        ensures { OnOk result (TakesPart earlier.now self.old (OfLine part.now) self.new) }
+        ensures each { OnOk result (TakesPart earlier.now self.old part.now self.new) }
+        ensures all { OnOk result (KeepsAll earlier.now self.old part.now self.new) }
+        ensures none { IfErr result (EndsBy earlier.now self.old part.now) }
     {
-        if let Some(opened) = opened_by(part.ending()) {
-            return self.open(scratch, part, opened, earlier);
-        }
-        if self.within {
-            self.take_within(scratch, part)
-        } else {
-            self.take_outside(scratch, part)
+        match opened_by(part.ending()) {
+            Some(opened) => self.open(scratch, part, opened, earlier),
+            None => {
+                if self.within {
+                    self.take_within(scratch, part)
+                } else {
+                    self.take_outside(scratch, part)
+                }
+            }
         }
     }
 
@@ -172,12 +174,12 @@ impl<'a> Reading<'a> {
         scratch: &mut Scratch,
         part: &LineRead<'a>,
     ) -> Result<(), TranscriptFault>
-        requires { self.old.within ≡ false }
-        ensures { OnOk result (TakesLine self.old part.now self.new) }
+        requires outside { self.old.within ≡ false }
+        requires opens_none { OpensNone part.now }
+        ensures each { OnOk result (TakesLine self.old part.now self.new) }
+        ensures all { OnOk result (KeepsLine self.old part.now self.new) }
+        ensures none { IfErr result (EndsByLine self.old part.now) }
     {
-        if !tells_no_run(part.ending()) {
-            return Err(TranscriptFault::Wrong(part.line().number));
-        }
         pass_line(self.alloc, scratch, part)
     }
 
@@ -187,8 +189,11 @@ impl<'a> Reading<'a> {
         scratch: &mut Scratch,
         part: &LineRead<'a>,
     ) -> Result<(), TranscriptFault>
-        requires { self.old.within ≡ true }
-        ensures { OnOk result (TakesLine self.old part.now self.new) }
+        requires within { self.old.within ≡ true }
+        requires opens_none { OpensNone part.now }
+        ensures each { OnOk result (TakesLine self.old part.now self.new) }
+        ensures all { OnOk result (KeepsLine self.old part.now self.new) }
+        ensures none { IfErr result (EndsByLine self.old part.now) }
     {
         match part.ending() {
             Ending::Answered { done, .. } => self.take_answered(scratch, part, done),
@@ -205,17 +210,24 @@ impl<'a> Reading<'a> {
         done: &Done,
     ) -> Result<(), TranscriptFault>
         requires within { self.old.within ≡ true }
+        requires opens_none { OpensNone part.now }
         requires told { (at : ℕ) × (part.now.ending ≡ Answered done.now at) }
-        ensures { OnOk result (TakesLine self.old part.now self.new) }
+        ensures each { OnOk result (TakesLine self.old part.now self.new) }
+        ensures all { OnOk result (KeepsLine self.old part.now self.new) }
+        ensures none { IfErr result (EndsByLine self.old part.now) }
     {
         match done {
-            Done::Malformed(told) => self.take_malformed(scratch, part, *told),
-            Done::Refused(Some(NodeFault::Memory)) => self.take_unread(scratch, part),
-            _ => self.happen(scratch, part),
+            Done::Malformed(told) => return self.take_malformed(scratch, part, *told),
+            _ => {}
+        }
+        if is_starved(done) {
+            self.take_starved(scratch, part)
+        } else {
+            self.happen(scratch, part)
         }
     }
 
-    /// Takes a line that was refused as a line: as an event, or as the first one of a run, which then ended.
+    /// Takes a line that was refused as a line: as an event, or as the first line of a run, which then ended.
     #[tactic(auto, using(crate::proofs::FollowingLemmas::passes))]
     fn take_malformed(
         &mut self,
@@ -225,48 +237,49 @@ impl<'a> Reading<'a> {
     ) -> Result<(), TranscriptFault>
         requires within { self.old.within ≡ true }
         requires told { (at : ℕ) × (part.now.ending ≡ Answered (done.Malformed told) at) }
-        ensures { OnOk result (TakesLine self.old part.now self.new) }
+        ensures each { OnOk result (TakesLine self.old part.now self.new) }
+        ensures all { OnOk result (KeepsLine self.old part.now self.new) }
+        ensures none { IfErr result (EndsByLine self.old part.now) }
     {
         if !part.gave_nothing() {
             return Err(TranscriptFault::NotARun(part.line().number));
         }
-        match is_refused_event(self.alloc, scratch, part.line(), told) {
+        match fits_event(self.alloc, scratch, part.line(), told) {
             Ok(true) => return Ok(()),
             Ok(false) => {}
-            Err(fault) => return Err(fault),
+            Err(_) => return Err(TranscriptFault::Memory),
         }
-        match is_refused_setup(self.alloc, scratch, part.line(), told) {
+        match fits_first(self.alloc, scratch, part.line(), told) {
             Ok(true) => {}
             Ok(false) => return Err(TranscriptFault::NotARun(part.line().number)),
-            Err(fault) => return Err(fault),
+            Err(_) => return Err(TranscriptFault::Memory),
         }
-        self.within = may_be_event(told, part.line());
+        self.within = false;
         Ok(())
     }
 
-    /// Takes a line for which memory ran out: it may be any but a setup or an array.
+    /// Takes a line for which memory ran out.
     #[tactic(auto, using(crate::proofs::FollowingLemmas::passes))]
-    fn take_unread(
+    fn take_starved(
         &mut self,
         scratch: &mut Scratch,
         part: &LineRead<'a>,
     ) -> Result<(), TranscriptFault>
         requires within { self.old.within ≡ true }
         requires told { (at : ℕ) × (part.now.ending ≡ Answered (done.Refused (Some node_fault.Memory)) at) }
-        ensures { OnOk result (TakesLine self.old part.now self.new) }
+        ensures each { OnOk result (TakesLine self.old part.now self.new) }
+        ensures all { OnOk result (KeepsLine self.old part.now self.new) }
+        ensures none { IfErr result (EndsByLine self.old part.now) }
     {
         if !part.gave_nothing() {
             return Err(TranscriptFault::NotARun(part.line().number));
         }
-        if is_list_line(part.line().bytes) {
-            return Err(TranscriptFault::NotARun(part.line().number));
+        match may_starve(self.alloc, scratch, part.line()) {
+            Ok(true) => {}
+            Ok(false) => return Err(TranscriptFault::NotARun(part.line().number)),
+            Err(_) => return Err(TranscriptFault::Memory),
         }
-        let told = Some(JsonFault::Memory);
-        match is_refused_setup(self.alloc, scratch, part.line(), told) {
-            Ok(true) => Ok(()),
-            Ok(false) => Err(TranscriptFault::NotARun(part.line().number)),
-            Err(fault) => Err(fault),
-        }
+        Ok(())
     }
 
     /// Takes a line that a stop left without its answer, and that is not the last one of the file.
@@ -277,7 +290,9 @@ impl<'a> Reading<'a> {
     ) -> Result<(), TranscriptFault>
         requires within { self.old.within ≡ true }
         requires stopped { part.now.ending ≡ NextRun }
-        ensures { OnOk result (TakesLine self.old part.now self.new) }
+        ensures each { OnOk result (TakesLine self.old part.now self.new) }
+        ensures all { OnOk result (KeepsLine self.old part.now self.new) }
+        ensures none { IfErr result (EndsByLine self.old part.now) }
     {
         self.within = false;
         if part.gave_nothing() {
@@ -296,7 +311,9 @@ impl<'a> Reading<'a> {
     ) -> Result<(), TranscriptFault>
         requires within { self.old.within ≡ true }
         requires end { part.now.ending ≡ FileEnd }
-        ensures { OnOk result (TakesLine self.old part.now self.new) }
+        ensures each { OnOk result (TakesLine self.old part.now self.new) }
+        ensures all { OnOk result (KeepsLine self.old part.now self.new) }
+        ensures none { IfErr result (EndsByLine self.old part.now) }
     {
         if part.gave_nothing() {
             return Ok(());
@@ -309,7 +326,9 @@ impl<'a> Reading<'a> {
     fn happen(&mut self, scratch: &mut Scratch, part: &LineRead<'a>) -> Result<(), TranscriptFault>
         requires within { self.old.within ≡ is_open_behind part.now.ending }
         requires shows { ShowsEvent part.now part.now.ending }
-        ensures { OnOk result (TakesLine (in_run self.old) part.now self.new) }
+        ensures each { OnOk result (TakesLine (in_run self.old) part.now self.new) }
+        ensures all { OnOk result (KeepsComing (in_run self.old) part.now self.new) }
+        ensures none { IfErr result (ComesToNone (in_run self.old) part.now) }
     {
         let events = match events_of(self.alloc, scratch, part) {
             Ok(events) => events,
@@ -339,12 +358,14 @@ impl<'a> Reading<'a> {
         requires within { self.old.within ≡ false }
         requires stopped { part.now.ending ≡ NextRun }
         requires nothing { GaveNothing part.now }
-        ensures { OnOk result (TakesLine (in_run self.old) part.now self.new) }
+        ensures each { OnOk result (TakesLine (in_run self.old) part.now self.new) }
+        ensures all { OnOk result (KeepsLine (in_run self.old) part.now self.new) }
+        ensures none { IfErr result (λ fault. Accuses fault → ⊥) }
     {
         let events = match events_of(self.alloc, scratch, part) {
             Ok(events) => events,
             Err(TranscriptFault::NotARun(_)) => return Ok(()),
-            Err(fault) => return Err(fault),
+            Err(_) => return Err(TranscriptFault::Memory),
         };
         events.are_held();
         match are_too_many(self.alloc, self.setup, self.ways.as_slice(), &events) {
@@ -365,7 +386,9 @@ impl<'a> Reading<'a> {
         earlier: &[Transcript<'a>],
     ) -> Result<(), TranscriptFault>
         requires { part.now.ending ≡ Answered (done.Opened opened.party opened.rows opened.serial) opened.number }
-        ensures { OnOk result (TakesPart earlier.now self.old (OfLine part.now) self.new) }
+        ensures each { OnOk result (TakesPart earlier.now self.old part.now self.new) }
+        ensures all { OnOk result (KeepsAll earlier.now self.old part.now self.new) }
+        ensures none { IfErr result (EndsBy earlier.now self.old part.now) }
     {
         match self.is_same_setup(scratch, part) {
             Ok(true) => {}
@@ -385,7 +408,8 @@ impl<'a> Reading<'a> {
         scratch: &mut Scratch,
         part: &LineRead<'a>,
     ) -> Result<bool, TranscriptFault>
-        ensures { IfOk result (λ same. IsTrue same → setup_in part.now.line.bytes ≡ Ok self.now.setup) }
+        ensures same { IfOk result (λ same. IsTrue same ↔ (setup_in part.now.line.bytes ≡ Ok self.now.setup)) }
+        ensures none { IfErr result (λ fault. Accuses fault → setup_in part.now.line.bytes ≡ Ok self.now.setup → ⊥) }
     {
         match opened_setup(self.alloc, scratch, part.line()) {
             Ok(setup) => Ok(are_equal(&setup, self.setup)),
@@ -404,7 +428,9 @@ impl<'a> Reading<'a> {
         requires opened { part.now.ending ≡ Answered (done.Opened opened.party opened.rows opened.serial) opened.number }
         requires setup { setup_in part.now.line.bytes ≡ Ok self.old.setup }
         requires first { self.old.ways ≡ [] }
-        ensures { OnOk result (TakesPart earlier.now self.old (OfLine part.now) self.new) }
+        ensures each { OnOk result (TakesPart earlier.now self.old part.now self.new) }
+        ensures all { OnOk result (KeepsAll earlier.now self.old part.now self.new) }
+        ensures none { IfErr result (EndsBy earlier.now self.old part.now) }
     {
         let nodes = nodes_of(self.setup);
         let Some(member) = member_spelled(nodes, &opened.party) else {
@@ -434,7 +460,10 @@ impl<'a> Reading<'a> {
     fn open_later(&mut self, part: &LineRead<'a>, opened: Opened) -> Result<(), TranscriptFault>
         requires opened { part.now.ending ≡ Answered (done.Opened opened.party opened.rows opened.serial) opened.number }
         requires setup { setup_in part.now.line.bytes ≡ Ok self.old.setup }
-        ensures { OnOk result (TakesLine self.old part.now self.new) }
+        requires later { self.old.ways ≢ [] }
+        ensures each { OnOk result (TakesLine self.old part.now self.new) }
+        ensures all { OnOk result (KeepsLine self.old part.now self.new) }
+        ensures none { IfErr result (EndsByLine self.old part.now) }
     {
         if !self.is_of(&opened.party) {
             return Err(TranscriptFault::Wrong(opened.number));
@@ -452,10 +481,14 @@ impl<'a> Reading<'a> {
     }
 
     /// Whether the node that is read is of that party, as it is spelled.
-    fn is_of(&self, party: &Party) -> bool {
-        match self.ways.first() {
-            Some(way) => way.party().as_str() == party.as_str(),
-            None => false,
+    fn is_of(&self, party: &Party) -> bool
+        ensures { (t : Told) → Contains self.now.ways t → party_of t.replay.member ≡ party.now → IsTrue result }
+    {
+        for way in self.ways.as_slice() {
+            if way.party().as_str() == party.as_str() {
+                return true;
+            }
         }
+        false
     }
 }

@@ -1,6 +1,6 @@
 //! What is told of each event of a line.
 
-ghost use Rattle.std.specs.Prelude.{◌≡◌, IsTrue, Some, length, slice_get, ℕ};
+ghost use Rattle.std.specs.Prelude.{◌≡◌, ◌↔◌, IsTrue, Some, length, slice_get, ℕ};
 ghost use Rattle.transcript_parts.specs.declared.line_read.EventAnswer.{EventAnswer as EventAnswerOf};
 ghost use Rattle.transcripts.specs.LineEvents.{EndsSeveral, HasShape, TellsSeveral, ending_at, packets_at};
 
@@ -40,7 +40,7 @@ pub(crate) fn ending_at(part: &LineRead<'_>, place: usize) -> Ending
 
 /// Whether each answer has the place of its event.
 fn have_places(answers: &[EventAnswer]) -> bool
-    ensures { IsTrue result → (i : ℕ) (a : EventAnswerOf) → slice_get answers.now i ≡ Some a → a.event ≡ i }
+    ensures { IsTrue result ↔ ((i : ℕ) (a : EventAnswerOf) → slice_get answers.now i ≡ Some a → a.event ≡ i) }
 {
     for (place, answer) in answers.iter().enumerate() {
         if answer.event.value() != place as u64 {
@@ -52,7 +52,7 @@ fn have_places(answers: &[EventAnswer]) -> bool
 
 /// Whether the end of a line is that of so many events, of which so many have an answer.
 fn ends_several(ending: &Ending, events: usize, answers: usize, packets: &[Packet]) -> bool
-    ensures { IsTrue result → EndsSeveral ending.now events answers packets.now }
+    ensures { IsTrue result ↔ EndsSeveral ending.now events answers packets.now }
 {
     match ending {
         Ending::Answered { done, .. } => match done {
@@ -69,7 +69,7 @@ fn ends_several(ending: &Ending, events: usize, answers: usize, packets: &[Packe
 
 /// Whether what stands of a line may be told of its events.
 pub(crate) fn has_shape(events: &LineEvents<'_>, part: &LineRead<'_>) -> bool
-    ensures { IsTrue result → HasShape events.now part.now }
+    ensures { IsTrue result ↔ HasShape events.now part.now }
 {
     let answers = part.answers();
     if events.are_several() {

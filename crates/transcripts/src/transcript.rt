@@ -1,7 +1,9 @@
 //! A file read as the history of a node.
 
-ghost use Rattle.std.specs.Prelude.{◌≡◌, IfOk, []};
+ghost use Rattle.std.specs.Prelude.{◌≡◌, IfErr, IfOk, []};
 ghost use Rattle.ocpi_types.specs.Setups.{party_of};
+ghost use Rattle.transcripts.specs.Accusing.{AccusesRightly};
+ghost use Rattle.transcripts.specs.Covering.{IsComplete};
 ghost use Rattle.transcripts.specs.Following.{IsNew, IsRead, IsTranscriptOf};
 ghost use Rattle.transcript_parts.specs.Lines.{lines_in};
 ghost use Rattle.transcripts.specs.Told.{IsTold};
@@ -81,7 +83,9 @@ fn read_parts<'a>(
     text: &'a [u8],
     earlier: &[Transcript<'a>],
 ) -> Result<Reading<'a>, TranscriptFault>
-    ensures { IfOk result (IsRead setup.now earlier.now (lines_in text.now) []) }
+    ensures each { IfOk result (IsRead setup.now earlier.now (lines_in text.now) []) }
+    ensures all { IfOk result (IsComplete setup.now earlier.now (lines_in text.now) []) }
+    ensures none { IfErr result (AccusesRightly setup.now earlier.now text.now) }
 {
     let mut lines = Lines::new(text);
     let mut reading = Reading::new(alloc, setup);
@@ -119,6 +123,7 @@ pub fn read_transcript<'a>(
     ensures told { IfOk result (IsTranscriptOf setup.now earlier.now text.now) }
     ensures setup { IfOk result (λ t. t.replay.setup ≡ setup.now) }
     ensures new { IfOk result (λ t. IsNew earlier.now (party_of t.replay.member)) }
+    ensures none { IfErr result (AccusesRightly setup.now earlier.now text.now) }
 {
     match read_parts(alloc, scratch, setup, text, earlier) {
         Ok(reading) => match reading.into_first() {

@@ -1,6 +1,7 @@
 //! The events of a line, one after another.
 
 ghost use Rattle.std.specs.Prelude.{◌↔◌, ◌⊎◌, IfOk, IfSome, IsTrue};
+ghost use Rattle.transcripts.specs.Exact.{OnlyCome};
 ghost use Rattle.transcripts.specs.Following.{ComeInTurn};
 
 use crate::line_events::LineEvent;
@@ -23,7 +24,8 @@ pub(crate) fn come_in_turn<'a>(
     events: &[LineEvent<'a>],
     part: &LineRead<'_>,
 ) -> Result<Option<bool>, AllocError>
-    ensures { IfOk result (λ fits. IfSome fits (λ changed. ComeInTurn part.now way.old events.now changed way.new)) }
+    ensures come { IfOk result (λ fits. IfSome fits (λ changed. ComeInTurn part.now way.old events.now changed way.new)) }
+    ensures only { IfOk result (λ fits. OnlyCome way.old events.now part.now fits way.new) }
 {
     let mut changed = false;
     for (place, event) in events.iter().enumerate() {

@@ -1,10 +1,11 @@
 //! One way in which what a transcript tells may have happened.
 
-ghost use Rattle.std.specs.Prelude.{◌≡◌, ◌≤◌, ◌+◌, ◌++◌, ◌∷◌, Contains, IfOk, IfSome, IsTrue, List, Ok, OnOk, [], false, length, vec_capacity};
+ghost use Rattle.std.specs.Prelude.{◌≡◌, ◌≤◌, ◌+◌, ◌++◌, ◌∷◌, ◌↔◌, Contains, IfNone, IfOk, IfSome, IsTrue, List, Ok, OnOk, [], false, length, vec_capacity};
 ghost use Rattle.histories.specs.declared.entry.Entry.{Entry as EntryOf};
 ghost use Rattle.ocpi_json.specs.NodeEventForms.{node_event_in};
 ghost use Rattle.ocpi_types.specs.Setups.{party_of};
 ghost use Rattle.ocpi_types.specs.declared.packet.Packet.{Packet as PacketOf};
+ghost use Rattle.transcripts.specs.Exact.{OnlyGives, WouldChange};
 ghost use Rattle.transcripts.specs.Following.{FitsEntry, Gives, StandsAt, TellsMalformed, TellsRefused, TellsSkipped, opening_told, restarted};
 ghost use Rattle.transcripts.specs.Told.{IsTold};
 ghost use Rattle.transcript_parts.specs.declared.line_read.Ending.TheVariants.{Answered};
@@ -56,7 +57,7 @@ impl<'a> Model for Way<'a> {
 
 /// Whether packets are the first of others.
 fn begin(packets: &[Packet], others: &[Packet]) -> bool
-    ensures { IsTrue result → (rest : List PacketOf) × (others.now ≡ packets.now ++ rest) }
+    ensures { IsTrue result ↔ ((rest : List PacketOf) × (others.now ≡ packets.now ++ rest)) }
 {
     if packets.len() > others.len() {
         return false;
@@ -67,7 +68,7 @@ fn begin(packets: &[Packet], others: &[Packet]) -> bool
 
 /// Whether an entry is what a line says of it.
 fn fits_done(done: &Done, number: usize, packets: &[Packet], changed: bool, sent: &[Packet]) -> bool
-    ensures { IsTrue result → FitsEntry (Answered done.now number) packets.now changed sent.now }
+    ensures { IsTrue result ↔ FitsEntry (Answered done.now number) packets.now changed sent.now }
 {
     let _ = number;
     match done {
@@ -83,7 +84,7 @@ fn fits_done(done: &Done, number: usize, packets: &[Packet], changed: bool, sent
 
 /// Whether an entry is what is told of it.
 fn fits_entry(ending: &Ending, packets: &[Packet], changed: bool, sent: &[Packet]) -> bool
-    ensures { IsTrue result → FitsEntry ending.now packets.now changed sent.now }
+    ensures { IsTrue result ↔ FitsEntry ending.now packets.now changed sent.now }
 {
     match ending {
         Ending::Answered { done, number } => fits_done(done, *number, packets, changed, sent),
@@ -93,7 +94,7 @@ fn fits_entry(ending: &Ending, packets: &[Packet], changed: bool, sent: &[Packet
 
 /// Whether it is told that the event was another node's, or of the other role, or nothing is told.
 fn is_skipped(ending: &Ending) -> bool
-    ensures { IsTrue result → TellsSkipped ending.now }
+    ensures { IsTrue result ↔ TellsSkipped ending.now }
 {
     match ending {
         Ending::Answered { done, .. } => matches!(done, Done::Skipped),
@@ -103,7 +104,7 @@ fn is_skipped(ending: &Ending) -> bool
 
 /// Whether it is told that the node refused the event so, or nothing is told.
 fn is_refused(ending: &Ending, fault: NodeFault) -> bool
-    ensures { IsTrue result → TellsRefused fault ending.now }
+    ensures { IsTrue result ↔ TellsRefused fault ending.now }
 {
     match ending {
         Ending::Answered { done, .. } => match done {
@@ -116,7 +117,7 @@ fn is_refused(ending: &Ending, fault: NodeFault) -> bool
 
 /// Whether it is told that what stands there was refused so as an event, or nothing is told.
 fn is_malformed(ending: &Ending, fault: JsonFault) -> bool
-    ensures { IsTrue result → TellsMalformed fault ending.now }
+    ensures { IsTrue result ↔ TellsMalformed fault ending.now }
 {
     match ending {
         Ending::Answered { done, .. } => match done {
@@ -129,7 +130,8 @@ fn is_malformed(ending: &Ending, fault: JsonFault) -> bool
 
 /// That an event changed nothing, where it is told so and no packet stands there.
 fn nothing_where(tells: bool, packets: &[Packet]) -> Option<bool>
-    ensures { IfSome result (λ changed. IsTrue tells × (packets.now ≡ []) × (changed ≡ false)) }
+    ensures some { IfSome result (λ changed. IsTrue tells × (packets.now ≡ []) × (changed ≡ false)) }
+    ensures none { IfNone result (IsTrue tells × (packets.now ≡ []) → ⊥) }
 {
     if tells && packets.is_empty() {
         Some(false)
@@ -140,7 +142,8 @@ fn nothing_where(tells: bool, packets: &[Packet]) -> Option<bool>
 
 /// Whether an event changed a row, where what is told of it fits.
 fn changed_where(fits: bool, changed: bool) -> Option<bool>
-    ensures { IfSome result (λ c. IsTrue fits × (c ≡ changed)) }
+    ensures some { IfSome result (λ c. IsTrue fits × (c ≡ changed)) }
+    ensures none { IfNone result (IsTrue fits → ⊥) }
 {
     if fits { Some(changed) } else { None }
 }
@@ -193,7 +196,9 @@ impl<'a> Way<'a> {
     }
 
     /// Whether an event changes a row of the node, if it is carried out. An error is want of memory.
-    pub(crate) fn would_change(&self, event: &NodeEvent) -> Result<bool, AllocError> {
+    pub(crate) fn would_change(&self, event: &NodeEvent) -> Result<bool, AllocError>
+        ensures { IfOk result (WouldChange self.now event.now) }
+    {
         if event.node.is_same(self.party()) {
             self.replay.would_change(&event.kind)
         } else {
@@ -209,7 +214,8 @@ impl<'a> Way<'a> {
         ending: &Ending,
         packets: &[Packet],
     ) -> Result<Option<bool>, AllocError>
-        ensures { IfOk result (λ fits. IfSome fits (λ changed. Gives self.old event.now ending.now packets.now changed self.new)) }
+        ensures gives { IfOk result (λ fits. IfSome fits (λ changed. Gives self.old event.now ending.now packets.now changed self.new)) }
+        ensures only { IfOk result (λ fits. OnlyGives self.old event.now ending.now packets.now fits self.new) }
     {
         match event.event() {
             Ok(own) => self.happen(own, event.text(), ending, packets),
@@ -226,7 +232,8 @@ impl<'a> Way<'a> {
         packets: &[Packet],
     ) -> Result<Option<bool>, AllocError>
         requires { node_event_in text.bytes.now ≡ Ok event.now }
-        ensures { IfOk result (λ fits. IfSome fits (λ changed. Gives self.old (record { text = text.entry; event = Ok event.now }) ending.now packets.now changed self.new)) }
+        ensures gives { IfOk result (λ fits. IfSome fits (λ changed. Gives self.old (record { text = text.entry; event = Ok event.now }) ending.now packets.now changed self.new)) }
+        ensures only { IfOk result (λ fits. OnlyGives self.old (record { text = text.entry; event = Ok event.now }) ending.now packets.now fits self.new) }
     {
         if !event.node.is_same(self.party()) {
             return Ok(nothing_where(is_skipped(ending), packets));
@@ -269,7 +276,7 @@ impl<'a> Way<'a> {
     /// Whether the node is that of a run that was opened: of its party, with so many rows, and a last packet of that
     /// serial. An error is want of memory.
     pub(crate) fn stands_at(&self, opened: &Opened) -> Result<bool, AllocError>
-        ensures { IfOk result (λ fits. IsTrue fits → StandsAt opened.now self.now) }
+        ensures { IfOk result (λ fits. IsTrue fits ↔ StandsAt opened.now self.now) }
     {
         if self.party().as_str() != opened.party.as_str()
             || opened.serial != self.replay.last_serial()

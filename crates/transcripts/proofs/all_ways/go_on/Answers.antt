@@ -1,19 +1,40 @@
 use Rattle.std.specs.Prelude.{Contains}
+use Rattle.std.proofs.Common.{[], refl}
 use Rattle.transcripts.specs.Following.{GoesOn, StandsAt}
 use Rattle.transcripts.specs.Told.{Told}
-use Rattle.transcripts.proofs.WayLemmas.{added_to, last_is, rest_are, turned}
+use Rattle.transcripts.proofs.KeepingLemmas.{HasAllGoOn, all_taken, loses_none_by_run, none_taken, one_taken, still_way}
+use Rattle.transcripts.proofs.WayLemmas.{added_to, in_none, last_is, rest_are, turned}
 use Rattle.transcripts.proofs.all_ways.go_on.Goals as goal
+
+pub loop-way-init : goal.loop-way-init
+loop-way-init c =
+    let all = c.args.ways.now.items in (
+      in_none (λ t. (s : Told) × Contains all s × GoesOn s c.args.unanswered.now t × StandsAt c.args.opened.now t) [] refl,
+      (λ t among. among),
+      none_taken (HasAllGoOn c.args.unanswered.now c.args.opened.now) all all [] refl,
+    )
 
 pub loop-way-preserved : goal.loop-way-preserved
 loop-way-preserved c =
-    let all = c.args.ways.now.items in (
-      added_to (λ t. (s : Told) × Contains all s × GoesOn s c.args.unanswered.now t × StandsAt c.args.opened.now t) (λ t. GoesOn c.in-Some.way c.args.unanswered.now t × StandsAt c.args.opened.now t)
-          c.loop-way.ways.items c.push_going_on.new.ways.items c.loop-way.invariant.0 c.in-Ok.ensures
-          (λ t q. (c.in-Some.way, last_is (Contains all) c.loop-way.left.items c.pop.new.self.items c.in-Some.way c.in-Some.ensures.items c.loop-way.invariant.1, q.0, q.1)),
-      rest_are (Contains all) c.loop-way.left.items c.pop.new.self.items c.in-Some.way c.in-Some.ensures.items c.loop-way.invariant.1,
+    let all = c.args.ways.now.items in
+    let left = c.loop-way.left.items in
+    let rest = c.pop.new.self.items in
+    let way = c.in-Some.way in
+    let before = c.loop-way.ways.items in
+    let after = c.push_going_on.new.ways.items in (
+      added_to (λ t. (s : Told) × Contains all s × GoesOn s c.args.unanswered.now t × StandsAt c.args.opened.now t) (λ t. GoesOn way c.args.unanswered.now t × StandsAt c.args.opened.now t)
+          before after c.loop-way.invariant.0 c.in-Ok.ensures.adds (λ t q. (way, last_is (Contains all) left rest way c.in-Some.ensures.items c.loop-way.invariant.1, q.0, q.1)),
+      rest_are (Contains all) left rest way c.in-Some.ensures.items c.loop-way.invariant.1,
+      one_taken (HasAllGoOn c.args.unanswered.now c.args.opened.now) all left rest way before after c.in-Some.ensures.items
+          (λ x has t p. still_way before after c.in-Ok.ensures.each.stay t (has t p)) c.in-Ok.ensures.each.has c.loop-way.invariant.2,
     )
 
-pub returns : goal.returns
-returns c =
+pub returns-clause-go_on : goal.returns-clause-go_on
+returns-clause-go_on c =
     turned (λ t. (s : Told) × Contains c.args.ways.now.items s × GoesOn s c.args.unanswered.now t × StandsAt c.args.opened.now t) c.loop-way.ways.items c.turn_round.new.ways.items
     c.turn_round.ensures c.loop-way.invariant.0
+
+pub returns-clause-none_lost : goal.returns-clause-none_lost
+returns-clause-none_lost c =
+    loses_none_by_run c.args.ways.now.items c.loop-way.ways.items c.turn_round.new.ways.items c.args.unanswered.now c.args.opened.now c.turn_round.ensures
+    (all_taken (HasAllGoOn c.args.unanswered.now c.args.opened.now) c.args.ways.now.items c.loop-way.left.items c.loop-way.ways.items (in_none _ c.loop-way.left.items (search _)) c.loop-way.invariant.2)

@@ -1,21 +1,64 @@
-use Rattle.std.specs.Prelude.{Contains, IfSome}
-use Rattle.std.proofs.Common.{subst}
+use Rattle.std.specs.Prelude.{Contains, IfSome, None, Some}
+use Rattle.std.proofs.Common.{[], refl, subst}
+use Rattle.transcripts.specs.Exact.{OnlyCome}
 use Rattle.transcripts.specs.Following.{ComeInTurn, ComesOf}
-use Rattle.transcripts.proofs.WayLemmas.{last_is, one_more, rest_are, turned}
+use Rattle.transcripts.proofs.KeepingLemmas.{HasAllCome, all_taken, has_last, loses_none, none_taken, one_taken, stay_one, still_way}
+use Rattle.transcripts.proofs.WayLemmas.{in_none, last_is, one_more, rest_are, turned}
 use Rattle.transcripts.proofs.all_ways.happen_in_ways.Goals as goal
+
+pub loop-way-init : goal.loop-way-init
+loop-way-init c =
+    let all = c.args.ways.now.items in (
+      in_none (ComesOf all c.args.events.now c.args.part.now) [] refl,
+      (λ t among. among),
+      none_taken (HasAllCome c.args.events.now c.args.part.now) all all [] refl,
+    )
 
 pub loop-way-preserved-in-Ok : goal.loop-way-preserved-in-Ok
 loop-way-preserved-in-Ok c =
     let all = c.args.ways.now.items in
-    let here : ComesOf all c.args.events.now c.args.part.now c.come_in_turn.new.way = record {
-      old = c.in-Some.way;
-      among = last_is (Contains all) c.loop-way.left.items c.pop.new.self.items c.in-Some.way c.in-Some.ensures.items c.loop-way.invariant.1;
+    let events = c.args.events.now in
+    let part = c.args.part.now in
+    let left = c.loop-way.left.items in
+    let rest = c.pop.new.self.items in
+    let way = c.in-Some.way in
+    let before = c.loop-way.ways.items in
+    let after = c.push.new.self.items in
+    let now = c.come_in_turn.new.way in
+    let here : ComesOf all events part now = record {
+      old = way;
+      among = last_is (Contains all) left rest way c.in-Some.ensures.items c.loop-way.invariant.1;
       changed = c.in-Ok-Some.field-0-0;
-      come = subst (λ o. IfSome o (λ changed. ComeInTurn c.args.part.now c.in-Some.way c.args.events.now changed c.come_in_turn.new.way)) c.in-Ok-Some.field-0-is c.in-Ok-Some.ensures;
-    } in (
-      one_more (ComesOf all c.args.events.now c.args.part.now) c.loop-way.ways.items c.push.new.self.items c.come_in_turn.new.way c.in-Ok.ensures.items c.loop-way.invariant.0 here,
-      rest_are (Contains all) c.loop-way.left.items c.pop.new.self.items c.in-Some.way c.in-Some.ensures.items c.loop-way.invariant.1,
+      come = subst (λ o. IfSome o (λ changed. ComeInTurn part way events changed now)) c.in-Ok-Some.field-0-is c.in-Ok-Some.ensures.come;
+    } in
+    let only = subst (λ o. OnlyCome way events part o now) c.in-Ok-Some.field-0-is c.in-Ok-Some.ensures.only in (
+      one_more (ComesOf all events part) before after now c.in-Ok.ensures.items c.loop-way.invariant.0 here,
+      rest_are (Contains all) left rest way c.in-Some.ensures.items c.loop-way.invariant.1,
+      one_taken (HasAllCome events part) all left rest way before after c.in-Some.ensures.items
+          (λ x has changed t come. still_way before after (stay_one before after now c.in-Ok.ensures.items) t (has changed t come))
+          (λ changed t come. has_last before after now t c.in-Ok.ensures.items (only changed t come).1) c.loop-way.invariant.2,
     )
 
-pub returns : goal.returns
-returns c = turned (ComesOf c.args.ways.now.items c.args.events.now c.args.part.now) c.loop-way.ways.items c.turn_round.new.ways.items c.turn_round.ensures c.loop-way.invariant.0
+pub loop-way-preserved-in-Ok-None : goal.loop-way-preserved-in-Ok-None
+loop-way-preserved-in-Ok-None c =
+    let all = c.args.ways.now.items in
+    let events = c.args.events.now in
+    let part = c.args.part.now in
+    let left = c.loop-way.left.items in
+    let rest = c.pop.new.self.items in
+    let way = c.in-Some.way in
+    let ways = c.loop-way.ways.items in
+    let only = subst (λ o. OnlyCome way events part o c.come_in_turn.new.way) c.in-Ok-None.field-0-is c.in-Ok-None.ensures.only in (
+      c.loop-way.invariant.0,
+      rest_are (Contains all) left rest way c.in-Some.ensures.items c.loop-way.invariant.1,
+      one_taken (HasAllCome events part) all left rest way ways ways c.in-Some.ensures.items (λ x has. has) (λ changed t come. absurd (only changed t come)) c.loop-way.invariant.2,
+    )
+
+pub returns-clause-come : goal.returns-clause-come
+returns-clause-come c =
+    turned (ComesOf c.args.ways.now.items c.args.events.now c.args.part.now) c.loop-way.ways.items c.turn_round.new.ways.items c.turn_round.ensures c.loop-way.invariant.0
+
+pub returns-clause-none_lost : goal.returns-clause-none_lost
+returns-clause-none_lost c =
+    loses_none c.args.ways.now.items c.loop-way.ways.items c.turn_round.new.ways.items c.args.events.now c.args.part.now c.turn_round.ensures
+    (all_taken (HasAllCome c.args.events.now c.args.part.now) c.args.ways.now.items c.loop-way.left.items c.loop-way.ways.items (in_none _ c.loop-way.left.items (search _)) c.loop-way.invariant.2)

@@ -1,4 +1,4 @@
-use Rattle.std.proofs.Common.{rules, ◌≡◌, ◌+◌, ◌<◌, [], ◌∷◌, length, sym, ap, ◌∙◌, arith}
+use Rattle.std.proofs.Common.{rules, ◌+◌, [], sym, ◌∙◌, arith}
 use Rattle.transcript_parts.specs.Lines.{lines_behind}
 use Rattle.transcript_parts.proofs.LineLemmas.{cut_length, first_is, no_feed, no_line, some_line}
 use Rattle.transcript_parts.proofs.lines.Lines.next.Goals as goal

@@ -2,7 +2,10 @@ use Rattle.std.proofs.Common.{◌<◌, length, sym, ap, subst, rules, arith}
 use Rattle.std.specs.Prelude.{Contains}
 use Rattle.transcripts.proofs.reading.Reading.into_first.Goals as goal
 
-pub returns : goal.returns
-returns c =
+pub returns-clause-some : goal.returns-clause-some
+returns-clause-some c =
     let bound : 0 < length c.self.inside.ways.items = search (rules, arith) in
     subst (λ ws. Contains ws c.remove.result) (ap (λ r. r.ways) c.self.view_is) (0, bound, sym c.remove.ensures.value)
+
+pub returns-then-is_empty-clause-none : goal.returns-then-is_empty-clause-none
+returns-then-is_empty-clause-none c = ?
