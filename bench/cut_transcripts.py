@@ -4,8 +4,8 @@
     bench/cut_transcripts.py PROGRAM FILE FILE [--step 1] [--workers 4]
 
 PROGRAM is `ocpi_nodes`. Each answer must be a run (status 0: the setup line and an event a line), or one line that refuses
-(status 1), and nothing on standard error but words beside refusal 1 or 2. A run, and a refusal 1, 2 or 3, must also be what
-bench/woven_run.py makes of the same files, where that knows. Memory that runs out is none of them. With --step cuts come at each so many bytes. The last line
+(status 1). Standard error has nothing, but for the words that go with the refusals 1 and 2. A run, and a refusal 1, 2 or 3, must also be what bench/woven_run.py makes of the
+same files, where that knows. Memory that runs out is none of them. With --step cuts come at each so many bytes. The last line
 says what was tried; the status is 0 where all is so.
 """
 
@@ -63,14 +63,13 @@ def modelled(texts):
     """What the rules make of the files, where the script that has them knows."""
     try:
         return woven_run.weave(zip(NAMES, texts))
-    except (woven_run.Unmodelled, KeyError, TypeError, AttributeError):
+    except (woven_run.Unmodelled, KeyError, TypeError, AttributeError, ValueError):
         return None
 
 
 def fault_in(texts, ran):
     """What is wrong with an answer, or which kind it is of."""
-    is_explained = ran.stderr.startswith(b"weave: ") and ran.stdout.startswith((b"refused 1 ", b"refused 2 "))
-    if ran.stderr and not is_explained:
+    if ran.stderr and not ran.stdout.startswith((b"refused 1 ", b"refused 2 ")):
         return f"standard error has {ran.stderr[:200]!r}", None
     wanted = modelled(texts)
     if ran.returncode == 0:

@@ -3,20 +3,19 @@
 
     bench/woven_run.py [--given PARTY].. FILE..
 
-It prints the run, or the refusal 1, 2 or 3; or what is wrong with a party that is given, with status 2. It knows no node, so it
-takes what a node answered as right: the refusals 5 and 7 are never told. Where a stop leaves open what was carried out, a packet
-may be one that it kept from being written, or a line is none of a transcript, it gives up and says so (Unmodelled). It is written
-from the rules, and not from the code.
+It prints the run, or the refusal 1, 2 or 3. It knows no node, so it takes what a node answered as right: the refusals 5 and 7
+are never told, and a `malformed` fits each line. Where a stop leaves open what was carried out, a packet may be one that it kept from being written, or a line is
+none of a transcript, it gives up and says so (Unmodelled). It is written from the rules, and not from the code.
 """
 
-import argparse
 import json
+import re
 import sys
 from decimal import Decimal
 
 NO_LINES = b'{"done":"malformed","line":0,"name":"Syntax","number":1}'
 CARRIED_OUT = ("stepped", "idle")
-ANSWERED = ("skipped", "malformed", "refused")
+WORDS = (*CARRIED_OUT, "opened", "skipped", "malformed", "refused", "all")
 SPACES = " \t\n\r"
 
 
@@ -26,10 +25,6 @@ class Unmodelled(Exception):
 
 class Refused(Exception):
     """Why there is no run."""
-
-
-class WrongGiven(Exception):
-    """Why what a party sent cannot be taken as it came."""
 
 
 def object_of(line):
@@ -53,6 +48,12 @@ def elements_of(line):
         texts.append(text[at:end].encode())
         at = end
     return texts
+
+
+def is_run_start(line):
+    """Whether a run begins with the line, whatever is behind it."""
+    found = object_of(line) or {}
+    return line == NO_LINES or ("nodes" in found and found.get("done") not in WORDS and "kind" not in found)
 
 
 def key_of(party):
@@ -89,16 +90,9 @@ class Transcript:
         """Takes an echoed line with all that stands behind it."""
         number, line = self.lines[self.at]
         self.at += 1
-        if line == NO_LINES:
-            return
         packets, answers = [], []
-        while self.at < len(self.lines):
-            _, behind = self.lines[self.at]
-            found = object_of(behind)
-            if found is None:
-                raise Unmodelled(f"{self.name}:{self.lines[self.at][0]}: no line of a transcript")
-            if "nodes" in found or behind == NO_LINES:
-                break
+        while self.at < len(self.lines) and not self.begins_run():
+            found = object_of(self.lines[self.at][1])
             self.at += 1
             if "done" in found and found.get("event") is not None:
                 answers.append((packets, found["done"]))
@@ -110,10 +104,25 @@ class Transcript:
             if "done" in found:
                 self.take_done(number, line, packets, found)
                 return
-            if "kind" not in found:
-                raise Unmodelled(f"{self.name}:{self.lines[self.at - 1][0]}: no packet")
             packets.append(found)
         self.take_stopped(number, line, packets, answers)
+
+    def begins_run(self):
+        """Whether a run begins in the place of a packet or of a `done`: with a setup, without a line, or with a first line
+        that was refused or stopped."""
+        number, line = self.lines[self.at]
+        found = object_of(line) or {}
+        if is_run_start(line):
+            return True
+        if found.get("done") in WORDS or "kind" in found:
+            return False
+        if self.at + 1 == len(self.lines):
+            return True
+        behind = self.lines[self.at + 1][1]
+        told = object_of(behind) or {}
+        if is_run_start(behind) or (told.get("done") == "malformed" and told.get("event") is None):
+            return True
+        raise Unmodelled(f"{self.name}:{number}: no line of a transcript")
 
     def take_done(self, number, line, packets, done):
         """A line that has its `done`."""
@@ -125,8 +134,6 @@ class Transcript:
                 self.entries.append(Entry(number, line, {"event": "restart"}, packets))
         elif done["done"] in CARRIED_OUT:
             self.entries.append(Entry(number, line, event, packets))
-        elif done["done"] not in ANSWERED:
-            raise Unmodelled(f"{self.name}:{number}: {done}")
 
     def take_events(self, number, line, answers):
         """A line of several events, each with its packets and its `done`."""
@@ -146,7 +153,7 @@ class Transcript:
         elif packets:
             self.entries.append(Entry(number, line, object_of(line), packets))
             self.may_lack = True
-        elif self.at < len(self.lines) and "nodes" not in (object_of(line) or {}):
+        elif self.at < len(self.lines) and (elements_of(line) or "event" in (object_of(line) or {})):
             raise Unmodelled(f"{self.name}:{number}: was carried out, or was not")
 
 
@@ -156,23 +163,17 @@ def spellings(setup):
 
 
 def seen_of(transcripts):
-    """All packets that were seen, by sender and serial, each with the place of the line for which it was sent."""
-    return {(key_of(it.party), packet["serial"]): (packet, f"{it.name}:{entry.number}")
+    """All packets that were seen, by sender and serial, each with where it stands."""
+    return {(key_of(it.party), packet["serial"]): (packet, place_of(it, entry))
             for it in transcripts for entry in it.entries for packet in entry.packets}
 
 
-def given_keys(transcripts, parties, given):
-    """The parties whose packets are taken as they came, as keys."""
-    for word in given:
-        if key_of(word) not in parties:
-            raise WrongGiven(f"weave: no {word} in the setup")
-        if key_of(word) in {key_of(it.party) for it in transcripts}:
-            raise WrongGiven(f"weave: {word} has a file")
-    return {key_of(word) for word in given}
+def place_of(transcript, entry):
+    return f"{transcript.name}:{entry.number}"
 
 
 def try_deliveries(transcripts, parties, given):
-    """That each packet which came, but from a given party, was sent so."""
+    """That each packet which came was sent so, unless its sender is given."""
     seen = seen_of(transcripts)
     lacking = {key_of(it.party) for it in transcripts if it.may_lack}
     for transcript in transcripts:
@@ -181,15 +182,14 @@ def try_deliveries(transcripts, parties, given):
             if came is None or key_of(came["from"]) in given:
                 continue
             key = key_of(came["from"]), came["serial"]
-            told = f"{parties.get(key[0], came['from'])} {key[1]}"
-            place = f"{transcript.name}:{entry.number}"
+            told, here = f"{parties.get(key[0], came['from'])} {key[1]}", place_of(transcript, entry)
             if key not in seen and key[0] in lacking:
-                raise Unmodelled(f"({told}) may be a packet that a stop kept from being written")
+                raise Unmodelled(f"{told} may be a packet that a stop kept from being written")
             if key not in seen:
-                raise Refused(f"refused 1 NeverSent({told} {place})")
-            sent, sent_at = seen[key]
-            if sent != came:
-                raise Refused(f"refused 2 Differs({told} {sent_at} {place})")
+                raise Refused(f"refused 1 NeverSent({told} {here})")
+            packet, there = seen[key]
+            if packet != came:
+                raise Refused(f"refused 2 Differs({told} {there} {here})")
 
 
 def order_of(transcripts, given):
@@ -202,16 +202,24 @@ def order_of(transcripts, given):
             while places[at] < len(transcript.entries):
                 entry = transcript.entries[places[at]]
                 came = entry.delivered()
-                if came is not None and key_of(came["from"]) not in given and (key_of(came["from"]), came["serial"]) not in sent:
+                key = (key_of(came["from"]), came["serial"]) if came is not None else None
+                if key and key[0] not in given and key not in sent:
                     break
                 sent.update((key_of(transcript.party), packet["serial"]) for packet in entry.packets)
                 order.append((transcript, entry))
                 places[at] += 1
                 is_moving = True
-    left = [f"{it.name}:{it.entries[place].number}" for it, place in zip(transcripts, places) if place < len(it.entries)]
+    left = [place_of(it, it.entries[place]) for it, place in zip(transcripts, places) if place < len(it.entries)]
     if left:
         raise Refused(f"refused 3 NoOrder({' '.join(left)})")
     return order
+
+
+def moment_of(text):
+    """A moment as it is written: in UTC, with its milliseconds where it has any."""
+    date, time, fraction = re.fullmatch(r"([\d-]+)[Tt]([\d:]+)(?:\.(\d+))?(?:[Zz]|[+-]00:00)?", text).groups()
+    thousandths = ((fraction or "") + "000")[:3]
+    return f"{date}T{time}{'' if thousandths == '000' else '.' + thousandths}Z"
 
 
 def line_of(transcript, entry, parties, given):
@@ -222,7 +230,7 @@ def line_of(transcript, entry, parties, given):
     elif came is None or key_of(came["from"]) in given:
         return entry.line
     else:
-        made = {"at": entry.event["at"], "event": "deliver", "from": parties[key_of(came["from"])], "node": node,
+        made = {"at": moment_of(entry.event["at"]), "event": "deliver", "from": parties[key_of(came["from"])], "node": node,
                 "serial": int(came["serial"])}
     return json.dumps(made, separators=(",", ":"), ensure_ascii=False).encode()
 
@@ -231,8 +239,9 @@ def weave(files, given=()):
     """The run of files, which are names and texts, as bytes of lines; or the line with the refusal. What the given parties
     sent is taken as it came."""
     transcripts = [Transcript(name, text) for name, text in files]
-    parties = spellings(transcripts[0].setup)
-    given = given_keys(transcripts, parties, given)
+    parties, given = spellings(transcripts[0].setup), {key_of(party) for party in given}
+    if not given <= parties.keys() - {key_of(it.party) for it in transcripts}:
+        raise Unmodelled("a given party has a file, or is none of the setup")
     try:
         try_deliveries(transcripts, parties, given)
         order = order_of(transcripts, given)
@@ -243,25 +252,26 @@ def weave(files, given=()):
 
 
 def words_of(words):
-    """The files and the given parties that the words of the command line name."""
-    options = argparse.ArgumentParser(description=__doc__.split("\n", maxsplit=1)[0])
-    options.add_argument("--given", action="append", default=[])
-    options.add_argument("files", nargs="+")
-    return options.parse_args(words)
+    """The files and the given parties of a command line."""
+    files, given, words = [], [], iter(words)
+    for word in words:
+        if word == "--given":
+            given.append(next(words))
+        else:
+            files.append(word)
+    return files, given
 
 
 def main():
-    words, files = words_of(sys.argv[1:]), []
-    for name in words.files:
+    files = []
+    names, given = words_of(sys.argv[1:])
+    for name in names:
         with open(name, "rb") as file:
             files.append((name, file.read()))
     try:
-        sys.stdout.buffer.write(weave(files, words.given))
+        sys.stdout.buffer.write(weave(files, given))
     except Unmodelled as fault:
         sys.exit(f"woven_run: {fault}")
-    except WrongGiven as fault:
-        print(fault, file=sys.stderr)
-        return 2
     return 0
 
 

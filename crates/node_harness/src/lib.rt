@@ -12,6 +12,8 @@
 mod calling;
 mod fault;
 mod link;
+mod member;
+mod of_setup;
 mod round;
 mod running;
 mod script;

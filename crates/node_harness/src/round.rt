@@ -1,6 +1,6 @@
 //! One round of one node.
 
-ghost use Rattle.std.specs.Prelude.{◌≡◌, ◌<◌};
+ghost use Rattle.std.specs.Prelude.{◌≡◌, ◌<◌, IfOk};
 ghost use Rattle.node_desk.specs.Logs.{log_of};
 
 use crate::calling::{Inbound, Out, Worked, work_link, work_own};
@@ -136,6 +136,8 @@ fn in_desk<J: Naming + Send + Sync, G: Gate + Sync, R: Threads + Wait + Sync>(
     requires part_each { blank.parts ≡ passes }
     requires some { 0 < passes }
     requires before { log_of cell ≡ J.before }
+    ensures party { IfOk result (λ t. t.node.cell.party ≡ cell.party) }
+    ensures first { IfOk result (λ t. t.node.cell.first ≡ cell.first) }
 {
     let made = Desk::<J, ListKeep, &G>::new(alloc, blank, cell, gate, passes);
     let (desk, all) = made.ok().ok_or(RunFault::Memory)?;
@@ -154,14 +156,17 @@ fn in_desk<J: Naming + Send + Sync, G: Gate + Sync, R: Threads + Wait + Sync>(
     })
 }
 
-/// One round of one node: the cell after it, and the receipts of its calls.
+/// One round of one node: the cell after it, of the same node as before, and the receipts of its calls.
 pub(crate) fn run_node<G: Gate + Sync, R: Threads + Wait + Sync>(
     rt: &R,
     alloc: Global,
     gate: &G,
     cell: NodeCell<ListKeep>,
     job: Job,
-) -> Result<Turned, RunFault> {
+) -> Result<Turned, RunFault>
+    ensures party { IfOk result (λ t. t.node.cell.party ≡ cell.party) }
+    ensures first { IfOk result (λ t. t.node.cell.first ≡ cell.first) }
+{
     let passes = job.ins.len() + 1;
     in_desk::<Brand, G, R>(
         rt,

@@ -1,18 +1,23 @@
 //! Runs of nodes.
 
-ghost use Rattle.std.specs.Prelude.{◌≡◌, IfOk, OnOk, length, vec_len};
+ghost use Rattle.std.specs.Prelude.{◌≡◌, All, IfOk, OnOk, length, vec_len};
+ghost use Rattle.node_harness.specs.Opened.{AreOpened, RanOf};
 ghost use Rattle.node_harness.specs.Settled.{AreSettled, script_of};
+ghost use Rattle.world_laws.specs.Laws.{IsSetup};
 
 use crate::fault::RunFault;
+use crate::member::Member;
+use crate::of_setup::OfSetup;
 use crate::round::{Job, Turned, run_node};
 use crate::script::{Loss, Script};
 use crate::settling::NodeRan;
-use crate::stations::{Station, Turn, open_all, stations_of, turns_of};
+use crate::stations::{Ended, Station, Turn, open_all, stations_of, turns_of};
 use node_core::nodes_of;
 use node_desk::Gate;
 use ocpi_text::Moment;
 use ocpi_types::{Node, NodeEventKind, Setup};
 use std::alloc::Global;
+use std::marker::Brand;
 use std::sync::Wait;
 use std::thread;
 use std::thread::Threads;
@@ -45,7 +50,7 @@ fn event_of(script: &Script, node: usize, round: u32) -> Result<Option<NodeEvent
 }
 
 /// Whether something is left for a round: an event of a node, or a packet at a link.
-fn is_left(stations: &[Station], script: &Script, round: u32) -> bool {
+fn is_left<S: OfSetup>(stations: &[Station<S>], script: &Script, round: u32) -> bool {
     for (i, station) in stations.iter().enumerate() {
         if script_of(script.events.as_slice(), i).len() > round as usize {
             return true;
@@ -60,16 +65,17 @@ fn is_left(stations: &[Station], script: &Script, round: u32) -> bool {
 }
 
 /// A node's turn. Its receipts come behind those that it has.
-fn run_turn<G: Gate + Sync, R: Threads + Wait + Sync>(
+#[tactic(auto, using(crate::proofs::Openings::still))]
+fn run_turn<S: OfSetup, G: Gate + Sync, R: Threads + Wait + Sync>(
     rt: &R,
     alloc: Global,
     gate: &G,
     at: Moment,
     event: Option<NodeEventKind>,
-    turn: Turn,
-) -> Result<Turned, RunFault> {
-    let Turn { node, outs, ins } = turn;
-    let NodeRan { cell, receipts } = node;
+    turn: Turn<S>,
+) -> Result<Ended<S>, RunFault> {
+    let Turn { member, outs, ins } = turn;
+    let NodeRan { cell, receipts } = member.into_node();
     let job = Job {
         at,
         event,
@@ -85,27 +91,27 @@ fn run_turn<G: Gate + Sync, R: Threads + Wait + Sync>(
     let mut receipts = receipts;
     let mut more = more;
     receipts.append(&mut more)?;
-    Ok(Turned {
-        node: NodeRan { cell, receipts },
+    Ok(Ended {
+        member: Member::new(NodeRan { cell, receipts }),
         links,
         given,
     })
 }
 
 /// One round: each node has a thread.
-fn run_round<G: Gate + Sync, R: Threads + Wait + Sync>(
+fn run_round<S: OfSetup + Send + Sync, G: Gate + Sync, R: Threads + Wait + Sync>(
     rt: &R,
     alloc: Global,
     gate: &G,
     script: &Script,
     round: u32,
-    turns: Vec<Turn>,
-) -> Result<Vec<Turned>, RunFault> {
+    turns: Vec<Turn<S>>,
+) -> Result<Vec<Ended<S>>, RunFault> {
     let at = script.start.after(1_000 * u64::from(round));
     thread::scope(
         thread::scope_env(),
         rt,
-        |scope| -> Result<Vec<Turned>, RunFault> {
+        |scope| -> Result<Vec<Ended<S>>, RunFault> {
             let mut running = Vec::new(alloc);
             for turn in turns {
                 let event = event_of(script, running.len(), round)?;
@@ -114,11 +120,11 @@ fn run_round<G: Gate + Sync, R: Threads + Wait + Sync>(
                     Err(_) => return Err(RunFault::Memory),
                 }
             }
-            let mut turned = Vec::new(alloc);
+            let mut ended = Vec::new(alloc);
             for child in running {
-                turned.push(child.join(rt)?)?;
+                ended.push(child.join(rt)?)?;
             }
-            Ok(turned)
+            Ok(ended)
         },
     )
 }
@@ -142,27 +148,47 @@ pub fn run_nodes<G: Gate + Sync, R: Threads + Wait + Sync>(
     gate: &G,
 ) -> Result<Ran, RunFault>
     ensures nodes { IfOk result (λ ran. vec_len ran.nodes ≡ length setup.now) }
+    ensures opened { IfOk result (λ ran. AreOpened setup.now ran.nodes.items) }
     ensures settled { IfOk result (λ ran. AreSettled setup.now (script_of script.now.events.items) ran.nodes.items (length setup.now)) }
 {
-    let nodes = nodes_of(setup);
-    let mut stations = open_all(alloc, nodes, losses)?;
+    run_members::<Brand, G, R>(rt, alloc, nodes_of(setup), script, losses, gate)
+}
+
+/// The same, of the nodes of a setup that is named.
+fn run_members<S: OfSetup + Send + Sync, G: Gate + Sync, R: Threads + Wait + Sync>(
+    rt: &R,
+    alloc: Global,
+    setup: &[Node],
+    script: &Script,
+    losses: &[Loss],
+    gate: &G,
+) -> Result<Ran, RunFault>
+    requires setup { IsSetup setup.now }
+    requires named { setup.now ≡ S.nodes }
+    ensures nodes { IfOk result (λ ran. vec_len ran.nodes ≡ length setup.now) }
+    ensures opened { IfOk result (λ ran. AreOpened setup.now ran.nodes.items) }
+    ensures settled { IfOk result (λ ran. AreSettled setup.now (script_of script.now.events.items) ran.nodes.items (length setup.now)) }
+{
+    let mut stations = open_all::<S>(alloc, setup, losses)?;
     for round in 0..script.rounds.min(MOST_ROUNDS) {
         if !is_left(stations.as_slice(), script, round) {
             break;
         }
         let turns = turns_of(alloc, stations)?;
-        let turned = run_round(rt, alloc, gate, script, round, turns)?;
-        stations = stations_of(alloc, turned)?;
+        let ended = run_round(rt, alloc, gate, script, round, turns)?;
+        stations = stations_of(alloc, ended)?;
     }
-    settle_all(alloc, nodes, script, stations)
+    settle_all(alloc, setup, script, stations)
 }
 
 /// The nodes of a run.
-fn nodes_in(alloc: Global, stations: Vec<Station>) -> Result<Vec<NodeRan>, RunFault> {
+fn nodes_in<S: OfSetup>(alloc: Global, stations: Vec<Station<S>>) -> Result<Vec<NodeRan>, RunFault>
+    ensures { IfOk result (λ nodes. All (RanOf S.nodes) nodes.items) }
+{
     let mut nodes = Vec::new(alloc);
     for station in stations {
-        let Station { node, links: _ } = station;
-        nodes.push(node)?;
+        let Station { member, links: _ } = station;
+        nodes.push(member.into_node())?;
     }
     Ok(nodes)
 }
@@ -189,13 +215,17 @@ fn settle_each(
 }
 
 /// Refuses where the nodes are fewer or more than those of the setup, or one is not as it should be.
-fn settle_all(
+#[tactic(auto, using(crate::proofs::Openings::opened))]
+fn settle_all<S: OfSetup>(
     alloc: Global,
     setup: &[Node],
     script: &Script,
-    stations: Vec<Station>,
+    stations: Vec<Station<S>>,
 ) -> Result<Ran, RunFault>
+    requires setup { IsSetup setup.now }
+    requires named { setup.now ≡ S.nodes }
     ensures nodes { IfOk result (λ ran. vec_len ran.nodes ≡ length setup.now) }
+    ensures opened { IfOk result (λ ran. AreOpened setup.now ran.nodes.items) }
     ensures settled { IfOk result (λ ran. AreSettled setup.now (script_of script.now.events.items) ran.nodes.items (length setup.now)) }
 {
     let nodes = nodes_in(alloc, stations)?;

@@ -1,12 +1,14 @@
 //! The nodes of a run between two rounds, and the links to them.
 
-ghost use Rattle.std.specs.Prelude.{◌≡◌, ◌<◌, Contains, IfSome, length};
+ghost use Rattle.std.specs.Prelude.{◌≡◌, ◌<◌, Contains, IfOk, IfSome, length};
+ghost use Rattle.node_harness.specs.Opened.{IsOfSetup};
 ghost use Rattle.world_laws.specs.Laws.{IsSetup};
 
 use crate::calling::{Inbound, Out};
 use crate::fault::RunFault;
 use crate::link::Link;
-use crate::round::Turned;
+use crate::member::Member;
+use crate::of_setup::OfSetup;
 use crate::script::Loss;
 use crate::settling::NodeRan;
 use crossbeam_channel::unbounded;
@@ -18,17 +20,25 @@ use std::alloc::Global;
 
 /// A node between two rounds, and the links to it.
 #[derive(Drop)]
-pub(crate) struct Station {
-    pub(crate) node: NodeRan,
+pub(crate) struct Station<S: OfSetup> {
+    pub(crate) member: Member<S>,
     pub(crate) links: Vec<Link>,
 }
 
 /// A node for a round: what it sends by, and what comes to it.
 #[derive(Drop)]
-pub(crate) struct Turn {
-    pub(crate) node: NodeRan,
+pub(crate) struct Turn<S: OfSetup> {
+    pub(crate) member: Member<S>,
     pub(crate) outs: Vec<Out>,
     pub(crate) ins: Vec<Inbound>,
+}
+
+/// A node after a round, the links to it, and the packets that wait for the next round.
+#[derive(Drop)]
+pub(crate) struct Ended<S: OfSetup> {
+    pub(crate) member: Member<S>,
+    pub(crate) links: Vec<Link>,
+    pub(crate) given: Vec<Packet>,
 }
 
 /// What a party sends by.
@@ -39,9 +49,11 @@ struct OutOf {
 }
 
 /// A cell before any event, over a list of no rows.
+#[tactic(auto, using(crate::proofs::Openings::opened_there))]
 fn open_cell(alloc: Global, nodes: &[Node], member: &Node) -> Result<NodeCell<ListKeep>, RunFault>
     requires setup { IsSetup nodes.now }
     requires member { Contains nodes.now member.now }
+    ensures { IfOk result (IsOfSetup nodes.now) }
 {
     match NodeCell::open(alloc, nodes, member, ListKeep::new(alloc)) {
         Ok(cell) => Ok(cell),
@@ -67,12 +79,13 @@ fn links_to(
 }
 
 /// Each node before any event, with the links to it.
-pub(crate) fn open_all(
+pub(crate) fn open_all<S: OfSetup>(
     alloc: Global,
     nodes: &[Node],
     losses: &[Loss],
-) -> Result<Vec<Station>, RunFault>
-    requires { IsSetup nodes.now }
+) -> Result<Vec<Station<S>>, RunFault>
+    requires setup { IsSetup nodes.now }
+    requires named { nodes.now ≡ S.nodes }
 {
     let mut stations = Vec::new(alloc);
     for member in nodes {
@@ -81,19 +94,24 @@ pub(crate) fn open_all(
             receipts: Vec::new(alloc),
         };
         let links = links_to(alloc, nodes, member.party(), losses)?;
-        stations.push(Station { node, links })?;
+        let member = Member::new(node);
+        stations.push(Station { member, links })?;
     }
     Ok(stations)
 }
 
 /// A node for a round: each link to it gets a channel, whose other end is added to the senders.
-fn turn_of(alloc: Global, station: Station, senders: &mut Vec<OutOf>) -> Result<Turn, RunFault> {
-    let Station { node, links } = station;
+fn turn_of<S: OfSetup>(
+    alloc: Global,
+    station: Station<S>,
+    senders: &mut Vec<OutOf>,
+) -> Result<Turn<S>, RunFault> {
+    let Station { member, links } = station;
     let mut ins = Vec::new(alloc);
     for link in links {
         let (sender, receiver) = unbounded(alloc)?;
         let out = Out {
-            to: *node.cell.party(),
+            to: *member.party(),
             sender,
         };
         senders.push(OutOf {
@@ -103,18 +121,18 @@ fn turn_of(alloc: Global, station: Station, senders: &mut Vec<OutOf>) -> Result<
         ins.push(Inbound { link, receiver })?;
     }
     Ok(Turn {
-        node,
+        member,
         outs: Vec::new(alloc),
         ins,
     })
 }
 
 /// Where the node of a party stands.
-fn turn_at(turns: &[Turn], party: &Party) -> Option<usize>
+fn turn_at<S: OfSetup>(turns: &[Turn<S>], party: &Party) -> Option<usize>
     ensures { IfSome result (λ i. i < length turns.now) }
 {
     for (i, turn) in turns.iter().enumerate() {
-        if turn.node.cell.party().is_same(party) {
+        if turn.member.party().is_same(party) {
             return Some(i);
         }
     }
@@ -122,7 +140,10 @@ fn turn_at(turns: &[Turn], party: &Party) -> Option<usize>
 }
 
 /// Each node for a round.
-pub(crate) fn turns_of(alloc: Global, stations: Vec<Station>) -> Result<Vec<Turn>, RunFault> {
+pub(crate) fn turns_of<S: OfSetup>(
+    alloc: Global,
+    stations: Vec<Station<S>>,
+) -> Result<Vec<Turn<S>>, RunFault> {
     let mut senders = Vec::new(alloc);
     let mut turns = Vec::new(alloc);
     for station in stations {
@@ -138,11 +159,11 @@ pub(crate) fn turns_of(alloc: Global, stations: Vec<Station>) -> Result<Vec<Turn
 }
 
 /// Where the node of a party stands.
-fn station_at(stations: &[Station], party: &Party) -> Option<usize>
+fn station_at<S: OfSetup>(stations: &[Station<S>], party: &Party) -> Option<usize>
     ensures { IfSome result (λ i. i < length stations.now) }
 {
     for (i, station) in stations.iter().enumerate() {
-        if station.node.cell.party().is_same(party) {
+        if station.member.party().is_same(party) {
             return Some(i);
         }
     }
@@ -162,7 +183,7 @@ fn link_at(links: &[Link], from: &Party) -> Option<usize>
 }
 
 /// The packet is left at its link for the next round. One to nobody is lost.
-fn leave(stations: &mut Vec<Station>, packet: Packet) -> Result<(), RunFault> {
+fn leave<S: OfSetup>(stations: &mut Vec<Station<S>>, packet: Packet) -> Result<(), RunFault> {
     let Some(i) = station_at(stations.as_slice(), &packet.to) else {
         return Ok(());
     };
@@ -174,17 +195,20 @@ fn leave(stations: &mut Vec<Station>, packet: Packet) -> Result<(), RunFault> {
 }
 
 /// The nodes after a round. What deliveries gave is left at the links for the next.
-pub(crate) fn stations_of(alloc: Global, turned: Vec<Turned>) -> Result<Vec<Station>, RunFault> {
+pub(crate) fn stations_of<S: OfSetup>(
+    alloc: Global,
+    ended: Vec<Ended<S>>,
+) -> Result<Vec<Station<S>>, RunFault> {
     let mut stations = Vec::new(alloc);
     let mut given = Vec::new(alloc);
-    for turn in turned {
-        let Turned {
-            node,
+    for node in ended {
+        let Ended {
+            member,
             links,
             given: more,
-        } = turn;
+        } = node;
         let mut more = more;
-        stations.push(Station { node, links })?;
+        stations.push(Station { member, links })?;
         given.append(&mut more)?;
     }
     for packet in given {

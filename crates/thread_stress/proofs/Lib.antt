@@ -1,2 +1,2 @@
-mod OfNodes
+mod Showing
 mod WhatIsLeft

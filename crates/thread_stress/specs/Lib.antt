@@ -1,3 +1,3 @@
 pub mod Faults
-pub mod Histories
 pub mod Playing
+pub mod Shown

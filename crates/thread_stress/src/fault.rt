@@ -3,7 +3,7 @@
 ghost use Rattle.std.specs.Prelude.{◌≡◌};
 ghost use Rattle.thread_stress.specs.declared.fault.Failed.TheVariants.{Memory};
 
-use node_harness::RunFault;
+use harness_weaving::NoRun;
 use std::alloc::{AllocError, AllocFailed};
 
 /// What failed.
@@ -15,7 +15,7 @@ pub enum Failed {
     Stopped,
     /// The nodes have fewer entries than wanted.
     FewEntries,
-    /// The histories are not one run.
+    /// What happened at the nodes is not one run.
     NotWoven,
     /// In a world an event of that run sends something else.
     NotPlayed,
@@ -53,15 +53,16 @@ impl<T: Drop> From<AllocFailed<T>> for Failed {
     }
 }
 
-impl From<RunFault> for Failed {
+impl From<NoRun> for Failed {
     ghost use Rattle.thread_stress.specs.Faults.{of_run};
 
     ghost from_gives = { λ f e. e ≡ of_run f };
 
-    fn from(fault: RunFault) -> Failed {
+    fn from(fault: NoRun) -> Failed {
         match fault {
-            RunFault::Stopped => Failed::Stopped,
-            RunFault::Memory => Failed::Memory,
+            NoRun::Stopped => Failed::Stopped,
+            NoRun::NotWoven(_) => Failed::NotWoven,
+            NoRun::Memory => Failed::Memory,
         }
     }
 }

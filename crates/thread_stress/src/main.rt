@@ -1,9 +1,9 @@
 //! The nodes of a setup on threads, for 1,000 rounds over links that lose, repeat and hold packets by a seed.
 //!
 //! The first line of the input is the setup, and each other an event of one of its nodes. A node brings its events in
-//! turn, one in each round, at the moment of the round. Then the histories of all nodes are woven into one run, and a
-//! world of the setup plays it. The program writes one line: that in this world each event sends what its node sent, or
-//! what failed. The line is the same whichever thread came first.
+//! turn, one in each round, at the moment of the round. What happened at all nodes is woven into one run, and a world of
+//! the setup plays it. The program writes one line: that in this world each event sends what its node sent, or what
+//! failed. The line is the same whichever thread came first.
 #![tactic(auto)]
 
 mod fault;
@@ -11,27 +11,36 @@ mod losing;
 mod playing;
 mod reading;
 mod scripting;
-mod weaving;
+mod showing;
+
+ghost use Rattle.std.specs.Prelude.{IfOk};
+ghost use Rattle.thread_stress.specs.Shown.{IsShown};
 
 use fault::Failed;
+use harness_weaving::{WovenRun, run_and_weave};
 use losing::losses_of;
 use node_desk::Open;
-use node_harness::{NodeRan, run_nodes};
-use playing::is_played;
-use reading::read_input;
+use reading::{InputLines, read_input};
 use scripting::script_of;
+use showing::show;
 use std::alloc::Global;
 use std::process::ExitCode;
 use std::sync::Wait;
 use std::thread::Threads;
-use weaving::weave_nodes;
 
-/// The fewest entries of all nodes together.
-const FEWEST: usize = 20_000;
+/// The input, and a run of its nodes.
+#[derive(Drop)]
+struct Shown {
+    input: InputLines,
+    run: WovenRun,
+}
 
 fn main(rt: HostRuntime) -> ExitCode {
-    let words = match run_all(&rt, rt.alloc()) {
-        Ok(()) => "20000 entries and more are one run, which a world plays alike",
+    let words = match show_all(&rt, rt.alloc()) {
+        Ok(shown) => {
+            drop(shown);
+            "20000 entries and more are one run, which a world plays alike"
+        }
         Err(failed) => failed.words(),
     };
     match println!(rt; "{words}") {
@@ -40,28 +49,31 @@ fn main(rt: HostRuntime) -> ExitCode {
     }
 }
 
-/// Runs the nodes, weaves their histories, and plays that. (A runtime may wait in `main` alone, which hands that on.)
-fn run_all<R: Threads + Wait + Sync + Input>(rt: &R, alloc: Global) -> Result<(), Failed> {
+/// A run of the nodes of the input, of all nodes of its setup, of which all holds that the line of success says. (A runtime
+/// may wait in `main` alone, which hands that on.)
+fn show_all<R: Threads + Wait + Sync + Input>(rt: &R, alloc: Global) -> Result<Shown, Failed>
+    ensures { IfOk result (λ s. IsShown s.input.setup s.run) }
+{
     let input = read_input(rt, alloc)?;
-    let script = script_of(alloc, &input)?;
-    let losses = losses_of(alloc, &input.setup)?;
-    let ran = run_nodes(rt, alloc, &input.setup, &script, losses.as_slice(), &Open)?;
-    if entries_in(ran.nodes.as_slice()) < FEWEST {
-        return Err(Failed::FewEntries);
-    }
-    let woven = weave_nodes(alloc, &input.setup, ran.nodes.as_slice())?;
-    if is_played(alloc, &input.setup, &woven.histories, &woven.events)? {
-        Ok(())
-    } else {
-        Err(Failed::NotPlayed)
+    match run_input(rt, alloc, &input) {
+        Ok(run) => Ok(Shown { input, run }),
+        Err(failed) => Err(failed),
     }
 }
 
-/// How many entries all nodes have.
-fn entries_in(nodes: &[NodeRan]) -> usize {
-    let mut entries: usize = 0;
-    for node in nodes {
-        entries = entries.saturating_add(node.cell.history().len());
+/// Runs the nodes, weaves what happened at them, and plays that.
+fn run_input<R: Threads + Wait + Sync>(
+    rt: &R,
+    alloc: Global,
+    input: &InputLines,
+) -> Result<WovenRun, Failed>
+    ensures { IfOk result (IsShown input.now.setup) }
+{
+    let script = script_of(alloc, input)?;
+    let losses = losses_of(alloc, &input.setup)?;
+    let run = run_and_weave(rt, alloc, &input.setup, &script, losses.as_slice(), &Open)?;
+    match show(alloc, &input.setup, &run) {
+        Ok(()) => Ok(run),
+        Err(failed) => Err(failed),
     }
-    entries
 }

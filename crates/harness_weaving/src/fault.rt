@@ -1,0 +1,40 @@
+//! Why there is no run.
+
+ghost use Rattle.std.specs.Prelude.{◌≡◌};
+ghost use Rattle.harness_weaving.specs.Faults.{of_run, of_weave};
+
+use node_harness::RunFault;
+use weave::WeaveFault;
+
+/// Why there is no run of the nodes.
+#[derive(Drop)]
+pub enum NoRun {
+    /// The nodes stopped.
+    Stopped,
+    /// What happened at the nodes has no order in which each delivery follows the sending of its packet, for this reason.
+    NotWoven(WeaveFault),
+    /// Memory ran out, also for a thread.
+    Memory,
+}
+
+/// What a fault of the nodes is.
+pub(crate) fn of_run(fault: RunFault) -> NoRun
+    ensures { result ≡ of_run fault }
+{
+    match fault {
+        RunFault::Stopped => NoRun::Stopped,
+        RunFault::Memory => NoRun::Memory,
+    }
+}
+
+/// What a fault of weaving is.
+pub(crate) fn of_weave(fault: WeaveFault) -> NoRun
+    ensures { result ≡ of_weave fault }
+{
+    match fault {
+        WeaveFault::NeverSent(packet) => NoRun::NotWoven(WeaveFault::NeverSent(packet)),
+        WeaveFault::Differs(packet) => NoRun::NotWoven(WeaveFault::Differs(packet)),
+        WeaveFault::NoOrder(front) => NoRun::NotWoven(WeaveFault::NoOrder(front)),
+        WeaveFault::Memory => NoRun::Memory,
+    }
+}

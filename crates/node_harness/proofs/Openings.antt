@@ -1,0 +1,45 @@
+-- Of which nodes of a setup cells are.
+use Rattle.std.proofs.Common.{◌≡◌, ◌∙◌, ℕ, List, length, sym, ap, subst}
+use Rattle.std.proofs.lemmas.List.Elements.{All-contains}
+use Rattle.std.specs.Prelude.{All, Contains, Some, slice_get}
+use Rattle.histories.proofs.Lists.{got_within, is_in, place_in, some_same}
+use Rattle.node_harness.specs.Opened.{AreOpened, IsOfSetup, IsOpenedAs, RanOf}
+use Rattle.node_harness.specs.Settled.{AreSettled}
+use Rattle.node_harness.specs.declared.settling.NodeRan.{NodeRan}
+use Rattle.node_history.specs.Cells.{Cell}
+use Rattle.ocpi_text.specs.Text.{key}
+use Rattle.ocpi_types.specs.Setups.{party_of}
+use Rattle.ocpi_types.specs.declared.node_events.NodeEventKind.{NodeEventKind}
+use Rattle.ocpi_types.specs.declared.setup.Node.{Node}
+use Rattle.world_laws.proofs.Setups.{one_node}
+use Rattle.world_laws.specs.Laws.{IsSetup}
+use Rattle.world_steps.specs.World.{opening_of}
+
+-- a cell that was just opened
+pub opened_there : {K : Type 0} (setup : List Node) (member : Node) (c : Cell K) → Contains setup member → c.party ≡ party_of member → c.first ≡ opening_of setup member → IsOfSetup setup c
+opened_there setup member c among party first = record { member = member; among = among; opened = record { party = party; first = first } }
+
+-- the cell of a setup's node is so after more entries
+pub still : {K : Type 0} (setup : List Node) (c d : Cell K) → IsOfSetup setup c → d.party ≡ c.party → d.first ≡ c.first → IsOfSetup setup d
+still setup c d of party first =
+    record { member = of.member; among = of.among; opened = record { party = party ∙ of.opened.party; first = first ∙ of.opened.first } }
+
+module _ (setup : List Node) (is_setup : IsSetup setup) (script : ℕ → List NodeEventKind) (nodes : List NodeRan) (settled : AreSettled setup script nodes (length setup)) (all : All (RanOf setup) nodes) where
+  -- the cell at a place is of that node which stands there: of the setup there is but one of its party
+  opened_at : (k : ℕ) (member : Node) (node : NodeRan) → slice_get setup k ≡ Some member → slice_get nodes k ≡ Some node → IsOpenedAs setup member node.cell
+  opened_at k member node at_m at_n =
+      let of = All-contains (RanOf setup) nodes node all (is_in nodes k node at_n) in
+      let place = place_in setup of.member of.among in
+      let by_key = (settled.each k member node (got_within setup k member at_m) at_m at_n).of_party in
+      let here = one_node setup is_setup place.0 k of.member member place.1 at_m (ap key (sym of.opened.party) ∙ by_key) in
+      let same : of.member ≡ member = some_same of.member member (sym place.1 ∙ ap (slice_get setup) here ∙ at_m) in
+      subst (λ (m : Node). IsOpenedAs setup m node.cell) same of.opened
+
+  opened_each : AreOpened setup nodes
+  opened_each = record { each = opened_at }
+
+-- so is each cell of settled nodes of a named setup
+pub opened : (setup named : List Node) (script : ℕ → List NodeEventKind) (nodes : List NodeRan) → IsSetup setup → setup ≡ named → AreSettled setup script nodes (length setup) → All (RanOf named) nodes
+    → AreOpened setup nodes
+opened setup named script nodes is_setup same settled all =
+    opened_each setup is_setup script nodes settled (subst (λ (s : List Node). All (RanOf s) nodes) (sym same) all)
