@@ -1,5 +1,5 @@
-use Rattle.std.proofs.Common.{drop, refl, sym}
-use Rattle.weave_runs.specs.Accusations.{AtFirst}
+use Rattle.std.proofs.Common.{[], drop, refl, sym}
+use Rattle.weave_runs.specs.Accusations.{AtFirst, HasNoBeginning}
 use Rattle.weave_runs.proofs.OutputLemmas.{file_refused, ok_more}
 use Rattle.weave_runs.proofs.RefusalLemmas.{drop_one}
 use Rattle.weave_runs.proofs.weaving.weave_files.Goals as goal
@@ -13,9 +13,9 @@ weave_from-requires c = record {
   begins = c.in-Ok.ensures.found;
 }
 
-pub returns-in-Err : goal.returns-in-Err
-returns-in-Err c =
-    let refuses = record {
+pub returns : goal.returns
+returns c =
+    let refuses : HasNoBeginning c.args.files.now c.in-Some.first.now.name.now c.in-Err.fault = record {
       first = c.in-Some.first.now;
       others = drop 1 c.args.files.now;
       files_are = drop_one c.args.files.now 0 c.in-Some.first.now (sym c.in-Some.ensures.value);
