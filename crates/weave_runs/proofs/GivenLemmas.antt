@@ -1,11 +1,27 @@
 -- The parties that words name.
-use Rattle.std.proofs.Common.{◌≡◌, ℕ, ◌+◌, List, [], ◌∷◌, ◌++◌, take, sym, subst}
+use Rattle.std.proofs.Common.{◌≡◌, ℕ, ◌+◌, List, [], ◌∷◌, ◌++◌, take, sym, subst, Ok, Result, IsTrue, false, inl, inr}
 use Rattle.std.specs.Borrow.{Bor}
-use Rattle.std.specs.Prelude.{Some, slice_get}
+use Rattle.std.proofs.lemmas.List.Elements.{Contains-append_cases}
+use Rattle.std.specs.Prelude.{Contains, Some, slice_get}
 use Rattle.ocpi_types.specs.declared.setup.Node.{Node}
 use Rattle.histories.proofs.Lists.{take_one}
+use Rattle.tables.proofs.Elements.{in_single}
 use Rattle.transcripts.specs.Told.{Told}
 use Rattle.weave_runs.specs.Parties.{AreGiven, IsGiven}
+
+-- none of the first elements is so, where none before the last of them is, and that one is not
+pub none_up_to : {X : Type 0} (xs : List X) (i : ℕ) (x : X) (P : X → Type 0) → slice_get xs i ≡ Some x → ((y : X) → Contains (take i xs) y → P y → ⊥) → (P x → ⊥)
+    → (y : X) → Contains (take (i + 1) xs) y → P y → ⊥
+none_up_to xs i x P at before here y within so = elim (Contains-append_cases (take i xs) (x ∷ []) y (subst (λ ys. Contains ys y) (take_one xs i x at) within)) [
+  | inl earlier ↦ before y earlier so
+  | inr last ↦ here (subst P (sym (in_single x y last)) so)
+]
+
+pub ok_same : {T E : Type 0} (r : Result T E) (x y : T) → r ≡ Ok x → r ≡ Ok y → x ≡ y
+ok_same r x y a b = cc
+
+pub not_true : IsTrue false → ⊥
+not_true e = cc
 
 module _ (setup : List Node) (told : List Told) where
   given_push : (ws : List (Bor (List ℕ))) (ps : List (List ℕ)) (w : Bor (List ℕ)) (p : List ℕ) → AreGiven setup told ws ps → IsGiven setup told w.now p → AreGiven setup told (ws ++ w ∷ []) (ps ++ p ∷ [])

@@ -156,3 +156,8 @@ pub begun : {T : Type 0} (words : List (Bor (List ℕ))) (files : List Transcrip
     → IfErr r (λ fault. (fault ≡ Run WriteFailed) × (n : ℕ) × Appends old new (take n bytes)) → IfErr r (EndsBefore words files old new)
 begun words files (Ok x) old new ran bytes weaves e = tt
 begun words files (Err fault) old new ran bytes weaves (is, n, appends) = subst (EndsBefore words files old new) (sym is) (refl, (bytes, (ran, weaves), n, appends))
+
+-- and all of it
+pub whole : {E : Type 0} (words : List (Bor (List ℕ))) (files : List TranscriptFile) (r : Result Ran E) (old new : Option (List ℕ)) (ran : Ran) (bytes : List ℕ) → Weaves words files ran bytes
+    → IfOk r (λ went. (went ≡ ran) × Appends old new bytes) → IfOk r (λ went. (out : List ℕ) × Weaves words files went out × Appends old new out)
+whole words files r old new ran bytes weaves h = ok_more r (λ went is. (bytes, subst (λ (x : Ran). Weaves words files x bytes) (sym is.0) weaves, is.1)) h

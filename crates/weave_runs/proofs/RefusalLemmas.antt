@@ -1,7 +1,7 @@
 -- The lines of refusals, as they are made.
 use Rattle.std.proofs.Common.{zero, suc, ◌≡◌, ◌∙◌, ℕ, ◌+◌, List, [], ◌∷◌, ◌++◌, Bool, true, false, Option, None, bytes_eq, cond, drop, sym, subst, ap, add-one, refl}
 use Rattle.std.proofs.lemmas.List.{append_assoc}
-use Rattle.std.specs.Prelude.{Some, slice_get}
+use Rattle.std.specs.Prelude.{IfNone, IfSome, Some, slice_get}
 use Rattle.ocpi_text.specs.Text.{key}
 use Rattle.ocpi_types.specs.Setups.{node_key, party_of}
 use Rattle.ocpi_types.specs.declared.setup.Node.{Node}
@@ -57,6 +57,14 @@ module _ (files : List TranscriptFile) (told : List Told) (front : List ℕ) (i 
   no_place first out whole is so_far =
       ap (λ (o : Option ℕ). out ++ marked first (place_list f.name.now o ++ front_places (drop (i + 1) files) (drop (i + 1) told) (drop (i + 1) front))) is
       ∙ ap (λ ps. out ++ marked first ps) (sym places_on) ∙ so_far
+
+pub some_more : {T : Type 0} {P Q : T → Type 0} (o : Option T) → ((x : T) → P x → Q x) → IfSome o P → IfSome o Q
+some_more None more h = h
+some_more (Some x) more h = more x h
+
+pub none_more : {T P Q : Type 0} (o : Option T) → (P → Q) → IfNone o P → IfNone o Q
+none_more None more h = more h
+none_more (Some x) more h = h
 
 -- ---- the entry that a turn names
 

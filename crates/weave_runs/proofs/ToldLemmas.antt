@@ -13,6 +13,7 @@ use Rattle.histories.proofs.Lists.{got_pushed, got_within, is_in, place_in, some
 use Rattle.history_laws.specs.Laws.{AreReplayed, IsReplayed, ReplaysAreNumbered}
 use Rattle.history_laws.specs.Replays.{Replays}
 use Rattle.tables.proofs.Elements.{in_none, in_single}
+use Rattle.transcripts.specs.Accusing.{AccusesRightly}
 use Rattle.transcripts.specs.Following.{IsTranscriptOf}
 use Rattle.transcripts.specs.Told.{IsTold, Told}
 use Rattle.transcript_parts.specs.declared.fault.TranscriptFault.{TranscriptFault}
@@ -85,10 +86,10 @@ module _ (setup : List Node) where
       each j g u here there =
           both j g u (got_pushed (take i files) f j g (sym (ap (λ fs. slice_get fs j) (take_one files i f at)) ∙ here)) (got_pushed told t j u there)
 
-  -- the one behind them is refused
-  pub refuses_here : (files : List TranscriptFile) (told : List Told) (i : ℕ) (f : TranscriptFile) (name : List ℕ) (fault : TranscriptFault) → slice_get files i ≡ Some f
-      → AreTranscripts setup (take i files) told → f.name.now ≡ name → RefusesAt setup files name fault
-  refuses_here files told i f name fault at are is = record {
+  -- the one behind them is refused, by a fault that accuses rightly
+  pub refuses_here : (files : List TranscriptFile) (told earlier : List Told) (i : ℕ) (f : TranscriptFile) (name : List ℕ) (fault of : TranscriptFault) → slice_get files i ≡ Some f
+      → AreTranscripts setup (take i files) told → f.name.now ≡ name → earlier ≡ told → fault ≡ of → AccusesRightly setup earlier f.text.now fault → RefusesAt setup files name of
+  refuses_here files told earlier i f name fault of at are is same fault_is rightly = record {
     front = take i files;
     file = f;
     behind = drop (i + 1) files;
@@ -96,6 +97,7 @@ module _ (setup : List Node) where
     name_is = is;
     told = told;
     are_transcripts = are;
+    rightly = subst (AccusesRightly setup told f.text.now) fault_is (subst (λ (ts : List Told). AccusesRightly setup ts f.text.now fault) same rightly);
   }
 
 -- ---- all of them

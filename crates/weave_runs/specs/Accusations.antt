@@ -3,19 +3,25 @@ use Rattle.std.specs.Prelude.{◌≡◌, ℕ, List, [], ◌∷◌, ◌++◌, Ok}
 use Rattle.ocpi_json.specs.SetupForms.{setup_in}
 use Rattle.ocpi_types.specs.declared.setup.Node.{Node}
 use Rattle.transcript_parts.specs.declared.fault.TranscriptFault.{TranscriptFault}
+use Rattle.transcript_parts.specs.Beginnings.{Accuses, BeginsWith}
+use Rattle.transcript_parts.specs.Lines.{lines_in}
+use Rattle.transcripts.specs.Accusing.{AccusesRightly}
+use Rattle.transcripts.specs.Following.{IsTranscriptOf}
 use Rattle.transcripts.specs.Told.{Told}
 use Rattle.weave_runs.specs.Histories.{AreTranscripts}
 use Rattle.weave_runs.specs.Refusals.{transcript_line}
 use Rattle.weave_runs.specs.declared.told.TranscriptFile.{TranscriptFile}
 
--- the first of the files begins with that setup, which is read of that line
+-- the first of the files begins with that setup, at that line: so does its first run that was opened
 pub record Begin (files : List TranscriptFile) (line : List ℕ) (setup : List Node) : Type 0 where
   pub first : TranscriptFile
   pub others : List TranscriptFile
   pub files_are : files ≡ first ∷ others
   pub setup_line : setup_in line ≡ Ok setup
+  pub begins : BeginsWith (lines_in first.text.now) line setup
 
--- The files before one of that name are transcripts of nodes of the setup, and that one is refused by the fault.
+-- The files before one of that name are transcripts of nodes of the setup. Where the fault accuses that one, no history that
+-- leaves its node no choice has it for its transcript.
 pub record RefusesAt (setup : List Node) (files : List TranscriptFile) (name : List ℕ) (fault : TranscriptFault) : Type 0 where
   pub front : List TranscriptFile
   pub file : TranscriptFile
@@ -24,13 +30,15 @@ pub record RefusesAt (setup : List Node) (files : List TranscriptFile) (name : L
   pub name_is : file.name.now ≡ name
   pub told : List Told
   pub are_transcripts : AreTranscripts setup front told
+  pub rightly : AccusesRightly setup told file.text.now fault
 
--- the first file is of that name, and has no beginning
+-- the first file is of that name, and where the fault accuses it, it is no transcript of a node of any setup
 pub record HasNoBeginning (files : List TranscriptFile) (name : List ℕ) (fault : TranscriptFault) : Type 0 where
   pub first : TranscriptFile
   pub others : List TranscriptFile
   pub files_are : files ≡ first ∷ others
   pub name_is : first.name.now ≡ name
+  pub none : Accuses fault → (setup : List Node) (t : Told) → IsTranscriptOf setup [] first.text.now t → ⊥
 
 -- a file is refused: the first, which has no beginning, or one behind transcripts of nodes of the setup with which the first
 -- begins

@@ -183,7 +183,7 @@ fn never_sent_line(
     packet: &Packet,
     came: Place<'_>,
 ) -> Result<String, AllocError>
-    ensures { IfOk result (λ s. string_bytes s ≡ never_sent_line (spelled nodes.now packet.now.from) packet.now.serial came.name.now came.line) }
+    ensures { IfOk result (λ s. string_bytes s ≡ never_sent_line (spelled nodes.now packet.now.from) packet.now.serial came.entry.name.now came.entry.line) }
 {
     let mut output = String::new(alloc);
     let party = spelling(nodes, &packet.from);
@@ -207,7 +207,7 @@ fn differs_line(
     came: Place<'_>,
 ) -> Result<String, AllocError>
     ensures { IfOk result (λ s. string_bytes s
-        ≡ differs_line (spelled nodes.now packet.now.from) packet.now.serial sent.name.now sent.line came.name.now came.line) }
+        ≡ differs_line (spelled nodes.now packet.now.from) packet.now.serial sent.entry.name.now sent.entry.line came.entry.name.now came.entry.line) }
 {
     let mut output = String::new(alloc);
     let party = spelling(nodes, &packet.from);

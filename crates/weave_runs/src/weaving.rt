@@ -20,6 +20,7 @@ use ocpi_text::Party;
 use std::alloc::{AllocError, Global};
 use transcript_parts::{Beginning, TranscriptFault, find_beginning};
 use transcripts::Transcript;
+use transcripts::laws::transcripts_have_beginnings;
 use weave::laws::none_given;
 use weave::weave_turns_with;
 
@@ -165,6 +166,7 @@ pub(crate) fn weave_files<'a>(
         return Ok(Written::Run(Vec::new(alloc)));
     };
     let mut scratch = Scratch::new(alloc);
+    transcripts_have_beginnings();
     match find_beginning(alloc, &mut scratch, first.text) {
         Ok(beginning) => weave_from(alloc, &mut scratch, &beginning, files, words),
         Err(fault) => refused_file(alloc, first.name, fault),

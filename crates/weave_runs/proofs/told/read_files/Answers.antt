@@ -1,5 +1,6 @@
-use Rattle.std.proofs.Common.{◌≡◌, ◌++◌, ◌∷◌, ◌+◌, [], take, sym, subst, arith, rules}
+use Rattle.std.proofs.Common.{◌≡◌, ◌++◌, ◌∷◌, ◌+◌, [], take, refl, sym, subst, arith, rules}
 use Rattle.std.proofs.lemmas.Option.{slice_get-get_or}
+use Rattle.transcript_parts.specs.declared.fault.TranscriptFault.TheVariants.{Memory}
 use Rattle.transcripts.specs.Following.{IsNew}
 use Rattle.weave_runs.specs.Histories.{AreToldOf, AreTranscripts, teller}
 use Rattle.weave_runs.proofs.ToldLemmas.{refuses_here, told_more, transcripts_more}
@@ -17,12 +18,13 @@ loop-file-preserved c =
           (transcripts_more setup c.args.files.now before c.loop-file.file-index _ t (slice_get-get_or c.args.files.now c.loop-file.file-index _ (omega arith)) c.loop-file.invariant.1 c.as_slice-earlier.result.now c.as_slice-earlier.ensures.value c.in-Ok.ensures.told),
     )
 
-pub returns-in-Err : goal.returns-in-Err
-returns-in-Err c =
-    refuses_here c.args.setup.now c.args.files.now c.loop-file.transcripts.items c.loop-file.file-index _ _ _ (slice_get-get_or c.args.files.now c.loop-file.file-index _ (omega arith))
-    c.loop-file.invariant.1 (sym c.of.ensures.name)
+pub returns-in-Err-clause-err : goal.returns-in-Err-clause-err
+returns-in-Err-clause-err c =
+    refuses_here c.args.setup.now c.args.files.now c.loop-file.transcripts.items _ c.loop-file.file-index _ _ _ _ (slice_get-get_or c.args.files.now c.loop-file.file-index _ (omega arith))
+    c.loop-file.invariant.1 (sym c.of.ensures.name) c.as_slice-earlier.ensures.value (sym c.of.ensures.fault) c.in-Err.ensures.none
 
-pub returns-in-Err-push : goal.returns-in-Err-push
-returns-in-Err-push c =
-    refuses_here c.args.setup.now c.args.files.now c.loop-file.transcripts.items c.loop-file.file-index _ _ _ (slice_get-get_or c.args.files.now c.loop-file.file-index _ (omega arith))
-    c.loop-file.invariant.1 (sym c.of.ensures.name)
+pub returns-in-Err-push-clause-err : goal.returns-in-Err-push-clause-err
+returns-in-Err-push-clause-err c =
+    refuses_here c.args.setup.now c.args.files.now c.loop-file.transcripts.items c.loop-file.transcripts.items c.loop-file.file-index _ _ Memory _
+    (slice_get-get_or c.args.files.now c.loop-file.file-index _ (omega arith)) c.loop-file.invariant.1 (sym c.of-in-Err-push.ensures.name) refl (sym c.of-in-Err-push.ensures.fault)
+    (λ accused. absurd accused)

@@ -37,7 +37,7 @@ weave_refusal-requires-clause-can c =
 pub returns : goal.returns
 returns c =
     let same = ap (map lived) c.deref.ensures.value ∙ c.in_ok-histories.ensures in
-    let line = string_bytes c.in_ok-line.line in
-    let spelled = subst (λ (ns : List Node). TellsFault ns c.args.files.now c.args.transcripts.now c.in-Err.fault line) c.nodes_of-nodes.ensures.value c.in_ok-line.ensures in
+    let line = string_bytes c.in_ok-line-in-Err.line in
+    let spelled = subst (λ (ns : List Node). TellsFault ns c.args.files.now c.args.transcripts.now c.in-Err.fault line) c.nodes_of-nodes.ensures.value c.in_ok-line-in-Err.ensures in
     output.refusal c.args.files.now c.args.beginning.now.setup c.args.transcripts.now c.deref.result.now c.requires.transcripts same c.requires.told c.args.given.now c.in-Err.fault c.in-Err.ensures.cause
     c.in-Err.ensures.complete line spelled
