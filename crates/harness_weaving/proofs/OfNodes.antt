@@ -89,11 +89,11 @@ stopped setup run.Stopped = tt
 stopped setup run.Memory = tt
 
 -- what weaving tells is told
-pub told : (cells : List (Cell Content)) (fault : WeaveFault) → IsNotWoven cells fault → IsToldOf cells (of_weave fault)
-told cells (weave.NeverSent packet) why = why
-told cells (weave.Differs packet) why = why
-told cells (weave.NoOrder front) why = why
-told cells weave.Memory why = tt
+pub told : (all : List (Cell Content)) (fault : WeaveFault) → IsNotWoven all fault → IsToldOf all (of_weave fault)
+told all (weave.NeverSent packet) why = why
+told all (weave.Differs packet) why = why
+told all (weave.NoOrder front) why = why
+told all weave.Memory why = tt
 
 -- ---- cells and receipts that were taken out of nodes
 
