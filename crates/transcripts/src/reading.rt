@@ -3,14 +3,7 @@
 ghost use Rattle.std.specs.Prelude.{◌≡◌, ◌≢◌, ◌↔◌, Contains, IfErr, IfNone, IfOk, IfSome, IsTrue, None, Ok, OnOk, Some, [], false, true, ℕ};
 ghost use Rattle.ocpi_json.specs.SetupForms.{setup_in};
 ghost use Rattle.ocpi_types.specs.Setups.{party_of};
-ghost use Rattle.transcripts.specs.Accusing.{
-  ComesToNone,
-  EndsBy,
-  EndsByLine,
-  KeepsComing,
-  KeepsLine,
-  OpensNone,
-};
+ghost use Rattle.transcripts.specs.Accusing.{ComesToNone, EndsBy, EndsByLine, KeepsComing, KeepsLine, OpensNone};
 ghost use Rattle.transcripts.specs.Covering.{KeepsAll};
 ghost use Rattle.transcripts.specs.Following.{
   ShowsEvent,

@@ -13,7 +13,7 @@ returns-in-Some-place_of-2 c =
     let left = c.in-Some-place_of.left in
     let right = c.in-Some-place_of-2.right in
     let comes : ComesBy c.args.files.now c.args.transcripts.now c.args.came =
-        record { packet = c.in-Some.packet.now; delivers = c.in-Some.ensures.some; name = right.name.now; line = right.line; is_line = c.in-Some-place_of-2.ensures.some } in
+    record { packet = c.in-Some.packet.now; delivers = c.in-Some.ensures.some; name = right.name.now; line = right.line; is_line = c.in-Some-place_of-2.ensures.some } in
     ok_more c.differs_line.result (λ s is. (comes, (left.name.now, left.line, c.in-Some-place_of.ensures.some), is)) c.differs_line.ensures
 
 pub returns-in-None : goal.returns-in-None

@@ -9,7 +9,7 @@ pub returns-in-Some-place_of : goal.returns-in-Some-place_of
 returns-in-Some-place_of c =
     let place = c.in-Some-place_of.place in
     let comes : ComesBy c.args.files.now c.args.transcripts.now c.args.came =
-        record { packet = c.in-Some.packet.now; delivers = c.in-Some.ensures.some; name = place.name.now; line = place.line; is_line = c.in-Some-place_of.ensures.some } in
+    record { packet = c.in-Some.packet.now; delivers = c.in-Some.ensures.some; name = place.name.now; line = place.line; is_line = c.in-Some-place_of.ensures.some } in
     ok_more c.never_sent_line.result (λ s is. (comes, is)) c.never_sent_line.ensures
 
 pub returns-in-None : goal.returns-in-None
