@@ -1,2 +1,2 @@
-mod Showing
+mod ShownRuns
 mod WhatIsLeft
