@@ -1,2 +1,2 @@
-mod ShownRuns
+mod OfCells
 mod WhatIsLeft

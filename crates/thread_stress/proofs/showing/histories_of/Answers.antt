@@ -1,6 +1,6 @@
 use Rattle.std.proofs.Common.{refl}
 use Rattle.std.proofs.lemmas.Option.{slice_get_read}
-use Rattle.cell_weaving.proofs.Weaving.{told_more}
+use Rattle.thread_stress.proofs.OfCells.{told_more}
 use Rattle.thread_stress.proofs.showing.histories_of.Goals as goal
 
 pub loop-cell-preserved : goal.loop-cell-preserved

@@ -1,7 +1,7 @@
 use Rattle.std.proofs.Common.{ap, map, ◌∙◌, sym, subst}
 use Rattle.histories.specs.Weaving.{AreApart}
-use Rattle.cell_weaving.specs.Cells.{AreCellsOf, told_of}
-use Rattle.thread_stress.proofs.ShownRuns.{apart}
+use Rattle.cell_weaving.specs.Cells.{told_of_cell}
+use Rattle.thread_stress.proofs.OfCells.{apart}
 use Rattle.thread_stress.proofs.showing.show.Goals as goal
 
 pub is_played-requires : goal.is_played-requires
