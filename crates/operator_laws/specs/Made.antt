@@ -16,7 +16,7 @@ use Rattle.ocpi_types.specs.declared.stored.Reply.{Reply}
 use Rattle.ocpi_types.specs.declared.stored.Reservation.{Reservation}
 use Rattle.ocpi_types.specs.declared.words.CommandResultType.TheVariants.{Accepted}
 use Rattle.operator_rows.specs.State.{State, opening}
-use Rattle.operator_tables.specs.Outcomes.{IsAsked}
+use Rattle.operator_tables.specs.Asked.{IsAsked}
 use Rattle.operator_steps.specs.Events.{Event, Happens}
 use Rattle.operator_laws.specs.Laws.{IsReplyTo, Run}
 use Rattle.operator_laws.specs.Replied.{AnswersIt}

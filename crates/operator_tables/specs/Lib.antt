@@ -1,3 +1,4 @@
+pub mod Asked
 pub mod Places
 pub mod Start
 pub mod Held

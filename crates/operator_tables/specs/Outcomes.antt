@@ -22,6 +22,7 @@ use Rattle.reservation_book.specs.Tokens.{IsToken}
 use Rattle.session_state.specs.Pasts.{IsFinal}
 use Rattle.site_book.specs.Sites.{IsConnectorOf, IsNamed, IsSiteOf, works}
 use Rattle.operator_rows.specs.State.{State, Rows, IsFree, IsSpent, IsStart}
+use Rattle.operator_tables.specs.Asked.{IsAsked}
 use Rattle.operator_tables.specs.declared.decision.Decision.{Decision}
 use Rattle.operator_tables.specs.declared.decision.Decision.TheVariants as decision
 use Rattle.operator_tables.specs.Places.{MayReserve}
@@ -103,13 +104,6 @@ pub record Notes (s : State) (sender : List ℕ) (n : ℕ) (c : Command) (id : L
   pub about : IsAbout id c
   pub in_time : IsInTime s.rows.booked.marks (key sender, id) n
   pub not_accepted : x ≢ result.Accepted
-
--- the reservation is the one that the command asks for: on the EVSE that it names, if it names one
-pub record IsAsked (c : ReserveNow) (r : Reservation) : Type 0 where
-  pub location_is : key r.location_id ≡ key c.location_id
-  pub evse_is : IsNamed c.evse_uid r.evse_uid
-  pub expiry_is : r.expiry_date ≡ c.expiry_date
-  pub token_is : r.token ≡ c.token
 
 -- a reservation is made that was asked for, on an EVSE of the site that is in service, and that nothing but the
 -- reservation of that id claims, which is not of another location. It ends after that moment, and its token is the

@@ -186,10 +186,11 @@ impl World {
 
     /// What holds of every world at any time, which its type keeps: it is the end of a legal run from the opening of a
     /// setup. So it is right: at each operator no EVSE has two claims, no authorization reference starts two sessions,
-    /// each session goes on in order and is billed once, what a provider holds is what the operator had, each charge
-    /// detail record is owed once, what is acknowledged is held, and what a provider stored of its commands is what
-    /// the operator keeps. And so is each world to which a run goes on from here; and it is later: pasts have only
-    /// grown, what stands for good stands, and a reservation that ended comes back by a new RESERVE_NOW alone.
+    /// each session goes on in order and each that is COMPLETED is billed once, what a provider holds is what the
+    /// operator had, each charge detail record is owed once, what is acknowledged is held, and what a provider stored
+    /// of its commands is what the operator keeps. And so is each world to which a run goes on from here; and it is
+    /// later: pasts have only grown, what stands for good stands, and a reservation that ended comes back by a new
+    /// RESERVE_NOW alone.
     pub fn consistency(&self)
         ensures reached { IsReached self.now.places }
         ensures right { IsRight self.now.places }

@@ -47,7 +47,7 @@ pub record KeepsResult (w : World) (p o : List ℕ) (n : ℕ) (x : CommandResult
   pub at : OperatorOf w o place state
   pub kept : get state.rows.commands.results (p, n) ≡ Some x
 
--- it has a session of the provider that the start began, with its authorization reference
+-- it has a session of the provider with the authorization reference of the start
 pub record HasBegun (w : World) (p o : List ℕ) (c : StartSession) : Type 0 where
   pub place : Place
   pub state : operator.State

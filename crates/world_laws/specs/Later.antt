@@ -18,7 +18,7 @@ use Rattle.ocpi_types.specs.declared.stored.SentCommand.{SentCommand}
 use Rattle.ocpi_types.specs.declared.words.CommandResultType.{CommandResultType}
 use Rattle.ocpi_types.specs.declared.words.CommandResultType.TheVariants.{Accepted}
 use Rattle.operator_rows.specs.State as operator
-use Rattle.operator_tables.specs.Outcomes.{IsAsked}
+use Rattle.operator_tables.specs.Asked.{IsAsked}
 use Rattle.provider_rows.specs.State as provider
 use Rattle.world_laws.specs.Nodes.{Holds, IsPast, OperatorOf, ProviderOf}
 use Rattle.world_steps.specs.World.{Place, World, past_of}

@@ -28,7 +28,7 @@ use Rattle.node_steps.specs.Acts.{Act, all_changes}
 use Rattle.node_steps.specs.Peers.{IsPeer}
 use Rattle.operator_rows.specs.State.{State}
 use Rattle.operator_rows.specs.Sound.{IsSound}
-use Rattle.operator_tables.specs.Outcomes.{IsAsked}
+use Rattle.operator_tables.specs.Asked.{IsAsked}
 use Rattle.operator_tables.specs.declared.decision.Decision.{Decision}
 use Rattle.operator_steps.specs.Acts.{decided_acts, reply_of}
 use Rattle.operator_steps.specs.Credits.{CreditsTo, next_credit}

@@ -20,7 +20,7 @@ use Rattle.reservation_book.specs.Refusals.{IsInTime}
 use Rattle.node_laws.proofs.Runs.{made_runs}
 use Rattle.operator_rows.specs.State.{State}
 use Rattle.operator_rows.proofs.RowChanges.{of_cons}
-use Rattle.operator_tables.specs.Outcomes.{IsAsked}
+use Rattle.operator_tables.specs.Asked.{IsAsked}
 use Rattle.operator_steps.specs.Acts.{reply_of}
 use Rattle.operator_steps.specs.Events.{Arrives, Event, Happens}
 use Rattle.operator_laws.specs.Laws.{Run}
