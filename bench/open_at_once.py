@@ -32,7 +32,7 @@ import tempfile
 import time
 
 PARTY = "BE/BEC"
-DAY = os.path.join(os.path.dirname(os.path.dirname(os.path.realpath(__file__))), "examples", "operators_day.jsonl")
+DAY = os.path.join(os.path.dirname(os.path.dirname(os.path.realpath(__file__))), "examples/node/operators_day/in.jsonl")
 # Where the stores lie, which no stop of the machine is to outlast.
 QUICK = "/dev/shm" if os.path.isdir("/dev/shm") else None
 # At most so many looks at the log of a node, with so many seconds between two.
