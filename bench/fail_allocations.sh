@@ -4,7 +4,7 @@
 # that allocation failing. Its output must be what the case wants, or a beginning of it where the program then ends with status
 # 1: a step, or the making of a node, that finds no memory is tried again there, and must give the answer and the rows that it
 # gives with ample memory. No run may try more than one again, and none where no allocation failed. Where one run fails, so does
-# this. The cases are the files of bench/fail_allocations, each with what it must give. The last line says what was tried.
+# this. The cases are the files of cases/out/without_memory, each with what it must give. The last line says what was tried.
 set -euo pipefail
 top=$(cd "$(dirname "${BASH_SOURCE[0]}")/.." && pwd)
 program=$1
@@ -30,7 +30,7 @@ try_allocation() {
 }
 
 status=0 failed=0 repeated=0
-for wanted in "$top"/bench/fail_allocations/*.stdout; do
+for wanted in "$top"/cases/out/without_memory/*.stdout; do
     number=1
     while try_allocation "${wanted%.stdout}" "$number"; ((fails > 0)); do
         number=$((number + 1)) failed=$((failed + 1)) repeated=$((repeated + again))
