@@ -1,7 +1,7 @@
 #!/usr/bin/env python3
 """Weaves transcripts by itself, as docs/PROTOCOL.md has it, for tests of `ocpi_nodes weave`.
 
-    bench/woven_run.py [--given PARTY].. FILE..
+    tools/woven_run.py [--given PARTY].. FILE..
 
 It prints the run, or the refusal 1, 2 or 3. It knows no node, so it takes what a node answered as right: the refusals 5 and 7
 are never told, and a `malformed` fits each line. Where a stop leaves open what was carried out, a packet may be one that it kept from being written, or a line is

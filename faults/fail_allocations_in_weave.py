@@ -1,9 +1,9 @@
 #!/usr/bin/env python3
 """Weaves transcripts once for each allocation that this makes, with that allocation failing.
 
-    bench/fail_allocations_in_weave.py PROGRAM FILE.. [--workers 4]
+    faults/fail_allocations_in_weave.py PROGRAM FILE.. [--workers 4]
 
-PROGRAM is `ocpi_nodes`, in whose process bench/fail_allocation.c stands before the C library (it is built here). Each run must
+PROGRAM is `ocpi_nodes`, in whose process faults/fail_allocation.c stands before the C library (it is built here). Each run must
 give what it gives with ample memory, or `refused 4 Memory` alone with status 1; only the words beside a refusal may be wanting.
 Before the words of the command line are read memory may also run out for these: status 2, no output, and standard error says so;
 such runs are counted apart. No run may be

@@ -1,9 +1,9 @@
 #!/usr/bin/env python3
 """Runs one node once for each allocation that it makes, with that allocation failing.
 
-    bench/fail_allocations_in_node.py PROGRAM PARTY INPUT [--store]
+    faults/fail_allocations_in_node.py PROGRAM PARTY INPUT [--store]
 
-PROGRAM is `ocpi_nodes`, in whose process bench/fail_allocation.c stands before the C library (it is built here). The lines of
+PROGRAM is `ocpi_nodes`, in whose process faults/fail_allocation.c stands before the C library (it is built here). The lines of
 INPUT go in one by one. With `--store` each run has a new store. Of each run one of these must hold:
 
 - all is as with ample memory;

@@ -1,7 +1,7 @@
 #!/usr/bin/env python3
 """Kills `node --store` at moments drawn by chance, starts it again over its store, and feeds it on to the last line.
 
-    bench/kill_node.py PROGRAM [--runs 50] [--stops 20] [--events 2000] [--most 1] [--seed 1] [--folder FOLDER]
+    faults/kill_node.py PROGRAM [--runs 50] [--stops 20] [--events 2000] [--most 1] [--seed 1] [--folder FOLDER]
 
 PROGRAM is `ocpi_nodes`. For each run the events of two operators and two providers are drawn beside `play`. Those of
 one of them become the lines of `node`, in which a delivery has the packet that its sender wrote in `play`. With --most

@@ -1,7 +1,7 @@
 #!/usr/bin/env python3
 """Opens one store with four programs at once, kills the node that got it, and looks whether anything seen is lost.
 
-    bench/open_at_once.py PROGRAM [--rounds 2000] [--pause 3] [--jobs N] [--seed 1] [--folder FOLDER]
+    faults/open_at_once.py PROGRAM [--rounds 2000] [--pause 3] [--jobs N] [--seed 1] [--folder FOLDER]
 
 PROGRAM is `ocpi_nodes`. Each round has a folder of its own. In half of them, as drawn, no file stands there; in the
 others one does that a node made and closed. Two runs of `node` and two of `settle` are started over that file, in an

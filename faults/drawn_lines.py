@@ -1,4 +1,4 @@
-"""Lines of one node that are drawn beside a run of `play`, for bench/kill_node.py: of one event, or of several."""
+"""Lines of one node that are drawn beside a run of `play`, for faults/kill_node.py: of one event, or of several."""
 
 import json
 

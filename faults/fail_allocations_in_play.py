@@ -1,9 +1,9 @@
 #!/usr/bin/env python3
 """Plays a run once for each allocation that it makes, with that allocation failing.
 
-    bench/fail_allocations_in_play.py PROGRAM INPUT OUTPUT
+    faults/fail_allocations_in_play.py PROGRAM INPUT OUTPUT
 
-PROGRAM is `case_lines` (or `ocpi_nodes`), built with bench/fail_allocation.c (tools/build_unproved); OUTPUT is what INPUT gives with ample
+PROGRAM is `case_lines` (or `ocpi_nodes`), built with faults/fail_allocation.c (tools/build_unproved); OUTPUT is what INPUT gives with ample
 memory. The lines go in one by one, each with an event behind it that is of no node, so that its end can be seen. A line that
 is refused for want of memory is given once more, and must then give what it gives with ample memory, and so must all lines
 behind it: so the refusal left every node as it was. A run that ends early with status 1, or with status 3 where a keeper of

@@ -1,7 +1,7 @@
 #!/usr/bin/env python3
 """Kills `play --store` at moments drawn by chance, and looks at what the stores hold then.
 
-    bench/stop_in_store.py PROGRAM [--events 2000] [--moments 200] [--seed 1] [--folder FOLDER]
+    faults/stop_in_store.py PROGRAM [--events 2000] [--moments 200] [--seed 1] [--folder FOLDER]
 
 PROGRAM is `ocpi_nodes`. First a run without a store draws the events: drivers charge at four EVSEs, packets are delivered late,
 twice or never, nodes start again. Then the run is made with a store and killed (SIGKILL) at a moment that is drawn; each event has
