@@ -98,12 +98,14 @@ is_listed() {
     [[ -x $1 ]] && holds "$1.listing" "$(list_files "$1")"
 }
 
-# Whether the program $1 was made from the sources as they are, by the sums. Then the listing is written anew.
+# Whether the program $1 was made from the sources as they are, by the sums. Then the listing is written anew, where it
+# can be written.
 is_summed() {
     local now
     [[ -x $1 && -f $1.sums ]] || return
     now=$(list_files "$1")
-    holds "$1.sums" "$(sum_files "$1")" && keep "$1.listing" "$now"
+    holds "$1.sums" "$(sum_files "$1")" || return
+    keep "$1.listing" "$now" 2> /dev/null || :
 }
 
 # Writes the text $2 to the file $1, whole or not at all.
