@@ -95,8 +95,8 @@ fn words_for(alloc: Global, fault: JsonFault, text: LineText<'_>) -> Result<Stri
 /// What is added where the line is the first one.
 fn first_line_hint(shape: Shape) -> &'static str {
     match shape {
-        Shape::Setup => ". This is the first line, the setup: without one the run ends",
-        Shape::SiteLine => ". This is the first line, the site line: without one the run ends",
+        Shape::Setup => " (the first line is the setup, without which the run ends)",
+        Shape::SiteLine => " (the first line is the site line, without which the run ends)",
         _ => "",
     }
 }

@@ -38,7 +38,9 @@ fn tell(text: &str, told: Told<'_>, output: &mut String) -> Result<(), AllocErro
     if told.found.is_empty() {
         output.push_str("the end of the line")?;
     } else {
+        output.push('`')?;
         show_front(told.found, output)?;
+        output.push('`')?;
     }
     write!(output, "; wanted {}", told.wanted)
 }
@@ -147,6 +149,9 @@ fn wanted_at(before: &str, rest: &str, depth: usize) -> &'static str {
     if before.ends_with(',') {
         return "another member or element, as there is a comma before";
     }
+    if before.ends_with('}') && rest.starts_with('{') {
+        return "nothing behind the object: each stands in a line of its own";
+    }
     "JSON"
 }
 
@@ -167,7 +172,7 @@ fn is_decimal_comma(before: &str, rest: &str) -> bool {
 /// Tells where a text ceases to be JSON.
 fn tell_end(text: &str, end: End, output: &mut String) -> Result<(), AllocError> {
     let rest = rest_at(text, end.offset).trim_ascii_start();
-    let offset = text.len() - rest.len();
+    let offset = text.len().saturating_sub(rest.len());
     let before = text.get(..offset).unwrap_or("").trim_ascii();
     let wanted = wanted_at(before, rest, end.depth);
     tell(

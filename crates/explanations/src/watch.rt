@@ -101,7 +101,7 @@ impl<'p, E: Write> Watch<'p, E> {
     pub(crate) fn show(&mut self, shown: &[u8]) {
         if shown.is_empty() {
             if self.is_open {
-                self.end_line();
+                self.end_line(false);
             } else {
                 self.end_input();
             }
@@ -127,7 +127,7 @@ impl<'p, E: Write> Watch<'p, E> {
         let is_ended = taken > 0 && self.shown[taken - 1] == b'\n';
         self.shown.clear();
         if is_ended {
-            self.end_line();
+            self.end_line(true);
         }
     }
 
@@ -142,20 +142,28 @@ impl<'p, E: Write> Watch<'p, E> {
     }
 
     /// The line ended: what ends it is dropped, and the first line is read.
-    fn end_line(&mut self) {
+    fn end_line(&mut self, has_line_feed: bool) {
         self.is_open = false;
-        if self.line.last() == Some(&b'\n') {
-            self.line.pop();
+        let is_whole = self.len == self.line.len() as u64;
+        if has_line_feed {
             self.len = self.len.saturating_sub(1);
-            if self.line.last() == Some(&b'\r') {
-                self.line.pop();
-                self.len = self.len.saturating_sub(1);
+            if is_whole {
+                self.drop_end();
             }
         }
         self.is_first = !self.line.is_empty() && !self.has_first;
         if self.is_first {
             self.has_first = true;
             self.known = self.read_first();
+        }
+    }
+
+    /// Drops a line feed, and a carriage return before it.
+    fn drop_end(&mut self) {
+        self.line.pop();
+        if self.line.last() == Some(&b'\r') {
+            self.line.pop();
+            self.len = self.len.saturating_sub(1);
         }
     }
 
@@ -245,7 +253,7 @@ impl<'p, E: Write> Watch<'p, E> {
     fn tell(&self, said: Said, output: &mut String) -> Result<bool, AllocError> {
         if !self.has_first {
             output.push_str(
-                "line 0: 1 Syntax: found no line that is not empty; wanted the first line\n",
+                "line 0: 1 Syntax: found no line that is not empty; wanted a first line\n",
             )?;
             return Ok(true);
         }

@@ -62,8 +62,8 @@ pub fn take_words<'a>(alloc: Global, words: &'a [String]) -> Result<Word<'a>, Er
     let command = Command::new(alloc, "ocpi_nodes")
         .version("0.1.0")
         .about("OCPI 2.2.1 nodes for remote start and reservation")
-        .after_help(help::PROGRAM)
-        .subcommand(answer(alloc)?)?;
+        .after_help(help::PROGRAM);
+    let command = with_word(command, answer(alloc))?;
     let command = with_word(command, play(alloc))?;
     let command = with_word(command, node(alloc))?;
     let command = with_word(command, settle(alloc))?;
@@ -103,11 +103,11 @@ fn with_telling<'a>(alloc: Global, command: Command<'a>) -> Result<Command<'a>, 
         .long("explain")
         .action(ArgAction::SetTrue)
         .help("Say on standard error what is wrong with a line, and where");
+    let command = with_arg(command, explain)?;
     let strict = Arg::new(alloc, "strict")
         .long("strict")
         .action(ArgAction::SetTrue)
         .help("End with status 1 where --explain says something");
-    let command = with_arg(command, explain)?;
     with_arg(command, strict)
 }
 
